@@ -1,0 +1,5 @@
+use Rattle.cbsp_ie.specs.Equality.{answered, identifications_decide}
+use Rattle.cbsp_ie.proofs.cell_ids.CellIds.same.Goals as goal
+
+pub returns : goal.returns
+returns c = answered c.eq.ensures (identifications_decide c.args.self.now c.args.other.now)

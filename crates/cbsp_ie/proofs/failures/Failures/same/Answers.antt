@@ -1,0 +1,5 @@
+use Rattle.cbsp_ie.specs.Equality.{answered, failures_decide}
+use Rattle.cbsp_ie.proofs.failures.Failures.same.Goals as goal
+
+pub returns : goal.returns
+returns c = answered c.eq.ensures (failures_decide c.args.self.now c.args.other.now)

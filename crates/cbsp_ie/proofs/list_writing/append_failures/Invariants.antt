@@ -1,0 +1,8 @@
+use Rattle.std.proofs.Common.{◌≡◌, ◌++◌, take}
+use Rattle.std.specs.List.{flat_map}
+use Rattle.cbsp_ie.specs.Written.{failure_octets}
+use Rattle.cbsp_ie.proofs.list_writing.append_failures.Given as goal
+
+-- what the walk has passed is appended
+abbrev pub invariant-loop-entry : goal.invariant-loop-entry
+invariant-loop-entry l = l.out.items ≡ l.initial.out.items ++ flat_map failure_octets (take l.entry-index l.entries)

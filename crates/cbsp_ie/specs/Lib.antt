@@ -1,0 +1,16 @@
+pub mod Cell
+pub mod CellId
+pub mod CellList
+pub mod CountList
+pub mod Counts
+pub mod Element
+pub mod ElementId
+pub mod Equality
+pub mod FailureList
+pub mod Failures
+pub mod Form
+pub mod Identifications
+pub mod IeFault
+pub mod Laws
+pub mod Page
+pub mod Written

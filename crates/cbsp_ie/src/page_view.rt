@@ -1,0 +1,45 @@
+//! A page, lent from the octets that it was read from.
+
+ghost use Rattle.std.specs.Prelude.{◌≡◌, length};
+
+use std::marker::Model;
+
+/// A page of 82 octets, of which the first `used` are text.
+#[derive(Debug, Drop)]
+pub struct PageView<'a> {
+    used: u8,
+    octets: &'a [u8],
+}
+
+impl<'a> Model for PageView<'a> {
+    ghost use Rattle.std.specs.Prelude.{◌≡◌, length};
+    ghost use Rattle.cbsp_ie.specs.Page.{PageContent};
+
+    ghost Value = { PageContent };
+
+    ghost view = { λ s. record { used = s.used; octets = s.octets.now } };
+
+    ghost invariant = { λ s. length s.octets.now ≡ 82 };
+}
+
+impl<'a> PageView<'a> {
+    pub fn new(used: u8, octets: &'a [u8]) -> PageView<'a>
+        requires { length octets.now ≡ 82 }
+        ensures { result ≡ record { used = used; octets = octets.entry.now } }
+    {
+        PageView { used, octets }
+    }
+
+    pub fn used(&self) -> u8
+        ensures { result ≡ self.now.used }
+    {
+        self.used
+    }
+
+    pub fn octets(&self) -> &'a [u8]
+        ensures value { result.now ≡ self.now.octets }
+        ensures length { length self.now.octets ≡ 82 }
+    {
+        self.octets
+    }
+}

@@ -1,0 +1,171 @@
+-- What the reader has taken, from element to element, and what it then knows of the whole body.
+use Rattle.std.proofs.Common.{◌≡◌, ◌≢◌, ℕ, zero, suc, ◌<◌, ◌==◌, ◌⊎◌, inl, inr, Bool, true, false, not, cond, List, [], ◌∷◌, ◌++◌, length, take, drop, Some, None, Result, Ok, Err, refl, sym, ap, subst, ◌∙◌, append_assoc, arith}
+use Rattle.std.specs.Prelude.{IfOk, IfErr}
+use Rattle.std.specs.List.{AllByRecursion, find}
+use Rattle.std.proofs.lemmas.Bool.{eqb-true}
+use Rattle.std.proofs.lemmas.List.{append-nil, take-append-drop}
+use Rattle.cbsp_ie.specs.declared.element.Element.{Element}
+use Rattle.cbsp_ie.specs.declared.element_id.ElementId.{ElementId}
+use Rattle.cbsp_ie.specs.declared.element_id.ElementId.TheVariants as id
+use Rattle.cbsp_ie.specs.declared.ie_fault.IeFault.{IeFault}
+use Rattle.cbsp_ie.specs.Element.{IsElement, IsElementFault, element_id_of}
+use Rattle.cbsp_messages.specs.declared.fault.MessageFault.{MessageFault}
+use Rattle.cbsp_messages.specs.declared.fault.MessageFault.TheVariants as fault
+use Rattle.cbsp_messages.specs.declared.message.Message.{Message}
+use Rattle.cbsp_messages.specs.declared.message_type.MessageType.{MessageType}
+use Rattle.cbsp_messages.specs.Elements.{AreElements, IsOnce, with_id}
+use Rattle.cbsp_messages.specs.Faults.{IsCutFault, IsWholeFault, IsContentFault, IsPagesFault, IsFault, missing}
+use Rattle.cbsp_messages.specs.Message.{type_of}
+use Rattle.cbsp_messages.specs.MessageType.{code_of, demanded_of, message_types, type_with}
+use Rattle.cbsp_messages.specs.Parts.{Parts, no_parts, values_at, is_there, with_element}
+use Rattle.cbsp_messages.specs.Spelling.{Says, Spells}
+use Rattle.cbsp_messages.specs.Taken.{HasDemanded, Holds, Takes}
+use Rattle.cbsp_messages.proofs.ElementsLemmas.{AreElements-push, only, with_id-push}
+use Rattle.cbsp_messages.proofs.PartsLemmas.{is_there-values, values_at-none, values_at-once, values_at-put}
+
+pub Takes-start : (octets : List ℕ) → Takes octets octets no_parts
+Takes-start octets = record { front = []; is = refl; elements = []; joined = refl; holds = λ which. sym (values_at-none which) }
+
+pub Takes-more : (octets rest : List ℕ) (parts : Parts) (used : ℕ) (e : Element) → Takes octets rest parts → IsElement (take used rest) e
+    → (element_id_of e ≢ id.MessageContent → is_there parts (element_id_of e) ≡ false) → Takes octets (drop used rest) (with_element parts e)
+Takes-more octets rest parts used e so_far is fresh = record {
+  front = so_far.front ++ take used rest;
+  is = so_far.is ∙ ap (λ o. so_far.front ++ o) (sym (take-append-drop used rest)) ∙ sym (append_assoc so_far.front (take used rest) (drop used rest));
+  elements = so_far.elements ++ e ∷ [];
+  joined = AreElements-push so_far.front (take used rest) so_far.elements e so_far.joined is;
+  holds = λ which. with_id-push which so_far.elements e ∙ ap (λ es. es ++ only which e) (so_far.holds which) ∙ sym (values_at-put parts e which fresh);
+}
+
+-- no identifier but that of a page has two elements among those that are held
+Holds-once : (parts : Parts) (es : List Element) → Holds parts es → IsOnce es
+Holds-once parts es holds which other = rw (holds which) (values_at-once parts which other)
+
+pub Takes-fault : (octets rest : List ℕ) (parts : Parts) (bad : IeFault) → Takes octets rest parts → 0 < length rest → IsElementFault rest bad → IsCutFault octets (fault.Element bad)
+Takes-fault octets rest parts bad so_far some is = record {
+  front = so_far.front;
+  rest = rest;
+  parts = so_far.is;
+  some = some;
+  elements = so_far.elements;
+  joined = so_far.joined;
+  once = Holds-once parts so_far.elements so_far.holds;
+  bad = inl (bad, is, refl);
+}
+
+-- is_there says that there is an element
+Holds-there : (parts : Parts) (es : List Element) (which : ElementId) → Holds parts es → is_there parts which ≡ not (length (with_id which es) == 0)
+Holds-there parts es which holds = rw (holds which) (is_there-values parts which)
+
+positive : (n : ℕ) → true ≡ not (n == 0) → 0 < n
+positive zero e = absurd cc
+positive (suc n) e = omega arith
+
+pub Takes-repeat : (octets rest : List ℕ) (parts : Parts) (used : ℕ) (e : Element) → Takes octets rest parts → 0 < length rest → IsElement (take used rest) e
+    → element_id_of e ≢ id.MessageContent → is_there parts (element_id_of e) ≡ true → IsCutFault octets (fault.Repeated (element_id_of e))
+Takes-repeat octets rest parts used e so_far some is other there = record {
+  front = so_far.front;
+  rest = rest;
+  parts = so_far.is;
+  some = some;
+  elements = so_far.elements;
+  joined = so_far.joined;
+  once = Holds-once parts so_far.elements so_far.holds;
+  bad = inr (take used rest, drop used rest, e, sym (take-append-drop used rest), is, other, positive _ (sym there ∙ Holds-there parts so_far.elements (element_id_of e) so_far.holds), refl);
+}
+
+pub Takes-refused : (octets rest : List ℕ) (parts : Parts) (used : ℕ) (e : Element) (f : MessageFault) → Takes octets rest parts → 0 < length rest → IsElement (take used rest) e
+    → (f ≡ fault.Memory) ⊎ ((element_id_of e ≢ id.MessageContent) × (is_there parts (element_id_of e) ≡ true) × (f ≡ fault.Repeated (element_id_of e)))
+    → (f ≡ fault.Memory) ⊎ IsCutFault octets f
+Takes-refused octets rest parts used e f so_far some is (inl memory) = inl memory
+Takes-refused octets rest parts used e f so_far some is (inr why) =
+    inr (rw why.2 (Takes-repeat octets rest parts used e so_far some is why.0 why.1))
+
+-- ---- the whole body
+
+whole : (body : List ℕ) (parts : Parts) (taken : Takes body [] parts) → AreElements body taken.elements
+whole body parts taken = subst (λ o. AreElements o taken.elements) (sym (taken.is ∙ append-nil taken.front)) taken.joined
+
+-- what stands for each identifier is what its place holds
+values : (body : List ℕ) (parts : Parts) (taken : Takes body [] parts) → values_at parts ≡ (λ which. with_id which taken.elements)
+values body parts taken i which = sym (taken.holds which) i
+
+pub Spells-taken : (body : List ℕ) (parts : Parts) (t : MessageType) (kind : ℕ) (m : Message) → Takes body [] parts → kind ≡ code_of t → type_of m ≡ t → Says (values_at parts) m → Spells kind body m
+Spells-taken body parts t kind m taken is_kind has_type says = record {
+  is_kind = is_kind ∙ ap code_of (sym has_type);
+  elements = taken.elements;
+  joined = whole body parts taken;
+  once = Holds-once parts taken.elements taken.holds;
+  says = subst (λ at. Says at m) (values body parts taken) says;
+}
+
+IsWholeFault-taken : (body : List ℕ) (parts : Parts) (t : MessageType) (f : MessageFault) → Takes body [] parts → IsContentFault t (values_at parts) f → IsWholeFault t body f
+IsWholeFault-taken body parts t f taken bad = record {
+  elements = taken.elements;
+  joined = whole body parts taken;
+  once = Holds-once parts taken.elements taken.holds;
+  bad = subst (λ at. IsContentFault t at f) (values body parts taken) bad;
+}
+
+not_not : (b : Bool) → not (not b) ≡ b
+not_not true = refl
+not_not false = refl
+
+-- the test that the reader makes is that there is no value
+not_there : (parts : Parts) → ◌≡◌ {A = ElementId → Bool} (λ which. not (is_there parts which)) (λ which. length (values_at parts which) == 0)
+not_there parts i which = (ap not (is_there-values parts which) ∙ not_not (length (values_at parts which) == 0)) i
+
+pub missing-taken : (parts : Parts) (t : MessageType) → find (λ which. not (is_there parts which)) (demanded_of t) ≡ missing t (values_at parts)
+missing-taken parts t = ap (λ test. find test (demanded_of t)) (not_there parts)
+
+pub IsFault-missing : (body : List ℕ) (parts : Parts) (kind : ℕ) (t : MessageType) (which : ElementId) → Takes body [] parts → type_with kind ≡ Some t
+    → Some which ≡ find (λ which. not (is_there parts which)) (demanded_of t) → IsFault kind body (fault.Missing which)
+IsFault-missing body parts kind t which taken is_kind first =
+    rw is_kind (inr (IsWholeFault-taken body parts t (fault.Missing which) taken (rw (sym (first ∙ missing-taken parts t)) refl)))
+
+pub IsFault-pages : (body : List ℕ) (parts : Parts) (kind : ℕ) (t : MessageType) (f : MessageFault) → Takes body [] parts → type_with kind ≡ Some t
+    → None ≡ find (λ which. not (is_there parts which)) (demanded_of t) → IsPagesFault t (values_at parts) f → IsFault kind body f
+IsFault-pages body parts kind t f taken is_kind none bad =
+    rw is_kind (inr (IsWholeFault-taken body parts t f taken (rw (sym (none ∙ missing-taken parts t)) bad)))
+
+pub IsFault-cut : (body : List ℕ) (kind : ℕ) (t : MessageType) (f : MessageFault) → type_with kind ≡ Some t → IsCutFault body f → IsFault kind body f
+IsFault-cut body kind t f is_kind cut = rw is_kind (inl cut)
+
+pub IsFault-type : (body : List ℕ) (kind : ℕ) → type_with kind ≡ None → IsFault kind body fault.NotInProfile
+IsFault-type body kind none = rw none refl
+
+-- what no look-up finds is nowhere
+all_there : (parts : Parts) (ids : List ElementId) → None ≡ find (λ which. not (is_there parts which)) ids → AllByRecursion (λ which. is_there parts which ≡ true) ids
+all_there parts [] none = tt
+all_there parts (which ∷ ids) none =
+    elim (is_there parts which) as (λ b. None ≡ cond (not b) (Some which) (find (λ which. not (is_there parts which)) ids) → (b ≡ true) × AllByRecursion (λ which. is_there parts which ≡ true) ids) [
+      | true ↦ λ h. (refl, all_there parts ids h)
+      | false ↦ λ h. absurd cc
+    ] none
+
+pub HasDemanded-taken : (parts : Parts) (t : MessageType) → None ≡ find (λ which. not (is_there parts which)) (demanded_of t) → HasDemanded t parts
+HasDemanded-taken parts t none = all_there parts (demanded_of t) none
+
+-- ---- what read answers
+
+found_passes : {X : Type 0} (test : X → Bool) (xs : List X) (x : X) → find test xs ≡ Some x → test x ≡ true
+found_passes test [] x e = absurd cc
+found_passes test (y ∷ ys) x e =
+    elim (test y) as (λ b. test y ≡ b → cond b (Some y) (find test ys) ≡ Some x → test x ≡ true) [
+      | true ↦ λ passes h. ap test (let eq : y ≡ x = cc in sym eq) ∙ passes
+      | false ↦ λ fails h. found_passes test ys x h
+    ] refl e
+
+pub code_of-type_with : (kind : ℕ) (t : MessageType) → type_with kind ≡ Some t → kind ≡ code_of t
+code_of-type_with kind t e = sym (eqb-true _ _ (found_passes (λ t. code_of t == kind) message_types t e))
+
+pub Spells-result : (body : List ℕ) (parts : Parts) (t : MessageType) (kind : ℕ) (r : Result Message MessageFault) → Takes body [] parts → type_with kind ≡ Some t
+    → IfOk r (λ m. type_of m ≡ t) → IfOk r (Says (values_at parts)) → IfOk r (Spells kind body)
+Spells-result body parts t kind (Ok m) taken is_kind has_type says = Spells-taken body parts t kind m taken (code_of-type_with kind t is_kind) has_type says
+Spells-result body parts t kind (Err f) taken is_kind has_type says = tt
+
+pub IsFault-result : (body : List ℕ) (parts : Parts) (t : MessageType) (kind : ℕ) (r : Result Message MessageFault) → Takes body [] parts → type_with kind ≡ Some t
+    → None ≡ find (λ which. not (is_there parts which)) (demanded_of t)
+    → IfErr r (λ f. (f ≡ fault.Memory) ⊎ IsPagesFault t (values_at parts) f) → IfErr r (λ f. (f ≡ fault.Memory) ⊎ IsFault kind body f)
+IsFault-result body parts t kind (Ok m) taken is_kind none bad = tt
+IsFault-result body parts t kind (Err f) taken is_kind none (inl memory) = inl memory
+IsFault-result body parts t kind (Err f) taken is_kind none (inr bad) = inr (IsFault-pages body parts kind t f taken is_kind none bad)

@@ -1,0 +1,12 @@
+pub mod Elements
+pub mod Faults
+pub mod Laws
+pub mod Lent
+pub mod Message
+pub mod MessageType
+pub mod PageText
+pub mod Parts
+pub mod Ranged
+pub mod Spelling
+pub mod Taken
+pub mod Written

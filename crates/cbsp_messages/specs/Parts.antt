@@ -1,0 +1,133 @@
+-- The values of elements by their identifiers, and those of a message (TS 48.049, 8.1.3).
+use Rattle.std.specs.Prelude.{ℕ, ◌==◌, Bool, not, List, [], ◌∷◌, ◌++◌, map, length, Option, Some, None, is_some}
+use Rattle.cbsp_ie.specs.declared.cause.Cause.{Cause}
+use Rattle.cbsp_ie.specs.declared.element.Element.{Element}
+use Rattle.cbsp_ie.specs.declared.element.Element.TheVariants as element
+use Rattle.cbsp_ie.specs.declared.element_id.ElementId.{ElementId}
+use Rattle.cbsp_ie.specs.declared.element_id.ElementId.TheVariants as id
+use Rattle.cbsp_ie.specs.declared.fail_entry.FailEntry.{FailEntry}
+use Rattle.cbsp_ie.specs.Counts.{Numbers}
+use Rattle.cbsp_ie.specs.Identifications.{Identifications}
+use Rattle.cbsp_ie.specs.Page.{PageContent}
+use Rattle.cbsp_messages.specs.declared.message.Message.{Message}
+use Rattle.cbsp_messages.specs.declared.message.Message.TheVariants as message
+
+-- what each element says, where it is there; the pages in their order
+pub record Parts : Type 0 where
+  pub pages : List PageContent
+  pub old_serial : Option ℕ
+  pub new_serial : Option ℕ
+  pub cells : Option Identifications
+  pub category : Option ℕ
+  pub period : Option ℕ
+  pub requested : Option ℕ
+  pub counts : Option Numbers
+  pub failures : Option (List FailEntry)
+  pub cause : Option Cause
+  pub dcs : Option ℕ
+  pub recovery : Option ℕ
+  pub message_id : Option ℕ
+  pub emergency : Option ℕ
+  pub warning_type : Option ℕ
+  pub security : Option (List ℕ)
+  pub channel : Option ℕ
+  pub page_count : Option ℕ
+  pub kind : Option ℕ
+  pub warning_period : Option ℕ
+
+-- no element at all
+abbrev pub no_parts : Parts
+no_parts = record { pages = []; old_serial = None; new_serial = None; cells = None; category = None; period = None; requested = None; counts = None; failures = None; cause = None; dcs = None; recovery = None; message_id = None; emergency = None; warning_type = None; security = None; channel = None; page_count = None; kind = None; warning_period = None }
+
+-- an element that may be there
+abbrev pub one_of : {A : Type 0} → (A → Element) → Option A → List Element
+one_of make None = []
+one_of make (Some value) = make value ∷ []
+
+-- a page as an element
+abbrev pub page_element : PageContent → Element
+page_element page = element.MessageContent page
+
+-- the elements with the identifier
+abbrev pub values_at : Parts → ElementId → List Element
+values_at parts id.MessageContent = map page_element parts.pages
+values_at parts id.OldSerialNumber = one_of (λ n. element.OldSerialNumber n) parts.old_serial
+values_at parts id.NewSerialNumber = one_of (λ n. element.NewSerialNumber n) parts.new_serial
+values_at parts id.CellList = one_of (λ cells. element.CellList cells) parts.cells
+values_at parts id.Category = one_of (λ n. element.Category n) parts.category
+values_at parts id.RepetitionPeriod = one_of (λ n. element.RepetitionPeriod n) parts.period
+values_at parts id.BroadcastsRequested = one_of (λ n. element.BroadcastsRequested n) parts.requested
+values_at parts id.BroadcastsCompleted = one_of (λ counts. element.BroadcastsCompleted counts) parts.counts
+values_at parts id.FailureList = one_of (λ failures. element.FailureList failures) parts.failures
+values_at parts id.Cause = one_of (λ cause. element.Cause cause) parts.cause
+values_at parts id.DataCodingScheme = one_of (λ n. element.DataCodingScheme n) parts.dcs
+values_at parts id.RecoveryIndication = one_of (λ n. element.RecoveryIndication n) parts.recovery
+values_at parts id.MessageIdentifier = one_of (λ n. element.MessageIdentifier n) parts.message_id
+values_at parts id.EmergencyIndicator = one_of (λ n. element.EmergencyIndicator n) parts.emergency
+values_at parts id.WarningType = one_of (λ n. element.WarningType n) parts.warning_type
+values_at parts id.WarningSecurity = one_of (λ octets. element.WarningSecurity octets) parts.security
+values_at parts id.ChannelIndicator = one_of (λ n. element.ChannelIndicator n) parts.channel
+values_at parts id.NumberOfPages = one_of (λ n. element.NumberOfPages n) parts.page_count
+values_at parts id.BroadcastMessageType = one_of (λ n. element.BroadcastMessageType n) parts.kind
+values_at parts id.WarningPeriod = one_of (λ n. element.WarningPeriod n) parts.warning_period
+
+-- whether there is an element with the identifier
+abbrev pub is_there : Parts → ElementId → Bool
+is_there parts id.MessageContent = not (length parts.pages == 0)
+is_there parts id.OldSerialNumber = is_some parts.old_serial
+is_there parts id.NewSerialNumber = is_some parts.new_serial
+is_there parts id.CellList = is_some parts.cells
+is_there parts id.Category = is_some parts.category
+is_there parts id.RepetitionPeriod = is_some parts.period
+is_there parts id.BroadcastsRequested = is_some parts.requested
+is_there parts id.BroadcastsCompleted = is_some parts.counts
+is_there parts id.FailureList = is_some parts.failures
+is_there parts id.Cause = is_some parts.cause
+is_there parts id.DataCodingScheme = is_some parts.dcs
+is_there parts id.RecoveryIndication = is_some parts.recovery
+is_there parts id.MessageIdentifier = is_some parts.message_id
+is_there parts id.EmergencyIndicator = is_some parts.emergency
+is_there parts id.WarningType = is_some parts.warning_type
+is_there parts id.WarningSecurity = is_some parts.security
+is_there parts id.ChannelIndicator = is_some parts.channel
+is_there parts id.NumberOfPages = is_some parts.page_count
+is_there parts id.BroadcastMessageType = is_some parts.kind
+is_there parts id.WarningPeriod = is_some parts.warning_period
+
+-- the parts with one element more, which stands in place of another with its identifier
+abbrev pub with_element : Parts → Element → Parts
+with_element parts (element.MessageContent page) = record parts { pages = parts.pages ++ page ∷ [] }
+with_element parts (element.OldSerialNumber n) = record parts { old_serial = Some n }
+with_element parts (element.NewSerialNumber n) = record parts { new_serial = Some n }
+with_element parts (element.CellList cells) = record parts { cells = Some cells }
+with_element parts (element.Category n) = record parts { category = Some n }
+with_element parts (element.RepetitionPeriod n) = record parts { period = Some n }
+with_element parts (element.BroadcastsRequested n) = record parts { requested = Some n }
+with_element parts (element.BroadcastsCompleted counts) = record parts { counts = Some counts }
+with_element parts (element.FailureList failures) = record parts { failures = Some failures }
+with_element parts (element.Cause cause) = record parts { cause = Some cause }
+with_element parts (element.DataCodingScheme n) = record parts { dcs = Some n }
+with_element parts (element.RecoveryIndication n) = record parts { recovery = Some n }
+with_element parts (element.MessageIdentifier n) = record parts { message_id = Some n }
+with_element parts (element.EmergencyIndicator n) = record parts { emergency = Some n }
+with_element parts (element.WarningType n) = record parts { warning_type = Some n }
+with_element parts (element.WarningSecurity octets) = record parts { security = Some octets }
+with_element parts (element.ChannelIndicator n) = record parts { channel = Some n }
+with_element parts (element.NumberOfPages n) = record parts { page_count = Some n }
+with_element parts (element.BroadcastMessageType n) = record parts { kind = Some n }
+with_element parts (element.WarningPeriod n) = record parts { warning_period = Some n }
+
+-- the parts of a message; the Number of Pages is how many there are
+abbrev pub parts_of : Message → Parts
+parts_of (message.WriteReplace message_id serial old cells channel category period requested pages dcs) = record no_parts { message_id = Some message_id; new_serial = Some serial; old_serial = old; cells = Some cells; channel = channel; category = Some category; period = Some period; requested = Some requested; page_count = Some (length pages); dcs = Some dcs; pages = pages }
+parts_of (message.WriteComplete message_id serial old counts cells channel) = record no_parts { message_id = Some message_id; new_serial = Some serial; old_serial = old; counts = counts; cells = cells; channel = channel }
+parts_of (message.WriteFailure message_id serial old failures counts cells channel) = record no_parts { message_id = Some message_id; new_serial = Some serial; old_serial = old; failures = Some failures; counts = counts; cells = cells; channel = channel }
+parts_of (message.Kill message_id serial cells channel) = record no_parts { message_id = Some message_id; old_serial = Some serial; cells = Some cells; channel = channel }
+parts_of (message.KillComplete message_id serial counts cells channel) = record no_parts { message_id = Some message_id; old_serial = Some serial; counts = counts; cells = cells; channel = channel }
+parts_of (message.KillFailure message_id serial failures counts cells channel) = record no_parts { message_id = Some message_id; old_serial = Some serial; failures = Some failures; counts = counts; cells = cells; channel = channel }
+parts_of (message.StatusQuery message_id serial cells channel) = record no_parts { message_id = Some message_id; old_serial = Some serial; cells = Some cells; channel = channel }
+parts_of (message.StatusComplete message_id serial counts channel) = record no_parts { message_id = Some message_id; old_serial = Some serial; counts = Some counts; channel = channel }
+parts_of (message.StatusFailure message_id serial failures counts channel) = record no_parts { message_id = Some message_id; old_serial = Some serial; failures = Some failures; counts = counts; channel = channel }
+parts_of (message.Restart cells kind recovery) = record no_parts { cells = Some cells; kind = Some kind; recovery = Some recovery }
+parts_of (message.Failure failures kind) = record no_parts { failures = Some failures; kind = Some kind }
+parts_of (message.ErrorIndication cause message_id serial old channel) = record no_parts { cause = Some cause; message_id = message_id; new_serial = serial; old_serial = old; channel = channel }

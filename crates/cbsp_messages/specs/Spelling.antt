@@ -1,0 +1,30 @@
+-- Which bodies spell a message (TS 48.049, 8.1.3).
+use Rattle.std.specs.Prelude.{◌≡◌, ℕ, ◌≤◌, List, length}
+use Rattle.std.specs.List.{AllByRecursion}
+use Rattle.cbsp_ie.specs.declared.element.Element.{Element}
+use Rattle.cbsp_ie.specs.declared.element_id.ElementId.{ElementId}
+use Rattle.cbsp_messages.specs.declared.message.Message.{Message}
+use Rattle.cbsp_messages.specs.declared.message.Message.TheVariants as message
+use Rattle.cbsp_messages.specs.Elements.{AreElements, IsOnce, with_id}
+use Rattle.cbsp_messages.specs.Message.{type_of}
+use Rattle.cbsp_messages.specs.MessageType.{code_of, written_of}
+use Rattle.cbsp_messages.specs.Parts.{parts_of, values_at}
+
+-- a WRITE-REPLACE has 1 to 15 pages
+abbrev pub HasPages : Message → Type 0
+HasPages (message.WriteReplace message_id serial old cells channel category period requested pages dcs) =
+    (1 ≤ length pages) × (length pages ≤ 15)
+HasPages other = Unit {0}
+
+-- at each identifier that the message's type lists, the elements are those of the message
+abbrev pub Says : (ElementId → List Element) → Message → Type 0
+Says at m = AllByRecursion (λ id. at id ≡ values_at (parts_of m) id) (written_of (type_of m)) × HasPages m
+
+-- the octet of the type and the body are the message: the body is whole elements, no identifier but that of
+-- a page stands twice, and the listed elements, in whatever order, say what the message says
+pub record Spells (kind : ℕ) (body : List ℕ) (m : Message) : Type 0 where
+  pub is_kind : kind ≡ code_of (type_of m)
+  pub elements : List Element
+  pub joined : AreElements body elements
+  pub once : IsOnce elements
+  pub says : Says (λ id. with_id id elements) m

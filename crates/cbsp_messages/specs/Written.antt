@@ -1,0 +1,56 @@
+-- The octets that are written for a message, and the message that is read from them
+-- (TS 48.049, 8.1.3).
+use Rattle.std.specs.Prelude.{ℕ, ◌%◌, ◌<◌, ◌≤◌, List, ◌∷◌, ◌++◌, length, option_map, IfSome}
+use Rattle.std.specs.Int.{bytes_high_first}
+use Rattle.std.specs.List.{AllByRecursion, flat_map}
+use Rattle.cbsp_ie.specs.declared.element_id.ElementId.{ElementId}
+use Rattle.cbsp_ie.specs.Written.{cells_octets, counts_octets, element_octets, failures_octets, plain_counts}
+use Rattle.cbsp_messages.specs.declared.message.Message.{Message}
+use Rattle.cbsp_messages.specs.declared.message.Message.TheVariants as message
+use Rattle.cbsp_messages.specs.Message.{type_of}
+use Rattle.cbsp_messages.specs.MessageType.{code_of, written_of}
+use Rattle.cbsp_messages.specs.Parts.{Parts, parts_of, values_at}
+use Rattle.cbsp_messages.specs.Spelling.{HasPages}
+
+-- each list has so few octets after its length that the length can say how many, and a WRITE-REPLACE has
+-- 1 to 15 pages
+pub record Fits (m : Message) : Type 0 where
+  pub cells : IfSome (parts_of m).cells (λ cells. length (cells_octets cells) < 65536)
+  pub counts : IfSome (parts_of m).counts (λ counts. length (counts_octets counts) < 65536)
+  pub failures : IfSome (parts_of m).failures (λ failures. length (failures_octets failures) < 65536)
+  pub pages : HasPages m
+
+-- the elements with an identifier, as they are written
+abbrev pub octets_at : Parts → ElementId → List ℕ
+octets_at parts which = flat_map element_octets (values_at parts which)
+
+-- the body: the elements in the order of the message's type
+abbrev pub written : Message → List ℕ
+written m = flat_map (octets_at (parts_of m)) (written_of (type_of m))
+
+-- the whole frame: the type, three octets of length, and the body
+abbrev pub frame_of : Message → List ℕ
+frame_of m = code_of (type_of m) ∷ bytes_high_first 3 (length (written m)) ++ written m
+
+-- no page uses more octets than it has
+abbrev pub HasShortPages : Message → Type 0
+HasShortPages m = AllByRecursion (λ page. page.used ≤ 82) (parts_of m).pages
+
+-- the low four bits, of which alone some octets are used
+abbrev pub low : ℕ → ℕ
+low n = n % 16
+
+-- the message without spare bits
+abbrev pub plain : Message → Message
+plain (message.WriteReplace message_id serial old cells channel category period requested pages dcs) = message.WriteReplace message_id serial old cells (option_map low channel) (low category) period requested pages dcs
+plain (message.WriteComplete message_id serial old counts cells channel) = message.WriteComplete message_id serial old (option_map plain_counts counts) cells (option_map low channel)
+plain (message.WriteFailure message_id serial old failures counts cells channel) = message.WriteFailure message_id serial old failures (option_map plain_counts counts) cells (option_map low channel)
+plain (message.Kill message_id serial cells channel) = message.Kill message_id serial cells (option_map low channel)
+plain (message.KillComplete message_id serial counts cells channel) = message.KillComplete message_id serial (option_map plain_counts counts) cells (option_map low channel)
+plain (message.KillFailure message_id serial failures counts cells channel) = message.KillFailure message_id serial failures (option_map plain_counts counts) cells (option_map low channel)
+plain (message.StatusQuery message_id serial cells channel) = message.StatusQuery message_id serial cells (option_map low channel)
+plain (message.StatusComplete message_id serial counts channel) = message.StatusComplete message_id serial (plain_counts counts) (option_map low channel)
+plain (message.StatusFailure message_id serial failures counts channel) = message.StatusFailure message_id serial failures (option_map plain_counts counts) (option_map low channel)
+plain (message.Restart cells kind recovery) = message.Restart cells (low kind) (low recovery)
+plain (message.Failure failures kind) = message.Failure failures (low kind)
+plain (message.ErrorIndication cause message_id serial old channel) = message.ErrorIndication cause message_id serial old (option_map low channel)

@@ -1,0 +1,23 @@
+//! Laws of bodies, each the contract of a function that does nothing.
+
+ghost use Rattle.cbsp_messages.specs.Laws.{NoFault, OneFault, OneMessage, TableIsWhole};
+
+/// A body spells one message at most.
+pub fn one_message()
+    ensures { OneMessage }
+{}
+
+/// A body that spells a message has no fault.
+pub fn no_fault()
+    ensures { NoFault }
+{}
+
+/// A body has one fault at most.
+pub fn one_fault()
+    ensures { OneFault }
+{}
+
+/// The elements that a type writes are those that it demands and those that it may have, each once.
+pub fn table_is_whole()
+    ensures { TableIsWhole }
+{}

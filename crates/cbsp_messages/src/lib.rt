@@ -1,0 +1,32 @@
+//! The messages of the Cell Broadcast Service Protocol (3GPP TS 48.049, clause 8.1), read from the octets
+//! behind a frame's length and written as whole frames.
+//!
+//! `message_type` has the one table of which elements each type demands, may have and writes in which order.
+//! `message` has the messages, and `reading` and `writing` go between them and their octets by that table.
+#![tactic(auto)]
+
+mod building;
+mod elements;
+mod fault;
+mod fits;
+mod laws;
+mod message;
+mod message_parts;
+mod message_type;
+mod page;
+mod pages;
+mod ranges;
+mod reading;
+mod writing;
+
+pub use fault::MessageFault;
+pub use laws::{no_fault, one_fault, one_message, table_is_whole};
+pub use message::Message;
+pub use message_type::MessageType;
+pub use page::Page;
+pub use pages::Pages;
+pub use reading::read;
+pub use writing::write;
+
+#[cfg(test)]
+mod tests;

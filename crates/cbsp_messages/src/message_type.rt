@@ -1,0 +1,278 @@
+//! The types of messages.
+
+ghost use Rattle.std.specs.Prelude.{◌≡◌, ◌↔◌, IsTrue};
+ghost use Rattle.cbsp_messages.specs.MessageType.{code_of, type_with, is_report, demanded_of, optional_of, written_of};
+
+use cbsp_ie::ElementId;
+
+/// The types of messages that this centre speaks (TS 48.049, 8.2.1). It skips every other type.
+#[derive(Clone, Copy, Debug, PartialEq, Eq)]
+pub enum MessageType {
+    WriteReplace,
+    WriteComplete,
+    WriteFailure,
+    Kill,
+    KillComplete,
+    KillFailure,
+    StatusQuery,
+    StatusComplete,
+    StatusFailure,
+    Restart,
+    Failure,
+    ErrorIndication,
+}
+
+impl MessageType {
+    /// The octet of the type.
+    pub fn code(self) -> u8
+        ensures { result ≡ code_of self }
+    {
+        match self {
+            MessageType::WriteReplace => 0x01,
+            MessageType::WriteComplete => 0x02,
+            MessageType::WriteFailure => 0x03,
+            MessageType::Kill => 0x04,
+            MessageType::KillComplete => 0x05,
+            MessageType::KillFailure => 0x06,
+            MessageType::StatusQuery => 0x0a,
+            MessageType::StatusComplete => 0x0b,
+            MessageType::StatusFailure => 0x0c,
+            MessageType::Restart => 0x13,
+            MessageType::Failure => 0x14,
+            MessageType::ErrorIndication => 0x15,
+        }
+    }
+
+    /// The type of the octet, if the centre speaks it.
+    pub fn of_code(code: u8) -> Option<MessageType>
+        ensures { result ≡ type_with code }
+    {
+        match code {
+            0x01 => Some(MessageType::WriteReplace),
+            0x02 => Some(MessageType::WriteComplete),
+            0x03 => Some(MessageType::WriteFailure),
+            0x04 => Some(MessageType::Kill),
+            0x05 => Some(MessageType::KillComplete),
+            0x06 => Some(MessageType::KillFailure),
+            0x0a => Some(MessageType::StatusQuery),
+            0x0b => Some(MessageType::StatusComplete),
+            0x0c => Some(MessageType::StatusFailure),
+            0x13 => Some(MessageType::Restart),
+            0x14 => Some(MessageType::Failure),
+            0x15 => Some(MessageType::ErrorIndication),
+            _ => None,
+        }
+    }
+
+    /// Whether a BSC sends it and the centre takes it: a reply or an indication.
+    pub fn is_report(self) -> bool
+        ensures { result ≡ is_report self }
+    {
+        match self {
+            MessageType::WriteReplace | MessageType::Kill | MessageType::StatusQuery => false,
+            _ => true,
+        }
+    }
+
+    /// The elements that have to be there, in the order in which one that is missing is named.
+    pub fn demanded(self) -> &'static [ElementId]
+        ensures { result.now ≡ demanded_of self }
+    {
+        match self {
+            MessageType::WriteReplace => &[
+                ElementId::MessageIdentifier,
+                ElementId::NewSerialNumber,
+                ElementId::CellList,
+                ElementId::Category,
+                ElementId::RepetitionPeriod,
+                ElementId::BroadcastsRequested,
+                ElementId::NumberOfPages,
+                ElementId::DataCodingScheme,
+                ElementId::MessageContent,
+            ],
+            MessageType::WriteComplete => &[
+                ElementId::MessageIdentifier,
+                ElementId::NewSerialNumber,
+            ],
+            MessageType::WriteFailure => &[
+                ElementId::MessageIdentifier,
+                ElementId::NewSerialNumber,
+                ElementId::FailureList,
+            ],
+            MessageType::Kill => &[
+                ElementId::MessageIdentifier,
+                ElementId::OldSerialNumber,
+                ElementId::CellList,
+            ],
+            MessageType::KillComplete => &[
+                ElementId::MessageIdentifier,
+                ElementId::OldSerialNumber,
+            ],
+            MessageType::KillFailure => &[
+                ElementId::MessageIdentifier,
+                ElementId::OldSerialNumber,
+                ElementId::FailureList,
+            ],
+            MessageType::StatusQuery => &[
+                ElementId::MessageIdentifier,
+                ElementId::OldSerialNumber,
+                ElementId::CellList,
+            ],
+            MessageType::StatusComplete => &[
+                ElementId::MessageIdentifier,
+                ElementId::OldSerialNumber,
+                ElementId::BroadcastsCompleted,
+            ],
+            MessageType::StatusFailure => &[
+                ElementId::MessageIdentifier,
+                ElementId::OldSerialNumber,
+                ElementId::FailureList,
+            ],
+            MessageType::Restart => &[
+                ElementId::CellList,
+                ElementId::BroadcastMessageType,
+                ElementId::RecoveryIndication,
+            ],
+            MessageType::Failure => &[ElementId::FailureList, ElementId::BroadcastMessageType],
+            MessageType::ErrorIndication => &[ElementId::Cause],
+        }
+    }
+
+    /// The other elements that are taken where they are there. An element of neither list is passed
+    /// over.
+    pub fn optional(self) -> &'static [ElementId]
+        ensures { result.now ≡ optional_of self }
+    {
+        match self {
+            MessageType::WriteReplace => &[ElementId::OldSerialNumber, ElementId::ChannelIndicator],
+            MessageType::WriteComplete => &[
+                ElementId::OldSerialNumber,
+                ElementId::BroadcastsCompleted,
+                ElementId::CellList,
+                ElementId::ChannelIndicator,
+            ],
+            MessageType::WriteFailure => &[
+                ElementId::OldSerialNumber,
+                ElementId::BroadcastsCompleted,
+                ElementId::CellList,
+                ElementId::ChannelIndicator,
+            ],
+            MessageType::Kill => &[ElementId::ChannelIndicator],
+            MessageType::KillComplete => &[
+                ElementId::BroadcastsCompleted,
+                ElementId::CellList,
+                ElementId::ChannelIndicator,
+            ],
+            MessageType::KillFailure => &[
+                ElementId::BroadcastsCompleted,
+                ElementId::CellList,
+                ElementId::ChannelIndicator,
+            ],
+            MessageType::StatusQuery => &[ElementId::ChannelIndicator],
+            MessageType::StatusComplete => &[ElementId::ChannelIndicator],
+            MessageType::StatusFailure => &[
+                ElementId::BroadcastsCompleted,
+                ElementId::ChannelIndicator,
+            ],
+            MessageType::Restart => &[],
+            MessageType::Failure => &[],
+            MessageType::ErrorIndication => &[
+                ElementId::MessageIdentifier,
+                ElementId::NewSerialNumber,
+                ElementId::OldSerialNumber,
+                ElementId::ChannelIndicator,
+            ],
+        }
+    }
+
+    /// All of these elements, in the order in which they are written.
+    pub fn written(self) -> &'static [ElementId]
+        ensures { result.now ≡ written_of self }
+    {
+        match self {
+            MessageType::WriteReplace => &[
+                ElementId::MessageIdentifier,
+                ElementId::NewSerialNumber,
+                ElementId::OldSerialNumber,
+                ElementId::CellList,
+                ElementId::ChannelIndicator,
+                ElementId::Category,
+                ElementId::RepetitionPeriod,
+                ElementId::BroadcastsRequested,
+                ElementId::NumberOfPages,
+                ElementId::DataCodingScheme,
+                ElementId::MessageContent,
+            ],
+            MessageType::WriteComplete => &[
+                ElementId::MessageIdentifier,
+                ElementId::NewSerialNumber,
+                ElementId::OldSerialNumber,
+                ElementId::BroadcastsCompleted,
+                ElementId::CellList,
+                ElementId::ChannelIndicator,
+            ],
+            MessageType::WriteFailure => &[
+                ElementId::MessageIdentifier,
+                ElementId::NewSerialNumber,
+                ElementId::OldSerialNumber,
+                ElementId::FailureList,
+                ElementId::BroadcastsCompleted,
+                ElementId::CellList,
+                ElementId::ChannelIndicator,
+            ],
+            MessageType::Kill => &[
+                ElementId::MessageIdentifier,
+                ElementId::OldSerialNumber,
+                ElementId::CellList,
+                ElementId::ChannelIndicator,
+            ],
+            MessageType::KillComplete => &[
+                ElementId::MessageIdentifier,
+                ElementId::OldSerialNumber,
+                ElementId::BroadcastsCompleted,
+                ElementId::CellList,
+                ElementId::ChannelIndicator,
+            ],
+            MessageType::KillFailure => &[
+                ElementId::MessageIdentifier,
+                ElementId::OldSerialNumber,
+                ElementId::FailureList,
+                ElementId::BroadcastsCompleted,
+                ElementId::CellList,
+                ElementId::ChannelIndicator,
+            ],
+            MessageType::StatusQuery => &[
+                ElementId::MessageIdentifier,
+                ElementId::OldSerialNumber,
+                ElementId::CellList,
+                ElementId::ChannelIndicator,
+            ],
+            MessageType::StatusComplete => &[
+                ElementId::MessageIdentifier,
+                ElementId::OldSerialNumber,
+                ElementId::BroadcastsCompleted,
+                ElementId::ChannelIndicator,
+            ],
+            MessageType::StatusFailure => &[
+                ElementId::MessageIdentifier,
+                ElementId::OldSerialNumber,
+                ElementId::FailureList,
+                ElementId::BroadcastsCompleted,
+                ElementId::ChannelIndicator,
+            ],
+            MessageType::Restart => &[
+                ElementId::CellList,
+                ElementId::BroadcastMessageType,
+                ElementId::RecoveryIndication,
+            ],
+            MessageType::Failure => &[ElementId::FailureList, ElementId::BroadcastMessageType],
+            MessageType::ErrorIndication => &[
+                ElementId::Cause,
+                ElementId::MessageIdentifier,
+                ElementId::NewSerialNumber,
+                ElementId::OldSerialNumber,
+                ElementId::ChannelIndicator,
+            ],
+        }
+    }
+}

@@ -1,0 +1,57 @@
+-- Whether some element of a list passes a test.
+use Rattle.std.proofs.Common.{◌≡◌, ℕ, Bool, true, false, ◌&&◌, ◌||◌, not, List, [], ◌∷◌, ◌++◌, refl, sym, ◌∙◌, ap}
+use Rattle.std.specs.List.{list_any}
+
+pub or_assoc : (a b c : Bool) → ((a || b) || c) ≡ (a || (b || c))
+or_assoc true b c = refl
+or_assoc false b c = refl
+
+pub or_swap : (a b c : Bool) → (a || (b || c)) ≡ (b || (a || c))
+or_swap true true c = refl
+or_swap true false c = refl
+or_swap false true c = refl
+or_swap false false c = refl
+
+pub or_none : (a : Bool) → (a || false) ≡ a
+or_none true = refl
+or_none false = refl
+
+pub and_none : (a : Bool) → (a && false) ≡ false
+and_none true = refl
+and_none false = refl
+
+-- what two parts of an `or` have in common
+pub and_over_or : (x a b : Bool) → ((x && a) || (x && b)) ≡ (x && (a || b))
+and_over_or true a b = refl
+and_over_or false a b = refl
+
+pub any_append : {X : Type 0} (p : X → Bool) (xs ys : List X) → list_any p (xs ++ ys) ≡ (list_any p xs || list_any p ys)
+any_append p [] ys = refl
+any_append p (x ∷ xs) ys = ap (λ t. p x || t) (any_append p xs ys) ∙ sym (or_assoc (p x) (list_any p xs) (list_any p ys))
+
+-- tests that agree pass together
+pub any_same : {X : Type 0} (p q : X → Bool) → ((x : X) → p x ≡ q x) → (xs : List X) → list_any p xs ≡ list_any q xs
+any_same p q e [] = refl
+any_same p q e (x ∷ xs) = ap (λ t. t || list_any p xs) (e x) ∙ ap (λ t. q x || t) (any_same p q e xs)
+
+pub any_never : {X : Type 0} (xs : List X) → list_any (λ (x : X). false) xs ≡ false
+any_never [] = refl
+any_never (x ∷ xs) = any_never xs
+
+-- what does not depend on the element comes out
+pub any_pulled : {X : Type 0} (k : Bool) (p : X → Bool) (xs : List X) → list_any (λ x. k && p x) xs ≡ (k && list_any p xs)
+any_pulled true p xs = refl
+any_pulled false p xs = any_never xs
+
+-- one that passes is enough
+pub any_implies : {X : Type 0} (p q : X → Bool) → ((x : X) → p x ≡ true → q x ≡ true) → (xs : List X) → list_any p xs ≡ true → list_any q xs ≡ true
+any_implies p q e [] h = h
+any_implies p q e (x ∷ xs) h = step (any_implies p q e xs) (p x) refl h
+  where
+    right : (a : Bool) → (a || true) ≡ true
+    right true = refl
+    right false = refl
+
+    step : (list_any p xs ≡ true → list_any q xs ≡ true) → (t : Bool) → p x ≡ t → (t || list_any p xs) ≡ true → (q x || list_any q xs) ≡ true
+    step rest true passes g = ap (λ u. u || list_any q xs) (e x passes)
+    step rest false fails g = ap (λ u. q x || u) (rest g) ∙ right (q x)

@@ -1,0 +1,114 @@
+-- The messages that are sent fit: an order names at most 1,000 cells, and a content has 1 to 15 pages.
+use Rattle.std.proofs.Common.{◌≡◌, ℕ, ◌+◌, ◌*◌, ◌<◌, ◌≤◌, Bool, true, false, ◌&&◌, not, List, [], ◌∷◌, ◌++◌, Option, Some, None, Result, Ok, Err, nat_le, length, take, map, if◌then◌else◌, refl, ap, sym, subst, ◌∙◌, arith, length-append, lit≤}
+use Rattle.std.specs.Prelude.{IfSome}
+use Rattle.std.specs.List.{list_any, flat_map}
+use Rattle.std.proofs.lemmas.Bool.{leb-true, and_parts}
+use Rattle.std.proofs.lemmas.List.{length-take, length-map}
+use Rattle.cbsp_ie.specs.CellId.{id_octets}
+use Rattle.cbsp_ie.specs.Identifications.{id_of_cell}
+use Rattle.cbsp_ie.specs.Written.{cells_octets}
+use Rattle.cbsp_ie.specs.declared.cell.Cell.{Cell}
+use Rattle.cbsp_messages.specs.PageText.{page_with}
+use Rattle.cbsp_messages.specs.Written.{Fits}
+use Rattle.cbsp_messages.specs.declared.message.Message.{Message}
+use Rattle.centre_core.proofs.PageLemmas.{content_has_pages, law_of_verdict, legal_has_pages}
+use Rattle.centre_core.specs.Fits.{AnswerFits}
+use Rattle.centre_core.specs.InFlight.{in_flight}
+use Rattle.centre_core.specs.Legal.{Legal}
+use Rattle.centre_core.specs.OrderMessage.{listed, message_by, order_message}
+use Rattle.centre_core.specs.Pages.{HasPages}
+use Rattle.centre_core.specs.Pending.{first, most_cells, pending}
+use Rattle.centre_core.specs.Verdict.{are_pages, is_page, unless, law, verdict, add_bsc_checks, add_cell_checks, add_area_checks, put_checks, issue_checks, issue_answer, link_up_checks, send_checks, send_answer, report_checks, report_answer}
+use Rattle.centre_core.specs.Warnings.{book, content_of, issue_count, new_serial}
+use Rattle.centre_core.specs.declared.answer.Answer.{Answer}
+use Rattle.centre_core.specs.declared.answer.Answer.TheVariants.{Done, Link, Sent}
+use Rattle.centre_core.specs.declared.entry.Entry.{Entry}
+use Rattle.centre_core.specs.declared.event.Event.{Event}
+use Rattle.centre_core.specs.declared.event.Event.TheVariants.{AddBsc, AddCell, AddArea, Put, Issue, LinkUp, Send, Report}
+use Rattle.centre_core.specs.declared.order_maker.order.Order.{Order}
+use Rattle.centre_core.specs.declared.order_maker.order_kind.OrderKind.{OrderKind}
+use Rattle.centre_core.specs.declared.order_maker.order_kind.OrderKind.TheVariants.{Write, Kill}
+use Rattle.centre_core.specs.declared.refusal.Refusal.{Refusal}
+use Rattle.centre_core.specs.declared.warning_book.content.Content.{Content}
+
+-- a cell takes four octets of a list
+listed_length : (cells : List Cell) → length (flat_map id_octets (map id_of_cell cells)) ≡ 4 * length cells
+listed_length [] = refl
+listed_length (c ∷ cells) =
+    length-append (id_octets (id_of_cell c)) (flat_map id_octets (map id_of_cell cells)) ∙ (let four : length (id_octets (id_of_cell c)) ≡ 4 = refl in omega (arith, four, listed_length cells))
+
+listed_fits : (cells : List Cell) → length cells ≤ 1000 → length (cells_octets (listed cells)) < 65536
+listed_fits cells h = omega (arith, listed_length cells)
+
+pages_fit : (pages : List (List ℕ)) → are_pages pages ≡ true → (1 ≤ length (map page_with pages)) × (length (map page_with pages) ≤ 15)
+pages_fit pages h =
+    let count = (and_parts (nat_le 1 (length pages) && nat_le (length pages) 15) (not (list_any (λ page. not (is_page page)) pages)) h).0 in
+    let parts = and_parts (nat_le 1 (length pages)) (nat_le (length pages) 15) count in
+    let low : 1 ≤ length pages = leb-true 1 (length pages) parts.0 in
+    let high : length pages ≤ 15 = leb-true (length pages) 15 parts.1 in
+    (omega (arith, length-map pages page_with), omega (arith, length-map pages page_with))
+
+message_fits : (order : Order) (kind : OrderKind) (content : Option Content) → length order.cells ≤ 1000 → IfSome content (λ c. are_pages c.pages ≡ true) → Fits (message_by order kind content)
+message_fits order Write (Some content) few good =
+    record { cells = listed_fits order.cells few; counts = tt; failures = tt; pages = pages_fit content.pages good }
+message_fits order Write None few good = record { cells = listed_fits order.cells few; counts = tt; failures = tt; pages = tt }
+message_fits order Kill content few good = record { cells = listed_fits order.cells few; counts = tt; failures = tt; pages = tt }
+
+few_cells : most_cells ≤ 1000
+unfolding most_cells
+few_cells = lit≤ tt
+
+take_few : (n : ℕ) (cells : List Cell) → length (take n cells) ≤ n
+take_few n cells = omega (arith, length-take n cells)
+
+first_is_short : (orders : List Order) → IfSome (first orders) (λ order. length order.cells ≤ 1000)
+first_is_short [] = tt
+first_is_short (order ∷ orders) = omega (arith, few_cells, take_few most_cells order.cells)
+
+unless_ok : (checks : List (Bool × Refusal)) (r : Result Answer Refusal) (a : Answer) → unless checks r ≡ Ok a → r ≡ Ok a
+unless_ok [] r a h = h
+unless_ok ((true, refusal) ∷ checks) r a h = cc
+unless_ok ((false, refusal) ∷ checks) r a h = unless_ok checks r a h
+
+sent_fits : (past : List Entry) (next : Option Order) (order : Order) (message : Message) → HasPages (book past) → IfSome next (λ o. length o.cells ≤ 1000) → send_answer past next ≡ Ok (Sent order message) → Fits message
+sent_fits past None order message good few h = absurd (let no : send_answer past None ≡ Ok (Sent order message) = h in cc)
+sent_fits past (Some o) order message good few h =
+    let same : order_message o (content_of o.message_id o.serial (book past)) ≡ message = cc in
+    subst Fits same (message_fits o o.kind (content_of o.message_id o.serial (book past)) few (content_has_pages o.message_id o.serial (book past) good))
+
+no_done : (checks : List (Bool × Refusal)) (order : Order) (message : Message) → unless checks (Ok Done) ≡ Ok (Sent order message) → ⊥
+no_done checks order message h =
+    let done : Result Answer Refusal = Ok Done in
+    let no : done ≡ Ok (Sent order message) = unless_ok checks done (Sent order message) h in
+    cc
+
+no_link : (checks : List (Bool × Refusal)) (place : ℕ) (order : Order) (message : Message) → unless checks (Ok (Link place)) ≡ Ok (Sent order message) → ⊥
+no_link checks place order message h =
+    let link : Result Answer Refusal = Ok (Link place) in
+    let no : link ≡ Ok (Sent order message) = unless_ok checks link (Sent order message) h in
+    cc
+
+no_issue : (n : ℕ) (o : Option ℕ) (order : Order) (message : Message) → issue_answer n o ≡ Ok (Sent order message) → ⊥
+no_issue n None order message e = cc
+no_issue n (Some s) order message e = cc
+
+no_report : (report : Message) (o : Option Order) (order : Order) (message : Message) → report_answer report o ≡ Ok (Sent order message) → ⊥
+no_report report None order message e = cc
+no_report report (Some x) order message e = cc
+
+answer_fits : (past : List Entry) (event : Event) (answer : Answer) → HasPages (book past) → law past event ≡ Ok answer → AnswerFits answer
+answer_fits past (AddBsc b) (Sent order message) good h = absurd (no_done (add_bsc_checks past b) order message h)
+answer_fits past (AddCell c b) (Sent order message) good h = absurd (no_done (add_cell_checks past c b) order message h)
+answer_fits past (AddArea a) (Sent order message) good h = absurd (no_done (add_area_checks past a) order message h)
+answer_fits past (Put a s) (Sent order message) good h = absurd (no_done (put_checks past a s) order message h)
+answer_fits past (Issue notice names) (Sent order message) good h = absurd (no_issue (issue_count past + 1) (new_serial past notice) order message (unless_ok (issue_checks past notice names) (issue_answer (issue_count past + 1) (new_serial past notice)) (Sent order message) h))
+answer_fits past (LinkUp b) (Sent order message) good h = absurd (no_link (link_up_checks past b) (length past + 1) order message h)
+answer_fits past (Send b generation) (Sent order message) good h =
+    sent_fits past (first (pending past b)) order message good (first_is_short (pending past b)) (unless_ok (send_checks past b generation) (send_answer past (first (pending past b))) (Sent order message) h)
+answer_fits past (Report b generation report) (Sent order message) good h = absurd (no_report report (in_flight past b) order message (unless_ok (report_checks past b generation report) (report_answer report (in_flight past b)) (Sent order message) h))
+answer_fits past event answer good h = tt
+
+-- what an event is answered after a legal past fits
+pub verdict_fits : (limit : ℕ) (past : List Entry) (event : Event) (answer : Answer) → Legal limit past → verdict limit past event ≡ Ok answer → AnswerFits answer
+verdict_fits limit past event answer legal h =
+    answer_fits past event answer (legal_has_pages limit past legal) (law_of_verdict limit past event answer h)

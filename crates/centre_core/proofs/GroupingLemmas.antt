@@ -1,0 +1,79 @@
+-- Sorting and grouping change no test of what the actions touch.
+use Rattle.std.proofs.Common.{◌≡◌, ℕ, Bool, true, false, ◌&&◌, ◌||◌, not, nat_eq, List, [], ◌∷◌, ◌++◌, refl, sym, ◌∙◌, ap, eqb-true}
+use Rattle.std.specs.List.{list_any}
+use Rattle.cbsp_ie.specs.Cell.{cell_eq}
+use Rattle.cbsp_ie.specs.declared.cell.Cell.{Cell}
+use Rattle.centre_core.specs.Actions.{all_actions}
+use Rattle.centre_core.specs.Headline.{names_cell}
+use Rattle.centre_core.specs.Pending.{kind_eq, action_lt, put_in_order, in_order, alone, fits, joined, grouped, pending}
+use Rattle.centre_core.specs.Presence.{is_among}
+use Rattle.centre_core.specs.declared.entry.Entry.{Entry}
+use Rattle.centre_core.specs.declared.order_maker.action.Action.{Action}
+use Rattle.centre_core.specs.declared.order_maker.order.Order.{Order}
+use Rattle.centre_core.specs.declared.order_maker.order_kind.OrderKind.{OrderKind}
+use Rattle.centre_core.specs.declared.order_maker.order_kind.OrderKind.TheVariants.{Write, Kill}
+use Rattle.centre_core.proofs.AnyLemmas.{or_assoc, or_swap, or_none}
+
+-- an order names the cell with this message identifier, and what it does passes g
+abbrev pub tests : (OrderKind → ℕ → Bool) → Cell → ℕ → Order → Bool
+tests g c m order = names_cell order c m && g order.kind order.serial
+
+-- the same of one action
+abbrev pub touches : (OrderKind → ℕ → Bool) → Cell → ℕ → Action → Bool
+touches g c m a = tests g c m (alone a)
+
+kind_same : (x y : OrderKind) → kind_eq x y ≡ true → x ≡ y
+kind_same Write Write h = refl
+kind_same Kill Kill h = refl
+kind_same Write Kill h = cc
+kind_same Kill Write h = cc
+
+first_true : (a b : Bool) → (a && b) ≡ true → a ≡ true
+first_true true b h = refl
+first_true false b h = h
+
+second_true : (a b : Bool) → (a && b) ≡ true → b ≡ true
+second_true true b h = h
+second_true false b h = cc
+
+-- an order with one more cell names that cell too
+one_more : (x y z g r : Bool) → (((x && (y || z)) && g) || r) ≡ (((x && (y || false)) && g) || (((x && z) && g) || r))
+one_more false y z g r = refl
+one_more true true z true r = refl
+one_more true true true false r = refl
+one_more true true false false r = refl
+one_more true false z g r = refl
+
+any_joined : (g : OrderKind → ℕ → Bool) (c : Cell) (m : ℕ) (a : Action) (orders : List Order) → list_any (tests g c m) (joined a orders) ≡ (touches g c m a || list_any (tests g c m) orders)
+any_joined g c m a [] = refl
+any_joined g c m a (order ∷ orders) = step (fits a order) refl
+  where
+    at_same : (k : OrderKind) (n t : ℕ) → k ≡ order.kind → n ≡ order.message_id → t ≡ order.serial → (((nat_eq order.message_id m && (cell_eq c a.cell || is_among c order.cells)) && g order.kind order.serial) || list_any (tests g c m) orders) ≡ (((nat_eq n m && (cell_eq c a.cell || false)) && g k t) || (tests g c m order || list_any (tests g c m) orders))
+    at_same k n t e f h = rw (e, f, h) (one_more (nat_eq order.message_id m) (cell_eq c a.cell) (is_among c order.cells) (g order.kind order.serial) (list_any (tests g c m) orders))
+
+    step : (t : Bool) → fits a order ≡ t → list_any (tests g c m) (joined a (order ∷ orders)) ≡ (touches g c m a || list_any (tests g c m) (order ∷ orders))
+    step true h =
+        rw h (at_same a.kind a.message_id a.serial (kind_same a.kind order.kind (first_true (kind_eq a.kind order.kind) (nat_eq a.message_id order.message_id && nat_eq a.serial order.serial) h))
+        (eqb-true a.message_id order.message_id (first_true (nat_eq a.message_id order.message_id) (nat_eq a.serial order.serial) (second_true (kind_eq a.kind order.kind) (nat_eq a.message_id order.message_id && nat_eq a.serial order.serial) h)))
+        (eqb-true a.serial order.serial (second_true (nat_eq a.message_id order.message_id) (nat_eq a.serial order.serial) (second_true (kind_eq a.kind order.kind) (nat_eq a.message_id order.message_id && nat_eq a.serial order.serial) h))))
+    step false h = rw h refl
+
+pub any_grouped : (g : OrderKind → ℕ → Bool) (c : Cell) (m : ℕ) (xs : List Action) → list_any (tests g c m) (grouped xs) ≡ list_any (touches g c m) xs
+any_grouped g c m [] = refl
+any_grouped g c m (a ∷ xs) = any_joined g c m a (grouped xs) ∙ ap (λ t. touches g c m a || t) (any_grouped g c m xs)
+
+any_put : (p : Action → Bool) (x : Action) (ys : List Action) → list_any p (put_in_order x ys) ≡ (p x || list_any p ys)
+any_put p x [] = refl
+any_put p x (y ∷ ys) = step (any_put p x ys) (action_lt y x) refl
+  where
+    step : list_any p (put_in_order x ys) ≡ (p x || list_any p ys) → (t : Bool) → action_lt y x ≡ t → list_any p (put_in_order x (y ∷ ys)) ≡ (p x || (p y || list_any p ys))
+    step rest true h = rw h (ap (λ t. p y || t) rest ∙ or_swap (p y) (p x) (list_any p ys))
+    step rest false h = rw h refl
+
+pub any_in_order : (p : Action → Bool) (xs : List Action) → list_any p (in_order xs) ≡ list_any p xs
+any_in_order p [] = refl
+any_in_order p (x ∷ xs) = any_put p x (in_order xs) ∙ ap (λ t. p x || t) (any_in_order p xs)
+
+-- what the pending orders touch is what the actions touch
+pub any_pending : (g : OrderKind → ℕ → Bool) (c : Cell) (m : ℕ) (past : List Entry) (b : ℕ) → list_any (tests g c m) (pending past b) ≡ list_any (touches g c m) (all_actions past b)
+any_pending g c m past b = any_grouped g c m (in_order (all_actions past b)) ∙ any_in_order (touches g c m) (all_actions past b)

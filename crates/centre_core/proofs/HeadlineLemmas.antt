@@ -1,0 +1,163 @@
+-- The pending orders, applied to what was reported, give the plan.
+use Rattle.std.proofs.Common.{◌≡◌, ℕ, Bool, true, false, ◌&&◌, ◌||◌, not, nat_eq, List, [], ◌∷◌, Option, Some, None, Result, Ok, Err, refl, sym, ◌∙◌, ap, subst, cond, eqb-true}
+use Rattle.std.specs.List.{list_any}
+use Rattle.cbsp_ie.specs.declared.cell.Cell.{Cell}
+use Rattle.centre_core.specs.Actions.{needs, is_to_kill}
+use Rattle.centre_core.specs.Cover.{is_covered}
+use Rattle.centre_core.specs.Headline.{airs, clears, applied, Agrees, PendingGivesPlan}
+use Rattle.centre_core.specs.Legal.{Legal, Call, with_verdict, after_calls}
+use Rattle.centre_core.specs.Verdict.{verdict}
+use Rattle.centre_core.specs.declared.answer.Answer.{Answer}
+use Rattle.centre_core.specs.declared.event.Event.{Event}
+use Rattle.centre_core.specs.declared.refusal.Refusal.{Refusal}
+use Rattle.centre_core.specs.Pending.{pending}
+use Rattle.centre_core.specs.Places.{place, cells}
+use Rattle.centre_core.specs.Plan.{is_place, wanted, planned}
+use Rattle.centre_core.specs.Presence.{is_among, presence, is_absent, is_on_air}
+use Rattle.centre_core.specs.Warnings.{Warning, book, versions, is_version, has_key, is_key}
+use Rattle.centre_core.specs.declared.entry.Entry.{Entry}
+use Rattle.centre_core.specs.declared.mirror.presence.Presence.{Presence}
+use Rattle.centre_core.specs.declared.mirror.presence.Presence.TheVariants.{Absent, OnAir, Unknown}
+use Rattle.centre_core.proofs.AnyLemmas.{and_none, any_same, any_pulled}
+use Rattle.centre_core.proofs.ApplyingLemmas.{applied_airs, applied_clears}
+use Rattle.centre_core.proofs.ActingLemmas.{does, any_all, writing, killing, does_writing, does_killing}
+use Rattle.centre_core.proofs.GroupingLemmas.{any_pending}
+use Rattle.centre_core.proofs.KnownLemmas.{known_place, known_presence}
+use Rattle.centre_core.proofs.UniqueLemmas.{unique, one_other}
+
+-- the warning plans the key
+abbrev plans : List Entry → ℕ → Cell → ℕ → ℕ → Warning → Bool
+plans past b c m s w = nat_eq w.message_id m && (nat_eq w.serial s && wanted past b w c)
+
+airs_at : (past : List Entry) (b : ℕ) (c : Cell) (m s : ℕ) (w : Warning) → (nat_eq w.message_id m && (is_among c (cells past) && does (writing s) past b w c)) ≡ ((is_among c (cells past) && not (is_on_air (presence past b c m s))) && plans past b c m s w)
+airs_at past b c m s w =
+    ap (λ t. nat_eq w.message_id m && (is_among c (cells past) && t)) (does_writing past b w c s)
+    ∙ step (nat_eq w.message_id m) refl (nat_eq w.serial s) refl
+  where
+    table : (k wd on : Bool) → (k && ((wd && not on) && true)) ≡ ((k && not on) && wd)
+    table true true true = refl
+    table true true false = refl
+    table true false true = refl
+    table true false false = refl
+    table false wd on = refl
+
+    no_serial : (k n : Bool) → (k && (n && false)) ≡ false
+    no_serial true n = and_none n
+    no_serial false n = refl
+
+    step : (t : Bool) → nat_eq w.message_id m ≡ t → (u : Bool) → nat_eq w.serial s ≡ u → (nat_eq w.message_id m && (is_among c (cells past) && (needs past b w c && nat_eq w.serial s))) ≡ ((is_among c (cells past) && not (is_on_air (presence past b c m s))) && plans past b c m s w)
+    step true e true f =
+        let at_m : w.message_id ≡ m = eqb-true w.message_id m e in
+        let at_s : w.serial ≡ s = eqb-true w.serial s f in
+        let here : (is_among c (cells past) && ((wanted past b w c && not (is_on_air (presence past b c w.message_id w.serial))) && true)) ≡ ((is_among c (cells past) && not (is_on_air (presence past b c m s))) && wanted past b w c) =
+        ap (λ (n : ℕ). is_among c (cells past) && ((wanted past b w c && not (is_on_air (presence past b c n w.serial))) && true)) at_m
+        ∙ ap (λ (n : ℕ). is_among c (cells past) && ((wanted past b w c && not (is_on_air (presence past b c m n))) && true)) at_s
+        ∙ table (is_among c (cells past)) (wanted past b w c) (is_on_air (presence past b c m s)) in
+        rw (e, f) here
+    step true e false f = rw (e, f) (no_serial (is_among c (cells past)) (needs past b w c) ∙ sym (and_none (is_among c (cells past) && not (is_on_air (presence past b c m s)))))
+    step false e u f = rw e (sym (and_none (is_among c (cells past) && not (is_on_air (presence past b c m s)))))
+
+clears_at : (past : List Entry) (b : ℕ) (c : Cell) (m s : ℕ) (w : Warning) → (nat_eq w.message_id m && (is_among c (cells past) && does (killing s) past b w c)) ≡ ((is_among c (cells past) && not (is_absent (presence past b c m s))) && (has_key m s w && not (plans past b c m s w)))
+clears_at past b c m s w =
+    ap (λ t. nat_eq w.message_id m && (is_among c (cells past) && t)) (does_killing past b w c s)
+    ∙ step (nat_eq w.message_id m) refl
+  where
+    table : (k v p a : Bool) → (k && (v && (not p && not a))) ≡ ((k && not a) && (v && not p))
+    table true true true true = refl
+    table true true true false = refl
+    table true true false true = refl
+    table true true false false = refl
+    table true false p true = refl
+    table true false p false = refl
+    table false v p a = refl
+
+    step : (t : Bool) → nat_eq w.message_id m ≡ t → (nat_eq w.message_id m && (is_among c (cells past) && (list_any (is_version s) (versions w) && is_to_kill past b w c s))) ≡ ((is_among c (cells past) && not (is_absent (presence past b c m s))) && (has_key m s w && not (plans past b c m s w)))
+    step true e =
+        let at_m : w.message_id ≡ m = eqb-true w.message_id m e in
+        let here : (is_among c (cells past) && (list_any (is_version s) (versions w) && (not (nat_eq w.serial s && wanted past b w c) && not (is_absent (presence past b c w.message_id s))))) ≡ ((is_among c (cells past) && not (is_absent (presence past b c m s))) && (list_any (is_version s) (versions w) && not (nat_eq w.serial s && wanted past b w c))) =
+        ap (λ (n : ℕ). is_among c (cells past) && (list_any (is_version s) (versions w) && (not (nat_eq w.serial s && wanted past b w c) && not (is_absent (presence past b c n s))))) at_m
+        ∙ table (is_among c (cells past)) (list_any (is_version s) (versions w)) (nat_eq w.serial s && wanted past b w c) (is_absent (presence past b c m s)) in
+        rw e here
+    step false e = rw e (sym (and_none (is_among c (cells past) && not (is_absent (presence past b c m s)))))
+
+-- the pending orders put the key on air just where it is planned and not on air
+airs_pending : (past : List Entry) (b : ℕ) (c : Cell) (m s : ℕ) → list_any (airs c m s) (pending past b) ≡ ((is_among c (cells past) && not (is_on_air (presence past b c m s))) && planned past b c m s)
+airs_pending past b c m s =
+    any_pending (writing s) c m past b
+    ∙ any_all (writing s) c m past b
+    ∙ any_same (λ w. nat_eq w.message_id m && (is_among c (cells past) && does (writing s) past b w c)) (λ w. (is_among c (cells past) && not (is_on_air (presence past b c m s))) && plans past b c m s w) (airs_at past b c m s) (book past)
+    ∙ any_pulled (is_among c (cells past) && not (is_on_air (presence past b c m s))) (plans past b c m s) (book past)
+
+key_of_plan : (past : List Entry) (b : ℕ) (c : Cell) (m s : ℕ) (w : Warning) → plans past b c m s w ≡ true → has_key m s w ≡ true
+key_of_plan past b c m s w h = step (nat_eq w.message_id m) (nat_eq w.serial s) h
+  where
+    step : (t u : Bool) → (t && (u && wanted past b w c)) ≡ true → (t && (u || list_any (is_version s) w.outdated)) ≡ true
+    step true true g = refl
+    step true false g = cc
+    step false u g = g
+
+-- and take it off just where it is a key of a warning that isn't planned and not absent
+clears_pending : (limit : ℕ) (past : List Entry) → Legal limit past → (b : ℕ) (c : Cell) (m s : ℕ) → is_key past m s ≡ true → list_any (clears c m s) (pending past b) ≡ ((is_among c (cells past) && not (is_absent (presence past b c m s))) && not (planned past b c m s))
+clears_pending limit past legal b c m s key =
+    any_pending (killing s) c m past b
+    ∙ any_all (killing s) c m past b
+    ∙ any_same (λ w. nat_eq w.message_id m && (is_among c (cells past) && does (killing s) past b w c)) (λ w. (is_among c (cells past) && not (is_absent (presence past b c m s))) && (has_key m s w && not (plans past b c m s w))) (clears_at past b c m s) (book past)
+    ∙ any_pulled (is_among c (cells past) && not (is_absent (presence past b c m s))) (λ w. has_key m s w && not (plans past b c m s w)) (book past)
+    ∙ ap (λ t. (is_among c (cells past) && not (is_absent (presence past b c m s))) && t) (one_other (has_key m s) (plans past b c m s) (key_of_plan past b c m s) (book past) (unique limit past legal m s))
+    ∙ ap (λ t. (is_among c (cells past) && not (is_absent (presence past b c m s))) && (t && not (planned past b c m s))) key
+
+-- a planned cell was registered
+planned_known : (past : List Entry) (b : ℕ) (c : Cell) (m s : ℕ) (ws : List Warning) → list_any (plans past b c m s) ws ≡ true → is_among c (cells past) ≡ true
+planned_known past b c m s [] h = cc
+planned_known past b c m s (w ∷ ws) h = step (planned_known past b c m s ws) (nat_eq w.message_id m) (nat_eq w.serial s) w.active (is_place (place past c) b) refl h
+  where
+    step : (list_any (plans past b c m s) ws ≡ true → is_among c (cells past) ≡ true) → (t u a p : Bool) → is_place (place past c) b ≡ p → ((t && (u && (a && (p && is_covered past w.areas c)))) || list_any (plans past b c m s) ws) ≡ true → is_among c (cells past) ≡ true
+    step rest true true true true e g = known_place past b c e
+    step rest true true true false e g = rest g
+    step rest true true false p e g = rest g
+    step rest true false a p e g = rest g
+    step rest false u a p e g = rest g
+
+-- what the orders make of a key, by what was reported and whether it is planned
+decided : (k : Bool) (p : Presence) (x y q : Bool) (after : Presence) → x ≡ ((k && not (is_on_air p)) && q) → y ≡ ((k && not (is_absent p)) && not q) → (q ≡ true → k ≡ true) → (is_absent p ≡ false → k ≡ true) → (y ≡ false → after ≡ cond x OnAir p) → (x ≡ false → after ≡ cond y Absent p) → Agrees after q
+decided true p x y true after ex ey kq kp airs_it clears_it = on p x y ex ey airs_it
+  where
+    on : (r : Presence) (u v : Bool) → u ≡ ((true && not (is_on_air r)) && true) → v ≡ ((true && not (is_absent r)) && false) → (v ≡ false → after ≡ cond u OnAir r) → after ≡ OnAir
+    on Absent u v e f g = g (f) ∙ ap (λ t. cond t OnAir Absent) e
+    on OnAir u v e f g = g (f) ∙ ap (λ t. cond t OnAir OnAir) e
+    on Unknown u v e f g = g (f) ∙ ap (λ t. cond t OnAir Unknown) e
+decided false p x y true after ex ey kq kp airs_it clears_it = let no : false ≡ true = kq refl in cc
+decided k p x y false after ex ey kq kp airs_it clears_it = off p x y ex ey kp clears_it
+  where
+    off : (r : Presence) (u v : Bool) → u ≡ ((k && not (is_on_air r)) && false) → v ≡ ((k && not (is_absent r)) && true) → (is_absent r ≡ false → k ≡ true) → (u ≡ false → after ≡ cond v Absent r) → after ≡ Absent
+    off Absent u v e f known g = g (e ∙ and_none (k && true)) ∙ same v
+      where
+        same : (t : Bool) → cond t Absent Absent ≡ Absent
+        same true = refl
+        same false = refl
+    off OnAir u v e f known g = g (e ∙ and_none (k && false)) ∙ ap (λ t. cond t Absent OnAir) (f ∙ ap (λ t. (t && true) && true) (known refl))
+    off Unknown u v e f known g = g (e ∙ and_none (k && true)) ∙ ap (λ t. cond t Absent Unknown) (f ∙ ap (λ t. (t && true) && true) (known refl))
+
+pub pending_gives_plan : (limit : ℕ) (past : List Entry) → Legal limit past → PendingGivesPlan past
+pending_gives_plan limit past legal = record {
+  each = λ b c m s key.
+      decided (is_among c (cells past)) (presence past b c m s) (list_any (airs c m s) (pending past b)) (list_any (clears c m s) (pending past b)) (planned past b c m s) (applied (pending past b) c m s (presence past b c m s))
+      (airs_pending past b c m s) (clears_pending limit past legal b c m s key)
+      (planned_known past b c m s (book past)) (known_presence limit past legal b c m s)
+      (applied_airs (pending past b) c m s (presence past b c m s)) (applied_clears (pending past b) c m s (presence past b c m s));
+}
+
+-- an accepted call keeps a past legal, and a refused one leaves it
+legal_with : (limit desk : ℕ) (e : Event) (before : List Entry) → Legal limit before → Legal limit (with_verdict desk e (verdict limit before e) before)
+legal_with limit desk e before legal = step (verdict limit before e) refl
+  where
+    step : (r : Result Answer Refusal) → verdict limit before e ≡ r → Legal limit (with_verdict desk e r before)
+    step (Ok a) h = (h, legal)
+    step (Err r) h = legal
+
+pub legal_after : (limit : ℕ) (calls : List Call) (before : List Entry) → Legal limit before → Legal limit (after_calls limit calls before)
+legal_after limit [] before legal = legal
+legal_after limit (call ∷ calls) before legal = legal_after limit calls (with_verdict call.desk call.event (verdict limit before call.event) before) (legal_with limit call.desk call.event before legal)
+
+pub plan_after_calls : (limit : ℕ) (calls : List Call) → PendingGivesPlan (after_calls limit calls [])
+plan_after_calls limit calls = pending_gives_plan limit (after_calls limit calls []) (legal_after limit calls [] tt)

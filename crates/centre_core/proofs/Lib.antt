@@ -1,0 +1,14 @@
+pub mod PastLemmas
+pub mod NamedLemmas
+pub mod BookLemmas
+pub mod CodeLemmas
+pub mod OrderLemmas
+pub mod PageLemmas
+pub mod FitsLemmas
+pub mod AnyLemmas
+pub mod ApplyingLemmas
+pub mod GroupingLemmas
+pub mod ActingLemmas
+pub mod UniqueLemmas
+pub mod KnownLemmas
+pub mod HeadlineLemmas

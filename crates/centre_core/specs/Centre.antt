@@ -1,0 +1,9 @@
+-- What always holds of a centre.
+use Rattle.std.specs.Prelude.{ℕ, ◌≤◌, List, length, reverse}
+use Rattle.centre_core.specs.Legal.{Legal}
+use Rattle.centre_core.specs.declared.entry.Entry.{Entry}
+
+pub record IsCentre (limit : ℕ) (journal : List Entry) : Type 0 where
+  pub few : limit ≤ 4000000
+  pub long : length journal ≤ limit
+  pub legal : Legal limit (reverse journal)

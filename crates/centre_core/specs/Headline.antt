@@ -1,0 +1,45 @@
+-- The headline: the pending orders of each BSC, applied to what it has reported, give its part of the plan.
+use Rattle.std.specs.Prelude.{◌≡◌, ℕ, Bool, true, false, ◌&&◌, not, List, [], ◌∷◌, nat_eq, if◌then◌else◌}
+use Rattle.cbsp_ie.specs.declared.cell.Cell.{Cell}
+use Rattle.centre_core.specs.Pending.{pending}
+use Rattle.centre_core.specs.Plan.{planned}
+use Rattle.centre_core.specs.Presence.{presence, is_among}
+use Rattle.centre_core.specs.Warnings.{is_key}
+use Rattle.centre_core.specs.declared.entry.Entry.{Entry}
+use Rattle.centre_core.specs.declared.mirror.presence.Presence.{Presence}
+use Rattle.centre_core.specs.declared.mirror.presence.Presence.TheVariants.{Absent, OnAir}
+use Rattle.centre_core.specs.declared.order_maker.order.Order.{Order}
+use Rattle.centre_core.specs.declared.order_maker.order_kind.OrderKind.{OrderKind}
+use Rattle.centre_core.specs.declared.order_maker.order_kind.OrderKind.TheVariants.{Write, Kill}
+
+abbrev pub is_killing : OrderKind → Bool
+is_killing Write = false
+is_killing Kill = true
+
+abbrev pub names_cell : Order → Cell → ℕ → Bool
+names_cell order c m = nat_eq order.message_id m && is_among c order.cells
+
+-- the order puts the key on air
+abbrev pub airs : Cell → ℕ → ℕ → Order → Bool
+airs c m s order = names_cell order c m && (not (is_killing order.kind) && nat_eq order.serial s)
+
+-- the order takes the key off the air
+abbrev pub clears : Cell → ℕ → ℕ → Order → Bool
+clears c m s order = names_cell order c m && (is_killing order.kind && nat_eq order.serial s)
+
+-- the presence of a key after the order
+abbrev pub applied_one : Cell → ℕ → ℕ → Order → Presence → Presence
+applied_one c m s order p = if airs c m s order then OnAir else (if clears c m s order then Absent else p)
+
+-- the presence of a key after the orders, one after another
+abbrev pub applied : List Order → Cell → ℕ → ℕ → Presence → Presence
+applied [] c m s p = p
+applied (order ∷ orders) c m s p = applied orders c m s (applied_one c m s order p)
+
+-- a presence agrees with the plan: on air where planned, absent where not
+abbrev pub Agrees : Presence → Bool → Type 0
+Agrees p true = p ≡ OnAir
+Agrees p false = p ≡ Absent
+
+pub record PendingGivesPlan (past : List Entry) : Type 0 where
+  pub each : (b : ℕ) (c : Cell) (m s : ℕ) → is_key past m s ≡ true → Agrees (applied (pending past b) c m s (presence past b c m s)) (planned past b c m s)

@@ -1,0 +1,46 @@
+-- The numbers of a warning.
+use Rattle.std.specs.Prelude.{ℕ, Bool, true, false, ◌&&◌, not, List, Option, Some, None, nat_eq, find, if◌then◌else◌}
+use Rattle.std.specs.Option.{option_map}
+use Rattle.std.specs.List.{list_any}
+use Rattle.cbsp_ie.specs.declared.cell.Cell.{Cell}
+use Rattle.centre_core.specs.Cover.{is_covered}
+use Rattle.centre_core.specs.Links.{bscs}
+use Rattle.centre_core.specs.Past.{sum_of, count_of}
+use Rattle.centre_core.specs.Places.{cells, place}
+use Rattle.centre_core.specs.Plan.{wanted}
+use Rattle.centre_core.specs.Presence.{presence, is_absent, is_on_air}
+use Rattle.centre_core.specs.Warnings.{Warning, book, versions, has_number}
+use Rattle.centre_core.specs.declared.coverage_board.numbers.Numbers.{Numbers}
+use Rattle.centre_core.specs.declared.coverage_board.standing.Standing.{Standing}
+use Rattle.centre_core.specs.declared.coverage_board.standing.Standing.TheVariants.{Awaited, OnAir}
+use Rattle.centre_core.specs.declared.entry.Entry.{Entry}
+
+-- how a registered covered cell of an active warning stands
+abbrev pub standing_at : List Entry → Warning → Cell → Option ℕ → Option Standing
+standing_at past w c None = None
+standing_at past w c (Some b) = if is_on_air (presence past b c w.message_id w.serial) then Some OnAir else Some Awaited
+
+abbrev pub standing : List Entry → Warning → Cell → Option Standing
+standing past w c = if w.active && is_covered past w.areas c then standing_at past w c (place past c) else None
+
+abbrev pub is_awaited : Option Standing → Bool
+is_awaited None = false
+is_awaited (Some Awaited) = true
+is_awaited (Some OnAir) = false
+
+abbrev pub stands_on_air : Option Standing → Bool
+stands_on_air None = false
+stands_on_air (Some Awaited) = false
+stands_on_air (Some OnAir) = true
+
+-- a version of the warning that isn't wanted there is on air, or may be
+abbrev pub is_left : List Entry → Warning → ℕ → Cell → Bool
+is_left past w b c = list_any (λ v. not (nat_eq v.serial w.serial && wanted past b w c) && not (is_absent (presence past b c w.message_id v.serial))) (versions w)
+
+-- over the cells, each once; what is left, over the pairs of a BSC and a cell
+abbrev pub total : List Entry → Warning → Numbers
+total past w = record { awaited = count_of (λ c. is_awaited (standing past w c)) (cells past); on_air = count_of (λ c. stands_on_air (standing past w c)) (cells past); failed = 0; left = sum_of (λ b. count_of (is_left past w b) (cells past)) (bscs past); broadcasts = 0 }
+
+-- the numbers of the warning of that number, if it is in the book
+abbrev pub board : List Entry → ℕ → Option Numbers
+board past n = option_map (total past) (find (has_number n) (book past))

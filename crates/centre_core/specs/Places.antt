@@ -1,0 +1,34 @@
+-- Where cells are registered.
+use Rattle.std.specs.Prelude.{ℕ, Bool, List, Option, Some, None, nat_eq, if◌then◌else◌}
+use Rattle.std.specs.Option.{is_some}
+use Rattle.cbsp_ie.specs.Cell.{cell_eq}
+use Rattle.cbsp_ie.specs.declared.cell.Cell.{Cell}
+use Rattle.centre_core.specs.Past.{latest, named, count_of}
+use Rattle.centre_core.specs.declared.entry.Entry.{Entry}
+use Rattle.centre_core.specs.declared.event.Event.{Event}
+use Rattle.centre_core.specs.declared.event.Event.TheVariants.{AddCell}
+
+-- where the event puts the cell: at a BSC, or nowhere
+abbrev pub place_mark : Cell → Event → Option (Option ℕ)
+place_mark c (AddCell d b) = if cell_eq d c then Some (Some b) else None
+place_mark c other = None
+
+-- the BSC at which the cell is registered
+abbrev pub place : List Entry → Cell → Option ℕ
+place past c = latest (λ e before. place_mark c e.event) None past
+
+abbrev pub is_registered : List Entry → Cell → Bool
+is_registered past c = is_some (place past c)
+
+-- the cell that the event registers
+abbrev pub added_cell : Event → Option Cell
+added_cell (AddCell d b) = Some d
+added_cell other = None
+
+-- every cell that was ever registered, each once
+abbrev pub cells : List Entry → List Cell
+cells past = named cell_eq added_cell past
+
+-- how many cells are registered
+abbrev pub cell_count : List Entry → ℕ
+cell_count past = count_of (is_registered past) (cells past)

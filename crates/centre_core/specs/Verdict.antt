@@ -1,0 +1,137 @@
+-- What an event is answered: the first refusal whose cause holds, in the order of the refusals, or else its answer.
+use Rattle.std.specs.Prelude.{ℕ, ◌+◌, Bool, true, false, ◌&&◌, ◌||◌, not, List, [], ◌∷◌, ◌++◌, Option, Some, None, Result, Ok, Err, nat_eq, nat_le, bytes_eq, ltb, length, if◌then◌else◌}
+use Rattle.std.specs.Option.{is_some}
+use Rattle.std.specs.List.{list_any}
+use Rattle.cbsp_ie.specs.declared.cell.Cell.{Cell}
+use Rattle.cbsp_messages.specs.declared.message.Message.{Message}
+use Rattle.centre_core.specs.Cover.{is_area, area_count, has_selector, selector_count}
+use Rattle.centre_core.specs.InFlight.{in_flight, matches_flight, replies}
+use Rattle.centre_core.specs.Links.{is_bsc, bsc_count, is_up, last_link}
+use Rattle.centre_core.specs.OrderMessage.{order_message}
+use Rattle.centre_core.specs.Pending.{pending, first}
+use Rattle.centre_core.specs.Places.{place, is_registered, cell_count}
+use Rattle.centre_core.specs.Warnings.{book, issue_count, new_serial, content_of}
+use Rattle.centre_core.specs.declared.answer.Answer.{Answer}
+use Rattle.centre_core.specs.declared.answer.Answer.TheVariants as answer
+use Rattle.centre_core.specs.declared.areas.selector.Selector.{Selector}
+use Rattle.centre_core.specs.declared.entry.Entry.{Entry}
+use Rattle.centre_core.specs.declared.event.Event.{Event}
+use Rattle.centre_core.specs.declared.event.Event.TheVariants.{AddBsc, AddCell, AddArea, Put, Issue, LinkUp, Send, Report}
+use Rattle.centre_core.specs.declared.order_maker.order.Order.{Order}
+use Rattle.centre_core.specs.declared.refusal.Limit.TheVariants as limit
+use Rattle.centre_core.specs.declared.refusal.Refusal.{Refusal}
+use Rattle.centre_core.specs.declared.refusal.Refusal.TheVariants as refusal
+use Rattle.centre_core.specs.declared.warning_book.content.Content.{Content}
+use Rattle.centre_core.specs.declared.warning_book.notice.Notice.{Notice}
+
+-- the refusal of the first check that holds, or else the answer
+abbrev pub unless : List (Bool × Refusal) → Result Answer Refusal → Result Answer Refusal
+unless [] a = a
+unless (check ∷ checks) a = if check.0 then Err check.1 else unless checks a
+
+abbrev pub add_bsc_checks : List Entry → ℕ → List (Bool × Refusal)
+add_bsc_checks past b = (is_bsc past b, refusal.BscExists) ∷ (nat_le 256 (bsc_count past), refusal.Limit limit.Bscs) ∷ []
+
+abbrev pub add_bsc : List Entry → ℕ → Result Answer Refusal
+add_bsc past b = unless (add_bsc_checks past b) (Ok answer.Done)
+
+abbrev pub add_cell_checks : List Entry → Cell → ℕ → List (Bool × Refusal)
+add_cell_checks past c b = (not (is_bsc past b), refusal.NoSuchBsc) ∷ (is_registered past c, refusal.CellExists) ∷ (nat_le 65536 (cell_count past), refusal.Limit limit.Cells) ∷ []
+
+abbrev pub add_cell : List Entry → Cell → ℕ → Result Answer Refusal
+add_cell past c b = unless (add_cell_checks past c b) (Ok answer.Done)
+
+-- a name is 1 to 32 ASCII letters, digits or hyphens
+abbrev pub is_name_octet : ℕ → Bool
+is_name_octet x = (nat_le 48 x && nat_le x 57) || ((nat_le 65 x && nat_le x 90) || ((nat_le 97 x && nat_le x 122) || nat_eq x 45))
+
+abbrev pub is_name : List ℕ → Bool
+is_name a = (nat_le 1 (length a) && nat_le (length a) 32) && not (list_any (λ x. not (is_name_octet x)) a)
+
+abbrev pub add_area_checks : List Entry → List ℕ → List (Bool × Refusal)
+add_area_checks past a = (not (is_name a), refusal.BadName) ∷ (is_area past a, refusal.AreaExists) ∷ (nat_le 4096 (area_count past), refusal.Limit limit.Areas) ∷ []
+
+abbrev pub add_area : List Entry → List ℕ → Result Answer Refusal
+add_area past a = unless (add_area_checks past a) (Ok answer.Done)
+
+abbrev pub put_checks : List Entry → List ℕ → Selector → List (Bool × Refusal)
+put_checks past a s = (not (is_area past a), refusal.NoSuchArea) ∷ (has_selector past a s, refusal.SelectorThere) ∷ (nat_le 4096 (selector_count past a), refusal.Limit limit.Selectors) ∷ []
+
+abbrev pub put : List Entry → List ℕ → Selector → Result Answer Refusal
+put past a s = unless (put_checks past a s) (Ok answer.Done)
+
+-- a name stands in the list a second time
+abbrev pub has_twice : List (List ℕ) → Bool
+has_twice [] = false
+has_twice (a ∷ rest) = list_any (bytes_eq a) rest || has_twice rest
+
+abbrev pub is_empty : {A : Type 0} → List A → Bool
+is_empty [] = true
+is_empty (x ∷ xs) = false
+
+-- 1 to 15 pages of 1 to 82 octets
+abbrev pub is_page : List ℕ → Bool
+is_page page = nat_le 1 (length page) && nat_le (length page) 82
+
+abbrev pub are_pages : List (List ℕ) → Bool
+are_pages pages = (nat_le 1 (length pages) && nat_le (length pages) 15) && not (list_any (λ page. not (is_page page)) pages)
+
+-- a repetition period is 1 to 1,024
+abbrev pub is_period : ℕ → Bool
+is_period period = nat_le 1 period && nat_le period 1024
+
+abbrev pub issue_checks : List Entry → Notice → List (List ℕ) → List (Bool × Refusal)
+issue_checks past notice names = (list_any (λ a. not (is_area past a)) names, refusal.NoSuchArea) ∷ (is_empty names, refusal.NoAreas) ∷ (has_twice names, refusal.AreaThere) ∷ (not (are_pages notice.content.pages), refusal.BadPages) ∷ (not (is_period notice.content.period), refusal.BadPeriod) ∷ (nat_le 256 (length (book past)), refusal.Limit limit.Warnings) ∷ (ltb 16 (length names), refusal.Limit limit.WarningAreas) ∷ (nat_le 4294967295 (issue_count past), refusal.Limit limit.Ids) ∷ []
+
+-- the next number, and the serial number of a new warning
+abbrev pub issue_answer : ℕ → Option ℕ → Result Answer Refusal
+issue_answer n None = Err (refusal.Limit limit.Warnings)
+issue_answer n (Some s) = Ok (answer.Issued n s)
+
+abbrev pub issue : List Entry → Notice → List (List ℕ) → Result Answer Refusal
+issue past notice names = unless (issue_checks past notice names) (issue_answer (issue_count past + 1) (new_serial past notice))
+
+abbrev pub link_up_checks : List Entry → ℕ → List (Bool × Refusal)
+link_up_checks past b = (not (is_bsc past b), refusal.NoSuchBsc) ∷ []
+
+abbrev pub link_up : List Entry → ℕ → Result Answer Refusal
+link_up past b = unless (link_up_checks past b) (Ok (answer.Link (length past + 1)))
+
+-- what is asked of a link: its BSC is there, it is the latest, and it is up
+abbrev pub link_checks : List Entry → ℕ → ℕ → List (Bool × Refusal)
+link_checks past b generation = (not (is_bsc past b), refusal.NoSuchBsc) ∷ (not (nat_eq generation (last_link past b)), refusal.StaleLink (last_link past b)) ∷ (not (is_up past b), refusal.LinkNotUp) ∷ []
+
+abbrev pub send_checks : List Entry → ℕ → ℕ → List (Bool × Refusal)
+send_checks past b generation = link_checks past b generation ++ (is_some (in_flight past b), refusal.InFlight) ∷ []
+
+-- the order, and the message that carries it with its content
+abbrev pub send_answer : List Entry → Option Order → Result Answer Refusal
+send_answer past None = Err refusal.NothingPending
+send_answer past (Some order) = Ok (answer.Sent order (order_message order (content_of order.message_id order.serial (book past))))
+
+abbrev pub send : List Entry → ℕ → ℕ → Result Answer Refusal
+send past b generation = unless (send_checks past b generation) (send_answer past (first (pending past b)))
+
+abbrev pub report_checks : List Entry → ℕ → ℕ → Message → List (Bool × Refusal)
+report_checks past b generation message = link_checks past b generation ++ (not (matches_flight message (in_flight past b)), refusal.NoOrder) ∷ []
+
+abbrev pub report_answer : Message → Option Order → Result Answer Refusal
+report_answer message None = Err refusal.NoOrder
+report_answer message (Some order) = Ok (answer.Replied (replies message order))
+
+abbrev pub report : List Entry → ℕ → ℕ → Message → Result Answer Refusal
+report past b generation message = unless (report_checks past b generation message) (report_answer message (in_flight past b))
+
+abbrev pub law : List Entry → Event → Result Answer Refusal
+law past (AddBsc b) = add_bsc past b
+law past (AddCell c b) = add_cell past c b
+law past (AddArea a) = add_area past a
+law past (Put a s) = put past a s
+law past (Issue notice names) = issue past notice names
+law past (LinkUp b) = link_up past b
+law past (Send b generation) = send past b generation
+law past (Report b generation message) = report past b generation message
+
+-- what the event is answered after that past; a journal holds `limit` entries
+abbrev pub verdict : ℕ → List Entry → Event → Result Answer Refusal
+verdict limit past e = if nat_le limit (length past) then Err refusal.JournalFull else law past e

@@ -1,0 +1,67 @@
+//! What an accepted event is answered.
+
+ghost use Rattle.std.specs.Prelude.{◌≡◌, ◌↔◌, IsTrue, IfOk};
+
+use crate::order_maker::Order;
+use crate::replies::Replies;
+use crate::serials::Serial;
+use crate::warning_book::WarningId;
+use cbsp_messages::Message;
+use std::alloc::{AllocError, Global};
+
+/// What an accepted event is answered.
+#[derive(Debug, PartialEq, Eq, Drop)]
+pub enum Answer {
+    Done,
+    /// The number and the serial number of a warning.
+    Issued(WarningId, Serial),
+    /// The generation of a link: the number of the entry that brought it up.
+    Link(u64),
+    /// An order that is now in flight, and the message that carries it.
+    Sent { order: Order, message: Message },
+    /// What a reply says of each cell of its order, in the order's order.
+    Replied(Replies),
+}
+
+impl Answer {
+    /// The same answer in memory of its own.
+    pub fn copied(&self, alloc: Global) -> Result<Answer, AllocError>
+        ensures { IfOk result (λ copy. copy ≡ self.now) }
+    {
+        match self {
+            Answer::Done => Ok(Answer::Done),
+            Answer::Issued(warning, serial) => Ok(Answer::Issued(*warning, *serial)),
+            Answer::Link(generation) => Ok(Answer::Link(*generation)),
+            Answer::Sent { order, message } => Ok(Answer::Sent {
+                order: order.copied(alloc)?,
+                message: message.copied(alloc)?,
+            }),
+            Answer::Replied(replies) => Ok(Answer::Replied(replies.copied(alloc)?)),
+        }
+    }
+
+    pub fn same(&self, other: &Answer) -> bool
+        ensures { IsTrue result ↔ (self.now ≡ other.now) }
+    {
+        match (self, other) {
+            (Answer::Done, Answer::Done) => true,
+            (Answer::Issued(number, serial), Answer::Issued(other_number, other_serial)) => {
+                number == other_number && serial == other_serial
+            }
+            (Answer::Link(generation), Answer::Link(other_generation)) => {
+                generation == other_generation
+            }
+            (
+                Answer::Sent { order, message },
+                Answer::Sent {
+                    order: other_order,
+                    message: other_message,
+                },
+            ) => order.same(other_order) && message.same(other_message),
+            (Answer::Replied(replies), Answer::Replied(other_replies)) => {
+                replies.same(other_replies)
+            }
+            _ => false,
+        }
+    }
+}

@@ -1,0 +1,5 @@
+//! Named areas and their selectors.
+
+mod selector;
+
+pub use selector::Selector;

@@ -1,0 +1,164 @@
+//! The centre: its journal, and the questions that the journal answers.
+
+ghost use Rattle.std.specs.Prelude.{◌≡◌, ◌<◌, ◌⊎◌, length, reverse, IfOk, IfErr, OnOk};
+ghost use Rattle.centre_core.specs.Pages.{HasPages};
+ghost use Rattle.centre_core.specs.Verdict.{verdict};
+ghost use Rattle.centre_core.specs.Warnings.{book};
+
+use crate::answer::Answer;
+use crate::cell_register::BscId;
+use crate::coverage_board::{self, Numbers};
+use crate::entry::Entry;
+use crate::event::Event;
+use crate::history;
+use crate::laws::law;
+use crate::order_maker::{self, Order, Orders};
+use crate::refusal::Refusal;
+use crate::warning_book::WarningId;
+use std::alloc::Global;
+use std::marker::Model;
+
+/// A cell broadcast centre. Contracts see its network, its limit and its journal, oldest entry first.
+#[derive(Drop)]
+pub struct Centre {
+    alloc: Global,
+    plmn: [u8; 3],
+    limit: u32,
+    journal: Vec<Entry>,
+}
+
+/// What the event is answered after the entries of the journal, which holds so many at most.
+fn answer_to(alloc: Global, limit: u32, journal: &[Entry], event: &Event) -> Result<Answer, Refusal>
+    requires { HasPages (book (reverse journal.now)) }
+    ensures answer { IfOk result (λ a. verdict limit (reverse journal.now) event.now ≡ Ok a) }
+    ensures refusal { IfErr result (λ r. (r ≡ Refusal.Memory) ⊎ (verdict limit (reverse journal.now) event.now ≡ Err r)) }
+    ensures room { OnOk result (length journal.now < limit) }
+{
+    if journal.len() >= limit as usize {
+        return Err(Refusal::JournalFull);
+    }
+    law(alloc, journal, event)?
+}
+
+impl Model for Centre {
+    ghost use Rattle.centre_core.specs.Legal.{Known};
+    ghost use Rattle.centre_core.specs.Centre.{IsCentre};
+
+    ghost Value = { Known };
+
+    ghost view = { λ c. record { plmn = c.plmn; limit = c.limit; journal = c.journal.items } };
+
+    ghost invariant = { λ c. IsCentre c.limit c.journal.items };
+}
+
+impl Centre {
+    ghost use Rattle.std.specs.Prelude.{◌≡◌, ◌<◌, ◌≤◌, ◌-◌, ◌++◌, ◌∷◌, [], ◌⊎◌, ◌==◌, ⊤, length, reverse, slice_get, true, false, IfOk, IfErr, OnOk, if◌then◌else◌};
+    ghost use Rattle.std.specs.Borrow.{sem, follows_so};
+    ghost use Rattle.std.specs.Option.{option_copied};
+    ghost use mathlib.Core.Option.{none};
+    ghost use Rattle.centre_core.specs.contracts.centre.Centre.{the_row};
+    ghost use Rattle.centre_core.specs.Fits.{AnswerFits};
+    ghost use Rattle.centre_core.specs.InFlight.{in_flight};
+    ghost use Rattle.centre_core.specs.Legal.{Legal, past};
+    ghost use Rattle.centre_core.specs.Links.{is_bsc};
+    ghost use Rattle.centre_core.specs.Numbers.{board};
+    ghost use Rattle.centre_core.specs.Pending.{pending};
+    ghost use Rattle.centre_core.specs.Verdict.{verdict};
+
+    /// A centre of the network, without entries, whose journal holds so many at most.
+    pub fn new(alloc: Global, plmn: [u8; 3], journal_limit: u32) -> Centre
+        requires { journal_limit ≤ 4000000 }
+        ensures { result ≡ record { plmn = plmn; limit = journal_limit; journal = [] } }
+    {
+        Centre {
+            alloc,
+            plmn,
+            limit: journal_limit,
+            journal: Vec::new(alloc),
+        }
+    }
+
+    /// Takes an event that the desk submits. An accepted event becomes one entry of the journal; a refused one changes
+    /// nothing. The refusal is the first, in the order of their numbers, whose cause holds; want of memory is the last.
+    pub fn accept(&mut self, desk: u32, event: Event) -> Result<Answer, Refusal>
+        ensures plmn { self.new.plmn ≡ self.old.plmn }
+        ensures limit { self.new.limit ≡ self.old.limit }
+        ensures answer { IfOk result (λ a. verdict self.old.limit (past self.old) event ≡ Ok a) }
+        ensures entry { IfOk result (λ a. self.new.journal ≡ self.old.journal ++ record { desk = desk; event = event; answer = a } ∷ []) }
+        ensures refusal { IfErr result (λ r. (r ≡ Refusal.Memory) ⊎ (verdict self.old.limit (past self.old) event ≡ Err r)) }
+        ensures unchanged { IfErr result (λ _. self.new ≡ self.old) }
+        ensures legal { Legal self.new.limit (past self.new) }
+        ensures fits { IfOk result AnswerFits }
+    {
+        let answer = answer_to(self.alloc, self.limit, self.journal.as_slice(), &event)?;
+        let entry = Entry::of(self.alloc, desk, event, &answer)?;
+        self.journal.push(entry)?;
+        Ok(answer)
+    }
+
+    /// The pending orders of the BSC.
+    pub fn pending_of(&self, b: BscId) -> Result<Orders, Refusal>
+        ensures orders { IfOk result (λ orders. (orders ≡ pending (past self.now) b) × (is_bsc (past self.now) b ≡ true)) }
+        ensures refusal { IfErr result (λ r. (r ≡ Refusal.Memory) ⊎ ((r ≡ Refusal.NoSuchBsc) × (is_bsc (past self.now) b ≡ false))) }
+    {
+        if !history::is_bsc(self.journal.as_slice(), b) {
+            return Err(Refusal::NoSuchBsc);
+        }
+        Ok(order_maker::pending(self.alloc, self.journal.as_slice(), b)?)
+    }
+
+    /// The order in flight to the BSC.
+    pub fn in_flight_of(&self, b: BscId) -> Result<Option<&Order>, Refusal>
+        ensures order { IfOk result (λ order. (option_copied order ≡ in_flight (past self.now) b) × (is_bsc (past self.now) b ≡ true)) }
+        ensures refusal { IfErr result (λ r. (r ≡ Refusal.NoSuchBsc) × (is_bsc (past self.now) b ≡ false)) }
+    {
+        if !history::is_bsc(self.journal.as_slice(), b) {
+            return Err(Refusal::NoSuchBsc);
+        }
+        Ok(history::in_flight(self.journal.as_slice(), b))
+    }
+
+    /// The numbers of the warning.
+    pub fn board_total(&self, warning: WarningId) -> Result<Numbers, Refusal>
+        ensures numbers { IfOk result (λ numbers. board (past self.now) warning ≡ Some numbers) }
+        ensures refusal { IfErr result (λ r. (r ≡ Refusal.NoSuchWarning) × (board (past self.now) warning ≡ None)) }
+    {
+        match history::warning_with(self.journal.as_slice(), warning) {
+            Some(w) => Ok(coverage_board::total(self.journal.as_slice(), &w)),
+            None => Err(Refusal::NoSuchWarning),
+        }
+    }
+
+    /// The number of entries.
+    pub fn position(&self) -> u64
+        ensures { result ≡ length self.now.journal }
+    {
+        self.journal.len() as u64
+    }
+
+    fn nth(&self, n: u64) -> Option<&Entry>
+        ensures { option_copied result ≡ (if n == 0 then None else slice_get self.now.journal (n - 1)) }
+    {
+        if n == 0 || n > self.journal.len() as u64 {
+            return None;
+        }
+        self.journal.as_slice().get(n as usize - 1)
+    }
+
+    /// The entry of that number, from 1; `None` past the last.
+    pub fn entry(&mut self, n: u64) -> Option<&Entry>
+        ensures* after { sem 𝓛 (follows_so the_row the_row self.entry.ghost_name none (λ _ _. ⊤) (λ c. c ≡ self.old)) }
+        ensures value { option_copied result ≡ (if n == 0 then None else slice_get self.old.journal (n - 1)) }
+    {
+        self.nth(n)
+    }
+
+    /// Tells what always holds of a centre.
+    pub fn is_sound(&self)
+        ensures legal { Legal self.now.limit (past self.now) }
+        ensures long { length self.now.journal ≤ self.now.limit }
+        ensures few { self.now.limit ≤ 4000000 }
+    {
+        let _ = &self.limit;
+    }
+}

@@ -1,0 +1,93 @@
+//! How many cells stand in each way.
+
+ghost use Rattle.std.specs.Prelude.{◌≡◌, ◌≤◌, length, reverse};
+ghost use Rattle.cbsp_ie.specs.Cell.{cell_eq};
+ghost use Rattle.centre_core.specs.Counted.{is_counted};
+ghost use Rattle.centre_core.specs.Issued.{warning_of};
+ghost use Rattle.centre_core.specs.Numbers.{standing, standing_at, is_awaited, stands_on_air};
+ghost use Rattle.centre_core.specs.Past.{count_of};
+ghost use Rattle.centre_core.specs.Places.{added_cell, cells};
+
+use crate::coverage_board::standing::Standing;
+use crate::entry::Entry;
+use crate::event::Event;
+use crate::history::{added_cell, is_covered, place, presence, was_cell};
+use crate::mirror::Presence;
+use crate::warning_book::IssuedWarning;
+use cbsp_ie::Cell;
+
+/// How the cell stands, if it is registered and the warning covers it.
+fn standing(journal: &[Entry], w: &IssuedWarning<'_>, c: Cell) -> Option<Standing>
+    ensures { result ≡ standing (reverse journal.now) (warning_of w.now) c }
+{
+    if !is_covered(journal, w.areas.as_slice(), c) {
+        return None;
+    }
+    match place(journal, c) {
+        None => None,
+        Some(b) => match presence(journal, b, c, w.notice.message_id, w.serial) {
+            Presence::OnAir => Some(Standing::OnAir),
+            Presence::Absent | Presence::Unknown => Some(Standing::Awaited),
+        },
+    }
+}
+
+fn is_awaited(journal: &[Entry], w: &IssuedWarning<'_>, c: Cell) -> bool
+    ensures { result ≡ is_awaited (standing (reverse journal.now) (warning_of w.now) c) }
+{
+    matches!(standing(journal, w, c), Some(Standing::Awaited))
+}
+
+fn is_on_air(journal: &[Entry], w: &IssuedWarning<'_>, c: Cell) -> bool
+    ensures { result ≡ stands_on_air (standing (reverse journal.now) (warning_of w.now) c) }
+{
+    matches!(standing(journal, w, c), Some(Standing::OnAir))
+}
+
+/// Whether the event adds a cell to those that are awaited, after the entries before it.
+fn counts_awaited(journal: &[Entry], w: &IssuedWarning<'_>, before: &[Entry], event: &Event) -> bool
+    ensures { result ≡ is_counted cell_eq (λ c. is_awaited (standing (reverse journal.now) (warning_of w.now) c)) (added_cell event.now) (cells (reverse before.now)) }
+{
+    match added_cell(event) {
+        Some(c) => !was_cell(before, c) && is_awaited(journal, w, c),
+        None => false,
+    }
+}
+
+/// How many cells are awaited, each once.
+#[tactic(auto, using(crate::proofs::PastLemmas::past_more, crate::proofs::NamedLemmas::cell_counted))]
+pub(crate) fn awaited(journal: &[Entry], w: &IssuedWarning<'_>) -> u64
+    ensures { result ≡ count_of (λ c. is_awaited (standing (reverse journal.now) (warning_of w.now) c)) (cells (reverse journal.now)) }
+{
+    let mut count = 0;
+    for (i, entry) in journal.iter().enumerate() {
+        if counts_awaited(journal, w, &journal[..i], &entry.event) {
+            count += 1;
+        }
+    }
+    count
+}
+
+/// Whether the event adds a cell to those on air, after the entries before it.
+fn counts_on_air(journal: &[Entry], w: &IssuedWarning<'_>, before: &[Entry], event: &Event) -> bool
+    ensures { result ≡ is_counted cell_eq (λ c. stands_on_air (standing (reverse journal.now) (warning_of w.now) c)) (added_cell event.now) (cells (reverse before.now)) }
+{
+    match added_cell(event) {
+        Some(c) => !was_cell(before, c) && is_on_air(journal, w, c),
+        None => false,
+    }
+}
+
+/// How many cells are on air, each once.
+#[tactic(auto, using(crate::proofs::PastLemmas::past_more, crate::proofs::NamedLemmas::cell_counted))]
+pub(crate) fn on_air(journal: &[Entry], w: &IssuedWarning<'_>) -> u64
+    ensures { result ≡ count_of (λ c. stands_on_air (standing (reverse journal.now) (warning_of w.now) c)) (cells (reverse journal.now)) }
+{
+    let mut count = 0;
+    for (i, entry) in journal.iter().enumerate() {
+        if counts_on_air(journal, w, &journal[..i], &entry.event) {
+            count += 1;
+        }
+    }
+    count
+}

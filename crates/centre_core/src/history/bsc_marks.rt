@@ -1,0 +1,84 @@
+//! Which BSCs are registered, and whether their links are up.
+
+ghost use Rattle.std.specs.Prelude.{◌≡◌, ◌+◌, reverse, unwrap_or};
+ghost use Rattle.centre_core.specs.Links.{bsc_mark, is_bsc, up_mark, is_up, generation_mark, last_link};
+
+use crate::cell_register::BscId;
+use crate::entry::Entry;
+use crate::event::Event;
+
+fn bsc_mark(b: BscId, event: &Event) -> Option<bool>
+    ensures { result ≡ bsc_mark b event.now }
+{
+    match event {
+        Event::AddBsc(other) if *other == b => Some(true),
+        _ => None,
+    }
+}
+
+/// Whether the BSC is registered.
+#[tactic(auto, using(crate::proofs::PastLemmas::past_more))]
+pub(crate) fn is_bsc(journal: &[Entry], b: BscId) -> bool
+    ensures { result ≡ is_bsc (reverse journal.now) b }
+{
+    let mut found = false;
+    for entry in journal {
+        if let Some(now) = bsc_mark(b, &entry.event) {
+            found = now;
+        }
+    }
+    found
+}
+
+fn up_mark(b: BscId, event: &Event) -> Option<bool>
+    ensures { result ≡ up_mark b event.now }
+{
+    match event {
+        Event::AddBsc(other) if *other == b => Some(false),
+        Event::LinkUp(other) if *other == b => Some(true),
+        _ => None,
+    }
+}
+
+/// Whether the link is up after an event, from whether it was up before.
+pub(crate) fn up_after(b: BscId, event: &Event, up: bool) -> bool
+    ensures { result ≡ unwrap_or (up_mark b event.now) up }
+{
+    up_mark(b, event).unwrap_or(up)
+}
+
+/// Whether the link of the BSC is up.
+#[tactic(auto, using(crate::proofs::PastLemmas::past_more))]
+pub(crate) fn is_up(journal: &[Entry], b: BscId) -> bool
+    ensures { result ≡ is_up (reverse journal.now) b }
+{
+    let mut up = false;
+    for entry in journal {
+        up = up_after(b, &entry.event, up);
+    }
+    up
+}
+
+fn generation_mark(b: BscId, event: &Event, place: u64) -> Option<u64>
+    ensures { result ≡ generation_mark b event.now place }
+{
+    match event {
+        Event::AddBsc(other) if *other == b => Some(0),
+        Event::LinkUp(other) if *other == b => Some(place),
+        _ => None,
+    }
+}
+
+/// The generation of the latest link of the BSC, 0 where there was none.
+#[tactic(auto, using(crate::proofs::PastLemmas::past_more, crate::proofs::PastLemmas::length_past))]
+pub(crate) fn last_link(journal: &[Entry], b: BscId) -> u64
+    ensures { result ≡ last_link (reverse journal.now) b }
+{
+    let mut last = 0;
+    for (i, entry) in journal.iter().enumerate() {
+        if let Some(now) = generation_mark(b, &entry.event, i as u64 + 1) {
+            last = now;
+        }
+    }
+    last
+}

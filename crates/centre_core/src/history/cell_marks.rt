@@ -1,0 +1,38 @@
+//! Where cells are registered.
+
+ghost use Rattle.std.specs.Prelude.{◌≡◌, reverse};
+ghost use Rattle.centre_core.specs.Places.{place_mark, place, is_registered};
+
+use crate::cell_register::BscId;
+use crate::entry::Entry;
+use crate::event::Event;
+use cbsp_ie::Cell;
+
+fn place_mark(c: Cell, event: &Event) -> Option<Option<BscId>>
+    ensures { result ≡ place_mark c event.now }
+{
+    match event {
+        Event::AddCell(d, b) if *d == c => Some(Some(*b)),
+        _ => None,
+    }
+}
+
+/// The BSC at which the cell is registered.
+#[tactic(auto, using(crate::proofs::PastLemmas::past_more))]
+pub(crate) fn place(journal: &[Entry], c: Cell) -> Option<BscId>
+    ensures { result ≡ place (reverse journal.now) c }
+{
+    let mut found = None;
+    for entry in journal {
+        if let Some(now) = place_mark(c, &entry.event) {
+            found = now;
+        }
+    }
+    found
+}
+
+pub(crate) fn is_registered(journal: &[Entry], c: Cell) -> bool
+    ensures { result ≡ is_registered (reverse journal.now) c }
+{
+    place(journal, c).is_some()
+}

@@ -1,0 +1,59 @@
+//! The orders in flight.
+
+ghost use Rattle.std.specs.Prelude.{◌≡◌, reverse, unwrap_or};
+ghost use Rattle.std.specs.Option.{option_copied};
+ghost use Rattle.centre_core.specs.InFlight.{sent_order, is_replied, flight_mark, in_flight};
+
+use crate::answer::Answer;
+use crate::cell_register::BscId;
+use crate::entry::Entry;
+use crate::event::Event;
+use crate::history::bsc_marks::up_after;
+use crate::order_maker::Order;
+
+/// Whether the answer is a reply's.
+pub(crate) fn is_replied(answer: &Answer) -> bool
+    ensures { result ≡ is_replied answer.now }
+{
+    matches!(answer, Answer::Replied(_))
+}
+
+fn sent_order(answer: &Answer) -> Option<&Order>
+    ensures { option_copied result ≡ sent_order answer.now }
+{
+    match answer {
+        Answer::Sent { order, message: _ } => Some(order),
+        _ => None,
+    }
+}
+
+/// The order in flight after an entry, from whether the link was up and what was in flight before.
+pub(crate) fn flight_after<'a>(
+    b: BscId,
+    entry: &'a Entry,
+    up: bool,
+    flight: Option<&'a Order>,
+) -> Option<&'a Order>
+    ensures { option_copied result ≡ unwrap_or (flight_mark b entry.now.event entry.now.answer up) (option_copied flight.entry) }
+{
+    match &entry.event {
+        Event::Send(other, _) if *other == b => sent_order(&entry.answer),
+        Event::Report(other, _, _) if *other == b && is_replied(&entry.answer) => None,
+        Event::LinkUp(other) if *other == b && up => None,
+        _ => flight,
+    }
+}
+
+/// The order in flight to the BSC.
+#[tactic(auto, using(crate::proofs::PastLemmas::past_more))]
+pub(crate) fn in_flight(journal: &[Entry], b: BscId) -> Option<&Order>
+    ensures { option_copied result ≡ in_flight (reverse journal.now) b }
+{
+    let mut up = false;
+    let mut flight = None;
+    for entry in journal {
+        flight = flight_after(b, entry, up, flight);
+        up = up_after(b, &entry.event, up);
+    }
+    flight
+}

@@ -1,0 +1,112 @@
+//! Reports of BSCs.
+
+ghost use Rattle.std.specs.Prelude.{◌≡◌, reverse, map, IfOk};
+ghost use Rattle.std.specs.Option.{option_copied};
+ghost use Rattle.centre_core.specs.InFlight.{agrees, new_of, old_of, is_write, matches, matches_flight, replies};
+ghost use Rattle.centre_core.specs.Verdict.{report, report_answer};
+
+use crate::answer::Answer;
+use crate::cell_register::BscId;
+use crate::entry::Entry;
+use crate::history::{in_flight, is_bsc, is_up, last_link, outcome};
+use crate::laws::Verdict;
+use crate::order_maker::{Order, OrderKind};
+use crate::refusal::Refusal;
+use crate::replies::Replies;
+use crate::reply::Reply;
+use cbsp_messages::Message;
+use std::alloc::{AllocError, Global};
+
+/// Whether an identifier that is given, and has a counterpart in the order, is that counterpart.
+fn agrees(given: Option<u16>, counterpart: Option<u16>) -> bool
+    ensures { result ≡ agrees given counterpart }
+{
+    match (given, counterpart) {
+        (Some(given), Some(counterpart)) => given == counterpart,
+        _ => true,
+    }
+}
+
+/// The serial number that an order writes.
+fn new_of(order: &Order) -> Option<u16>
+    ensures { result ≡ new_of order.now order.now.kind }
+{
+    match order.kind {
+        OrderKind::Write => Some(order.serial.to_u16()),
+        OrderKind::Kill => None,
+    }
+}
+
+/// The serial number that an order takes off the air.
+fn old_of(order: &Order) -> Option<u16>
+    ensures { result ≡ old_of order.now order.now.kind }
+{
+    match order.kind {
+        OrderKind::Write => None,
+        OrderKind::Kill => Some(order.serial.to_u16()),
+    }
+}
+
+/// Whether the message answers the order: it is of the order's kind, and no identifier that it gives differs.
+fn matches(message: &Message, order: &Order) -> bool
+    ensures { result ≡ matches message.now order.now }
+{
+    match message {
+        Message::WriteComplete {
+            message_id,
+            serial,
+            old,
+            ..
+        } => {
+            order.kind == OrderKind::Write
+                && agrees(Some(*message_id), Some(order.message_id))
+                && agrees(Some(*serial), new_of(order))
+                && agrees(*old, old_of(order))
+        }
+        _ => false,
+    }
+}
+
+/// What the message says of each cell of the order, in the order's order.
+fn replies(alloc: Global, message: &Message, order: &Order) -> Result<Replies, AllocError>
+    ensures { IfOk result (λ r. r ≡ replies message.now order.now) }
+{
+    let cells = order.cells.as_slice();
+    let mut said = Vec::new(alloc);
+    for cell in cells {
+        said.push(Reply {
+            cell: *cell,
+            outcome: outcome(message, *cell),
+            count: None,
+        })?;
+    }
+    Ok(Replies::from_vec(said))
+}
+
+/// Report: a message of a BSC, over its link.
+pub(crate) fn report(
+    alloc: Global,
+    journal: &[Entry],
+    b: BscId,
+    generation: u64,
+    message: &Message,
+) -> Result<Verdict, AllocError>
+    ensures { IfOk result (λ verdict. verdict ≡ report (reverse journal.now) b generation message.now) }
+{
+    if !is_bsc(journal, b) {
+        return Ok(Err(Refusal::NoSuchBsc));
+    }
+    let last = last_link(journal, b);
+    if generation != last {
+        return Ok(Err(Refusal::StaleLink { now: last }));
+    }
+    if !is_up(journal, b) {
+        return Ok(Err(Refusal::LinkNotUp));
+    }
+    match in_flight(journal, b) {
+        Some(order) if matches(message, order) => {
+            Ok(Ok(Answer::Replied(replies(alloc, message, order)?)))
+        }
+        _ => Ok(Err(Refusal::NoOrder)),
+    }
+}

@@ -1,0 +1,28 @@
+//! The cell broadcast centre: its events, their journal, and what follows from them.
+//!
+//! A centre is its journal. What is planned for each base station controller (BSC), what each of them has
+//! reported, what is still to be ordered and every number of a board are computed from the entries.
+//! Begin with `event` and `centre`; the rules of each event are in `laws`, and the definitions that contracts
+//! cite are in `specs/`, beginning with `Past`.
+#![tactic(auto)]
+
+pub mod answer;
+pub mod areas;
+pub mod cell_register;
+pub mod centre;
+pub mod coverage_board;
+pub mod entry;
+pub mod event;
+pub mod headline;
+mod history;
+mod laws;
+pub mod mirror;
+pub mod order_maker;
+pub mod outcome;
+pub mod refusal;
+pub mod replies;
+pub mod reply;
+pub mod serials;
+#[cfg(test)]
+mod tests;
+pub mod warning_book;

@@ -1,0 +1,5 @@
+//! What the base station controllers have reported.
+
+mod presence;
+
+pub use presence::Presence;

@@ -1,0 +1,19 @@
+//! Orders for a base station controller: what is to be ordered in each cell, put in order and joined to orders.
+
+mod action;
+mod actions;
+mod grouping;
+mod order;
+mod order_kind;
+mod order_message;
+mod orders;
+mod pending;
+mod sorting;
+
+pub use action::Action;
+pub(crate) use actions::wanted;
+pub use order::Order;
+pub use order_kind::OrderKind;
+pub use order_message::message_of;
+pub use orders::Orders;
+pub(crate) use pending::{first, pending};

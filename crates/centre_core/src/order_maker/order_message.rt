@@ -1,0 +1,70 @@
+//! The message that carries an order.
+
+ghost use Rattle.std.specs.Prelude.{◌≡◌, ◌≤◌, length, map, IfOk, IfSome, All};
+ghost use Rattle.std.specs.Option.{option_copied};
+ghost use Rattle.cbsp_messages.specs.PageText.{page_with};
+ghost use Rattle.centre_core.specs.OrderMessage.{order_message, write_message, kill_message};
+
+use crate::order_maker::order::Order;
+use crate::order_maker::order_kind::OrderKind;
+use crate::warning_book::Content;
+use cbsp_ie::{CellIds, Octets};
+use cbsp_messages::{Message, Page, Pages};
+use std::alloc::{AllocError, Global};
+
+/// The pages as they are sent, each with zeros up to 82 octets.
+fn pages_of(alloc: Global, contents: &[Octets]) -> Result<Pages, AllocError>
+    requires { All (λ p. length p ≤ 82) contents.now }
+    ensures { IfOk result (λ pages. pages ≡ map page_with contents.now) }
+{
+    let mut pages = Pages::new(alloc);
+    for content in contents {
+        pages.push(Page::of_octets(content.as_slice()))?;
+    }
+    Ok(pages)
+}
+
+fn write_message(alloc: Global, order: &Order, content: &Content) -> Result<Message, AllocError>
+    requires { All (λ p. length p ≤ 82) content.now.pages }
+    ensures { IfOk result (λ m. m ≡ write_message order.now content.now) }
+{
+    Ok(Message::WriteReplace {
+        message_id: order.message_id,
+        serial: order.serial.to_u16(),
+        old: None,
+        cells: CellIds::of_cells(alloc, order.cells.as_slice())?,
+        channel: Some(0),
+        category: content.category,
+        period: content.period,
+        requested: 0,
+        pages: pages_of(alloc, content.pages.as_slice())?,
+        dcs: content.dcs,
+    })
+}
+
+fn kill_message(alloc: Global, order: &Order) -> Result<Message, AllocError>
+    ensures { IfOk result (λ m. m ≡ kill_message order.now) }
+{
+    Ok(Message::Kill {
+        message_id: order.message_id,
+        serial: order.serial.to_u16(),
+        cells: CellIds::of_cells(alloc, order.cells.as_slice())?,
+        channel: Some(0),
+    })
+}
+
+/// The message that carries the order (TS 48.049, 8.1.3.1 and 8.1.3.4): a WRITE-REPLACE on the basic channel that is
+/// broadcast until it is killed, or a KILL. A write has its content.
+pub fn message_of(
+    alloc: Global,
+    order: &Order,
+    content: Option<&Content>,
+) -> Result<Message, AllocError>
+    requires { IfSome content (λ c. All (λ p. length p ≤ 82) c.now.pages) }
+    ensures { IfOk result (λ m. m ≡ order_message order.now (option_copied content.entry)) }
+{
+    match (order.kind, content) {
+        (OrderKind::Write, Some(content)) => write_message(alloc, order, content),
+        _ => kill_message(alloc, order),
+    }
+}

@@ -1,0 +1,13 @@
+//! What a reply says of one cell.
+
+use crate::outcome::Outcome;
+use cbsp_ie::Cell;
+
+/// What a reply says of one cell of its order.
+#[derive(Clone, Copy, Debug, PartialEq, Eq)]
+pub struct Reply {
+    pub cell: Cell,
+    pub outcome: Outcome,
+    /// The number of broadcasts completed, where the reply gives one.
+    pub count: Option<u16>,
+}

@@ -1,0 +1,6 @@
+-- The words for the calls of a source and of a sink.
+use Rattle.std.specs.Prelude.{ℕ, ◌+◌, ◌-◌, ◌^◌, min, max}
+
+-- n calls and k more; a count stays at the greatest number of 64 bits
+abbrev pub counted : ℕ → ℕ → ℕ
+counted n k = max n (min (n + k) (2 ^ 64 - 1))

@@ -1,0 +1,46 @@
+ghost use Rattle.std.specs.Prelude.{◌≡◌, ℕ};
+
+use crate::{Failed, Source};
+
+/// Fails at one read, counted from 1, and reads as the source within at all others.
+#[derive(Drop)]
+pub struct FailsAtRead<S: Source + Drop> {
+    source: S,
+    fatal_read: u64,
+    calls: u64,
+    has_failed: bool,
+}
+
+impl<S: Source + Drop> FailsAtRead<S> {
+    pub fn new(source: S, fatal_read: u64) -> Self {
+        FailsAtRead {
+            source,
+            fatal_read,
+            calls: 0,
+            has_failed: false,
+        }
+    }
+}
+
+impl<S: Source + Drop> Source for FailsAtRead<S> {
+    ghost remaining = { λ s. S.remaining s.source };
+
+    ghost calls = { λ s. s.calls };
+
+    ghost has_failed = { λ s. s.has_failed };
+
+    fn read(&mut self, buffer: &mut [u8]) -> Result<usize, Failed> {
+        self.calls = self.calls.saturating_add(1);
+        if self.calls == self.fatal_read {
+            self.has_failed = true;
+            return Err(Failed);
+        }
+        match self.source.read(buffer) {
+            Ok(count) => Ok(count),
+            Err(failed) => {
+                self.has_failed = true;
+                Err(failed)
+            }
+        }
+    }
+}

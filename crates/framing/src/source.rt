@@ -1,0 +1,80 @@
+ghost use Rattle.std.specs.Prelude.{◌≡◌, ℕ, ◌≤◌, ◌||◌, Bool, false, List, Option, length, IfOk, is_err};
+ghost use Rattle.std.specs.Io.KnownBytes.{ReadConsumes};
+ghost use Rattle.framing.specs.Source.{counted};
+
+use crate::Failed;
+use crate::interrupted::read_again;
+use std::io::Read;
+
+/// What octets are read from: a connection, standard input, or octets in memory.
+///
+/// It tells the octets that it has yet to give where they are known, the number of its reads, and
+/// whether one of them failed.
+pub trait Source {
+    ghost remaining: { Self → Option (List ℕ) };
+
+    ghost calls: { Self → ℕ };
+
+    ghost has_failed: { Self → Bool };
+
+    /// Fills the front of the buffer and answers how many octets that were. A buffer with room gets
+    /// none only at the end of the stream.
+    fn read(&mut self, buffer: &mut [u8]) -> Result<usize, Failed>
+        ensures bound { IfOk result (λ n. n ≤ length buffer.old) }
+        ensures octets { ReadConsumes (remaining self.old) (remaining self.new) result buffer.new }
+        ensures calls { calls self.new ≡ counted (calls self.old) 1 }
+        ensures failed { has_failed self.new ≡ (is_err result || has_failed self.old) };
+}
+
+/// A source that reads from a reader of the standard library. A read that a signal to the process
+/// interrupts is made again, as the same call.
+#[derive(Drop)]
+pub struct FromRead<R: Read + Drop> {
+    reader: R,
+    calls: u64,
+    has_failed: bool,
+}
+
+impl<R: Read + Drop> FromRead<R> {
+    pub fn new(reader: R) -> Self
+        ensures remaining { ⟦<FromRead<R> as Source>⟧.remaining result ≡ R.remaining reader }
+        ensures calls { ⟦<FromRead<R> as Source>⟧.calls result ≡ 0 }
+        ensures has_failed { ⟦<FromRead<R> as Source>⟧.has_failed result ≡ false }
+    {
+        FromRead {
+            reader,
+            calls: 0,
+            has_failed: false,
+        }
+    }
+
+    pub fn into_inner(self) -> R
+        ensures { R.remaining result ≡ ⟦<FromRead<R> as Source>⟧.remaining self }
+    {
+        let FromRead {
+            reader,
+            calls: _,
+            has_failed: _,
+        } = self;
+        reader
+    }
+}
+
+impl<R: Read + Drop> Source for FromRead<R> {
+    ghost remaining = { λ s. R.remaining s.reader };
+
+    ghost calls = { λ s. s.calls };
+
+    ghost has_failed = { λ s. s.has_failed };
+
+    fn read(&mut self, buffer: &mut [u8]) -> Result<usize, Failed> {
+        self.calls = self.calls.saturating_add(1);
+        match read_again(&mut self.reader, buffer) {
+            Ok(count) => Ok(count),
+            Err(failed) => {
+                self.has_failed = true;
+                Err(failed)
+            }
+        }
+    }
+}
