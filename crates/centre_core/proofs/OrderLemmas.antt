@@ -1,9 +1,8 @@
 -- How a list of actions is made, put in order and joined to orders.
-use Rattle.std.proofs.Common.{◌≡◌, ℕ, true, List, [], ◌∷◌, ◌++◌, Option, Some, None, nat_eq, reverse, refl, ap, sym, ◌∙◌, append_assoc}
+use Rattle.std.proofs.Common.{◌≡◌, ℕ, true, List, [], ◌∷◌, ◌++◌, Option, Some, None, nat_eq, reverse, refl, ap, ◌∙◌}
 use Rattle.std.proofs.lemmas.Bool.{eq-eqb}
-use Rattle.cbsp_ie.specs.declared.cell.Cell.{Cell}
 use Rattle.centre_core.proofs.BookLemmas.{book_of_journal}
-use Rattle.centre_core.specs.Actions.{actions_in, actions_of, all_actions}
+use Rattle.centre_core.specs.Actions.{actions_of, all_actions}
 use Rattle.centre_core.specs.Issued.{issued_by, with_issued, forward, actions_by, actions_along}
 use Rattle.centre_core.specs.Pending.{put_in_order, in_order, joined, grouped}
 use Rattle.centre_core.specs.Places.{cells}

@@ -1,5 +1,5 @@
 -- The past at each step of a walk over the journal.
-use Rattle.std.proofs.Common.{◌≡◌, ℕ, ◌+◌, ◌<◌, ◌≤◌, List, [], ◌∷◌, ◌++◌, ◌∙◌, length, get_or, take, reverse, refl, ap, arith}
+use Rattle.std.proofs.Common.{◌≡◌, ℕ, ◌+◌, ◌<◌, ◌≤◌, List, [], ◌∷◌, ◌∙◌, length, get_or, take, reverse, ap}
 use Rattle.std.proofs.lemmas.List.{take_more, reverse-append, length-reverse, length-take-le}
 
 -- one entry further, the past is that entry and the past before it

@@ -1,6 +1,6 @@
 -- What is to be ordered in a cell for a warning: a write where its current version is wanted and not on air, and a
 -- kill of each version that is on air, or may be, and not wanted.
-use Rattle.std.specs.Prelude.{ℕ, Bool, true, false, ◌&&◌, not, List, [], ◌∷◌, ◌++◌, nat_eq, if◌then◌else◌}
+use Rattle.std.specs.Prelude.{ℕ, Bool, true, ◌&&◌, not, List, [], ◌∷◌, ◌++◌, nat_eq, if◌then◌else◌}
 use Rattle.cbsp_ie.specs.declared.cell.Cell.{Cell}
 use Rattle.centre_core.specs.Places.{cells}
 use Rattle.centre_core.specs.Plan.{wanted}

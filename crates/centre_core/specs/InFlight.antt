@@ -1,6 +1,5 @@
 -- The order in flight to a BSC, and the replies that match it.
-use Rattle.std.specs.Prelude.{ℕ, Bool, true, false, ◌&&◌, List, [], Option, Some, None, nat_eq, map, if◌then◌else◌}
-use Rattle.std.specs.Option.{is_some}
+use Rattle.std.specs.Prelude.{ℕ, Bool, true, false, ◌&&◌, List, Option, Some, None, nat_eq, map, if◌then◌else◌}
 use Rattle.cbsp_ie.specs.declared.cell.Cell.{Cell}
 use Rattle.cbsp_messages.specs.declared.message.Message.{Message}
 use Rattle.cbsp_messages.specs.declared.message.Message.TheVariants.{WriteComplete}

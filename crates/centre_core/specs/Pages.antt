@@ -1,9 +1,8 @@
 -- The pages of the contents in a book.
-use Rattle.std.specs.Prelude.{◌≡◌, Bool, false, true, not, List, Option, Some, None}
+use Rattle.std.specs.Prelude.{◌≡◌, Bool, false, not, List}
 use Rattle.std.specs.List.{list_any}
 use Rattle.centre_core.specs.Verdict.{are_pages}
 use Rattle.centre_core.specs.Warnings.{Warning}
-use Rattle.centre_core.specs.declared.warning_book.content.Content.{Content}
 
 -- a warning's content has other than 1 to 15 pages of 1 to 82 octets
 abbrev pub lacks_pages : Warning → Bool

@@ -1,5 +1,5 @@
 -- Where cells are registered.
-use Rattle.std.specs.Prelude.{ℕ, Bool, List, Option, Some, None, nat_eq, if◌then◌else◌}
+use Rattle.std.specs.Prelude.{ℕ, Bool, List, Option, Some, None, if◌then◌else◌}
 use Rattle.std.specs.Option.{is_some}
 use Rattle.cbsp_ie.specs.Cell.{cell_eq}
 use Rattle.cbsp_ie.specs.declared.cell.Cell.{Cell}

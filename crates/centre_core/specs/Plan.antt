@@ -1,6 +1,6 @@
 -- What is wanted on air: each cell at its BSC, with the current version of each active warning one of whose areas
 -- covers it.
-use Rattle.std.specs.Prelude.{ℕ, Bool, ◌&&◌, List, Option, Some, None, true, false, nat_eq}
+use Rattle.std.specs.Prelude.{ℕ, Bool, ◌&&◌, List, Option, Some, None, false, nat_eq}
 use Rattle.std.specs.List.{list_any}
 use Rattle.cbsp_ie.specs.declared.cell.Cell.{Cell}
 use Rattle.centre_core.specs.Cover.{is_covered}

@@ -1,5 +1,5 @@
 -- Serial numbers and message codes (TS 23.041, 9.4.1.2.1).
-use Rattle.std.specs.Prelude.{◌≡◌, ℕ, ◌+◌, ◌*◌, ◌/◌, ◌%◌, ◌<◌, Bool, not, nat_eq, List, Option, find}
+use Rattle.std.specs.Prelude.{ℕ, ◌+◌, ◌*◌, ◌/◌, ◌%◌, not, nat_eq, List, Option, find}
 use Rattle.std.specs.List.{range_with_len}
 use Rattle.std.specs.List.{list_any}
 use Rattle.centre_core.specs.declared.serials.scope.Scope.{Scope}

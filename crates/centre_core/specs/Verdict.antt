@@ -9,7 +9,7 @@ use Rattle.centre_core.specs.InFlight.{in_flight, matches_flight, replies}
 use Rattle.centre_core.specs.Links.{is_bsc, bsc_count, is_up, last_link}
 use Rattle.centre_core.specs.OrderMessage.{order_message}
 use Rattle.centre_core.specs.Pending.{pending, first}
-use Rattle.centre_core.specs.Places.{place, is_registered, cell_count}
+use Rattle.centre_core.specs.Places.{is_registered, cell_count}
 use Rattle.centre_core.specs.Warnings.{book, issue_count, new_serial, content_of}
 use Rattle.centre_core.specs.declared.answer.Answer.{Answer}
 use Rattle.centre_core.specs.declared.answer.Answer.TheVariants as answer
@@ -21,7 +21,6 @@ use Rattle.centre_core.specs.declared.order_maker.order.Order.{Order}
 use Rattle.centre_core.specs.declared.refusal.Limit.TheVariants as limit
 use Rattle.centre_core.specs.declared.refusal.Refusal.{Refusal}
 use Rattle.centre_core.specs.declared.refusal.Refusal.TheVariants as refusal
-use Rattle.centre_core.specs.declared.warning_book.content.Content.{Content}
 use Rattle.centre_core.specs.declared.warning_book.notice.Notice.{Notice}
 
 -- the refusal of the first check that holds, or else the answer

@@ -87,106 +87,220 @@ fn write(alloc: Global, cells: &[Cell]) -> Result<(Order, Message), AllocError> 
     Ok((order, message))
 }
 
-fn on_board(awaited: u64, on_air: u64) -> Result<Numbers, Refusal> {
-    Ok(Numbers {
+/// The board of the first warning.
+fn shows(rt: &impl Abort, centre: &Centre, awaited: u64, on_air: u64) {
+    let numbers = Numbers {
         awaited,
         on_air,
         failed: 0,
         left: 0,
         broadcasts: 0,
-    })
+    };
+    assert_eq!(rt; centre.board_total(WarningId::new(1)), Ok(numbers));
 }
 
-/// A BSC with its cell, an area that covers it, and a warning there.
-fn with_warning(rt: &impl Abort, alloc: Global, b: BscId) -> Result<Centre, AllocError> {
-    let mut centre = Centre::new(alloc, PLMN, 100);
-    assert_eq!(rt; centre.accept(1, Event::AddBsc(b)), Ok(Answer::Done));
-    assert_eq!(rt; centre.accept(1, Event::AddCell(CELL, b)), Ok(Answer::Done));
-    let area = Event::AddArea(coast(alloc)?);
-    assert_eq!(rt; centre.accept(1, area), Ok(Answer::Done));
-    let put = Event::Put(coast(alloc)?, Selector::Cell(CELL));
-    assert_eq!(rt; centre.accept(1, put), Ok(Answer::Done));
+fn takes(rt: &impl Abort, centre: &mut Centre, event: Event, want: Answer) {
+    assert_eq!(rt; centre.accept(1, event), Ok(want));
+}
+
+fn refuses(rt: &impl Abort, centre: &mut Centre, event: Event, want: Refusal) {
+    assert_eq!(rt; centre.accept(1, event), Err(want));
+}
+
+/// An area with that selector, and the first warning there.
+fn warn(
+    rt: &impl Abort,
+    alloc: Global,
+    centre: &mut Centre,
+    selector: Selector,
+) -> Result<(), AllocError> {
+    takes(rt, centre, Event::AddArea(coast(alloc)?), Answer::Done);
+    takes(
+        rt,
+        centre,
+        Event::Put(coast(alloc)?, selector),
+        Answer::Done,
+    );
     let issued = Answer::Issued(WarningId::new(1), Serial::from_u16(0xc000));
-    assert_eq!(rt; centre.accept(1, issue(alloc)?), Ok(issued));
+    takes(rt, centre, issue(alloc)?, issued);
+    Ok(())
+}
+
+/// A BSC with its cell, an area that covers it, a warning there, and the link up.
+fn begun(rt: &impl Abort, alloc: Global, b: BscId) -> Result<Centre, AllocError> {
+    let mut centre = Centre::new(alloc, PLMN, 100);
+    takes(rt, &mut centre, Event::AddBsc(b), Answer::Done);
+    takes(rt, &mut centre, Event::AddCell(CELL, b), Answer::Done);
+    warn(rt, alloc, &mut centre, Selector::Cell(CELL))?;
+    takes(rt, &mut centre, Event::LinkUp(b), Answer::Link(6));
     Ok(centre)
+}
+
+fn sends(
+    rt: &impl Abort,
+    alloc: Global,
+    centre: &mut Centre,
+    link: (BscId, u64),
+    cells: &[Cell],
+) -> Result<(), AllocError> {
+    let (order, message) = write(alloc, cells)?;
+    takes(
+        rt,
+        centre,
+        Event::Send(link.0, link.1),
+        Answer::Sent { order, message },
+    );
+    refuses(rt, centre, Event::Send(link.0, link.1), Refusal::InFlight);
+    Ok(())
+}
+
+fn replies(alloc: Global, cells: &[Cell]) -> Result<Replies, AllocError> {
+    let mut said = Vec::new(alloc);
+    for cell in cells {
+        said.push(Reply {
+            cell: *cell,
+            outcome: Outcome::Done,
+            count: None,
+        })?;
+    }
+    Ok(Replies::from_vec(said))
+}
+
+fn hears(
+    rt: &impl Abort,
+    alloc: Global,
+    centre: &mut Centre,
+    link: (BscId, u64),
+    cells: &[Cell],
+) -> Result<(), AllocError> {
+    let want = Answer::Replied(replies(alloc, cells)?);
+    takes(rt, centre, Event::Report(link.0, link.1, complete()), want);
+    Ok(())
 }
 
 #[test]
 fn the_first_warning_goes_on_air(rt: HostRuntime) -> Result<(), Fail> {
     let alloc = rt.alloc();
     let b = BscId::new(1).ok_or("1 is a BSC")?;
-    let mut centre = with_warning(&rt, alloc, b)?;
-    assert_eq!(rt; centre.accept(1, Event::LinkUp(b)), Ok(Answer::Link(6)));
-    let (order, message) = write(alloc, &[CELL])?;
-    let sent = Answer::Sent { order, message };
-    assert_eq!(rt; centre.accept(1, Event::Send(b, 6)), Ok(sent));
-    assert_eq!(rt; centre.board_total(WarningId::new(1)), on_board(1, 0));
-    assert_eq!(rt; centre.accept(1, Event::Send(b, 6)), Err(Refusal::InFlight));
-    let reply = Reply {
-        cell: CELL,
-        outcome: Outcome::Done,
-        count: None,
-    };
-    let replied = Answer::Replied(Replies::from_vec(Vec::from_slice(alloc, &[reply])?));
-    assert_eq!(rt;
-        centre.accept(1, Event::Report(b, 6, complete())),
-        Ok(replied)
-    );
-    assert_eq!(rt; centre.board_total(WarningId::new(1)), on_board(0, 1));
-    assert_eq!(rt;
-        centre.accept(1, Event::Send(b, 6)),
-        Err(Refusal::NothingPending)
-    );
+    let mut centre = begun(&rt, alloc, b)?;
+    sends(&rt, alloc, &mut centre, (b, 6), &[CELL])?;
+    shows(&rt, &centre, 1, 0);
+    hears(&rt, alloc, &mut centre, (b, 6), &[CELL])?;
+    shows(&rt, &centre, 0, 1);
+    refuses(&rt, &mut centre, Event::Send(b, 6), Refusal::NothingPending);
     assert_eq!(rt; centre.position(), 8);
     Ok(())
 }
 
 /// Cells (200, 1) to (200, 1001), which one order cannot name all.
-fn many_cells(
+fn many_cells(alloc: Global) -> Result<Vec<Cell>, AllocError> {
+    let mut cells = Vec::new(alloc);
+    for ci in 1..1002 {
+        cells.push(Cell { lac: 200, ci })?;
+    }
+    Ok(cells)
+}
+
+fn begun_with(
     rt: &impl Abort,
     alloc: Global,
-    centre: &mut Centre,
     b: BscId,
-) -> Result<(), AllocError> {
-    assert_eq!(rt; centre.accept(1, Event::AddBsc(b)), Ok(Answer::Done));
-    for ci in 1..1002 {
-        let added = centre.accept(1, Event::AddCell(Cell { lac: 200, ci }, b));
-        assert_eq!(rt; added, Ok(Answer::Done), "cell {ci}");
+    cells: &[Cell],
+) -> Result<Centre, AllocError> {
+    let mut centre = Centre::new(alloc, PLMN, 2000);
+    takes(rt, &mut centre, Event::AddBsc(b), Answer::Done);
+    for cell in cells {
+        takes(rt, &mut centre, Event::AddCell(*cell, b), Answer::Done);
     }
-    let area = Event::AddArea(coast(alloc)?);
-    assert_eq!(rt; centre.accept(1, area), Ok(Answer::Done));
-    let put = Event::Put(coast(alloc)?, Selector::Lac(200));
-    assert_eq!(rt; centre.accept(1, put), Ok(Answer::Done));
-    let issued = Answer::Issued(WarningId::new(1), Serial::from_u16(0xc000));
-    assert_eq!(rt; centre.accept(1, issue(alloc)?), Ok(issued));
-    assert_eq!(rt; centre.accept(1, Event::LinkUp(b)), Ok(Answer::Link(1006)));
-    Ok(())
+    warn(rt, alloc, &mut centre, Selector::Lac(200))?;
+    takes(rt, &mut centre, Event::LinkUp(b), Answer::Link(1006));
+    Ok(centre)
 }
 
 #[test]
 fn an_order_names_a_thousand_cells(rt: HostRuntime) -> Result<(), Fail> {
     let alloc = rt.alloc();
     let b = BscId::new(1).ok_or("1 is a BSC")?;
-    let mut centre = Centre::new(alloc, PLMN, 2000);
-    many_cells(&rt, alloc, &mut centre, b)?;
-    let mut cells = Vec::new(alloc);
-    for ci in 1..1001 {
-        cells.push(Cell { lac: 200, ci })?;
-    }
-    let (order, message) = write(alloc, cells.as_slice())?;
-    let sent = Answer::Sent { order, message };
-    assert_eq!(rt; centre.accept(1, Event::Send(b, 1006)), Ok(sent));
-    assert!(rt; centre.accept(1, Event::Report(b, 1006, complete())).is_ok());
-    assert_eq!(rt; centre.board_total(WarningId::new(1)), on_board(1, 1000));
-    let (order, message) = write(alloc, &[Cell { lac: 200, ci: 1001 }])?;
-    let sent = Answer::Sent { order, message };
-    assert_eq!(rt; centre.accept(1, Event::Send(b, 1006)), Ok(sent));
-    assert!(rt; centre.accept(1, Event::Report(b, 1006, complete())).is_ok());
-    assert_eq!(rt; centre.board_total(WarningId::new(1)), on_board(0, 1001));
-    assert_eq!(rt;
-        centre.accept(1, Event::Send(b, 1006)),
-        Err(Refusal::NothingPending)
+    let cells = many_cells(alloc)?;
+    let (front, rest) = cells
+        .as_slice()
+        .split_at_checked(1000)
+        .ok_or("1,001 cells")?;
+    let mut centre = begun_with(&rt, alloc, b, cells.as_slice())?;
+    sends(&rt, alloc, &mut centre, (b, 1006), front)?;
+    hears(&rt, alloc, &mut centre, (b, 1006), front)?;
+    shows(&rt, &centre, 1, 1000);
+    sends(&rt, alloc, &mut centre, (b, 1006), rest)?;
+    hears(&rt, alloc, &mut centre, (b, 1006), rest)?;
+    shows(&rt, &centre, 0, 1001);
+    refuses(
+        &rt,
+        &mut centre,
+        Event::Send(b, 1006),
+        Refusal::NothingPending,
     );
+    Ok(())
+}
+
+fn events_are_copied(rt: &impl Abort, alloc: Global) -> Result<(), AllocError> {
+    let issue = issue(alloc)?;
+    assert!(rt; issue.same(&issue.copied(alloc)?));
+    Ok(())
+}
+
+fn notices_are_copied(rt: &impl Abort, alloc: Global) -> Result<(), AllocError> {
+    let notice = notice(alloc)?;
+    assert!(rt; notice.same(&notice.copied(alloc)?));
+    Ok(())
+}
+
+fn contents_are_copied(rt: &impl Abort, alloc: Global) -> Result<(), AllocError> {
+    let content = content(alloc)?;
+    assert!(rt; content.same(&content.copied(alloc)?));
+    assert!(rt; content.pages.same(&content.pages.copied(alloc)?));
+    Ok(())
+}
+
+fn replies_are_copied(rt: &impl Abort, alloc: Global) -> Result<(), AllocError> {
+    let replies = replies(alloc, &[CELL])?;
+    assert!(rt; replies.same(&replies.copied(alloc)?));
+    Ok(())
+}
+
+fn kills_are_written(rt: &impl Abort, alloc: Global) -> Result<(), AllocError> {
+    let order = Order {
+        kind: OrderKind::Kill,
+        message_id: 4370,
+        serial: Serial::from_u16(0xc000),
+        cells: Cells::from_vec(Vec::from_slice(alloc, &[CELL])?),
+    };
+    assert!(rt; order.same(&order.copied(alloc)?));
+    let want = Message::Kill {
+        message_id: 4370,
+        serial: 0xc000,
+        cells: CellIds::of_cells(alloc, &[CELL])?,
+        channel: Some(0),
+    };
+    assert!(rt; message_of(alloc, &order, None)?.same(&want));
+    Ok(())
+}
+
+fn questions_are_answered(rt: &impl Abort, alloc: Global, b: BscId) -> Result<(), Refusal> {
+    let centre = begun(rt, alloc, b)?;
+    let pending = centre.pending_of(b)?.copied(alloc)?;
+    assert_eq!(rt; pending.as_slice().len(), 1);
+    assert!(rt; centre.in_flight_of(b)?.is_none());
+    Ok(())
+}
+
+fn entries_are_copied(rt: &impl Abort, alloc: Global, b: BscId) -> Result<(), Fail> {
+    let mut centre = begun(rt, alloc, b)?;
+    let answer = centre.accept(2, Event::Send(b, 6))?;
+    assert!(rt; answer.same(&answer.copied(alloc)?));
+    let entry = centre.entry(7).ok_or("the seventh entry is there")?;
+    assert!(rt; entry.same(&entry.copied(alloc)?));
+    assert_eq!(rt; entry.desk, 2);
+    assert!(rt; entry.answer.same(&answer));
     Ok(())
 }
 
@@ -194,32 +308,15 @@ fn an_order_names_a_thousand_cells(rt: HostRuntime) -> Result<(), Fail> {
 fn every_call_answers(rt: HostRuntime) -> Result<(), Fail> {
     let alloc = rt.alloc();
     let b = BscId::new(1).ok_or("1 is a BSC")?;
-    let mut centre = with_warning(&rt, alloc, b)?;
-    let issue = issue(alloc)?;
-    assert!(rt; issue.same(&issue.copied(alloc)?));
-    let notice = notice(alloc)?;
-    assert!(rt; notice.same(&notice.copied(alloc)?));
-    let content = content(alloc)?;
-    assert!(rt; content.same(&content.copied(alloc)?));
-    assert!(rt; content.pages.same(&content.pages.copied(alloc)?));
-    let (order, message) = write(alloc, &[CELL])?;
-    assert!(rt; order.same(&order.copied(alloc)?));
-    assert!(rt; message_of(alloc, &order, Some(&content))?.same(&message));
-    assert_eq!(rt; centre.pending_of(b)?.as_slice(), [order].as_slice());
-    assert_eq!(rt; centre.pending_of(b)?.copied(alloc)?.as_slice().len(), 1);
-    assert!(rt; centre.in_flight_of(b)?.is_none());
-    assert_eq!(rt; centre.accept(2, Event::LinkUp(b)), Ok(Answer::Link(6)));
-    let answer = centre.accept(2, Event::Send(b, 6))?;
-    assert!(rt; answer.same(&answer.copied(alloc)?));
-    let entry = centre.entry(7).ok_or("the seventh entry is there")?;
-    assert!(rt; entry.same(&entry.copied(alloc)?));
-    assert_eq!(rt; entry.desk, 2);
-    assert!(rt; entry.answer.same(&answer));
-    let replied = match centre.accept(2, Event::Report(b, 6, complete()))? {
-        Answer::Replied(replies) => Some(replies),
-        _ => None,
-    };
-    let replies = replied.ok_or("a reply to the order")?;
-    assert!(rt; replies.same(&replies.copied(alloc)?));
+    events_are_copied(&rt, alloc)?;
+    notices_are_copied(&rt, alloc)?;
+    contents_are_copied(&rt, alloc)?;
+    replies_are_copied(&rt, alloc)?;
+    kills_are_written(&rt, alloc)?;
+    questions_are_answered(&rt, alloc, b)?;
+    entries_are_copied(&rt, alloc, b)?;
+    let mut centre = begun(&rt, alloc, b)?;
+    sends(&rt, alloc, &mut centre, (b, 6), &[CELL])?;
+    hears(&rt, alloc, &mut centre, (b, 6), &[CELL])?;
     Ok(())
 }

@@ -1,4 +1,4 @@
-use Rattle.std.proofs.Common.{◌≡◌, ◌<◌, ◌∙◌, length, reverse, sym, arith}
+use Rattle.std.proofs.Common.{◌∙◌, length, reverse, sym, arith}
 use Rattle.std.proofs.lemmas.Bool.{lt-leb}
 use Rattle.centre_core.specs.Cover.{selector_count}
 use Rattle.centre_core.proofs.NamedLemmas.{few_selectors}

@@ -1,4 +1,3 @@
-use Rattle.std.proofs.Common.{rules}
 use Rattle.centre_core.specs.Serials.{every_code}
 use Rattle.centre_core.proofs.serials.codes.least_free_code.Goals as goal
 

@@ -1,0 +1,235 @@
+//! The fields of a message, in the order of the file.
+
+use crate::value::Value;
+use cbsp_ie::{CellIds, Counts, Failures};
+use cbsp_messages::{Message, Page};
+use std::alloc::{AllocError, Global};
+
+/// A field: its name and its value.
+#[derive(Drop)]
+pub struct Field<'m> {
+    pub name: &'static str,
+    pub value: Value<'m>,
+}
+
+/// The fields of a message.
+#[derive(Drop)]
+struct Fields<'m> {
+    fields: Vec<Field<'m>>,
+}
+
+impl<'m> Fields<'m> {
+    fn put(&mut self, name: &'static str, value: Value<'m>) -> Result<(), AllocError> {
+        self.fields.push(Field { name, value })?;
+        Ok(())
+    }
+
+    fn put_number(&mut self, name: &'static str, number: Option<u16>) -> Result<(), AllocError> {
+        match number {
+            Some(number) => self.put(name, Value::Number(number)),
+            None => Ok(()),
+        }
+    }
+
+    /// The numbers that name a message.
+    fn put_names(
+        &mut self,
+        message_id: u16,
+        serial: u16,
+        old: Option<u16>,
+    ) -> Result<(), AllocError> {
+        self.put("message_id", Value::Number(message_id))?;
+        self.put("serial", Value::Number(serial))?;
+        self.put_number("old", old)
+    }
+
+    fn put_failures(&mut self, failures: &'m Failures) -> Result<(), AllocError> {
+        self.put("failures", Value::Failures(failures))
+    }
+
+    fn put_counts(&mut self, counts: Option<&'m Counts>) -> Result<(), AllocError> {
+        match counts {
+            Some(counts) => self.put("counts", Value::Counts(counts)),
+            None => Ok(()),
+        }
+    }
+
+    fn put_cells(&mut self, cells: Option<&'m CellIds>) -> Result<(), AllocError> {
+        match cells {
+            Some(cells) => self.put("cells", Value::Cells(cells)),
+            None => Ok(()),
+        }
+    }
+
+    fn put_octet(&mut self, name: &'static str, octet: u8) -> Result<(), AllocError> {
+        self.put(name, Value::Number(u16::from(octet)))
+    }
+
+    fn put_channel(&mut self, channel: Option<u8>) -> Result<(), AllocError> {
+        self.put_number("channel", channel.map(|channel| u16::from(channel)))
+    }
+
+    fn put_pages(&mut self, pages: &'m [Page]) -> Result<(), AllocError> {
+        for page in pages {
+            self.put("page", Value::Page(page))?;
+        }
+        Ok(())
+    }
+
+    fn put_message(&mut self, message: &'m Message) -> Result<(), AllocError> {
+        match message {
+            Message::WriteReplace {
+                message_id,
+                serial,
+                old,
+                cells,
+                channel,
+                category,
+                period,
+                requested,
+                pages,
+                dcs,
+            } => {
+                self.put_names(*message_id, *serial, *old)?;
+                self.put_cells(Some(cells))?;
+                self.put_octet("category", *category)?;
+                self.put("period", Value::Number(*period))?;
+                self.put("requested", Value::Number(*requested))?;
+                self.put_octet("dcs", *dcs)?;
+                self.put_channel(*channel)?;
+                self.put_pages(pages.as_slice())
+            }
+            Message::WriteComplete {
+                message_id,
+                serial,
+                old,
+                counts,
+                cells,
+                channel,
+            } => {
+                self.put_names(*message_id, *serial, *old)?;
+                self.put_counts(counts.as_ref())?;
+                self.put_cells(cells.as_ref())?;
+                self.put_channel(*channel)
+            }
+            Message::WriteFailure {
+                message_id,
+                serial,
+                old,
+                failures,
+                counts,
+                cells,
+                channel,
+            } => {
+                self.put_names(*message_id, *serial, *old)?;
+                self.put_failures(failures)?;
+                self.put_counts(counts.as_ref())?;
+                self.put_cells(cells.as_ref())?;
+                self.put_channel(*channel)
+            }
+            Message::Kill {
+                message_id,
+                serial,
+                cells,
+                channel,
+            } => {
+                self.put_names(*message_id, *serial, None)?;
+                self.put_cells(Some(cells))?;
+                self.put_channel(*channel)
+            }
+            Message::KillComplete {
+                message_id,
+                serial,
+                counts,
+                cells,
+                channel,
+            } => {
+                self.put_names(*message_id, *serial, None)?;
+                self.put_counts(counts.as_ref())?;
+                self.put_cells(cells.as_ref())?;
+                self.put_channel(*channel)
+            }
+            Message::KillFailure {
+                message_id,
+                serial,
+                failures,
+                counts,
+                cells,
+                channel,
+            } => {
+                self.put_names(*message_id, *serial, None)?;
+                self.put_failures(failures)?;
+                self.put_counts(counts.as_ref())?;
+                self.put_cells(cells.as_ref())?;
+                self.put_channel(*channel)
+            }
+            Message::StatusQuery {
+                message_id,
+                serial,
+                cells,
+                channel,
+            } => {
+                self.put_names(*message_id, *serial, None)?;
+                self.put_cells(Some(cells))?;
+                self.put_channel(*channel)
+            }
+            Message::StatusComplete {
+                message_id,
+                serial,
+                counts,
+                channel,
+            } => {
+                self.put_names(*message_id, *serial, None)?;
+                self.put_counts(Some(counts))?;
+                self.put_channel(*channel)
+            }
+            Message::StatusFailure {
+                message_id,
+                serial,
+                failures,
+                counts,
+                channel,
+            } => {
+                self.put_names(*message_id, *serial, None)?;
+                self.put_failures(failures)?;
+                self.put_counts(counts.as_ref())?;
+                self.put_channel(*channel)
+            }
+            Message::Restart {
+                cells,
+                kind,
+                recovery,
+            } => {
+                self.put_cells(Some(cells))?;
+                self.put_octet("kind", *kind)?;
+                self.put_octet("recovery", *recovery)
+            }
+            Message::Failure { failures, kind } => {
+                self.put_failures(failures)?;
+                self.put_octet("kind", *kind)
+            }
+            Message::ErrorIndication {
+                cause,
+                message_id,
+                serial,
+                old,
+                channel,
+            } => {
+                self.put_octet("cause", cause.0)?;
+                self.put_number("message_id", *message_id)?;
+                self.put_number("serial", *serial)?;
+                self.put_number("old", *old)?;
+                self.put_channel(*channel)
+            }
+        }
+    }
+}
+
+/// The fields that the message has.
+pub fn fields_of(alloc: Global, message: &Message) -> Result<Vec<Field<'_>>, AllocError> {
+    let mut fields = Fields {
+        fields: Vec::new(alloc),
+    };
+    fields.put_message(message)?;
+    Ok(fields.fields)
+}

@@ -1,0 +1,41 @@
+//! Reads frames that another implementation's encoder made, and says of each whether it is read as the values
+//! that this encoder was given, and written as the same octets again.
+//!
+//! The file's name is the argument; `data/frames.txt` says how it is laid out.
+#![tactic(auto)]
+
+mod faults;
+mod fields;
+mod names;
+mod outcome;
+mod value;
+mod vectors;
+
+use anyhow::{Context, Result};
+use outcome::difference;
+use std::process::ExitCode;
+use std::{env, fs};
+use vectors::vectors_in;
+
+fn main(rt: HostRuntime) -> Result<ExitCode> {
+    let name = env::args(&rt)?
+        .nth(1)
+        .context("the file of frames isn't named")?;
+    let text = fs::read_to_string(&rt, name.as_str())?;
+    let mut status = ExitCode::SUCCESS;
+    for vector in &vectors_in(rt.alloc(), text.as_str())? {
+        let name = vector.name;
+        match difference(rt.alloc(), vector) {
+            Ok(None) => println!(rt; "{name} agrees")?,
+            Ok(Some(line)) => {
+                status = ExitCode::FAILURE;
+                println!(rt; "{name} differs: {line}")?;
+            }
+            Err(error) => {
+                status = ExitCode::FAILURE;
+                println!(rt; "{name} differs: {error}")?;
+            }
+        }
+    }
+    Ok(status)
+}

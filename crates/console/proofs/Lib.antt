@@ -1,0 +1,7 @@
+pub mod HexTextLemmas
+pub mod FrameLemmas
+pub mod GenerationLemmas
+pub mod TextLemmas
+pub mod StopLemmas
+pub mod ReplayLemmas
+pub mod UniqueLemmas

@@ -1,0 +1,124 @@
+-- A run that a fault ends.
+use Rattle.std.proofs.Common.{◌≡◌, ℕ, ◌+◌, ◌-◌, ◌<◌, ◌≤◌, true, false, cond, eqb, Option, List, [], ◌∷◌, ◌++◌, length, take, drop, get_or, refl, sym, ap, ◌∙◌, subst, arith, append_assoc, append-nil, length-append}
+use Rattle.std.proofs.lemmas.List.{length-take, take_more, take-append-drop}
+use Rattle.std.proofs.Math.Seq.{take-append-add}
+use Rattle.std.proofs.KnownBytes.{Appends-nil, Appends-trans}
+use Rattle.std.specs.Io.KnownBytes.{Appends}
+use Rattle.console.specs.Consoles.{ConsoleState, BreaksInLine, BreaksLine, Goes, Stops, BeginsLong, Behind, IsWritten}
+use Rattle.console.specs.Sessions.{AnswersOrStarves}
+use Rattle.console.specs.Text.{longest_line, without_return, lines_from}
+use Rattle.console.specs.Texts.{response_text}
+use Rattle.console.specs.declared.fault.ReplayFault.{ReplayFault}
+use Rattle.console.specs.declared.fault.ReplayFault.TheVariants.{ReadFault, WriteFault, Memory, LongLine}
+use Rattle.console.proofs.TextLemmas.{text_append}
+
+-- at most one octet is dropped
+length-without_return : (line : List ℕ) → length line ≤ length (without_return line) + 1
+length-without_return line =
+    elim (eqb (get_or line (length line - 1) 0) 13) as (λ b. length line ≤ length (cond b (take (length line - 1) line) line) + 1) [
+      | true ↦ omega (arith, length-take (length line - 1) line)
+      | false ↦ omega arith
+    ]
+
+-- a line that is too long before it ends is the first
+pub begins_long : (begun octets : List ℕ) → longest_line + 1 < length begun → BeginsLong (lines_from begun octets)
+begins_long begun [] long = omega (arith, length-without_return begun)
+begins_long begun (x ∷ octets) long =
+    elim (eqb x 10) as (λ b. BeginsLong (cond b (begun ∷ lines_from [] octets) (lines_from (begun ++ x ∷ []) octets))) [
+      | true ↦ omega (arith, length-without_return begun)
+      | false ↦ begins_long (begun ++ x ∷ []) octets (omega (arith, length-append begun (x ∷ [])))
+    ]
+
+-- nothing is answered before the fault
+stops_at_once : (a : ConsoleState) (octets : List ℕ) (p q : Option (List ℕ)) (fault : ReplayFault)
+    → ((rest : List ℕ) → Behind fault (lines_from a.begun (octets ++ rest))) → IsWritten fault [] [] → q ≡ p → Stops a octets p q fault
+stops_at_once a octets p q fault behind written same = record {
+  lines = [];
+  session = a.session;
+  text = [];
+  part = [];
+  cut = λ rest. (lines_from a.begun (octets ++ rest), refl, behind rest);
+  told = (refl, refl);
+  written = written;
+  appended = subst (λ after. Appends p after []) (sym same) (Appends-nil p);
+}
+
+-- the line ends, and its answer is written in part
+stops_in_line : (a : ConsoleState) (p q : Option (List ℕ)) → BreaksInLine a p q → Stops a (10 ∷ []) p q WriteFault
+stops_in_line a p q breaks = record {
+  lines = a.begun ∷ [];
+  session = breaks.session;
+  text = response_text breaks.response;
+  part = take breaks.written.count (response_text breaks.response);
+  cut = λ rest. (lines_from [] rest, refl, tt);
+  told = (breaks.response, breaks.session, [], breaks.short, breaks.answered, (refl, refl), sym (append-nil (response_text breaks.response)));
+  written = (breaks.written.count, refl);
+  appended = breaks.written.appended;
+}
+
+-- the line ends, and is not answered, or not in full
+pub stops_at_line : (a : ConsoleState) (p q : Option (List ℕ)) (fault : ReplayFault) → BreaksLine a p q fault → Stops a (10 ∷ []) p q fault
+stops_at_line a p q ReadFault breaks = absurd breaks
+stops_at_line a p q WriteFault breaks = stops_in_line a p q breaks
+stops_at_line a p q Memory breaks = stops_at_once a (10 ∷ []) p q Memory (λ rest. tt) refl breaks
+stops_at_line a p q LongLine breaks = stops_at_once a (10 ∷ []) p q LongLine (λ rest. breaks.0) refl breaks.1
+
+-- one more octet makes the line too long
+pub stops_at_long : (a : ConsoleState) (p : Option (List ℕ)) (x : ℕ) → eqb x 10 ≡ false → longest_line < length a.begun → Stops a (x ∷ []) p p LongLine
+stops_at_long a p x other long =
+    let more : longest_line + 1 < length (a.begun ++ x ∷ []) = omega (arith, length-append a.begun (x ∷ [])) in
+    stops_at_once a (x ∷ []) p p LongLine (λ rest. rw other (begins_long (a.begun ++ x ∷ []) rest more)) refl refl
+
+-- there is no memory for one more octet
+pub stops_starved : (a : ConsoleState) (octets : List ℕ) (p : Option (List ℕ)) → Stops a octets p p Memory
+stops_starved a octets p = stops_at_once a octets p p Memory (λ rest. tt) refl refl
+
+-- what was written before a fault, behind other answers
+pub written_after : (fault : ReplayFault) (s text part : List ℕ) → IsWritten fault text part → IsWritten fault (s ++ text) (s ++ part)
+written_after ReadFault s text part same = ap (λ t. s ++ t) same
+written_after WriteFault s text part front =
+    (length s + front.0, ap (λ t. s ++ t) front.1 ∙ sym (take-append-add s text front.0))
+written_after Memory s text part same = ap (λ t. s ++ t) same
+written_after LongLine s text part same = ap (λ t. s ++ t) same
+
+-- some octets, and those at which a fault ends the run
+pub goes_stops : (a b : ConsoleState) (xs ys : List ℕ) (p q r : Option (List ℕ)) (fault : ReplayFault) → Goes a xs b p q → Stops b ys q r fault → Stops a (xs ++ ys) p r fault
+goes_stops a b xs ys p q r fault one two = record {
+  lines = one.lines ++ two.lines;
+  session = two.session;
+  text = one.text ++ two.text;
+  part = one.text ++ two.part;
+  cut = λ rest.
+      let back = two.cut rest in (
+        back.0,
+        ap (λ octets. lines_from a.begun octets) (append_assoc xs ys rest) ∙ one.cut (ys ++ rest) ∙ ap (λ lines. one.lines ++ lines) back.1
+            ∙ sym (append_assoc one.lines two.lines back.0),
+        back.2,
+      );
+  told = text_append AnswersOrStarves a.session b.session two.session one.lines two.lines one.text two.text one.told two.told;
+  written = written_after fault one.text two.text two.part two.written;
+  appended = Appends-trans p q r one.text two.part one.written two.appended;
+}
+
+-- what comes after a fault changes nothing
+pub stops_more : (a : ConsoleState) (xs ys : List ℕ) (p q : Option (List ℕ)) (fault : ReplayFault) → Stops a xs p q fault → Stops a (xs ++ ys) p q fault
+stops_more a xs ys p q fault stops = record {
+  lines = stops.lines;
+  session = stops.session;
+  text = stops.text;
+  part = stops.part;
+  cut = λ rest.
+      let back = stops.cut (ys ++ rest) in
+      (back.0, ap (λ octets. lines_from a.begun octets) (append_assoc xs ys rest) ∙ back.1, back.2);
+  told = stops.told;
+  written = stops.written;
+  appended = stops.appended;
+}
+
+-- a fault at one octet of a piece
+pub stops_within : (a b : ConsoleState) (piece : List ℕ) (i x : ℕ) (p q r : Option (List ℕ)) (fault : ReplayFault) → i < length piece → x ≡ get_or piece i 0
+    → Goes a (take i piece) b p q → Stops b (x ∷ []) q r fault → Stops a piece p r fault
+stops_within a b piece i x p q r fault inside is one two =
+    let front : Stops a (take (i + 1) piece) p r fault =
+    subst (λ octets. Stops a octets p r fault) (ap (λ y. take i piece ++ y ∷ []) is ∙ sym (take_more piece i 0 inside)) (goes_stops a b (take i piece) (x ∷ []) p q r fault one two) in
+    subst (λ octets. Stops a octets p r fault) (take-append-drop (i + 1) piece) (stops_more a (take (i + 1) piece) (drop (i + 1) piece) p r fault front)

@@ -1,0 +1,61 @@
+-- Lines that are answered one after another, and octets that come one after another.
+use Rattle.std.proofs.Common.{◌≡◌, ℕ, ◌+◌, ◌<◌, false, eqb, Option, List, [], ◌∷◌, ◌++◌, length, take, get_or, refl, sym, ap, ◌∙◌, subst, append_assoc, append-nil}
+use Rattle.std.proofs.lemmas.List.{take_more}
+use Rattle.std.proofs.KnownBytes.{Appends-nil, Appends-trans}
+use Rattle.console.specs.Consoles.{ConsoleState, EndsLine, Goes}
+use Rattle.console.specs.Sessions.{SessionState, AnswersOrStarves}
+use Rattle.console.specs.Text.{lines_from, Answering, IsTextBy, IsTextOrStarves}
+use Rattle.console.specs.Texts.{response_text}
+
+-- the answers to some lines, and those to the lines after them
+pub text_append : (answers : Answering) (a b c : SessionState) (xs ys : List (List ℕ)) (s t : List ℕ) → IsTextBy answers a xs b s → IsTextBy answers b ys c t
+    → IsTextBy answers a (xs ++ ys) c (s ++ t)
+text_append answers a b c [] ys s t told more =
+    subst (λ session. IsTextBy answers session ys c (s ++ t)) told.0 (subst (λ text. IsTextBy answers b ys c (text ++ t)) (sym told.1) more)
+text_append answers a b c (line ∷ xs) ys s t told more =
+    (told.0, told.1, told.2 ++ t, told.3, told.4, text_append answers told.1 b c xs ys told.2 t told.5 more, ap (λ text. text ++ t) told.6 ∙ append_assoc (response_text told.0) told.2 t)
+
+-- one line that ends
+pub one_line : (old new : ConsoleState) (p q : Option (List ℕ)) (ends : EndsLine old new p q) → IsTextOrStarves old.session (old.begun ∷ []) new.session (response_text ends.response)
+one_line old new p q ends = (ends.response, new.session, [], ends.short, ends.answered, (refl, refl), sym (append-nil (response_text ends.response)))
+
+pub goes_nowhere : (a : ConsoleState) (p : Option (List ℕ)) → Goes a [] a p p
+goes_nowhere a p = record { lines = []; text = []; cut = λ rest. refl; told = (refl, refl); written = Appends-nil p }
+
+-- a line ends
+pub goes_line : (old new : ConsoleState) (p q : Option (List ℕ)) → EndsLine old new p q → Goes old (10 ∷ []) new p q
+goes_line old new p q ends = record {
+  lines = old.begun ∷ [];
+  text = response_text ends.response;
+  cut = λ rest. ap (λ begun. old.begun ∷ lines_from begun rest) (sym ends.begun);
+  told = one_line old new p q ends;
+  written = ends.written;
+}
+
+-- the line goes on
+pub goes_octet : (old new : ConsoleState) (p : Option (List ℕ)) (x : ℕ) → eqb x 10 ≡ false → new.session ≡ old.session → new.begun ≡ old.begun ++ x ∷ [] → Goes old (x ∷ []) new p p
+goes_octet old new p x other same more = record {
+  lines = [];
+  text = [];
+  cut = λ rest. rw (other, more) refl;
+  told = (same, refl);
+  written = Appends-nil p;
+}
+
+-- some octets, and those after them
+pub goes_goes : (a b c : ConsoleState) (xs ys : List ℕ) (p q r : Option (List ℕ)) → Goes a xs b p q → Goes b ys c q r → Goes a (xs ++ ys) c p r
+goes_goes a b c xs ys p q r one two = record {
+  lines = one.lines ++ two.lines;
+  text = one.text ++ two.text;
+  cut = λ rest.
+      ap (λ octets. lines_from a.begun octets) (append_assoc xs ys rest) ∙ one.cut (ys ++ rest) ∙ ap (λ lines. one.lines ++ lines) (two.cut rest)
+      ∙ sym (append_assoc one.lines two.lines (lines_from c.begun rest));
+  told = text_append AnswersOrStarves a.session b.session c.session one.lines two.lines one.text two.text one.told two.told;
+  written = Appends-trans p q r one.text two.text one.written two.written;
+}
+
+-- one more octet of a piece
+pub goes_more : (a b c : ConsoleState) (piece : List ℕ) (i x : ℕ) (p q r : Option (List ℕ)) → i < length piece → x ≡ get_or piece i 0
+    → Goes a (take i piece) b p q → Goes b (x ∷ []) c q r → Goes a (take (i + 1) piece) c p r
+goes_more a b c piece i x p q r inside is one two =
+    subst (λ octets. Goes a octets c p r) (ap (λ y. take i piece ++ y ∷ []) is ∙ sym (take_more piece i 0 inside)) (goes_goes a b c (take i piece) (x ∷ []) p q r one two)

@@ -1,0 +1,146 @@
+-- A line has one answer, and lines have one text.
+use Rattle.std.proofs.Common.{◌≡◌, ◌⊎◌, inl, inr, ℕ, ◌+◌, Bool, true, false, Option, Some, None, Result, Ok, Err, List, [], ◌∷◌, ◌++◌, length, refl, sym, ap, ◌∙◌, subst}
+use Rattle.std.specs.Bool.{MatchBool}
+use Rattle.std.specs.Prelude.{MatchOption}
+use Rattle.cbsp_messages.specs.Faults.{IsFault}
+use Rattle.cbsp_messages.specs.MessageType.{type_with}
+use Rattle.cbsp_messages.specs.Spelling.{Spells}
+use Rattle.cbsp_messages.proofs.UniqueLemmas.{one_message_at_most, no_fault_if_spelled, one_fault_at_most}
+use Rattle.centre_core.specs.Legal.{past}
+use Rattle.centre_core.specs.Numbers.{board}
+use Rattle.centre_core.specs.Verdict.{verdict}
+use Rattle.centre_core.specs.declared.answer.Answer.{Answer}
+use Rattle.centre_core.specs.declared.event.Event.{Event}
+use Rattle.centre_core.specs.declared.event.Event.TheVariants as event
+use Rattle.centre_core.specs.declared.refusal.Refusal.{Refusal}
+use Rattle.centre_core.specs.declared.refusal.Refusal.TheVariants as refusal
+use Rattle.framing.specs.declared.frame.Frame.{Frame}
+use Rattle.console.specs.Frames.{IsFrame}
+use Rattle.console.specs.Generations.{generation_of}
+use Rattle.console.specs.Grammar.{line_of}
+use Rattle.console.specs.HexText.{octets_of, pages_of}
+use Rattle.console.specs.Sessions.{SessionState, Says, entered, with_link, Submits, BringsUp, Issues, AsksBoard, Reports, ReportsBody, ReportsFrame, ReportsOctets, is_report_type, Responds, is_comment, notice_of, AnswersLine, AnswersWords, Answers}
+use Rattle.console.specs.Text.{IsText, without_return}
+use Rattle.console.specs.Texts.{response_text}
+use Rattle.console.specs.Words.{words_of}
+use Rattle.console.specs.declared.heading.Heading.{Heading}
+use Rattle.console.specs.declared.line.Line.{Line}
+use Rattle.console.specs.declared.line.Line.TheVariants as line
+use Rattle.console.specs.declared.response.Response.{Response}
+use Rattle.console.specs.declared.response.Response.TheVariants as response
+use Rattle.console.proofs.FrameLemmas.{one_frame}
+
+-- the two answers are the same, and leave the same
+abbrev Same : Response → Response → SessionState → SessionState → Type 0
+Same r s new last = (r ≡ s) × (new ≡ last)
+
+says_one : (old : SessionState) (said r s : Response) (new last : SessionState) → Says old said r new → Says old said s last → Same r s new last
+says_one old said r s new last h k = (h.0 ∙ sym k.0, h.1 ∙ sym k.1)
+
+-- the answer of a verdict, and the session after it
+abbrev answer_of : SessionState → Result Answer Refusal → Response
+answer_of old (Ok a) = response.Accepted (length old.centre.journal + 1) a
+answer_of old (Err r) = response.Refused r
+
+abbrev session_of : SessionState → (Answer → SessionState) → Result Answer Refusal → SessionState
+session_of old after (Ok a) = after a
+session_of old after (Err r) = old
+
+submits_so : (old : SessionState) (e : Event) (r : Response) (new : SessionState) → Submits old e r new
+    → Same r (answer_of old (verdict old.centre.limit (past old.centre) e)) new (session_of old (entered old e) (verdict old.centre.limit (past old.centre) e))
+submits_so old e (response.Accepted number a) new h =
+    subst (λ v. Same (response.Accepted number a) (answer_of old v) new (session_of old (entered old e) v)) (sym h.0.0) (ap (λ n. response.Accepted n a) h.0.1, h.1)
+submits_so old e (response.Refused r) new h =
+    subst (λ v. Same (response.Refused r) (answer_of old v) new (session_of old (entered old e) v)) (sym h.0) (refl, h.1)
+submits_so old e _ new h = absurd h
+
+submits_one : (old : SessionState) (e : Event) (r s : Response) (new last : SessionState) → Submits old e r new → Submits old e s last → Same r s new last
+submits_one old e r s new last h k =
+    let one = submits_so old e r new h in let two = submits_so old e s last k in (one.0 ∙ sym two.0, one.1 ∙ sym two.1)
+
+brings_up_so : (old : SessionState) (b : ℕ) (r : Response) (new : SessionState) → BringsUp old b r new
+    → Same r (answer_of old (verdict old.centre.limit (past old.centre) (event.LinkUp b))) new
+    (session_of old (λ a. with_link b a (entered old (event.LinkUp b) a)) (verdict old.centre.limit (past old.centre) (event.LinkUp b)))
+brings_up_so old b (response.Accepted number a) new h =
+    subst (λ v. Same (response.Accepted number a) (answer_of old v) new (session_of old (λ x. with_link b x (entered old (event.LinkUp b) x)) v)) (sym h.0.0) (ap (λ n. response.Accepted n a) h.0.1, h.1)
+brings_up_so old b (response.Refused r) new h =
+    subst (λ v. Same (response.Refused r) (answer_of old v) new (session_of old (λ x. with_link b x (entered old (event.LinkUp b) x)) v)) (sym h.0) (refl, h.1)
+brings_up_so old b _ new h = absurd h
+
+brings_up_one : (old : SessionState) (b : ℕ) (r s : Response) (new last : SessionState) → BringsUp old b r new → BringsUp old b s last → Same r s new last
+brings_up_one old b r s new last h k =
+    let one = brings_up_so old b r new h in let two = brings_up_so old b s last k in (one.0 ∙ sym two.0, one.1 ∙ sym two.1)
+
+issues_one : (old : SessionState) (heading : Heading) (areas : List (List ℕ)) (pages : Option (List (List ℕ))) (r s : Response) (new last : SessionState)
+    → MatchOption pages (Says old response.BadHex r new) (λ ps. Submits old (event.Issue (notice_of heading ps) areas) r new)
+    → MatchOption pages (Says old response.BadHex s last) (λ ps. Submits old (event.Issue (notice_of heading ps) areas) s last) → Same r s new last
+issues_one old heading areas None r s new last h k = says_one old response.BadHex r s new last h k
+issues_one old heading areas (Some ps) r s new last h k = submits_one old (event.Issue (notice_of heading ps) areas) r s new last h k
+
+body_one : (old : SessionState) (b kind : ℕ) (body : List ℕ) (r s : Response) (new last : SessionState) → ReportsBody old b kind body r new → ReportsBody old b kind body s last
+    → Same r s new last
+body_one old b kind body r s new last (inl h) (inl k) =
+    submits_one old (event.Report b (generation_of old.kept b) k.0) r s new last
+    (subst (λ m. Submits old (event.Report b (generation_of old.kept b) m) r new) (one_message_at_most kind body h.0 k.0 h.1 k.1) h.2) k.2
+body_one old b kind body r s new last (inl h) (inr k) = absurd (no_fault_if_spelled kind body h.0 k.0 h.1 k.1)
+body_one old b kind body r s new last (inr h) (inl k) = absurd (no_fault_if_spelled kind body k.0 h.0 k.1 h.1)
+body_one old b kind body r s new last (inr h) (inr k) =
+    says_one old (response.BadMessage k.0) r s new last (subst (λ f. Says old (response.BadMessage f) r new) (one_fault_at_most kind body h.0 k.0 h.1 k.1) h.2) k.2
+
+frame_one : (old : SessionState) (b : ℕ) (frame : Frame) (is_report : Bool) (r s : Response) (new last : SessionState)
+    → MatchBool is_report (ReportsBody old b frame.kind frame.body r new) (Says old response.Skipped r new)
+    → MatchBool is_report (ReportsBody old b frame.kind frame.body s last) (Says old response.Skipped s last) → Same r s new last
+frame_one old b frame true r s new last h k = body_one old b frame.kind frame.body r s new last h k
+frame_one old b frame false r s new last h k = says_one old response.Skipped r s new last h k
+
+octets_one : (old : SessionState) (b : ℕ) (octets : List ℕ) (r s : Response) (new last : SessionState) → ReportsOctets old b octets r new → ReportsOctets old b octets s last
+    → Same r s new last
+octets_one old b octets r s new last (inl h) (inl k) =
+    frame_one old b k.0 (is_report_type (type_with k.0.kind)) r s new last (subst (λ f. ReportsFrame old b f r new) (one_frame octets h.0 k.0 h.1 k.1) h.2) k.2
+octets_one old b octets r s new last (inl h) (inr k) = absurd (k.0 h.0 h.1)
+octets_one old b octets r s new last (inr h) (inl k) = absurd (h.0 k.0 k.1)
+octets_one old b octets r s new last (inr h) (inr k) = says_one old response.BadFrame r s new last h.1 k.1
+
+reports_one : (old : SessionState) (b : ℕ) (octets : Option (List ℕ)) (r s : Response) (new last : SessionState)
+    → MatchOption octets (Says old response.BadHex r new) (λ xs. ReportsOctets old b xs r new)
+    → MatchOption octets (Says old response.BadHex s last) (λ xs. ReportsOctets old b xs s last) → Same r s new last
+reports_one old b None r s new last h k = says_one old response.BadHex r s new last h k
+reports_one old b (Some octets) r s new last h k = octets_one old b octets r s new last h k
+
+responds_one : (old : SessionState) (l : Line) (r s : Response) (new last : SessionState) → Responds old l r new → Responds old l s last → Same r s new last
+responds_one old (line.AddBsc b) r s new last h k = submits_one old (event.AddBsc b) r s new last h k
+responds_one old (line.AddCell c b) r s new last h k = submits_one old (event.AddCell c b) r s new last h k
+responds_one old (line.AddArea a) r s new last h k = submits_one old (event.AddArea a) r s new last h k
+responds_one old (line.Put a selector) r s new last h k = submits_one old (event.Put a selector) r s new last h k
+responds_one old (line.Issue heading pages areas) r s new last h k = issues_one old heading areas (pages_of pages) r s new last h k
+responds_one old (line.Up b) r s new last h k = brings_up_one old b r s new last h k
+responds_one old (line.Send b) r s new last h k = submits_one old (event.Send b (generation_of old.kept b)) r s new last h k
+responds_one old (line.Report b text) r s new last h k = reports_one old b (octets_of text) r s new last h k
+responds_one old (line.Board w) r s new last h k =
+    elim (board (past old.centre) w) as (λ o. MatchOption o (Says old (response.Refused refusal.NoSuchWarning) r new) (λ n. Says old (response.Board n) r new)
+    → MatchOption o (Says old (response.Refused refusal.NoSuchWarning) s last) (λ n. Says old (response.Board n) s last) → Same r s new last) [
+      | None ↦ λ x y. says_one old (response.Refused refusal.NoSuchWarning) r s new last x y
+      | Some n ↦ λ x y. says_one old (response.Board n) r s new last x y
+    ] h k
+
+line_one : (old : SessionState) (l : Option Line) (r s : Response) (new last : SessionState) → AnswersLine Responds old l r new → AnswersLine Responds old l s last → Same r s new last
+line_one old None r s new last h k = says_one old response.BadLine r s new last h k
+line_one old (Some l) r s new last h k = responds_one old l r s new last h k
+
+words_one : (old : SessionState) (words : List (List ℕ)) (r s : Response) (new last : SessionState) → AnswersWords Responds old words r new → AnswersWords Responds old words s last
+    → Same r s new last
+words_one old [] r s new last h k = says_one old response.Silence r s new last h k
+words_one old (w ∷ ws) r s new last h k =
+    elim (is_comment w) as (λ b. MatchBool b (Says old response.Silence r new) (AnswersLine Responds old (line_of (w ∷ ws)) r new)
+    → MatchBool b (Says old response.Silence s last) (AnswersLine Responds old (line_of (w ∷ ws)) s last) → Same r s new last) [
+      | true ↦ λ x y. says_one old response.Silence r s new last x y
+      | false ↦ λ x y. line_one old (line_of (w ∷ ws)) r s new last x y
+    ] h k
+
+pub one_text : (old : SessionState) (lines : List (List ℕ)) (new last : SessionState) (text other : List ℕ) → IsText old lines new text → IsText old lines last other
+    → (new ≡ last) × (text ≡ other)
+one_text old [] new last text other h k = (h.0 ∙ sym k.0, h.1 ∙ sym k.1)
+one_text old (l ∷ lines) new last text other h k =
+    let same = words_one old (words_of (without_return l)) h.0 k.0 h.1 k.1 h.4 k.4 in
+    let rest = one_text k.1 lines new last h.2 k.2 (subst (λ session. IsText session lines new h.2) same.1 h.5) k.5 in
+    (rest.0, h.6 ∙ ap (λ r. response_text r ++ h.2) same.0 ∙ ap (λ t. response_text k.0 ++ t) rest.1 ∙ sym k.6)

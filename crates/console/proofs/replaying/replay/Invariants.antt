@@ -1,0 +1,12 @@
+use Rattle.std.proofs.Common.{◌≡◌}
+use Rattle.framing.specs.Source.{counted}
+use Rattle.console.specs.Consoles.{Reads}
+use Rattle.console.proofs.replaying.replay.Given as goal
+
+-- the console has taken what was read, and no read or write failed
+abbrev pub invariant-loop-turn : goal.invariant-loop-turn
+invariant-loop-turn g l = record {
+  reads : Reads l.initial.console l.console (g.R.Source.remaining l.initial.reader) (g.R.Source.remaining l.reader) (g.W.Sink.written l.initial.writer) (g.W.Sink.written l.writer);
+  calls : g.R.Source.calls l.reader ≡ counted (g.R.Source.calls l.initial.reader) l._turn;
+  fine : g.W.Sink.has_failed l.writer ≡ g.W.Sink.has_failed l.initial.writer;
+}

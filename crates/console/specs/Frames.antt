@@ -1,0 +1,12 @@
+-- Octets that are exactly one frame.
+use Rattle.std.specs.Prelude.{◌≡◌, ℕ, ◌≤◌, List, length}
+use Rattle.framing.specs.Streams.{frame_octets, longest_body}
+use Rattle.framing.specs.declared.frame.Frame.{Frame}
+
+-- the octets are the frame, and its body is no longer than is read
+pub record IsFrame (octets : List ℕ) (frame : Frame) : Type 0 where
+  pub whole : octets ≡ frame_octets frame
+  pub readable : length frame.body ≤ longest_body
+
+abbrev pub IsNoFrame : List ℕ → Type 0
+IsNoFrame octets = (frame : Frame) → IsFrame octets frame → ⊥

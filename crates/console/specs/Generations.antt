@@ -1,0 +1,15 @@
+-- The generation kept for each BSC: that of its last link in this run, 0 if none.
+use Rattle.std.specs.Prelude.{ℕ, ◌==◌, List, [], ◌∷◌, if◌then◌else◌}
+use Rattle.console.specs.declared.kept.Kept.{Kept}
+
+abbrev pub kept : ℕ → ℕ → Kept
+kept b generation = record { bsc = b; generation = generation }
+
+abbrev pub generation_of : List Kept → ℕ → ℕ
+generation_of [] b = 0
+generation_of (k ∷ ks) b = if k.bsc == b then k.generation else generation_of ks b
+
+-- another generation for the BSC, in place of the one that was kept
+abbrev pub with_generation : ℕ → ℕ → List Kept → List Kept
+with_generation b generation [] = kept b generation ∷ []
+with_generation b generation (k ∷ ks) = if k.bsc == b then kept b generation ∷ ks else k ∷ with_generation b generation ks

@@ -1,0 +1,82 @@
+-- The lines that an operator may write, by their words.
+use Rattle.std.specs.Prelude.{ℕ, ◌&&◌, ◌==◌, List, [], ◌∷◌, Option, Some, None, bytes_eq, codes, if◌then◌else◌}
+use Rattle.std.specs.Option.{option_map}
+use Rattle.cbsp_ie.specs.declared.cell.Cell.{Cell}
+use Rattle.centre_core.specs.declared.areas.selector.Selector.TheVariants as selector
+use Rattle.centre_core.specs.declared.serials.scope.Scope.{Scope}
+use Rattle.centre_core.specs.declared.serials.scope.Scope.TheVariants as scope
+use Rattle.console.specs.Numbers.{number_in}
+use Rattle.console.specs.Parts.{parts_of}
+use Rattle.console.specs.declared.heading.Heading.{Heading}
+use Rattle.console.specs.declared.line.Line.{Line}
+use Rattle.console.specs.declared.line.Line.TheVariants.{AddBsc, AddCell, AddArea, Put, Issue, Up, Send, Report, Board}
+
+-- f of what is there
+abbrev pub if_some : {A B : Type 0} → Option A → (A → Option B) → Option B
+if_some None f = None
+if_some (Some x) f = f x
+
+-- B
+abbrev pub bsc_of : List ℕ → Option ℕ
+bsc_of word = number_in 1 65535 word
+
+-- L, C, M or PERIOD
+abbrev pub two_octets_of : List ℕ → Option ℕ
+two_octets_of word = number_in 0 65535 word
+
+-- W
+abbrev pub warning_of : List ℕ → Option ℕ
+warning_of word = number_in 0 4294967295 word
+
+-- L and C
+abbrev pub cell_of : List ℕ → List ℕ → Option Cell
+cell_of lac ci = if_some (two_octets_of lac) (λ l. if_some (two_octets_of ci) (λ c. Some (record { lac = l; ci = c })))
+
+-- SCOPE
+abbrev pub scope_with : ℕ → Scope
+scope_with n = if n == 0 then scope.CellImmediate else (if n == 1 then scope.Plmn else (if n == 2 then scope.LocationArea else scope.Cell))
+
+abbrev pub scope_of : List ℕ → Option Scope
+scope_of word = option_map scope_with (number_in 0 3 word)
+
+-- AREAS: names are joined by `,`, which is 44; `-` alone is none
+abbrev pub names_of : List ℕ → List (List ℕ)
+names_of word = if bytes_eq word (codes "-") then [] else parts_of 44 word
+
+-- L, C and B of `cell add L C B`
+abbrev pub add_cell : List ℕ → List ℕ → List ℕ → Option Line
+add_cell lac ci bsc = if_some (cell_of lac ci) (λ c. if_some (bsc_of bsc) (λ b. Some (AddCell c b)))
+
+-- M SCOPE DCS CAT PERIOD of `issue`
+abbrev pub heading_of : List ℕ → List ℕ → List ℕ → List ℕ → List ℕ → Option Heading
+heading_of message_id scope dcs category period =
+    if_some (two_octets_of message_id) (λ m.
+    if_some (scope_of scope) (λ s.
+    if_some (number_in 0 255 dcs) (λ d.
+    if_some (number_in 0 2 category) (λ k.
+    if_some (two_octets_of period) (λ p.
+    Some (record { message_id = m; scope = s; dcs = d; category = k; period = p }))))))
+
+-- the line of the words, by how many they are; there is no other line
+abbrev pub line_of : List (List ℕ) → Option Line
+line_of (verb ∷ x ∷ []) =
+    if bytes_eq verb (codes "up") then option_map Up (bsc_of x)
+    else if bytes_eq verb (codes "send") then option_map Send (bsc_of x)
+    else if bytes_eq verb (codes "board") then option_map Board (warning_of x)
+    else None
+line_of (verb ∷ x ∷ y ∷ []) =
+    if bytes_eq verb (codes "bsc") && bytes_eq x (codes "add") then option_map AddBsc (bsc_of y)
+    else if bytes_eq verb (codes "area") && bytes_eq x (codes "add") then Some (AddArea y)
+    else if bytes_eq verb (codes "rx") then option_map (λ b. Report b y) (bsc_of x)
+    else None
+line_of (verb ∷ x ∷ name ∷ lac ∷ []) =
+    if bytes_eq verb (codes "area") && bytes_eq x (codes "put") then option_map (λ l. Put name (selector.Lac l)) (two_octets_of lac)
+    else None
+line_of (verb ∷ x ∷ y ∷ z ∷ t ∷ []) =
+    if bytes_eq verb (codes "cell") && bytes_eq x (codes "add") then add_cell y z t
+    else if bytes_eq verb (codes "area") && bytes_eq x (codes "put") then option_map (λ c. Put y (selector.Cell c)) (cell_of z t)
+    else None
+line_of (verb ∷ message_id ∷ scope ∷ dcs ∷ category ∷ period ∷ pages ∷ areas ∷ []) =
+    if bytes_eq verb (codes "issue") then option_map (λ h. Issue h pages (names_of areas)) (heading_of message_id scope dcs category period)
+    else None
+line_of words = None

@@ -1,0 +1,14 @@
+pub mod Grammar
+pub mod HexText
+pub mod Numbers
+pub mod Parts
+pub mod Words
+pub mod Texts
+pub mod Frames
+pub mod Generations
+pub mod Sessions
+pub mod Text
+pub mod Consoles
+pub mod Replays
+pub mod Running
+pub mod Laws

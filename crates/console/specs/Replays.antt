@@ -1,0 +1,51 @@
+-- A whole run: what is written is the text of what was read.
+use Rattle.std.specs.Prelude.{◌≡◌, ◌⊎◌, ℕ, List, [], ◌∷◌, ◌++◌, Option}
+use Rattle.std.specs.Io.KnownBytes.{Appends, Consumes, IsAtEnd}
+use Rattle.centre_core.specs.declared.refusal.Refusal.TheVariants as refusal
+use Rattle.console.specs.Consoles.{Behind, IsWritten}
+use Rattle.console.specs.Sessions.{SessionState}
+use Rattle.console.specs.Text.{lines_of, IsText, IsTextOrStarves}
+use Rattle.console.specs.Texts.{refused_text}
+use Rattle.console.specs.declared.fault.ReplayFault.{ReplayFault}
+
+-- a session in which nothing has happened
+abbrev pub new_session : List ℕ → ℕ → SessionState
+new_session plmn limit = record { centre = record { plmn = plmn; limit = limit; journal = [] }; kept = [] }
+
+-- memory was wanting for an event: the lines before it have their text, and nothing came of it
+pub record MeetsWant (old : SessionState) (lines : List (List ℕ)) (new : SessionState) (text : List ℕ) : Type 0 where
+  pub front : List (List ℕ)
+  pub line : List ℕ
+  pub back : List (List ℕ)
+  pub session : SessionState
+  pub answered : List ℕ
+  pub rest : List ℕ
+  pub cut : lines ≡ front ++ line ∷ back
+  pub told : IsText old front session answered
+  pub more : IsTextOrStarves session back new rest
+  pub text_is : text ≡ answered ++ (refused_text refusal.Memory ++ rest)
+
+-- all of the input was read, and its text written
+pub record Replays (start : SessionState) (given left before after : Option (List ℕ)) : Type 0 where
+  pub octets : List ℕ
+  pub session : SessionState
+  pub text : List ℕ
+  pub consumed : Consumes given left octets
+  pub ended : IsAtEnd left
+  pub told : IsText start (lines_of octets) session text ⊎ MeetsWant start (lines_of octets) session text
+  pub written : Appends before after text
+
+-- a fault ended the run: some of the lines that were read are answered, and what is written is a front of their text
+pub record BreaksOff (start : SessionState) (given left before after : Option (List ℕ)) (fault : ReplayFault) : Type 0 where
+  pub octets : List ℕ
+  pub lines : List (List ℕ)
+  pub back : List (List ℕ)
+  pub session : SessionState
+  pub text : List ℕ
+  pub part : List ℕ
+  pub consumed : Consumes given left octets
+  pub cut : lines_of octets ≡ lines ++ back
+  pub behind : Behind fault back
+  pub told : IsText start lines session text ⊎ MeetsWant start lines session text
+  pub written : IsWritten fault text part
+  pub appended : Appends before after part

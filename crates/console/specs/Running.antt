@@ -1,0 +1,58 @@
+-- How a run of the program ends.
+use Rattle.std.specs.Prelude.{◌≡◌, ◌⊎◌, ℕ, ◌==◌, List, ◌++◌, Option, codes}
+use Rattle.std.specs.Bool.{MatchBool}
+use Rattle.std.specs.Io.KnownBytes.{Appends}
+use Rattle.framing.specs.Sink.{AppendsFront}
+use Rattle.console.specs.Replays.{new_session, Replays, BreaksOff}
+use Rattle.console.specs.Sessions.{SessionState}
+use Rattle.console.specs.Texts.{newline}
+use Rattle.console.specs.declared.fault.ReplayFault.{ReplayFault}
+use Rattle.console.specs.declared.fault.ReplayFault.TheVariants.{ReadFault, WriteFault, Memory, LongLine}
+
+-- what is said of a fault
+abbrev pub fault_words : ReplayFault → List ℕ
+fault_words ReadFault = codes "cbc: read fault" ++ newline
+fault_words WriteFault = codes "cbc: write fault" ++ newline
+fault_words Memory = codes "cbc: out of memory" ++ newline
+fault_words LongLine = codes "cbc: line too long" ++ newline
+
+-- the text is written, or a front of it where a write fails
+abbrev pub Tells : Option (List ℕ) → Option (List ℕ) → List ℕ → Type 0
+Tells before after text = Appends before after text ⊎ AppendsFront before after text
+
+-- what a run has read, what it has yet to read, what it has written, and what it has said
+pub record Streams : Type 0 where
+  pub input : Option (List ℕ)
+  pub output : Option (List ℕ)
+  pub errors : Option (List ℕ)
+
+-- a script was run to its end
+abbrev pub RunsWhole : SessionState → Streams → Streams → Type 0
+RunsWhole start old new = Replays start old.input new.input old.output new.output × (new.errors ≡ old.errors)
+
+-- a fault ended it, and was said
+pub record RunsInPart (start : SessionState) (old new : Streams) : Type 0 where
+  pub fault : ReplayFault
+  pub broke : BreaksOff start old.input new.input old.output new.output fault
+  pub told : Tells old.errors new.errors (fault_words fault)
+
+-- the status of a run of a script
+abbrev pub Runs : SessionState → Streams → Streams → ℕ → Type 0
+Runs start old new status = MatchBool (status == 0) (RunsWhole start old new) ((status ≡ 1) × RunsInPart start old new)
+
+-- no script was run: help is written, or the fault is said that is the cause
+pub record RunsNone (old new : Streams) (status : ℕ) : Type 0 where
+  pub said : List ℕ
+  pub unread : new.input ≡ old.input
+  pub answered : MatchBool (status == 0) (Appends old.output new.output said × (new.errors ≡ old.errors)) (Tells old.errors new.errors said)
+  pub silent : status ≡ 2 → new.output ≡ old.output
+  pub least : (status ≡ 0) ⊎ ((status ≡ 1) ⊎ (status ≡ 2))
+
+-- a script was run with some options, or none was
+pub record RunsSome (old new : Streams) (status : ℕ) : Type 0 where
+  pub plmn : List ℕ
+  pub limit : ℕ
+  pub runs : Runs (new_session plmn limit) old new status
+
+abbrev pub Ends : Streams → Streams → ℕ → Type 0
+Ends old new status = RunsSome old new status ⊎ RunsNone old new status

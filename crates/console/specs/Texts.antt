@@ -1,0 +1,131 @@
+-- What an operator is answered, line by line.
+use Rattle.std.specs.Prelude.{ℕ, List, [], ◌∷◌, ◌++◌, length, Option, Some, None, codes, decimal}
+use Rattle.std.specs.Int.{bytes_high_first}
+use Rattle.hex.specs.Hex.{encode_lower, encode_upper}
+use Rattle.cbsp_ie.specs.ElementId.{code_of}
+use Rattle.cbsp_ie.specs.declared.ie_fault.IeFault.TheVariants as element_fault
+use Rattle.cbsp_messages.specs.Faults.{number_of}
+use Rattle.cbsp_messages.specs.Written.{frame_of}
+use Rattle.cbsp_messages.specs.declared.fault.MessageFault.{MessageFault}
+use Rattle.cbsp_messages.specs.declared.fault.MessageFault.TheVariants as fault
+use Rattle.centre_core.specs.Fits.{AnswerFits}
+use Rattle.centre_core.specs.Refusals.{refusal_number}
+use Rattle.centre_core.specs.declared.answer.Answer.{Answer}
+use Rattle.centre_core.specs.declared.answer.Answer.TheVariants as answer
+use Rattle.centre_core.specs.declared.coverage_board.numbers.Numbers.{Numbers}
+use Rattle.centre_core.specs.declared.refusal.Limit.{Limit}
+use Rattle.centre_core.specs.declared.refusal.Limit.TheVariants as limit
+use Rattle.centre_core.specs.declared.refusal.Refusal.{Refusal}
+use Rattle.centre_core.specs.declared.refusal.Refusal.TheVariants as refusal
+use Rattle.console.specs.declared.response.Response.{Response}
+use Rattle.console.specs.declared.response.Response.TheVariants.{Silence, BadLine, BadHex, BadFrame, Skipped, BadMessage, Accepted, Refused, Board}
+
+-- the end of a line
+abbrev pub newline : List ℕ
+newline = 10 ∷ []
+
+abbrev pub limit_name : Limit → List ℕ
+limit_name limit.Bscs = codes "Bscs"
+limit_name limit.Cells = codes "Cells"
+limit_name limit.Areas = codes "Areas"
+limit_name limit.Selectors = codes "Selectors"
+limit_name limit.Warnings = codes "Warnings"
+limit_name limit.WarningAreas = codes "WarningAreas"
+limit_name limit.Ids = codes "Ids"
+
+abbrev pub refusal_name : Refusal → List ℕ
+refusal_name refusal.JournalFull = codes "JournalFull"
+refusal_name refusal.NoSuchBsc = codes "NoSuchBsc"
+refusal_name refusal.BscExists = codes "BscExists"
+refusal_name refusal.CellExists = codes "CellExists"
+refusal_name refusal.BadName = codes "BadName"
+refusal_name refusal.AreaExists = codes "AreaExists"
+refusal_name refusal.NoSuchArea = codes "NoSuchArea"
+refusal_name refusal.SelectorThere = codes "SelectorThere"
+refusal_name refusal.NoSuchWarning = codes "NoSuchWarning"
+refusal_name refusal.NoAreas = codes "NoAreas"
+refusal_name refusal.AreaThere = codes "AreaThere"
+refusal_name refusal.BadPages = codes "BadPages"
+refusal_name refusal.BadPeriod = codes "BadPeriod"
+refusal_name (refusal.StaleLink now) = codes "StaleLink"
+refusal_name refusal.LinkNotUp = codes "LinkNotUp"
+refusal_name refusal.InFlight = codes "InFlight"
+refusal_name refusal.NothingPending = codes "NothingPending"
+refusal_name refusal.NoOrder = codes "NoOrder"
+refusal_name (refusal.Limit which) = codes "Limit"
+refusal_name refusal.Memory = codes "Memory"
+
+-- what follows the name: the latest link's generation, or the limit that would be passed
+abbrev pub refusal_detail : Refusal → List ℕ
+refusal_detail (refusal.StaleLink now) = codes " " ++ (decimal now ++ newline)
+refusal_detail (refusal.Limit which) = codes " " ++ (limit_name which ++ newline)
+refusal_detail other = newline
+
+abbrev pub refused_text : Refusal → List ℕ
+refused_text r = codes "no " ++ (decimal (refusal_number r) ++ (codes " " ++ (refusal_name r ++ refusal_detail r)))
+
+-- the four digits of a serial number
+abbrev pub serial_text : ℕ → List ℕ
+serial_text s = encode_upper (bytes_high_first 2 s)
+
+-- what follows the entry's number
+abbrev pub answer_text : Answer → List ℕ
+answer_text answer.Done = newline
+answer_text (answer.Issued n s) = codes " warning " ++ (decimal n ++ (codes " serial " ++ (serial_text s ++ newline)))
+answer_text (answer.Link generation) = codes " link " ++ (decimal generation ++ newline)
+answer_text (answer.Sent order message) = codes " tx " ++ (encode_lower (frame_of message) ++ newline)
+answer_text (answer.Replied replies) = codes " cells " ++ (decimal (length replies) ++ newline)
+
+abbrev pub accepted_text : ℕ → Answer → List ℕ
+accepted_text number a = codes "ok " ++ (decimal number ++ answer_text a)
+
+abbrev pub fault_name : MessageFault → List ℕ
+fault_name (fault.Element element_fault.Cut) = codes "Cut"
+fault_name (fault.Element (element_fault.UnknownElement id)) = codes "UnknownElement"
+fault_name (fault.Element (element_fault.BadDiscriminator discriminator)) = codes "BadDiscriminator"
+fault_name (fault.Element element_fault.PartialEntry) = codes "PartialEntry"
+fault_name (fault.Element element_fault.LongPage) = codes "LongPage"
+fault_name (fault.Repeated id) = codes "Repeated"
+fault_name (fault.Missing id) = codes "Missing"
+fault_name fault.BadPages = codes "BadPages"
+fault_name fault.NotInProfile = codes "NotInProfile"
+fault_name fault.Memory = codes "Memory"
+
+-- the octet that the fault speaks of
+abbrev pub fault_value : MessageFault → Option ℕ
+fault_value (fault.Element (element_fault.UnknownElement id)) = Some id
+fault_value (fault.Element (element_fault.BadDiscriminator discriminator)) = Some discriminator
+fault_value (fault.Repeated id) = Some (code_of id)
+fault_value (fault.Missing id) = Some (code_of id)
+fault_value other = None
+
+abbrev pub number_text : Option ℕ → List ℕ
+number_text None = []
+number_text (Some n) = codes " " ++ decimal n
+
+abbrev pub value_text : Option ℕ → List ℕ
+value_text None = []
+value_text (Some v) = codes " " ++ encode_upper (v ∷ [])
+
+abbrev pub fault_text : MessageFault → List ℕ
+fault_text f = codes "bad message" ++ (number_text (number_of f) ++ (codes " " ++ (fault_name f ++ (value_text (fault_value f) ++ newline))))
+
+abbrev pub board_text : Numbers → List ℕ
+board_text n = codes "awaited " ++ (decimal n.awaited ++ (codes " onair " ++ (decimal n.on_air ++ (codes " failed " ++ (decimal n.failed ++ (codes " left " ++ (decimal n.left ++ (codes " broadcasts " ++ (decimal n.broadcasts ++ newline)))))))))
+
+-- the answer's lines
+abbrev pub response_text : Response → List ℕ
+response_text Silence = []
+response_text BadLine = codes "bad line" ++ newline
+response_text BadHex = codes "bad hex" ++ newline
+response_text BadFrame = codes "bad frame" ++ newline
+response_text Skipped = codes "skipped" ++ newline
+response_text (BadMessage f) = fault_text f
+response_text (Accepted number a) = accepted_text number a
+response_text (Refused r) = refused_text r
+response_text (Board numbers) = board_text numbers
+
+-- the message of an order that is answered can be written
+abbrev pub ResponseFits : Response → Type 0
+ResponseFits (Accepted number a) = AnswerFits a
+ResponseFits other = Unit {0}

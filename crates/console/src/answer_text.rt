@@ -1,0 +1,192 @@
+//! The texts of answers.
+
+ghost use Rattle.std.specs.Prelude.{◌≡◌, IfOk, string_bytes};
+ghost use Rattle.centre_core.specs.Fits.{AnswerFits};
+ghost use Rattle.console.specs.Texts.{limit_name, refusal_name, refused_text, serial_text, accepted_text, fault_name, fault_value, fault_text, number_text, value_text, board_text, response_text, ResponseFits};
+
+use crate::response::Response;
+use cbsp_ie::IeFault;
+use cbsp_messages::{MessageFault, write};
+use centre_core::answer::Answer;
+use centre_core::coverage_board::Numbers;
+use centre_core::refusal::{Limit, Refusal};
+use centre_core::serials::Serial;
+use std::alloc::{AllocError, Global};
+
+/// The text of the answer.
+pub fn response_text(alloc: Global, response: Response) -> Result<String, AllocError>
+    requires { ResponseFits response }
+    ensures { IfOk result (λ text. string_bytes text ≡ response_text response) }
+{
+    match response {
+        Response::Silence => Ok(String::new(alloc)),
+        Response::BadLine => String::from_str(alloc, "bad line\n"),
+        Response::BadHex => String::from_str(alloc, "bad hex\n"),
+        Response::BadFrame => String::from_str(alloc, "bad frame\n"),
+        Response::Skipped => String::from_str(alloc, "skipped\n"),
+        Response::BadMessage(fault) => fault_text(alloc, fault),
+        Response::Accepted { number, answer } => accepted_text(alloc, number, &answer),
+        Response::Refused(refusal) => refused_text(alloc, refusal),
+        Response::Board(numbers) => board_text(alloc, numbers),
+    }
+}
+
+fn accepted_text(alloc: Global, number: u64, answer: &Answer) -> Result<String, AllocError>
+    requires { AnswerFits answer.now }
+    ensures { IfOk result (λ text. string_bytes text ≡ accepted_text number answer.now) }
+{
+    match answer {
+        Answer::Done => format!(in alloc; "ok {number}\n"),
+        Answer::Issued(warning, serial) => {
+            let warning = warning.number();
+            let serial = serial_text(alloc, *serial)?;
+            format!(in alloc; "ok {number} warning {warning} serial {serial}\n")
+        }
+        Answer::Link(generation) => format!(in alloc; "ok {number} link {generation}\n"),
+        Answer::Sent { order: _, message } => {
+            let octets = write(alloc, message)?;
+            let digits = hex::encode(alloc, octets.as_slice())?;
+            format!(in alloc; "ok {number} tx {digits}\n")
+        }
+        Answer::Replied(replies) => {
+            let cells = replies.as_slice().len();
+            format!(in alloc; "ok {number} cells {cells}\n")
+        }
+    }
+}
+
+fn serial_text(alloc: Global, serial: Serial) -> Result<String, AllocError>
+    ensures { IfOk result (λ text. string_bytes text ≡ serial_text serial) }
+{
+    let octets = serial.to_u16().to_be_bytes();
+    hex::encode_upper(alloc, octets)
+}
+
+fn refused_text(alloc: Global, refusal: Refusal) -> Result<String, AllocError>
+    ensures { IfOk result (λ text. string_bytes text ≡ refused_text refusal) }
+{
+    let number = refusal.number();
+    let name = refusal_name(refusal);
+    match refusal {
+        Refusal::StaleLink { now } => format!(in alloc; "no {number} {name} {now}\n"),
+        Refusal::Limit { which } => {
+            let which = limit_name(which);
+            format!(in alloc; "no {number} {name} {which}\n")
+        }
+        _ => format!(in alloc; "no {number} {name}\n"),
+    }
+}
+
+fn limit_name(limit: Limit) -> &'static str
+    ensures { result.now ≡ limit_name limit }
+{
+    match limit {
+        Limit::Bscs => "Bscs",
+        Limit::Cells => "Cells",
+        Limit::Areas => "Areas",
+        Limit::Selectors => "Selectors",
+        Limit::Warnings => "Warnings",
+        Limit::WarningAreas => "WarningAreas",
+        Limit::Ids => "Ids",
+    }
+}
+
+fn refusal_name(refusal: Refusal) -> &'static str
+    ensures { result.now ≡ refusal_name refusal }
+{
+    match refusal {
+        Refusal::JournalFull => "JournalFull",
+        Refusal::NoSuchBsc => "NoSuchBsc",
+        Refusal::BscExists => "BscExists",
+        Refusal::CellExists => "CellExists",
+        Refusal::BadName => "BadName",
+        Refusal::AreaExists => "AreaExists",
+        Refusal::NoSuchArea => "NoSuchArea",
+        Refusal::SelectorThere => "SelectorThere",
+        Refusal::NoSuchWarning => "NoSuchWarning",
+        Refusal::NoAreas => "NoAreas",
+        Refusal::AreaThere => "AreaThere",
+        Refusal::BadPages => "BadPages",
+        Refusal::BadPeriod => "BadPeriod",
+        Refusal::StaleLink { .. } => "StaleLink",
+        Refusal::LinkNotUp => "LinkNotUp",
+        Refusal::InFlight => "InFlight",
+        Refusal::NothingPending => "NothingPending",
+        Refusal::NoOrder => "NoOrder",
+        Refusal::Limit { .. } => "Limit",
+        Refusal::Memory => "Memory",
+    }
+}
+
+fn fault_text(alloc: Global, fault: MessageFault) -> Result<String, AllocError>
+    ensures { IfOk result (λ text. string_bytes text ≡ fault_text fault) }
+{
+    let number = number_text(alloc, fault.number())?;
+    let name = fault_name(fault);
+    let value = value_text(alloc, fault_value(fault))?;
+    format!(in alloc; "bad message{number} {name}{value}\n")
+}
+
+fn number_text(alloc: Global, number: Option<u8>) -> Result<String, AllocError>
+    ensures { IfOk result (λ text. string_bytes text ≡ number_text number) }
+{
+    match number {
+        Some(number) => format!(in alloc; " {number}"),
+        None => Ok(String::new(alloc)),
+    }
+}
+
+fn value_text(alloc: Global, value: Option<u8>) -> Result<String, AllocError>
+    ensures { IfOk result (λ text. string_bytes text ≡ value_text value) }
+{
+    match value {
+        Some(value) => {
+            let digits = hex::encode_upper(alloc, [value])?;
+            format!(in alloc; " {digits}")
+        }
+        None => Ok(String::new(alloc)),
+    }
+}
+
+fn fault_value(fault: MessageFault) -> Option<u8>
+    ensures { result ≡ fault_value fault }
+{
+    match fault {
+        MessageFault::Element(IeFault::UnknownElement { id }) => Some(id),
+        MessageFault::Element(IeFault::BadDiscriminator { discriminator }) => Some(discriminator),
+        MessageFault::Repeated { id } | MessageFault::Missing { id } => Some(id.code()),
+        _ => None,
+    }
+}
+
+fn fault_name(fault: MessageFault) -> &'static str
+    ensures { result.now ≡ fault_name fault }
+{
+    match fault {
+        MessageFault::Element(IeFault::Cut) => "Cut",
+        MessageFault::Element(IeFault::UnknownElement { .. }) => "UnknownElement",
+        MessageFault::Element(IeFault::BadDiscriminator { .. }) => "BadDiscriminator",
+        MessageFault::Element(IeFault::PartialEntry) => "PartialEntry",
+        MessageFault::Element(IeFault::LongPage) => "LongPage",
+        MessageFault::Repeated { .. } => "Repeated",
+        MessageFault::Missing { .. } => "Missing",
+        MessageFault::BadPages => "BadPages",
+        MessageFault::NotInProfile => "NotInProfile",
+        MessageFault::Memory => "Memory",
+    }
+}
+
+fn board_text(alloc: Global, numbers: Numbers) -> Result<String, AllocError>
+    ensures { IfOk result (λ text. string_bytes text ≡ board_text numbers) }
+{
+    let Numbers {
+        awaited,
+        on_air,
+        failed,
+        left,
+        broadcasts,
+    } = numbers;
+    format!(in alloc;
+        "awaited {awaited} onair {on_air} failed {failed} left {left} broadcasts {broadcasts}\n"
+    )
+}

@@ -1,0 +1,110 @@
+//! A session that takes octets and answers their lines.
+
+ghost use Rattle.std.specs.Prelude.{◌≡◌};
+ghost use Rattle.console.specs.Text.{without_return};
+
+use crate::answer_text::response_text;
+use crate::fault::ReplayFault;
+use crate::session::Session;
+use framing::{Sink, write_all};
+use std::alloc::Global;
+use std::marker::Model;
+
+/// The most octets that a line may have, without its end.
+const LONGEST_LINE: usize = 600_000;
+
+/// A session, and the octets of the line that has begun.
+#[derive(Drop)]
+pub struct Console {
+    alloc: Global,
+    session: Session,
+    begun: Vec<u8>,
+}
+
+impl Model for Console {
+    ghost use Rattle.console.specs.Consoles.{ConsoleState};
+
+    ghost Value = { ConsoleState };
+
+    ghost view = { λ s. record { session = s.session; begun = s.begun.items } };
+}
+
+impl Console {
+    ghost use Rattle.std.specs.Prelude.{◌≡◌, ◌≤◌, ◌||◌, ◌∷◌, [], false, OnOk, IfErr};
+    ghost use Rattle.console.specs.Consoles.{EndsLine, BreaksLine, Goes, Stops, is_read_fault, is_write_fault};
+
+    pub fn new(alloc: Global, plmn: [u8; 3], journal_limit: u32) -> Console
+        requires { journal_limit ≤ 4000000 }
+        ensures { result ≡ record { session = record { centre = record { plmn = plmn; limit = journal_limit; journal = [] }; kept = [] }; begun = [] } }
+    {
+        Console {
+            alloc,
+            session: Session::new(alloc, plmn, journal_limit),
+            begun: Vec::new(alloc),
+        }
+    }
+
+    /// Answers the line that has begun.
+    pub fn end_line<W: Sink>(&mut self, writer: &mut W) -> Result<(), ReplayFault>
+        ensures ok { OnOk result (EndsLine self.old self.new (W.written writer.old) (W.written writer.new)) }
+        ensures err { IfErr result (BreaksLine self.old (W.written writer.old) (W.written writer.new)) }
+        ensures failed { W.has_failed writer.new ≡ (is_write_fault result || W.has_failed writer.old) }
+        ensures reads { is_read_fault result ≡ false }
+    {
+        let line = without_return(&self.begun);
+        if LONGEST_LINE < line.len() {
+            return Err(ReplayFault::LongLine);
+        }
+        let response = self.session.answer(line)?;
+        let text = response_text(self.alloc, response)?;
+        match write_all(writer, text.as_bytes()) {
+            Ok(()) => {
+                self.begun.clear();
+                Ok(())
+            }
+            Err(_) => Err(ReplayFault::WriteFault),
+        }
+    }
+
+    /// Takes the next octet of the input.
+    #[tactic(auto, using(crate::proofs::TextLemmas::goes_line, crate::proofs::TextLemmas::goes_octet, crate::proofs::StopLemmas::stops_at_line, crate::proofs::StopLemmas::stops_at_long, crate::proofs::StopLemmas::stops_starved))]
+    pub fn take_octet<W: Sink>(&mut self, octet: u8, writer: &mut W) -> Result<(), ReplayFault>
+        ensures ok { OnOk result (Goes self.old (octet ∷ []) self.new (W.written writer.old) (W.written writer.new)) }
+        ensures err { IfErr result (Stops self.old (octet ∷ []) (W.written writer.old) (W.written writer.new)) }
+        ensures failed { W.has_failed writer.new ≡ (is_write_fault result || W.has_failed writer.old) }
+        ensures reads { is_read_fault result ≡ false }
+    {
+        if octet == b'\n' {
+            self.end_line(writer)?;
+            return Ok(());
+        }
+        if LONGEST_LINE < self.begun.len() {
+            return Err(ReplayFault::LongLine);
+        }
+        self.begun.push(octet)?;
+        Ok(())
+    }
+
+    /// Takes the next octets of the input.
+    pub fn take_piece<W: Sink>(&mut self, piece: &[u8], writer: &mut W) -> Result<(), ReplayFault>
+        ensures ok { OnOk result (Goes self.old piece.now self.new (W.written writer.old) (W.written writer.new)) }
+        ensures err { IfErr result (Stops self.old piece.now (W.written writer.old) (W.written writer.new)) }
+        ensures failed { W.has_failed writer.new ≡ (is_write_fault result || W.has_failed writer.old) }
+        ensures reads { is_read_fault result ≡ false }
+    {
+        for octet in piece {
+            self.take_octet(*octet, writer)?;
+        }
+        Ok(())
+    }
+}
+
+/// The line without one carriage return at its end.
+fn without_return(line: &[u8]) -> &[u8]
+    ensures { result.now ≡ without_return line.now }
+{
+    match line {
+        [front @ .., b'\r'] => front,
+        _ => line,
+    }
+}

@@ -1,0 +1,246 @@
+//! The lines that an operator may write.
+
+ghost use Rattle.std.specs.Prelude.{◌≡◌, [], ◌∷◌, IfOk};
+ghost use Rattle.console.specs.Grammar.{bsc_of, two_octets_of, warning_of, cell_of, scope_of, names_of, add_cell, heading_of, line_of};
+
+use crate::heading::Heading;
+use crate::line::Line;
+use crate::numbers::read_number_in;
+use crate::parts::split_parts;
+use crate::words::is_word;
+use cbsp_ie::{Cell, Name, Names, Octets};
+use centre_core::areas::Selector;
+use centre_core::cell_register::BscId;
+use centre_core::serials::Scope;
+use centre_core::warning_book::WarningId;
+use std::alloc::{AllocError, Global};
+
+/// The line of the words; `None` where there is no such line, or a number isn't one or is out of its range.
+pub fn read_line(alloc: Global, words: &[Octets]) -> Result<Option<Line>, AllocError>
+    ensures { IfOk result (λ line. line ≡ line_of words.now) }
+{
+    match words {
+        [verb, x] => Ok(read_two(verb.as_slice(), x.as_slice())),
+        [verb, x, y] => read_three(alloc, verb.as_slice(), x.as_slice(), y.as_slice()),
+        [verb, x, y, z] => read_four(
+            alloc,
+            verb.as_slice(),
+            x.as_slice(),
+            y.as_slice(),
+            z.as_slice(),
+        ),
+        [verb, x, y, z, t] => read_five(
+            alloc,
+            verb.as_slice(),
+            x.as_slice(),
+            y.as_slice(),
+            z.as_slice(),
+            t.as_slice(),
+        ),
+        [verb, message_id, scope, dcs, category, period, pages, areas] => {
+            read_eight(
+                alloc,
+                verb.as_slice(),
+                message_id.as_slice(),
+                scope.as_slice(),
+                dcs.as_slice(),
+                category.as_slice(),
+                period.as_slice(),
+                pages.as_slice(),
+                areas.as_slice(),
+            )
+        }
+        _ => Ok(None),
+    }
+}
+
+/// B, a number from 1.
+fn read_bsc(word: &[u8]) -> Option<BscId>
+    ensures { result ≡ bsc_of word.now }
+{
+    let number = read_number_in(word, 1, 65535)?;
+    BscId::new(number as u16)
+}
+
+/// L, C, M and PERIOD, a number of two octets.
+fn read_two_octets(word: &[u8]) -> Option<u16>
+    ensures { result ≡ two_octets_of word.now }
+{
+    let number = read_number_in(word, 0, 65535)?;
+    Some(number as u16)
+}
+
+/// W, a number of four octets.
+fn read_warning(word: &[u8]) -> Option<WarningId>
+    ensures { result ≡ warning_of word.now }
+{
+    let number = read_number_in(word, 0, 4294967295)?;
+    Some(WarningId::new(number as u32))
+}
+
+/// L and C.
+fn read_cell(lac: &[u8], ci: &[u8]) -> Option<Cell>
+    ensures { result ≡ cell_of lac.now ci.now }
+{
+    Some(Cell {
+        lac: read_two_octets(lac)?,
+        ci: read_two_octets(ci)?,
+    })
+}
+
+/// SCOPE, 0 to 3.
+fn read_scope(word: &[u8]) -> Option<Scope>
+    ensures { result ≡ scope_of word.now }
+{
+    let number = read_number_in(word, 0, 3)?;
+    Scope::from_number(number as u16)
+}
+
+/// AREAS, names joined by `,`, or `-` for none.
+fn read_names(alloc: Global, word: &[u8]) -> Result<Names, AllocError>
+    ensures { IfOk result (λ names. names ≡ names_of word.now) }
+{
+    let mut names = Vec::new(alloc);
+    if is_word(word, b"-") {
+        return Ok(Names::from_vec(names));
+    }
+    let parts = split_parts(alloc, word, b',')?;
+    for part in parts {
+        names.push(Name::from_vec(part.into_vec()))?;
+    }
+    Ok(Names::from_vec(names))
+}
+
+fn read_name(alloc: Global, word: &[u8]) -> Result<Name, AllocError>
+    ensures { IfOk result (λ name. name ≡ word.now) }
+{
+    Ok(Name::from_vec(Vec::from_slice(alloc, word)?))
+}
+
+/// `up B`, `send B`, `board W`
+fn read_two(verb: &[u8], x: &[u8]) -> Option<Line>
+    ensures { result ≡ line_of (verb.now ∷ x.now ∷ []) }
+{
+    if is_word(verb, b"up") {
+        Some(Line::Up(read_bsc(x)?))
+    } else if is_word(verb, b"send") {
+        Some(Line::Send(read_bsc(x)?))
+    } else if is_word(verb, b"board") {
+        Some(Line::Board(read_warning(x)?))
+    } else {
+        None
+    }
+}
+
+/// `bsc add B`, `area add N`, `rx B HEX`
+fn read_three(alloc: Global, verb: &[u8], x: &[u8], y: &[u8]) -> Result<Option<Line>, AllocError>
+    ensures { IfOk result (λ line. line ≡ line_of (verb.now ∷ x.now ∷ y.now ∷ [])) }
+{
+    if is_word(verb, b"bsc") && is_word(x, b"add") {
+        Ok(read_bsc(y).map(Line::AddBsc))
+    } else if is_word(verb, b"area") && is_word(x, b"add") {
+        Ok(Some(Line::AddArea(read_name(alloc, y)?)))
+    } else if is_word(verb, b"rx") {
+        match read_bsc(x) {
+            Some(bsc) => Ok(Some(Line::Report(bsc, Octets::from_vec(Vec::from_slice(alloc, y)?)))),
+            None => Ok(None),
+        }
+    } else {
+        Ok(None)
+    }
+}
+
+/// `area put N L`
+fn read_four(
+    alloc: Global,
+    verb: &[u8],
+    x: &[u8],
+    name: &[u8],
+    lac: &[u8],
+) -> Result<Option<Line>, AllocError>
+    ensures { IfOk result (λ line. line ≡ line_of (verb.now ∷ x.now ∷ name.now ∷ lac.now ∷ [])) }
+{
+    if is_word(verb, b"area") && is_word(x, b"put") {
+        match read_two_octets(lac) {
+            Some(lac) => Ok(Some(Line::Put(read_name(alloc, name)?, Selector::Lac(lac)))),
+            None => Ok(None),
+        }
+    } else {
+        Ok(None)
+    }
+}
+
+/// `cell add L C B`, `area put N L C`
+fn read_five(
+    alloc: Global,
+    verb: &[u8],
+    x: &[u8],
+    y: &[u8],
+    z: &[u8],
+    t: &[u8],
+) -> Result<Option<Line>, AllocError>
+    ensures { IfOk result (λ line. line ≡ line_of (verb.now ∷ x.now ∷ y.now ∷ z.now ∷ t.now ∷ [])) }
+{
+    if is_word(verb, b"cell") && is_word(x, b"add") {
+        Ok(read_added_cell(y, z, t))
+    } else if is_word(verb, b"area") && is_word(x, b"put") {
+        match read_cell(z, t) {
+            Some(cell) => Ok(Some(Line::Put(read_name(alloc, y)?, Selector::Cell(cell)))),
+            None => Ok(None),
+        }
+    } else {
+        Ok(None)
+    }
+}
+
+fn read_added_cell(lac: &[u8], ci: &[u8], bsc: &[u8]) -> Option<Line>
+    ensures { result ≡ add_cell lac.now ci.now bsc.now }
+{
+    let cell = read_cell(lac, ci)?;
+    Some(Line::AddCell(cell, read_bsc(bsc)?))
+}
+
+fn read_heading(
+    message_id: &[u8],
+    scope: &[u8],
+    dcs: &[u8],
+    category: &[u8],
+    period: &[u8],
+) -> Option<Heading>
+    ensures { result ≡ heading_of message_id.now scope.now dcs.now category.now period.now }
+{
+    Some(Heading {
+        message_id: read_two_octets(message_id)?,
+        scope: read_scope(scope)?,
+        dcs: read_number_in(dcs, 0, 255)? as u8,
+        category: read_number_in(category, 0, 2)? as u8,
+        period: read_two_octets(period)?,
+    })
+}
+
+/// `issue M SCOPE DCS CAT PERIOD PAGES AREAS`
+fn read_eight(
+    alloc: Global,
+    verb: &[u8],
+    message_id: &[u8],
+    scope: &[u8],
+    dcs: &[u8],
+    category: &[u8],
+    period: &[u8],
+    pages: &[u8],
+    areas: &[u8],
+) -> Result<Option<Line>, AllocError>
+    ensures { IfOk result (λ line. line ≡ line_of (verb.now ∷ message_id.now ∷ scope.now ∷ dcs.now ∷ category.now ∷ period.now ∷ pages.now ∷ areas.now ∷ [])) }
+{
+    if !is_word(verb, b"issue") {
+        return Ok(None);
+    }
+    let Some(heading) = read_heading(message_id, scope, dcs, category, period) else {
+        return Ok(None);
+    };
+    Ok(Some(Line::Issue {
+        heading,
+        pages: Octets::from_vec(Vec::from_slice(alloc, pages)?),
+        areas: read_names(alloc, areas)?,
+    }))
+}

@@ -1,0 +1,10 @@
+//! The generation kept for one BSC.
+
+use centre_core::cell_register::BscId;
+
+/// A BSC, and the generation of its link that the next line about it speaks of.
+#[derive(Clone, Copy, Debug)]
+pub struct Kept {
+    pub bsc: BscId,
+    pub generation: u64,
+}

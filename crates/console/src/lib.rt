@@ -1,0 +1,35 @@
+//! The console of a cell broadcast centre: lines of text go in, and each is answered at once.
+//!
+//! Octets become lines (`console`), a line becomes words (`words`) and a `Line` (`grammar`), a `Line` is an event or
+//! a question to the centre (`session`), and its `Response` becomes text (`answer_text`). Begin with `session` and
+//! `replaying`; what a run promises stands in `specs/Replays` and `specs/Sessions`.
+#![tactic(auto)]
+
+mod answer_text;
+mod console;
+mod fault;
+mod frames;
+mod generations;
+mod grammar;
+mod heading;
+mod hex_text;
+mod kept;
+mod laws;
+mod line;
+mod no_run;
+mod numbers;
+mod options;
+mod parts;
+mod replaying;
+mod response;
+mod running;
+mod session;
+mod words;
+
+pub use fault::ReplayFault;
+pub use laws::one_text;
+pub use replaying::replay;
+pub use running::run;
+
+#[cfg(test)]
+mod tests;

@@ -1,0 +1,21 @@
+//! Command lines that run no script.
+
+use std::alloc::AllocError;
+
+/// Why a command line runs no script.
+#[derive(Debug, Drop)]
+pub enum NoRun {
+    /// Help was asked for, and this is it.
+    Help(String),
+    /// The command line was refused, with this text.
+    Refused(String),
+    /// The network code isn't six hexadecimal digits.
+    BadPlmn,
+    Memory,
+}
+
+impl From<AllocError> for NoRun {
+    fn from(_: AllocError) -> NoRun {
+        NoRun::Memory
+    }
+}

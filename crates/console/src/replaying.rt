@@ -1,0 +1,66 @@
+//! A run of the console over octets.
+
+ghost use Rattle.std.specs.Prelude.{◌≡◌, ◌≤◌, ◌⊎◌, ◌||◌, true, false, IfOk, IfErr, OnOk};
+ghost use Rattle.std.specs.Io.KnownBytes.{IsAtEnd};
+ghost use Rattle.framing.specs.Source.{counted};
+ghost use Rattle.console.specs.Consoles.{Reads, ReadsAndStops, is_read_fault, is_write_fault};
+ghost use Rattle.console.specs.Replays.{new_session, Replays, BreaksOff};
+
+use crate::console::Console;
+use crate::fault::ReplayFault;
+use framing::{Sink, Source};
+use std::alloc::Global;
+
+/// The most reads of a run.
+const MOST_READS: u64 = 1_000_000_000_000;
+
+/// Reads once, and answers the lines that end. The answer is whether more may come.
+fn turn<R: Source, W: Sink>(
+    console: &mut Console,
+    reader: &mut R,
+    writer: &mut W,
+) -> Result<bool, ReplayFault>
+    ensures ok { OnOk result (Reads console.old console.new (R.remaining reader.old) (R.remaining reader.new) (W.written writer.old) (W.written writer.new)) }
+    ensures end { IfOk result (λ more. more ≡ false → IsAtEnd (R.remaining reader.new)) }
+    ensures err { IfErr result (ReadsAndStops console.old (R.remaining reader.old) (R.remaining reader.new) (W.written writer.old) (W.written writer.new)) }
+    ensures calls { R.calls reader.new ≡ counted (R.calls reader.old) 1 }
+    ensures read_failed { R.has_failed reader.new ≡ (is_read_fault result || R.has_failed reader.old) }
+    ensures write_failed { W.has_failed writer.new ≡ (is_write_fault result || W.has_failed writer.old) }
+{
+    let mut piece = [0; 4096];
+    match reader.read(&mut piece) {
+        Ok(count) => {
+            console.take_piece(&piece[..count], writer)?;
+            Ok(count > 0)
+        }
+        Err(_) => Err(ReplayFault::ReadFault),
+    }
+}
+
+/// Answers the lines that the reader gives, each at once, on a centre of the network `plmn` whose journal holds
+/// `journal_limit` entries. The reads are at most 1,000,000,000,000.
+///
+/// A line ends at 0A or at the end of the input; one 0D before that is dropped. Every bad line is answered and the
+/// run goes on. At an `Err` everything before the fault was answered.
+pub fn replay<R: Source, W: Sink>(
+    alloc: Global,
+    reader: &mut R,
+    writer: &mut W,
+    plmn: [u8; 3],
+    journal_limit: u32,
+) -> Result<(), ReplayFault>
+    requires { journal_limit ≤ 4000000 }
+    ensures all { OnOk result (Replays (new_session plmn journal_limit) (R.remaining reader.old) (R.remaining reader.new) (W.written writer.old) (W.written writer.new)) }
+    ensures part { IfErr result (BreaksOff (new_session plmn journal_limit) (R.remaining reader.old) (R.remaining reader.new) (W.written writer.old) (W.written writer.new)) }
+    ensures read_fault { is_read_fault result ≡ true → (R.has_failed reader.new ≡ true) ⊎ (R.calls reader.new ≡ counted (R.calls reader.old) 1000000000000) }
+    ensures write_fault { W.has_failed writer.new ≡ (is_write_fault result || W.has_failed writer.old) }
+{
+    let mut console = Console::new(alloc, plmn, journal_limit);
+    for _turn in 0..MOST_READS {
+        if !turn(&mut console, reader, writer)? {
+            console.end_line(writer)?;
+            return Ok(());
+        }
+    }
+    Err(ReplayFault::ReadFault)
+}

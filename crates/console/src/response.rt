@@ -1,0 +1,23 @@
+//! What a line is answered.
+
+use cbsp_messages::MessageFault;
+use centre_core::answer::Answer;
+use centre_core::coverage_board::Numbers;
+use centre_core::refusal::Refusal;
+
+/// What a line is answered.
+#[derive(Debug, Drop)]
+pub enum Response {
+    /// The line asks for nothing.
+    Silence,
+    BadLine,
+    BadHex,
+    BadFrame,
+    /// The frame is whole, and no report.
+    Skipped,
+    BadMessage(MessageFault),
+    /// The event is the entry of this number.
+    Accepted { number: u64, answer: Answer },
+    Refused(Refusal),
+    Board(Numbers),
+}

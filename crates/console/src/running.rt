@@ -1,0 +1,89 @@
+//! A run of the program.
+
+ghost use Rattle.std.specs.Prelude.{◌≡◌};
+ghost use Rattle.console.specs.Replays.{new_session};
+ghost use Rattle.console.specs.Running.{Ends, Runs, Tells, fault_words};
+
+use crate::fault::ReplayFault;
+use crate::no_run::NoRun;
+use crate::options::{Options, read_options};
+use crate::replaying::replay;
+use framing::{Sink, Source, write_all};
+use std::alloc::Global;
+
+/// Runs the program on the words of its command line, of which its own name is the first. The answer is its exit
+/// status, and `errors` gets what is said on standard error.
+///
+/// 0: all of the input was read, or help was asked for. 1: a fault ended the run, which is said as `cbc: ` and its
+/// words. 2: the command line was refused, with clap's text, or with `cbc: bad plmn` where that had none.
+pub fn run<R: Source, W: Sink, E: Sink>(
+    alloc: Global,
+    words: &[String],
+    reader: &mut R,
+    writer: &mut W,
+    errors: &mut E,
+) -> u8
+    ensures { Ends (record { input = R.remaining reader.old; output = W.written writer.old; errors = E.written errors.old })
+        (record { input = R.remaining reader.new; output = W.written writer.new; errors = E.written errors.new }) result }
+{
+    match read_options(alloc, words) {
+        Ok(options) => run_script(alloc, &options, reader, writer, errors),
+        Err(NoRun::Help(text)) => match write_all(writer, text.as_bytes()) {
+            Ok(()) => 0,
+            Err(_) => {
+                tell(errors, fault_words(ReplayFault::WriteFault));
+                1
+            }
+        },
+        Err(NoRun::Refused(text)) => {
+            tell(errors, text.as_bytes());
+            2
+        }
+        Err(NoRun::BadPlmn) => {
+            tell(errors, b"cbc: bad plmn\n");
+            2
+        }
+        Err(NoRun::Memory) => {
+            tell(errors, fault_words(ReplayFault::Memory));
+            1
+        }
+    }
+}
+
+fn run_script<R: Source, W: Sink, E: Sink>(
+    alloc: Global,
+    options: &Options,
+    reader: &mut R,
+    writer: &mut W,
+    errors: &mut E,
+) -> u8
+    ensures { Runs (new_session options.now.plmn options.now.journal_limit)
+        (record { input = R.remaining reader.old; output = W.written writer.old; errors = E.written errors.old })
+        (record { input = R.remaining reader.new; output = W.written writer.new; errors = E.written errors.new }) result }
+{
+    match replay(alloc, reader, writer, options.plmn, options.journal_limit) {
+        Ok(()) => 0,
+        Err(fault) => {
+            tell(errors, fault_words(fault));
+            1
+        }
+    }
+}
+
+/// Says the text. What can't be said is left out: there is nowhere to say that.
+fn tell<E: Sink>(errors: &mut E, text: &[u8])
+    ensures { Tells (E.written errors.old) (E.written errors.new) text.now }
+{
+    let _ = write_all(errors, text);
+}
+
+fn fault_words(fault: ReplayFault) -> &'static [u8]
+    ensures { result.now ≡ fault_words fault }
+{
+    match fault {
+        ReplayFault::ReadFault => b"cbc: read fault\n",
+        ReplayFault::WriteFault => b"cbc: write fault\n",
+        ReplayFault::Memory => b"cbc: out of memory\n",
+        ReplayFault::LongLine => b"cbc: line too long\n",
+    }
+}

@@ -1,0 +1,228 @@
+//! One run of the console: a centre, and the generations that its lines speak of.
+
+ghost use Rattle.std.specs.Prelude.{◌≡◌};
+ghost use Rattle.cbsp_messages.specs.MessageType.{type_with};
+ghost use Rattle.console.specs.Sessions.{is_comment, is_report_type};
+
+use crate::frames::read_frame;
+use crate::generations::Generations;
+use crate::grammar::read_line;
+use crate::heading::Heading;
+use crate::hex_text::{read_octets, read_pages};
+use crate::line::Line;
+use crate::response::Response;
+use crate::words::split_words;
+use cbsp_ie::Names;
+use cbsp_messages::{MessageFault, MessageType, read};
+use centre_core::answer::Answer;
+use centre_core::cell_register::BscId;
+use centre_core::centre::Centre;
+use centre_core::event::Event;
+use centre_core::refusal::Refusal;
+use centre_core::warning_book::{Content, Notice, WarningId};
+use framing::Frame;
+use std::alloc::{AllocError, Global};
+use std::marker::Model;
+
+/// The desk by which the console submits.
+const DESK: u32 = 1;
+
+/// A centre, and for each BSC the generation that the next line about its link speaks of.
+#[derive(Drop)]
+pub struct Session {
+    alloc: Global,
+    centre: Centre,
+    generations: Generations,
+}
+
+impl Model for Session {
+    ghost use Rattle.console.specs.Sessions.{SessionState};
+
+    ghost Value = { SessionState };
+
+    ghost view = { λ s. record { centre = s.centre; kept = s.generations } };
+}
+
+impl Session {
+    ghost use Rattle.std.specs.Prelude.{◌≡◌, ◌≤◌, ◌⊎◌, [], IfOk};
+    ghost use Rattle.centre_core.specs.declared.event.Event.TheVariants as event;
+    ghost use Rattle.console.specs.Texts.{ResponseFits};
+    ghost use Rattle.console.specs.Sessions.{AnswersOrStarves, AsksBoard, BringsUp, IsStarved, Issues, Reports, ReportsBody, ReportsFrame, RespondsOrStarves, Submits};
+    ghost use Rattle.console.specs.Generations.{generation_of};
+
+    pub fn new(alloc: Global, plmn: [u8; 3], journal_limit: u32) -> Session
+        requires { journal_limit ≤ 4000000 }
+        ensures { result ≡ record { centre = record { plmn = plmn; limit = journal_limit; journal = [] }; kept = [] } }
+    {
+        Session {
+            alloc,
+            centre: Centre::new(alloc, plmn, journal_limit),
+            generations: Generations::new(alloc),
+        }
+    }
+
+    fn submit(&mut self, event: Event) -> Response
+        ensures answer { Submits self.old event result self.new ⊎ IsStarved self.old result self.new }
+        ensures fits { ResponseFits result }
+    {
+        match self.centre.accept(DESK, event) {
+            Ok(answer) => Response::Accepted {
+                number: self.centre.position(),
+                answer,
+            },
+            Err(refusal) => Response::Refused(refusal),
+        }
+    }
+
+    fn board(&self, warning: WarningId) -> Response
+        ensures answer { AsksBoard self.now warning result self.now }
+        ensures fits { ResponseFits result }
+    {
+        match self.centre.board_total(warning) {
+            Ok(numbers) => Response::Board(numbers),
+            Err(refusal) => Response::Refused(refusal),
+        }
+    }
+
+    fn bring_up(&mut self, bsc: BscId) -> Result<Response, AllocError>
+        ensures answer { IfOk result (λ r. BringsUp self.old bsc r self.new ⊎ IsStarved self.old r self.new) }
+        ensures fits { IfOk result ResponseFits }
+    {
+        let response = self.submit(Event::LinkUp(bsc));
+        if let Response::Accepted {
+            number: _,
+            answer: Answer::Link(generation),
+        } = &response
+        {
+            self.generations.keep(bsc, *generation)?;
+        }
+        Ok(response)
+    }
+
+    fn send(&mut self, bsc: BscId) -> Response
+        ensures answer { Submits self.old (event.Send bsc (generation_of self.old.kept bsc)) result self.new ⊎ IsStarved self.old result self.new }
+        ensures fits { ResponseFits result }
+    {
+        let generation = self.generations.of(bsc);
+        self.submit(Event::Send(bsc, generation))
+    }
+
+    fn report(&mut self, bsc: BscId, text: &[u8]) -> Result<Response, AllocError>
+        ensures answer { IfOk result (λ r. Reports self.old bsc text.now r self.new ⊎ IsStarved self.old r self.new) }
+        ensures fits { IfOk result ResponseFits }
+    {
+        let Some(octets) = read_octets(self.alloc, text)? else {
+            return Ok(Response::BadHex);
+        };
+        let Some(frame) = read_frame(self.alloc, octets.as_slice())? else {
+            return Ok(Response::BadFrame);
+        };
+        Ok(self.report_frame(bsc, &frame))
+    }
+
+    fn report_frame(&mut self, bsc: BscId, frame: &Frame) -> Response
+        ensures answer { ReportsFrame self.old bsc frame.now result self.new ⊎ IsStarved self.old result self.new }
+        ensures fits { ResponseFits result }
+    {
+        if is_report(frame.kind) {
+            self.report_body(bsc, frame.kind, frame.body.as_slice())
+        } else {
+            Response::Skipped
+        }
+    }
+
+    fn report_body(&mut self, bsc: BscId, kind: u8, body: &[u8]) -> Response
+        ensures answer { ReportsBody self.old bsc kind body.now result self.new ⊎ IsStarved self.old result self.new }
+        ensures fits { ResponseFits result }
+    {
+        match read(self.alloc, kind, body) {
+            Ok(message) => {
+                let generation = self.generations.of(bsc);
+                self.submit(Event::Report(bsc, generation, message))
+            }
+            Err(MessageFault::Memory) => Response::Refused(Refusal::Memory),
+            Err(fault) => Response::BadMessage(fault),
+        }
+    }
+
+    fn issue(
+        &mut self,
+        heading: Heading,
+        pages: &[u8],
+        areas: Names,
+    ) -> Result<Response, AllocError>
+        ensures answer { IfOk result (λ r. Issues self.old heading pages.now areas r self.new ⊎ IsStarved self.old r self.new) }
+        ensures fits { IfOk result ResponseFits }
+    {
+        let Some(pages) = read_pages(self.alloc, pages)? else {
+            return Ok(Response::BadHex);
+        };
+        let notice = Notice {
+            message_id: heading.message_id,
+            scope: heading.scope,
+            content: Content {
+                dcs: heading.dcs,
+                category: heading.category,
+                period: heading.period,
+                pages,
+            },
+        };
+        Ok(self.submit(Event::Issue(notice, areas)))
+    }
+
+    fn respond(&mut self, line: Line) -> Result<Response, AllocError>
+        ensures answer { IfOk result (λ r. RespondsOrStarves self.old line r self.new) }
+        ensures fits { IfOk result ResponseFits }
+    {
+        match line {
+            Line::AddBsc(bsc) => Ok(self.submit(Event::AddBsc(bsc))),
+            Line::AddCell(cell, bsc) => Ok(self.submit(Event::AddCell(cell, bsc))),
+            Line::AddArea(area) => Ok(self.submit(Event::AddArea(area))),
+            Line::Put(area, selector) => Ok(self.submit(Event::Put(area, selector))),
+            Line::Issue {
+                heading,
+                pages,
+                areas,
+            } => self.issue(heading, pages.as_slice(), areas),
+            Line::Up(bsc) => self.bring_up(bsc),
+            Line::Send(bsc) => Ok(self.send(bsc)),
+            Line::Report(bsc, text) => self.report(bsc, text.as_slice()),
+            Line::Board(warning) => Ok(self.board(warning)),
+        }
+    }
+    /// Answers one line, given without its end. At an `Err` the line is not answered; its event may be entered.
+    pub fn answer(&mut self, line: &[u8]) -> Result<Response, AllocError>
+        ensures answer { IfOk result (λ r. AnswersOrStarves self.old line.now r self.new) }
+        ensures fits { IfOk result ResponseFits }
+    {
+        let words = split_words(self.alloc, line)?;
+        let [first, ..] = words.as_slice() else {
+            return Ok(Response::Silence);
+        };
+        if is_comment(first.as_slice()) {
+            return Ok(Response::Silence);
+        }
+        match read_line(self.alloc, &words)? {
+            Some(line) => self.respond(line),
+            None => Ok(Response::BadLine),
+        }
+    }
+}
+
+fn is_report(kind: u8) -> bool
+    ensures { result ≡ is_report_type (type_with kind) }
+{
+    match MessageType::of_code(kind) {
+        Some(kind) => kind.is_report(),
+        None => false,
+    }
+}
+
+fn is_comment(word: &[u8]) -> bool
+    ensures { result ≡ is_comment word.now }
+{
+    match word {
+        [first, ..] => *first == b'#',
+        [] => false,
+    }
+}

@@ -1,0 +1,42 @@
+//! The words of a line.
+
+ghost use Rattle.std.specs.Prelude.{◌≡◌, ◌++◌, [], IfOk, OnOk, bytes_eq};
+ghost use Rattle.console.specs.Words.{words_of, and_word};
+
+use cbsp_ie::Octets;
+use std::alloc::{AllocError, Global};
+
+/// The longest runs of octets other than the space, in their order.
+pub fn split_words(alloc: Global, line: &[u8]) -> Result<Vec<Octets>, AllocError>
+    ensures { IfOk result (λ words. words.items ≡ words_of line.now) }
+{
+    let mut words = Vec::new(alloc);
+    let mut begun = Vec::new(alloc);
+    for octet in line {
+        if *octet == b' ' {
+            end_word(&mut words, begun)?;
+            begun = Vec::new(alloc);
+        } else {
+            begun.push(*octet)?;
+        }
+    }
+    end_word(&mut words, begun)?;
+    Ok(words)
+}
+
+fn end_word(words: &mut Vec<Octets>, word: Vec<u8>) -> Result<(), AllocError>
+    ensures { OnOk result (words.new.items ≡ words.old.items ++ and_word word.items []) }
+{
+    if word.is_empty() {
+        return Ok(());
+    }
+    words.push(Octets::from_vec(word))?;
+    Ok(())
+}
+
+/// Whether the word is this text.
+pub fn is_word(word: &[u8], text: &[u8]) -> bool
+    ensures { result ≡ bytes_eq word.now text.now }
+{
+    word == text
+}

@@ -1,0 +1,37 @@
+//! How fast messages are read and written, and how fast a stream is cut into frames.
+//!
+//! With no argument it makes one small round of each and prints `ok`. `codec long` and `framing long` make long
+//! ones and print their figures, which depend on the machine and on what else it does.
+#![tactic(auto)]
+
+mod codec;
+mod codec_frames;
+mod cutting;
+mod stopwatch;
+
+use anyhow::{Result, bail};
+use std::env;
+
+fn main(rt: HostRuntime) -> Result<()> {
+    let words: Vec<String> = env::args(&rt)?.skip(1).collect(rt.alloc())?;
+    let words: Vec<&str> = words.iter().map(|word| word.as_str()).collect(rt.alloc())?;
+    match words.as_slice() {
+        [] => {
+            codec::rounds(&rt, 0)?;
+            cutting::rounds(&rt, 3_000, 2_000)?;
+            println!(rt; "ok")?;
+        }
+        ["codec", "long"] => {
+            for figure in &codec::rounds(&rt, 1_000_000_000)? {
+                println!(rt; "{figure}")?;
+            }
+        }
+        ["framing", "long"] => {
+            for figure in &cutting::rounds(&rt, 16_777_216, 200_000)? {
+                println!(rt; "{figure}")?;
+            }
+        }
+        _ => bail!("the arguments are none, `codec long` or `framing long`"),
+    }
+    Ok(())
+}
