@@ -1,9 +1,11 @@
 //! Reads frames that another implementation's encoder made, and says of each whether it is read as the values
-//! that this encoder was given, and written as the same octets again.
+//! that this encoder was given, and written as the same octets again. Each is also damaged: cut at every octet, each
+//! of its elements repeated, each unknown identifier and discriminator put in; the fault has to be the damage's.
 //!
 //! The file's name is the argument; `data/frames.txt` says how it is laid out.
 #![tactic(auto)]
 
+mod damage;
 mod faults;
 mod fields;
 mod names;

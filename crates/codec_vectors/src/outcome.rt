@@ -1,5 +1,6 @@
 //! What comes of a frame: the message or the fault that it is read as, and what that message is written as.
 
+use crate::damage::unnamed_damage;
 use crate::faults::fault_line;
 use crate::fields::fields_of;
 use crate::names::type_name;
@@ -20,6 +21,19 @@ pub fn difference(alloc: Global, vector: &Vector<'_>) -> Result<Option<String>> 
     }
     match vector.outcome.get(outcome.len()) {
         Some(listed) => Ok(Some(format!(in alloc; "nothing where {listed} is listed")?)),
+        None => damage_line(alloc, vector.hex),
+    }
+}
+
+/// The damage to the frame's body that is not named by its fault, where the frame is a message.
+fn damage_line(alloc: Global, digits: &str) -> Result<Option<String>> {
+    let octets = hex::decode(alloc, digits)?;
+    let frame = one_frame(alloc, octets.as_slice())?;
+    if read(alloc, frame.kind, frame.body.as_slice()).is_err() {
+        return Ok(None);
+    }
+    match unnamed_damage(alloc, frame.kind, frame.body.as_slice())? {
+        Some(damage) => Ok(Some(format!(in alloc; "the fault of {damage}")?)),
         None => Ok(None),
     }
 }

@@ -5,3 +5,4 @@ pub mod TextLemmas
 pub mod StopLemmas
 pub mod ReplayLemmas
 pub mod UniqueLemmas
+pub mod CommandLineLemmas

@@ -12,3 +12,4 @@ pub mod Consoles
 pub mod Replays
 pub mod Running
 pub mod Laws
+pub mod CommandLine

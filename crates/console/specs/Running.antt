@@ -1,8 +1,10 @@
 -- How a run of the program ends.
-use Rattle.std.specs.Prelude.{◌≡◌, ◌⊎◌, ℕ, ◌==◌, List, ◌++◌, Option, codes}
+use Rattle.std.specs.Prelude.{◌≡◌, ◌⊎◌, ℕ, ◌==◌, true, List, ◌++◌, Option, codes}
 use Rattle.std.specs.Bool.{MatchBool}
 use Rattle.std.specs.Io.KnownBytes.{Appends}
 use Rattle.framing.specs.Sink.{AppendsFront}
+use Rattle.clap.specs.Words.{Text, takes}
+use Rattle.console.specs.CommandLine.{command_line}
 use Rattle.console.specs.Replays.{new_session, Replays, BreaksOff}
 use Rattle.console.specs.Sessions.{SessionState}
 use Rattle.console.specs.Texts.{newline}
@@ -15,6 +17,9 @@ fault_words ReadFault = codes "cbc: read fault" ++ newline
 fault_words WriteFault = codes "cbc: write fault" ++ newline
 fault_words Memory = codes "cbc: out of memory" ++ newline
 fault_words LongLine = codes "cbc: line too long" ++ newline
+
+abbrev pub bad_plmn : List ℕ
+bad_plmn = codes "cbc: bad plmn" ++ newline
 
 -- the text is written, or a front of it where a write fails
 abbrev pub Tells : Option (List ℕ) → Option (List ℕ) → List ℕ → Type 0
@@ -40,9 +45,14 @@ pub record RunsInPart (start : SessionState) (old new : Streams) : Type 0 where
 abbrev pub Runs : SessionState → Streams → Streams → ℕ → Type 0
 Runs start old new status = MatchBool (status == 0) (RunsWhole start old new) ((status ≡ 1) × RunsInPart start old new)
 
+-- what is said of a command line that is taken, where no script is run: memory was wanting, or the network code is bad
+abbrev pub IsCause : ℕ → List ℕ → Type 0
+IsCause status said = ((status ≡ 1) × (said ≡ fault_words Memory)) ⊎ ((status ≡ 2) × (said ≡ bad_plmn))
+
 -- no script was run: help is written, or the fault is said that is the cause
-pub record RunsNone (old new : Streams) (status : ℕ) : Type 0 where
+pub record RunsNone (words : List Text) (old new : Streams) (status : ℕ) : Type 0 where
   pub said : List ℕ
+  pub cause : takes command_line words ≡ true → IsCause status said
   pub unread : new.input ≡ old.input
   pub answered : MatchBool (status == 0) (Appends old.output new.output said × (new.errors ≡ old.errors)) (Tells old.errors new.errors said)
   pub silent : status ≡ 2 → new.output ≡ old.output
@@ -54,5 +64,5 @@ pub record RunsSome (old new : Streams) (status : ℕ) : Type 0 where
   pub limit : ℕ
   pub runs : Runs (new_session plmn limit) old new status
 
-abbrev pub Ends : Streams → Streams → ℕ → Type 0
-Ends old new status = RunsSome old new status ⊎ RunsNone old new status
+abbrev pub Ends : List Text → Streams → Streams → ℕ → Type 0
+Ends words old new status = RunsSome old new status ⊎ RunsNone words old new status

@@ -15,6 +15,11 @@ pub enum NoRun {
 }
 
 impl From<AllocError> for NoRun {
+    ghost use Rattle.std.specs.Prelude.{◌≡◌};
+    ghost use Rattle.console.specs.declared.no_run.NoRun.TheVariants.{Memory};
+
+    ghost from_gives = { λ _ e. e ≡ Memory };
+
     fn from(_: AllocError) -> NoRun {
         NoRun::Memory
     }

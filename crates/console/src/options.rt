@@ -1,15 +1,16 @@
 //! What the command line asks for.
 
-ghost use Rattle.std.specs.Prelude.{◌≤◌};
+ghost use Rattle.std.specs.Prelude.{◌≡◌, ◌≤◌, false, map, string_bytes, IfOk, IfErr};
+ghost use Rattle.clap.specs.Words.{app_of, kind_of, rule_of};
+ghost use Rattle.clap.specs.declared.builder.command.Command.TheViews.{out-Command as fields_of};
+ghost use Rattle.console.specs.CommandLine.{plmn_option, journal_option, replay_command, command_line, Refuses};
 
 use crate::no_run::NoRun;
+use clap::builder::ValueParser;
 use clap::error::ErrorKind;
-use clap::{Arg, Command, Error, value_parser};
+use clap::{Arg, ArgMatches, Command, Error};
 use hex::FromHex;
 use std::alloc::{AllocError, Global};
-
-/// The network code where none is given: country 001, network 01.
-const DEFAULT_PLMN: [u8; 3] = [0x00, 0xf1, 0x10];
 
 /// The most entries that a journal may hold, and the number where none is given.
 const MOST_ENTRIES: u32 = 4_000_000;
@@ -23,22 +24,42 @@ pub struct Options {
     ghost few: { journal_limit ≤ 4000000 },
 }
 
-fn command<'a>(alloc: Global) -> Result<Command<'a>, AllocError> {
-    let plmn = Arg::new(alloc, "plmn")
+fn plmn_option<'a>(alloc: Global) -> Arg<'a>
+    ensures rule { rule_of result ≡ plmn_option }
+    ensures own { result.global ≡ false }
+{
+    Arg::new(alloc, "plmn")
         .long("plmn")
         .value_name("HEX")
         .default_value("00f110")
-        .help("The network code, six hexadecimal digits");
-    let journal = Arg::new(alloc, "journal")
+        .help("The network code, six hexadecimal digits")
+}
+
+fn journal_option<'a>(alloc: Global) -> Arg<'a>
+    ensures rule { rule_of result ≡ journal_option }
+    ensures own { result.global ≡ false }
+{
+    Arg::new(alloc, "journal")
         .long("journal")
         .value_name("N")
         .default_value("4000000")
-        .value_parser(value_parser!(u32).range(1..=4_000_000))
-        .help("How many entries the journal holds");
-    let replay = Command::new(alloc, "replay")
-        .about("Answers the lines of standard input")
-        .arg(plmn)?
-        .arg(journal)?;
+        .value_parser(ValueParser::unsigned(1, 4_000_000))
+        .help("How many entries the journal holds")
+}
+
+fn replay_command<'a>(alloc: Global) -> Result<Command<'a>, AllocError>
+    ensures app { IfOk result (λ c. app_of c ≡ replay_command) }
+    ensures own { IfOk result (λ c. (fields_of c).has_globals ≡ false) }
+{
+    let command = Command::new(alloc, "replay").about("Answers the lines of standard input");
+    command.arg(plmn_option(alloc))?.arg(journal_option(alloc))
+}
+
+/// The command line that is taken.
+fn command_line<'a>(alloc: Global) -> Result<Command<'a>, AllocError>
+    ensures { IfOk result (λ c. app_of c ≡ command_line) }
+{
+    let replay = replay_command(alloc)?;
     Command::new(alloc, "cbc")
         .about("A cell broadcast centre")
         .subcommand_required(true)
@@ -46,39 +67,51 @@ fn command<'a>(alloc: Global) -> Result<Command<'a>, AllocError> {
 }
 
 /// What the words ask for; the program's own is the first.
-pub fn read_options<'a>(alloc: Global, words: &'a [String]) -> Result<Options, NoRun> {
-    let matches = match command(alloc)?.try_get_matches_from(words) {
+pub fn read_options<'a>(alloc: Global, words: &'a [String]) -> Result<Options, NoRun>
+    ensures { IfErr result (Refuses (map string_bytes words.now)) }
+{
+    let matches = match command_line(alloc)?.try_get_matches_from(words) {
         Ok(matches) => matches,
-        Err(error) => return Err(no_run(alloc, &error)?),
+        Err(error) => return Err(no_run(alloc, &error)),
     };
-    let Some(replay) = matches.subcommand_matches("replay") else {
-        return Err(NoRun::Refused(String::new(alloc)));
+    let Some(plmn) = asked_plmn(&matches) else {
+        return Err(NoRun::BadPlmn);
     };
-    let plmn = match replay.get_str("plmn") {
-        Some(text) => match <[u8; 3] as FromHex>::from_hex(text) {
-            Ok(plmn) => plmn,
-            Err(_) => return Err(NoRun::BadPlmn),
-        },
-        None => DEFAULT_PLMN,
-    };
-    let journal_limit = replay
-        .get_one::<u32>("journal")
-        .unwrap_or(MOST_ENTRIES)
-        .min(MOST_ENTRIES);
     Ok(Options {
         plmn,
-        journal_limit,
+        journal_limit: asked_journal(&matches),
     })
 }
 
-fn no_run(alloc: Global, error: &Error) -> Result<NoRun, AllocError> {
-    if error.kind() == ErrorKind::OutOfMemory {
-        return Err(AllocError);
+/// The network code; `None` where it isn't six hexadecimal digits.
+fn asked_plmn(matches: &ArgMatches<'_>) -> Option<[u8; 3]> {
+    let replay = matches.subcommand_matches("replay")?;
+    <[u8; 3] as FromHex>::from_hex(replay.get_str("plmn")?).ok()
+}
+
+/// How many entries the journal may hold.
+fn asked_journal(matches: &ArgMatches<'_>) -> u32
+    ensures { result ≤ 4000000 }
+{
+    match matches.subcommand_matches("replay") {
+        Some(replay) => replay
+            .get_one::<u32>("journal")
+            .unwrap_or(MOST_ENTRIES)
+            .min(MOST_ENTRIES),
+        None => MOST_ENTRIES,
     }
-    let text = format!(in alloc; "{error}")?;
-    Ok(if error.use_stderr() {
-        NoRun::Refused(text)
-    } else {
-        NoRun::Help(text)
-    })
+}
+
+/// Why the parser of command lines gave no matches.
+fn no_run(alloc: Global, error: &Error) -> NoRun
+    ensures { kind_of error.now ≡ ErrorKind.OutOfMemory → result ≡ NoRun.Memory }
+{
+    if error.kind() == ErrorKind::OutOfMemory {
+        return NoRun::Memory;
+    }
+    match format!(in alloc; "{error}") {
+        Ok(text) if error.use_stderr() => NoRun::Refused(text),
+        Ok(text) => NoRun::Help(text),
+        Err(_) => NoRun::Memory,
+    }
 }

@@ -1,6 +1,6 @@
 //! A run of the program.
 
-ghost use Rattle.std.specs.Prelude.{◌≡◌};
+ghost use Rattle.std.specs.Prelude.{◌≡◌, map, string_bytes};
 ghost use Rattle.console.specs.Replays.{new_session};
 ghost use Rattle.console.specs.Running.{Ends, Runs, Tells, fault_words};
 
@@ -23,7 +23,8 @@ pub fn run<R: Source, W: Sink, E: Sink>(
     writer: &mut W,
     errors: &mut E,
 ) -> u8
-    ensures { Ends (record { input = R.remaining reader.old; output = W.written writer.old; errors = E.written errors.old })
+    ensures { Ends (map string_bytes words.now)
+        (record { input = R.remaining reader.old; output = W.written writer.old; errors = E.written errors.old })
         (record { input = R.remaining reader.new; output = W.written writer.new; errors = E.written errors.new }) result }
 {
     match read_options(alloc, words) {
