@@ -69,7 +69,7 @@ static ROWS: [Row; 8] = [
              issue 4370 3 15 0 30 d4 Coast,Coast\n\
              issue 4370 3 15 0 0 d4 Coast\n\
              issue 4370 3 15 0 1025 d4 Coast\n\
-             issue 4370 0 15 0 1024 D4/f2 Coast\n",
+             issue 4370 0 15 0 1024 AB/f2 Coast\n",
         answers: "ok 1\n\
              bad hex\n\
              bad hex\n\
