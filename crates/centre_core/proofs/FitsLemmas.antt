@@ -1,5 +1,5 @@
 -- The messages that are sent fit: an order names at most 1,000 cells, and a content has 1 to 15 pages.
-use Rattle.std.proofs.Common.{◌≡◌, ℕ, ◌+◌, ◌*◌, ◌<◌, ◌≤◌, Bool, true, false, ◌&&◌, not, List, [], ◌∷◌, Option, Some, None, Result, Ok, nat_le, length, take, map, refl, subst, ◌∙◌, arith, length-append, lit≤}
+use Rattle.std.proofs.Common.{◌≡◌, ℕ, ◌+◌, ◌*◌, ◌<◌, ◌≤◌, Bool, true, ◌&&◌, not, List, [], ◌∷◌, Option, Some, None, Result, Ok, nat_le, length, take, map, refl, subst, ◌∙◌, arith, length-append, lit≤}
 use Rattle.std.specs.Prelude.{IfSome}
 use Rattle.std.specs.List.{list_any, flat_map}
 use Rattle.std.proofs.lemmas.Bool.{leb-true, and_parts}
@@ -11,7 +11,8 @@ use Rattle.cbsp_ie.specs.declared.cell.Cell.{Cell}
 use Rattle.cbsp_messages.specs.PageText.{page_with}
 use Rattle.cbsp_messages.specs.Written.{Fits}
 use Rattle.cbsp_messages.specs.declared.message.Message.{Message}
-use Rattle.centre_core.proofs.PageLemmas.{content_has_pages, law_of_verdict, legal_has_pages}
+use Rattle.centre_core.proofs.PageLemmas.{content_has_pages, legal_has_pages}
+use Rattle.centre_core.proofs.UniqueLemmas.{unless_ok, verdict_law}
 use Rattle.centre_core.specs.Fits.{AnswerFits}
 use Rattle.centre_core.specs.InFlight.{in_flight}
 use Rattle.centre_core.specs.Legal.{Legal}
@@ -65,11 +66,6 @@ first_is_short : (orders : List Order) → IfSome (first orders) (λ order. leng
 first_is_short [] = tt
 first_is_short (order ∷ orders) = omega (arith, few_cells, take_few most_cells order.cells)
 
-unless_ok : (checks : List (Bool × Refusal)) (r : Result Answer Refusal) (a : Answer) → unless checks r ≡ Ok a → r ≡ Ok a
-unless_ok [] r a h = h
-unless_ok ((true, refusal) ∷ checks) r a h = cc
-unless_ok ((false, refusal) ∷ checks) r a h = unless_ok checks r a h
-
 sent_fits : (past : List Entry) (next : Option Order) (order : Order) (message : Message) → HasPages (book past) → IfSome next (λ o. length o.cells ≤ 1000) → send_answer past next ≡ Ok (Sent order message) → Fits message
 sent_fits past None order message good few h = absurd (let no : send_answer past None ≡ Ok (Sent order message) = h in cc)
 sent_fits past (Some o) order message good few h =
@@ -111,4 +107,4 @@ answer_fits past event answer good h = tt
 -- what an event is answered after a legal past fits
 pub verdict_fits : (limit : ℕ) (past : List Entry) (event : Event) (answer : Answer) → Legal limit past → verdict limit past event ≡ Ok answer → AnswerFits answer
 verdict_fits limit past event answer legal h =
-    answer_fits past event answer (legal_has_pages limit past legal) (law_of_verdict limit past event answer h)
+    answer_fits past event answer (legal_has_pages limit past legal) (verdict_law limit past event answer h)

@@ -1,14 +1,15 @@
 -- The pages of what a book holds.
-use Rattle.std.proofs.Common.{◌≡◌, ℕ, ◌+◌, ◌≤◌, Bool, true, false, ◌&&◌, ◌||◌, not, List, [], ◌∷◌, Option, Some, None, Result, Ok, Err, Bor, nat_le, length, if◌then◌else◌, refl, ap, ◌∙◌}
+use Rattle.std.proofs.Common.{◌≡◌, ℕ, ◌+◌, ◌≤◌, Bool, true, false, ◌&&◌, ◌||◌, not, List, [], ◌∷◌, Option, Some, None, Result, Ok, Bor, nat_le, length, if◌then◌else◌, refl, ap, ◌∙◌}
 use Rattle.std.specs.Prelude.{All, IfSome, find}
 use Rattle.std.specs.List.{list_any}
 use Rattle.std.specs.Option.{option_map, option_copied}
 use Rattle.std.proofs.lemmas.Bool.{leb-true, or_parts, and_parts, or_from, not-false, not-true}
 use Rattle.std.proofs.lemmas.List.Elements.{All-nil, All-cons}
 use Rattle.std.proofs.lemmas.List.Folds.{list_any-append}
+use Rattle.centre_core.proofs.UniqueLemmas.{verdict_law}
 use Rattle.centre_core.specs.Legal.{Legal}
 use Rattle.centre_core.specs.Pages.{HasPages, lacks_pages}
-use Rattle.centre_core.specs.Verdict.{is_page, are_pages, unless, law, verdict, issue_checks, issue_answer}
+use Rattle.centre_core.specs.Verdict.{is_page, are_pages, unless, law, issue_checks, issue_answer}
 use Rattle.centre_core.specs.Warnings.{Warning, book, book_after, content_of, issued, issue_count, new_serial}
 use Rattle.centre_core.specs.declared.answer.Answer.{Answer}
 use Rattle.centre_core.specs.declared.answer.Answer.TheVariants.{Issued}
@@ -68,14 +69,6 @@ no_check [] r a h = tt
 no_check ((true, refusal) ∷ checks) r a h = cc
 no_check ((false, refusal) ∷ checks) r a h = (refl, no_check checks r a h)
 
-law_at : (full : Bool) (refusal : Refusal) (r : Result Answer Refusal) (a : Answer) → (if full then Err refusal else r) ≡ Ok a → r ≡ Ok a
-law_at true refusal r a h = cc
-law_at false refusal r a h = h
-
--- an accepted event is answered by its rule
-pub law_of_verdict : (limit : ℕ) (past : List Entry) (event : Event) (answer : Answer) → verdict limit past event ≡ Ok answer → law past event ≡ Ok answer
-law_of_verdict limit past event answer h = law_at (nat_le limit (length past)) _ (law past event) answer h
-
 pages_after : (past : List Entry) (event : Event) (answer : Answer) → law past event ≡ Ok answer → list_any lacks_pages (book past) ≡ false → list_any lacks_pages (book_after event answer (book past)) ≡ false
 pages_after past (Issue notice names) (Issued n s) h rest =
     let none = no_check (issue_checks past notice names) (issue_answer (issue_count past + 1) (new_serial past notice)) (Issued n s) h in
@@ -87,7 +80,7 @@ pages_after past event answer h rest = rest
 legal_lacks_none : (limit : ℕ) (past : List Entry) → Legal limit past → list_any lacks_pages (book past) ≡ false
 legal_lacks_none limit [] h = refl
 legal_lacks_none limit (e ∷ before) h =
-    pages_after before e.event e.answer (law_of_verdict limit before e.event e.answer h.0) (legal_lacks_none limit before h.1)
+    pages_after before e.event e.answer (verdict_law limit before e.event e.answer h.0) (legal_lacks_none limit before h.1)
 
 -- in a legal past every content in the book has good pages
 pub legal_has_pages : (limit : ℕ) (past : List Entry) → Legal limit past → HasPages (book past)

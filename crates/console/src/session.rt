@@ -190,6 +190,7 @@ impl Session {
             Line::Board(warning) => Ok(self.board(warning)),
         }
     }
+
     /// Answers one line, given without its end. At an `Err` the line is not answered; its event may be entered.
     pub fn answer(&mut self, line: &[u8]) -> Result<Response, AllocError>
         ensures answer { IfOk result (λ r. AnswersOrStarves self.old line.now r self.new) }
