@@ -1,8 +1,9 @@
 -- The book, one entry further.
 use Rattle.std.proofs.Common.{◌≡◌, ℕ, ◌+◌, Bool, true, false, List, [], ◌∷◌, ◌++◌, Option, Some, None, length, reverse, nat_eq, if◌then◌else◌, refl, ap, sym, ◌∙◌, length-append, append-nil}
 use Rattle.std.proofs.lemmas.List.{reverse-append, reverse-reverse}
+use Rattle.std.specs.List.{list_any, flat_map}
 use Rattle.std.specs.Option.{is_some, option_to_list}
-use Rattle.centre_core.specs.Issued.{issued_by, code_in, with_issued, forward}
+use Rattle.centre_core.specs.Issued.{issued_by, code_in, with_issued, forward, by_warning, along}
 use Rattle.centre_core.specs.Past.{one}
 use Rattle.centre_core.specs.Serials.{code_of}
 use Rattle.centre_core.specs.Warnings.{Warning, book, book_after, codes_of}
@@ -65,3 +66,15 @@ book_forward (e ∷ before) =
 
 pub book_of_journal : (journal : List Entry) → book (reverse journal) ≡ forward journal
 book_of_journal journal = book_forward (reverse journal) ∙ ap forward (reverse-reverse journal)
+
+flat_with : {A : Type 0} (f : Warning → List A) (o : Option Warning) (ws : List Warning) → flat_map f (with_issued o ws) ≡ by_warning f o ++ flat_map f ws
+flat_with f None ws = refl
+flat_with f (Some w) ws = refl
+
+flat_forward : {A : Type 0} (f : Warning → List A) (journal : List Entry) → flat_map f (forward journal) ≡ along f journal
+flat_forward f [] = refl
+flat_forward f (e ∷ later) = flat_with f (issued_by e.event e.answer) (forward later) ∙ ap (λ xs. by_warning f (issued_by e.event e.answer) ++ xs) (flat_forward f later)
+
+-- what the book gives is what the entries' warnings give, one entry after another
+pub along_journal : {A : Type 0} (f : Warning → List A) (journal : List Entry) → flat_map f (book (reverse journal)) ≡ along f journal
+along_journal f journal = ap (flat_map f) (book_of_journal journal) ∙ flat_forward f journal

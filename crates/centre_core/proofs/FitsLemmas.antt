@@ -19,13 +19,13 @@ use Rattle.centre_core.specs.Legal.{Legal}
 use Rattle.centre_core.specs.OrderMessage.{listed, message_by, order_message}
 use Rattle.centre_core.specs.Pages.{HasPages}
 use Rattle.centre_core.specs.Pending.{first, most_cells, pending}
-use Rattle.centre_core.specs.Verdict.{are_pages, is_page, unless, law, verdict, add_bsc_checks, add_cell_checks, add_area_checks, put_checks, issue_checks, issue_answer, link_up_checks, send_checks, send_answer, report_checks, report_answer}
+use Rattle.centre_core.specs.Verdict.{are_pages, is_page, unless, law, verdict, add_bsc_checks, remove_bsc_checks, add_cell_checks, move_cell_checks, remove_cell_checks, add_area_checks, drop_area_checks, put_checks, cut_checks, issue_checks, issue_answer, link_up_checks, link_checks, send_checks, send_answer, report_checks, report_answer}
 use Rattle.centre_core.specs.Warnings.{book, content_of, issue_count, new_serial}
 use Rattle.centre_core.specs.declared.answer.Answer.{Answer}
 use Rattle.centre_core.specs.declared.answer.Answer.TheVariants.{Done, Link, Sent}
 use Rattle.centre_core.specs.declared.entry.Entry.{Entry}
 use Rattle.centre_core.specs.declared.event.Event.{Event}
-use Rattle.centre_core.specs.declared.event.Event.TheVariants.{AddBsc, AddCell, AddArea, Put, Issue, LinkUp, Send, Report}
+use Rattle.centre_core.specs.declared.event.Event.TheVariants.{AddBsc, RemoveBsc, AddCell, MoveCell, RemoveCell, AddArea, DropArea, Put, Cut, Issue, LinkUp, LinkDown, Send, Report}
 use Rattle.centre_core.specs.declared.order_maker.order.Order.{Order}
 use Rattle.centre_core.specs.declared.order_maker.order_kind.OrderKind.{OrderKind}
 use Rattle.centre_core.specs.declared.order_maker.order_kind.OrderKind.TheVariants.{Write, Kill}
@@ -94,11 +94,17 @@ no_report report (Some x) order message e = cc
 
 answer_fits : (past : List Entry) (event : Event) (answer : Answer) → HasPages (book past) → law past event ≡ Ok answer → AnswerFits answer
 answer_fits past (AddBsc b) (Sent order message) good h = absurd (no_done (add_bsc_checks past b) order message h)
+answer_fits past (RemoveBsc b) (Sent order message) good h = absurd (no_done (remove_bsc_checks past b) order message h)
 answer_fits past (AddCell c b) (Sent order message) good h = absurd (no_done (add_cell_checks past c b) order message h)
+answer_fits past (MoveCell c b) (Sent order message) good h = absurd (no_done (move_cell_checks past c b) order message h)
+answer_fits past (RemoveCell c) (Sent order message) good h = absurd (no_done (remove_cell_checks past c) order message h)
 answer_fits past (AddArea a) (Sent order message) good h = absurd (no_done (add_area_checks past a) order message h)
+answer_fits past (DropArea a) (Sent order message) good h = absurd (no_done (drop_area_checks past a) order message h)
 answer_fits past (Put a s) (Sent order message) good h = absurd (no_done (put_checks past a s) order message h)
+answer_fits past (Cut a s) (Sent order message) good h = absurd (no_done (cut_checks past a s) order message h)
 answer_fits past (Issue notice names) (Sent order message) good h = absurd (no_issue (issue_count past + 1) (new_serial past notice) order message (unless_ok (issue_checks past notice names) (issue_answer (issue_count past + 1) (new_serial past notice)) (Sent order message) h))
 answer_fits past (LinkUp b) (Sent order message) good h = absurd (no_link (link_up_checks past b) (length past + 1) order message h)
+answer_fits past (LinkDown b generation) (Sent order message) good h = absurd (no_done (link_checks past b generation) order message h)
 answer_fits past (Send b generation) (Sent order message) good h =
     sent_fits past (first (pending past b)) order message good (first_is_short (pending past b)) (unless_ok (send_checks past b generation) (send_answer past (first (pending past b))) (Sent order message) h)
 answer_fits past (Report b generation report) (Sent order message) good h = absurd (no_report report (in_flight past b) order message (unless_ok (report_checks past b generation report) (report_answer report (in_flight past b)) (Sent order message) h))

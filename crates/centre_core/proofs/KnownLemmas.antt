@@ -13,27 +13,25 @@ use Rattle.centre_core.specs.OrderMessage.{order_message}
 use Rattle.centre_core.specs.Pending.{pending, first, shortened, most_cells}
 use Rattle.centre_core.specs.Places.{place, place_mark, added_cell, cells}
 use Rattle.centre_core.specs.Plan.{is_place}
-use Rattle.centre_core.specs.Presence.{is_among, presence, presence_mark, effect, effect_at, flight_effect, order_effect, new_effect, is_absent}
+use Rattle.centre_core.specs.Presence.{Sets, Leaves, is_among, presence, presence_mark, effect, effect_at, flight_effect, order_effect, new_effect, is_absent}
 use Rattle.centre_core.specs.Verdict.{verdict, send, send_checks, send_answer}
 use Rattle.centre_core.specs.Warnings.{Warning, book, content_of}
 use Rattle.centre_core.specs.declared.answer.Answer.{Answer}
 use Rattle.centre_core.specs.declared.answer.Answer.TheVariants.{Sent}
 use Rattle.centre_core.specs.declared.entry.Entry.{Entry}
 use Rattle.centre_core.specs.declared.event.Event.{Event}
-use Rattle.centre_core.specs.declared.event.Event.TheVariants.{AddCell, LinkUp, Send, Report}
+use Rattle.centre_core.specs.declared.event.Event.TheVariants.{RemoveBsc, AddCell, MoveCell, RemoveCell, LinkUp, LinkDown, Send, Report}
 use Rattle.centre_core.specs.declared.mirror.presence.Presence.{Presence}
+use Rattle.centre_core.specs.declared.mirror.presence.Presence.TheVariants.{Absent}
 use Rattle.centre_core.specs.declared.order_maker.order.Order.{Order}
 use Rattle.centre_core.specs.declared.order_maker.order_kind.OrderKind.{OrderKind}
 use Rattle.centre_core.specs.declared.outcome.Outcome.{Outcome}
 use Rattle.centre_core.specs.declared.outcome.Outcome.TheVariants.{Silent}
 use Rattle.centre_core.proofs.AnyLemmas.{or_none}
+use Rattle.centre_core.proofs.CountLemmas.{among_more, among_new}
 use Rattle.centre_core.proofs.ActingLemmas.{does, any_all}
 use Rattle.centre_core.proofs.GroupingLemmas.{tests, any_pending}
 use Rattle.centre_core.proofs.UniqueLemmas.{unless_ok, verdict_law}
-
-or_right : (a : Bool) → (a || true) ≡ true
-or_right true = refl
-or_right false = refl
 
 first_true : (a b : Bool) → (a && b) ≡ true → a ≡ true
 first_true true b h = refl
@@ -43,32 +41,21 @@ second_true : (a b : Bool) → (a && b) ≡ true → b ≡ true
 second_true true b h = h
 second_true false b h = cc
 
--- a cell that was there stays
-among_more : (c : Cell) (o : Option Cell) (cs : List Cell) → is_among c cs ≡ true → is_among c (with_new cell_eq o cs) ≡ true
-among_more c None cs h = h
-among_more c (Some d) cs h = step (list_any (cell_eq d) cs) refl
-  where
-    step : (t : Bool) → list_any (cell_eq d) cs ≡ t → is_among c (with_new cell_eq (Some d) cs) ≡ true
-    step true e = rw e h
-    step false e = rw e (ap (λ t. cell_eq c d || t) h ∙ or_right (cell_eq c d))
-
--- and the one that comes is there
-among_new : (c d : Cell) (cs : List Cell) → cell_eq d c ≡ true → is_among c (with_new cell_eq (Some d) cs) ≡ true
-among_new c d cs h = step (list_any (cell_eq d) cs) refl
-  where
-    same : d ≡ c
-    same = (cell_decides d c).0 h
-
-    step : (t : Bool) → list_any (cell_eq d) cs ≡ t → is_among c (with_new cell_eq (Some d) cs) ≡ true
-    step true e = rw e (ap (λ (k : Cell). list_any (cell_eq k) cs) (sym same) ∙ e)
-    step false e = rw e (ap (λ t. t || is_among c cs) ((cell_decides c d).1 (sym same)))
-
-place_after : (e : Event) (before : List Entry) (b : ℕ) (c : Cell) → (is_place (place before c) b ≡ true → is_among c (cells before) ≡ true) → is_place (unwrap_or (place_mark c e) (place before c)) b ≡ true → is_among c (with_new cell_eq (added_cell e) (cells before)) ≡ true
-place_after (AddCell d other) before b c known h = step (cell_eq d c) refl
+placed_after : (d : Cell) (other : ℕ) (before : List Entry) (b : ℕ) (c : Cell) → (is_place (place before c) b ≡ true → is_among c (cells before) ≡ true) → is_place (unwrap_or (cond (cell_eq d c) (Some (Some other)) None) (place before c)) b ≡ true → is_among c (with_new cell_eq (Some d) (cells before)) ≡ true
+placed_after d other before b c known h = step (cell_eq d c) refl
   where
     step : (t : Bool) → cell_eq d c ≡ t → is_among c (with_new cell_eq (Some d) (cells before)) ≡ true
-    step true e = among_new c d (cells before) e
-    step false e = let there : is_place (place before c) b ≡ true = rw e at h in among_more c (Some d) (cells before) (known there)
+    step true e = among_new cell_eq cell_decides c d (cells before) e
+    step false e = let there : is_place (place before c) b ≡ true = rw e at h in among_more cell_eq c (Some d) (cells before) (known there)
+
+place_after : (e : Event) (before : List Entry) (b : ℕ) (c : Cell) → (is_place (place before c) b ≡ true → is_among c (cells before) ≡ true) → is_place (unwrap_or (place_mark c e) (place before c)) b ≡ true → is_among c (with_new cell_eq (added_cell e) (cells before)) ≡ true
+place_after (AddCell d other) before b c known h = placed_after d other before b c known h
+place_after (MoveCell d other) before b c known h = placed_after d other before b c known h
+place_after (RemoveCell d) before b c known h = step (cell_eq d c) h
+  where
+    step : (t : Bool) → is_place (unwrap_or (cond t (Some None) None) (place before c)) b ≡ true → is_among c (cells before) ≡ true
+    step true g = cc
+    step false g = known g
 place_after other before b c known h = known h
 
 -- a cell with a place was registered
@@ -145,7 +132,13 @@ flight_after limit before (LinkUp other) a b c v known h = step (nat_eq other b 
     step : (t : Bool) → names (unwrap_or (cond t (Some None) None) (in_flight before b)) c ≡ true → is_among c (cells before) ≡ true
     step true g = cc
     step false g = known g
-flight_after limit before (AddCell d other) a b c v known h = among_more c (Some d) (cells before) (known h)
+flight_after limit before (LinkDown other generation) a b c v known h = step (nat_eq other b) h
+  where
+    step : (t : Bool) → names (unwrap_or (cond t (Some None) None) (in_flight before b)) c ≡ true → is_among c (cells before) ≡ true
+    step true g = cc
+    step false g = known g
+flight_after limit before (AddCell d other) a b c v known h = among_more cell_eq c (Some d) (cells before) (known h)
+flight_after limit before (MoveCell d other) a b c v known h = among_more cell_eq c (Some d) (cells before) (known h)
 flight_after limit before other a b c v known h = known h
 
 -- the order in flight names registered cells alone
@@ -176,7 +169,20 @@ presence_after limit before legal (LinkUp other) a b c m s known h = step (nat_e
         let set : is_absent (unwrap_or (presence_mark (flight_effect (in_flight before b) Silent c m s)) (presence before b c m s)) ≡ false = rw e at h in
         flight_known (is_among c (cells before)) (in_flight before b) Silent (presence before b c m s) c m s (known_flight limit before legal b c) known set
     step false e = let there : is_absent (presence before b c m s) ≡ false = rw e at h in known there
-presence_after limit before legal (AddCell d other) a b c m s known h = among_more c (Some d) (cells before) (known h)
+presence_after limit before legal (LinkDown other generation) a b c m s known h = step (nat_eq other b) refl
+  where
+    step : (t : Bool) → nat_eq other b ≡ t → is_among c (cells before) ≡ true
+    step true e =
+        let set : is_absent (unwrap_or (presence_mark (flight_effect (in_flight before b) Silent c m s)) (presence before b c m s)) ≡ false = rw e at h in
+        flight_known (is_among c (cells before)) (in_flight before b) Silent (presence before b c m s) c m s (known_flight limit before legal b c) known set
+    step false e = let there : is_absent (presence before b c m s) ≡ false = rw e at h in known there
+presence_after limit before legal (RemoveBsc other) a b c m s known h = step (nat_eq other b) h
+  where
+    step : (t : Bool) → is_absent (unwrap_or (presence_mark (cond t (Sets Absent) Leaves)) (presence before b c m s)) ≡ false → is_among c (cells before) ≡ true
+    step true g = cc
+    step false g = known g
+presence_after limit before legal (AddCell d other) a b c m s known h = among_more cell_eq c (Some d) (cells before) (known h)
+presence_after limit before legal (MoveCell d other) a b c m s known h = among_more cell_eq c (Some d) (cells before) (known h)
 presence_after limit before legal other a b c m s known h = known h
 
 -- a cell with something on air was registered

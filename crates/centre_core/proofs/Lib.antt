@@ -10,5 +10,9 @@ pub mod ApplyingLemmas
 pub mod GroupingLemmas
 pub mod ActingLemmas
 pub mod UniqueLemmas
+pub mod CountLemmas
 pub mod KnownLemmas
 pub mod HeadlineLemmas
+pub mod RegisterLemmas
+pub mod AreaLemmas
+pub mod CentreLemmas

@@ -1,11 +1,12 @@
 -- How a list of actions is made, put in order and joined to orders.
-use Rattle.std.proofs.Common.{◌≡◌, ℕ, true, List, [], ◌∷◌, ◌++◌, Option, Some, None, nat_eq, reverse, refl, ap, ◌∙◌}
+use Rattle.std.proofs.Common.{◌≡◌, ℕ, Bool, true, List, [], ◌∷◌, ◌++◌, Option, Some, None, nat_eq, reverse, refl, ap, ◌∙◌}
 use Rattle.std.proofs.lemmas.Bool.{eq-eqb}
 use Rattle.centre_core.proofs.BookLemmas.{book_of_journal}
 use Rattle.centre_core.specs.Actions.{actions_of, all_actions}
 use Rattle.centre_core.specs.Issued.{issued_by, with_issued, forward, actions_by, actions_along}
-use Rattle.centre_core.specs.Pending.{put_in_order, in_order, joined, grouped}
+use Rattle.centre_core.specs.Pending.{joined, grouped}
 use Rattle.centre_core.specs.Places.{cells}
+use Rattle.centre_core.specs.Sorting.{put_by, sorted_by}
 use Rattle.centre_core.specs.Warnings.{Warning}
 use Rattle.centre_core.specs.declared.entry.Entry.{Entry}
 use Rattle.centre_core.specs.declared.order_maker.action.Action.{Action}
@@ -29,17 +30,17 @@ actions_of_journal journal b =
     ap (actions_of (reverse journal) b) (book_of_journal journal) ∙ actions_forward (reverse journal) b journal
 
 -- put in order among others, the last first
-abbrev pub sorted_onto : List Action → List Action → List Action
-sorted_onto [] others = others
-sorted_onto (x ∷ xs) others = put_in_order x (sorted_onto xs others)
+abbrev pub sorted_onto : {A : Type 0} → (A → A → Bool) → List A → List A → List A
+sorted_onto before [] others = others
+sorted_onto before (x ∷ xs) others = put_by before x (sorted_onto before xs others)
 
-pub sorted_last : (xs : List Action) (x : Action) (others : List Action) → sorted_onto (xs ++ x ∷ []) others ≡ sorted_onto xs (put_in_order x others)
-sorted_last [] x others = refl
-sorted_last (y ∷ xs) x others = ap (put_in_order y) (sorted_last xs x others)
+pub sorted_last : {A : Type 0} (before : A → A → Bool) (xs : List A) (x : A) (others : List A) → sorted_onto before (xs ++ x ∷ []) others ≡ sorted_onto before xs (put_by before x others)
+sorted_last before [] x others = refl
+sorted_last before (y ∷ xs) x others = ap (put_by before y) (sorted_last before xs x others)
 
-pub sorted_none : (xs : List Action) → sorted_onto xs [] ≡ in_order xs
-sorted_none [] = refl
-sorted_none (x ∷ xs) = ap (put_in_order x) (sorted_none xs)
+pub sorted_none : {A : Type 0} (before : A → A → Bool) (xs : List A) → sorted_onto before xs [] ≡ sorted_by before xs
+sorted_none before [] = refl
+sorted_none before (x ∷ xs) = ap (put_by before x) (sorted_none before xs)
 
 -- joined to orders, the last first
 abbrev pub joined_onto : List Action → List Order → List Order

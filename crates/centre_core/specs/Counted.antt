@@ -7,6 +7,11 @@ abbrev pub names_it : {A : Type 0} → (A → A → Bool) → A → Option A →
 names_it same x None = false
 names_it same x (Some y) = same x y
 
+-- what is named passes the test
+abbrev pub names_one : {A : Type 0} → (A → Bool) → Option A → Bool
+names_one p None = false
+names_one p (Some x) = p x
+
 -- what is named counts: it was not named before, and it passes the test
 abbrev pub is_counted : {A : Type 0} → (A → A → Bool) → (A → Bool) → Option A → List A → Bool
 is_counted same p None before = false

@@ -4,15 +4,17 @@ use Rattle.std.specs.List.{list_any}
 use Rattle.cbsp_ie.specs.Cell.{cell_eq}
 use Rattle.cbsp_ie.specs.declared.cell.Cell.{Cell}
 use Rattle.centre_core.specs.Past.{latest, named, count_of}
-use Rattle.centre_core.specs.declared.areas.selector.Selector.{Selector}
-use Rattle.centre_core.specs.declared.areas.selector.Selector.TheVariants as selector
+use Rattle.areas.specs.Selector.{selector_eq}
+use Rattle.areas.specs.declared.selector.Selector.{Selector}
+use Rattle.areas.specs.declared.selector.Selector.TheVariants as selector
 use Rattle.centre_core.specs.declared.entry.Entry.{Entry}
 use Rattle.centre_core.specs.declared.event.Event.{Event}
-use Rattle.centre_core.specs.declared.event.Event.TheVariants.{AddArea, Put}
+use Rattle.centre_core.specs.declared.event.Event.TheVariants.{AddArea, DropArea, Put, Cut}
 
--- whether the event makes the area
+-- whether the event makes the area, or drops it
 abbrev pub area_mark : List ℕ → Event → Option Bool
 area_mark a (AddArea other) = if bytes_eq other a then Some true else None
+area_mark a (DropArea other) = if bytes_eq other a then Some false else None
 area_mark a other = None
 
 abbrev pub is_area : List Entry → List ℕ → Bool
@@ -30,16 +32,12 @@ areas past = named bytes_eq added_area past
 abbrev pub area_count : List Entry → ℕ
 area_count past = count_of (is_area past) (areas past)
 
--- the two select the same
-abbrev pub selector_eq : Selector → Selector → Bool
-selector_eq (selector.Cell c) (selector.Cell d) = cell_eq c d
-selector_eq (selector.Lac l) (selector.Lac k) = nat_eq l k
-selector_eq x y = false
-
--- a new area has no selector; one that is put is there
+-- a new area has no selector, nor has one that is dropped; one that is put is there until it is cut
 abbrev pub selector_mark : List ℕ → Selector → Event → Option Bool
 selector_mark a s (AddArea other) = if bytes_eq other a then Some false else None
+selector_mark a s (DropArea other) = if bytes_eq other a then Some false else None
 selector_mark a s (Put other t) = if bytes_eq other a && selector_eq t s then Some true else None
+selector_mark a s (Cut other t) = if bytes_eq other a && selector_eq t s then Some false else None
 selector_mark a s other = None
 
 abbrev pub has_selector : List Entry → List ℕ → Selector → Bool

@@ -11,9 +11,6 @@ use Rattle.centre_core.specs.Replies.{outcome_eq, reply_eq}
 use Rattle.centre_core.specs.declared.outcome.Outcome.{Outcome}
 use Rattle.centre_core.specs.declared.outcome.Outcome.TheVariants.{Done, Silent}
 use Rattle.centre_core.specs.declared.reply.Reply.{Reply}
-use Rattle.centre_core.specs.Cover.{selector_eq}
-use Rattle.centre_core.specs.declared.areas.selector.Selector.{Selector}
-use Rattle.centre_core.specs.declared.areas.selector.Selector.TheVariants as selector
 
 pub option_decides : {A : Type 0} {E : A → A → Bool} → ((x y : A) → Decides (E x y) (x ≡ y)) → (x y : Option A) → Decides (option_eq E x y) (x ≡ y)
 option_decides d None None = (λ h. refl, λ e. refl)
@@ -33,8 +30,3 @@ reply_decides x y =
 
 pub replies_decide : (x y : List Reply) → Decides (pointwise reply_eq x y) (x ≡ y)
 replies_decide = pointwise_decides reply_decides
-
-pub selector_decides : (x y : Selector) → Decides (selector_eq x y) (x ≡ y)
-selector_decides (selector.Cell c) (selector.Cell d) = amounts (cell_decides c d) (λ e. λ i. selector.Cell (e i)) (λ e. cc)
-selector_decides (selector.Lac l) (selector.Lac k) = amounts (unsigned_Decides l k) (λ e. λ i. selector.Lac (e i)) (λ e. cc)
-selector_decides x y = (λ h. cc, λ e. cc)

@@ -2,14 +2,14 @@
 use Rattle.std.specs.Prelude.{ℕ, Bool, true, false, ◌&&◌, List, Option, Some, None, nat_eq, map, if◌then◌else◌}
 use Rattle.cbsp_ie.specs.declared.cell.Cell.{Cell}
 use Rattle.cbsp_messages.specs.declared.message.Message.{Message}
-use Rattle.cbsp_messages.specs.declared.message.Message.TheVariants.{WriteComplete}
+use Rattle.cbsp_messages.specs.declared.message.Message.TheVariants.{WriteComplete, KillComplete}
 use Rattle.centre_core.specs.Past.{latest}
 use Rattle.centre_core.specs.Links.{is_up}
 use Rattle.centre_core.specs.declared.answer.Answer.{Answer}
 use Rattle.centre_core.specs.declared.answer.Answer.TheVariants.{Sent, Replied}
 use Rattle.centre_core.specs.declared.entry.Entry.{Entry}
 use Rattle.centre_core.specs.declared.event.Event.{Event}
-use Rattle.centre_core.specs.declared.event.Event.TheVariants.{LinkUp, Send, Report}
+use Rattle.centre_core.specs.declared.event.Event.TheVariants.{LinkUp, LinkDown, Send, Report}
 use Rattle.centre_core.specs.declared.order_maker.order.Order.{Order}
 use Rattle.centre_core.specs.declared.order_maker.order_kind.OrderKind.{OrderKind}
 use Rattle.centre_core.specs.declared.order_maker.order_kind.OrderKind.TheVariants.{Write, Kill}
@@ -31,6 +31,7 @@ abbrev pub flight_mark : ℕ → Event → Answer → Bool → Option (Option Or
 flight_mark b (Send other generation) answer up = if nat_eq other b then Some (sent_order answer) else None
 flight_mark b (Report other generation message) answer up = if nat_eq other b && is_replied answer then Some None else None
 flight_mark b (LinkUp other) answer up = if nat_eq other b && up then Some None else None
+flight_mark b (LinkDown other generation) answer up = if nat_eq other b then Some None else None
 flight_mark b other answer up = None
 
 -- the order in flight to the BSC
@@ -65,9 +66,14 @@ abbrev pub is_write : OrderKind → Bool
 is_write Write = true
 is_write Kill = false
 
+abbrev pub is_kill : OrderKind → Bool
+is_kill Write = false
+is_kill Kill = true
+
 -- the message answers the order: it is of the order's kind, and no identifier that it gives differs
 abbrev pub matches : Message → Order → Bool
 matches (WriteComplete message_id serial old counts cells channel) order = is_write order.kind && agree (record { message_id = Some message_id; serial = Some serial; old = old }) order
+matches (KillComplete message_id serial counts cells channel) order = is_kill order.kind && agree (record { message_id = Some message_id; serial = None; old = Some serial }) order
 matches other order = false
 
 abbrev pub matches_flight : Message → Option Order → Bool

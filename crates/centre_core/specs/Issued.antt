@@ -50,3 +50,13 @@ actions_by past b (Some w) cs = actions_in past b w cs
 abbrev pub actions_along : List Entry → ℕ → List Cell → List Entry → List Action
 actions_along past b cs [] = []
 actions_along past b cs (e ∷ later) = actions_by past b (issued_by e.event e.answer) cs ++ actions_along past b cs later
+
+-- what one entry's warning gives
+abbrev pub by_warning : {A : Type 0} → (Warning → List A) → Option Warning → List A
+by_warning f None = []
+by_warning f (Some w) = f w
+
+-- what the warnings give that the entries of a journal issue
+abbrev pub along : {A : Type 0} → (Warning → List A) → List Entry → List A
+along f [] = []
+along f (e ∷ later) = by_warning f (issued_by e.event e.answer) ++ along f later

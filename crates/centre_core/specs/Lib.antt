@@ -13,12 +13,15 @@ pub mod Presence
 pub mod Plan
 pub mod Actions
 pub mod Issued
+pub mod Sorting
 pub mod Pending
 pub mod OrderMessage
+pub mod Table
 pub mod Numbers
 pub mod Verdict
 pub mod Pages
 pub mod Fits
 pub mod Legal
+pub mod Kept
 pub mod Headline
 pub mod Centre

@@ -6,11 +6,13 @@ use Rattle.cbsp_ie.specs.declared.cell.Cell.{Cell}
 use Rattle.centre_core.specs.Past.{latest, named, count_of}
 use Rattle.centre_core.specs.declared.entry.Entry.{Entry}
 use Rattle.centre_core.specs.declared.event.Event.{Event}
-use Rattle.centre_core.specs.declared.event.Event.TheVariants.{AddCell}
+use Rattle.centre_core.specs.declared.event.Event.TheVariants.{AddCell, MoveCell, RemoveCell}
 
 -- where the event puts the cell: at a BSC, or nowhere
 abbrev pub place_mark : Cell → Event → Option (Option ℕ)
 place_mark c (AddCell d b) = if cell_eq d c then Some (Some b) else None
+place_mark c (MoveCell d b) = if cell_eq d c then Some (Some b) else None
+place_mark c (RemoveCell d) = if cell_eq d c then Some None else None
 place_mark c other = None
 
 -- the BSC at which the cell is registered
@@ -20,9 +22,10 @@ place past c = latest (λ e before. place_mark c e.event) None past
 abbrev pub is_registered : List Entry → Cell → Bool
 is_registered past c = is_some (place past c)
 
--- the cell that the event registers
+-- the cell that the event registers at a BSC
 abbrev pub added_cell : Event → Option Cell
 added_cell (AddCell d b) = Some d
+added_cell (MoveCell d b) = Some d
 added_cell other = None
 
 -- every cell that was ever registered, each once

@@ -10,7 +10,7 @@ use Rattle.centre_core.specs.InFlight.{in_flight, outcome, is_replied}
 use Rattle.centre_core.specs.declared.answer.Answer.{Answer}
 use Rattle.centre_core.specs.declared.entry.Entry.{Entry}
 use Rattle.centre_core.specs.declared.event.Event.{Event}
-use Rattle.centre_core.specs.declared.event.Event.TheVariants.{LinkUp, Report}
+use Rattle.centre_core.specs.declared.event.Event.TheVariants.{RemoveBsc, LinkUp, LinkDown, Report}
 use Rattle.centre_core.specs.declared.mirror.presence.Presence.{Presence}
 use Rattle.centre_core.specs.declared.mirror.presence.Presence.TheVariants.{Absent, OnAir, Unknown}
 use Rattle.centre_core.specs.declared.order_maker.order.Order.{Order}
@@ -42,10 +42,13 @@ abbrev pub flight_effect : Option Order → Outcome → Cell → ℕ → ℕ →
 flight_effect None o c m s = Leaves
 flight_effect (Some order) o c m s = order_effect order o c m s
 
--- a matched reply tells the outcome in each cell of the order in flight; the loss of the link leaves it silent in all
+-- a matched reply tells the outcome in each cell of the order in flight; the loss of the link leaves it silent in
+-- all; of a BSC that is removed nothing is on air
 abbrev pub effect : ℕ → Cell → ℕ → ℕ → Event → Answer → Bool → Option Order → Effect
 effect b c m s (Report other generation message) answer up flight = if nat_eq other b && is_replied answer then flight_effect flight (outcome message c) c m s else Leaves
 effect b c m s (LinkUp other) answer up flight = if nat_eq other b && up then flight_effect flight Silent c m s else Leaves
+effect b c m s (LinkDown other generation) answer up flight = if nat_eq other b then flight_effect flight Silent c m s else Leaves
+effect b c m s (RemoveBsc other) answer up flight = if nat_eq other b then Sets Absent else Leaves
 effect b c m s other answer up flight = Leaves
 
 abbrev pub presence_mark : Effect → Option Presence

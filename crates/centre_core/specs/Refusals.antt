@@ -1,17 +1,30 @@
 -- The numbers of the refusals.
 use Rattle.std.specs.Prelude.{ℕ}
+use Rattle.areas.specs.declared.refusal.Limit.TheVariants as areas_limit
+use Rattle.areas.specs.declared.refusal.Refusal as areas
+use Rattle.areas.specs.declared.refusal.Refusal.TheVariants as areas_refusal
+use Rattle.cell_register.specs.declared.refusal.Limit.TheVariants as register_limit
+use Rattle.cell_register.specs.declared.refusal.Refusal as register
+use Rattle.cell_register.specs.declared.refusal.Refusal.TheVariants as register_refusal
+use Rattle.centre_core.specs.declared.refusal.Limit.TheVariants as limit
 use Rattle.centre_core.specs.declared.refusal.Refusal.{Refusal}
-use Rattle.centre_core.specs.declared.refusal.Refusal.TheVariants.{JournalFull, NoSuchBsc, BscExists, CellExists, BadName, AreaExists, NoSuchArea, SelectorThere, NoSuchWarning, NoAreas, AreaThere, BadPages, BadPeriod, StaleLink, LinkNotUp, InFlight, NothingPending, NoOrder, Limit, Memory}
+use Rattle.centre_core.specs.declared.refusal.Refusal.TheVariants.{JournalFull, NoSuchBsc, BscExists, BscHasCells, LinkIsUp, CellExists, NoSuchCell, SameBsc, BadName, AreaExists, NoSuchArea, AreaInUse, SelectorThere, SelectorNotThere, NoSuchWarning, NoAreas, AreaThere, BadPages, BadPeriod, StaleLink, LinkNotUp, InFlight, NothingPending, NoOrder, Limit, Memory}
 
 abbrev pub refusal_number : Refusal → ℕ
 refusal_number JournalFull = 2
 refusal_number NoSuchBsc = 3
 refusal_number BscExists = 4
+refusal_number BscHasCells = 5
+refusal_number LinkIsUp = 6
 refusal_number CellExists = 7
+refusal_number NoSuchCell = 8
+refusal_number SameBsc = 9
 refusal_number BadName = 10
 refusal_number AreaExists = 11
 refusal_number NoSuchArea = 12
+refusal_number AreaInUse = 13
 refusal_number SelectorThere = 14
+refusal_number SelectorNotThere = 15
 refusal_number NoSuchWarning = 16
 refusal_number NoAreas = 21
 refusal_number AreaThere = 22
@@ -24,3 +37,26 @@ refusal_number NothingPending = 32
 refusal_number NoOrder = 34
 refusal_number (Limit which) = 35
 refusal_number Memory = 36
+
+-- the refusal that one of the register is
+abbrev pub of_register : register.Refusal → Refusal
+of_register register_refusal.NoSuchBsc = NoSuchBsc
+of_register register_refusal.BscExists = BscExists
+of_register register_refusal.BscHasCells = BscHasCells
+of_register register_refusal.CellExists = CellExists
+of_register register_refusal.NoSuchCell = NoSuchCell
+of_register register_refusal.SameBsc = SameBsc
+of_register (register_refusal.Limit register_limit.Bscs) = Limit limit.Bscs
+of_register (register_refusal.Limit register_limit.Cells) = Limit limit.Cells
+of_register register_refusal.Memory = Memory
+
+-- the refusal that one of the areas is
+abbrev pub of_areas : areas.Refusal → Refusal
+of_areas areas_refusal.BadName = BadName
+of_areas areas_refusal.AreaExists = AreaExists
+of_areas areas_refusal.NoSuchArea = NoSuchArea
+of_areas areas_refusal.SelectorThere = SelectorThere
+of_areas areas_refusal.SelectorNotThere = SelectorNotThere
+of_areas (areas_refusal.Limit areas_limit.Areas) = Limit limit.Areas
+of_areas (areas_refusal.Limit areas_limit.Selectors) = Limit limit.Selectors
+of_areas areas_refusal.Memory = Memory

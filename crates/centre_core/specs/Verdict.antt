@@ -9,14 +9,16 @@ use Rattle.centre_core.specs.InFlight.{in_flight, matches_flight, replies}
 use Rattle.centre_core.specs.Links.{is_bsc, bsc_count, is_up, last_link}
 use Rattle.centre_core.specs.OrderMessage.{order_message}
 use Rattle.centre_core.specs.Pending.{pending, first}
-use Rattle.centre_core.specs.Places.{is_registered, cell_count}
+use Rattle.centre_core.specs.Places.{cells, place, is_registered, cell_count}
+use Rattle.centre_core.specs.Plan.{is_place}
 use Rattle.centre_core.specs.Warnings.{book, issue_count, new_serial, content_of}
 use Rattle.centre_core.specs.declared.answer.Answer.{Answer}
 use Rattle.centre_core.specs.declared.answer.Answer.TheVariants as answer
-use Rattle.centre_core.specs.declared.areas.selector.Selector.{Selector}
+use Rattle.areas.specs.Name.{is_name}
+use Rattle.areas.specs.declared.selector.Selector.{Selector}
 use Rattle.centre_core.specs.declared.entry.Entry.{Entry}
 use Rattle.centre_core.specs.declared.event.Event.{Event}
-use Rattle.centre_core.specs.declared.event.Event.TheVariants.{AddBsc, AddCell, AddArea, Put, Issue, LinkUp, Send, Report}
+use Rattle.centre_core.specs.declared.event.Event.TheVariants.{AddBsc, RemoveBsc, AddCell, MoveCell, RemoveCell, AddArea, DropArea, Put, Cut, Issue, LinkUp, LinkDown, Send, Report}
 use Rattle.centre_core.specs.declared.order_maker.order.Order.{Order}
 use Rattle.centre_core.specs.declared.refusal.Limit.TheVariants as limit
 use Rattle.centre_core.specs.declared.refusal.Refusal.{Refusal}
@@ -34,18 +36,33 @@ add_bsc_checks past b = (is_bsc past b, refusal.BscExists) ∷ (nat_le 256 (bsc_
 abbrev pub add_bsc : List Entry → ℕ → Result Answer Refusal
 add_bsc past b = unless (add_bsc_checks past b) (Ok answer.Done)
 
+-- a cell is registered at the BSC
+abbrev pub has_cells : List Entry → ℕ → Bool
+has_cells past b = list_any (λ c. is_place (place past c) b) (cells past)
+
+abbrev pub remove_bsc_checks : List Entry → ℕ → List (Bool × Refusal)
+remove_bsc_checks past b = (not (is_bsc past b), refusal.NoSuchBsc) ∷ (has_cells past b, refusal.BscHasCells) ∷ (is_up past b, refusal.LinkIsUp) ∷ []
+
+abbrev pub remove_bsc : List Entry → ℕ → Result Answer Refusal
+remove_bsc past b = unless (remove_bsc_checks past b) (Ok answer.Done)
+
 abbrev pub add_cell_checks : List Entry → Cell → ℕ → List (Bool × Refusal)
 add_cell_checks past c b = (not (is_bsc past b), refusal.NoSuchBsc) ∷ (is_registered past c, refusal.CellExists) ∷ (nat_le 65536 (cell_count past), refusal.Limit limit.Cells) ∷ []
 
 abbrev pub add_cell : List Entry → Cell → ℕ → Result Answer Refusal
 add_cell past c b = unless (add_cell_checks past c b) (Ok answer.Done)
 
--- a name is 1 to 32 ASCII letters, digits or hyphens
-abbrev pub is_name_octet : ℕ → Bool
-is_name_octet x = (nat_le 48 x && nat_le x 57) || ((nat_le 65 x && nat_le x 90) || ((nat_le 97 x && nat_le x 122) || nat_eq x 45))
+abbrev pub move_cell_checks : List Entry → Cell → ℕ → List (Bool × Refusal)
+move_cell_checks past c b = (not (is_bsc past b), refusal.NoSuchBsc) ∷ (not (is_registered past c), refusal.NoSuchCell) ∷ (is_place (place past c) b, refusal.SameBsc) ∷ []
 
-abbrev pub is_name : List ℕ → Bool
-is_name a = (nat_le 1 (length a) && nat_le (length a) 32) && not (list_any (λ x. not (is_name_octet x)) a)
+abbrev pub move_cell : List Entry → Cell → ℕ → Result Answer Refusal
+move_cell past c b = unless (move_cell_checks past c b) (Ok answer.Done)
+
+abbrev pub remove_cell_checks : List Entry → Cell → List (Bool × Refusal)
+remove_cell_checks past c = (not (is_registered past c), refusal.NoSuchCell) ∷ []
+
+abbrev pub remove_cell : List Entry → Cell → Result Answer Refusal
+remove_cell past c = unless (remove_cell_checks past c) (Ok answer.Done)
 
 abbrev pub add_area_checks : List Entry → List ℕ → List (Bool × Refusal)
 add_area_checks past a = (not (is_name a), refusal.BadName) ∷ (is_area past a, refusal.AreaExists) ∷ (nat_le 4096 (area_count past), refusal.Limit limit.Areas) ∷ []
@@ -53,11 +70,27 @@ add_area_checks past a = (not (is_name a), refusal.BadName) ∷ (is_area past a,
 abbrev pub add_area : List Entry → List ℕ → Result Answer Refusal
 add_area past a = unless (add_area_checks past a) (Ok answer.Done)
 
+-- a warning in the book names the area
+abbrev pub is_in_use : List Entry → List ℕ → Bool
+is_in_use past a = list_any (λ w. list_any (bytes_eq a) w.areas) (book past)
+
+abbrev pub drop_area_checks : List Entry → List ℕ → List (Bool × Refusal)
+drop_area_checks past a = (not (is_area past a), refusal.NoSuchArea) ∷ (is_in_use past a, refusal.AreaInUse) ∷ []
+
+abbrev pub drop_area : List Entry → List ℕ → Result Answer Refusal
+drop_area past a = unless (drop_area_checks past a) (Ok answer.Done)
+
 abbrev pub put_checks : List Entry → List ℕ → Selector → List (Bool × Refusal)
 put_checks past a s = (not (is_area past a), refusal.NoSuchArea) ∷ (has_selector past a s, refusal.SelectorThere) ∷ (nat_le 4096 (selector_count past a), refusal.Limit limit.Selectors) ∷ []
 
 abbrev pub put : List Entry → List ℕ → Selector → Result Answer Refusal
 put past a s = unless (put_checks past a s) (Ok answer.Done)
+
+abbrev pub cut_checks : List Entry → List ℕ → Selector → List (Bool × Refusal)
+cut_checks past a s = (not (is_area past a), refusal.NoSuchArea) ∷ (not (has_selector past a s), refusal.SelectorNotThere) ∷ []
+
+abbrev pub cut : List Entry → List ℕ → Selector → Result Answer Refusal
+cut past a s = unless (cut_checks past a s) (Ok answer.Done)
 
 -- a name stands in the list a second time
 abbrev pub has_twice : List (List ℕ) → Bool
@@ -100,6 +133,9 @@ link_up past b = unless (link_up_checks past b) (Ok (answer.Link (length past + 
 abbrev pub link_checks : List Entry → ℕ → ℕ → List (Bool × Refusal)
 link_checks past b generation = (not (is_bsc past b), refusal.NoSuchBsc) ∷ (not (nat_eq generation (last_link past b)), refusal.StaleLink (last_link past b)) ∷ (not (is_up past b), refusal.LinkNotUp) ∷ []
 
+abbrev pub link_down : List Entry → ℕ → ℕ → Result Answer Refusal
+link_down past b generation = unless (link_checks past b generation) (Ok answer.Done)
+
 abbrev pub send_checks : List Entry → ℕ → ℕ → List (Bool × Refusal)
 send_checks past b generation = link_checks past b generation ++ (is_some (in_flight past b), refusal.InFlight) ∷ []
 
@@ -123,11 +159,17 @@ report past b generation message = unless (report_checks past b generation messa
 
 abbrev pub law : List Entry → Event → Result Answer Refusal
 law past (AddBsc b) = add_bsc past b
+law past (RemoveBsc b) = remove_bsc past b
 law past (AddCell c b) = add_cell past c b
+law past (MoveCell c b) = move_cell past c b
+law past (RemoveCell c) = remove_cell past c
 law past (AddArea a) = add_area past a
+law past (DropArea a) = drop_area past a
 law past (Put a s) = put past a s
+law past (Cut a s) = cut past a s
 law past (Issue notice names) = issue past notice names
 law past (LinkUp b) = link_up past b
+law past (LinkDown b generation) = link_down past b generation
 law past (Send b generation) = send past b generation
 law past (Report b generation message) = report past b generation message
 

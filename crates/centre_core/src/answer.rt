@@ -1,6 +1,7 @@
 //! What an accepted event is answered.
 
-ghost use Rattle.std.specs.Prelude.{◌≡◌, ◌↔◌, IsTrue, IfOk};
+ghost use Rattle.std.specs.Prelude.{◌≡◌, ◌↔◌, IsTrue, IfOk, IsOk};
+ghost use Rattle.centre_core.specs.declared.answer.Answer.TheVariants.{Done};
 
 use crate::order_maker::Order;
 use crate::replies::Replies;
@@ -24,9 +25,10 @@ pub enum Answer {
 }
 
 impl Answer {
-    /// The same answer in memory of its own.
+    /// The same answer in memory of its own. `Done` takes none.
     pub fn copied(&self, alloc: Global) -> Result<Answer, AllocError>
-        ensures { IfOk result (λ copy. copy ≡ self.now) }
+        ensures copy { IfOk result (λ copy. copy ≡ self.now) }
+        ensures done { self.now ≡ Done → IsOk result }
     {
         match self {
             Answer::Done => Ok(Answer::Done),

@@ -1,20 +1,26 @@
 //! The centre: its journal, and the questions that the journal answers.
 
-ghost use Rattle.std.specs.Prelude.{◌≡◌, ◌<◌, ◌⊎◌, length, reverse, IfOk, IfErr, OnOk};
+ghost use Rattle.std.specs.Prelude.{◌≡◌, ◌<◌, length, reverse, true, IfOk, OnOk, OnErr};
+ghost use Rattle.std.specs.Vec.{vec_len, vec_capacity};
+ghost use Rattle.centre_core.specs.Kept.{IsRegisterOf, AreAreasOf, register_after, areas_after, is_edit, Gives};
 ghost use Rattle.centre_core.specs.Pages.{HasPages};
-ghost use Rattle.centre_core.specs.Verdict.{verdict};
+ghost use Rattle.centre_core.specs.Verdict.{verdict, law};
 ghost use Rattle.centre_core.specs.Warnings.{book};
+ghost use Rattle.centre_core.specs.declared.answer.Answer.TheVariants.{Done};
 
 use crate::answer::Answer;
-use crate::cell_register::BscId;
 use crate::coverage_board::{self, Numbers};
 use crate::entry::Entry;
 use crate::event::Event;
 use crate::history;
 use crate::laws::law;
+use crate::mirror::{self, ReportedKeys};
 use crate::order_maker::{self, Order, Orders};
 use crate::refusal::Refusal;
 use crate::warning_book::WarningId;
+use areas::Areas;
+use cbsp_ie::Cell;
+use cell_register::{BscId, Register};
 use std::alloc::Global;
 use std::marker::Model;
 
@@ -25,19 +31,39 @@ pub struct Centre {
     plmn: [u8; 3],
     limit: u32,
     journal: Vec<Entry>,
+    register: Register,
+    areas: Areas,
 }
 
-/// What the event is answered after the entries of the journal, which holds so many at most.
-fn answer_to(alloc: Global, limit: u32, journal: &[Entry], event: &Event) -> Result<Answer, Refusal>
-    requires { HasPages (book (reverse journal.now)) }
-    ensures answer { IfOk result (λ a. verdict limit (reverse journal.now) event.now ≡ Ok a) }
-    ensures refusal { IfErr result (λ r. (r ≡ Refusal.Memory) ⊎ (verdict limit (reverse journal.now) event.now ≡ Err r)) }
-    ensures room { OnOk result (length journal.now < limit) }
+/// What the event is answered after the entries of the journal, which holds so many at most; room for one more entry
+/// is made first.
+fn answer_to(
+    alloc: Global,
+    limit: u32,
+    journal: &mut Vec<Entry>,
+    register: &mut Register,
+    areas: &mut Areas,
+    event: &Event,
+) -> Result<Answer, Refusal>
+    requires pages { HasPages (book (reverse journal.old.items)) }
+    requires registered { IsRegisterOf (reverse journal.old.items) register.old }
+    requires selected { AreAreasOf (reverse journal.old.items) areas.old }
+    ensures entries { journal.new.items ≡ journal.old.items }
+    ensures room { OnOk result (vec_len journal.new < vec_capacity journal.new) }
+    ensures few { OnOk result (length journal.old.items < limit) }
+    ensures verdict { Gives (verdict limit (reverse journal.old.items) event.now) result }
+    ensures law { IfOk result (λ a. law (reverse journal.old.items) event.now ≡ Ok a) }
+    ensures register { OnOk result (register.new ≡ register_after event.now register.old) }
+    ensures areas { OnOk result (areas.new ≡ areas_after event.now areas.old) }
+    ensures register_stays { OnErr result (register.new ≡ register.old) }
+    ensures areas_stay { OnErr result (areas.new ≡ areas.old) }
+    ensures edits { IfOk result (λ a. is_edit event.now ≡ true → a ≡ Done) }
 {
     if journal.len() >= limit as usize {
         return Err(Refusal::JournalFull);
     }
-    law(alloc, journal, event)?
+    journal.try_reserve(1)?;
+    law(alloc, journal.as_slice(), register, areas, event)
 }
 
 impl Model for Centre {
@@ -48,7 +74,7 @@ impl Model for Centre {
 
     ghost view = { λ c. record { plmn = c.plmn; limit = c.limit; journal = c.journal.items } };
 
-    ghost invariant = { λ c. IsCentre c.limit c.journal.items };
+    ghost invariant = { λ c. IsCentre c.limit c.journal.items c.register c.areas };
 }
 
 impl Centre {
@@ -63,6 +89,8 @@ impl Centre {
     ghost use Rattle.centre_core.specs.Links.{is_bsc};
     ghost use Rattle.centre_core.specs.Numbers.{board};
     ghost use Rattle.centre_core.specs.Pending.{pending};
+    ghost use Rattle.centre_core.specs.Places.{place};
+    ghost use Rattle.centre_core.specs.Table.{table};
     ghost use Rattle.centre_core.specs.Verdict.{verdict};
 
     /// A centre of the network, without entries, whose journal holds so many at most.
@@ -75,11 +103,13 @@ impl Centre {
             plmn,
             limit: journal_limit,
             journal: Vec::new(alloc),
+            register: Register::new(alloc),
+            areas: Areas::new(alloc),
         }
     }
 
     /// Takes an event that the desk submits. An accepted event becomes one entry of the journal; a refused one changes
-    /// nothing. The refusal is the first, in the order of their numbers, whose cause holds; want of memory is the last.
+    /// nothing. The refusal is the first, in the order of their numbers, whose cause holds, or want of memory.
     pub fn accept(&mut self, desk: u32, event: Event) -> Result<Answer, Refusal>
         ensures plmn { self.new.plmn ≡ self.old.plmn }
         ensures limit { self.new.limit ≡ self.old.limit }
@@ -90,7 +120,14 @@ impl Centre {
         ensures legal { Legal self.new.limit (past self.new) }
         ensures fits { IfOk result AnswerFits }
     {
-        let answer = answer_to(self.alloc, self.limit, self.journal.as_slice(), &event)?;
+        let answer = answer_to(
+            self.alloc,
+            self.limit,
+            &mut self.journal,
+            &mut self.register,
+            &mut self.areas,
+            &event,
+        )?;
         let entry = Entry::of(self.alloc, desk, event, &answer)?;
         self.journal.push(entry)?;
         Ok(answer)
@@ -101,7 +138,7 @@ impl Centre {
         ensures orders { IfOk result (λ orders. (orders ≡ pending (past self.now) b) × (is_bsc (past self.now) b ≡ true)) }
         ensures refusal { IfErr result (λ r. (r ≡ Refusal.Memory) ⊎ ((r ≡ Refusal.NoSuchBsc) × (is_bsc (past self.now) b ≡ false))) }
     {
-        if !history::is_bsc(self.journal.as_slice(), b) {
+        if !self.register.has_bsc(b) {
             return Err(Refusal::NoSuchBsc);
         }
         Ok(order_maker::pending(self.alloc, self.journal.as_slice(), b)?)
@@ -112,10 +149,29 @@ impl Centre {
         ensures order { IfOk result (λ order. (option_copied order ≡ in_flight (past self.now) b) × (is_bsc (past self.now) b ≡ true)) }
         ensures refusal { IfErr result (λ r. (r ≡ Refusal.NoSuchBsc) × (is_bsc (past self.now) b ≡ false)) }
     {
-        if !history::is_bsc(self.journal.as_slice(), b) {
+        if !self.register.has_bsc(b) {
             return Err(Refusal::NoSuchBsc);
         }
         Ok(history::in_flight(self.journal.as_slice(), b))
+    }
+
+    /// The BSC at which the cell is registered, if it is.
+    pub fn place_of(&self, cell: Cell) -> Result<Option<BscId>, Refusal>
+        ensures { result ≡ Ok (place (past self.now) cell) }
+    {
+        Ok(self.register.bsc_of(cell))
+    }
+
+    /// What the BSC has reported: each of its keys that is on air, or may be.
+    pub fn table_of(&mut self, b: BscId) -> Result<ReportedKeys, Refusal>
+        ensures table { IfOk result (λ keys. (keys ≡ table (past self.old) b) × (is_bsc (past self.old) b ≡ true)) }
+        ensures refusal { IfErr result (λ r. (r ≡ Refusal.Memory) ⊎ ((r ≡ Refusal.NoSuchBsc) × (is_bsc (past self.old) b ≡ false))) }
+        ensures unchanged { self.new ≡ self.old }
+    {
+        if !self.register.has_bsc(b) {
+            return Err(Refusal::NoSuchBsc);
+        }
+        Ok(mirror::table(self.alloc, self.journal.as_slice(), b)?)
     }
 
     /// The numbers of the warning.

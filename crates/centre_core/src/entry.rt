@@ -1,6 +1,7 @@
 //! One entry of the journal.
 
-ghost use Rattle.std.specs.Prelude.{◌≡◌, ◌↔◌, IsTrue, IfOk};
+ghost use Rattle.std.specs.Prelude.{◌≡◌, ◌↔◌, IsTrue, IfOk, IsOk};
+ghost use Rattle.centre_core.specs.declared.answer.Answer.TheVariants.{Done};
 
 use crate::answer::Answer;
 use crate::event::Event;
@@ -16,14 +17,15 @@ pub struct Entry {
 }
 
 impl Entry {
-    /// The entry of an event and a copy of what it was answered.
+    /// The entry of an event and a copy of what it was answered. It takes no memory where that is `Done`.
     pub(crate) fn of(
         alloc: Global,
         desk: u32,
         event: Event,
         answer: &Answer,
     ) -> Result<Entry, AllocError>
-        ensures { IfOk result (λ e. e ≡ record { desk = desk; event = event; answer = answer.now }) }
+        ensures entry { IfOk result (λ e. e ≡ record { desk = desk; event = event; answer = answer.now }) }
+        ensures done { answer.now ≡ Done → IsOk result }
     {
         let answer = answer.copied(alloc)?;
         Ok(Entry {

@@ -2,11 +2,11 @@
 
 ghost use Rattle.std.specs.Prelude.{◌≡◌, ◌↔◌, IsTrue, IfOk};
 
-use crate::areas::Selector;
-use crate::cell_register::BscId;
 use crate::warning_book::Notice;
+use areas::Selector;
 use cbsp_ie::{Cell, Name, Names};
 use cbsp_messages::Message;
+use cell_register::BscId;
 use std::alloc::{AllocError, Global};
 
 /// What can happen to a centre: an edit, a link, an order or a report.
@@ -14,16 +14,28 @@ use std::alloc::{AllocError, Global};
 pub enum Event {
     /// Registers a BSC.
     AddBsc(BscId),
+    /// Takes a BSC out that has no cells and no link.
+    RemoveBsc(BscId),
     /// Registers a cell at a BSC.
     AddCell(Cell, BscId),
+    /// Registers a cell at another BSC.
+    MoveCell(Cell, BscId),
+    /// Takes a cell out.
+    RemoveCell(Cell),
     /// Makes an area without selectors.
     AddArea(Name),
+    /// Drops an area, with its selectors.
+    DropArea(Name),
     /// Puts a selector into an area.
     Put(Name, Selector),
+    /// Cuts a selector out of an area.
+    Cut(Name, Selector),
     /// Issues a warning in these areas.
     Issue(Notice, Names),
     /// The link of a BSC has come up.
     LinkUp(BscId),
+    /// The link of this generation is lost.
+    LinkDown(BscId, u64),
     /// Takes the first pending order of a BSC, over the link of this generation.
     Send(BscId, u64),
     /// A message of a BSC, over the link of this generation.
@@ -37,14 +49,20 @@ impl Event {
     {
         match self {
             Event::AddBsc(bsc) => Ok(Event::AddBsc(*bsc)),
+            Event::RemoveBsc(bsc) => Ok(Event::RemoveBsc(*bsc)),
             Event::AddCell(cell, bsc) => Ok(Event::AddCell(*cell, *bsc)),
+            Event::MoveCell(cell, bsc) => Ok(Event::MoveCell(*cell, *bsc)),
+            Event::RemoveCell(cell) => Ok(Event::RemoveCell(*cell)),
             Event::AddArea(area) => Ok(Event::AddArea(area.copied(alloc)?)),
+            Event::DropArea(area) => Ok(Event::DropArea(area.copied(alloc)?)),
             Event::Put(area, selector) => Ok(Event::Put(area.copied(alloc)?, *selector)),
+            Event::Cut(area, selector) => Ok(Event::Cut(area.copied(alloc)?, *selector)),
             Event::Issue(notice, areas) => Ok(Event::Issue(
                 notice.copied(alloc)?,
                 areas.copied(alloc)?,
             )),
             Event::LinkUp(bsc) => Ok(Event::LinkUp(*bsc)),
+            Event::LinkDown(bsc, generation) => Ok(Event::LinkDown(*bsc, *generation)),
             Event::Send(bsc, generation) => Ok(Event::Send(*bsc, *generation)),
             Event::Report(bsc, generation, message) => {
                 Ok(Event::Report(*bsc, *generation, message.copied(alloc)?))
@@ -57,11 +75,17 @@ impl Event {
     {
         match (self, other) {
             (Event::AddBsc(b), Event::AddBsc(d)) => b == d,
+            (Event::RemoveBsc(b), Event::RemoveBsc(d)) => b == d,
             (Event::AddCell(c, b), Event::AddCell(e, d)) => c == e && b == d,
+            (Event::MoveCell(c, b), Event::MoveCell(e, d)) => c == e && b == d,
+            (Event::RemoveCell(c), Event::RemoveCell(e)) => c == e,
             (Event::AddArea(a), Event::AddArea(b)) => a.same(b),
+            (Event::DropArea(a), Event::DropArea(b)) => a.same(b),
             (Event::Put(a, s), Event::Put(b, t)) => a.same(b) && s == t,
+            (Event::Cut(a, s), Event::Cut(b, t)) => a.same(b) && s == t,
             (Event::Issue(n, a), Event::Issue(o, b)) => n.same(o) && a.same(b),
             (Event::LinkUp(b), Event::LinkUp(d)) => b == d,
+            (Event::LinkDown(b, g), Event::LinkDown(d, h)) => b == d && g == h,
             (Event::Send(b, g), Event::Send(d, h)) => b == d && g == h,
             (Event::Report(b, g, m), Event::Report(d, h, n)) => b == d && g == h && m.same(n),
             _ => false,

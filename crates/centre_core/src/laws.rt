@@ -1,43 +1,69 @@
 //! The rules of the events: what each is answered after the entries of a journal. A function an event; each looks at
 //! the causes of refusal in the order of their numbers.
 
-mod areas;
 mod bscs;
 mod cells;
 mod links;
+mod named_areas;
 mod reports;
 mod sends;
 mod warnings;
 
-ghost use Rattle.std.specs.Prelude.{◌≡◌, reverse, IfOk};
+ghost use Rattle.std.specs.Prelude.{◌≡◌, reverse, true, IfOk, OnOk, OnErr};
+ghost use Rattle.centre_core.specs.Kept.{IsRegisterOf, AreAreasOf, register_after, areas_after, is_edit, Gives};
 ghost use Rattle.centre_core.specs.Pages.{HasPages};
 ghost use Rattle.centre_core.specs.Verdict.{law};
 ghost use Rattle.centre_core.specs.Warnings.{book};
+ghost use Rattle.centre_core.specs.declared.answer.Answer.TheVariants.{Done};
 
 use crate::answer::Answer;
 use crate::entry::Entry;
 use crate::event::Event;
 use crate::refusal::Refusal;
-use std::alloc::{AllocError, Global};
+use areas::Areas;
+use cell_register::Register;
+use std::alloc::Global;
 
 /// What an event is answered.
 pub(crate) type Verdict = Result<Answer, Refusal>;
 
-/// What the event is answered after the entries of the journal.
-pub(crate) fn law(alloc: Global, journal: &[Entry], event: &Event) -> Result<Verdict, AllocError>
-    requires { HasPages (book (reverse journal.now)) }
-    ensures { IfOk result (λ verdict. verdict ≡ law (reverse journal.now) event.now) }
+/// What the event is answered after the entries of the journal; an edit of the register or of the areas is made
+/// there. A refused event, or one for which memory was wanted, leaves both as they were.
+pub(crate) fn law(
+    alloc: Global,
+    journal: &[Entry],
+    register: &mut Register,
+    areas: &mut Areas,
+    event: &Event,
+) -> Result<Answer, Refusal>
+    requires pages { HasPages (book (reverse journal.now)) }
+    requires registered { IsRegisterOf (reverse journal.now) register.old }
+    requires selected { AreAreasOf (reverse journal.now) areas.old }
+    ensures verdict { Gives (law (reverse journal.now) event.now) result }
+    ensures register { OnOk result (register.new ≡ register_after event.now register.old) }
+    ensures areas { OnOk result (areas.new ≡ areas_after event.now areas.old) }
+    ensures register_stays { OnErr result (register.new ≡ register.old) }
+    ensures areas_stay { OnErr result (areas.new ≡ areas.old) }
+    ensures edits { IfOk result (λ a. is_edit event.now ≡ true → a ≡ Done) }
 {
     match event {
-        Event::AddBsc(b) => Ok(bscs::add_bsc(journal, *b)),
-        Event::AddCell(c, b) => Ok(cells::add_cell(journal, *c, *b)),
-        Event::AddArea(a) => Ok(areas::add_area(journal, a)),
-        Event::Put(a, s) => Ok(areas::put(journal, a, *s)),
-        Event::Issue(notice, names) => warnings::issue(alloc, journal, notice, names.as_slice()),
-        Event::LinkUp(b) => Ok(links::link_up(journal, *b)),
-        Event::Send(b, generation) => sends::send(alloc, journal, *b, *generation),
+        Event::AddBsc(b) => bscs::add_bsc(register, *b),
+        Event::RemoveBsc(b) => bscs::remove_bsc(journal, register, *b),
+        Event::AddCell(c, b) => cells::add_cell(register, *c, *b),
+        Event::MoveCell(c, b) => cells::move_cell(register, *c, *b),
+        Event::RemoveCell(c) => cells::remove_cell(register, *c),
+        Event::AddArea(a) => named_areas::add_area(areas, a),
+        Event::DropArea(a) => named_areas::drop_area(journal, areas, a),
+        Event::Put(a, s) => named_areas::put(areas, a, *s),
+        Event::Cut(a, s) => named_areas::cut(areas, a, *s),
+        Event::Issue(notice, names) => {
+            warnings::issue(alloc, journal, areas, notice, names.as_slice())?
+        }
+        Event::LinkUp(b) => links::link_up(journal, register, *b),
+        Event::LinkDown(b, generation) => links::link_down(journal, register, *b, *generation),
+        Event::Send(b, generation) => sends::send(alloc, journal, register, *b, *generation)?,
         Event::Report(b, generation, message) => {
-            reports::report(alloc, journal, *b, *generation, message)
+            reports::report(alloc, journal, register, *b, *generation, message)?
         }
     }
 }

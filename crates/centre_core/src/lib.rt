@@ -7,8 +7,6 @@
 #![tactic(auto)]
 
 pub mod answer;
-pub mod areas;
-pub mod cell_register;
 pub mod centre;
 pub mod coverage_board;
 pub mod entry;
@@ -23,6 +21,10 @@ pub mod refusal;
 pub mod replies;
 pub mod reply;
 pub mod serials;
+mod sorting;
 #[cfg(test)]
 mod tests;
 pub mod warning_book;
+
+pub use areas::Selector;
+pub use cell_register::BscId;

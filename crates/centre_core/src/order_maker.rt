@@ -1,6 +1,7 @@
 //! Orders for a base station controller: what is to be ordered in each cell, put in order and joined to orders.
 
 mod action;
+mod action_order;
 mod actions;
 mod grouping;
 mod order;
@@ -8,7 +9,6 @@ mod order_kind;
 mod order_message;
 mod orders;
 mod pending;
-mod sorting;
 
 pub use action::Action;
 pub(crate) use actions::wanted;

@@ -35,16 +35,28 @@ pub enum Refusal {
     NoSuchBsc,
     #[error("the BSC is registered already")]
     BscExists,
+    #[error("cells are registered at the BSC")]
+    BscHasCells,
+    #[error("the link of the BSC is up")]
+    LinkIsUp,
     #[error("the cell is registered already")]
     CellExists,
+    #[error("no such cell")]
+    NoSuchCell,
+    #[error("the cell is registered at this BSC already")]
+    SameBsc,
     #[error("a name is 1 to 32 letters, digits or hyphens")]
     BadName,
     #[error("the area is there already")]
     AreaExists,
     #[error("no such area")]
     NoSuchArea,
+    #[error("a warning names the area")]
+    AreaInUse,
     #[error("the area has this selector already")]
     SelectorThere,
+    #[error("the area has no such selector")]
+    SelectorNotThere,
     #[error("no such warning")]
     NoSuchWarning,
     #[error("a warning names one area at least")]
@@ -85,11 +97,17 @@ impl Refusal {
             Refusal::JournalFull => 2,
             Refusal::NoSuchBsc => 3,
             Refusal::BscExists => 4,
+            Refusal::BscHasCells => 5,
+            Refusal::LinkIsUp => 6,
             Refusal::CellExists => 7,
+            Refusal::NoSuchCell => 8,
+            Refusal::SameBsc => 9,
             Refusal::BadName => 10,
             Refusal::AreaExists => 11,
             Refusal::NoSuchArea => 12,
+            Refusal::AreaInUse => 13,
             Refusal::SelectorThere => 14,
+            Refusal::SelectorNotThere => 15,
             Refusal::NoSuchWarning => 16,
             Refusal::NoAreas => 21,
             Refusal::AreaThere => 22,
@@ -102,6 +120,61 @@ impl Refusal {
             Refusal::NoOrder => 34,
             Refusal::Limit { which: _ } => 35,
             Refusal::Memory => 36,
+        }
+    }
+}
+
+impl From<cell_register::Refusal> for Refusal {
+    ghost use Rattle.std.specs.Prelude.{◌≡◌};
+    ghost use Rattle.centre_core.specs.Refusals.{of_register};
+
+    ghost from_gives = { λ r e. e ≡ of_register r };
+
+    fn from(refusal: cell_register::Refusal) -> Refusal {
+        match refusal {
+            cell_register::Refusal::NoSuchBsc => Refusal::NoSuchBsc,
+            cell_register::Refusal::BscExists => Refusal::BscExists,
+            cell_register::Refusal::BscHasCells => Refusal::BscHasCells,
+            cell_register::Refusal::CellExists => Refusal::CellExists,
+            cell_register::Refusal::NoSuchCell => Refusal::NoSuchCell,
+            cell_register::Refusal::SameBsc => Refusal::SameBsc,
+            cell_register::Refusal::Limit {
+                which: cell_register::Limit::Bscs,
+            } => Refusal::Limit { which: Limit::Bscs },
+            cell_register::Refusal::Limit {
+                which: cell_register::Limit::Cells,
+            } => Refusal::Limit {
+                which: Limit::Cells,
+            },
+            cell_register::Refusal::Memory => Refusal::Memory,
+        }
+    }
+}
+
+impl From<areas::Refusal> for Refusal {
+    ghost use Rattle.std.specs.Prelude.{◌≡◌};
+    ghost use Rattle.centre_core.specs.Refusals.{of_areas};
+
+    ghost from_gives = { λ r e. e ≡ of_areas r };
+
+    fn from(refusal: areas::Refusal) -> Refusal {
+        match refusal {
+            areas::Refusal::BadName => Refusal::BadName,
+            areas::Refusal::AreaExists => Refusal::AreaExists,
+            areas::Refusal::NoSuchArea => Refusal::NoSuchArea,
+            areas::Refusal::SelectorThere => Refusal::SelectorThere,
+            areas::Refusal::SelectorNotThere => Refusal::SelectorNotThere,
+            areas::Refusal::Limit {
+                which: areas::Limit::Areas,
+            } => Refusal::Limit {
+                which: Limit::Areas,
+            },
+            areas::Refusal::Limit {
+                which: areas::Limit::Selectors,
+            } => Refusal::Limit {
+                which: Limit::Selectors,
+            },
+            areas::Refusal::Memory => Refusal::Memory,
         }
     }
 }

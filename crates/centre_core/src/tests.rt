@@ -1,9 +1,8 @@
 use crate::answer::Answer;
-use crate::areas::Selector;
-use crate::cell_register::BscId;
 use crate::centre::Centre;
 use crate::coverage_board::Numbers;
 use crate::event::Event;
+use crate::mirror::{Presence, ReportedKey};
 use crate::order_maker::{Order, OrderKind, message_of};
 use crate::outcome::Outcome;
 use crate::refusal::Refusal;
@@ -11,8 +10,10 @@ use crate::replies::Replies;
 use crate::reply::Reply;
 use crate::serials::{Scope, Serial};
 use crate::warning_book::{Content, ContentPages, Notice, WarningId};
+use areas::Selector;
 use cbsp_ie::{Cell, CellIds, Cells, Name, Names, Octets};
 use cbsp_messages::{Message, Page, Pages};
+use cell_register::BscId;
 use std::alloc::{AllocError, Global};
 use std::process::Abort;
 use std::test::Fail;
@@ -245,6 +246,10 @@ fn an_order_names_a_thousand_cells(rt: HostRuntime) -> Result<(), Fail> {
 fn events_are_copied(rt: &impl Abort, alloc: Global) -> Result<(), AllocError> {
     let issue = issue(alloc)?;
     assert!(rt; issue.same(&issue.copied(alloc)?));
+    let drop = Event::DropArea(coast(alloc)?);
+    assert!(rt; drop.same(&drop.copied(alloc)?));
+    let cut = Event::Cut(coast(alloc)?, Selector::Cell(CELL));
+    assert!(rt; cut.same(&cut.copied(alloc)?));
     Ok(())
 }
 
@@ -267,6 +272,124 @@ fn replies_are_copied(rt: &impl Abort, alloc: Global) -> Result<(), AllocError> 
     Ok(())
 }
 
+/// The first warning is killed in the cell, and its BSC answers.
+fn kills(
+    rt: &impl Abort,
+    alloc: Global,
+    centre: &mut Centre,
+    link: (BscId, u64),
+) -> Result<(), AllocError> {
+    let order = Order {
+        kind: OrderKind::Kill,
+        message_id: 4370,
+        serial: Serial::from_u16(0xc000),
+        cells: Cells::from_vec(Vec::from_slice(alloc, &[CELL])?),
+    };
+    let message = Message::Kill {
+        message_id: 4370,
+        serial: 0xc000,
+        cells: CellIds::of_cells(alloc, &[CELL])?,
+        channel: Some(0),
+    };
+    takes(
+        rt,
+        centre,
+        Event::Send(link.0, link.1),
+        Answer::Sent { order, message },
+    );
+    let complete = Message::KillComplete {
+        message_id: 4370,
+        serial: 0xc000,
+        counts: None,
+        cells: None,
+        channel: None,
+    };
+    let want = Answer::Replied(replies(alloc, &[CELL])?);
+    takes(rt, centre, Event::Report(link.0, link.1, complete), want);
+    Ok(())
+}
+
+/// What the BSC has reported of the first warning in its cell, if anything.
+fn reported(centre: &mut Centre, b: BscId) -> Result<Option<ReportedKey>, Refusal> {
+    let keys = centre.table_of(b)?;
+    match keys.as_slice() {
+        [key] => Ok(Some(*key)),
+        _ => Ok(None),
+    }
+}
+
+fn key(presence: Presence) -> Option<ReportedKey> {
+    Some(ReportedKey {
+        cell: CELL,
+        message_id: 4370,
+        serial: Serial::from_u16(0xc000),
+        presence,
+    })
+}
+
+#[test]
+fn a_lost_link_leaves_its_order_unknown(rt: HostRuntime) -> Result<(), Fail> {
+    let alloc = rt.alloc();
+    let b = BscId::new(1).ok_or("1 is a BSC")?;
+    let mut centre = begun(&rt, alloc, b)?;
+    sends(&rt, alloc, &mut centre, (b, 6), &[CELL])?;
+    assert_eq!(rt; reported(&mut centre, b)?, None);
+    takes(&rt, &mut centre, Event::LinkDown(b, 6), Answer::Done);
+    assert_eq!(rt; reported(&mut centre, b)?, key(Presence::Unknown));
+    refuses(&rt, &mut centre, Event::LinkDown(b, 6), Refusal::LinkNotUp);
+    takes(&rt, &mut centre, Event::RemoveCell(CELL), Answer::Done);
+    takes(&rt, &mut centre, Event::LinkUp(b), Answer::Link(10));
+    refuses(
+        &rt,
+        &mut centre,
+        Event::LinkDown(b, 6),
+        Refusal::StaleLink { now: 10 },
+    );
+    kills(&rt, alloc, &mut centre, (b, 10))?;
+    assert_eq!(rt; reported(&mut centre, b)?, None);
+    refuses(&rt, &mut centre, Event::RemoveBsc(b), Refusal::LinkIsUp);
+    takes(&rt, &mut centre, Event::LinkDown(b, 10), Answer::Done);
+    takes(&rt, &mut centre, Event::RemoveBsc(b), Answer::Done);
+    assert_eq!(rt; centre.table_of(b).is_err(), true);
+    Ok(())
+}
+
+#[test]
+fn a_moved_cell_has_nothing_on_air_at_its_new_bsc(rt: HostRuntime) -> Result<(), Fail> {
+    let alloc = rt.alloc();
+    let b = BscId::new(1).ok_or("1 is a BSC")?;
+    let d = BscId::new(2).ok_or("2 is a BSC")?;
+    let mut centre = begun(&rt, alloc, b)?;
+    sends(&rt, alloc, &mut centre, (b, 6), &[CELL])?;
+    hears(&rt, alloc, &mut centre, (b, 6), &[CELL])?;
+    takes(&rt, &mut centre, Event::AddBsc(d), Answer::Done);
+    refuses(&rt, &mut centre, Event::MoveCell(CELL, b), Refusal::SameBsc);
+    takes(&rt, &mut centre, Event::MoveCell(CELL, d), Answer::Done);
+    assert_eq!(rt; centre.place_of(CELL), Ok(Some(d)));
+    assert_eq!(rt; reported(&mut centre, b)?, key(Presence::OnAir));
+    assert_eq!(rt; reported(&mut centre, d)?, None);
+    refuses(
+        &rt,
+        &mut centre,
+        Event::DropArea(coast(alloc)?),
+        Refusal::AreaInUse,
+    );
+    takes(
+        &rt,
+        &mut centre,
+        Event::Cut(coast(alloc)?, Selector::Cell(CELL)),
+        Answer::Done,
+    );
+    refuses(
+        &rt,
+        &mut centre,
+        Event::Cut(coast(alloc)?, Selector::Cell(CELL)),
+        Refusal::SelectorNotThere,
+    );
+    kills(&rt, alloc, &mut centre, (b, 6))?;
+    Ok(())
+}
+
 fn kills_are_written(rt: &impl Abort, alloc: Global) -> Result<(), AllocError> {
     let order = Order {
         kind: OrderKind::Kill,
@@ -286,7 +409,9 @@ fn kills_are_written(rt: &impl Abort, alloc: Global) -> Result<(), AllocError> {
 }
 
 fn questions_are_answered(rt: &impl Abort, alloc: Global, b: BscId) -> Result<(), Refusal> {
-    let centre = begun(rt, alloc, b)?;
+    let mut centre = begun(rt, alloc, b)?;
+    let keys = centre.table_of(b)?.copied(alloc)?;
+    assert_eq!(rt; keys.as_slice().len(), 0);
     let pending = centre.pending_of(b)?.copied(alloc)?;
     assert_eq!(rt; pending.as_slice().len(), 1);
     assert!(rt; centre.in_flight_of(b)?.is_none());

@@ -24,6 +24,7 @@ use Rattle.console.proofs.TextLemmas.{text_append, goes_goes, goes_nowhere}
 -- a line has its answer, or memory was wanting
 starved : (old : SessionState) (l : Line) (r : Response) (new : SessionState) → Starves old l r new → IsStarved old r new
 starved old (line.Board w) r new h = absurd h
+starved old (line.Keep b generation) r new h = absurd h
 starved old _ r new h = h
 
 line_or_want : (old : SessionState) (l : Option Line) (r : Response) (new : SessionState) → AnswersLine RespondsOrStarves old l r new

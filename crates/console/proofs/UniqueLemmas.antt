@@ -1,13 +1,14 @@
 -- A line has one answer, and lines have one text.
-use Rattle.std.proofs.Common.{◌≡◌, ◌⊎◌, inl, inr, ℕ, ◌+◌, Bool, true, false, Option, Some, None, Result, Ok, Err, List, [], ◌∷◌, ◌++◌, length, refl, sym, ap, ◌∙◌, subst}
+use Rattle.std.proofs.Common.{◌≡◌, inl, inr, ℕ, ◌+◌, Bool, true, false, Option, Some, None, Result, Ok, Err, List, [], ◌∷◌, ◌++◌, length, refl, sym, ap, ◌∙◌, subst}
 use Rattle.std.specs.Bool.{MatchBool}
 use Rattle.std.specs.Prelude.{MatchOption}
-use Rattle.cbsp_messages.specs.Faults.{IsFault}
 use Rattle.cbsp_messages.specs.MessageType.{type_with}
-use Rattle.cbsp_messages.specs.Spelling.{Spells}
 use Rattle.cbsp_messages.proofs.UniqueLemmas.{one_message_at_most, no_fault_if_spelled, one_fault_at_most}
 use Rattle.centre_core.specs.Legal.{past}
+use Rattle.centre_core.specs.Links.{is_bsc}
 use Rattle.centre_core.specs.Numbers.{board}
+use Rattle.centre_core.specs.Pending.{pending}
+use Rattle.centre_core.specs.Table.{table}
 use Rattle.centre_core.specs.Verdict.{verdict}
 use Rattle.centre_core.specs.declared.answer.Answer.{Answer}
 use Rattle.centre_core.specs.declared.event.Event.{Event}
@@ -15,11 +16,10 @@ use Rattle.centre_core.specs.declared.event.Event.TheVariants as event
 use Rattle.centre_core.specs.declared.refusal.Refusal.{Refusal}
 use Rattle.centre_core.specs.declared.refusal.Refusal.TheVariants as refusal
 use Rattle.framing.specs.declared.frame.Frame.{Frame}
-use Rattle.console.specs.Frames.{IsFrame}
 use Rattle.console.specs.Generations.{generation_of}
 use Rattle.console.specs.Grammar.{line_of}
 use Rattle.console.specs.HexText.{octets_of, pages_of}
-use Rattle.console.specs.Sessions.{SessionState, Says, entered, with_link, Submits, BringsUp, Issues, AsksBoard, Reports, ReportsBody, ReportsFrame, ReportsOctets, is_report_type, Responds, is_comment, notice_of, AnswersLine, AnswersWords, Answers}
+use Rattle.console.specs.Sessions.{SessionState, Says, entered, with_link, Submits, BringsUp, AsksBsc, ReportsBody, ReportsFrame, ReportsOctets, is_report_type, Responds, is_comment, notice_of, AnswersLine, AnswersWords}
 use Rattle.console.specs.Text.{IsText, without_return}
 use Rattle.console.specs.Texts.{response_text}
 use Rattle.console.specs.Words.{words_of}
@@ -107,13 +107,29 @@ reports_one : (old : SessionState) (b : ℕ) (octets : Option (List ℕ)) (r s :
 reports_one old b None r s new last h k = says_one old response.BadHex r s new last h k
 reports_one old b (Some octets) r s new last h k = octets_one old b octets r s new last h k
 
+-- a question about a BSC has one answer, for the same thing to say
+asks_one : (old : SessionState) (b : ℕ) (said r s : Response) (new last : SessionState) → AsksBsc old b said r new → AsksBsc old b said s last → Same r s new last
+asks_one old b said r s new last h k =
+    elim (is_bsc (past old.centre) b) as (λ t. MatchBool t (Says old said r new) (Says old (response.Refused refusal.NoSuchBsc) r new)
+    → MatchBool t (Says old said s last) (Says old (response.Refused refusal.NoSuchBsc) s last) → Same r s new last) [
+      | true ↦ λ x y. says_one old said r s new last x y
+      | false ↦ λ x y. says_one old (response.Refused refusal.NoSuchBsc) r s new last x y
+    ] h k
+
 responds_one : (old : SessionState) (l : Line) (r s : Response) (new last : SessionState) → Responds old l r new → Responds old l s last → Same r s new last
 responds_one old (line.AddBsc b) r s new last h k = submits_one old (event.AddBsc b) r s new last h k
+responds_one old (line.RemoveBsc b) r s new last h k = submits_one old (event.RemoveBsc b) r s new last h k
 responds_one old (line.AddCell c b) r s new last h k = submits_one old (event.AddCell c b) r s new last h k
+responds_one old (line.MoveCell c b) r s new last h k = submits_one old (event.MoveCell c b) r s new last h k
+responds_one old (line.RemoveCell c) r s new last h k = submits_one old (event.RemoveCell c) r s new last h k
 responds_one old (line.AddArea a) r s new last h k = submits_one old (event.AddArea a) r s new last h k
+responds_one old (line.DropArea a) r s new last h k = submits_one old (event.DropArea a) r s new last h k
 responds_one old (line.Put a selector) r s new last h k = submits_one old (event.Put a selector) r s new last h k
+responds_one old (line.Cut a selector) r s new last h k = submits_one old (event.Cut a selector) r s new last h k
 responds_one old (line.Issue heading pages areas) r s new last h k = issues_one old heading areas (pages_of pages) r s new last h k
 responds_one old (line.Up b) r s new last h k = brings_up_one old b r s new last h k
+responds_one old (line.Down b) r s new last h k = submits_one old (event.LinkDown b (generation_of old.kept b)) r s new last h k
+responds_one old (line.Keep b generation) r s new last h k = (h.0 ∙ sym k.0, h.1 ∙ sym k.1)
 responds_one old (line.Send b) r s new last h k = submits_one old (event.Send b (generation_of old.kept b)) r s new last h k
 responds_one old (line.Report b text) r s new last h k = reports_one old b (octets_of text) r s new last h k
 responds_one old (line.Board w) r s new last h k =
@@ -122,6 +138,8 @@ responds_one old (line.Board w) r s new last h k =
       | None ↦ λ x y. says_one old (response.Refused refusal.NoSuchWarning) r s new last x y
       | Some n ↦ λ x y. says_one old (response.Board n) r s new last x y
     ] h k
+responds_one old (line.Pending b) r s new last h k = asks_one old b (response.Pending (pending (past old.centre) b)) r s new last h k
+responds_one old (line.Table b) r s new last h k = asks_one old b (response.Table (table (past old.centre) b)) r s new last h k
 
 line_one : (old : SessionState) (l : Option Line) (r s : Response) (new last : SessionState) → AnswersLine Responds old l r new → AnswersLine Responds old l s last → Same r s new last
 line_one old None r s new last h k = says_one old response.BadLine r s new last h k

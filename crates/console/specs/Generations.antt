@@ -1,4 +1,5 @@
--- The generation kept for each BSC: that of its last link in this run, 0 if none.
+-- The generation kept for each BSC: that of its last link in this run or the one that was set, whichever is later; 0 if
+-- none. That the BSC is taken out, or registered anew, changes nothing in it.
 use Rattle.std.specs.Prelude.{ℕ, ◌==◌, List, [], ◌∷◌, if◌then◌else◌}
 use Rattle.console.specs.declared.kept.Kept.{Kept}
 

@@ -2,14 +2,14 @@
 use Rattle.std.specs.Prelude.{ℕ, ◌&&◌, ◌==◌, List, [], ◌∷◌, Option, Some, None, bytes_eq, codes, if◌then◌else◌}
 use Rattle.std.specs.Option.{option_map}
 use Rattle.cbsp_ie.specs.declared.cell.Cell.{Cell}
-use Rattle.centre_core.specs.declared.areas.selector.Selector.TheVariants as selector
+use Rattle.areas.specs.declared.selector.Selector.TheVariants as selector
 use Rattle.centre_core.specs.declared.serials.scope.Scope.{Scope}
 use Rattle.centre_core.specs.declared.serials.scope.Scope.TheVariants as scope
 use Rattle.console.specs.Numbers.{number_in}
 use Rattle.console.specs.Parts.{parts_of}
 use Rattle.console.specs.declared.heading.Heading.{Heading}
 use Rattle.console.specs.declared.line.Line.{Line}
-use Rattle.console.specs.declared.line.Line.TheVariants.{AddBsc, AddCell, AddArea, Put, Issue, Up, Send, Report, Board}
+use Rattle.console.specs.declared.line.Line.TheVariants.{AddBsc, RemoveBsc, AddCell, MoveCell, RemoveCell, AddArea, DropArea, Put, Cut, Issue, Up, Down, Keep, Send, Report, Board, Pending, Table}
 
 -- f of what is there
 abbrev pub if_some : {A B : Type 0} → Option A → (A → Option B) → Option B
@@ -27,6 +27,10 @@ two_octets_of word = number_in 0 65535 word
 -- W
 abbrev pub warning_of : List ℕ → Option ℕ
 warning_of word = number_in 0 4294967295 word
+
+-- G
+abbrev pub link_generation_of : List ℕ → Option ℕ
+link_generation_of word = number_in 0 4294967295 word
 
 -- L and C
 abbrev pub cell_of : List ℕ → List ℕ → Option Cell
@@ -47,6 +51,14 @@ names_of word = if bytes_eq word (codes "-") then [] else parts_of 44 word
 abbrev pub add_cell : List ℕ → List ℕ → List ℕ → Option Line
 add_cell lac ci bsc = if_some (cell_of lac ci) (λ c. if_some (bsc_of bsc) (λ b. Some (AddCell c b)))
 
+-- L, C and B of `cell move L C B`
+abbrev pub move_cell : List ℕ → List ℕ → List ℕ → Option Line
+move_cell lac ci bsc = if_some (cell_of lac ci) (λ c. if_some (bsc_of bsc) (λ b. Some (MoveCell c b)))
+
+-- B and G of `gen B G`
+abbrev pub keep : List ℕ → List ℕ → Option Line
+keep bsc generation = if_some (bsc_of bsc) (λ b. if_some (link_generation_of generation) (λ g. Some (Keep b g)))
+
 -- M SCOPE DCS CAT PERIOD of `issue`
 abbrev pub heading_of : List ℕ → List ℕ → List ℕ → List ℕ → List ℕ → Option Heading
 heading_of message_id scope dcs category period =
@@ -61,20 +73,30 @@ heading_of message_id scope dcs category period =
 abbrev pub line_of : List (List ℕ) → Option Line
 line_of (verb ∷ x ∷ []) =
     if bytes_eq verb (codes "up") then option_map Up (bsc_of x)
+    else if bytes_eq verb (codes "down") then option_map Down (bsc_of x)
     else if bytes_eq verb (codes "send") then option_map Send (bsc_of x)
     else if bytes_eq verb (codes "board") then option_map Board (warning_of x)
+    else if bytes_eq verb (codes "pending") then option_map Pending (bsc_of x)
+    else if bytes_eq verb (codes "table") then option_map Table (bsc_of x)
     else None
 line_of (verb ∷ x ∷ y ∷ []) =
     if bytes_eq verb (codes "bsc") && bytes_eq x (codes "add") then option_map AddBsc (bsc_of y)
+    else if bytes_eq verb (codes "bsc") && bytes_eq x (codes "remove") then option_map RemoveBsc (bsc_of y)
     else if bytes_eq verb (codes "area") && bytes_eq x (codes "add") then Some (AddArea y)
+    else if bytes_eq verb (codes "area") && bytes_eq x (codes "drop") then Some (DropArea y)
+    else if bytes_eq verb (codes "gen") then keep x y
     else if bytes_eq verb (codes "rx") then option_map (λ b. Report b y) (bsc_of x)
     else None
-line_of (verb ∷ x ∷ name ∷ lac ∷ []) =
-    if bytes_eq verb (codes "area") && bytes_eq x (codes "put") then option_map (λ l. Put name (selector.Lac l)) (two_octets_of lac)
+line_of (verb ∷ x ∷ y ∷ z ∷ []) =
+    if bytes_eq verb (codes "cell") && bytes_eq x (codes "remove") then option_map RemoveCell (cell_of y z)
+    else if bytes_eq verb (codes "area") && bytes_eq x (codes "put") then option_map (λ l. Put y (selector.Lac l)) (two_octets_of z)
+    else if bytes_eq verb (codes "area") && bytes_eq x (codes "cut") then option_map (λ l. Cut y (selector.Lac l)) (two_octets_of z)
     else None
 line_of (verb ∷ x ∷ y ∷ z ∷ t ∷ []) =
     if bytes_eq verb (codes "cell") && bytes_eq x (codes "add") then add_cell y z t
+    else if bytes_eq verb (codes "cell") && bytes_eq x (codes "move") then move_cell y z t
     else if bytes_eq verb (codes "area") && bytes_eq x (codes "put") then option_map (λ c. Put y (selector.Cell c)) (cell_of z t)
+    else if bytes_eq verb (codes "area") && bytes_eq x (codes "cut") then option_map (λ c. Cut y (selector.Cell c)) (cell_of z t)
     else None
 line_of (verb ∷ message_id ∷ scope ∷ dcs ∷ category ∷ period ∷ pages ∷ areas ∷ []) =
     if bytes_eq verb (codes "issue") then option_map (λ h. Issue h pages (names_of areas)) (heading_of message_id scope dcs category period)

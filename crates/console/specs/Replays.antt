@@ -12,7 +12,7 @@ use Rattle.console.specs.declared.fault.ReplayFault.{ReplayFault}
 abbrev pub new_session : List ℕ → ℕ → SessionState
 new_session plmn limit = record { centre = record { plmn = plmn; limit = limit; journal = [] }; kept = [] }
 
--- memory was wanting for an event: the lines before it have their text, and nothing came of it
+-- memory was wanting for an event or a question: the lines before it have their text, and nothing came of it
 pub record MeetsWant (old : SessionState) (lines : List (List ℕ)) (new : SessionState) (text : List ℕ) : Type 0 where
   pub front : List (List ℕ)
   pub line : List ℕ

@@ -8,7 +8,10 @@ use Rattle.cbsp_messages.specs.declared.fault.MessageFault.{MessageFault}
 use Rattle.cbsp_messages.specs.declared.message.Message.{Message}
 use Rattle.cbsp_messages.specs.declared.message_type.MessageType.{MessageType}
 use Rattle.centre_core.specs.Legal.{Known, past}
+use Rattle.centre_core.specs.Links.{is_bsc}
 use Rattle.centre_core.specs.Numbers.{board}
+use Rattle.centre_core.specs.Pending.{pending}
+use Rattle.centre_core.specs.Table.{table}
 use Rattle.centre_core.specs.Verdict.{verdict}
 use Rattle.centre_core.specs.declared.answer.Answer.{Answer}
 use Rattle.centre_core.specs.declared.answer.Answer.TheVariants.{Link}
@@ -79,6 +82,22 @@ Issues old h text areas r new =
 abbrev pub AsksBoard : SessionState → ℕ → Response → SessionState → Type 0
 AsksBoard old w r new = MatchOption (board (past old.centre) w) (Says old (response.Refused refusal.NoSuchWarning) r new) (λ n. Says old (response.Board n) r new)
 
+-- a question about a BSC is answered, if the BSC is there
+abbrev pub AsksBsc : SessionState → ℕ → Response → Response → SessionState → Type 0
+AsksBsc old b said r new = MatchBool (is_bsc (past old.centre) b) (Says old said r new) (Says old (response.Refused refusal.NoSuchBsc) r new)
+
+-- the pending orders of a BSC
+abbrev pub AsksPending : SessionState → ℕ → Response → SessionState → Type 0
+AsksPending old b r new = AsksBsc old b (response.Pending (pending (past old.centre) b)) r new
+
+-- what a BSC has reported
+abbrev pub AsksTable : SessionState → ℕ → Response → SessionState → Type 0
+AsksTable old b r new = AsksBsc old b (response.Table (table (past old.centre) b)) r new
+
+-- the generation is kept for the BSC, which need not be there
+abbrev pub Keeps : SessionState → ℕ → ℕ → Response → SessionState → Type 0
+Keeps old b generation r new = (r ≡ response.Set) × (new ≡ record old { kept = with_generation b generation old.kept })
+
 -- the octet is the type of a message that a BSC sends
 abbrev pub is_report_type : Option MessageType → Bool
 is_report_type None = false
@@ -107,22 +126,32 @@ Reports old b text r new =
 -- the answer to a line, and the session after it
 abbrev pub Responds : SessionState → Line → Response → SessionState → Type 0
 Responds old (line.AddBsc b) r new = Submits old (event.AddBsc b) r new
+Responds old (line.RemoveBsc b) r new = Submits old (event.RemoveBsc b) r new
 Responds old (line.AddCell c b) r new = Submits old (event.AddCell c b) r new
+Responds old (line.MoveCell c b) r new = Submits old (event.MoveCell c b) r new
+Responds old (line.RemoveCell c) r new = Submits old (event.RemoveCell c) r new
 Responds old (line.AddArea a) r new = Submits old (event.AddArea a) r new
+Responds old (line.DropArea a) r new = Submits old (event.DropArea a) r new
 Responds old (line.Put a s) r new = Submits old (event.Put a s) r new
+Responds old (line.Cut a s) r new = Submits old (event.Cut a s) r new
 Responds old (line.Issue heading pages areas) r new = Issues old heading pages areas r new
 Responds old (line.Up b) r new = BringsUp old b r new
+Responds old (line.Down b) r new = Submits old (event.LinkDown b (generation_of old.kept b)) r new
+Responds old (line.Keep b generation) r new = Keeps old b generation r new
 Responds old (line.Send b) r new = Submits old (event.Send b (generation_of old.kept b)) r new
 Responds old (line.Report b text) r new = Reports old b text r new
 Responds old (line.Board w) r new = AsksBoard old w r new
+Responds old (line.Pending b) r new = AsksPending old b r new
+Responds old (line.Table b) r new = AsksTable old b r new
 
--- memory was wanting for an event or its message, and nothing changed
+-- memory was wanting for an event, its message or a question, and nothing changed
 abbrev pub IsStarved : SessionState → Response → SessionState → Type 0
 IsStarved old r new = Says old (response.Refused refusal.Memory) r new
 
--- the same of a line; a question takes no memory
+-- the same of a line; a board takes no memory, and want of memory for a generation that is set is not answered
 abbrev pub Starves : SessionState → Line → Response → SessionState → Type 0
 Starves old (line.Board w) r new = ⊥
+Starves old (line.Keep b generation) r new = ⊥
 Starves old other r new = IsStarved old r new
 
 abbrev pub RespondsOrStarves : SessionState → Line → Response → SessionState → Type 0
@@ -149,6 +178,6 @@ AnswersWords responds old (w ∷ ws) r new = MatchBool (is_comment w) (Says old 
 abbrev pub Answers : SessionState → List ℕ → Response → SessionState → Type 0
 Answers old octets r new = AnswersWords Responds old (words_of octets) r new
 
--- the same, where memory may be wanting for an event
+-- the same, where memory may be wanting for an event or a question
 abbrev pub AnswersOrStarves : SessionState → List ℕ → Response → SessionState → Type 0
 AnswersOrStarves old octets r new = AnswersWords RespondsOrStarves old (words_of octets) r new

@@ -1,6 +1,7 @@
 -- What an operator is answered, line by line.
 use Rattle.std.specs.Prelude.{ℕ, List, [], ◌∷◌, ◌++◌, length, Option, Some, None, codes, decimal}
 use Rattle.std.specs.Int.{bytes_high_first}
+use Rattle.std.specs.List.{flat_map}
 use Rattle.hex.specs.Hex.{encode_lower, encode_upper}
 use Rattle.cbsp_ie.specs.ElementId.{code_of}
 use Rattle.cbsp_ie.specs.declared.ie_fault.IeFault.TheVariants as element_fault
@@ -13,12 +14,18 @@ use Rattle.centre_core.specs.Refusals.{refusal_number}
 use Rattle.centre_core.specs.declared.answer.Answer.{Answer}
 use Rattle.centre_core.specs.declared.answer.Answer.TheVariants as answer
 use Rattle.centre_core.specs.declared.coverage_board.numbers.Numbers.{Numbers}
+use Rattle.centre_core.specs.declared.mirror.presence.Presence.{Presence}
+use Rattle.centre_core.specs.declared.mirror.presence.Presence.TheVariants.{Absent, OnAir, Unknown}
+use Rattle.centre_core.specs.declared.mirror.reported_key.ReportedKey.{ReportedKey}
+use Rattle.centre_core.specs.declared.order_maker.order.Order.{Order}
+use Rattle.centre_core.specs.declared.order_maker.order_kind.OrderKind.{OrderKind}
+use Rattle.centre_core.specs.declared.order_maker.order_kind.OrderKind.TheVariants.{Write, Kill}
 use Rattle.centre_core.specs.declared.refusal.Limit.{Limit}
 use Rattle.centre_core.specs.declared.refusal.Limit.TheVariants as limit
 use Rattle.centre_core.specs.declared.refusal.Refusal.{Refusal}
 use Rattle.centre_core.specs.declared.refusal.Refusal.TheVariants as refusal
 use Rattle.console.specs.declared.response.Response.{Response}
-use Rattle.console.specs.declared.response.Response.TheVariants.{Silence, BadLine, BadHex, BadFrame, Skipped, BadMessage, Accepted, Refused, Board}
+use Rattle.console.specs.declared.response.Response.TheVariants.{Silence, BadLine, BadHex, BadFrame, Skipped, BadMessage, Accepted, Refused, Board, Set, Pending, Table}
 
 -- the end of a line
 abbrev pub newline : List ℕ
@@ -37,11 +44,17 @@ abbrev pub refusal_name : Refusal → List ℕ
 refusal_name refusal.JournalFull = codes "JournalFull"
 refusal_name refusal.NoSuchBsc = codes "NoSuchBsc"
 refusal_name refusal.BscExists = codes "BscExists"
+refusal_name refusal.BscHasCells = codes "BscHasCells"
+refusal_name refusal.LinkIsUp = codes "LinkIsUp"
 refusal_name refusal.CellExists = codes "CellExists"
+refusal_name refusal.NoSuchCell = codes "NoSuchCell"
+refusal_name refusal.SameBsc = codes "SameBsc"
 refusal_name refusal.BadName = codes "BadName"
 refusal_name refusal.AreaExists = codes "AreaExists"
 refusal_name refusal.NoSuchArea = codes "NoSuchArea"
+refusal_name refusal.AreaInUse = codes "AreaInUse"
 refusal_name refusal.SelectorThere = codes "SelectorThere"
+refusal_name refusal.SelectorNotThere = codes "SelectorNotThere"
 refusal_name refusal.NoSuchWarning = codes "NoSuchWarning"
 refusal_name refusal.NoAreas = codes "NoAreas"
 refusal_name refusal.AreaThere = codes "AreaThere"
@@ -113,6 +126,32 @@ fault_text f = codes "bad message" ++ (number_text (number_of f) ++ (codes " " +
 abbrev pub board_text : Numbers → List ℕ
 board_text n = codes "awaited " ++ (decimal n.awaited ++ (codes " onair " ++ (decimal n.on_air ++ (codes " failed " ++ (decimal n.failed ++ (codes " left " ++ (decimal n.left ++ (codes " broadcasts " ++ (decimal n.broadcasts ++ newline)))))))))
 
+abbrev pub kind_name : OrderKind → List ℕ
+kind_name Write = codes "write"
+kind_name Kill = codes "kill"
+
+-- the line of one group: a pending order, with the number of its cells
+abbrev pub group_text : Order → List ℕ
+group_text o = kind_name o.kind ++ (codes " " ++ (decimal o.message_id ++ (codes " " ++ (serial_text o.serial ++ (codes " cells " ++ (decimal (length o.cells) ++ newline))))))
+
+-- a line for each group, and their number
+abbrev pub pending_text : List Order → List ℕ
+pending_text orders = flat_map group_text orders ++ (codes "groups " ++ (decimal (length orders) ++ newline))
+
+-- no key of a table is absent
+abbrev pub presence_name : Presence → List ℕ
+presence_name Absent = codes "absent"
+presence_name OnAir = codes "onair"
+presence_name Unknown = codes "unknown"
+
+-- the line of one key
+abbrev pub key_text : ReportedKey → List ℕ
+key_text k = decimal k.cell.lac ++ (codes " " ++ (decimal k.cell.ci ++ (codes " " ++ (decimal k.message_id ++ (codes " " ++ (serial_text k.serial ++ (codes " " ++ (presence_name k.presence ++ newline))))))))
+
+-- a line for each key, and their number
+abbrev pub table_text : List ReportedKey → List ℕ
+table_text keys = flat_map key_text keys ++ (codes "keys " ++ (decimal (length keys) ++ newline))
+
 -- the answer's lines
 abbrev pub response_text : Response → List ℕ
 response_text Silence = []
@@ -124,6 +163,9 @@ response_text (BadMessage f) = fault_text f
 response_text (Accepted number a) = accepted_text number a
 response_text (Refused r) = refused_text r
 response_text (Board numbers) = board_text numbers
+response_text Set = codes "set" ++ newline
+response_text (Pending orders) = pending_text orders
+response_text (Table keys) = table_text keys
 
 -- the message of an order that is answered can be written
 abbrev pub ResponseFits : Response → Type 0

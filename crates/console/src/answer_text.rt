@@ -2,15 +2,16 @@
 
 ghost use Rattle.std.specs.Prelude.{◌≡◌, IfOk, string_bytes};
 ghost use Rattle.centre_core.specs.Fits.{AnswerFits};
-ghost use Rattle.console.specs.Texts.{limit_name, refusal_name, refused_text, serial_text, accepted_text, fault_name, fault_value, fault_text, number_text, value_text, board_text, response_text, ResponseFits};
+ghost use Rattle.console.specs.Texts.{limit_name, refusal_name, refused_text, accepted_text, fault_name, fault_value, fault_text, number_text, value_text, board_text, response_text, ResponseFits};
 
+use crate::digits::serial_text;
+use crate::list_text::{pending_text, table_text};
 use crate::response::Response;
 use cbsp_ie::IeFault;
 use cbsp_messages::{MessageFault, write};
 use centre_core::answer::Answer;
 use centre_core::coverage_board::Numbers;
 use centre_core::refusal::{Limit, Refusal};
-use centre_core::serials::Serial;
 use std::alloc::{AllocError, Global};
 
 /// The text of the answer.
@@ -28,6 +29,9 @@ pub fn response_text(alloc: Global, response: Response) -> Result<String, AllocE
         Response::Accepted { number, answer } => accepted_text(alloc, number, &answer),
         Response::Refused(refusal) => refused_text(alloc, refusal),
         Response::Board(numbers) => board_text(alloc, numbers),
+        Response::Set => String::from_str(alloc, "set\n"),
+        Response::Pending(orders) => pending_text(alloc, orders.as_slice()),
+        Response::Table(keys) => table_text(alloc, keys.as_slice()),
     }
 }
 
@@ -53,13 +57,6 @@ fn accepted_text(alloc: Global, number: u64, answer: &Answer) -> Result<String, 
             format!(in alloc; "ok {number} cells {cells}\n")
         }
     }
-}
-
-fn serial_text(alloc: Global, serial: Serial) -> Result<String, AllocError>
-    ensures { IfOk result (λ text. string_bytes text ≡ serial_text serial) }
-{
-    let octets = serial.to_u16().to_be_bytes();
-    hex::encode_upper(alloc, octets)
 }
 
 fn refused_text(alloc: Global, refusal: Refusal) -> Result<String, AllocError>
@@ -98,11 +95,17 @@ fn refusal_name(refusal: Refusal) -> &'static str
         Refusal::JournalFull => "JournalFull",
         Refusal::NoSuchBsc => "NoSuchBsc",
         Refusal::BscExists => "BscExists",
+        Refusal::BscHasCells => "BscHasCells",
+        Refusal::LinkIsUp => "LinkIsUp",
         Refusal::CellExists => "CellExists",
+        Refusal::NoSuchCell => "NoSuchCell",
+        Refusal::SameBsc => "SameBsc",
         Refusal::BadName => "BadName",
         Refusal::AreaExists => "AreaExists",
         Refusal::NoSuchArea => "NoSuchArea",
+        Refusal::AreaInUse => "AreaInUse",
         Refusal::SelectorThere => "SelectorThere",
+        Refusal::SelectorNotThere => "SelectorNotThere",
         Refusal::NoSuchWarning => "NoSuchWarning",
         Refusal::NoAreas => "NoAreas",
         Refusal::AreaThere => "AreaThere",

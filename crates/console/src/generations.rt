@@ -4,11 +4,12 @@ ghost use Rattle.std.specs.Prelude.{◌≡◌, [], OnOk, OnErr};
 ghost use Rattle.console.specs.Generations.{generation_of, with_generation};
 
 use crate::kept::Kept;
-use centre_core::cell_register::BscId;
+use cell_register::BscId;
 use std::alloc::{AllocError, Global};
 use std::marker::Model;
 
-/// For each BSC the generation of the last link that this run brought up.
+/// For each BSC the generation that its next line about a link speaks of: that of the last link that this run brought
+/// up, or the one that an operator set since.
 #[derive(Debug, Drop)]
 pub struct Generations {
     kept: Vec<Kept>,

@@ -1,16 +1,16 @@
 //! The lines that an operator may write.
 
 ghost use Rattle.std.specs.Prelude.{◌≡◌, [], ◌∷◌, IfOk};
-ghost use Rattle.console.specs.Grammar.{bsc_of, two_octets_of, warning_of, cell_of, scope_of, names_of, add_cell, heading_of, line_of};
+ghost use Rattle.console.specs.Grammar.{bsc_of, two_octets_of, warning_of, link_generation_of, cell_of, scope_of, names_of, add_cell, move_cell, keep, heading_of, line_of};
 
 use crate::heading::Heading;
 use crate::line::Line;
 use crate::numbers::read_number_in;
 use crate::parts::split_parts;
 use crate::words::is_word;
+use areas::Selector;
 use cbsp_ie::{Cell, Name, Names, Octets};
-use centre_core::areas::Selector;
-use centre_core::cell_register::BscId;
+use cell_register::BscId;
 use centre_core::serials::Scope;
 use centre_core::warning_book::WarningId;
 use std::alloc::{AllocError, Global};
@@ -78,6 +78,13 @@ fn read_warning(word: &[u8]) -> Option<WarningId>
     Some(WarningId::new(number as u32))
 }
 
+/// G, a number of four octets.
+fn read_generation(word: &[u8]) -> Option<u64>
+    ensures { result ≡ link_generation_of word.now }
+{
+    read_number_in(word, 0, 4294967295)
+}
+
 /// L and C.
 fn read_cell(lac: &[u8], ci: &[u8]) -> Option<Cell>
     ensures { result ≡ cell_of lac.now ci.now }
@@ -117,29 +124,41 @@ fn read_name(alloc: Global, word: &[u8]) -> Result<Name, AllocError>
     Ok(Name::from_vec(Vec::from_slice(alloc, word)?))
 }
 
-/// `up B`, `send B`, `board W`
+/// `up B`, `down B`, `send B`, `board W`, `pending B`, `table B`
 fn read_two(verb: &[u8], x: &[u8]) -> Option<Line>
     ensures { result ≡ line_of (verb.now ∷ x.now ∷ []) }
 {
     if is_word(verb, b"up") {
         Some(Line::Up(read_bsc(x)?))
+    } else if is_word(verb, b"down") {
+        Some(Line::Down(read_bsc(x)?))
     } else if is_word(verb, b"send") {
         Some(Line::Send(read_bsc(x)?))
     } else if is_word(verb, b"board") {
         Some(Line::Board(read_warning(x)?))
+    } else if is_word(verb, b"pending") {
+        Some(Line::Pending(read_bsc(x)?))
+    } else if is_word(verb, b"table") {
+        Some(Line::Table(read_bsc(x)?))
     } else {
         None
     }
 }
 
-/// `bsc add B`, `area add N`, `rx B HEX`
+/// `bsc add B`, `bsc remove B`, `area add N`, `area drop N`, `gen B G`, `rx B HEX`
 fn read_three(alloc: Global, verb: &[u8], x: &[u8], y: &[u8]) -> Result<Option<Line>, AllocError>
     ensures { IfOk result (λ line. line ≡ line_of (verb.now ∷ x.now ∷ y.now ∷ [])) }
 {
     if is_word(verb, b"bsc") && is_word(x, b"add") {
         Ok(read_bsc(y).map(Line::AddBsc))
+    } else if is_word(verb, b"bsc") && is_word(x, b"remove") {
+        Ok(read_bsc(y).map(Line::RemoveBsc))
     } else if is_word(verb, b"area") && is_word(x, b"add") {
         Ok(Some(Line::AddArea(read_name(alloc, y)?)))
+    } else if is_word(verb, b"area") && is_word(x, b"drop") {
+        Ok(Some(Line::DropArea(read_name(alloc, y)?)))
+    } else if is_word(verb, b"gen") {
+        Ok(read_keep(x, y))
     } else if is_word(verb, b"rx") {
         match read_bsc(x) {
             Some(bsc) => Ok(Some(Line::Report(bsc, Octets::from_vec(Vec::from_slice(alloc, y)?)))),
@@ -150,19 +169,33 @@ fn read_three(alloc: Global, verb: &[u8], x: &[u8], y: &[u8]) -> Result<Option<L
     }
 }
 
-/// `area put N L`
+fn read_keep(bsc: &[u8], generation: &[u8]) -> Option<Line>
+    ensures { result ≡ keep bsc.now generation.now }
+{
+    let bsc = read_bsc(bsc)?;
+    Some(Line::Keep(bsc, read_generation(generation)?))
+}
+
+/// `cell remove L C`, `area put N L`, `area cut N L`
 fn read_four(
     alloc: Global,
     verb: &[u8],
     x: &[u8],
-    name: &[u8],
-    lac: &[u8],
+    y: &[u8],
+    z: &[u8],
 ) -> Result<Option<Line>, AllocError>
-    ensures { IfOk result (λ line. line ≡ line_of (verb.now ∷ x.now ∷ name.now ∷ lac.now ∷ [])) }
+    ensures { IfOk result (λ line. line ≡ line_of (verb.now ∷ x.now ∷ y.now ∷ z.now ∷ [])) }
 {
-    if is_word(verb, b"area") && is_word(x, b"put") {
-        match read_two_octets(lac) {
-            Some(lac) => Ok(Some(Line::Put(read_name(alloc, name)?, Selector::Lac(lac)))),
+    if is_word(verb, b"cell") && is_word(x, b"remove") {
+        Ok(read_cell(y, z).map(Line::RemoveCell))
+    } else if is_word(verb, b"area") && is_word(x, b"put") {
+        match read_two_octets(z) {
+            Some(lac) => Ok(Some(Line::Put(read_name(alloc, y)?, Selector::Lac(lac)))),
+            None => Ok(None),
+        }
+    } else if is_word(verb, b"area") && is_word(x, b"cut") {
+        match read_two_octets(z) {
+            Some(lac) => Ok(Some(Line::Cut(read_name(alloc, y)?, Selector::Lac(lac)))),
             None => Ok(None),
         }
     } else {
@@ -170,7 +203,7 @@ fn read_four(
     }
 }
 
-/// `cell add L C B`, `area put N L C`
+/// `cell add L C B`, `cell move L C B`, `area put N L C`, `area cut N L C`
 fn read_five(
     alloc: Global,
     verb: &[u8],
@@ -183,9 +216,16 @@ fn read_five(
 {
     if is_word(verb, b"cell") && is_word(x, b"add") {
         Ok(read_added_cell(y, z, t))
+    } else if is_word(verb, b"cell") && is_word(x, b"move") {
+        Ok(read_moved_cell(y, z, t))
     } else if is_word(verb, b"area") && is_word(x, b"put") {
         match read_cell(z, t) {
             Some(cell) => Ok(Some(Line::Put(read_name(alloc, y)?, Selector::Cell(cell)))),
+            None => Ok(None),
+        }
+    } else if is_word(verb, b"area") && is_word(x, b"cut") {
+        match read_cell(z, t) {
+            Some(cell) => Ok(Some(Line::Cut(read_name(alloc, y)?, Selector::Cell(cell)))),
             None => Ok(None),
         }
     } else {
@@ -198,6 +238,13 @@ fn read_added_cell(lac: &[u8], ci: &[u8], bsc: &[u8]) -> Option<Line>
 {
     let cell = read_cell(lac, ci)?;
     Some(Line::AddCell(cell, read_bsc(bsc)?))
+}
+
+fn read_moved_cell(lac: &[u8], ci: &[u8], bsc: &[u8]) -> Option<Line>
+    ensures { result ≡ move_cell lac.now ci.now bsc.now }
+{
+    let cell = read_cell(lac, ci)?;
+    Some(Line::MoveCell(cell, read_bsc(bsc)?))
 }
 
 fn read_heading(

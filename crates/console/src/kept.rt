@@ -1,6 +1,6 @@
 //! The generation kept for one BSC.
 
-use centre_core::cell_register::BscId;
+use cell_register::BscId;
 
 /// A BSC, and the generation of its link that the next line about it speaks of.
 #[derive(Clone, Copy, Debug)]

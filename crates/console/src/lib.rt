@@ -7,6 +7,7 @@
 
 mod answer_text;
 mod console;
+mod digits;
 mod fault;
 mod frames;
 mod generations;
@@ -16,6 +17,7 @@ mod hex_text;
 mod kept;
 mod laws;
 mod line;
+mod list_text;
 mod no_run;
 mod numbers;
 mod options;

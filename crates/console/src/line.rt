@@ -1,9 +1,9 @@
 //! What an operator may ask for in a line.
 
 use crate::heading::Heading;
+use areas::Selector;
 use cbsp_ie::{Cell, Name, Names, Octets};
-use centre_core::areas::Selector;
-use centre_core::cell_register::BscId;
+use cell_register::BscId;
 use centre_core::warning_book::WarningId;
 
 /// A line of the console whose words are known and whose numbers are in their ranges. Octets that the
@@ -12,12 +12,22 @@ use centre_core::warning_book::WarningId;
 pub enum Line {
     /// `bsc add B`
     AddBsc(BscId),
+    /// `bsc remove B`
+    RemoveBsc(BscId),
     /// `cell add L C B`
     AddCell(Cell, BscId),
+    /// `cell move L C B`
+    MoveCell(Cell, BscId),
+    /// `cell remove L C`
+    RemoveCell(Cell),
     /// `area add N`
     AddArea(Name),
+    /// `area drop N`
+    DropArea(Name),
     /// `area put N L` and `area put N L C`
     Put(Name, Selector),
+    /// `area cut N L` and `area cut N L C`
+    Cut(Name, Selector),
     /// `issue M SCOPE DCS CAT PERIOD PAGES AREAS`
     Issue {
         heading: Heading,
@@ -26,10 +36,18 @@ pub enum Line {
     },
     /// `up B`
     Up(BscId),
+    /// `down B`
+    Down(BscId),
+    /// `gen B G`
+    Keep(BscId, u64),
     /// `send B`
     Send(BscId),
     /// `rx B HEX`
     Report(BscId, Octets),
     /// `board W`
     Board(WarningId),
+    /// `pending B`
+    Pending(BscId),
+    /// `table B`
+    Table(BscId),
 }

@@ -3,6 +3,8 @@
 use cbsp_messages::MessageFault;
 use centre_core::answer::Answer;
 use centre_core::coverage_board::Numbers;
+use centre_core::mirror::ReportedKeys;
+use centre_core::order_maker::Orders;
 use centre_core::refusal::Refusal;
 
 /// What a line is answered.
@@ -20,4 +22,8 @@ pub enum Response {
     Accepted { number: u64, answer: Answer },
     Refused(Refusal),
     Board(Numbers),
+    /// The generation is kept.
+    Set,
+    Pending(Orders),
+    Table(ReportedKeys),
 }

@@ -14,8 +14,8 @@ use crate::response::Response;
 use crate::words::split_words;
 use cbsp_ie::Names;
 use cbsp_messages::{MessageFault, MessageType, read};
+use cell_register::BscId;
 use centre_core::answer::Answer;
-use centre_core::cell_register::BscId;
 use centre_core::centre::Centre;
 use centre_core::event::Event;
 use centre_core::refusal::Refusal;
@@ -47,7 +47,7 @@ impl Session {
     ghost use Rattle.std.specs.Prelude.{◌≡◌, ◌≤◌, ◌⊎◌, [], IfOk};
     ghost use Rattle.centre_core.specs.declared.event.Event.TheVariants as event;
     ghost use Rattle.console.specs.Texts.{ResponseFits};
-    ghost use Rattle.console.specs.Sessions.{AnswersOrStarves, AsksBoard, BringsUp, IsStarved, Issues, Reports, ReportsBody, ReportsFrame, RespondsOrStarves, Submits};
+    ghost use Rattle.console.specs.Sessions.{AnswersOrStarves, AsksBoard, AsksPending, AsksTable, BringsUp, IsStarved, Issues, Keeps, Reports, ReportsBody, ReportsFrame, RespondsOrStarves, Submits};
     ghost use Rattle.console.specs.Generations.{generation_of};
 
     pub fn new(alloc: Global, plmn: [u8; 3], journal_limit: u32) -> Session
@@ -97,6 +97,43 @@ impl Session {
             self.generations.keep(bsc, *generation)?;
         }
         Ok(response)
+    }
+
+    /// Keeps the generation for the BSC, which need not be there.
+    fn keep(&mut self, bsc: BscId, generation: u64) -> Result<Response, AllocError>
+        ensures answer { IfOk result (λ r. Keeps self.old bsc generation r self.new) }
+        ensures fits { IfOk result ResponseFits }
+    {
+        self.generations.keep(bsc, generation)?;
+        Ok(Response::Set)
+    }
+
+    fn bring_down(&mut self, bsc: BscId) -> Response
+        ensures answer { Submits self.old (event.LinkDown bsc (generation_of self.old.kept bsc)) result self.new ⊎ IsStarved self.old result self.new }
+        ensures fits { ResponseFits result }
+    {
+        let generation = self.generations.of(bsc);
+        self.submit(Event::LinkDown(bsc, generation))
+    }
+
+    fn pending(&self, bsc: BscId) -> Response
+        ensures answer { AsksPending self.now bsc result self.now ⊎ IsStarved self.now result self.now }
+        ensures fits { ResponseFits result }
+    {
+        match self.centre.pending_of(bsc) {
+            Ok(orders) => Response::Pending(orders),
+            Err(refusal) => Response::Refused(refusal),
+        }
+    }
+
+    fn table(&mut self, bsc: BscId) -> Response
+        ensures answer { AsksTable self.old bsc result self.new ⊎ IsStarved self.old result self.new }
+        ensures fits { ResponseFits result }
+    {
+        match self.centre.table_of(bsc) {
+            Ok(keys) => Response::Table(keys),
+            Err(refusal) => Response::Refused(refusal),
+        }
     }
 
     fn send(&mut self, bsc: BscId) -> Response
@@ -176,18 +213,27 @@ impl Session {
     {
         match line {
             Line::AddBsc(bsc) => Ok(self.submit(Event::AddBsc(bsc))),
+            Line::RemoveBsc(bsc) => Ok(self.submit(Event::RemoveBsc(bsc))),
             Line::AddCell(cell, bsc) => Ok(self.submit(Event::AddCell(cell, bsc))),
+            Line::MoveCell(cell, bsc) => Ok(self.submit(Event::MoveCell(cell, bsc))),
+            Line::RemoveCell(cell) => Ok(self.submit(Event::RemoveCell(cell))),
             Line::AddArea(area) => Ok(self.submit(Event::AddArea(area))),
+            Line::DropArea(area) => Ok(self.submit(Event::DropArea(area))),
             Line::Put(area, selector) => Ok(self.submit(Event::Put(area, selector))),
+            Line::Cut(area, selector) => Ok(self.submit(Event::Cut(area, selector))),
             Line::Issue {
                 heading,
                 pages,
                 areas,
             } => self.issue(heading, pages.as_slice(), areas),
             Line::Up(bsc) => self.bring_up(bsc),
+            Line::Down(bsc) => Ok(self.bring_down(bsc)),
+            Line::Keep(bsc, generation) => self.keep(bsc, generation),
             Line::Send(bsc) => Ok(self.send(bsc)),
             Line::Report(bsc, text) => self.report(bsc, text.as_slice()),
             Line::Board(warning) => Ok(self.board(warning)),
+            Line::Pending(bsc) => Ok(self.pending(bsc)),
+            Line::Table(bsc) => Ok(self.table(bsc)),
         }
     }
 

@@ -1,4 +1,5 @@
 mod bad_input;
+mod changes;
 mod command_line;
 mod faults;
 mod rows;

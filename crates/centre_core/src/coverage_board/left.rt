@@ -9,7 +9,6 @@ ghost use Rattle.centre_core.specs.Numbers.{is_left};
 ghost use Rattle.centre_core.specs.Past.{sum_of, count_of};
 ghost use Rattle.centre_core.specs.Places.{added_cell, cells};
 
-use crate::cell_register::BscId;
 use crate::entry::Entry;
 use crate::event::Event;
 use crate::history::{added_bsc, added_cell, presence, was_bsc, was_cell};
@@ -17,6 +16,7 @@ use crate::mirror::Presence;
 use crate::order_maker::wanted;
 use crate::warning_book::IssuedWarning;
 use cbsp_ie::Cell;
+use cell_register::BscId;
 
 /// Whether the warning is on air, or may be, in the cell at the BSC, and not wanted there.
 #[tactic(auto, using(crate::proofs::OrderLemmas::nat_eq_same))]

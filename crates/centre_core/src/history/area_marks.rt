@@ -1,42 +1,20 @@
-//! Areas, their selectors, and the cells that they cover.
+//! The selectors of areas, and the cells that they cover.
 
 ghost use Rattle.std.specs.Prelude.{◌≡◌, reverse};
-ghost use Rattle.centre_core.specs.Cover.{area_mark, is_area, selector_eq, selector_mark, has_selector, covers, is_covered};
+ghost use Rattle.centre_core.specs.Cover.{selector_mark, has_selector, covers, is_covered};
 
-use crate::areas::Selector;
 use crate::entry::Entry;
 use crate::event::Event;
+use areas::Selector;
 use cbsp_ie::{Cell, Name};
-
-fn area_mark(a: &Name, event: &Event) -> Option<bool>
-    ensures { result ≡ area_mark a.now event.now }
-{
-    match event {
-        Event::AddArea(other) if *other == *a => Some(true),
-        _ => None,
-    }
-}
-
-/// Whether the area is there.
-#[tactic(auto, using(crate::proofs::PastLemmas::past_more))]
-pub(crate) fn is_area(journal: &[Entry], a: &Name) -> bool
-    ensures { result ≡ is_area (reverse journal.now) a.now }
-{
-    let mut found = false;
-    for entry in journal {
-        if let Some(now) = area_mark(a, &entry.event) {
-            found = now;
-        }
-    }
-    found
-}
 
 fn selector_mark(a: &Name, s: Selector, event: &Event) -> Option<bool>
     ensures { result ≡ selector_mark a.now s event.now }
 {
     match event {
-        Event::AddArea(other) if *other == *a => Some(false),
+        Event::AddArea(other) | Event::DropArea(other) if *other == *a => Some(false),
         Event::Put(other, t) if *other == *a && *t == s => Some(true),
+        Event::Cut(other, t) if *other == *a && *t == s => Some(false),
         _ => None,
     }
 }

@@ -1,34 +1,11 @@
-//! Which BSCs are registered, and whether their links are up.
+//! Whether the links of the BSCs are up.
 
 ghost use Rattle.std.specs.Prelude.{◌≡◌, ◌+◌, reverse, unwrap_or};
-ghost use Rattle.centre_core.specs.Links.{bsc_mark, is_bsc, up_mark, is_up, generation_mark, last_link};
+ghost use Rattle.centre_core.specs.Links.{up_mark, is_up, generation_mark, last_link};
 
-use crate::cell_register::BscId;
 use crate::entry::Entry;
 use crate::event::Event;
-
-fn bsc_mark(b: BscId, event: &Event) -> Option<bool>
-    ensures { result ≡ bsc_mark b event.now }
-{
-    match event {
-        Event::AddBsc(other) if *other == b => Some(true),
-        _ => None,
-    }
-}
-
-/// Whether the BSC is registered.
-#[tactic(auto, using(crate::proofs::PastLemmas::past_more))]
-pub(crate) fn is_bsc(journal: &[Entry], b: BscId) -> bool
-    ensures { result ≡ is_bsc (reverse journal.now) b }
-{
-    let mut found = false;
-    for entry in journal {
-        if let Some(now) = bsc_mark(b, &entry.event) {
-            found = now;
-        }
-    }
-    found
-}
+use cell_register::BscId;
 
 fn up_mark(b: BscId, event: &Event) -> Option<bool>
     ensures { result ≡ up_mark b event.now }
@@ -36,6 +13,7 @@ fn up_mark(b: BscId, event: &Event) -> Option<bool>
     match event {
         Event::AddBsc(other) if *other == b => Some(false),
         Event::LinkUp(other) if *other == b => Some(true),
+        Event::LinkDown(other, _) if *other == b => Some(false),
         _ => None,
     }
 }

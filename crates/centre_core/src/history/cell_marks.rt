@@ -1,18 +1,19 @@
 //! Where cells are registered.
 
 ghost use Rattle.std.specs.Prelude.{◌≡◌, reverse};
-ghost use Rattle.centre_core.specs.Places.{place_mark, place, is_registered};
+ghost use Rattle.centre_core.specs.Places.{place_mark, place};
 
-use crate::cell_register::BscId;
 use crate::entry::Entry;
 use crate::event::Event;
 use cbsp_ie::Cell;
+use cell_register::BscId;
 
 fn place_mark(c: Cell, event: &Event) -> Option<Option<BscId>>
     ensures { result ≡ place_mark c event.now }
 {
     match event {
-        Event::AddCell(d, b) if *d == c => Some(Some(*b)),
+        Event::AddCell(d, b) | Event::MoveCell(d, b) if *d == c => Some(Some(*b)),
+        Event::RemoveCell(d) if *d == c => Some(None),
         _ => None,
     }
 }
@@ -29,10 +30,4 @@ pub(crate) fn place(journal: &[Entry], c: Cell) -> Option<BscId>
         }
     }
     found
-}
-
-pub(crate) fn is_registered(journal: &[Entry], c: Cell) -> bool
-    ensures { result ≡ is_registered (reverse journal.now) c }
-{
-    place(journal, c).is_some()
 }

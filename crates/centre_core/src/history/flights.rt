@@ -5,11 +5,11 @@ ghost use Rattle.std.specs.Option.{option_copied};
 ghost use Rattle.centre_core.specs.InFlight.{sent_order, is_replied, flight_mark, in_flight};
 
 use crate::answer::Answer;
-use crate::cell_register::BscId;
 use crate::entry::Entry;
 use crate::event::Event;
 use crate::history::bsc_marks::up_after;
 use crate::order_maker::Order;
+use cell_register::BscId;
 
 /// Whether the answer is a reply's.
 pub(crate) fn is_replied(answer: &Answer) -> bool
@@ -40,6 +40,7 @@ pub(crate) fn flight_after<'a>(
         Event::Send(other, _) if *other == b => sent_order(&entry.answer),
         Event::Report(other, _, _) if *other == b && is_replied(&entry.answer) => None,
         Event::LinkUp(other) if *other == b && up => None,
+        Event::LinkDown(other, _) if *other == b => None,
         _ => flight,
     }
 }

@@ -5,7 +5,6 @@ ghost use Rattle.std.specs.Option.{option_copied};
 ghost use Rattle.centre_core.specs.InFlight.{outcome};
 ghost use Rattle.centre_core.specs.Presence.{is_among, effect, flight_effect, new_effect, presence_mark, presence};
 
-use crate::cell_register::BscId;
 use crate::entry::Entry;
 use crate::event::Event;
 use crate::history::bsc_marks::up_after;
@@ -16,6 +15,7 @@ use crate::outcome::Outcome;
 use crate::serials::Serial;
 use cbsp_ie::Cell;
 use cbsp_messages::Message;
+use cell_register::BscId;
 
 /// Whether the cell is one of the list.
 pub(crate) fn is_among(c: Cell, cells: &[Cell]) -> bool
@@ -87,6 +87,10 @@ fn presence_mark(
         Event::LinkUp(other) if *other == b && up => {
             flight_presence(flight, Outcome::Silent, c, message_id, serial)
         }
+        Event::LinkDown(other, _) if *other == b => {
+            flight_presence(flight, Outcome::Silent, c, message_id, serial)
+        }
+        Event::RemoveBsc(other) if *other == b => Some(Presence::Absent),
         _ => None,
     }
 }

@@ -1,16 +1,32 @@
 //! The warnings in the book.
 
-ghost use Rattle.std.specs.Prelude.{◌≡◌, ◌++◌, ◌&&◌, find, nat_eq, length, reverse, IfOk, OnOk};
+ghost use Rattle.std.specs.Prelude.{◌≡◌, ◌++◌, ◌&&◌, bytes_eq, find, nat_eq, length, reverse, IfOk, OnOk};
+ghost use Rattle.std.specs.List.{list_any};
 ghost use Rattle.std.specs.Option.{option_copied, option_map, is_some};
+ghost use Rattle.centre_core.specs.Counted.{names_one};
 ghost use Rattle.centre_core.specs.Issued.{warning_of, issued_by, code_in, forward};
 ghost use Rattle.centre_core.specs.Warnings.{is_issue, issue_count, book, codes_of, content_of, has_number};
+ghost use Rattle.centre_core.specs.Verdict.{is_in_use};
 
 use crate::answer::Answer;
 use crate::entry::Entry;
 use crate::event::Event;
 use crate::serials::Serial;
 use crate::warning_book::{Content, IssuedWarning, WarningId};
+use cbsp_ie::Name;
 use std::alloc::{AllocError, Global};
+
+/// Whether the name is one of the list.
+pub(crate) fn is_named(a: &Name, names: &[Name]) -> bool
+    ensures { result ≡ list_any (bytes_eq a.now) names.now }
+{
+    for other in names {
+        if *a == *other {
+            return true;
+        }
+    }
+    false
+}
 
 fn is_issue(event: &Event) -> bool
     ensures { result ≡ is_issue event.now }
@@ -115,6 +131,36 @@ pub(crate) fn warning_with(journal: &[Entry], number: WarningId) -> Option<Issue
     ensures { option_map warning_of result ≡ find (has_number number) (book (reverse journal.now)) }
 {
     issued_as(journal, number)
+}
+
+/// Whether the entry issues a warning that names the area.
+fn issues_in(entry: &Entry, a: &Name) -> bool
+    ensures { result ≡ names_one (λ w. list_any (bytes_eq a.now) w.areas) (issued_by entry.now.event entry.now.answer) }
+{
+    match issued_by(entry) {
+        Some(w) => is_named(a, w.areas.as_slice()),
+        None => false,
+    }
+}
+
+/// Whether an entry issues a warning that names the area.
+fn is_issued_in(journal: &[Entry], a: &Name) -> bool
+    ensures { result ≡ list_any (λ w. list_any (bytes_eq a.now) w.areas) (forward journal.now) }
+{
+    for entry in journal {
+        if issues_in(entry, a) {
+            return true;
+        }
+    }
+    false
+}
+
+/// Whether a warning in the book names the area.
+#[tactic(auto, using(crate::proofs::BookLemmas::book_of_journal))]
+pub(crate) fn is_in_use(journal: &[Entry], a: &Name) -> bool
+    ensures { result ≡ is_in_use (reverse journal.now) a.now }
+{
+    is_issued_in(journal, a)
 }
 
 /// The first warning that an entry issues with that message identifier and serial number.

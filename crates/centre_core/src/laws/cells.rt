@@ -1,30 +1,46 @@
 //! Events of cells.
 
-ghost use Rattle.std.specs.Prelude.{◌≡◌, reverse};
-ghost use Rattle.centre_core.specs.Verdict.{add_cell};
+ghost use Rattle.std.specs.Prelude.{◌≡◌, List, OnOk, OnErr};
+ghost use Rattle.cell_register.specs.Register.{with_cell, moved, without_cell};
+ghost use Rattle.centre_core.specs.Kept.{IsRegisterOf, Gives};
+ghost use Rattle.centre_core.specs.Verdict.{add_cell, move_cell, remove_cell};
+ghost use Rattle.centre_core.specs.declared.entry.Entry.{Entry};
 
 use crate::answer::Answer;
-use crate::cell_register::BscId;
-use crate::entry::Entry;
-use crate::history::{is_bsc, is_full_of_cells, is_registered};
-use crate::laws::Verdict;
-use crate::refusal::{Limit, Refusal};
+use crate::refusal::Refusal;
 use cbsp_ie::Cell;
+use cell_register::{BscId, Register};
 
 /// AddCell: registers a cell that is not there at a BSC.
-pub(crate) fn add_cell(journal: &[Entry], c: Cell, b: BscId) -> Verdict
-    ensures { result ≡ add_cell (reverse journal.now) c b }
+#[tactic(auto, using(crate::proofs::RegisterLemmas::add_cell_taken, crate::proofs::RegisterLemmas::add_cell_refused))]
+pub(crate) fn add_cell(register: &mut Register, c: Cell, b: BscId) -> Result<Answer, Refusal>
+    ensures verdict { (past : List Entry) → IsRegisterOf past register.old → Gives (add_cell past c b) result }
+    ensures changed { OnOk result (register.new ≡ with_cell c b register.old) }
+    ensures unchanged { OnErr result (register.new ≡ register.old) }
 {
-    if !is_bsc(journal, b) {
-        return Err(Refusal::NoSuchBsc);
-    }
-    if is_registered(journal, c) {
-        return Err(Refusal::CellExists);
-    }
-    if is_full_of_cells(journal) {
-        return Err(Refusal::Limit {
-            which: Limit::Cells,
-        });
-    }
+    register.is_sound();
+    register.add_cell(c, b)?;
+    Ok(Answer::Done)
+}
+
+/// MoveCell: registers a cell at another BSC.
+#[tactic(auto, using(crate::proofs::RegisterLemmas::move_cell_taken, crate::proofs::RegisterLemmas::move_cell_refused))]
+pub(crate) fn move_cell(register: &mut Register, c: Cell, b: BscId) -> Result<Answer, Refusal>
+    ensures verdict { (past : List Entry) → IsRegisterOf past register.old → Gives (move_cell past c b) result }
+    ensures changed { OnOk result (register.new ≡ moved c b register.old) }
+    ensures unchanged { OnErr result (register.new ≡ register.old) }
+{
+    register.move_cell(c, b)?;
+    Ok(Answer::Done)
+}
+
+/// RemoveCell: takes a cell out.
+#[tactic(auto, using(crate::proofs::RegisterLemmas::remove_cell_taken, crate::proofs::RegisterLemmas::remove_cell_refused))]
+pub(crate) fn remove_cell(register: &mut Register, c: Cell) -> Result<Answer, Refusal>
+    ensures verdict { (past : List Entry) → IsRegisterOf past register.old → Gives (remove_cell past c) result }
+    ensures changed { OnOk result (register.new ≡ without_cell c register.old) }
+    ensures unchanged { OnErr result (register.new ≡ register.old) }
+{
+    register.remove_cell(c)?;
     Ok(Answer::Done)
 }

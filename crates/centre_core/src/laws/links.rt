@@ -1,21 +1,46 @@
 //! Events of links.
 
 ghost use Rattle.std.specs.Prelude.{◌≡◌, reverse};
-ghost use Rattle.centre_core.specs.Verdict.{link_up};
+ghost use Rattle.centre_core.specs.Kept.{IsRegisterOf};
+ghost use Rattle.centre_core.specs.Verdict.{link_up, link_down};
 
 use crate::answer::Answer;
-use crate::cell_register::BscId;
 use crate::entry::Entry;
-use crate::history::is_bsc;
+use crate::history::{is_up, last_link};
 use crate::laws::Verdict;
 use crate::refusal::Refusal;
+use cell_register::{BscId, Register};
 
 /// LinkUp: the link of a BSC has come up. Its generation is the number of its entry.
-pub(crate) fn link_up(journal: &[Entry], b: BscId) -> Verdict
+pub(crate) fn link_up(journal: &[Entry], register: &Register, b: BscId) -> Verdict
+    requires { IsRegisterOf (reverse journal.now) register.now }
     ensures { result ≡ link_up (reverse journal.now) b }
 {
-    if !is_bsc(journal, b) {
+    if !register.has_bsc(b) {
         return Err(Refusal::NoSuchBsc);
     }
     Ok(Answer::Link(journal.len() as u64 + 1))
+}
+
+/// LinkDown: the link of this generation is lost.
+pub(crate) fn link_down(
+    journal: &[Entry],
+    register: &Register,
+    b: BscId,
+    generation: u64,
+) -> Verdict
+    requires { IsRegisterOf (reverse journal.now) register.now }
+    ensures { result ≡ link_down (reverse journal.now) b generation }
+{
+    if !register.has_bsc(b) {
+        return Err(Refusal::NoSuchBsc);
+    }
+    let last = last_link(journal, b);
+    if generation != last {
+        return Err(Refusal::StaleLink { now: last });
+    }
+    if !is_up(journal, b) {
+        return Err(Refusal::LinkNotUp);
+    }
+    Ok(Answer::Done)
 }

@@ -2,19 +2,20 @@
 
 ghost use Rattle.std.specs.Prelude.{◌≡◌, reverse, map, IfOk};
 ghost use Rattle.std.specs.Option.{option_copied};
-ghost use Rattle.centre_core.specs.InFlight.{agrees, new_of, old_of, is_write, matches, matches_flight, replies};
+ghost use Rattle.centre_core.specs.InFlight.{agrees, new_of, old_of, is_write, is_kill, matches, matches_flight, replies};
+ghost use Rattle.centre_core.specs.Kept.{IsRegisterOf};
 ghost use Rattle.centre_core.specs.Verdict.{report, report_answer};
 
 use crate::answer::Answer;
-use crate::cell_register::BscId;
 use crate::entry::Entry;
-use crate::history::{in_flight, is_bsc, is_up, last_link, outcome};
+use crate::history::{in_flight, is_up, last_link, outcome};
 use crate::laws::Verdict;
 use crate::order_maker::{Order, OrderKind};
 use crate::refusal::Refusal;
 use crate::replies::Replies;
 use crate::reply::Reply;
 use cbsp_messages::Message;
+use cell_register::{BscId, Register};
 use std::alloc::{AllocError, Global};
 
 /// Whether an identifier that is given, and has a counterpart in the order, is that counterpart.
@@ -63,6 +64,15 @@ fn matches(message: &Message, order: &Order) -> bool
                 && agrees(Some(*serial), new_of(order))
                 && agrees(*old, old_of(order))
         }
+        Message::KillComplete {
+            message_id,
+            serial,
+            ..
+        } => {
+            order.kind == OrderKind::Kill
+                && agrees(Some(*message_id), Some(order.message_id))
+                && agrees(Some(*serial), old_of(order))
+        }
         _ => false,
     }
 }
@@ -87,13 +97,15 @@ fn replies(alloc: Global, message: &Message, order: &Order) -> Result<Replies, A
 pub(crate) fn report(
     alloc: Global,
     journal: &[Entry],
+    register: &Register,
     b: BscId,
     generation: u64,
     message: &Message,
 ) -> Result<Verdict, AllocError>
+    requires { IsRegisterOf (reverse journal.now) register.now }
     ensures { IfOk result (λ verdict. verdict ≡ report (reverse journal.now) b generation message.now) }
 {
-    if !is_bsc(journal, b) {
+    if !register.has_bsc(b) {
         return Ok(Err(Refusal::NoSuchBsc));
     }
     let last = last_link(journal, b);

@@ -1,17 +1,18 @@
 //! Sending of orders.
 
 ghost use Rattle.std.specs.Prelude.{◌≡◌, reverse, IfOk};
+ghost use Rattle.centre_core.specs.Kept.{IsRegisterOf};
 ghost use Rattle.centre_core.specs.Pages.{HasPages};
 ghost use Rattle.centre_core.specs.Verdict.{send, send_answer};
 ghost use Rattle.centre_core.specs.Warnings.{book};
 
 use crate::answer::Answer;
-use crate::cell_register::BscId;
 use crate::entry::Entry;
-use crate::history::{content_of, in_flight, is_bsc, is_up, last_link};
+use crate::history::{content_of, in_flight, is_up, last_link};
 use crate::laws::Verdict;
 use crate::order_maker::{Order, first, message_of, pending};
 use crate::refusal::Refusal;
+use cell_register::{BscId, Register};
 use std::alloc::{AllocError, Global};
 
 /// What is answered where that is the first pending order.
@@ -37,13 +38,15 @@ fn send_answer(
 pub(crate) fn send(
     alloc: Global,
     journal: &[Entry],
+    register: &Register,
     b: BscId,
     generation: u64,
 ) -> Result<Verdict, AllocError>
-    requires { HasPages (book (reverse journal.now)) }
+    requires pages { HasPages (book (reverse journal.now)) }
+    requires registered { IsRegisterOf (reverse journal.now) register.now }
     ensures { IfOk result (λ verdict. verdict ≡ send (reverse journal.now) b generation) }
 {
-    if !is_bsc(journal, b) {
+    if !register.has_bsc(b) {
         return Ok(Err(Refusal::NoSuchBsc));
     }
     let last = last_link(journal, b);

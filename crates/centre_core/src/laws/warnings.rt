@@ -1,38 +1,29 @@
 //! Events of warnings.
 
-ghost use Rattle.std.specs.Prelude.{◌≡◌, ◌+◌, not, bytes_eq, length, reverse, Option, IfOk};
+ghost use Rattle.std.specs.Prelude.{◌≡◌, ◌+◌, not, length, reverse, Option, IfOk};
 ghost use Rattle.std.specs.List.{list_any};
-ghost use Rattle.centre_core.specs.Cover.{is_area};
+ghost use Rattle.areas.specs.Areas.{has_area};
+ghost use Rattle.centre_core.specs.Kept.{AreAreasOf};
 ghost use Rattle.centre_core.specs.Verdict.{has_twice, is_page, are_pages, is_period, issue_answer, issue};
 ghost use Rattle.centre_core.specs.Warnings.{new_serial, issue_count};
 
 use crate::answer::Answer;
 use crate::entry::Entry;
-use crate::history::{book_length, codes_of, is_area, issue_count};
+use crate::history::{book_length, codes_of, is_named, issue_count};
 use crate::laws::Verdict;
 use crate::refusal::{Limit, Refusal};
 use crate::serials::{Serial, least_free_code};
 use crate::warning_book::{Notice, WarningId};
+use areas::Areas;
 use cbsp_ie::{Name, Octets};
 use std::alloc::{AllocError, Global};
 
 /// Whether one of the names is no area.
-fn names_no_area(journal: &[Entry], names: &[Name]) -> bool
-    ensures { result ≡ list_any (λ a. not (is_area (reverse journal.now) a)) names.now }
+fn names_no_area(areas: &Areas, names: &[Name]) -> bool
+    ensures { result ≡ list_any (λ a. not (has_area areas.now a)) names.now }
 {
     for name in names {
-        if !is_area(journal, name) {
-            return true;
-        }
-    }
-    false
-}
-
-fn is_among(name: &Name, names: &[Name]) -> bool
-    ensures { result ≡ list_any (bytes_eq name.now) names.now }
-{
-    for other in names {
-        if *name == *other {
+        if !areas.has_area(name) {
             return true;
         }
     }
@@ -44,7 +35,7 @@ fn has_twice(names: &[Name]) -> bool
     ensures { result ≡ has_twice names.now }
 {
     for (i, name) in names.iter().enumerate() {
-        if is_among(name, &names[i + 1..]) {
+        if is_named(name, &names[i + 1..]) {
             return true;
         }
     }
@@ -97,15 +88,18 @@ fn new_serial(
 }
 
 /// Issue: puts a new warning into the book.
+#[tactic(auto, using(crate::proofs::AreaLemmas::names_there))]
 pub(crate) fn issue(
     alloc: Global,
     journal: &[Entry],
+    areas: &Areas,
     notice: &Notice,
     names: &[Name],
 ) -> Result<Verdict, AllocError>
+    requires { AreAreasOf (reverse journal.now) areas.now }
     ensures { IfOk result (λ verdict. verdict ≡ issue (reverse journal.now) notice.now names.now) }
 {
-    if names_no_area(journal, names) {
+    if names_no_area(areas, names) {
         return Ok(Err(Refusal::NoSuchArea));
     }
     if names.is_empty() {

@@ -5,7 +5,6 @@ ghost use Rattle.centre_core.specs.Actions.{action, needs, is_to_kill, actions, 
 ghost use Rattle.centre_core.specs.Issued.{warning_of, issued_by, actions_by, actions_along};
 ghost use Rattle.centre_core.specs.Plan.{wanted};
 
-use crate::cell_register::BscId;
 use crate::entry::Entry;
 use crate::history::{cells, is_covered, issued_by, place, presence};
 use crate::mirror::Presence;
@@ -13,6 +12,7 @@ use crate::order_maker::action::Action;
 use crate::order_maker::order_kind::OrderKind;
 use crate::warning_book::IssuedWarning;
 use cbsp_ie::Cell;
+use cell_register::BscId;
 use std::alloc::{AllocError, Global};
 
 fn action(w: &IssuedWarning<'_>, c: Cell, kind: OrderKind) -> Action

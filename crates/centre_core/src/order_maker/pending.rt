@@ -3,14 +3,14 @@
 ghost use Rattle.std.specs.Prelude.{◌≡◌, take, reverse, IfOk};
 ghost use Rattle.centre_core.specs.Pending.{pending, shortened, most_cells, first};
 
-use crate::cell_register::BscId;
 use crate::entry::Entry;
 use crate::order_maker::actions::all_actions;
 use crate::order_maker::grouping::grouped;
 use crate::order_maker::order::Order;
 use crate::order_maker::orders::Orders;
-use crate::order_maker::sorting::in_order;
+use crate::sorting::in_order;
 use cbsp_ie::{Cell, Cells};
+use cell_register::BscId;
 use std::alloc::{AllocError, Global};
 
 /// The pending orders of the BSC.

@@ -171,9 +171,96 @@ static ROWS: [Row; 8] = [
     },
 ];
 
+/// The lines of changes, links and questions about a BSC.
+static CHANGES: [Row; 2] = [
+    Row {
+        name: "a word too few, and one too many",
+        script: "bsc remove\n\
+             bsc remove 1 1\n\
+             cell move 100 7\n\
+             cell move 100 7 1 1\n\
+             cell remove 100\n\
+             cell remove 100 7 1\n\
+             area drop\n\
+             area drop X X\n\
+             area cut X\n\
+             area cut X 1 1 1\n\
+             down\n\
+             down 1 1\n\
+             gen 1\n\
+             gen 1 1 1\n\
+             pending\n\
+             pending 1 1\n\
+             table\n\
+             table 1 1\n",
+        answers: "bad line\n\
+             bad line\n\
+             bad line\n\
+             bad line\n\
+             bad line\n\
+             bad line\n\
+             bad line\n\
+             bad line\n\
+             bad line\n\
+             bad line\n\
+             bad line\n\
+             bad line\n\
+             bad line\n\
+             bad line\n\
+             bad line\n\
+             bad line\n\
+             bad line\n\
+             bad line\n",
+    },
+    Row {
+        name: "numbers of changes and questions",
+        script: "bsc remove 0\n\
+             bsc remove 65536\n\
+             cell move 100 7 0\n\
+             cell move 65536 7 1\n\
+             cell move 100 65536 1\n\
+             cell remove 65536 7\n\
+             cell remove 100 x\n\
+             area cut X 65536\n\
+             area cut X 100 65536\n\
+             down 0\n\
+             gen 0 1\n\
+             gen 1 4294967296\n\
+             gen 1 00000000001\n\
+             gen 1 4294967295\n\
+             gen 65535 0\n\
+             pending 0\n\
+             pending 65535\n\
+             table 65536\n\
+             table 65535\n",
+        answers: "bad line\n\
+             bad line\n\
+             bad line\n\
+             bad line\n\
+             bad line\n\
+             bad line\n\
+             bad line\n\
+             bad line\n\
+             bad line\n\
+             bad line\n\
+             bad line\n\
+             bad line\n\
+             bad line\n\
+             set\n\
+             set\n\
+             bad line\n\
+             no 3 NoSuchBsc\n\
+             bad line\n\
+             no 3 NoSuchBsc\n",
+    },
+];
+
 #[test]
 fn each_bad_line_has_its_answer(rt: HostRuntime) {
     for row in &ROWS {
+        agrees(&rt, rt.alloc(), row);
+    }
+    for row in &CHANGES {
         agrees(&rt, rt.alloc(), row);
     }
 }

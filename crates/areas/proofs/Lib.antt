@@ -1,0 +1,4 @@
+pub mod OrderLemmas
+pub mod PlaceLemmas
+pub mod CoverLemmas
+pub mod SoundLemmas

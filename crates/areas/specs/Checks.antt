@@ -1,0 +1,26 @@
+-- Why an edit is refused: the first cause that holds, in the order of the checks.
+use Rattle.std.specs.Prelude.{ℕ, Bool, not, List, [], ◌∷◌, Option, Some, None, nat_le, length, if◌then◌else◌}
+use Rattle.areas.specs.Areas.{has_area, has_selector, selectors_of}
+use Rattle.areas.specs.Name.{is_name}
+use Rattle.areas.specs.declared.area.Area.{Area}
+use Rattle.areas.specs.declared.refusal.Limit.TheVariants as limit
+use Rattle.areas.specs.declared.refusal.Refusal.{Refusal}
+use Rattle.areas.specs.declared.refusal.Refusal.TheVariants.{BadName, AreaExists, NoSuchArea, SelectorThere, SelectorNotThere, Limit}
+use Rattle.areas.specs.declared.selector.Selector.{Selector}
+
+-- the refusal of the first check that holds
+abbrev pub first_refusal : List (Bool × Refusal) → Option Refusal
+first_refusal [] = None
+first_refusal (check ∷ checks) = if check.0 then Some check.1 else first_refusal checks
+
+abbrev pub add_area_checks : List Area → List ℕ → List (Bool × Refusal)
+add_area_checks l a = (not (is_name a), BadName) ∷ (has_area l a, AreaExists) ∷ (nat_le 4096 (length l), Limit limit.Areas) ∷ []
+
+abbrev pub drop_area_checks : List Area → List ℕ → List (Bool × Refusal)
+drop_area_checks l a = (not (has_area l a), NoSuchArea) ∷ []
+
+abbrev pub put_checks : List Area → List ℕ → Selector → List (Bool × Refusal)
+put_checks l a s = (not (has_area l a), NoSuchArea) ∷ (has_selector l a s, SelectorThere) ∷ (nat_le 4096 (length (selectors_of l a)), Limit limit.Selectors) ∷ []
+
+abbrev pub cut_checks : List Area → List ℕ → Selector → List (Bool × Refusal)
+cut_checks l a s = (not (has_area l a), NoSuchArea) ∷ (not (has_selector l a s), SelectorNotThere) ∷ []

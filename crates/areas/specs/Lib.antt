@@ -1,0 +1,8 @@
+pub mod Selector
+pub mod Equality
+pub mod Name
+pub mod Order
+pub mod Areas
+pub mod Checks
+pub mod Keys
+pub mod Laws

@@ -1,0 +1,162 @@
+//! The areas of a centre.
+
+use crate::area::Area;
+use crate::naming::is_name;
+use crate::refusal::{Limit, Refusal};
+use crate::selector::Selector;
+use crate::{covering, edits, lookups};
+use cbsp_ie::{Cell, Name, Names};
+use std::alloc::{AllocError, Global};
+use std::marker::Model;
+
+/// Named areas. Contracts see them as a list, in the order of the octets of their names.
+#[derive(Drop)]
+pub struct Areas {
+    alloc: Global,
+    list: Vec<Area>,
+}
+
+impl Model for Areas {
+    ghost use Rattle.std.specs.Prelude.{List};
+    ghost use Rattle.areas.specs.declared.area.Area.{Area};
+    ghost use Rattle.areas.specs.Areas.{IsSound};
+
+    ghost Value = { List Area };
+
+    ghost view = { λ s. s.list.items };
+
+    ghost invariant = { λ s. IsSound s.list.items };
+}
+
+impl Areas {
+    ghost use Rattle.std.specs.Prelude.{◌≡◌, ◌≤◌, ◌⊎◌, ℕ, List, [], None, Some, true, length, IfOk, IfErr, OnOk, OnErr};
+    ghost use Rattle.areas.specs.Areas.{has_area, selectors_of, has_selector, covers, areas_of, with_area, without_area, with_selector, without_selector, is_ascending, each_once};
+    ghost use Rattle.areas.specs.Checks.{first_refusal, add_area_checks, drop_area_checks, put_checks, cut_checks};
+    ghost use Rattle.areas.specs.declared.refusal.Refusal.TheVariants as refusal;
+
+    /// No areas. What they will need is taken from the allocator.
+    pub fn new(alloc: Global) -> Areas
+        ensures { result ≡ [] }
+    {
+        Areas {
+            alloc,
+            list: Vec::new(alloc),
+        }
+    }
+
+    /// Makes an area without selectors. Refused as `BadName`, `AreaExists` or `Limit`, the first that holds, else as
+    /// `Memory` where memory is wanting; an `Err` leaves the areas as they were.
+    pub fn add_area(&mut self, a: &Name) -> Result<(), Refusal>
+        ensures accepted { OnOk result (first_refusal (add_area_checks self.old a.now) ≡ None) }
+        ensures changed { OnOk result (self.new ≡ with_area a.now self.old) }
+        ensures refused { IfErr result (λ e. (first_refusal (add_area_checks self.old a.now) ≡ Some e) ⊎ ((e ≡ refusal.Memory) × (first_refusal (add_area_checks self.old a.now) ≡ None))) }
+        ensures unchanged { OnErr result (self.new ≡ self.old) }
+    {
+        if !is_name(a) {
+            return Err(Refusal::BadName);
+        }
+        if lookups::has_area(self.list.as_slice(), a) {
+            return Err(Refusal::AreaExists);
+        }
+        if self.list.len() >= 4096 {
+            return Err(Refusal::Limit {
+                which: Limit::Areas,
+            });
+        }
+        edits::add_area(self.alloc, &mut self.list, a)?;
+        Ok(())
+    }
+
+    /// Takes an area away with its selectors, and takes no memory. Refused as `NoSuchArea`, which leaves the areas as
+    /// they were.
+    pub fn drop_area(&mut self, a: &Name) -> Result<(), Refusal>
+        ensures accepted { OnOk result (first_refusal (drop_area_checks self.old a.now) ≡ None) }
+        ensures changed { OnOk result (self.new ≡ without_area a.now self.old) }
+        ensures refused { IfErr result (λ e. first_refusal (drop_area_checks self.old a.now) ≡ Some e) }
+        ensures unchanged { OnErr result (self.new ≡ self.old) }
+    {
+        if !lookups::has_area(self.list.as_slice(), a) {
+            return Err(Refusal::NoSuchArea);
+        }
+        edits::drop_area(&mut self.list, a);
+        Ok(())
+    }
+
+    /// Puts a selector into an area, behind those that are there. Refused as `NoSuchArea`, `SelectorThere` or `Limit`,
+    /// the first that holds, else as `Memory` where memory is wanting; an `Err` leaves the areas as they were.
+    pub fn put(&mut self, a: &Name, s: Selector) -> Result<(), Refusal>
+        ensures accepted { OnOk result (first_refusal (put_checks self.old a.now s) ≡ None) }
+        ensures changed { OnOk result (self.new ≡ with_selector a.now s self.old) }
+        ensures refused { IfErr result (λ e. (first_refusal (put_checks self.old a.now s) ≡ Some e) ⊎ ((e ≡ refusal.Memory) × (first_refusal (put_checks self.old a.now s) ≡ None))) }
+        ensures unchanged { OnErr result (self.new ≡ self.old) }
+    {
+        if !lookups::has_area(self.list.as_slice(), a) {
+            return Err(Refusal::NoSuchArea);
+        }
+        if lookups::has_selector(self.list.as_slice(), a, s) {
+            return Err(Refusal::SelectorThere);
+        }
+        if lookups::selector_count(self.list.as_slice(), a) >= 4096 {
+            return Err(Refusal::Limit {
+                which: Limit::Selectors,
+            });
+        }
+        edits::put(&mut self.list, a, s)?;
+        Ok(())
+    }
+
+    /// Takes a selector out of an area, and takes no memory. Refused as `NoSuchArea` or `SelectorNotThere`, the first
+    /// that holds, which leaves the areas as they were.
+    pub fn cut(&mut self, a: &Name, s: Selector) -> Result<(), Refusal>
+        ensures accepted { OnOk result (first_refusal (cut_checks self.old a.now s) ≡ None) }
+        ensures changed { OnOk result (self.new ≡ without_selector a.now s self.old) }
+        ensures refused { IfErr result (λ e. first_refusal (cut_checks self.old a.now s) ≡ Some e) }
+        ensures unchanged { OnErr result (self.new ≡ self.old) }
+    {
+        if !lookups::has_area(self.list.as_slice(), a) {
+            return Err(Refusal::NoSuchArea);
+        }
+        if !lookups::has_selector(self.list.as_slice(), a, s) {
+            return Err(Refusal::SelectorNotThere);
+        }
+        edits::cut(&mut self.list, a, s);
+        Ok(())
+    }
+
+    pub fn has_area(&self, a: &Name) -> bool
+        ensures { result ≡ has_area self.now a.now }
+    {
+        lookups::has_area(self.list.as_slice(), a)
+    }
+
+    /// Whether the area has the selector; `false` where there is no such area.
+    pub fn has_selector(&self, a: &Name, s: Selector) -> bool
+        ensures { result ≡ has_selector self.now a.now s }
+    {
+        lookups::has_selector(self.list.as_slice(), a, s)
+    }
+
+    /// Whether the area covers the cell; `false` where there is no such area.
+    pub fn covers(&self, a: &Name, c: Cell) -> bool
+        ensures { result ≡ covers self.now a.now c }
+    {
+        lookups::covers(self.list.as_slice(), a, c)
+    }
+
+    /// The names of the areas that cover the cell, in the order of their octets.
+    pub fn areas_of(&self, c: Cell) -> Result<Names, AllocError>
+        ensures { IfOk result (λ names. names ≡ areas_of self.now c) }
+    {
+        covering::areas_of(self.alloc, self.list.as_slice(), c)
+    }
+
+    /// Tells what always holds of the areas.
+    pub fn is_sound(&self)
+        ensures ascending { is_ascending self.now ≡ true }
+        ensures few { length self.now ≤ 4096 }
+        ensures once { (a : List ℕ) → each_once (selectors_of self.now a) ≡ true }
+        ensures short { (a : List ℕ) → length (selectors_of self.now a) ≤ 4096 }
+    {
+        let _ = &self.alloc;
+    }
+}

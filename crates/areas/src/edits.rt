@@ -1,0 +1,72 @@
+//! The edits of a list of areas that nothing forbids.
+
+ghost use Rattle.std.specs.Prelude.{◌≡◌, ◌≤◌, ◌++◌, ◌∷◌, length, take, drop, true, OnOk, OnErr};
+ghost use Rattle.areas.specs.Areas.{empty_area, with_area, without_area, with_selector, without_selector, is_ascending};
+
+use crate::area::Area;
+use crate::lookups::place_of;
+use crate::naming::is_before;
+use crate::selector::Selector;
+use crate::selectors::Selectors;
+use cbsp_ie::Name;
+use std::alloc::{AllocError, Global};
+
+/// Where an area of that name belongs.
+fn place_for(areas: &[Area], a: &Name) -> usize
+    ensures place { take result areas.now ++ empty_area a.now ∷ drop result areas.now ≡ with_area a.now areas.now }
+    ensures bound { result ≤ length areas.now }
+{
+    for (i, area) in areas.iter().enumerate() {
+        if !is_before(&area.name, a) {
+            return i;
+        }
+    }
+    areas.len()
+}
+
+/// Adds an area without selectors, in order.
+pub(crate) fn add_area(alloc: Global, areas: &mut Vec<Area>, a: &Name) -> Result<(), AllocError>
+    ensures added { OnOk result (areas.new.items ≡ with_area a.now areas.old.items) }
+    ensures unchanged { OnErr result (areas.new.items ≡ areas.old.items) }
+{
+    let area = Area {
+        name: a.copied(alloc)?,
+        selectors: Selectors::from_vec(Vec::new(alloc)),
+    };
+    let place = place_for(areas.as_slice(), a);
+    areas.insert(place, area)?;
+    Ok(())
+}
+
+/// Takes the area out.
+pub(crate) fn drop_area(areas: &mut Vec<Area>, a: &Name)
+    ensures { areas.new.items ≡ without_area a.now areas.old.items }
+{
+    areas.retain(|area| area.name != *a);
+}
+
+/// Puts the selector last in the area.
+pub(crate) fn put(areas: &mut Vec<Area>, a: &Name, s: Selector) -> Result<(), AllocError>
+    requires { is_ascending areas.old.items ≡ true }
+    ensures put { OnOk result (areas.new.items ≡ with_selector a.now s areas.old.items) }
+    ensures unchanged { OnErr result (areas.new.items ≡ areas.old.items) }
+{
+    let place = place_of(areas.as_slice(), a);
+    if place < areas.len() {
+        let area = &mut areas[place];
+        area.selectors.push(s)?;
+    }
+    Ok(())
+}
+
+/// Takes the selector out of the area.
+pub(crate) fn cut(areas: &mut Vec<Area>, a: &Name, s: Selector)
+    requires { is_ascending areas.old.items ≡ true }
+    ensures { areas.new.items ≡ without_selector a.now s areas.old.items }
+{
+    let place = place_of(areas.as_slice(), a);
+    if place < areas.len() {
+        let area = &mut areas[place];
+        area.selectors.cut(s);
+    }
+}

@@ -1,0 +1,25 @@
+//! Named areas of a cell broadcast centre, and their selectors.
+//!
+//! A selector is one cell or one location area (3GPP TS 23.003, clause 4). An area covers a cell when one of its
+//! selectors is that cell or its location area; whether the cell is registered does not matter here.
+//! Begin with `areas`; the words of its contracts stand in `specs/Areas`, the checks of each edit in `specs/Checks`,
+//! and what the edits change, for every list of areas, in `specs/Laws`.
+#![tactic(auto)]
+
+mod area;
+mod areas;
+mod covering;
+mod edits;
+mod lookups;
+mod naming;
+mod refusal;
+mod selector;
+mod selectors;
+#[cfg(test)]
+mod tests;
+
+pub use area::Area;
+pub use areas::Areas;
+pub use refusal::{Limit, Refusal};
+pub use selector::Selector;
+pub use selectors::Selectors;

@@ -1,0 +1,42 @@
+//! Names of areas, and their order.
+
+ghost use Rattle.std.specs.Prelude.{◌≡◌, not, length};
+ghost use Rattle.std.specs.List.{list_any};
+ghost use Rattle.areas.specs.Name.{is_name_octet, is_name, octets_lt};
+
+use cbsp_ie::Name;
+
+/// An ASCII letter, a digit or a hyphen.
+fn is_name_octet(octet: u8) -> bool
+    ensures { result ≡ is_name_octet octet }
+{
+    matches!(octet, b'0'..=b'9' | b'A'..=b'Z' | b'a'..=b'z' | b'-')
+}
+
+fn has_other_octet(octets: &[u8]) -> bool
+    ensures { result ≡ list_any (λ x. not (is_name_octet x)) octets.now }
+{
+    for octet in octets {
+        if !is_name_octet(*octet) {
+            return true;
+        }
+    }
+    false
+}
+
+/// Whether an area may have the name.
+pub(crate) fn is_name(a: &Name) -> bool
+    ensures { result ≡ is_name a.now }
+{
+    let octets = a.as_slice();
+    1 <= octets.len() && octets.len() <= 32 && !has_other_octet(octets)
+}
+
+/// Whether the first name comes before the second.
+pub(crate) fn is_before(a: &Name, b: &Name) -> bool
+    ensures { result ≡ octets_lt a.now b.now }
+{
+    let first = a.as_slice();
+    let second = b.as_slice();
+    first < second
+}

@@ -1,0 +1,108 @@
+//! A list of selectors.
+
+ghost use Rattle.std.specs.Prelude.{◌≡◌, ◌≢◌, ◌↔◌, ◌++◌, ◌∷◌, [], not, length, IsTrue, IfOk, OnOk, OnErr};
+ghost use Rattle.std.specs.Cmp.{decided, partial_equiv_from_equiv};
+ghost use Rattle.std.specs.Cmp.Lexicographic.{pointwise};
+ghost use Rattle.std.specs.List.{filter, list_any};
+ghost use Rattle.areas.specs.Equality.{selectors_decide};
+ghost use Rattle.areas.specs.Selector.{selector_eq};
+
+use crate::selector::Selector;
+use std::alloc::{AllocError, Global};
+use std::marker::Model;
+
+/// The selectors of an area, in the order in which they were put.
+#[derive(Debug, Drop)]
+pub struct Selectors {
+    selectors: Vec<Selector>,
+}
+
+impl Model for Selectors {
+    ghost use Rattle.std.specs.Prelude.{List};
+    ghost use Rattle.areas.specs.declared.selector.Selector.{Selector};
+
+    ghost Value = { List Selector };
+
+    ghost view = { λ s. s.selectors.items };
+}
+
+impl Selectors {
+    /// The selectors of the vector, which is moved.
+    pub fn from_vec(selectors: Vec<Selector>) -> Selectors
+        ensures { result ≡ selectors.items }
+    {
+        Selectors { selectors }
+    }
+
+    pub fn as_slice(&self) -> &[Selector]
+        ensures { result.now ≡ self.now }
+    {
+        &self.selectors
+    }
+
+    /// The selectors as a vector, which is moved and not copied.
+    pub fn into_vec(self) -> Vec<Selector>
+        ensures { result.items ≡ self }
+    {
+        let Selectors { selectors } = self;
+        selectors
+    }
+
+    /// The same selectors in memory of their own.
+    pub fn copied(&self, alloc: Global) -> Result<Selectors, AllocError>
+        ensures { IfOk result (λ copy. copy ≡ self.now) }
+    {
+        let selectors = Vec::from_slice(alloc, self.as_slice())?;
+        Ok(Selectors::from_vec(selectors))
+    }
+
+    pub fn same(&self, other: &Selectors) -> bool
+        ensures { IsTrue result ↔ (self.now ≡ other.now) }
+    {
+        *self == *other
+    }
+
+    /// Whether the selector is among them.
+    pub(crate) fn has(&self, s: Selector) -> bool
+        ensures { result ≡ list_any (λ t. selector_eq t s) self.now }
+    {
+        self.as_slice().contains(&s)
+    }
+
+    /// How many there are.
+    pub(crate) fn len(&self) -> usize
+        ensures { result ≡ length self.now }
+    {
+        self.selectors.len()
+    }
+
+    /// Puts the selector last.
+    pub(crate) fn push(&mut self, s: Selector) -> Result<(), AllocError>
+        ensures put { OnOk result (self.new ≡ self.old ++ s ∷ []) }
+        ensures unchanged { OnErr result (self.new ≡ self.old) }
+    {
+        self.selectors.push(s)?;
+        Ok(())
+    }
+
+    /// Takes the selector out.
+    pub(crate) fn cut(&mut self, s: Selector)
+        ensures { self.new ≡ filter (λ t. not (selector_eq t s)) self.old }
+    {
+        self.selectors.retain(|t| *t != s);
+    }
+}
+
+impl PartialEq for Selectors {
+    ghost eq = { λ a b. pointwise selector_eq a b };
+
+    ghost laws = { partial_equiv_from_equiv (decided (pointwise selector_eq) selectors_decide) };
+
+    fn eq(&self, other: &Selectors) -> bool {
+        self.as_slice() == other.as_slice()
+    }
+}
+
+impl Eq for Selectors {
+    ghost laws = { decided (pointwise selector_eq) selectors_decide };
+}

@@ -1,0 +1,21 @@
+//! Which base station controllers (BSCs) are registered, and at which BSC each cell is registered.
+//!
+//! A cell is registered at one BSC or at none; cells are ordered by location area, then by cell identity.
+//! Begin with `register`. What each event makes of a register, and what refuses it, is said in
+//! `specs/Register.antt`, what always holds in `specs/Sound.antt`; what follows from an event for each BSC and
+//! each cell is in `specs/Laws.antt`.
+#![tactic(auto)]
+
+mod bsc_id;
+mod bscs;
+mod placed;
+mod places;
+mod refusal;
+mod register;
+#[cfg(test)]
+mod tests;
+
+pub use bsc_id::BscId;
+pub use placed::Placed;
+pub use refusal::{Limit, Refusal};
+pub use register::Register;

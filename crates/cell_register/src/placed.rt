@@ -1,0 +1,11 @@
+//! A registered cell.
+
+use crate::bsc_id::BscId;
+use cbsp_ie::Cell;
+
+/// A cell, and the BSC at which it is registered.
+#[derive(Clone, Copy, Debug, PartialEq, Eq)]
+pub struct Placed {
+    pub cell: Cell,
+    pub bsc: BscId,
+}

@@ -1,0 +1,185 @@
+//! The register.
+
+ghost use Rattle.std.specs.Prelude.{◌≡◌, ◌⊎◌, None, Some, OnOk, OnErr, IfOk, IfErr};
+ghost use Rattle.cell_register.specs.Register.{empty, has_bsc, has_cells, place_in, cells_of, cells_in, with_bsc, without_bsc, with_cell, moved, without_cell, first_refusal, add_bsc_checks, remove_bsc_checks, add_cell_checks, move_cell_checks, remove_cell_checks};
+ghost use Rattle.cell_register.specs.Sound.{IsRegister};
+
+use crate::bsc_id::BscId;
+use crate::placed::Placed;
+use crate::refusal::{Limit, Refusal};
+use crate::{bscs, places};
+use cbsp_ie::{Cell, Cells};
+use std::alloc::{AllocError, Global};
+use std::marker::Model;
+
+/// The BSCs that are registered, and the cells, each at one of them.
+#[derive(Drop)]
+pub struct Register {
+    alloc: Global,
+    bscs: Vec<BscId>,
+    cells: Vec<Placed>,
+}
+
+impl Model for Register {
+    ghost use Rattle.cell_register.specs.Register.{State};
+    ghost use Rattle.cell_register.specs.Sound.{IsRegister};
+
+    ghost Value = { State };
+
+    ghost view = { λ r. record { bscs = r.bscs.items; cells = r.cells.items } };
+
+    ghost invariant = { λ r. IsRegister (record { bscs = r.bscs.items; cells = r.cells.items }) };
+}
+
+impl Register {
+    pub fn new(alloc: Global) -> Register
+        ensures { result ≡ empty }
+    {
+        Register {
+            alloc,
+            bscs: Vec::new(alloc),
+            cells: Vec::new(alloc),
+        }
+    }
+
+    /// Tells what always holds of a register.
+    pub fn is_sound(&self)
+        ensures { IsRegister self.now }
+    {
+        let _ = &self.bscs;
+    }
+
+    pub fn has_bsc(&self, b: BscId) -> bool
+        ensures { result ≡ has_bsc self.now b }
+    {
+        bscs::is_among(b, self.bscs.as_slice())
+    }
+
+    /// Whether a cell is registered at the BSC.
+    pub fn has_cells(&self, b: BscId) -> bool
+        ensures { result ≡ has_cells self.now b }
+    {
+        places::has_cells(b, self.cells.as_slice())
+    }
+
+    /// The BSC at which the cell is registered.
+    pub fn bsc_of(&self, c: Cell) -> Option<BscId>
+        ensures { result ≡ place_in self.now c }
+    {
+        places::place_among(c, self.cells.as_slice())
+    }
+
+    /// The cells that are registered at the BSC, in ascending order; none where there is no such BSC.
+    pub fn cells_of(&self, b: BscId) -> Result<Cells, AllocError>
+        ensures { IfOk result (λ cells. cells ≡ cells_of self.now b) }
+    {
+        places::cells_of(self.alloc, b, self.cells.as_slice())
+    }
+
+    /// The registered cells of the location area, in ascending order; none where there is no such area.
+    pub fn cells_in(&self, lac: u16) -> Result<Cells, AllocError>
+        ensures { IfOk result (λ cells. cells ≡ cells_in self.now lac) }
+    {
+        places::cells_in(self.alloc, lac, self.cells.as_slice())
+    }
+
+    /// Registers a BSC that isn't there.
+    ///
+    /// `BscExists`, then `Limit` where there are 256 BSCs, then `Memory` where room for one more was refused.
+    pub fn add_bsc(&mut self, b: BscId) -> Result<(), Refusal>
+        ensures accepted { OnOk result (first_refusal (add_bsc_checks self.old b) ≡ None) }
+        ensures changed { OnOk result (self.new ≡ with_bsc b self.old) }
+        ensures refused { IfErr result (λ e. (first_refusal (add_bsc_checks self.old b) ≡ Some e) ⊎ ((e ≡ Refusal.Memory) × (first_refusal (add_bsc_checks self.old b) ≡ None))) }
+        ensures unchanged { OnErr result (self.new ≡ self.old) }
+    {
+        if bscs::is_among(b, self.bscs.as_slice()) {
+            return Err(Refusal::BscExists);
+        }
+        if self.bscs.len() >= 256 {
+            return Err(Refusal::Limit { which: Limit::Bscs });
+        }
+        bscs::insert(b, &mut self.bscs)?;
+        Ok(())
+    }
+
+    /// Takes out a BSC that has no cells. It takes no memory.
+    ///
+    /// `NoSuchBsc`, then `BscHasCells`.
+    pub fn remove_bsc(&mut self, b: BscId) -> Result<(), Refusal>
+        ensures accepted { OnOk result (first_refusal (remove_bsc_checks self.old b) ≡ None) }
+        ensures changed { OnOk result (self.new ≡ without_bsc b self.old) }
+        ensures refused { IfErr result (λ e. first_refusal (remove_bsc_checks self.old b) ≡ Some e) }
+        ensures unchanged { OnErr result (self.new ≡ self.old) }
+    {
+        if !bscs::is_among(b, self.bscs.as_slice()) {
+            return Err(Refusal::NoSuchBsc);
+        }
+        if places::has_cells(b, self.cells.as_slice()) {
+            return Err(Refusal::BscHasCells);
+        }
+        bscs::remove(b, &mut self.bscs);
+        Ok(())
+    }
+
+    /// Registers a cell that isn't there, at a BSC that is.
+    ///
+    /// `NoSuchBsc`, `CellExists`, `Limit` where there are 65,536 cells, then `Memory` where room for one more was
+    /// refused.
+    pub fn add_cell(&mut self, c: Cell, at: BscId) -> Result<(), Refusal>
+        ensures accepted { OnOk result (first_refusal (add_cell_checks self.old c at) ≡ None) }
+        ensures changed { OnOk result (self.new ≡ with_cell c at self.old) }
+        ensures refused { IfErr result (λ e. (first_refusal (add_cell_checks self.old c at) ≡ Some e) ⊎ ((e ≡ Refusal.Memory) × (first_refusal (add_cell_checks self.old c at) ≡ None))) }
+        ensures unchanged { OnErr result (self.new ≡ self.old) }
+    {
+        if !bscs::is_among(at, self.bscs.as_slice()) {
+            return Err(Refusal::NoSuchBsc);
+        }
+        if places::place_among(c, self.cells.as_slice()).is_some() {
+            return Err(Refusal::CellExists);
+        }
+        if self.cells.len() >= 65536 {
+            return Err(Refusal::Limit {
+                which: Limit::Cells,
+            });
+        }
+        places::insert(Placed { cell: c, bsc: at }, &mut self.cells)?;
+        Ok(())
+    }
+
+    /// Registers a cell at another BSC. It takes no memory.
+    ///
+    /// `NoSuchBsc`, `NoSuchCell`, then `SameBsc` where it is registered at this BSC.
+    pub fn move_cell(&mut self, c: Cell, to: BscId) -> Result<(), Refusal>
+        ensures accepted { OnOk result (first_refusal (move_cell_checks self.old c to) ≡ None) }
+        ensures changed { OnOk result (self.new ≡ moved c to self.old) }
+        ensures refused { IfErr result (λ e. first_refusal (move_cell_checks self.old c to) ≡ Some e) }
+        ensures unchanged { OnErr result (self.new ≡ self.old) }
+    {
+        if !bscs::is_among(to, self.bscs.as_slice()) {
+            return Err(Refusal::NoSuchBsc);
+        }
+        match places::place_among(c, self.cells.as_slice()) {
+            None => return Err(Refusal::NoSuchCell),
+            Some(old) if old == to => return Err(Refusal::SameBsc),
+            Some(_) => (),
+        }
+        places::set_place(c, to, &mut self.cells);
+        Ok(())
+    }
+
+    /// Takes out a cell. It takes no memory.
+    ///
+    /// `NoSuchCell`.
+    pub fn remove_cell(&mut self, c: Cell) -> Result<(), Refusal>
+        ensures accepted { OnOk result (first_refusal (remove_cell_checks self.old c) ≡ None) }
+        ensures changed { OnOk result (self.new ≡ without_cell c self.old) }
+        ensures refused { IfErr result (λ e. first_refusal (remove_cell_checks self.old c) ≡ Some e) }
+        ensures unchanged { OnErr result (self.new ≡ self.old) }
+    {
+        if places::place_among(c, self.cells.as_slice()).is_none() {
+            return Err(Refusal::NoSuchCell);
+        }
+        places::remove(c, &mut self.cells);
+        Ok(())
+    }
+}

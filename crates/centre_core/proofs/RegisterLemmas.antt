@@ -1,0 +1,251 @@
+-- What the register tells, counts and refuses is what the entries say.
+use Rattle.std.proofs.Common.{◌≡◌, ◌⊎◌, inl, inr, subst, ℕ, ◌+◌, ◌≤◌, Bool, true, false, ◌&&◌, ◌||◌, not, nat_eq, nat_le, ltb, List, [], ◌∷◌, Option, Some, None, Result, Ok, Err, unwrap_or, length, map, refl, sym, ◌∙◌, ap, cond, eqb-true, eq-eqb}
+use Rattle.std.proofs.lemmas.List.{length-map}
+use Rattle.std.specs.Cmp.{unsigned_Decides}
+use Rattle.std.specs.List.{list_any, list_all}
+use Rattle.std.specs.Option.{is_some}
+use Rattle.cbsp_ie.specs.Cell.{cell_eq, cell_lt}
+use Rattle.cbsp_ie.specs.Equality.{cell_decides}
+use Rattle.cbsp_ie.specs.declared.cell.Cell.{Cell}
+use Rattle.cell_register.specs.CellLaws.{cell_lt_other, ltb_other, nat_eq_turned}
+use Rattle.cell_register.specs.Laws.{has_bsc_with_bsc, has_bsc_without_bsc, place_in_with_cell, place_in_without_cell, place_in_moved, is_some_place_among, has_cells_from_place, place_from_has_cells}
+use Rattle.cell_register.specs.Order.{is_ascending}
+use Rattle.cell_register.specs.OrderLaws.{ascending_map}
+use Rattle.cell_register.specs.Register.{State, has_bsc, place_in, place_among, cell_of, placed_lt, with_bsc, without_bsc, with_cell, moved, without_cell, first_refusal}
+use Rattle.cell_register.specs.Register as register
+use Rattle.cell_register.specs.Sound.{IsRegister}
+use Rattle.cell_register.specs.declared.placed.Placed.{Placed}
+use Rattle.cell_register.specs.declared.refusal.Refusal as register_refusal
+use Rattle.cell_register.specs.declared.refusal.Refusal.TheVariants as register_refusal_is
+use Rattle.centre_core.specs.Kept.{IsRegisterOf, Gives, register_after}
+use Rattle.centre_core.specs.Links.{bsc_mark, bscs, is_bsc, bsc_count, added_bsc}
+use Rattle.centre_core.specs.Past.{count_of, named, with_new}
+use Rattle.centre_core.specs.Places.{place_mark, place, cells, is_registered, cell_count, added_cell}
+use Rattle.centre_core.specs.Plan.{is_place}
+use Rattle.centre_core.specs.Refusals.{of_register}
+use Rattle.centre_core.specs.Verdict.{law, unless, has_cells, add_bsc, add_bsc_checks, add_cell, add_cell_checks, move_cell, move_cell_checks, remove_cell, remove_cell_checks}
+use Rattle.centre_core.specs.declared.answer.Answer.{Answer}
+use Rattle.centre_core.specs.declared.answer.Answer.TheVariants as answer
+use Rattle.centre_core.specs.declared.entry.Entry.{Entry}
+use Rattle.centre_core.specs.declared.event.Event.{Event}
+use Rattle.centre_core.specs.declared.event.Event.TheVariants.{AddBsc, RemoveBsc, AddCell, MoveCell, RemoveCell}
+use Rattle.centre_core.specs.declared.refusal.Refusal.{Refusal}
+use Rattle.centre_core.proofs.CountLemmas.{each_once, same_count, named_once, turned, any_turned, among_more, among_new, both_or_it}
+use Rattle.centre_core.proofs.KnownLemmas.{known_place}
+use Rattle.centre_core.proofs.PageLemmas.{no_check}
+
+-- One entry further.
+
+-- an entry that says it, or what was so before
+pub said_or : (t before : Bool) → unwrap_or (cond t (Some true) None) before ≡ (t || before)
+said_or true before = refl
+said_or false before = refl
+
+pub unsaid_or : (t before : Bool) → unwrap_or (cond t (Some false) None) before ≡ (not t && before)
+unsaid_or true before = refl
+unsaid_or false before = refl
+
+placed_or : {A : Type 0} (t : Bool) (now before : A) → cond t now before ≡ unwrap_or (cond t (Some now) None) before
+placed_or true now before = refl
+placed_or false now before = refl
+
+bsc_after : (e : Event) (b : ℕ) (r : State) (before : Bool) → has_bsc r b ≡ before → has_bsc (register_after e r) b ≡ unwrap_or (bsc_mark b e) before
+bsc_after (AddBsc d) b r before h = has_bsc_with_bsc d b r ∙ ap (λ t. nat_eq d b || t) h ∙ sym (said_or (nat_eq d b) before)
+bsc_after (RemoveBsc d) b r before h = has_bsc_without_bsc d b r ∙ ap (λ t. not (nat_eq d b) && t) h ∙ sym (unsaid_or (nat_eq d b) before)
+bsc_after other b r before h = h
+
+not_not : (t : Bool) → not t ≡ false → t ≡ true
+not_not true h = refl
+not_not false h = cc
+
+place_after : (past : List Entry) (e : Event) (a : Answer) (c : Cell) (r : State) → law past e ≡ Ok a → ((d : Cell) → place_in r d ≡ place past d) → place_in (register_after e r) c ≡ unwrap_or (place_mark c e) (place past c)
+place_after past (AddCell d b) a c r v h = place_in_with_cell d b c r ∙ ap (λ o. cond (cell_eq d c) (Some b) o) (h c) ∙ placed_or (cell_eq d c) (Some b) (place past c)
+place_after past (MoveCell d b) a c r v h =
+    let none = no_check (move_cell_checks past d b) (Ok answer.Done) a v in
+    let there : is_some (place_in r d) ≡ true = ap is_some (h d) ∙ not_not (is_registered past d) none.1.0 in
+    place_in_moved d b c r there ∙ ap (λ o. cond (cell_eq d c) (Some b) o) (h c) ∙ placed_or (cell_eq d c) (Some b) (place past c)
+place_after past (RemoveCell d) a c r v h = place_in_without_cell d c r ∙ ap (λ o. cond (cell_eq d c) None o) (h c) ∙ placed_or (cell_eq d c) None (place past c)
+place_after past other a c r v h = h c
+
+-- the register stays tied to the past, one entry further
+pub register_with : (e : Entry) (before : List Entry) (r : State) → law before e.event ≡ Ok e.answer → IsRegisterOf before r → IsRegisterOf (e ∷ before) (register_after e.event r)
+register_with e before r v kept = record {
+  bscs = λ b. bsc_after e.event b r (is_bsc before b) (kept.bscs b);
+  places = λ c. place_after before e.event e.answer c r v kept.places;
+}
+
+-- How many there are.
+
+-- what comes before what follows isn't the same
+ascending_once : {A : Type 0} (same before : A → A → Bool) → ((x y : A) → before x y ≡ true → same x y ≡ false) → (xs : List A) → is_ascending before xs ≡ true → each_once same xs ≡ true
+ascending_once same before apart [] h = refl
+ascending_once {A = A} same before apart (x ∷ xs) h = step (list_all (before x) xs) (is_ascending before xs) refl h (ascending_once same before apart xs)
+  where
+    absent : (ys : List A) → list_all (before x) ys ≡ true → list_any (same x) ys ≡ false
+    absent [] g = refl
+    absent (y ∷ ys) g = both (before x y) (list_all (before x) ys) refl g (absent ys)
+      where
+        both : (t u : Bool) → before x y ≡ t → (t && u) ≡ true → (u ≡ true → list_any (same x) ys ≡ false) → (same x y || list_any (same x) ys) ≡ false
+        both true u e k rest = ap (λ b. b || list_any (same x) ys) (apart x y e) ∙ rest k
+        both false u e k rest = cc
+
+    step : (t u : Bool) → list_all (before x) xs ≡ t → (t && u) ≡ true → (u ≡ true → each_once same xs ≡ true) → (not (list_any (same x) xs) && each_once same xs) ≡ true
+    step true u e k rest = ap (λ b. not b && each_once same xs) (absent xs e) ∙ rest k
+    step false u e k rest = cc
+
+or_right : (a : Bool) → (a || true) ≡ true
+or_right true = refl
+or_right false = refl
+
+bsc_named : (e : Event) (b : ℕ) (bs : List ℕ) (before : Bool) → (before ≡ true → list_any (nat_eq b) bs ≡ true) → unwrap_or (bsc_mark b e) before ≡ true → list_any (nat_eq b) (with_new nat_eq (added_bsc e) bs) ≡ true
+bsc_named (AddBsc d) b bs before known h = step (nat_eq d b) refl h
+  where
+    step : (t : Bool) → nat_eq d b ≡ t → unwrap_or (cond t (Some true) None) before ≡ true → list_any (nat_eq b) (with_new nat_eq (Some d) bs) ≡ true
+    step true e g = among_new nat_eq unsigned_Decides b d bs e
+    step false e g = among_more nat_eq b (Some d) bs (known g)
+bsc_named (RemoveBsc d) b bs before known h = step (nat_eq d b) h
+  where
+    step : (t : Bool) → unwrap_or (cond t (Some false) None) before ≡ true → list_any (nat_eq b) bs ≡ true
+    step true g = cc
+    step false g = known g
+bsc_named other b bs before known h = known h
+
+-- a BSC that is registered is one of those that ever were
+known_bsc : (past : List Entry) (b : ℕ) → is_bsc past b ≡ true → list_any (nat_eq b) (bscs past) ≡ true
+known_bsc [] b h = cc
+known_bsc (e ∷ before) b h = bsc_named e.event b (bscs before) (is_bsc before b) (known_bsc before b) h
+
+nat_apart : (x y : ℕ) → ltb x y ≡ true → nat_eq x y ≡ false
+nat_apart x y h = nat_eq_turned x y ∙ ltb_other x x y (eq-eqb x x refl) h
+
+-- as many BSCs stand in the register
+pub bscs_counted : (past : List Entry) (r : State) → IsRegister r → IsRegisterOf past r → length r.bscs ≡ bsc_count past
+bscs_counted past r sound kept = sym (same_count nat_eq unsigned_Decides (is_bsc past) (bscs past) r.bscs (named_once nat_eq added_bsc past) (ascending_once nat_eq ltb nat_apart r.bscs sound.bscs_ascend) members)
+  where
+    members : (b : ℕ) → list_any (nat_eq b) r.bscs ≡ (is_bsc past b && list_any (nat_eq b) (bscs past))
+    members b = any_turned nat_eq unsigned_Decides b r.bscs ∙ kept.bscs b ∙ both_or_it (is_bsc past b) (list_any (nat_eq b) (bscs past)) (known_bsc past b)
+
+cell_apart : (x y : Cell) → cell_lt x y ≡ true → cell_eq x y ≡ false
+cell_apart x y h = turned cell_eq cell_decides x y ∙ cell_lt_other x x y ((cell_decides x x).1 refl) h
+
+cell_among : (c : Cell) (ps : List Placed) → list_any (λ d. cell_eq d c) (map cell_of ps) ≡ list_any (λ p. cell_eq p.cell c) ps
+cell_among c [] = refl
+cell_among c (p ∷ ps) = ap (λ t. cell_eq p.cell c || t) (cell_among c ps)
+
+place_is : (o : Option ℕ) → is_some o ≡ true → (b : ℕ) × (is_place o b ≡ true)
+place_is None h = cc
+place_is (Some b) h = (b, eq-eqb b b refl)
+
+known_cell : (past : List Entry) (c : Cell) → is_registered past c ≡ true → list_any (cell_eq c) (cells past) ≡ true
+known_cell past c h = let there = place_is (place past c) h in known_place past there.0 c there.1
+
+-- as many cells stand in the register
+pub cells_counted : (past : List Entry) (r : State) → IsRegister r → IsRegisterOf past r → length r.cells ≡ cell_count past
+cells_counted past r sound kept = sym (length-map r.cells cell_of) ∙ sym (same_count cell_eq cell_decides (is_registered past) (cells past) (map cell_of r.cells) (named_once cell_eq added_cell past) (ascending_once cell_eq cell_lt cell_apart (map cell_of r.cells) (ascending_map placed_lt cell_lt cell_of (λ x y h. h) r.cells sound.cells_ascend)) members)
+  where
+    members : (c : Cell) → list_any (cell_eq c) (map cell_of r.cells) ≡ (is_registered past c && list_any (cell_eq c) (cells past))
+    members c =
+        any_turned cell_eq cell_decides c (map cell_of r.cells) ∙ cell_among c r.cells ∙ sym (is_some_place_among c r.cells) ∙ ap is_some (kept.places c) ∙ both_or_it (is_registered past c) (list_any (cell_eq c) (cells past)) (known_cell past c)
+
+-- Whether a BSC has cells.
+
+any_here : (p : Cell → Bool) (c : Cell) (cs : List Cell) → p c ≡ true → list_any (cell_eq c) cs ≡ true → list_any p cs ≡ true
+any_here p c [] h g = cc
+any_here p c (d ∷ ds) h g = step (any_here p c ds h) (cell_eq c d) refl g
+  where
+    step : (list_any (cell_eq c) ds ≡ true → list_any p ds ≡ true) → (t : Bool) → cell_eq c d ≡ t → (t || list_any (cell_eq c) ds) ≡ true → (p d || list_any p ds) ≡ true
+    step rest true e k = ap (λ t. t || list_any p ds) (ap p (sym ((cell_decides c d).0 e)) ∙ h)
+    step rest false e k = ap (λ t. p d || t) (rest k) ∙ or_right (p d)
+
+any_which : (p : Cell → Bool) (cs : List Cell) → list_any p cs ≡ true → (c : Cell) × (p c ≡ true)
+any_which p [] h = cc
+any_which p (c ∷ cs) h = step (any_which p cs) (p c) refl h
+  where
+    step : (list_any p cs ≡ true → (d : Cell) × (p d ≡ true)) → (t : Bool) → p c ≡ t → (t || list_any p cs) ≡ true → (d : Cell) × (p d ≡ true)
+    step rest true e g = (c, e)
+    step rest false e g = rest g
+
+place_some : (o : Option ℕ) (b : ℕ) → is_place o b ≡ true → o ≡ Some b
+place_some None b h = cc
+place_some (Some d) b h = ap (λ k. Some k) (eqb-true d b h)
+
+pub cells_there : (past : List Entry) (r : State) (b : ℕ) → IsRegister r → IsRegisterOf past r → register.has_cells r b ≡ has_cells past b
+cells_there past r b sound kept = step (register.has_cells r b) refl (has_cells past b) refl
+  where
+    at_place : (c : Cell) → place_in r c ≡ Some b → has_cells past b ≡ true
+    at_place c e =
+        let there : is_place (place past c) b ≡ true = ap (λ o. is_place o b) (sym (kept.places c) ∙ e) ∙ eq-eqb b b refl in
+        any_here (λ d. is_place (place past d) b) c (cells past) there (known_place past b c there)
+
+    step : (t : Bool) → register.has_cells r b ≡ t → (u : Bool) → has_cells past b ≡ u → t ≡ u
+    step true e true f = refl
+    step true e false f =
+        let which = place_from_has_cells r b sound e in
+        let there : has_cells past b ≡ true = at_place which.0 which.1 in
+        cc
+    step false e true f =
+        let which = any_which (λ d. is_place (place past d) b) (cells past) f in
+        let there : register.has_cells r b ≡ true = has_cells_from_place r which.0 b (kept.places which.0 ∙ place_some (place past which.0) b which.1) in
+        cc
+    step false e false f = refl
+
+-- What is refused.
+
+-- the checks of the register, with the refusals of the centre
+abbrev pub translated : List (Bool × register_refusal.Refusal) → List (Bool × Refusal)
+translated [] = []
+translated (check ∷ checks) = (check.0, of_register check.1) ∷ translated checks
+
+taken : (checks : List (Bool × register_refusal.Refusal)) (a : Result Answer Refusal) → first_refusal checks ≡ None → unless (translated checks) a ≡ a
+taken [] a h = refl
+taken ((true, refusal) ∷ checks) a h = cc
+taken ((false, refusal) ∷ checks) a h = taken checks a h
+
+refused : (checks : List (Bool × register_refusal.Refusal)) (a : Result Answer Refusal) (e : register_refusal.Refusal) → first_refusal checks ≡ Some e → unless (translated checks) a ≡ Err (of_register e)
+refused [] a e h = cc
+refused ((true, refusal) ∷ checks) a e h = let same : refusal ≡ e = cc in ap (λ k. Err (of_register k)) same
+refused ((false, refusal) ∷ checks) a e h = refused checks a e h
+
+given : (checks : List (Bool × register_refusal.Refusal)) (a : Result Answer Refusal) (e : register_refusal.Refusal) → (first_refusal checks ≡ Some e) ⊎ ((e ≡ register_refusal_is.Memory) × (first_refusal checks ≡ None)) → Gives (unless (translated checks) a) (Err (of_register e))
+given checks a e (inl h) = inr (refused checks a e h)
+given checks a e (inr h) = inl (ap of_register h.0)
+
+add_bsc_same : (past : List Entry) (r : State) (b : ℕ) → IsRegister r → IsRegisterOf past r → translated (register.add_bsc_checks r b) ≡ add_bsc_checks past b
+add_bsc_same past r b sound kept = rw (kept.bscs b, bscs_counted past r sound kept) refl
+
+pub add_bsc_taken : (past : List Entry) (r : State) (b : ℕ) → IsRegister r → IsRegisterOf past r → first_refusal (register.add_bsc_checks r b) ≡ None → add_bsc past b ≡ Ok answer.Done
+add_bsc_taken past r b sound kept h = ap (λ cs. unless cs (Ok answer.Done)) (sym (add_bsc_same past r b sound kept)) ∙ taken (register.add_bsc_checks r b) (Ok answer.Done) h
+
+pub add_bsc_refused : (past : List Entry) (r : State) (b : ℕ) (e : register_refusal.Refusal) → IsRegister r → IsRegisterOf past r → (first_refusal (register.add_bsc_checks r b) ≡ Some e) ⊎ ((e ≡ register_refusal_is.Memory) × (first_refusal (register.add_bsc_checks r b) ≡ None)) → Gives (add_bsc past b) (Err (of_register e))
+add_bsc_refused past r b e sound kept h = subst (λ cs. Gives (unless cs (Ok answer.Done)) (Err (of_register e))) (add_bsc_same past r b sound kept) (given (register.add_bsc_checks r b) (Ok answer.Done) e h)
+
+add_cell_same : (past : List Entry) (r : State) (c : Cell) (b : ℕ) → IsRegister r → IsRegisterOf past r → translated (register.add_cell_checks r c b) ≡ add_cell_checks past c b
+add_cell_same past r c b sound kept = rw (kept.bscs b, kept.places c, cells_counted past r sound kept) refl
+
+pub add_cell_taken : (past : List Entry) (r : State) (c : Cell) (b : ℕ) → IsRegister r → IsRegisterOf past r → first_refusal (register.add_cell_checks r c b) ≡ None → add_cell past c b ≡ Ok answer.Done
+add_cell_taken past r c b sound kept h = ap (λ cs. unless cs (Ok answer.Done)) (sym (add_cell_same past r c b sound kept)) ∙ taken (register.add_cell_checks r c b) (Ok answer.Done) h
+
+pub add_cell_refused : (past : List Entry) (r : State) (c : Cell) (b : ℕ) (e : register_refusal.Refusal) → IsRegister r → IsRegisterOf past r → (first_refusal (register.add_cell_checks r c b) ≡ Some e) ⊎ ((e ≡ register_refusal_is.Memory) × (first_refusal (register.add_cell_checks r c b) ≡ None)) → Gives (add_cell past c b) (Err (of_register e))
+add_cell_refused past r c b e sound kept h = subst (λ cs. Gives (unless cs (Ok answer.Done)) (Err (of_register e))) (add_cell_same past r c b sound kept) (given (register.add_cell_checks r c b) (Ok answer.Done) e h)
+
+same_place : (o : Option ℕ) (b : ℕ) → register.is_place o b ≡ is_place o b
+same_place None b = refl
+same_place (Some d) b = refl
+
+move_cell_same : (past : List Entry) (r : State) (c : Cell) (b : ℕ) → IsRegisterOf past r → translated (register.move_cell_checks r c b) ≡ move_cell_checks past c b
+move_cell_same past r c b kept = rw (kept.bscs b, kept.places c, same_place (place past c) b) refl
+
+pub move_cell_taken : (past : List Entry) (r : State) (c : Cell) (b : ℕ) → IsRegisterOf past r → first_refusal (register.move_cell_checks r c b) ≡ None → move_cell past c b ≡ Ok answer.Done
+move_cell_taken past r c b kept h = ap (λ cs. unless cs (Ok answer.Done)) (sym (move_cell_same past r c b kept)) ∙ taken (register.move_cell_checks r c b) (Ok answer.Done) h
+
+pub move_cell_refused : (past : List Entry) (r : State) (c : Cell) (b : ℕ) (e : register_refusal.Refusal) → IsRegisterOf past r → first_refusal (register.move_cell_checks r c b) ≡ Some e → move_cell past c b ≡ Err (of_register e)
+move_cell_refused past r c b e kept h = ap (λ cs. unless cs (Ok answer.Done)) (sym (move_cell_same past r c b kept)) ∙ refused (register.move_cell_checks r c b) (Ok answer.Done) e h
+
+remove_cell_same : (past : List Entry) (r : State) (c : Cell) → IsRegisterOf past r → translated (register.remove_cell_checks r c) ≡ remove_cell_checks past c
+remove_cell_same past r c kept = rw (kept.places c) refl
+
+pub remove_cell_taken : (past : List Entry) (r : State) (c : Cell) → IsRegisterOf past r → first_refusal (register.remove_cell_checks r c) ≡ None → remove_cell past c ≡ Ok answer.Done
+remove_cell_taken past r c kept h = ap (λ cs. unless cs (Ok answer.Done)) (sym (remove_cell_same past r c kept)) ∙ taken (register.remove_cell_checks r c) (Ok answer.Done) h
+
+pub remove_cell_refused : (past : List Entry) (r : State) (c : Cell) (e : register_refusal.Refusal) → IsRegisterOf past r → first_refusal (register.remove_cell_checks r c) ≡ Some e → remove_cell past c ≡ Err (of_register e)
+remove_cell_refused past r c e kept h = ap (λ cs. unless cs (Ok answer.Done)) (sym (remove_cell_same past r c kept)) ∙ refused (register.remove_cell_checks r c) (Ok answer.Done) e h

@@ -1,0 +1,31 @@
+-- What a BSC has reported: each of its keys that is on air, or may be, by cell, message identifier and serial number.
+use Rattle.std.specs.Prelude.{ℕ, Bool, ◌&&◌, ◌||◌, List, [], ◌∷◌, ltb, if◌then◌else◌}
+use Rattle.std.specs.List.{flat_map}
+use Rattle.cbsp_ie.specs.Cell.{cell_eq, cell_lt}
+use Rattle.cbsp_ie.specs.declared.cell.Cell.{Cell}
+use Rattle.centre_core.specs.Places.{cells}
+use Rattle.centre_core.specs.Presence.{presence, is_absent}
+use Rattle.centre_core.specs.Sorting.{comes_before, sorted_by}
+use Rattle.centre_core.specs.Warnings.{Warning, Version, book, versions}
+use Rattle.centre_core.specs.declared.entry.Entry.{Entry}
+use Rattle.centre_core.specs.declared.mirror.presence.Presence.{Presence}
+use Rattle.centre_core.specs.declared.mirror.reported_key.ReportedKey.{ReportedKey}
+
+-- the key of that presence, unless it is absent
+abbrev pub key_if : Cell → ℕ → ℕ → Presence → List ReportedKey
+key_if c m s p = if is_absent p then [] else record { cell = c; message_id = m; serial = s; presence = p } ∷ []
+
+-- the keys of a warning in a cell, of each of its versions
+abbrev pub keys_in : List Entry → ℕ → Warning → Cell → List ReportedKey
+keys_in past b w c = flat_map (λ (v : Version). key_if c w.message_id v.serial (presence past b c w.message_id v.serial)) (versions w)
+
+-- the keys of a warning
+abbrev pub keys_of : List Entry → ℕ → Warning → List ReportedKey
+keys_of past b w = flat_map (keys_in past b w) (cells past)
+
+abbrev pub key_lt : ReportedKey → ReportedKey → Bool
+key_lt x y = cell_lt x.cell y.cell || (cell_eq x.cell y.cell && comes_before x.message_id y.message_id (ltb x.serial y.serial))
+
+-- the keys of all warnings in the book, in order
+abbrev pub table : List Entry → ℕ → List ReportedKey
+table past b = sorted_by key_lt (flat_map (keys_of past b) (book past))

@@ -1,5 +1,0 @@
-//! Named areas and their selectors.
-
-mod selector;
-
-pub use selector::Selector;
