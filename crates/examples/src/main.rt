@@ -10,9 +10,10 @@ use std::rt::Files;
 use std::{fs, io};
 
 /// The scripts: NAME.txt, with its answers in NAME.answers.
-const NAMES: [&str; 4] = [
+const NAMES: [&str; 5] = [
     "first-warning",
     "flood-two-controllers",
+    "link-lost",
     "link-up-again",
     "wrong-input",
 ];
