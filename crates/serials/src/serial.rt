@@ -1,0 +1,93 @@
+//! A serial number: scope, message code and update number in 16 bits.
+
+ghost use Rattle.std.specs.Prelude.{◌≡◌, ◌+◌, ℕ, ◌<◌, ◌↔◌, IsSome, IfSome};
+ghost use Rattle.serials.specs.Serials.{scope_number, serial_of, scope_part, code_of, update_of};
+
+use crate::scope::Scope;
+use std::marker::Model;
+
+/// The serial number of a message: `scope * 16384 + code * 16 + update` (TS 23.041, 9.4.1.2.1).
+#[derive(Clone, Copy, Debug, PartialEq, Eq)]
+pub struct Serial {
+    value: u16,
+}
+
+impl Model for Serial {
+    ghost use Rattle.std.specs.Prelude.{ℕ};
+
+    ghost Value = { ℕ };
+
+    ghost view = { λ s. s.value };
+
+    ghost inverse = { λ n. record { value = n } };
+}
+
+impl Serial {
+    /// The serial number of these parts; `None` where the code is above 1,023 or the update number above 15.
+    pub fn new(scope: Scope, code: u16, update: u16) -> Option<Serial>
+        ensures fits { IsSome result ↔ ((code < 1024) × (update < 16)) }
+        ensures value { IfSome result (λ s. s ≡ serial_of (scope_number scope) code update) }
+    {
+        if code < 1024 && update < 16 {
+            Some(Serial {
+                value: scope.number() * 16384 + code * 16 + update,
+            })
+        } else {
+            None
+        }
+    }
+
+    pub fn scope(self) -> Scope
+        ensures { scope_number result ≡ scope_part self }
+    {
+        match self.value / 16384 {
+            0 => Scope::CellImmediate,
+            1 => Scope::Plmn,
+            2 => Scope::LocationArea,
+            _ => Scope::Cell,
+        }
+    }
+
+    /// The message code, 0 to 1,023.
+    pub fn code(self) -> u16
+        ensures { result ≡ code_of self }
+    {
+        self.value / 16 % 1024
+    }
+
+    /// The update number, 0 to 15.
+    pub fn update(self) -> u16
+        ensures { result ≡ update_of self }
+    {
+        self.value % 16
+    }
+
+    pub fn to_u16(self) -> u16
+        ensures { result ≡ self }
+    {
+        self.value
+    }
+
+    pub fn from_u16(value: u16) -> Serial
+        ensures { result ≡ value }
+    {
+        Serial { value }
+    }
+
+    /// The serial number of the next update; `None` where the update number is 15.
+    pub fn next(self) -> Option<Serial>
+        ensures last { IsSome result ↔ (update_of self < 15) }
+        ensures value { IfSome result (λ s. s ≡ self + 1) }
+        ensures scope { IfSome result (λ s. scope_part s ≡ scope_part self) }
+        ensures code { IfSome result (λ s. code_of s ≡ code_of self) }
+        ensures update { IfSome result (λ s. update_of s ≡ update_of self + 1) }
+    {
+        if self.value % 16 < 15 {
+            Some(Serial {
+                value: self.value + 1,
+            })
+        } else {
+            None
+        }
+    }
+}

@@ -1,0 +1,5 @@
+pub mod QuestionLemmas
+pub mod AreaLemmas
+pub mod PlaceLemmas
+pub mod SoundLemmas
+pub mod SerialLemmas

@@ -1,0 +1,145 @@
+-- A change at the place of a number is the change of the warning of that number.
+use Rattle.std.proofs.Common.{◌≡◌, ℕ, suc, ◌+◌, ◌<◌, ◌≤◌, Bool, true, false, ◌&&◌, ◌||◌, cond, List, [], ◌∷◌, Option, Some, None, nat_eq, nat_le, length, get_or, set, refl, sym, ap, ◌∙◌, arith}
+use Rattle.std.specs.Prelude.{find, IsSome, IfSome, IfNone}
+use Rattle.std.specs.List.{position_or_len, list_any}
+use Rattle.std.specs.Option.{option_map}
+use Rattle.std.proofs.lemmas.Bool.{or_parts}
+use Rattle.std.proofs.lemmas.Bool.Decides.{nat_tests}
+use Rattle.std.proofs.lemmas.Grind.{common_steps}
+use Rattle.std.proofs.lemmas.List.Recursion.{is_position_or_len}
+use Rattle.serials.specs.Serials.{update_of}
+use Rattle.warning_book.specs.Book.{has_number, is_exhausted, is_so, numbers, edited}
+use Rattle.warning_book.specs.Laws.{none_after, absent_so}
+use Rattle.warning_book.specs.Once.{is_disordered}
+use Rattle.warning_book.specs.declared.warning.Warning.{Warning}
+
+-- where there is no such warning none is changed
+pub unchanged_absent : (n : ℕ) (f : Warning → Warning) (l : List Warning) → list_any (has_number n) l ≡ false → edited n f l ≡ l
+unchanged_absent n f [] h = refl
+unchanged_absent n f (w ∷ l) h = step (unchanged_absent n f l) (has_number n w) h
+  where
+    step : (list_any (has_number n) l ≡ false → edited n f l ≡ l) → (t : Bool) → (t || list_any (has_number n) l) ≡ false → cond t (f w) w ∷ edited n f l ≡ w ∷ l
+    step rest true e = cc
+    step rest false e = ap (λ ws. w ∷ ws) (rest e)
+
+-- the place of the first warning of that number, or past the last
+abbrev pub place_in : ℕ → List Warning → ℕ
+place_in n [] = 0
+place_in n (w ∷ l) = cond (has_number n w) 0 (suc (place_in n l))
+
+pub place_in-position : (n : ℕ) (l : List Warning) → place_in n l ≡ position_or_len (has_number n) l
+place_in-position n l = is_position_or_len (place_in n) (has_number n) refl (λ w m. ap (λ k. cond (has_number n w) 0 k) (more (place_in n m))) l
+  where
+    more : (k : ℕ) → suc k ≡ 1 + k
+    more k = omega arith
+
+-- a place past the last is no place
+no_place : (n : ℕ) (l : List Warning) → length l ≤ place_in n l → list_any (has_number n) l ≡ false
+no_place n [] h = refl
+no_place n (w ∷ l) h = step (no_place n l) (has_number n w) h
+  where
+    step : (length l ≤ place_in n l → list_any (has_number n) l ≡ false) → (t : Bool) → length (w ∷ l) ≤ cond t 0 (suc (place_in n l)) → (t || list_any (has_number n) l) ≡ false
+    step rest true e = absurd (omega arith)
+    step rest false e = rest (omega arith)
+
+changed_in : (n : ℕ) (f : Warning → Warning) (l : List Warning) (d : Warning) → is_disordered (numbers l) ≡ false → place_in n l < length l → set l (place_in n l) (f (get_or l (place_in n l) d)) ≡ edited n f l
+changed_in n f [] d o h = absurd (omega arith)
+changed_in n f (w ∷ l) d o h = step (changed_in n f l d) (has_number n w) refl (or_parts (list_any (λ k. nat_le k w.number) (numbers l)) (is_disordered (numbers l)) o) h
+  where
+    step : (is_disordered (numbers l) ≡ false → place_in n l < length l → set l (place_in n l) (f (get_or l (place_in n l) d)) ≡ edited n f l) → (t : Bool) → has_number n w ≡ t → (list_any (λ k. nat_le k w.number) (numbers l) ≡ false) × (is_disordered (numbers l) ≡ false) → cond t 0 (suc (place_in n l)) < length (w ∷ l) → set (w ∷ l) (cond t 0 (suc (place_in n l))) (f (get_or (w ∷ l) (cond t 0 (suc (place_in n l))) d)) ≡ cond t (f w) w ∷ edited n f l
+    step rest true e o h = ap (λ ws. f w ∷ ws) (sym (unchanged_absent n f l (none_after n w l e o.0)))
+    step rest false e o h = ap (λ ws. w ∷ ws) (rest o.1 (omega arith))
+
+-- the warning w stands at the place, and v is what f makes of it
+pub changed_at_place : (n : ℕ) (f : Warning → Warning) (l : List Warning) (p : ℕ) (w v : Warning) → is_disordered (numbers l) ≡ false → p ≡ position_or_len (has_number n) l → p < length l → w ≡ get_or l p w → v ≡ f w → set l p v ≡ edited n f l
+changed_at_place n f l p w v o e h g k =
+    let place : p ≡ place_in n l = e ∙ sym (place_in-position n l) in
+    let within : place_in n l < length l = omega arith in
+    ap (λ (x : Warning). set l p x) k
+    ∙ ap (λ (x : Warning). set l p (f x)) g
+    ∙ ap (λ (m : ℕ). set l m (f (get_or l m w))) place
+    ∙ changed_in n f l w o within
+
+-- and where there is no such place nothing is changed
+pub unchanged_past : (n : ℕ) (f : Warning → Warning) (l : List Warning) (p : ℕ) → p ≡ position_or_len (has_number n) l → length l ≤ p → l ≡ edited n f l
+unchanged_past n f l p e h =
+    let place : p ≡ place_in n l = e ∙ sym (place_in-position n l) in
+    sym (unchanged_absent n f l (no_place n l (omega arith)))
+
+found_in : (n : ℕ) (l : List Warning) (d : Warning) → place_in n l < length l → find (has_number n) l ≡ Some (get_or l (place_in n l) d)
+found_in n [] d h = absurd (omega arith)
+found_in n (w ∷ l) d h = step (found_in n l d) (has_number n w) h
+  where
+    step : (place_in n l < length l → find (has_number n) l ≡ Some (get_or l (place_in n l) d)) → (t : Bool) → cond t 0 (suc (place_in n l)) < length (w ∷ l) → cond t (Some w) (find (has_number n) l) ≡ Some (get_or (w ∷ l) (cond t 0 (suc (place_in n l))) d)
+    step rest true e = refl
+    step rest false e = rest (omega arith)
+
+-- the warning that stands at the place is the one of that number
+pub found_at_place : (n : ℕ) (l : List Warning) (p : ℕ) (w : Warning) → p ≡ position_or_len (has_number n) l → p < length l → w ≡ get_or l p w → find (has_number n) l ≡ Some w
+found_at_place n l p w e h g =
+    let place : p ≡ place_in n l = e ∙ sym (place_in-position n l) in
+    let within : place_in n l < length l = omega arith in
+    found_in n l w within ∙ ap (λ (m : ℕ). Some (get_or l m w)) (sym place) ∙ ap (λ (x : Warning). Some x) (sym g)
+
+-- what no warning of that number is, the one that stands at the place is not
+pub not_so_at_place : (n : ℕ) (f : Warning → Bool) (l : List Warning) (p : ℕ) (w : Warning) → p ≡ position_or_len (has_number n) l → p < length l → w ≡ get_or l p w → is_so n f l ≡ false → f w ≡ false
+not_so_at_place n f l p w e h g so =
+    let place : p ≡ place_in n l = e ∙ sym (place_in-position n l) in
+    let within : place_in n l < length l = omega arith in
+    ap f (g ∙ ap (λ (m : ℕ). get_or l m w) place) ∙ not_in l within so
+  where
+    not_in : (m : List Warning) → place_in n m < length m → is_so n f m ≡ false → f (get_or m (place_in n m) w) ≡ false
+    not_in [] h so = absurd (omega arith)
+    not_in (v ∷ m) h so = step (not_in m) (has_number n v) h so
+      where
+        step : (place_in n m < length m → is_so n f m ≡ false → f (get_or m (place_in n m) w) ≡ false) → (t : Bool) → cond t 0 (suc (place_in n m)) < length (v ∷ m) → ((t && f v) || is_so n f m) ≡ false → f (get_or (v ∷ m) (cond t 0 (suc (place_in n m))) w) ≡ false
+        step rest true h so = (or_parts (f v) (is_so n f m) so).0
+        step rest false h so = rest (omega arith) so
+
+-- the last update of a warning is told by the serial number of its current version
+pub exhausted_current : (n : ℕ) (l : List Warning) (s : ℕ) → is_disordered (numbers l) ≡ false → option_map (λ w. w.serial) (find (has_number n) l) ≡ Some s → is_so n is_exhausted l ≡ nat_eq (update_of s) 15
+exhausted_current n [] s o h = cc
+exhausted_current n (w ∷ l) s o h = step (exhausted_current n l s) (has_number n w) refl (or_parts (list_any (λ k. nat_le k w.number) (numbers l)) (is_disordered (numbers l)) o) h
+  where
+    alone : (a b : Bool) → b ≡ false → (a || b) ≡ a
+    alone true b e = refl
+    alone false b e = e
+
+    step : (is_disordered (numbers l) ≡ false → option_map (λ v. v.serial) (find (has_number n) l) ≡ Some s → is_so n is_exhausted l ≡ nat_eq (update_of s) 15) → (t : Bool) → has_number n w ≡ t → (list_any (λ k. nat_le k w.number) (numbers l) ≡ false) × (is_disordered (numbers l) ≡ false) → option_map (λ v. v.serial) (cond t (Some w) (find (has_number n) l)) ≡ Some s → ((t && is_exhausted w) || is_so n is_exhausted l) ≡ nat_eq (update_of s) 15
+    step rest true e o h =
+        let same : w.serial ≡ s = cc in
+        alone (is_exhausted w) (is_so n is_exhausted l) (absent_so n is_exhausted l (none_after n w l e o.0)) ∙ ap (λ k. nat_eq (update_of k) 15) same
+    step rest false e o h = rest o.1 h
+
+-- a warning without a current version is not there
+pub absent_current : (n : ℕ) (l : List Warning) → option_map (λ w. w.serial) (find (has_number n) l) ≡ None → list_any (has_number n) l ≡ false
+absent_current n [] h = refl
+absent_current n (w ∷ l) h = step (absent_current n l) (has_number n w) h
+  where
+    step : (option_map (λ v. v.serial) (find (has_number n) l) ≡ None → list_any (has_number n) l ≡ false) → (t : Bool) → option_map (λ v. v.serial) (cond t (Some w) (find (has_number n) l)) ≡ None → (t || list_any (has_number n) l) ≡ false
+    step rest true e = cc
+    step rest false e = rest e
+
+-- the next serial number follows the current one
+pub next_of_current : (o : Option Warning) (s k : ℕ) → option_map (λ w. w.serial) o ≡ Some s → k ≡ s + 1 → option_map (λ w. w.serial + 1) o ≡ Some k
+next_of_current None s k h e = cc
+next_of_current (Some w) s k h e = let same : w.serial ≡ s = cc in ap (λ n. Some (n + 1)) same ∙ ap (λ (n : ℕ). Some n) (sym e)
+
+-- a next serial number is there just where the last update was not made
+pub next_left : (o : Option ℕ) (u : ℕ) (b : Bool) → b ≡ nat_eq u 15 → (IsSome o → u < 15) → IfSome o (λ s. b ≡ false)
+next_left None u b e f = tt
+next_left (Some s) u b e f = e ∙ below u (f refl)
+  where
+    below : (k : ℕ) → k < 15 → nat_eq k 15 ≡ false
+    below k h = grind (arith, nat_tests, common_steps)
+
+pub next_none : (o : Option ℕ) (u : ℕ) (b : Bool) → b ≡ nat_eq u 15 → u < 16 → (u < 15 → IsSome o) → IfNone o (b ≡ true)
+next_none (Some s) u b e h f = tt
+next_none None u b e h f = e ∙ last (nat_eq u 15) refl
+  where
+    below : (k : ℕ) → k < 16 → nat_eq k 15 ≡ false → k < 15
+    below k h g = grind (arith, nat_tests, common_steps)
+
+    last : (t : Bool) → nat_eq u 15 ≡ t → t ≡ true
+    last true g = refl
+    last false g = absurd (let no : false ≡ true = f (below u h g) in cc)

@@ -1,0 +1,42 @@
+-- The serial number of a new warning.
+use Rattle.std.proofs.Common.{◌≡◌, ℕ, ◌<◌, ◌≤◌, Bool, true, false, cond, List, [], ◌∷◌, Option, Some, None, nat_eq, length, refl, sym, ap, ◌∙◌, arith}
+use Rattle.std.specs.List.{list_any}
+use Rattle.std.specs.Option.{option_map, is_some}
+use Rattle.serials.specs.Laws.{free_code, some_free, code_of_serial, update_of_serial}
+use Rattle.serials.specs.Serials.{scope_number, serial_of, code_of, update_of, least_free}
+use Rattle.warning_book.specs.Book.{codes_of, new_serial}
+use Rattle.warning_book.specs.declared.notice.Notice.{Notice}
+use Rattle.warning_book.specs.declared.warning.Warning.{Warning}
+
+-- each warning has one code
+codes_fit : (m : ℕ) (l : List Warning) → length (codes_of m l) ≤ length l
+codes_fit m [] = omega arith
+codes_fit m (w ∷ l) = step (codes_fit m l) (nat_eq w.message_id m)
+  where
+    step : length (codes_of m l) ≤ length l → (t : Bool) → length (cond t (code_of w.serial ∷ codes_of m l) (codes_of m l)) ≤ length (w ∷ l)
+    step rest true = omega arith
+    step rest false = omega arith
+
+-- with fewer than 256 warnings a code is free
+pub serial_is_there : {P : Type 0} (i : ℕ) (l : List Warning) (notice : Notice) → length l < 256 → new_serial (record { issued = i; warnings = l }) notice ≡ None → P
+serial_is_there {P} i l notice few h = step (least_free (codes_of notice.message_id l)) (some_free (codes_of notice.message_id l) (below (codes_fit notice.message_id l))) h
+  where
+    below : length (codes_of notice.message_id l) ≤ length l → length (codes_of notice.message_id l) < 1024
+    below fits = omega arith
+
+    step : (o : Option ℕ) → is_some o ≡ true → option_map (λ code. serial_of (scope_number notice.scope) code 0) o ≡ None → P
+    step None e h = absurd (let no : false ≡ true = e in cc)
+    step (Some code) e h = absurd (let no : true ≡ false = ap is_some h in cc)
+
+-- it has update number 0, and a code that no warning with the message identifier has
+pub new_serial_parts : (i : ℕ) (l : List Warning) (notice : Notice) (serial : ℕ) → new_serial (record { issued = i; warnings = l }) notice ≡ Some serial → (update_of serial ≡ 0) × (list_any (nat_eq (code_of serial)) (codes_of notice.message_id l) ≡ false)
+new_serial_parts i l notice serial h = step (least_free (codes_of notice.message_id l)) (free_code (codes_of notice.message_id l)) h
+  where
+    step : (o : Option ℕ) → ((code : ℕ) → o ≡ Some code → (code < 1024) × (list_any (nat_eq code) (codes_of notice.message_id l) ≡ false)) → option_map (λ code. serial_of (scope_number notice.scope) code 0) o ≡ Some serial → (update_of serial ≡ 0) × (list_any (nat_eq (code_of serial)) (codes_of notice.message_id l) ≡ false)
+    step None free h = cc
+    step (Some code) free h =
+        let same : serial_of (scope_number notice.scope) code 0 ≡ serial = cc in
+        let parts = free code refl in (
+          ap update_of (sym same) ∙ update_of_serial (scope_number notice.scope) code,
+          ap (λ (s : ℕ). list_any (nat_eq (code_of s)) (codes_of notice.message_id l)) (sym same) ∙ ap (λ (k : ℕ). list_any (nat_eq k) (codes_of notice.message_id l)) (code_of_serial (scope_number notice.scope) code parts.0) ∙ parts.1,
+        )

@@ -1,0 +1,364 @@
+-- Each edit that nothing forbids leaves the book sound.
+use Rattle.std.proofs.Common.{◌≡◌, ℕ, suc, ◌+◌, ◌<◌, ◌≤◌, Bool, true, false, ◌&&◌, ◌||◌, not, cond, List, [], ◌∷◌, ◌++◌, map, nat_eq, nat_le, ltb, length, refl, sym, ap, ◌∙◌, arith, length-append}
+use Rattle.std.specs.Prelude.{bytes_eq}
+use Rattle.std.specs.List.{list_any, list_all, filter}
+use Rattle.std.proofs.lemmas.Bool.{and_parts, and_from, or_parts, or_from, not-true}
+use Rattle.std.proofs.lemmas.Bool.Decides.{nat_tests}
+use Rattle.std.proofs.lemmas.Grind.{common_steps}
+use Rattle.std.proofs.lemmas.List.{length-map, map-append}
+use Rattle.std.proofs.lemmas.List.Folds.{list_any-append, list_all-append}
+use Rattle.std.proofs.lemmas.Slice.Eq.{bytes_eq-Decides}
+use Rattle.serials.specs.Serials.{code_of, update_of}
+use Rattle.warning_book.specs.Book.{has_number, names, is_full, has_one_area, is_exhausted, is_so, as_version, versions, numbers, codes_of, new_warning, updated, widened, narrowed, stopped, changed_if, edited, without}
+use Rattle.warning_book.specs.Checks.{is_empty}
+use Rattle.warning_book.specs.Content.{are_pages, is_period}
+use Rattle.warning_book.specs.Once.{some_pair, has_twice, is_disordered}
+use Rattle.warning_book.specs.Sound.{was_issued, has_areas, is_good, has_contents, counts_updates, is_older, has_serials, key_of, is_same_key, IsSound}
+use Rattle.warning_book.specs.declared.content.Content.{Content}
+use Rattle.warning_book.specs.declared.notice.Notice.{Notice}
+use Rattle.warning_book.specs.declared.version.Version.{Version}
+use Rattle.warning_book.specs.declared.warning.Warning.{Warning}
+
+-- lists
+
+any-last : {X : Type 0} (p : X → Bool) (x : X) (xs : List X) → list_any p xs ≡ false → p x ≡ false → list_any p (xs ++ x ∷ []) ≡ false
+any-last p x xs h e = list_any-append p xs (x ∷ []) ∙ or_from (list_any p xs) (p x || false) h (or_from (p x) false e refl)
+
+all-last : {X : Type 0} (p : X → Bool) (x : X) (xs : List X) → list_all p xs ≡ true → p x ≡ true → list_all p (xs ++ x ∷ []) ≡ true
+all-last p x xs h e = list_all-append p xs (x ∷ []) ∙ and_from (list_all p xs) (p x && true) h (and_from (p x) true e refl)
+
+all-weaker : {X : Type 0} (p q : X → Bool) → ((x : X) → p x ≡ true → q x ≡ true) → (xs : List X) → list_all p xs ≡ true → list_all q xs ≡ true
+all-weaker p q f [] h = refl
+all-weaker p q f (x ∷ xs) h =
+    let parts = and_parts (p x) (list_all p xs) h in
+    and_from (q x) (list_all q xs) (f x parts.0) (all-weaker p q f xs parts.1)
+
+pub some_pair-last : {X : Type 0} (r : X → X → Bool) (x : X) (xs : List X) → list_any (λ y. r y x) xs ≡ false → some_pair r xs ≡ false → some_pair r (xs ++ x ∷ []) ≡ false
+some_pair-last r x [] h o = refl
+some_pair-last r x (y ∷ xs) h o =
+    let other = or_parts (r y x) (list_any (λ z. r z x) xs) h in
+    let parts = or_parts (list_any (r y) xs) (some_pair r xs) o in
+    or_from (list_any (r y) (xs ++ x ∷ [])) (some_pair r (xs ++ x ∷ [])) (any-last (r y) x xs parts.0 other.0) (some_pair-last r x xs other.1 parts.1)
+
+any-filter : {X : Type 0} (p q : X → Bool) (xs : List X) → list_any p xs ≡ false → list_any p (filter q xs) ≡ false
+any-filter p q [] h = refl
+any-filter {X} p q (x ∷ xs) h = step (any-filter p q xs) (q x) (or_parts (p x) (list_any p xs) h)
+  where
+    step : (list_any p xs ≡ false → list_any p (filter q xs) ≡ false) → (t : Bool) → (p x ≡ false) × (list_any p xs ≡ false) → list_any p (cond t (x ∷ filter q xs) (filter q xs)) ≡ false
+    step rest true parts = or_from (p x) (list_any p (filter q xs)) parts.0 (rest parts.1)
+    step rest false parts = rest parts.1
+
+all-filter : {X : Type 0} (p q : X → Bool) (xs : List X) → list_all p xs ≡ true → list_all p (filter q xs) ≡ true
+all-filter p q [] h = refl
+all-filter {X} p q (x ∷ xs) h = step (all-filter p q xs) (q x) (and_parts (p x) (list_all p xs) h)
+  where
+    step : (list_all p xs ≡ true → list_all p (filter q xs) ≡ true) → (t : Bool) → (p x ≡ true) × (list_all p xs ≡ true) → list_all p (cond t (x ∷ filter q xs) (filter q xs)) ≡ true
+    step rest true parts = and_from (p x) (list_all p (filter q xs)) parts.0 (rest parts.1)
+    step rest false parts = rest parts.1
+
+some_pair-filter : {X : Type 0} (r : X → X → Bool) (q : X → Bool) (xs : List X) → some_pair r xs ≡ false → some_pair r (filter q xs) ≡ false
+some_pair-filter r q [] h = refl
+some_pair-filter {X} r q (x ∷ xs) h = step (some_pair-filter r q xs) (q x) (or_parts (list_any (r x) xs) (some_pair r xs) h)
+  where
+    step : (some_pair r xs ≡ false → some_pair r (filter q xs) ≡ false) → (t : Bool) → (list_any (r x) xs ≡ false) × (some_pair r xs ≡ false) → some_pair r (cond t (x ∷ filter q xs) (filter q xs)) ≡ false
+    step rest true parts = or_from (list_any (r x) (filter q xs)) (some_pair r (filter q xs)) (any-filter (r x) q xs parts.0) (rest parts.1)
+    step rest false parts = rest parts.1
+
+any-map : {X K : Type 0} (p : K → Bool) (key : X → K) (xs : List X) → list_any p (map key xs) ≡ list_any (λ x. p (key x)) xs
+any-map p key [] = refl
+any-map p key (x ∷ xs) = ap (λ t. p (key x) || t) (any-map p key xs)
+
+some_pair-map : {X K : Type 0} (r : K → K → Bool) (key : X → K) (xs : List X) → some_pair r (map key xs) ≡ some_pair (λ x y. r (key x) (key y)) xs
+some_pair-map r key [] = refl
+some_pair-map r key (x ∷ xs) =
+    ap (λ t. t || some_pair r (map key xs)) (any-map (r (key x)) key xs) ∙ ap (λ t. list_any (λ y. r (key x) (key y)) xs || t) (some_pair-map r key xs)
+
+some_pair-filter-map : {X K : Type 0} (r : K → K → Bool) (key : X → K) (q : X → Bool) (xs : List X) → some_pair r (map key xs) ≡ false → some_pair r (map key (filter q xs)) ≡ false
+some_pair-filter-map r key q xs h =
+    some_pair-map r key (filter q xs) ∙ some_pair-filter (λ x y. r (key x) (key y)) q xs (sym (some_pair-map r key xs) ∙ h)
+
+length-filter-le : {X : Type 0} (q : X → Bool) (xs : List X) → length (filter q xs) ≤ length xs
+length-filter-le q [] = omega arith
+length-filter-le {X} q (x ∷ xs) = step (length-filter-le q xs) (q x)
+  where
+    step : length (filter q xs) ≤ length xs → (t : Bool) → length (cond t (x ∷ filter q xs) (filter q xs)) ≤ length (x ∷ xs)
+    step rest true = omega arith
+    step rest false = omega arith
+
+-- names that are each there once: a name takes one with it at most
+kept_without : (a : List ℕ) (xs : List (List ℕ)) → list_any (bytes_eq a) xs ≡ false → length (filter (λ b. not (bytes_eq b a)) xs) ≡ length xs
+kept_without a [] h = refl
+kept_without a (x ∷ xs) h = step (kept_without a xs) (bytes_eq x a) refl (or_parts (bytes_eq a x) (list_any (bytes_eq a) xs) h)
+  where
+    step : (list_any (bytes_eq a) xs ≡ false → length (filter (λ b. not (bytes_eq b a)) xs) ≡ length xs) → (t : Bool) → bytes_eq x a ≡ t → (bytes_eq a x ≡ false) × (list_any (bytes_eq a) xs ≡ false) → length (cond (not t) (x ∷ filter (λ b. not (bytes_eq b a)) xs) (filter (λ b. not (bytes_eq b a)) xs)) ≡ length (x ∷ xs)
+    step rest true e parts =
+        absurd (let no : true ≡ false = sym ((bytes_eq-Decides a x).1 (sym ((bytes_eq-Decides x a).0 e))) ∙ parts.0 in cc)
+    step rest false e parts = let same : length (filter (λ b. not (bytes_eq b a)) xs) ≡ length xs = rest parts.1 in omega arith
+
+length-without : (a : List ℕ) (xs : List (List ℕ)) → has_twice xs ≡ false → length xs ≤ length (filter (λ b. not (bytes_eq b a)) xs) + 1
+length-without a [] h = omega arith
+length-without a (x ∷ xs) h = step (length-without a xs) (bytes_eq x a) refl (or_parts (list_any (bytes_eq x) xs) (has_twice xs) h)
+  where
+    step : (has_twice xs ≡ false → length xs ≤ length (filter (λ b. not (bytes_eq b a)) xs) + 1) → (t : Bool) → bytes_eq x a ≡ t → (list_any (bytes_eq x) xs ≡ false) × (has_twice xs ≡ false) → length (x ∷ xs) ≤ length (cond (not t) (x ∷ filter (λ b. not (bytes_eq b a)) xs) (filter (λ b. not (bytes_eq b a)) xs)) + 1
+    step rest true e parts =
+        let none : list_any (bytes_eq a) xs ≡ false = ap (λ n. list_any (bytes_eq n) xs) (sym ((bytes_eq-Decides x a).0 e)) ∙ parts.0 in
+        let all : length (filter (λ b. not (bytes_eq b a)) xs) ≡ length xs = kept_without a xs none in
+        omega arith
+    step rest false e parts = let fewer : length xs ≤ length (filter (λ b. not (bytes_eq b a)) xs) + 1 = rest parts.1 in omega arith
+
+-- edits of one warning
+
+-- no warning is what none can be
+never_so : (n : ℕ) (l : List Warning) → is_so n (λ w. false) l ≡ false
+never_so n [] = refl
+never_so n (w ∷ l) = step (never_so n l) (has_number n w)
+  where
+    step : is_so n (λ v. false) l ≡ false → (t : Bool) → ((t && false) || is_so n (λ v. false) l) ≡ false
+    step rest true = rest
+    step rest false = rest
+
+so_either : (n : ℕ) (f g : Warning → Bool) (l : List Warning) → is_so n f l ≡ false → is_so n g l ≡ false → is_so n (λ w. f w || g w) l ≡ false
+so_either n f g [] h k = refl
+so_either n f g (w ∷ l) h k = step (so_either n f g l) (has_number n w) h k
+  where
+    step : (is_so n f l ≡ false → is_so n g l ≡ false → is_so n (λ v. f v || g v) l ≡ false) → (t : Bool) → ((t && f w) || is_so n f l) ≡ false → ((t && g w) || is_so n g l) ≡ false → ((t && (f w || g w)) || is_so n (λ v. f v || g v) l) ≡ false
+    step rest true h k =
+        let first = or_parts (f w) (is_so n f l) h in
+        let second = or_parts (g w) (is_so n g l) k in
+        or_from (f w || g w) (is_so n (λ v. f v || g v) l) (or_from (f w) (g w) first.0 second.0) (rest first.1 second.1)
+    step rest false h k = rest h k
+
+all-edited : (n : ℕ) (f : Warning → Warning) (g p : Warning → Bool) → ((w : Warning) → g w ≡ false → p w ≡ true → p (f w) ≡ true) → (l : List Warning) → is_so n g l ≡ false → list_all p l ≡ true → list_all p (edited n f l) ≡ true
+all-edited n f g p keeps [] so h = refl
+all-edited n f g p keeps (w ∷ l) so h = step (all-edited n f g p keeps l) (has_number n w) so (and_parts (p w) (list_all p l) h)
+  where
+    step : (is_so n g l ≡ false → list_all p l ≡ true → list_all p (edited n f l) ≡ true) → (t : Bool) → ((t && g w) || is_so n g l) ≡ false → (p w ≡ true) × (list_all p l ≡ true) → list_all p (cond t (f w) w ∷ edited n f l) ≡ true
+    step rest true so parts =
+        let none = or_parts (g w) (is_so n g l) so in
+        and_from (p (f w)) (list_all p (edited n f l)) (keeps w none.0 parts.0) (rest none.1 parts.1)
+    step rest false so parts = and_from (p w) (list_all p (edited n f l)) parts.0 (rest so parts.1)
+
+map-edited : {K : Type 0} (key : Warning → K) (n : ℕ) (f : Warning → Warning) (g : Warning → Bool) → ((w : Warning) → g w ≡ false → key (f w) ≡ key w) → (l : List Warning) → is_so n g l ≡ false → map key (edited n f l) ≡ map key l
+map-edited key n f g keeps [] so = refl
+map-edited {K} key n f g keeps (w ∷ l) so = step (map-edited key n f g keeps l) (has_number n w) so
+  where
+    step : (is_so n g l ≡ false → map key (edited n f l) ≡ map key l) → (t : Bool) → ((t && g w) || is_so n g l) ≡ false → key (cond t (f w) w) ∷ map key (edited n f l) ≡ key w ∷ map key l
+    step rest true so =
+        let none = or_parts (g w) (is_so n g l) so in
+        ap (λ k. k ∷ map key (edited n f l)) (keeps w none.0) ∙ ap (λ ks. key w ∷ ks) (rest none.1)
+    step rest false so = ap (λ ks. key w ∷ ks) (rest so)
+
+-- f leaves sound what g does not forbid
+pub record Keeps (f : Warning → Warning) (g : Warning → Bool) : Type 0 where
+  pub number : (w : Warning) → (f w).number ≡ w.number
+  pub areas : (w : Warning) → g w ≡ false → has_areas w ≡ true → has_areas (f w) ≡ true
+  pub contents : (w : Warning) → has_contents w ≡ true → has_contents (f w) ≡ true
+  pub counted : (w : Warning) → g w ≡ false → counts_updates w ≡ true → counts_updates (f w) ≡ true
+  pub older : (w : Warning) → g w ≡ false → has_serials w ≡ true → has_serials (f w) ≡ true
+  pub key : (w : Warning) → g w ≡ false → key_of (f w) ≡ key_of w
+
+sound-edited : (n : ℕ) (f : Warning → Warning) (g : Warning → Bool) (i : ℕ) (l : List Warning) → Keeps f g → is_so n g l ≡ false → IsSound (record { issued = i; warnings = l }) → IsSound (record { issued = i; warnings = edited n f l })
+sound-edited n f g i l k so s =
+    record {
+      ordered = ap is_disordered (map-edited (λ w. w.number) n f g (λ w h. k.number w) l so) ∙ s.ordered;
+      given = all-edited n f g (was_issued i) (λ w h e. rw (k.number w) e) l so s.given;
+      few = rw (length-map l (changed_if n f)) s.few;
+      areas = all-edited n f g has_areas k.areas l so s.areas;
+      contents = all-edited n f g has_contents (λ w h e. k.contents w e) l so s.contents;
+      counted = all-edited n f g counts_updates k.counted l so s.counted;
+      older = all-edited n f g has_serials k.older l so s.older;
+      codes = ap (some_pair is_same_key) (map-edited key_of n f g k.key l so) ∙ s.codes;
+    }
+
+-- stop
+
+keeps-stopped : Keeps stopped (λ w. false)
+keeps-stopped =
+    record {
+      number = λ w. refl;
+      areas = λ w h e. e;
+      contents = λ w e. e;
+      counted = λ w h e. e;
+      older = λ w h e. e;
+      key = λ w h. refl;
+    }
+
+pub sound-stopped : (n i : ℕ) (l : List Warning) → IsSound (record { issued = i; warnings = l }) → IsSound (record { issued = i; warnings = edited n stopped l })
+sound-stopped n i l s = sound-edited n stopped (λ w. false) i l keeps-stopped (never_so n l) s
+
+-- narrow
+
+areas-narrowed : (a : List ℕ) (w : Warning) → has_one_area w ≡ false → has_areas w ≡ true → has_areas (narrowed a w) ≡ true
+areas-narrowed a w h e =
+    let parts = and_parts (nat_le 1 (length w.areas) && nat_le (length w.areas) 16) (not (has_twice w.areas)) e in
+    let once : has_twice w.areas ≡ false = not-true (has_twice w.areas) parts.1 in
+    let twice : has_twice (filter (λ b. not (bytes_eq b a)) w.areas) ≡ false = some_pair-filter bytes_eq (λ b. not (bytes_eq b a)) w.areas once in
+    bounds (length w.areas) (length (filter (λ b. not (bytes_eq b a)) w.areas)) (has_twice (filter (λ b. not (bytes_eq b a)) w.areas)) h parts.0 twice (length-without a w.areas once) (length-filter-le (λ b. not (bytes_eq b a)) w.areas)
+  where
+    bounds : (n k : ℕ) (t : Bool) → nat_le n 1 ≡ false → (nat_le 1 n && nat_le n 16) ≡ true → t ≡ false → n ≤ k + 1 → k ≤ n → ((nat_le 1 k && nat_le k 16) && not t) ≡ true
+    bounds n k t h e o f g = grind (arith, nat_tests, common_steps)
+
+keeps-narrowed : (a : List ℕ) → Keeps (narrowed a) has_one_area
+keeps-narrowed a =
+    record {
+      number = λ w. refl;
+      areas = areas-narrowed a;
+      contents = λ w e. e;
+      counted = λ w h e. e;
+      older = λ w h e. e;
+      key = λ w h. refl;
+    }
+
+pub sound-narrowed : (n : ℕ) (a : List ℕ) (i : ℕ) (l : List Warning) → is_so n has_one_area l ≡ false → IsSound (record { issued = i; warnings = l }) → IsSound (record { issued = i; warnings = edited n (narrowed a) l })
+sound-narrowed n a i l so s = sound-edited n (narrowed a) has_one_area i l (keeps-narrowed a) so s
+
+-- widen
+
+areas-widened : (a : List ℕ) (w : Warning) → (names a w || is_full w) ≡ false → has_areas w ≡ true → has_areas (widened a w) ≡ true
+areas-widened a w h e =
+    let none = or_parts (names a w) (is_full w) h in
+    let parts = and_parts (nat_le 1 (length w.areas) && nat_le (length w.areas) 16) (not (has_twice w.areas)) e in
+    let once : has_twice (w.areas ++ a ∷ []) ≡ false = some_pair-last bytes_eq a w.areas none.0 (not-true (has_twice w.areas) parts.1) in
+    bounds (length w.areas) (length (w.areas ++ a ∷ [])) (has_twice (w.areas ++ a ∷ [])) none.1 once (length-append w.areas (a ∷ []))
+  where
+    bounds : (n k : ℕ) (t : Bool) → nat_le 16 n ≡ false → t ≡ false → k ≡ n + 1 → ((nat_le 1 k && nat_le k 16) && not t) ≡ true
+    bounds n k t h o f = grind (arith, nat_tests, common_steps)
+
+keeps-widened : (a : List ℕ) → Keeps (widened a) (λ w. names a w || is_full w)
+keeps-widened a =
+    record {
+      number = λ w. refl;
+      areas = areas-widened a;
+      contents = λ w e. e;
+      counted = λ w h e. e;
+      older = λ w h e. e;
+      key = λ w h. refl;
+    }
+
+pub sound-widened : (n : ℕ) (a : List ℕ) (i : ℕ) (l : List Warning) → is_so n (names a) l ≡ false → is_so n is_full l ≡ false → IsSound (record { issued = i; warnings = l }) → IsSound (record { issued = i; warnings = edited n (widened a) l })
+sound-widened n a i l so full s =
+    sound-edited n (widened a) (λ w. names a w || is_full w) i l (keeps-widened a) (so_either n (names a) is_full l so full) s
+
+-- update
+
+same_code : (s : ℕ) → nat_eq (update_of s) 15 ≡ false → code_of (s + 1) ≡ code_of s
+same_code s h = let some : update_of s < 15 = below (update_of s) h (omega arith) in omega arith
+  where
+    below : (u : ℕ) → nat_eq u 15 ≡ false → u < 16 → u < 15
+    below u h g = grind (arith, nat_tests, common_steps)
+
+next_update : (s : ℕ) → nat_eq (update_of s) 15 ≡ false → update_of (s + 1) ≡ update_of s + 1
+next_update s h = let some : update_of s < 15 = below (update_of s) h (omega arith) in omega arith
+  where
+    below : (u : ℕ) → nat_eq u 15 ≡ false → u < 16 → u < 15
+    below u h g = grind (arith, nat_tests, common_steps)
+
+older_still : (s : ℕ) (v : Version) → code_of (s + 1) ≡ code_of s → is_older s v ≡ true → is_older (s + 1) v ≡ true
+older_still s v e h = later v.serial (code_of v.serial) s (code_of s) (code_of (s + 1)) e h
+  where
+    later : (k c n d f : ℕ) → f ≡ d → (ltb k n && nat_eq c d) ≡ true → (ltb k (n + 1) && nat_eq c f) ≡ true
+    later k c n d f e h = grind (arith, nat_tests, common_steps)
+
+older_now : (s : ℕ) (c : Content) → code_of (s + 1) ≡ code_of s → is_older (s + 1) (record { serial = s; content = c }) ≡ true
+older_now s c e = later s (code_of s) (code_of (s + 1)) e
+  where
+    later : (n d f : ℕ) → f ≡ d → (ltb n (n + 1) && nat_eq d f) ≡ true
+    later n d f e = grind (arith, nat_tests, common_steps)
+
+keeps-updated : (c : Content) → are_pages c.pages ≡ true → is_period c.period ≡ true → Keeps (updated c) is_exhausted
+keeps-updated c good period =
+    record {
+      number = λ w. refl;
+      areas = λ w h e. e;
+      contents = λ w e. and_from (are_pages c.pages && is_period c.period) (list_all is_good (versions w)) (and_from (are_pages c.pages) (is_period c.period) good period) e;
+      counted = λ w h e. counts (length w.outdated) (update_of w.serial) (update_of (w.serial + 1)) (next_update w.serial h) e;
+      older = λ w h e. and_from (is_older (w.serial + 1) (as_version w)) (list_all (is_older (w.serial + 1)) w.outdated) (older_now w.serial w.content (same_code w.serial h)) (all-weaker (is_older w.serial) (is_older (w.serial + 1)) (λ v g. older_still w.serial v (same_code w.serial h) g) w.outdated e);
+      key = λ w h. ap (λ (k : ℕ). (w.message_id, k)) (same_code w.serial h);
+    }
+  where
+    counts : (n u v : ℕ) → v ≡ u + 1 → nat_eq n u ≡ true → nat_eq (suc n) v ≡ true
+    counts n u v e h = grind (arith, nat_tests, common_steps)
+
+pub sound-updated : (n : ℕ) (c : Content) (i : ℕ) (l : List Warning) → are_pages c.pages ≡ true → is_period c.period ≡ true → is_so n is_exhausted l ≡ false → IsSound (record { issued = i; warnings = l }) → IsSound (record { issued = i; warnings = edited n (updated c) l })
+sound-updated n c i l good period so s = sound-edited n (updated c) is_exhausted i l (keeps-updated c good period) so s
+
+-- forget
+
+pub sound-without : (n i : ℕ) (l : List Warning) → IsSound (record { issued = i; warnings = l }) → IsSound (record { issued = i; warnings = without n l })
+sound-without n i l s =
+    record {
+      ordered = some_pair-filter-map (λ m k. nat_le k m) (λ (w : Warning). w.number) (λ w. not (has_number n w)) l s.ordered;
+      given = all-filter (was_issued i) (λ w. not (has_number n w)) l s.given;
+      few = let fewer = length-filter-le (λ (w : Warning). not (has_number n w)) l in let all = s.few in omega arith;
+      areas = all-filter has_areas (λ w. not (has_number n w)) l s.areas;
+      contents = all-filter has_contents (λ w. not (has_number n w)) l s.contents;
+      counted = all-filter counts_updates (λ w. not (has_number n w)) l s.counted;
+      older = all-filter has_serials (λ w. not (has_number n w)) l s.older;
+      codes = some_pair-filter-map is_same_key key_of (λ w. not (has_number n w)) l s.codes;
+    }
+
+-- issue
+
+no_later : (i : ℕ) (l : List Warning) → list_all (was_issued i) l ≡ true → list_any (λ k. nat_le (i + 1) k) (numbers l) ≡ false
+no_later i [] h = refl
+no_later i (w ∷ l) h =
+    let parts = and_parts (was_issued i w) (list_all (was_issued i) l) h in
+    or_from (nat_le (i + 1) w.number) (list_any (λ k. nat_le (i + 1) k) (numbers l)) (below w.number i parts.0) (no_later i l parts.1)
+  where
+    below : (k n : ℕ) → (nat_le 1 k && nat_le k n) ≡ true → nat_le (n + 1) k ≡ false
+    below k n h = grind (arith, nat_tests, common_steps)
+
+-- a code that is free is no other warning's
+no_same_key : (m code : ℕ) (l : List Warning) → list_any (nat_eq code) (codes_of m l) ≡ false → list_any (λ k. is_same_key k (m, code)) (map key_of l) ≡ false
+no_same_key m code [] h = refl
+no_same_key m code (w ∷ l) h = step (no_same_key m code l) (nat_eq w.message_id m) h
+  where
+    turned : (j k : ℕ) → nat_eq j k ≡ false → nat_eq k j ≡ false
+    turned j k h = grind (arith, nat_tests, common_steps)
+
+    step : (list_any (nat_eq code) (codes_of m l) ≡ false → list_any (λ k. is_same_key k (m, code)) (map key_of l) ≡ false) → (t : Bool) → list_any (nat_eq code) (cond t (code_of w.serial ∷ codes_of m l) (codes_of m l)) ≡ false → ((t && nat_eq (code_of w.serial) code) || list_any (λ k. is_same_key k (m, code)) (map key_of l)) ≡ false
+    step rest true e =
+        let parts = or_parts (nat_eq code (code_of w.serial)) (list_any (nat_eq code) (codes_of m l)) e in
+        or_from (nat_eq (code_of w.serial) code) (list_any (λ k. is_same_key k (m, code)) (map key_of l)) (turned code (code_of w.serial) parts.0) (rest parts.1)
+    step rest false e = rest e
+
+new_areas : (areas : List (List ℕ)) → is_empty areas ≡ false → has_twice areas ≡ false → length areas ≤ 16 → ((nat_le 1 (length areas) && nat_le (length areas) 16) && not (has_twice areas)) ≡ true
+new_areas [] e h g = cc
+new_areas (a ∷ areas) e h g = bounds (length areas) (has_twice (a ∷ areas)) h g
+  where
+    bounds : (n : ℕ) (t : Bool) → t ≡ false → suc n ≤ 16 → ((nat_le 1 (suc n) && nat_le (suc n) 16) && not t) ≡ true
+    bounds n t h g = grind (arith, nat_tests, common_steps)
+
+was_issued-more : (i : ℕ) (w : Warning) → was_issued i w ≡ true → was_issued (i + 1) w ≡ true
+was_issued-more i w h = more w.number i h
+  where
+    more : (k n : ℕ) → (nat_le 1 k && nat_le k n) ≡ true → (nat_le 1 k && nat_le k (n + 1)) ≡ true
+    more k n h = grind (arith, nat_tests, common_steps)
+
+was_issued-new : (i : ℕ) → (nat_le 1 (i + 1) && nat_le (i + 1) (i + 1)) ≡ true
+was_issued-new i = grind (arith, nat_tests, common_steps)
+
+-- what is asked of a new warning
+pub record IsNew (l : List Warning) (notice : Notice) (areas : List (List ℕ)) (serial : ℕ) : Type 0 where
+  pub some : is_empty areas ≡ false
+  pub once : has_twice areas ≡ false
+  pub few : length areas ≤ 16
+  pub pages : are_pages notice.content.pages ≡ true
+  pub period : is_period notice.content.period ≡ true
+  pub room : length l < 256
+  pub first : update_of serial ≡ 0
+  pub free : list_any (nat_eq (code_of serial)) (codes_of notice.message_id l) ≡ false
+
+pub sound-issue : (i : ℕ) (l : List Warning) (notice : Notice) (areas : List (List ℕ)) (serial : ℕ) → IsNew l notice areas serial → IsSound (record { issued = i; warnings = l }) → IsSound (record { issued = i + 1; warnings = l ++ new_warning (i + 1) notice areas serial ∷ [] })
+sound-issue i l notice areas serial new s =
+    let w : Warning = new_warning (i + 1) notice areas serial in
+    record {
+      ordered = ap is_disordered (map-append (λ (v : Warning). v.number) l (w ∷ [])) ∙ some_pair-last (λ m k. nat_le k m) (i + 1) (numbers l) (no_later i l s.given) s.ordered;
+      given = all-last (was_issued (i + 1)) w l (all-weaker (was_issued i) (was_issued (i + 1)) (was_issued-more i) l s.given) (was_issued-new i);
+      few = let room = new.room in omega (arith, length-append l (w ∷ []));
+      areas = all-last has_areas w l s.areas (new_areas areas new.some new.once new.few);
+      contents = all-last has_contents w l s.contents (and_from (are_pages notice.content.pages && is_period notice.content.period) true (and_from (are_pages notice.content.pages) (is_period notice.content.period) new.pages new.period) refl);
+      counted = all-last counts_updates w l s.counted (ap (nat_eq 0) new.first);
+      older = all-last has_serials w l s.older refl;
+      codes = ap (some_pair is_same_key) (map-append key_of l (w ∷ [])) ∙ some_pair-last is_same_key (notice.message_id, code_of serial) (map key_of l) (no_same_key notice.message_id (code_of serial) l new.free) s.codes;
+    }

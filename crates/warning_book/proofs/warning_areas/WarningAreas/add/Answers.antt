@@ -1,0 +1,10 @@
+use Rattle.std.proofs.Common.{◌≡◌, ◌∙◌, false, rules}
+use Rattle.std.specs.Prelude.{bytes_eq}
+use Rattle.std.specs.List.{list_any}
+use Rattle.warning_book.proofs.AreaLemmas.{new_last}
+use Rattle.warning_book.proofs.warning_areas.WarningAreas.add.Goals as goal
+
+pub returns-clause-put : goal.returns-clause-put
+returns-clause-put c =
+    let new : list_any (λ b. bytes_eq b c.args.a) c.self.inside.names.keys ≡ false = search rules in
+    rw (← c.self.view_is) (c.in_ok-insert.ensures.keys ∙ new_last c.args.a c.self.inside.names.keys new)

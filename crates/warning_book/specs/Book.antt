@@ -1,0 +1,163 @@
+-- The book of warnings: what it tells, and what each edit makes of it.
+use Rattle.std.specs.Prelude.{ℕ, ◌+◌, Bool, true, false, ◌&&◌, not, List, [], ◌∷◌, ◌++◌, map, Option, nat_eq, nat_le, bytes_eq, find, length, if◌then◌else◌}
+use Rattle.std.specs.List.{list_any, filter}
+use Rattle.std.specs.Option.{option_map}
+use Rattle.serials.specs.Serials.{scope_number, serial_of, code_of, update_of, least_free}
+use Rattle.warning_book.specs.declared.content.Content.{Content}
+use Rattle.warning_book.specs.declared.lent_versions.LentVersions.{LentVersions}
+use Rattle.warning_book.specs.declared.notice.Notice.{Notice}
+use Rattle.warning_book.specs.declared.version.Version.{Version}
+use Rattle.warning_book.specs.declared.warning.Warning.{Warning}
+
+-- how many warnings were ever issued, and those in the book, in the order of issue
+pub record State : Type 0 where
+  pub issued : ℕ
+  pub warnings : List Warning
+
+abbrev pub empty : State
+empty = record { issued = 0; warnings = [] }
+
+-- tests of a warning
+
+abbrev pub has_number : ℕ → Warning → Bool
+has_number n w = nat_eq w.number n
+
+-- it names the area
+abbrev pub names : List ℕ → Warning → Bool
+names a w = list_any (λ b. bytes_eq b a) w.areas
+
+-- it names as many areas as it may
+abbrev pub is_full : Warning → Bool
+is_full w = nat_le 16 (length w.areas)
+
+-- it names one area and no other
+abbrev pub has_one_area : Warning → Bool
+has_one_area w = nat_le (length w.areas) 1
+
+-- it had its last update
+abbrev pub is_exhausted : Warning → Bool
+is_exhausted w = nat_eq (update_of w.serial) 15
+
+-- the book has the warning, and it is as the test says
+abbrev pub is_so : ℕ → (Warning → Bool) → List Warning → Bool
+is_so n f ws = list_any (λ w. has_number n w && f w) ws
+
+abbrev pub warning_is : State → ℕ → (Warning → Bool) → Bool
+warning_is st n f = is_so n f st.warnings
+
+abbrev pub is_there : State → ℕ → Bool
+is_there st n = list_any (has_number n) st.warnings
+
+abbrev pub is_active : State → ℕ → Bool
+is_active st n = warning_is st n (λ w. w.active)
+
+-- what the book tells
+
+abbrev pub warning_of : State → ℕ → Option Warning
+warning_of st n = find (has_number n) st.warnings
+
+-- the serial number of the current version
+abbrev pub current : State → ℕ → Option ℕ
+current st n = option_map (λ w. w.serial) (warning_of st n)
+
+abbrev pub message_id : State → ℕ → Option ℕ
+message_id st n = option_map (λ w. w.message_id) (warning_of st n)
+
+-- the current version of a warning
+abbrev pub as_version : Warning → Version
+as_version w = record { serial = w.serial; content = w.content }
+
+-- the versions of a warning, the newest first
+abbrev pub versions : Warning → List Version
+versions w = as_version w ∷ w.outdated
+
+-- the versions that are lent, the newest first
+abbrev pub lent : LentVersions → List Version
+lent v = record { serial = v.serial; content = v.content.now } ∷ v.outdated.now
+
+abbrev pub numbers : List Warning → List ℕ
+numbers ws = map (λ w. w.number) ws
+
+-- the numbers of the warnings that name the area
+abbrev pub naming : List ℕ → List Warning → List ℕ
+naming a ws = numbers (filter (names a) ws)
+
+-- the areas of the warning of that number; none where there is no such warning
+abbrev pub areas_of : ℕ → List Warning → List (List ℕ)
+areas_of n [] = []
+areas_of n (w ∷ ws) = if has_number n w then w.areas else areas_of n ws
+
+-- the versions of a warning with this message identifier, and none of another
+abbrev pub versions_if : ℕ → Warning → List Version
+versions_if m w = if nat_eq w.message_id m then versions w else []
+
+-- the versions of the warnings with this message identifier
+abbrev pub versions_with : ℕ → List Warning → List Version
+versions_with m [] = []
+versions_with m (w ∷ ws) = versions_if m w ++ versions_with m ws
+
+-- the content that a message identifier and a serial number stand for
+abbrev pub content_of : ℕ → ℕ → List Warning → Option Content
+content_of m s ws = option_map (λ v. v.content) (find (λ v. nat_eq v.serial s) (versions_with m ws))
+
+-- the codes of the warnings with this message identifier
+abbrev pub codes_of : ℕ → List Warning → List ℕ
+codes_of m [] = []
+codes_of m (w ∷ ws) = if nat_eq w.message_id m then code_of w.serial ∷ codes_of m ws else codes_of m ws
+
+-- the serial number of a new warning: its scope, the least code that is free, update number 0
+abbrev pub new_serial : State → Notice → Option ℕ
+new_serial st notice = option_map (λ code. serial_of (scope_number notice.scope) code 0) (least_free (codes_of notice.message_id st.warnings))
+
+-- the serial number of the next version of a warning
+abbrev pub next_serial : State → ℕ → Option ℕ
+next_serial st n = option_map (λ w. w.serial + 1) (warning_of st n)
+
+-- what each edit makes of a warning
+
+abbrev pub new_warning : ℕ → Notice → List (List ℕ) → ℕ → Warning
+new_warning n notice areas serial = record { number = n; message_id = notice.message_id; serial = serial; content = notice.content; outdated = []; areas = areas; active = true }
+
+-- the next version, with that content
+abbrev pub updated : Content → Warning → Warning
+updated content w = record w { serial = w.serial + 1; content = content; outdated = as_version w ∷ w.outdated }
+
+abbrev pub widened : List ℕ → Warning → Warning
+widened a w = record w { areas = w.areas ++ a ∷ [] }
+
+abbrev pub narrowed : List ℕ → Warning → Warning
+narrowed a w = record w { areas = filter (λ b. not (bytes_eq b a)) w.areas }
+
+abbrev pub stopped : Warning → Warning
+stopped w = record w { active = false }
+
+-- the warning of that number is changed
+abbrev pub changed_if : ℕ → (Warning → Warning) → Warning → Warning
+changed_if n f w = if has_number n w then f w else w
+
+abbrev pub edited : ℕ → (Warning → Warning) → List Warning → List Warning
+edited n f ws = map (changed_if n f) ws
+
+abbrev pub without : ℕ → List Warning → List Warning
+without n ws = filter (λ w. not (has_number n w)) ws
+
+-- what each edit makes of the book
+
+-- one more warning, last
+abbrev pub after_issue : Notice → List (List ℕ) → ℕ → State → State
+after_issue notice areas serial st = record { issued = st.issued + 1; warnings = st.warnings ++ new_warning (st.issued + 1) notice areas serial ∷ [] }
+
+abbrev pub after_update : ℕ → Content → State → State
+after_update n content st = record st { warnings = edited n (updated content) st.warnings }
+
+abbrev pub after_widen : ℕ → List ℕ → State → State
+after_widen n a st = record st { warnings = edited n (widened a) st.warnings }
+
+abbrev pub after_narrow : ℕ → List ℕ → State → State
+after_narrow n a st = record st { warnings = edited n (narrowed a) st.warnings }
+
+abbrev pub after_stop : ℕ → State → State
+after_stop n st = record st { warnings = edited n stopped st.warnings }
+
+abbrev pub after_forget : ℕ → State → State
+after_forget n st = record st { warnings = without n st.warnings }

@@ -1,0 +1,37 @@
+-- Why an edit is refused: the first cause that holds, in the order of the checks.
+use Rattle.std.specs.Prelude.{ℕ, Bool, true, false, not, List, [], ◌∷◌, Option, Some, None, nat_le, ltb, length, if◌then◌else◌}
+use Rattle.warning_book.specs.Book.{State, names, is_full, has_one_area, is_exhausted, warning_is, is_there, is_active}
+use Rattle.warning_book.specs.Content.{are_pages, is_period}
+use Rattle.warning_book.specs.Once.{has_twice}
+use Rattle.warning_book.specs.declared.content.Content.{Content}
+use Rattle.warning_book.specs.declared.notice.Notice.{Notice}
+use Rattle.warning_book.specs.declared.refusal.Limit.TheVariants as limit
+use Rattle.warning_book.specs.declared.refusal.Refusal.{Refusal}
+use Rattle.warning_book.specs.declared.refusal.Refusal.TheVariants as refusal
+
+-- the refusal of the first check that holds
+abbrev pub first_refusal : List (Bool × Refusal) → Option Refusal
+first_refusal [] = None
+first_refusal (check ∷ checks) = if check.0 then Some check.1 else first_refusal checks
+
+abbrev pub is_empty : List (List ℕ) → Bool
+is_empty [] = true
+is_empty (a ∷ areas) = false
+
+abbrev pub issue_checks : State → Notice → List (List ℕ) → List (Bool × Refusal)
+issue_checks st notice areas = (is_empty areas, refusal.NoAreas) ∷ (has_twice areas, refusal.AreaThere) ∷ (not (are_pages notice.content.pages), refusal.BadPages) ∷ (not (is_period notice.content.period), refusal.BadPeriod) ∷ (nat_le 256 (length st.warnings), refusal.Limit limit.Warnings) ∷ (ltb 16 (length areas), refusal.Limit limit.WarningAreas) ∷ (nat_le 4294967295 st.issued, refusal.Limit limit.Ids) ∷ []
+
+abbrev pub update_checks : State → ℕ → Content → List (Bool × Refusal)
+update_checks st n content = (not (is_there st n), refusal.NoSuchWarning) ∷ (not (is_active st n), refusal.NotActive) ∷ (not (are_pages content.pages), refusal.BadPages) ∷ (not (is_period content.period), refusal.BadPeriod) ∷ (warning_is st n is_exhausted, refusal.UpdatesExhausted) ∷ []
+
+abbrev pub widen_checks : State → ℕ → List ℕ → List (Bool × Refusal)
+widen_checks st n a = (not (is_there st n), refusal.NoSuchWarning) ∷ (not (is_active st n), refusal.NotActive) ∷ (warning_is st n (names a), refusal.AreaThere) ∷ (warning_is st n is_full, refusal.Limit limit.WarningAreas) ∷ []
+
+abbrev pub narrow_checks : State → ℕ → List ℕ → List (Bool × Refusal)
+narrow_checks st n a = (not (is_there st n), refusal.NoSuchWarning) ∷ (not (is_active st n), refusal.NotActive) ∷ (not (warning_is st n (names a)), refusal.AreaNotThere) ∷ (warning_is st n has_one_area, refusal.LastArea) ∷ []
+
+abbrev pub stop_checks : State → ℕ → List (Bool × Refusal)
+stop_checks st n = (not (is_there st n), refusal.NoSuchWarning) ∷ (not (is_active st n), refusal.NotActive) ∷ []
+
+abbrev pub forget_checks : State → ℕ → List (Bool × Refusal)
+forget_checks st n = (not (is_there st n), refusal.NoSuchWarning) ∷ (is_active st n, refusal.StillActive) ∷ []

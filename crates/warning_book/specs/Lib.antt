@@ -1,0 +1,6 @@
+pub mod Once
+pub mod Content
+pub mod Book
+pub mod Checks
+pub mod Sound
+pub mod Laws

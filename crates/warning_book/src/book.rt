@@ -1,0 +1,335 @@
+//! The book of warnings.
+
+use crate::checks::{are_pages, has_twice, is_period};
+use crate::content::Content;
+use crate::lent_versions::LentVersions;
+use crate::notice::Notice;
+use crate::refusal::{Limit, Refusal};
+use crate::warning::Warning;
+use crate::warning_id::WarningId;
+use crate::{edits, lookups, questions};
+use cbsp_ie::Name;
+use serials::{Serial, least_free_code};
+use std::alloc::{AllocError, Global};
+use std::marker::Model;
+
+/// The warnings that were issued and not forgotten, in the order of issue, and how many were ever issued.
+#[derive(Drop)]
+pub struct Book {
+    alloc: Global,
+    issued: u32,
+    warnings: Vec<Warning>,
+}
+
+impl Model for Book {
+    ghost use Rattle.warning_book.specs.Book.{State};
+    ghost use Rattle.warning_book.specs.Sound.{IsSound};
+
+    ghost Value = { State };
+
+    ghost view = { λ b. record { issued = b.issued; warnings = b.warnings.items } };
+
+    ghost invariant = { λ b. IsSound (record { issued = b.issued; warnings = b.warnings.items }) };
+}
+
+impl Book {
+    ghost use Rattle.std.specs.Prelude.{◌≡◌, ◌≤◌, ◌⊎◌, ◌+◌, None, Some, false, true, length, IfOk, IfErr, OnOk, OnErr};
+    ghost use Rattle.std.specs.List.{list_any, list_all};
+    ghost use Rattle.std.specs.Option.{option_map, option_copied};
+    ghost use Rattle.warning_book.specs.Book.{empty, names, is_active, warning_of, current, message_id, versions, lent, numbers, naming, areas_of, content_of, new_serial, next_serial, after_issue, after_update, after_widen, after_narrow, after_stop, after_forget};
+    ghost use Rattle.warning_book.specs.Checks.{first_refusal, issue_checks, update_checks, widen_checks, narrow_checks, stop_checks, forget_checks};
+    ghost use Rattle.warning_book.specs.Once.{is_disordered};
+    ghost use Rattle.warning_book.specs.Sound.{was_issued, has_areas, has_contents, counts_updates, has_serials, shares_code};
+    ghost use Rattle.warning_book.specs.declared.refusal.Refusal.TheVariants as refusal;
+
+    /// A book without warnings. What it will need is taken from the allocator.
+    pub fn new(alloc: Global) -> Book
+        ensures { result ≡ empty }
+    {
+        Book {
+            alloc,
+            issued: 0,
+            warnings: Vec::new(alloc),
+        }
+    }
+
+    /// The serial number of a new warning; `None` where no code is free.
+    fn new_serial(&self, notice: &Notice) -> Result<Option<Serial>, AllocError>
+        ensures { IfOk result (λ serial. serial ≡ new_serial self.now notice.now) }
+    {
+        let used = questions::codes_of(self.alloc, self.warnings.as_slice(), notice.message_id)?;
+        match least_free_code(used.as_slice()) {
+            Some(code) => Ok(Serial::new(notice.scope, code, 0)),
+            None => Ok(None),
+        }
+    }
+
+    /// Puts a new warning into the book, and answers its number and its serial number.
+    ///
+    /// Refused as `NoAreas`, `AreaThere` where an area is named twice, `BadPages`, `BadPeriod`, or `Limit` of warnings,
+    /// areas or numbers, the first that holds, else as `Memory` where memory is wanting; an `Err` leaves the book as it
+    /// was.
+    pub fn issue(&mut self, notice: &Notice, areas: &[Name]) -> Result<(WarningId, Serial), Refusal>
+        ensures accepted { OnOk result (first_refusal (issue_checks self.old notice.now areas.now) ≡ None) }
+        ensures number { IfOk result (λ issued. issued.0 ≡ self.old.issued + 1) }
+        ensures serial { IfOk result (λ issued. new_serial self.old notice.now ≡ Some issued.1) }
+        ensures changed { IfOk result (λ issued. self.new ≡ after_issue notice.now areas.now issued.1 self.old) }
+        ensures refused { IfErr result (λ e. (first_refusal (issue_checks self.old notice.now areas.now) ≡ Some e) ⊎ ((e ≡ refusal.Memory) × (first_refusal (issue_checks self.old notice.now areas.now) ≡ None))) }
+        ensures unchanged { OnErr result (self.new ≡ self.old) }
+    {
+        if areas.is_empty() {
+            return Err(Refusal::NoAreas);
+        }
+        if has_twice(areas) {
+            return Err(Refusal::AreaThere);
+        }
+        if !are_pages(notice.content.pages.as_slice()) {
+            return Err(Refusal::BadPages);
+        }
+        if !is_period(notice.content.period) {
+            return Err(Refusal::BadPeriod);
+        }
+        if self.warnings.len() >= 256 {
+            return Err(Refusal::Limit {
+                which: Limit::Warnings,
+            });
+        }
+        if areas.len() > 16 {
+            return Err(Refusal::Limit {
+                which: Limit::WarningAreas,
+            });
+        }
+        if self.issued >= 4294967295 {
+            return Err(Refusal::Limit { which: Limit::Ids });
+        }
+        let Some(serial) = self.new_serial(notice)? else {
+            return Err(Refusal::Limit {
+                which: Limit::Warnings,
+            });
+        };
+        let number = WarningId::new(self.issued + 1);
+        edits::issue(
+            self.alloc,
+            &mut self.warnings,
+            number,
+            notice,
+            areas,
+            serial,
+        )?;
+        self.issued += 1;
+        Ok((number, serial))
+    }
+
+    /// Gives a warning a new version, and answers its serial number.
+    ///
+    /// Refused as `NoSuchWarning`, `NotActive`, `BadPages`, `BadPeriod` or `UpdatesExhausted`, the first that holds,
+    /// else as `Memory` where memory is wanting; an `Err` leaves the book as it was.
+    pub fn update(&mut self, w: WarningId, content: &Content) -> Result<Serial, Refusal>
+        ensures accepted { OnOk result (first_refusal (update_checks self.old w content.now) ≡ None) }
+        ensures serial { IfOk result (λ s. next_serial self.old w ≡ Some s) }
+        ensures changed { OnOk result (self.new ≡ after_update w content.now self.old) }
+        ensures refused { IfErr result (λ e. (first_refusal (update_checks self.old w content.now) ≡ Some e) ⊎ ((e ≡ refusal.Memory) × (first_refusal (update_checks self.old w content.now) ≡ None))) }
+        ensures unchanged { OnErr result (self.new ≡ self.old) }
+    {
+        if !lookups::is_there(self.warnings.as_slice(), w) {
+            return Err(Refusal::NoSuchWarning);
+        }
+        if !lookups::is_active(self.warnings.as_slice(), w) {
+            return Err(Refusal::NotActive);
+        }
+        if !are_pages(content.pages.as_slice()) {
+            return Err(Refusal::BadPages);
+        }
+        if !is_period(content.period) {
+            return Err(Refusal::BadPeriod);
+        }
+        let Some(next) = lookups::next_serial(self.warnings.as_slice(), w) else {
+            return Err(Refusal::UpdatesExhausted);
+        };
+        edits::update(self.alloc, &mut self.warnings, w, content, next)?;
+        Ok(next)
+    }
+
+    /// Puts an area last among those of a warning.
+    ///
+    /// Refused as `NoSuchWarning`, `NotActive`, `AreaThere` or `Limit`, the first that holds, else as `Memory` where
+    /// memory is wanting; an `Err` leaves the book as it was.
+    pub fn widen(&mut self, w: WarningId, a: &Name) -> Result<(), Refusal>
+        ensures accepted { OnOk result (first_refusal (widen_checks self.old w a.now) ≡ None) }
+        ensures changed { OnOk result (self.new ≡ after_widen w a.now self.old) }
+        ensures refused { IfErr result (λ e. (first_refusal (widen_checks self.old w a.now) ≡ Some e) ⊎ ((e ≡ refusal.Memory) × (first_refusal (widen_checks self.old w a.now) ≡ None))) }
+        ensures unchanged { OnErr result (self.new ≡ self.old) }
+    {
+        if !lookups::is_there(self.warnings.as_slice(), w) {
+            return Err(Refusal::NoSuchWarning);
+        }
+        if !lookups::is_active(self.warnings.as_slice(), w) {
+            return Err(Refusal::NotActive);
+        }
+        if lookups::names(self.warnings.as_slice(), w, a) {
+            return Err(Refusal::AreaThere);
+        }
+        if lookups::is_full(self.warnings.as_slice(), w) {
+            return Err(Refusal::Limit {
+                which: Limit::WarningAreas,
+            });
+        }
+        edits::widen(self.alloc, &mut self.warnings, w, a)?;
+        Ok(())
+    }
+
+    /// Takes an area out of those of a warning, whose others keep their order.
+    ///
+    /// Refused as `NoSuchWarning`, `NotActive`, `AreaNotThere` or `LastArea`, the first that holds, which leaves the
+    /// book as it was.
+    pub fn narrow(&mut self, w: WarningId, a: &Name) -> Result<(), Refusal>
+        ensures accepted { OnOk result (first_refusal (narrow_checks self.old w a.now) ≡ None) }
+        ensures changed { OnOk result (self.new ≡ after_narrow w a.now self.old) }
+        ensures refused { IfErr result (λ e. first_refusal (narrow_checks self.old w a.now) ≡ Some e) }
+        ensures unchanged { OnErr result (self.new ≡ self.old) }
+    {
+        if !lookups::is_there(self.warnings.as_slice(), w) {
+            return Err(Refusal::NoSuchWarning);
+        }
+        if !lookups::is_active(self.warnings.as_slice(), w) {
+            return Err(Refusal::NotActive);
+        }
+        if !lookups::names(self.warnings.as_slice(), w, a) {
+            return Err(Refusal::AreaNotThere);
+        }
+        if lookups::has_one_area(self.warnings.as_slice(), w) {
+            return Err(Refusal::LastArea);
+        }
+        edits::narrow(&mut self.warnings, w, a);
+        Ok(())
+    }
+
+    /// Stops a warning, which stays in the book, and takes no memory.
+    ///
+    /// Refused as `NoSuchWarning` or `NotActive`, the first that holds, which leaves the book as it was.
+    pub fn stop(&mut self, w: WarningId) -> Result<(), Refusal>
+        ensures accepted { OnOk result (first_refusal (stop_checks self.old w) ≡ None) }
+        ensures changed { OnOk result (self.new ≡ after_stop w self.old) }
+        ensures refused { IfErr result (λ e. first_refusal (stop_checks self.old w) ≡ Some e) }
+        ensures unchanged { OnErr result (self.new ≡ self.old) }
+    {
+        if !lookups::is_there(self.warnings.as_slice(), w) {
+            return Err(Refusal::NoSuchWarning);
+        }
+        if !lookups::is_active(self.warnings.as_slice(), w) {
+            return Err(Refusal::NotActive);
+        }
+        edits::stop(&mut self.warnings, w);
+        Ok(())
+    }
+
+    /// Takes a stopped warning out of the book, with its versions and its areas, and takes no memory.
+    ///
+    /// Refused as `NoSuchWarning` or `StillActive`, the first that holds, which leaves the book as it was.
+    pub fn forget(&mut self, w: WarningId) -> Result<(), Refusal>
+        ensures accepted { OnOk result (first_refusal (forget_checks self.old w) ≡ None) }
+        ensures changed { OnOk result (self.new ≡ after_forget w self.old) }
+        ensures refused { IfErr result (λ e. first_refusal (forget_checks self.old w) ≡ Some e) }
+        ensures unchanged { OnErr result (self.new ≡ self.old) }
+    {
+        if !lookups::is_there(self.warnings.as_slice(), w) {
+            return Err(Refusal::NoSuchWarning);
+        }
+        if lookups::is_active(self.warnings.as_slice(), w) {
+            return Err(Refusal::StillActive);
+        }
+        edits::forget(&mut self.warnings, w);
+        Ok(())
+    }
+
+    /// The serial number of the warning's current version; `None` where there is no such warning.
+    pub fn current(&self, w: WarningId) -> Option<Serial>
+        ensures { result ≡ current self.now w }
+    {
+        lookups::current(self.warnings.as_slice(), w)
+    }
+
+    /// The warning's message identifier; `None` where there is no such warning.
+    pub fn message_id(&self, w: WarningId) -> Option<u16>
+        ensures { result ≡ message_id self.now w }
+    {
+        lookups::message_id(self.warnings.as_slice(), w)
+    }
+
+    /// Whether the warning was issued and neither stopped nor forgotten.
+    pub fn is_active(&self, w: WarningId) -> bool
+        ensures { result ≡ is_active self.now w }
+    {
+        lookups::is_active(self.warnings.as_slice(), w)
+    }
+
+    /// The versions of the warning, the newest first; `None` where there is no such warning.
+    pub fn versions(&self, w: WarningId) -> Option<LentVersions<'_>>
+        ensures { option_map lent result ≡ option_map versions (warning_of self.now w) }
+    {
+        lookups::versions(self.warnings.as_slice(), w)
+    }
+
+    /// The areas of the warning, in the order in which they were named; none where there is no such warning.
+    pub fn areas_of(&self, w: WarningId) -> &[Name]
+        ensures { result.now ≡ areas_of w self.now.warnings }
+    {
+        lookups::areas_of(self.warnings.as_slice(), w)
+    }
+
+    /// The numbers of the warnings in the book, in order.
+    pub fn warnings(&self) -> Result<Vec<WarningId>, AllocError>
+        ensures { IfOk result (λ all. all.items ≡ numbers self.now.warnings) }
+    {
+        questions::numbers(self.alloc, self.warnings.as_slice())
+    }
+
+    /// The numbers of the warnings that name the area, stopped ones among them, in order.
+    pub fn naming(&self, a: &Name) -> Result<Vec<WarningId>, AllocError>
+        ensures { IfOk result (λ all. all.items ≡ naming a.now self.now.warnings) }
+    {
+        questions::naming(self.alloc, self.warnings.as_slice(), a)
+    }
+
+    /// Whether a warning in the book names the area, stopped or not.
+    pub fn names_area(&self, a: &Name) -> bool
+        ensures { result ≡ list_any (names a.now) self.now.warnings }
+    {
+        questions::names_area(self.warnings.as_slice(), a)
+    }
+
+    /// The content that a message identifier and a serial number stand for, be it current or not.
+    pub fn content_of(&self, message_id: u16, serial: Serial) -> Option<&Content>
+        ensures { option_copied result ≡ content_of message_id serial self.now.warnings }
+    {
+        questions::content_of(self.warnings.as_slice(), message_id, serial)
+    }
+
+    /// How many warnings were ever issued.
+    pub fn issued(&self) -> u32
+        ensures { result ≡ self.now.issued }
+    {
+        self.issued
+    }
+
+    /// How many warnings are in the book.
+    pub fn len(&self) -> usize
+        ensures { result ≡ length self.now.warnings }
+    {
+        self.warnings.len()
+    }
+
+    /// Tells what always holds of a book.
+    pub fn is_sound(&self)
+        ensures ordered { is_disordered (numbers self.now.warnings) ≡ false }
+        ensures given { list_all (was_issued self.now.issued) self.now.warnings ≡ true }
+        ensures few { length self.now.warnings ≤ 256 }
+        ensures areas { list_all has_areas self.now.warnings ≡ true }
+        ensures contents { list_all has_contents self.now.warnings ≡ true }
+        ensures counted { list_all counts_updates self.now.warnings ≡ true }
+        ensures older { list_all has_serials self.now.warnings ≡ true }
+        ensures codes { shares_code self.now.warnings ≡ false }
+    {
+        let _ = &self.alloc;
+    }
+}

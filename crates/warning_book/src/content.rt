@@ -1,0 +1,42 @@
+//! What a version of a warning broadcasts.
+
+ghost use Rattle.std.specs.Prelude.{◌≡◌, ◌↔◌, IsTrue, IfOk};
+
+use crate::content_pages::ContentPages;
+use std::alloc::{AllocError, Global};
+
+/// What a version of a warning broadcasts (TS 48.049, 8.2.3.13, 8.2.3.8, 8.2.3.9 and 8.2.3.2).
+#[derive(Debug, PartialEq, Eq, Drop)]
+pub struct Content {
+    /// The data coding scheme, as coded by TS 23.038.
+    pub dcs: u8,
+    /// 0 high priority, 1 background, 2 normal.
+    pub category: u8,
+    /// The repetition period, in units of 1.883 s: 1 to 1,024.
+    pub period: u16,
+    /// 1 to 15 pages of 1 to 82 octets.
+    pub pages: ContentPages,
+}
+
+impl Content {
+    /// The same content in memory of its own.
+    pub fn copied(&self, alloc: Global) -> Result<Content, AllocError>
+        ensures { IfOk result (λ copy. copy ≡ self.now) }
+    {
+        Ok(Content {
+            dcs: self.dcs,
+            category: self.category,
+            period: self.period,
+            pages: self.pages.copied(alloc)?,
+        })
+    }
+
+    pub fn same(&self, other: &Content) -> bool
+        ensures { IsTrue result ↔ (self.now ≡ other.now) }
+    {
+        self.dcs == other.dcs
+            && self.category == other.category
+            && self.period == other.period
+            && self.pages.same(&other.pages)
+    }
+}

@@ -1,0 +1,127 @@
+//! What a list of warnings tells of an area, a message identifier or a serial number.
+
+ghost use Rattle.std.specs.Prelude.{◌≡◌, ◌++◌, ◌∷◌, [], find, nat_eq, IfOk, OnOk, if◌then◌else◌};
+ghost use Rattle.std.specs.List.{list_any};
+ghost use Rattle.std.specs.Option.{option_map, option_copied};
+ghost use Rattle.serials.specs.Serials.{code_of};
+ghost use Rattle.warning_book.specs.Book.{names, numbers, naming, versions_if, content_of, codes_of};
+
+use crate::content::Content;
+use crate::version::Version;
+use crate::warning::Warning;
+use crate::warning_id::WarningId;
+use cbsp_ie::Name;
+use serials::Serial;
+use std::alloc::{AllocError, Global};
+
+/// Whether one of the warnings names the area.
+pub(crate) fn names_area(warnings: &[Warning], a: &Name) -> bool
+    ensures { result ≡ list_any (names a.now) warnings.now }
+{
+    for warning in warnings {
+        if warning.areas.has(a) {
+            return true;
+        }
+    }
+    false
+}
+
+/// The numbers of the warnings, in order.
+pub(crate) fn numbers(alloc: Global, warnings: &[Warning]) -> Result<Vec<WarningId>, AllocError>
+    ensures { IfOk result (λ v. v.items ≡ numbers warnings.now) }
+{
+    let mut all = Vec::new(alloc);
+    for warning in warnings {
+        all.push(warning.number)?;
+    }
+    Ok(all)
+}
+
+/// Puts the number last if the warning names the area.
+fn put_naming(found: &mut Vec<WarningId>, warning: &Warning, a: &Name) -> Result<(), AllocError>
+    ensures { OnOk result (found.new.items ≡ found.old.items ++ (if names a.now warning.now then warning.now.number ∷ [] else [])) }
+{
+    if warning.areas.has(a) {
+        found.push(warning.number)?;
+    }
+    Ok(())
+}
+
+/// The numbers of the warnings that name the area, in order.
+#[tactic(auto, using(crate::proofs::QuestionLemmas::naming_more))]
+pub(crate) fn naming(
+    alloc: Global,
+    warnings: &[Warning],
+    a: &Name,
+) -> Result<Vec<WarningId>, AllocError>
+    ensures { IfOk result (λ v. v.items ≡ naming a.now warnings.now) }
+{
+    let mut found = Vec::new(alloc);
+    for warning in warnings {
+        put_naming(&mut found, warning, a)?;
+    }
+    Ok(found)
+}
+
+/// Puts the code last if the warning has the message identifier.
+fn put_code(codes: &mut Vec<u16>, warning: &Warning, message_id: u16) -> Result<(), AllocError>
+    ensures { OnOk result (codes.new.items ≡ codes.old.items ++ (if nat_eq warning.now.message_id message_id then code_of warning.now.serial ∷ [] else [])) }
+{
+    if warning.message_id == message_id {
+        codes.push(warning.serial.code())?;
+    }
+    Ok(())
+}
+
+/// The codes of the warnings with this message identifier, in order.
+#[tactic(auto, using(crate::proofs::QuestionLemmas::codes_more))]
+pub(crate) fn codes_of(
+    alloc: Global,
+    warnings: &[Warning],
+    message_id: u16,
+) -> Result<Vec<u16>, AllocError>
+    ensures { IfOk result (λ v. v.items ≡ codes_of message_id warnings.now) }
+{
+    let mut codes = Vec::new(alloc);
+    for warning in warnings {
+        put_code(&mut codes, warning, message_id)?;
+    }
+    Ok(codes)
+}
+
+/// The content of the first of the versions that has the serial number.
+fn content_among(versions: &[Version], serial: Serial) -> Option<&Content>
+    ensures { option_copied result ≡ option_map (λ v. v.content) (find (λ v. nat_eq v.serial serial) versions.now) }
+{
+    for version in versions {
+        if version.serial == serial {
+            return Some(&version.content);
+        }
+    }
+    None
+}
+
+/// The content of the warning's version that has the serial number; none where the message identifier is another.
+fn content_in(warning: &Warning, message_id: u16, serial: Serial) -> Option<&Content>
+    ensures { option_copied result ≡ option_map (λ v. v.content) (find (λ v. nat_eq v.serial serial) (versions_if message_id warning.now)) }
+{
+    if warning.message_id != message_id {
+        return None;
+    }
+    if warning.serial == serial {
+        return Some(&warning.content);
+    }
+    content_among(warning.outdated.as_slice(), serial)
+}
+
+/// The content that a message identifier and a serial number stand for.
+pub(crate) fn content_of(warnings: &[Warning], message_id: u16, serial: Serial) -> Option<&Content>
+    ensures { option_copied result ≡ content_of message_id serial warnings.now }
+{
+    for warning in warnings {
+        if let Some(content) = content_in(warning, message_id, serial) {
+            return Some(content);
+        }
+    }
+    None
+}

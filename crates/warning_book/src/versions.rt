@@ -1,0 +1,48 @@
+//! A list of versions.
+
+ghost use Rattle.std.specs.Prelude.{◌≡◌, ◌∷◌, [], OnOk, OnErr};
+
+use crate::version::Version;
+use std::alloc::{AllocError, Global};
+use std::marker::Model;
+
+/// Versions of a warning, the newest first.
+#[derive(Drop)]
+pub struct Versions {
+    versions: Vec<Version>,
+}
+
+impl Model for Versions {
+    ghost use Rattle.std.specs.Prelude.{List};
+    ghost use Rattle.warning_book.specs.declared.version.Version.{Version};
+
+    ghost Value = { List Version };
+
+    ghost view = { λ s. s.versions.items };
+}
+
+impl Versions {
+    /// No versions. What they will need is taken from the allocator.
+    pub(crate) fn new(alloc: Global) -> Versions
+        ensures { result ≡ [] }
+    {
+        Versions {
+            versions: Vec::new(alloc),
+        }
+    }
+
+    pub(crate) fn as_slice(&self) -> &[Version]
+        ensures { result.now ≡ self.now }
+    {
+        &self.versions
+    }
+
+    /// Puts a version before the others.
+    pub(crate) fn put_first(&mut self, version: Version) -> Result<(), AllocError>
+        ensures put { OnOk result (self.new ≡ version ∷ self.old) }
+        ensures unchanged { OnErr result (self.new ≡ self.old) }
+    {
+        self.versions.insert(0, version)?;
+        Ok(())
+    }
+}
