@@ -30,7 +30,7 @@ use Rattle.centre_core.specs.declared.refusal.Refusal.{Refusal}
 use Rattle.centre_core.proofs.AnyLemmas.{any_same}
 use Rattle.centre_core.proofs.CountLemmas.{each_once, same_count, named_once, any_turned, among_more, among_new, both_or_it}
 use Rattle.centre_core.proofs.PageLemmas.{no_check}
-use Rattle.centre_core.proofs.RegisterLemmas.{said_or, unsaid_or}
+use Rattle.centre_core.proofs.RegisterLemmas.{not_not, said_or, unsaid_or}
 
 -- One entry further.
 
@@ -40,10 +40,6 @@ area_after (DropArea x) a l before h = has_area_without_area x l a ∙ ap (λ t.
 area_after (Put x s) a l before h = has_area_with_selector x s l a ∙ h
 area_after (Cut x s) a l before h = has_area_without_selector x s l a ∙ h
 area_after other a l before h = h
-
-not_not : (t : Bool) → not t ≡ false → t ≡ true
-not_not true h = refl
-not_not false h = cc
 
 selector_after : (past : List Entry) (e : Event) (given : Answer) (a : List ℕ) (s : Selector) (l : List Area) → law past e ≡ Ok given → AreAreasOf past l → kept_areas.has_selector (areas_after e l) a s ≡ unwrap_or (selector_mark a s e) (has_selector past a s)
 selector_after past (AddArea x) given a s l v tied = has_selector_with_area x l a s new ∙ step (bytes_eq x a) refl

@@ -1,7 +1,7 @@
 -- The book, one entry further.
 use Rattle.std.proofs.Common.{◌≡◌, ℕ, ◌+◌, Bool, true, false, List, [], ◌∷◌, ◌++◌, Option, Some, None, length, reverse, nat_eq, if◌then◌else◌, refl, ap, sym, ◌∙◌, length-append, append-nil}
 use Rattle.std.proofs.lemmas.List.{reverse-append, reverse-reverse}
-use Rattle.std.specs.List.{list_any, flat_map}
+use Rattle.std.specs.List.{flat_map}
 use Rattle.std.specs.Option.{is_some, option_to_list}
 use Rattle.centre_core.specs.Issued.{issued_by, code_in, with_issued, forward, by_warning, along}
 use Rattle.centre_core.specs.Past.{one}

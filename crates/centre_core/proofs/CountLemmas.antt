@@ -183,7 +183,7 @@ pub any_turned : {A : Type 0} (same : A → A → Bool) → DecidesAll same → 
 any_turned same d z [] = refl
 any_turned same d z (x ∷ xs) = ap (λ t. t || list_any (same z) xs) (turned same d z x) ∙ ap (λ t. same x z || t) (any_turned same d z xs)
 
-or_right : (a : Bool) → (a || true) ≡ true
+pub or_right : (a : Bool) → (a || true) ≡ true
 or_right true = refl
 or_right false = refl
 

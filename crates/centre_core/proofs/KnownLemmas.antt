@@ -30,16 +30,8 @@ use Rattle.centre_core.specs.declared.outcome.Outcome.TheVariants.{Silent}
 use Rattle.centre_core.proofs.AnyLemmas.{or_none}
 use Rattle.centre_core.proofs.CountLemmas.{among_more, among_new}
 use Rattle.centre_core.proofs.ActingLemmas.{does, any_all}
-use Rattle.centre_core.proofs.GroupingLemmas.{tests, any_pending}
+use Rattle.centre_core.proofs.GroupingLemmas.{first_true, second_true, tests, any_pending}
 use Rattle.centre_core.proofs.UniqueLemmas.{unless_ok, verdict_law}
-
-first_true : (a b : Bool) → (a && b) ≡ true → a ≡ true
-first_true true b h = refl
-first_true false b h = h
-
-second_true : (a b : Bool) → (a && b) ≡ true → b ≡ true
-second_true true b h = h
-second_true false b h = cc
 
 placed_after : (d : Cell) (other : ℕ) (before : List Entry) (b : ℕ) (c : Cell) → (is_place (place before c) b ≡ true → is_among c (cells before) ≡ true) → is_place (unwrap_or (cond (cell_eq d c) (Some (Some other)) None) (place before c)) b ≡ true → is_among c (with_new cell_eq (Some d) (cells before)) ≡ true
 placed_after d other before b c known h = step (cell_eq d c) refl

@@ -30,7 +30,7 @@ use Rattle.centre_core.specs.declared.entry.Entry.{Entry}
 use Rattle.centre_core.specs.declared.event.Event.{Event}
 use Rattle.centre_core.specs.declared.event.Event.TheVariants.{AddBsc, RemoveBsc, AddCell, MoveCell, RemoveCell}
 use Rattle.centre_core.specs.declared.refusal.Refusal.{Refusal}
-use Rattle.centre_core.proofs.CountLemmas.{each_once, same_count, named_once, turned, any_turned, among_more, among_new, both_or_it}
+use Rattle.centre_core.proofs.CountLemmas.{each_once, same_count, named_once, turned, any_turned, among_more, among_new, both_or_it, or_right}
 use Rattle.centre_core.proofs.KnownLemmas.{known_place}
 use Rattle.centre_core.proofs.PageLemmas.{no_check}
 
@@ -54,7 +54,7 @@ bsc_after (AddBsc d) b r before h = has_bsc_with_bsc d b r ∙ ap (λ t. nat_eq 
 bsc_after (RemoveBsc d) b r before h = has_bsc_without_bsc d b r ∙ ap (λ t. not (nat_eq d b) && t) h ∙ sym (unsaid_or (nat_eq d b) before)
 bsc_after other b r before h = h
 
-not_not : (t : Bool) → not t ≡ false → t ≡ true
+pub not_not : (t : Bool) → not t ≡ false → t ≡ true
 not_not true h = refl
 not_not false h = cc
 
@@ -92,10 +92,6 @@ ascending_once {A = A} same before apart (x ∷ xs) h = step (list_all (before x
     step : (t u : Bool) → list_all (before x) xs ≡ t → (t && u) ≡ true → (u ≡ true → each_once same xs ≡ true) → (not (list_any (same x) xs) && each_once same xs) ≡ true
     step true u e k rest = ap (λ b. not b && each_once same xs) (absent xs e) ∙ rest k
     step false u e k rest = cc
-
-or_right : (a : Bool) → (a || true) ≡ true
-or_right true = refl
-or_right false = refl
 
 bsc_named : (e : Event) (b : ℕ) (bs : List ℕ) (before : Bool) → (before ≡ true → list_any (nat_eq b) bs ≡ true) → unwrap_or (bsc_mark b e) before ≡ true → list_any (nat_eq b) (with_new nat_eq (added_bsc e) bs) ≡ true
 bsc_named (AddBsc d) b bs before known h = step (nat_eq d b) refl h

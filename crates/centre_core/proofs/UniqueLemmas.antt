@@ -16,6 +16,7 @@ use Rattle.centre_core.specs.declared.refusal.Refusal.{Refusal}
 use Rattle.centre_core.specs.declared.refusal.Refusal.TheVariants as refusal
 use Rattle.centre_core.specs.declared.warning_book.notice.Notice.{Notice}
 use Rattle.centre_core.proofs.AnyLemmas.{any_append, any_implies}
+use Rattle.centre_core.proofs.CountLemmas.{or_right}
 
 -- an answer that is none of the refusals comes after all checks
 pub unless_ok : (checks : List (Bool × Refusal)) (r : Result Answer Refusal) (a : Answer) → unless checks r ≡ Ok a → r ≡ Ok a
@@ -121,10 +122,6 @@ new_after other a ws h = h
 pub all_new : (past : List Entry) → AllNew (book past)
 all_new [] = tt
 all_new (e ∷ before) = new_after e.event e.answer (book before) (all_new before)
-
-or_right : (a : Bool) → (a || true) ≡ true
-or_right true = refl
-or_right false = refl
 
 -- a warning with the key has the key's code
 key_code : (m s : ℕ) (ws : List Warning) → AllNew ws → list_any (has_key m s) ws ≡ true → list_any (nat_eq (code_of s)) (codes_of m ws) ≡ true
