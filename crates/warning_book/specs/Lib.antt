@@ -4,3 +4,5 @@ pub mod Book
 pub mod Checks
 pub mod Sound
 pub mod Laws
+pub mod SerialLaws
+pub mod SoundLaws

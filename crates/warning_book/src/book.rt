@@ -242,6 +242,20 @@ impl Book {
         Ok(())
     }
 
+    /// The warnings in the book, in the order of issue.
+    pub fn as_slice(&self) -> &[Warning]
+        ensures { result.now ≡ self.now.warnings }
+    {
+        self.warnings.as_slice()
+    }
+
+    /// The warning of that number; `None` where there is no such warning.
+    pub fn find(&self, w: WarningId) -> Option<&Warning>
+        ensures { option_copied result ≡ warning_of self.now w }
+    {
+        lookups::find(self.warnings.as_slice(), w)
+    }
+
     /// The serial number of the warning's current version; `None` where there is no such warning.
     pub fn current(&self, w: WarningId) -> Option<Serial>
         ensures { result ≡ current self.now w }

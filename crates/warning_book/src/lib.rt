@@ -31,4 +31,5 @@ pub use lent_versions::LentVersions;
 pub use notice::Notice;
 pub use refusal::{Limit, Refusal};
 pub use version::Version;
+pub use warning::Warning;
 pub use warning_id::WarningId;

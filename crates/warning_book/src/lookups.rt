@@ -2,7 +2,7 @@
 
 ghost use Rattle.std.specs.Prelude.{◌≡◌, ◌+◌, true, false, find, Some, IfSome, IfNone};
 ghost use Rattle.std.specs.List.{list_any, position_or_len};
-ghost use Rattle.std.specs.Option.{option_map};
+ghost use Rattle.std.specs.Option.{option_map, option_copied};
 ghost use Rattle.warning_book.specs.Book.{has_number, names, is_full, has_one_area, is_exhausted, is_so, numbers, areas_of, versions, lent};
 ghost use Rattle.warning_book.specs.Once.{is_disordered};
 
@@ -82,6 +82,18 @@ pub(crate) fn has_one_area(warnings: &[Warning], n: WarningId) -> bool
         }
     }
     false
+}
+
+/// The warning of that number.
+pub(crate) fn find(warnings: &[Warning], n: WarningId) -> Option<&Warning>
+    ensures { option_copied result ≡ find (has_number n) warnings.now }
+{
+    for warning in warnings {
+        if warning.number == n {
+            return Some(warning);
+        }
+    }
+    None
 }
 
 /// The serial number of the warning's current version.

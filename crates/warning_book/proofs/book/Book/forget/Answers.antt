@@ -1,4 +1,4 @@
-use Rattle.warning_book.proofs.SoundLemmas.{sound-without}
+use Rattle.warning_book.specs.SoundLaws.{sound-without}
 use Rattle.warning_book.proofs.book.Book.forget.Goals as goal
 
 pub invariant_of-self : goal.invariant_of-self

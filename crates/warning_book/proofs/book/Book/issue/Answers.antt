@@ -1,6 +1,6 @@
 use Rattle.std.proofs.Common.{◌<◌, ◌∙◌, ap, sym, length, rules}
-use Rattle.warning_book.proofs.SerialLemmas.{serial_is_there, new_serial_parts}
-use Rattle.warning_book.proofs.SoundLemmas.{IsNew, sound-issue}
+use Rattle.warning_book.specs.SerialLaws.{serial_is_there, new_serial_parts}
+use Rattle.warning_book.specs.SoundLaws.{IsNew, sound-issue}
 use Rattle.warning_book.specs.Book.{State, new_serial}
 use Rattle.warning_book.proofs.book.Book.issue.Goals as goal
 

@@ -1,5 +1,5 @@
 use Rattle.std.proofs.Common.{◌≡◌, false, rules}
-use Rattle.warning_book.proofs.SoundLemmas.{sound-narrowed}
+use Rattle.warning_book.specs.SoundLaws.{sound-narrowed}
 use Rattle.warning_book.specs.Book.{has_one_area, is_so}
 use Rattle.warning_book.proofs.book.Book.narrow.Goals as goal
 

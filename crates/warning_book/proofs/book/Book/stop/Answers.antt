@@ -1,4 +1,4 @@
-use Rattle.warning_book.proofs.SoundLemmas.{sound-stopped}
+use Rattle.warning_book.specs.SoundLaws.{sound-stopped}
 use Rattle.warning_book.proofs.book.Book.stop.Goals as goal
 
 pub invariant_of-self : goal.invariant_of-self

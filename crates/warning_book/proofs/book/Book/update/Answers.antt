@@ -1,5 +1,5 @@
 use Rattle.std.proofs.Common.{◌≡◌, true, false, rules}
-use Rattle.warning_book.proofs.SoundLemmas.{sound-updated}
+use Rattle.warning_book.specs.SoundLaws.{sound-updated}
 use Rattle.warning_book.specs.Book.{is_exhausted, is_so}
 use Rattle.warning_book.specs.Content.{are_pages, is_period}
 use Rattle.warning_book.proofs.book.Book.update.Goals as goal

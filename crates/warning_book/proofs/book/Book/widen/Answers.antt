@@ -1,5 +1,5 @@
 use Rattle.std.proofs.Common.{◌≡◌, false, rules}
-use Rattle.warning_book.proofs.SoundLemmas.{sound-widened}
+use Rattle.warning_book.specs.SoundLaws.{sound-widened}
 use Rattle.warning_book.specs.Book.{names, is_full, is_so}
 use Rattle.warning_book.proofs.book.Book.widen.Goals as goal
 

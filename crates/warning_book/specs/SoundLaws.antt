@@ -1,5 +1,6 @@
--- Each edit that nothing forbids leaves the book sound.
-use Rattle.std.proofs.Common.{◌≡◌, ℕ, suc, ◌+◌, ◌<◌, ◌≤◌, Bool, true, false, ◌&&◌, ◌||◌, not, cond, List, [], ◌∷◌, ◌++◌, map, nat_eq, nat_le, ltb, length, refl, sym, ap, ◌∙◌, arith, length-append}
+-- Each edit that nothing forbids leaves the book sound. Crates that recompute the book from their own record of edits
+-- cite the last section.
+use Rattle.std.proofs.Common.{◌≡◌, ℕ, suc, ◌+◌, ◌<◌, ◌≤◌, Bool, true, false, ◌&&◌, ◌||◌, not, cond, List, [], ◌∷◌, ◌++◌, Option, Some, None, map, nat_eq, nat_le, ltb, length, refl, sym, ap, ◌∙◌, arith, length-append}
 use Rattle.std.specs.Prelude.{bytes_eq}
 use Rattle.std.specs.List.{list_any, list_all, filter}
 use Rattle.std.proofs.lemmas.Bool.{and_parts, and_from, or_parts, or_from, not-true}
@@ -9,13 +10,15 @@ use Rattle.std.proofs.lemmas.List.{length-map, map-append}
 use Rattle.std.proofs.lemmas.List.Folds.{list_any-append, list_all-append}
 use Rattle.std.proofs.lemmas.Slice.Eq.{bytes_eq-Decides}
 use Rattle.serials.specs.Serials.{code_of, update_of}
-use Rattle.warning_book.specs.Book.{has_number, names, is_full, has_one_area, is_exhausted, is_so, as_version, versions, numbers, codes_of, new_warning, updated, widened, narrowed, stopped, changed_if, edited, without}
-use Rattle.warning_book.specs.Checks.{is_empty}
+use Rattle.warning_book.specs.Book.{State, has_number, names, is_full, has_one_area, is_exhausted, is_so, as_version, versions, numbers, codes_of, new_serial, new_warning, updated, widened, narrowed, stopped, changed_if, edited, without, after_issue, after_update, after_widen, after_narrow, after_stop, after_forget}
+use Rattle.warning_book.specs.Checks.{is_empty, first_refusal, issue_checks, update_checks, widen_checks, narrow_checks}
 use Rattle.warning_book.specs.Content.{are_pages, is_period}
+use Rattle.warning_book.specs.SerialLaws.{new_serial_parts}
 use Rattle.warning_book.specs.Once.{some_pair, has_twice, is_disordered}
 use Rattle.warning_book.specs.Sound.{was_issued, has_areas, is_good, has_contents, counts_updates, is_older, has_serials, key_of, is_same_key, IsSound}
 use Rattle.warning_book.specs.declared.content.Content.{Content}
 use Rattle.warning_book.specs.declared.notice.Notice.{Notice}
+use Rattle.warning_book.specs.declared.refusal.Refusal.{Refusal}
 use Rattle.warning_book.specs.declared.version.Version.{Version}
 use Rattle.warning_book.specs.declared.warning.Warning.{Warning}
 
@@ -362,3 +365,63 @@ sound-issue i l notice areas serial new s =
       older = all-last has_serials w l s.older refl;
       codes = ap (some_pair is_same_key) (map-append key_of l (w ∷ [])) ∙ some_pair-last is_same_key (notice.message_id, code_of serial) (map key_of l) (no_same_key notice.message_id (code_of serial) l new.free) s.codes;
     }
+
+-- an edit none of whose checks holds
+
+-- each of the checks fails to hold
+abbrev pub NoneHolds : List (Bool × Refusal) → Type 0
+NoneHolds [] = Unit {0}
+NoneHolds (check ∷ checks) = (check.0 ≡ false) × NoneHolds checks
+
+pub none_holds : (checks : List (Bool × Refusal)) → first_refusal checks ≡ None → NoneHolds checks
+none_holds [] h = tt
+none_holds ((true, refusal) ∷ checks) h = cc
+none_holds ((false, refusal) ∷ checks) h = (refl, none_holds checks h)
+
+held : (b : Bool) → not b ≡ false → b ≡ true
+held true h = refl
+held false h = cc
+
+pub sound_after_issue : (st : State) (notice : Notice) (areas : List (List ℕ)) (serial : ℕ) → first_refusal (issue_checks st notice areas) ≡ None → new_serial st notice ≡ Some serial → IsSound st → IsSound (after_issue notice areas serial st)
+sound_after_issue st notice areas serial checked given sound =
+    let none = none_holds (issue_checks st notice areas) checked in
+    let parts = new_serial_parts st.issued st.warnings notice serial given in
+    sound-issue st.issued st.warnings notice areas serial
+    (record {
+      some = none.0;
+      once = none.1.0;
+      few = few (length areas) none.1.1.1.1.1.0;
+      pages = held (are_pages notice.content.pages) none.1.1.0;
+      period = held (is_period notice.content.period) none.1.1.1.0;
+      room = room (length st.warnings) none.1.1.1.1.0;
+      first = parts.0;
+      free = parts.1;
+    })
+    sound
+  where
+    few : (n : ℕ) → ltb 16 n ≡ false → n ≤ 16
+    few n h = grind (arith, nat_tests, common_steps)
+
+    room : (n : ℕ) → nat_le 256 n ≡ false → n < 256
+    room n h = grind (arith, nat_tests, common_steps)
+
+pub sound_after_update : (st : State) (n : ℕ) (content : Content) → first_refusal (update_checks st n content) ≡ None → IsSound st → IsSound (after_update n content st)
+sound_after_update st n content checked sound =
+    let none = none_holds (update_checks st n content) checked in
+    sound-updated n content st.issued st.warnings (held (are_pages content.pages) none.1.1.0) (held (is_period content.period) none.1.1.1.0) none.1.1.1.1.0 sound
+
+pub sound_after_widen : (st : State) (n : ℕ) (a : List ℕ) → first_refusal (widen_checks st n a) ≡ None → IsSound st → IsSound (after_widen n a st)
+sound_after_widen st n a checked sound =
+    let none = none_holds (widen_checks st n a) checked in
+    sound-widened n a st.issued st.warnings none.1.1.0 none.1.1.1.0 sound
+
+pub sound_after_narrow : (st : State) (n : ℕ) (a : List ℕ) → first_refusal (narrow_checks st n a) ≡ None → IsSound st → IsSound (after_narrow n a st)
+sound_after_narrow st n a checked sound =
+    let none = none_holds (narrow_checks st n a) checked in
+    sound-narrowed n a st.issued st.warnings none.1.1.1.0 sound
+
+pub sound_after_stop : (st : State) (n : ℕ) → IsSound st → IsSound (after_stop n st)
+sound_after_stop st n sound = sound-stopped n st.issued st.warnings sound
+
+pub sound_after_forget : (st : State) (n : ℕ) → IsSound st → IsSound (after_forget n st)
+sound_after_forget st n sound = sound-without n st.issued st.warnings sound
