@@ -1,5 +1,5 @@
 -- What orders make of a key does not depend on the order in which they come.
-use Rattle.std.proofs.Common.{◌≡◌, ℕ, Bool, true, false, ◌&&◌, ◌||◌, not, List, [], ◌∷◌, refl, sym, ◌∙◌, ap, cond}
+use Rattle.std.proofs.Common.{◌≡◌, ℕ, Bool, true, false, ◌||◌, List, [], ◌∷◌, refl, ◌∙◌, cond}
 use Rattle.std.specs.List.{list_any}
 use Rattle.cbsp_ie.specs.declared.cell.Cell.{Cell}
 use Rattle.centre_core.specs.Headline.{applied, applied_one, airs, clears}

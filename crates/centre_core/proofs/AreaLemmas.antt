@@ -1,5 +1,5 @@
 -- What the areas tell, count and refuse is what the entries say.
-use Rattle.std.proofs.Common.{◌≡◌, ◌⊎◌, inl, inr, subst, ℕ, ◌+◌, ◌≤◌, Bool, true, false, ◌&&◌, ◌||◌, not, nat_le, List, [], ◌∷◌, Option, Some, None, Result, Ok, Err, unwrap_or, length, map, refl, sym, ◌∙◌, ap, cond}
+use Rattle.std.proofs.Common.{◌≡◌, ◌⊎◌, inl, inr, subst, ℕ, Bool, true, false, ◌&&◌, ◌||◌, not, List, [], ◌∷◌, Some, None, Result, Ok, Err, unwrap_or, length, map, refl, sym, ◌∙◌, ap, cond}
 use Rattle.std.proofs.lemmas.List.{length-map}
 use Rattle.std.proofs.lemmas.Slice.Eq.{bytes_eq-Decides}
 use Rattle.std.specs.List.{list_any}
@@ -28,8 +28,8 @@ use Rattle.centre_core.specs.declared.event.Event.{Event}
 use Rattle.centre_core.specs.declared.event.Event.TheVariants.{AddArea, DropArea, Put, Cut}
 use Rattle.centre_core.specs.declared.refusal.Refusal.{Refusal}
 use Rattle.centre_core.proofs.AnyLemmas.{any_same}
+use Rattle.centre_core.proofs.UniqueLemmas.{no_check}
 use Rattle.centre_core.proofs.CountLemmas.{each_once, same_count, named_once, any_turned, among_more, among_new, both_or_it}
-use Rattle.centre_core.proofs.PageLemmas.{no_check}
 use Rattle.centre_core.proofs.RegisterLemmas.{not_not, said_or, unsaid_or}
 
 -- One entry further.

@@ -11,26 +11,28 @@ use Rattle.cbsp_ie.specs.declared.cell.Cell.{Cell}
 use Rattle.cbsp_messages.specs.PageText.{page_with}
 use Rattle.cbsp_messages.specs.Written.{Fits}
 use Rattle.cbsp_messages.specs.declared.message.Message.{Message}
-use Rattle.centre_core.proofs.PageLemmas.{content_has_pages, legal_has_pages}
+use Rattle.warning_book.specs.Book.{new_serial, next_serial, content_of}
+use Rattle.warning_book.specs.Content.{is_page, are_pages}
+use Rattle.warning_book.specs.Sound.{IsSound}
+use Rattle.warning_book.specs.declared.content.Content.{Content}
 use Rattle.centre_core.proofs.UniqueLemmas.{unless_ok, verdict_law}
+use Rattle.centre_core.proofs.WarningLemmas.{content_has_pages, legal_sound}
 use Rattle.centre_core.specs.Fits.{AnswerFits}
 use Rattle.centre_core.specs.InFlight.{in_flight}
 use Rattle.centre_core.specs.Legal.{Legal}
 use Rattle.centre_core.specs.OrderMessage.{listed, message_by, order_message}
-use Rattle.centre_core.specs.Pages.{HasPages}
 use Rattle.centre_core.specs.Pending.{first, most_cells, pending}
-use Rattle.centre_core.specs.Verdict.{are_pages, is_page, unless, law, verdict, add_bsc_checks, remove_bsc_checks, add_cell_checks, move_cell_checks, remove_cell_checks, add_area_checks, drop_area_checks, put_checks, cut_checks, issue_checks, issue_answer, link_up_checks, link_checks, send_checks, send_answer, report_checks, report_answer}
-use Rattle.centre_core.specs.Warnings.{book, content_of, issue_count, new_serial}
+use Rattle.centre_core.specs.Verdict.{unless, law, verdict, add_bsc_checks, remove_bsc_checks, add_cell_checks, move_cell_checks, remove_cell_checks, add_area_checks, drop_area_checks, put_checks, cut_checks, issue_checks, issue_answer, update_checks, update_answer, widen_checks, narrow_checks, stop_checks, forget_checks, link_up_checks, link_checks, send_checks, send_answer, report_checks, report_answer}
+use Rattle.centre_core.specs.Warnings.{book_of, warnings_of}
 use Rattle.centre_core.specs.declared.answer.Answer.{Answer}
 use Rattle.centre_core.specs.declared.answer.Answer.TheVariants.{Done, Link, Sent}
 use Rattle.centre_core.specs.declared.entry.Entry.{Entry}
 use Rattle.centre_core.specs.declared.event.Event.{Event}
-use Rattle.centre_core.specs.declared.event.Event.TheVariants.{AddBsc, RemoveBsc, AddCell, MoveCell, RemoveCell, AddArea, DropArea, Put, Cut, Issue, LinkUp, LinkDown, Send, Report}
+use Rattle.centre_core.specs.declared.event.Event.TheVariants.{AddBsc, RemoveBsc, AddCell, MoveCell, RemoveCell, AddArea, DropArea, Put, Cut, Issue, Update, Widen, Narrow, Stop, Forget, LinkUp, LinkDown, Send, Report}
 use Rattle.centre_core.specs.declared.order_maker.order.Order.{Order}
 use Rattle.centre_core.specs.declared.order_maker.order_kind.OrderKind.{OrderKind}
-use Rattle.centre_core.specs.declared.order_maker.order_kind.OrderKind.TheVariants.{Write, Kill}
+use Rattle.centre_core.specs.declared.order_maker.order_kind.OrderKind.TheVariants.{Write, Replace, Kill}
 use Rattle.centre_core.specs.declared.refusal.Refusal.{Refusal}
-use Rattle.centre_core.specs.declared.warning_book.content.Content.{Content}
 
 -- a cell takes four octets of a list
 listed_length : (cells : List Cell) → length (flat_map id_octets (map id_of_cell cells)) ≡ 4 * length cells
@@ -52,6 +54,9 @@ pages_fit pages h =
 message_fits : (order : Order) (kind : OrderKind) (content : Option Content) → length order.cells ≤ 1000 → IfSome content (λ c. are_pages c.pages ≡ true) → Fits (message_by order kind content)
 message_fits order Write (Some content) few good =
     record { cells = listed_fits order.cells few; counts = tt; failures = tt; pages = pages_fit content.pages good }
+message_fits order (Replace old) (Some content) few good =
+    record { cells = listed_fits order.cells few; counts = tt; failures = tt; pages = pages_fit content.pages good }
+message_fits order (Replace old) None few good = record { cells = listed_fits order.cells few; counts = tt; failures = tt; pages = tt }
 message_fits order Write None few good = record { cells = listed_fits order.cells few; counts = tt; failures = tt; pages = tt }
 message_fits order Kill content few good = record { cells = listed_fits order.cells few; counts = tt; failures = tt; pages = tt }
 
@@ -66,11 +71,11 @@ first_is_short : (orders : List Order) → IfSome (first orders) (λ order. leng
 first_is_short [] = tt
 first_is_short (order ∷ orders) = omega (arith, few_cells, take_few most_cells order.cells)
 
-sent_fits : (past : List Entry) (next : Option Order) (order : Order) (message : Message) → HasPages (book past) → IfSome next (λ o. length o.cells ≤ 1000) → send_answer past next ≡ Ok (Sent order message) → Fits message
+sent_fits : (past : List Entry) (next : Option Order) (order : Order) (message : Message) → IsSound (book_of past) → IfSome next (λ o. length o.cells ≤ 1000) → send_answer past next ≡ Ok (Sent order message) → Fits message
 sent_fits past None order message good few h = absurd (let no : send_answer past None ≡ Ok (Sent order message) = h in cc)
 sent_fits past (Some o) order message good few h =
-    let same : order_message o (content_of o.message_id o.serial (book past)) ≡ message = cc in
-    subst Fits same (message_fits o o.kind (content_of o.message_id o.serial (book past)) few (content_has_pages o.message_id o.serial (book past) good))
+    let same : order_message o (content_of o.message_id o.serial (warnings_of past)) ≡ message = cc in
+    subst Fits same (message_fits o o.kind (content_of o.message_id o.serial (warnings_of past)) few (content_has_pages o.message_id o.serial (warnings_of past) good.contents))
 
 no_done : (checks : List (Bool × Refusal)) (order : Order) (message : Message) → unless checks (Ok Done) ≡ Ok (Sent order message) → ⊥
 no_done checks order message h =
@@ -88,11 +93,15 @@ no_issue : (n : ℕ) (o : Option ℕ) (order : Order) (message : Message) → is
 no_issue n None order message e = cc
 no_issue n (Some s) order message e = cc
 
+no_update : (o : Option ℕ) (order : Order) (message : Message) → update_answer o ≡ Ok (Sent order message) → ⊥
+no_update None order message e = cc
+no_update (Some s) order message e = cc
+
 no_report : (report : Message) (o : Option Order) (order : Order) (message : Message) → report_answer report o ≡ Ok (Sent order message) → ⊥
 no_report report None order message e = cc
 no_report report (Some x) order message e = cc
 
-answer_fits : (past : List Entry) (event : Event) (answer : Answer) → HasPages (book past) → law past event ≡ Ok answer → AnswerFits answer
+answer_fits : (past : List Entry) (event : Event) (answer : Answer) → IsSound (book_of past) → law past event ≡ Ok answer → AnswerFits answer
 answer_fits past (AddBsc b) (Sent order message) good h = absurd (no_done (add_bsc_checks past b) order message h)
 answer_fits past (RemoveBsc b) (Sent order message) good h = absurd (no_done (remove_bsc_checks past b) order message h)
 answer_fits past (AddCell c b) (Sent order message) good h = absurd (no_done (add_cell_checks past c b) order message h)
@@ -102,7 +111,14 @@ answer_fits past (AddArea a) (Sent order message) good h = absurd (no_done (add_
 answer_fits past (DropArea a) (Sent order message) good h = absurd (no_done (drop_area_checks past a) order message h)
 answer_fits past (Put a s) (Sent order message) good h = absurd (no_done (put_checks past a s) order message h)
 answer_fits past (Cut a s) (Sent order message) good h = absurd (no_done (cut_checks past a s) order message h)
-answer_fits past (Issue notice names) (Sent order message) good h = absurd (no_issue (issue_count past + 1) (new_serial past notice) order message (unless_ok (issue_checks past notice names) (issue_answer (issue_count past + 1) (new_serial past notice)) (Sent order message) h))
+answer_fits past (Issue notice areas) (Sent order message) good h =
+    absurd (no_issue ((book_of past).issued + 1) (new_serial (book_of past) notice) order message (unless_ok (issue_checks past notice areas) (issue_answer ((book_of past).issued + 1) (new_serial (book_of past) notice)) (Sent order message) h))
+answer_fits past (Update n content) (Sent order message) good h =
+    absurd (no_update (next_serial (book_of past) n) order message (unless_ok (update_checks past n content) (update_answer (next_serial (book_of past) n)) (Sent order message) h))
+answer_fits past (Widen n a) (Sent order message) good h = absurd (no_done (widen_checks past n a) order message h)
+answer_fits past (Narrow n a) (Sent order message) good h = absurd (no_done (narrow_checks past n a) order message h)
+answer_fits past (Stop n) (Sent order message) good h = absurd (no_done (stop_checks past n) order message h)
+answer_fits past (Forget n) (Sent order message) good h = absurd (no_done (forget_checks past n) order message h)
 answer_fits past (LinkUp b) (Sent order message) good h = absurd (no_link (link_up_checks past b) (length past + 1) order message h)
 answer_fits past (LinkDown b generation) (Sent order message) good h = absurd (no_done (link_checks past b generation) order message h)
 answer_fits past (Send b generation) (Sent order message) good h =
@@ -113,4 +129,4 @@ answer_fits past event answer good h = tt
 -- what an event is answered after a legal past fits
 pub verdict_fits : (limit : ℕ) (past : List Entry) (event : Event) (answer : Answer) → Legal limit past → verdict limit past event ≡ Ok answer → AnswerFits answer
 verdict_fits limit past event answer legal h =
-    answer_fits past event answer (legal_has_pages limit past legal) (verdict_law limit past event answer h)
+    answer_fits past event answer (legal_sound limit past legal) (verdict_law limit past event answer h)

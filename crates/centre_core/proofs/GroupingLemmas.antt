@@ -1,5 +1,5 @@
 -- Sorting and grouping change no test of what the actions touch.
-use Rattle.std.proofs.Common.{◌≡◌, ℕ, Bool, true, false, ◌&&◌, ◌||◌, not, nat_eq, List, [], ◌∷◌, ◌++◌, refl, sym, ◌∙◌, ap, eqb-true}
+use Rattle.std.proofs.Common.{◌≡◌, ℕ, Bool, true, false, ◌&&◌, ◌||◌, nat_eq, List, [], ◌∷◌, refl, ◌∙◌, ap, eqb-true}
 use Rattle.std.specs.List.{list_any}
 use Rattle.cbsp_ie.specs.Cell.{cell_eq}
 use Rattle.cbsp_ie.specs.declared.cell.Cell.{Cell}
@@ -12,8 +12,8 @@ use Rattle.centre_core.specs.declared.entry.Entry.{Entry}
 use Rattle.centre_core.specs.declared.order_maker.action.Action.{Action}
 use Rattle.centre_core.specs.declared.order_maker.order.Order.{Order}
 use Rattle.centre_core.specs.declared.order_maker.order_kind.OrderKind.{OrderKind}
-use Rattle.centre_core.specs.declared.order_maker.order_kind.OrderKind.TheVariants.{Write, Kill}
-use Rattle.centre_core.proofs.AnyLemmas.{or_assoc, or_swap, or_none}
+use Rattle.centre_core.specs.declared.order_maker.order_kind.OrderKind.TheVariants.{Write, Replace, Kill}
+use Rattle.centre_core.proofs.AnyLemmas.{or_swap}
 
 -- an order names the cell with this message identifier, and what it does passes g
 abbrev pub tests : (OrderKind → ℕ → Bool) → Cell → ℕ → Order → Bool
@@ -25,9 +25,9 @@ touches g c m a = tests g c m (alone a)
 
 kind_same : (x y : OrderKind) → kind_eq x y ≡ true → x ≡ y
 kind_same Write Write h = refl
+kind_same (Replace old) (Replace other) h = ap (λ s. Replace s) (eqb-true old other h)
 kind_same Kill Kill h = refl
-kind_same Write Kill h = cc
-kind_same Kill Write h = cc
+kind_same x y h = cc
 
 pub first_true : (a b : Bool) → (a && b) ≡ true → a ≡ true
 first_true true b h = refl

@@ -1,8 +1,10 @@
 -- The pending orders, applied to what was reported, give the plan.
-use Rattle.std.proofs.Common.{◌≡◌, ℕ, Bool, true, false, ◌&&◌, ◌||◌, not, nat_eq, List, [], ◌∷◌, Option, Some, None, Result, Ok, Err, refl, sym, ◌∙◌, ap, subst, cond, eqb-true}
+use Rattle.std.proofs.Common.{◌≡◌, ℕ, Bool, true, false, ◌&&◌, ◌||◌, not, nat_eq, List, [], ◌∷◌, Result, Ok, Err, refl, sym, ◌∙◌, ap, cond, eqb-true}
 use Rattle.std.specs.List.{list_any}
 use Rattle.cbsp_ie.specs.declared.cell.Cell.{Cell}
-use Rattle.centre_core.specs.Actions.{needs, is_to_kill}
+use Rattle.warning_book.specs.Book.{versions}
+use Rattle.warning_book.specs.declared.warning.Warning.{Warning}
+use Rattle.centre_core.specs.Actions.{needs}
 use Rattle.centre_core.specs.Cover.{is_covered}
 use Rattle.centre_core.specs.Headline.{airs, clears, applied, Agrees, PendingGivesPlan}
 use Rattle.centre_core.specs.Legal.{Legal, Call, with_verdict, after_calls}
@@ -14,24 +16,25 @@ use Rattle.centre_core.specs.Pending.{pending}
 use Rattle.centre_core.specs.Places.{place, cells}
 use Rattle.centre_core.specs.Plan.{is_place, wanted, planned}
 use Rattle.centre_core.specs.Presence.{is_among, presence, is_absent, is_on_air}
-use Rattle.centre_core.specs.Warnings.{Warning, book, versions, is_version, has_key, is_key}
+use Rattle.centre_core.specs.Warnings.{book_of, warnings_of, is_version, has_key, is_key}
 use Rattle.centre_core.specs.declared.entry.Entry.{Entry}
 use Rattle.centre_core.specs.declared.mirror.presence.Presence.{Presence}
 use Rattle.centre_core.specs.declared.mirror.presence.Presence.TheVariants.{Absent, OnAir, Unknown}
 use Rattle.centre_core.proofs.AnyLemmas.{and_none, any_same, any_pulled}
 use Rattle.centre_core.proofs.ApplyingLemmas.{applied_airs, applied_clears}
-use Rattle.centre_core.proofs.ActingLemmas.{does, any_all, writing, killing, does_writing, does_killing}
+use Rattle.centre_core.proofs.ActingLemmas.{does, any_all, airing, clearing, is_surplus, does_airing, does_clearing}
 use Rattle.centre_core.proofs.GroupingLemmas.{any_pending}
 use Rattle.centre_core.proofs.KnownLemmas.{known_place, known_presence}
 use Rattle.centre_core.proofs.UniqueLemmas.{unique, one_other}
+use Rattle.centre_core.proofs.WarningLemmas.{legal_sound}
 
 -- the warning plans the key
 abbrev plans : List Entry → ℕ → Cell → ℕ → ℕ → Warning → Bool
 plans past b c m s w = nat_eq w.message_id m && (nat_eq w.serial s && wanted past b w c)
 
-airs_at : (past : List Entry) (b : ℕ) (c : Cell) (m s : ℕ) (w : Warning) → (nat_eq w.message_id m && (is_among c (cells past) && does (writing s) past b w c)) ≡ ((is_among c (cells past) && not (is_on_air (presence past b c m s))) && plans past b c m s w)
+airs_at : (past : List Entry) (b : ℕ) (c : Cell) (m s : ℕ) (w : Warning) → (nat_eq w.message_id m && (is_among c (cells past) && does (airing s) past b w c)) ≡ ((is_among c (cells past) && not (is_on_air (presence past b c m s))) && plans past b c m s w)
 airs_at past b c m s w =
-    ap (λ t. nat_eq w.message_id m && (is_among c (cells past) && t)) (does_writing past b w c s)
+    ap (λ t. nat_eq w.message_id m && (is_among c (cells past) && t)) (does_airing past b w c s)
     ∙ step (nat_eq w.message_id m) refl (nat_eq w.serial s) refl
   where
     table : (k wd on : Bool) → (k && ((wd && not on) && true)) ≡ ((k && not on) && wd)
@@ -57,9 +60,9 @@ airs_at past b c m s w =
     step true e false f = rw (e, f) (no_serial (is_among c (cells past)) (needs past b w c) ∙ sym (and_none (is_among c (cells past) && not (is_on_air (presence past b c m s)))))
     step false e u f = rw e (sym (and_none (is_among c (cells past) && not (is_on_air (presence past b c m s)))))
 
-clears_at : (past : List Entry) (b : ℕ) (c : Cell) (m s : ℕ) (w : Warning) → (nat_eq w.message_id m && (is_among c (cells past) && does (killing s) past b w c)) ≡ ((is_among c (cells past) && not (is_absent (presence past b c m s))) && (has_key m s w && not (plans past b c m s w)))
+clears_at : (past : List Entry) (b : ℕ) (c : Cell) (m s : ℕ) (w : Warning) → (nat_eq w.message_id m && (is_among c (cells past) && does (clearing s) past b w c)) ≡ ((is_among c (cells past) && not (is_absent (presence past b c m s))) && (has_key m s w && not (plans past b c m s w)))
 clears_at past b c m s w =
-    ap (λ t. nat_eq w.message_id m && (is_among c (cells past) && t)) (does_killing past b w c s)
+    ap (λ t. nat_eq w.message_id m && (is_among c (cells past) && t)) (does_clearing past b w c s)
     ∙ step (nat_eq w.message_id m) refl
   where
     table : (k v p a : Bool) → (k && (v && (not p && not a))) ≡ ((k && not a) && (v && not p))
@@ -71,7 +74,7 @@ clears_at past b c m s w =
     table true false p false = refl
     table false v p a = refl
 
-    step : (t : Bool) → nat_eq w.message_id m ≡ t → (nat_eq w.message_id m && (is_among c (cells past) && (list_any (is_version s) (versions w) && is_to_kill past b w c s))) ≡ ((is_among c (cells past) && not (is_absent (presence past b c m s))) && (has_key m s w && not (plans past b c m s w)))
+    step : (t : Bool) → nat_eq w.message_id m ≡ t → (nat_eq w.message_id m && (is_among c (cells past) && (list_any (is_version s) (versions w) && is_surplus past b w c s))) ≡ ((is_among c (cells past) && not (is_absent (presence past b c m s))) && (has_key m s w && not (plans past b c m s w)))
     step true e =
         let at_m : w.message_id ≡ m = eqb-true w.message_id m e in
         let here : (is_among c (cells past) && (list_any (is_version s) (versions w) && (not (nat_eq w.serial s && wanted past b w c) && not (is_absent (presence past b c w.message_id s))))) ≡ ((is_among c (cells past) && not (is_absent (presence past b c m s))) && (list_any (is_version s) (versions w) && not (nat_eq w.serial s && wanted past b w c))) =
@@ -83,10 +86,10 @@ clears_at past b c m s w =
 -- the pending orders put the key on air just where it is planned and not on air
 airs_pending : (past : List Entry) (b : ℕ) (c : Cell) (m s : ℕ) → list_any (airs c m s) (pending past b) ≡ ((is_among c (cells past) && not (is_on_air (presence past b c m s))) && planned past b c m s)
 airs_pending past b c m s =
-    any_pending (writing s) c m past b
-    ∙ any_all (writing s) c m past b
-    ∙ any_same (λ w. nat_eq w.message_id m && (is_among c (cells past) && does (writing s) past b w c)) (λ w. (is_among c (cells past) && not (is_on_air (presence past b c m s))) && plans past b c m s w) (airs_at past b c m s) (book past)
-    ∙ any_pulled (is_among c (cells past) && not (is_on_air (presence past b c m s))) (plans past b c m s) (book past)
+    any_pending (airing s) c m past b
+    ∙ any_all (airing s) c m past b
+    ∙ any_same (λ w. nat_eq w.message_id m && (is_among c (cells past) && does (airing s) past b w c)) (λ w. (is_among c (cells past) && not (is_on_air (presence past b c m s))) && plans past b c m s w) (airs_at past b c m s) (warnings_of past)
+    ∙ any_pulled (is_among c (cells past) && not (is_on_air (presence past b c m s))) (plans past b c m s) (warnings_of past)
 
 key_of_plan : (past : List Entry) (b : ℕ) (c : Cell) (m s : ℕ) (w : Warning) → plans past b c m s w ≡ true → has_key m s w ≡ true
 key_of_plan past b c m s w h = step (nat_eq w.message_id m) (nat_eq w.serial s) h
@@ -99,11 +102,11 @@ key_of_plan past b c m s w h = step (nat_eq w.message_id m) (nat_eq w.serial s) 
 -- and take it off just where it is a key of a warning that isn't planned and not absent
 clears_pending : (limit : ℕ) (past : List Entry) → Legal limit past → (b : ℕ) (c : Cell) (m s : ℕ) → is_key past m s ≡ true → list_any (clears c m s) (pending past b) ≡ ((is_among c (cells past) && not (is_absent (presence past b c m s))) && not (planned past b c m s))
 clears_pending limit past legal b c m s key =
-    any_pending (killing s) c m past b
-    ∙ any_all (killing s) c m past b
-    ∙ any_same (λ w. nat_eq w.message_id m && (is_among c (cells past) && does (killing s) past b w c)) (λ w. (is_among c (cells past) && not (is_absent (presence past b c m s))) && (has_key m s w && not (plans past b c m s w))) (clears_at past b c m s) (book past)
-    ∙ any_pulled (is_among c (cells past) && not (is_absent (presence past b c m s))) (λ w. has_key m s w && not (plans past b c m s w)) (book past)
-    ∙ ap (λ t. (is_among c (cells past) && not (is_absent (presence past b c m s))) && t) (one_other (has_key m s) (plans past b c m s) (key_of_plan past b c m s) (book past) (unique limit past legal m s))
+    any_pending (clearing s) c m past b
+    ∙ any_all (clearing s) c m past b
+    ∙ any_same (λ w. nat_eq w.message_id m && (is_among c (cells past) && does (clearing s) past b w c)) (λ w. (is_among c (cells past) && not (is_absent (presence past b c m s))) && (has_key m s w && not (plans past b c m s w))) (clears_at past b c m s) (warnings_of past)
+    ∙ any_pulled (is_among c (cells past) && not (is_absent (presence past b c m s))) (λ w. has_key m s w && not (plans past b c m s w)) (warnings_of past)
+    ∙ ap (λ t. (is_among c (cells past) && not (is_absent (presence past b c m s))) && t) (one_other (has_key m s) (plans past b c m s) (key_of_plan past b c m s) (warnings_of past) (unique (book_of past) (legal_sound limit past legal) m s))
     ∙ ap (λ t. (is_among c (cells past) && not (is_absent (presence past b c m s))) && (t && not (planned past b c m s))) key
 
 -- a planned cell was registered
@@ -143,7 +146,7 @@ pending_gives_plan limit past legal = record {
   each = λ b c m s key.
       decided (is_among c (cells past)) (presence past b c m s) (list_any (airs c m s) (pending past b)) (list_any (clears c m s) (pending past b)) (planned past b c m s) (applied (pending past b) c m s (presence past b c m s))
       (airs_pending past b c m s) (clears_pending limit past legal b c m s key)
-      (planned_known past b c m s (book past)) (known_presence limit past legal b c m s)
+      (planned_known past b c m s (warnings_of past)) (known_presence limit past legal b c m s)
       (applied_airs (pending past b) c m s (presence past b c m s)) (applied_clears (pending past b) c m s (presence past b c m s));
 }
 

@@ -1,21 +1,22 @@
 -- A cell that has a place, stands in an order in flight, or has something on air was registered once.
-use Rattle.std.proofs.Common.{◌≡◌, ℕ, zero, suc, Bool, true, false, ◌&&◌, ◌||◌, not, nat_eq, List, [], ◌∷◌, ◌++◌, Option, Some, None, Result, Ok, Err, unwrap_or, take, refl, sym, ◌∙◌, ap, cond, eqb-true, eq-eqb}
+use Rattle.std.proofs.Common.{◌≡◌, ℕ, zero, suc, Bool, true, false, ◌&&◌, ◌||◌, nat_eq, List, [], ◌∷◌, Option, Some, None, Ok, unwrap_or, take, refl, sym, ◌∙◌, ap, cond, eq-eqb}
 use Rattle.std.specs.List.{list_any}
 use Rattle.cbsp_ie.specs.Cell.{cell_eq}
 use Rattle.cbsp_ie.specs.Equality.{cell_decides}
 use Rattle.cbsp_ie.specs.declared.cell.Cell.{Cell}
-use Rattle.cbsp_messages.specs.declared.message.Message.{Message}
+use Rattle.warning_book.specs.Book.{content_of}
+use Rattle.warning_book.specs.declared.warning.Warning.{Warning}
 use Rattle.centre_core.specs.Past.{with_new}
 use Rattle.centre_core.specs.InFlight.{in_flight, flight_mark, sent_order, is_replied, outcome}
 use Rattle.centre_core.specs.Legal.{Legal}
 use Rattle.centre_core.specs.Links.{is_up}
 use Rattle.centre_core.specs.OrderMessage.{order_message}
-use Rattle.centre_core.specs.Pending.{pending, first, shortened, most_cells}
+use Rattle.centre_core.specs.Pending.{pending, first, most_cells}
 use Rattle.centre_core.specs.Places.{place, place_mark, added_cell, cells}
 use Rattle.centre_core.specs.Plan.{is_place}
-use Rattle.centre_core.specs.Presence.{Sets, Leaves, is_among, presence, presence_mark, effect, effect_at, flight_effect, order_effect, new_effect, is_absent}
-use Rattle.centre_core.specs.Verdict.{verdict, send, send_checks, send_answer}
-use Rattle.centre_core.specs.Warnings.{Warning, book, content_of}
+use Rattle.centre_core.specs.Presence.{Sets, Leaves, is_among, presence, presence_mark, effect, flight_effect, is_absent}
+use Rattle.centre_core.specs.Verdict.{verdict, send_checks, send_answer}
+use Rattle.centre_core.specs.Warnings.{warnings_of}
 use Rattle.centre_core.specs.declared.answer.Answer.{Answer}
 use Rattle.centre_core.specs.declared.answer.Answer.TheVariants.{Sent}
 use Rattle.centre_core.specs.declared.entry.Entry.{Entry}
@@ -27,10 +28,9 @@ use Rattle.centre_core.specs.declared.order_maker.order.Order.{Order}
 use Rattle.centre_core.specs.declared.order_maker.order_kind.OrderKind.{OrderKind}
 use Rattle.centre_core.specs.declared.outcome.Outcome.{Outcome}
 use Rattle.centre_core.specs.declared.outcome.Outcome.TheVariants.{Silent}
-use Rattle.centre_core.proofs.AnyLemmas.{or_none}
 use Rattle.centre_core.proofs.CountLemmas.{among_more, among_new}
 use Rattle.centre_core.proofs.ActingLemmas.{does, any_all}
-use Rattle.centre_core.proofs.GroupingLemmas.{first_true, second_true, tests, any_pending}
+use Rattle.centre_core.proofs.GroupingLemmas.{second_true, tests, any_pending}
 use Rattle.centre_core.proofs.UniqueLemmas.{unless_ok, verdict_law}
 
 placed_after : (d : Cell) (other : ℕ) (before : List Entry) (b : ℕ) (c : Cell) → (is_place (place before c) b ≡ true → is_among c (cells before) ≡ true) → is_place (unwrap_or (cond (cell_eq d c) (Some (Some other)) None) (place before c)) b ≡ true → is_among c (with_new cell_eq (Some d) (cells before)) ≡ true
@@ -74,8 +74,8 @@ pending_known past b c order orders e h =
     let here : tests always c order.message_id order ≡ true = ap (λ t. (t && is_among c order.cells) && true) (eq-eqb order.message_id order.message_id refl) ∙ ap (λ t. t && true) h in
     let first_one : list_any (tests always c order.message_id) (order ∷ orders) ≡ true = ap (λ t. t || list_any (tests always c order.message_id) orders) here in
     let all : list_any (tests always c order.message_id) (pending past b) ≡ true = rw e first_one in
-    let touched : list_any (λ w. nat_eq w.message_id order.message_id && (is_among c (cells past) && does always past b w c)) (book past) ≡ true = sym (any_pending always c order.message_id past b ∙ any_all always c order.message_id past b) ∙ all in
-    any_common (is_among c (cells past)) (λ (w : Warning). nat_eq w.message_id order.message_id) (λ (w : Warning). does always past b w c) (book past) touched
+    let touched : list_any (λ w. nat_eq w.message_id order.message_id && (is_among c (cells past) && does always past b w c)) (warnings_of past) ≡ true = sym (any_pending always c order.message_id past b ∙ any_all always c order.message_id past b) ∙ all in
+    any_common (is_among c (cells past)) (λ (w : Warning). nat_eq w.message_id order.message_id) (λ (w : Warning). does always past b w c) (warnings_of past) touched
 
 among_front : (n : ℕ) (c : Cell) (cs : List Cell) → is_among c (take n cs) ≡ true → is_among c cs ≡ true
 among_front zero c cs h = cc
@@ -99,7 +99,7 @@ first_known past b c (order ∷ orders) e h = pending_known past b c order order
 sent_first : (past : List Entry) (o : Option Order) (a : Answer) → send_answer past o ≡ Ok a → sent_order a ≡ o
 sent_first past None a h = cc
 sent_first past (Some order) a h =
-    let same : Sent order (order_message order (content_of order.message_id order.serial (book past))) ≡ a = cc in
+    let same : Sent order (order_message order (content_of order.message_id order.serial (warnings_of past))) ≡ a = cc in
     ap sent_order (sym same)
 
 send_known : (limit : ℕ) (before : List Entry) (b generation : ℕ) (a : Answer) (c : Cell) → verdict limit before (Send b generation) ≡ Ok a → names (sent_order a) c ≡ true → is_among c (cells before) ≡ true
@@ -140,10 +140,10 @@ known_flight limit (e ∷ before) legal b c h = flight_after limit before e.even
 
 flight_known : (k : Bool) (flight : Option Order) (o : Outcome) (p : Presence) (c : Cell) (m s : ℕ) → (names flight c ≡ true → k ≡ true) → (is_absent p ≡ false → k ≡ true) → is_absent (unwrap_or (presence_mark (flight_effect flight o c m s)) p) ≡ false → k ≡ true
 flight_known k None o p c m s named known h = known h
-flight_known k (Some order) o p c m s named known h = step (nat_eq order.message_id m && (nat_eq order.serial s && is_among c order.cells)) refl
+flight_known k (Some order) o p c m s named known h = step (nat_eq order.message_id m && is_among c order.cells) refl
   where
-    step : (t : Bool) → (nat_eq order.message_id m && (nat_eq order.serial s && is_among c order.cells)) ≡ t → k ≡ true
-    step true e = named (second_true (nat_eq order.serial s) (is_among c order.cells) (second_true (nat_eq order.message_id m) (nat_eq order.serial s && is_among c order.cells) e))
+    step : (t : Bool) → (nat_eq order.message_id m && is_among c order.cells) ≡ t → k ≡ true
+    step true e = named (second_true (nat_eq order.message_id m) (is_among c order.cells) e)
     step false e = let there : is_absent p ≡ false = rw e at h in known there
 
 presence_after : (limit : ℕ) (before : List Entry) → Legal limit before → (e : Event) (a : Answer) (b : ℕ) (c : Cell) (m s : ℕ) → (is_absent (presence before b c m s) ≡ false → is_among c (cells before) ≡ true) → is_absent (unwrap_or (presence_mark (effect b c m s e a (is_up before b) (in_flight before b))) (presence before b c m s)) ≡ false → is_among c (with_new cell_eq (added_cell e) (cells before)) ≡ true

@@ -1,11 +1,9 @@
 pub mod PastLemmas
 pub mod NamedLemmas
-pub mod BookLemmas
-pub mod CodeLemmas
 pub mod OrderLemmas
-pub mod PageLemmas
 pub mod FitsLemmas
 pub mod AnyLemmas
+pub mod WarningLemmas
 pub mod ApplyingLemmas
 pub mod GroupingLemmas
 pub mod ActingLemmas

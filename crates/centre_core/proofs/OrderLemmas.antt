@@ -1,33 +1,9 @@
--- How a list of actions is made, put in order and joined to orders.
-use Rattle.std.proofs.Common.{◌≡◌, ℕ, Bool, true, List, [], ◌∷◌, ◌++◌, Option, Some, None, nat_eq, reverse, refl, ap, ◌∙◌}
-use Rattle.std.proofs.lemmas.Bool.{eq-eqb}
-use Rattle.centre_core.proofs.BookLemmas.{book_of_journal}
-use Rattle.centre_core.specs.Actions.{actions_of, all_actions}
-use Rattle.centre_core.specs.Issued.{issued_by, with_issued, forward, actions_by, actions_along}
+-- How a list is put in order, and how actions are joined to orders.
+use Rattle.std.proofs.Common.{◌≡◌, Bool, List, [], ◌∷◌, ◌++◌, refl, ap}
 use Rattle.centre_core.specs.Pending.{joined, grouped}
-use Rattle.centre_core.specs.Places.{cells}
 use Rattle.centre_core.specs.Sorting.{put_by, sorted_by}
-use Rattle.centre_core.specs.Warnings.{Warning}
-use Rattle.centre_core.specs.declared.entry.Entry.{Entry}
 use Rattle.centre_core.specs.declared.order_maker.action.Action.{Action}
 use Rattle.centre_core.specs.declared.order_maker.order.Order.{Order}
-
-pub nat_eq_same : (n : ℕ) → nat_eq n n ≡ true
-nat_eq_same n = eq-eqb n n refl
-
-actions_with : (past : List Entry) (b : ℕ) (o : Option Warning) (ws : List Warning) → actions_of past b (with_issued o ws) ≡ actions_by past b o (cells past) ++ actions_of past b ws
-actions_with past b None ws = refl
-actions_with past b (Some w) ws = refl
-
-actions_forward : (past : List Entry) (b : ℕ) (journal : List Entry) → actions_of past b (forward journal) ≡ actions_along past b (cells past) journal
-actions_forward past b [] = refl
-actions_forward past b (e ∷ later) =
-    actions_with past b (issued_by e.event e.answer) (forward later) ∙ ap (λ xs. actions_by past b (issued_by e.event e.answer) (cells past) ++ xs) (actions_forward past b later)
-
--- the actions are those for what the entries issue, one entry after another
-pub actions_of_journal : (journal : List Entry) (b : ℕ) → all_actions (reverse journal) b ≡ actions_along (reverse journal) b (cells (reverse journal)) journal
-actions_of_journal journal b =
-    ap (actions_of (reverse journal) b) (book_of_journal journal) ∙ actions_forward (reverse journal) b journal
 
 -- put in order among others, the last first
 abbrev pub sorted_onto : {A : Type 0} → (A → A → Bool) → List A → List A → List A

@@ -1,5 +1,5 @@
 -- What the register tells, counts and refuses is what the entries say.
-use Rattle.std.proofs.Common.{◌≡◌, ◌⊎◌, inl, inr, subst, ℕ, ◌+◌, ◌≤◌, Bool, true, false, ◌&&◌, ◌||◌, not, nat_eq, nat_le, ltb, List, [], ◌∷◌, Option, Some, None, Result, Ok, Err, unwrap_or, length, map, refl, sym, ◌∙◌, ap, cond, eqb-true, eq-eqb}
+use Rattle.std.proofs.Common.{◌≡◌, ◌⊎◌, inl, inr, subst, ℕ, Bool, true, false, ◌&&◌, ◌||◌, not, nat_eq, ltb, List, [], ◌∷◌, Option, Some, None, Result, Ok, Err, unwrap_or, length, map, refl, sym, ◌∙◌, ap, cond, eqb-true, eq-eqb}
 use Rattle.std.proofs.lemmas.List.{length-map}
 use Rattle.std.specs.Cmp.{unsigned_Decides}
 use Rattle.std.specs.List.{list_any, list_all}
@@ -19,7 +19,7 @@ use Rattle.cell_register.specs.declared.refusal.Refusal as register_refusal
 use Rattle.cell_register.specs.declared.refusal.Refusal.TheVariants as register_refusal_is
 use Rattle.centre_core.specs.Kept.{IsRegisterOf, Gives, register_after}
 use Rattle.centre_core.specs.Links.{bsc_mark, bscs, is_bsc, bsc_count, added_bsc}
-use Rattle.centre_core.specs.Past.{count_of, named, with_new}
+use Rattle.centre_core.specs.Past.{with_new}
 use Rattle.centre_core.specs.Places.{place_mark, place, cells, is_registered, cell_count, added_cell}
 use Rattle.centre_core.specs.Plan.{is_place}
 use Rattle.centre_core.specs.Refusals.{of_register}
@@ -30,9 +30,9 @@ use Rattle.centre_core.specs.declared.entry.Entry.{Entry}
 use Rattle.centre_core.specs.declared.event.Event.{Event}
 use Rattle.centre_core.specs.declared.event.Event.TheVariants.{AddBsc, RemoveBsc, AddCell, MoveCell, RemoveCell}
 use Rattle.centre_core.specs.declared.refusal.Refusal.{Refusal}
+use Rattle.centre_core.proofs.UniqueLemmas.{no_check}
 use Rattle.centre_core.proofs.CountLemmas.{each_once, same_count, named_once, turned, any_turned, among_more, among_new, both_or_it, or_right}
 use Rattle.centre_core.proofs.KnownLemmas.{known_place}
-use Rattle.centre_core.proofs.PageLemmas.{no_check}
 
 -- One entry further.
 

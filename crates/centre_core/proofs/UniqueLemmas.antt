@@ -1,22 +1,21 @@
 -- At most one warning of a legal past's book has a key.
-use Rattle.std.proofs.Common.{◌≡◌, ℕ, zero, suc, ◌+◌, ◌*◌, ◌/◌, ◌%◌, ◌<◌, ◌≤◌, Bool, true, false, ◌&&◌, ◌||◌, not, nat_eq, List, [], ◌∷◌, ◌++◌, Option, Some, None, Result, Ok, Err, refl, sym, ◌∙◌, ap, cond, find, length, eqb-true, eq-eqb, arith, nat_le}
-use Rattle.std.specs.List.{list_any, range_with_len}
-use Rattle.std.specs.Option.{option_map}
-use Rattle.centre_core.specs.Past.{one, sum_of, count_of}
-use Rattle.centre_core.specs.Serials.{scope_number, serial_of, code_of, every_code, least_free}
-use Rattle.centre_core.specs.Legal.{Legal}
-use Rattle.centre_core.specs.Verdict.{verdict, law, unless, issue, issue_checks, issue_answer}
-use Rattle.centre_core.specs.Warnings.{Warning, Version, book, book_after, issued, versions, has_key, codes_of, new_serial, issue_count, is_version, is_key}
+use Rattle.std.proofs.Common.{◌≡◌, ℕ, ◌+◌, ◌≤◌, Bool, true, false, ◌&&◌, ◌||◌, not, nat_eq, nat_le, ltb, List, [], ◌∷◌, Result, Ok, Err, refl, sym, ◌∙◌, ap, cond, map, length, eqb-true, eq-eqb, arith}
+use Rattle.std.specs.List.{list_any, list_all}
+use Rattle.std.proofs.lemmas.Bool.{and_parts, and_from, or_parts}
+use Rattle.serials.specs.Serials.{code_of}
+use Rattle.warning_book.specs.Book.{State}
+use Rattle.warning_book.specs.Sound.{is_older, has_serials, key_of, is_same_key, shares_code, IsSound}
+use Rattle.warning_book.specs.declared.version.Version.{Version}
+use Rattle.warning_book.specs.declared.warning.Warning.{Warning}
+use Rattle.centre_core.specs.Past.{one, count_of}
+use Rattle.centre_core.specs.Verdict.{verdict, law, unless}
+use Rattle.centre_core.specs.Warnings.{has_key, is_version}
 use Rattle.centre_core.specs.declared.answer.Answer.{Answer}
-use Rattle.centre_core.specs.declared.answer.Answer.TheVariants as answer
 use Rattle.centre_core.specs.declared.entry.Entry.{Entry}
 use Rattle.centre_core.specs.declared.event.Event.{Event}
-use Rattle.centre_core.specs.declared.event.Event.TheVariants.{AddBsc, AddCell, AddArea, Put, Issue, LinkUp, Send, Report}
 use Rattle.centre_core.specs.declared.refusal.Refusal.{Refusal}
 use Rattle.centre_core.specs.declared.refusal.Refusal.TheVariants as refusal
-use Rattle.centre_core.specs.declared.warning_book.notice.Notice.{Notice}
-use Rattle.centre_core.proofs.AnyLemmas.{any_append, any_implies}
-use Rattle.centre_core.proofs.CountLemmas.{or_right}
+use Rattle.centre_core.proofs.AnyLemmas.{any_implies}
 
 -- an answer that is none of the refusals comes after all checks
 pub unless_ok : (checks : List (Bool × Refusal)) (r : Result Answer Refusal) (a : Answer) → unless checks r ≡ Ok a → r ≡ Ok a
@@ -26,6 +25,17 @@ unless_ok (check ∷ checks) r a h = step (unless_ok checks r a) check.0 h
     step : (unless checks r ≡ Ok a → r ≡ Ok a) → (t : Bool) → cond t (Err check.1) (unless checks r) ≡ Ok a → r ≡ Ok a
     step rest true e = cc
     step rest false e = rest e
+
+-- each of the checks fails to hold
+abbrev pub NoneHolds : List (Bool × Refusal) → Type 0
+NoneHolds [] = Unit {0}
+NoneHolds (check ∷ checks) = (check.0 ≡ false) × NoneHolds checks
+
+-- no check of an accepted event held
+pub no_check : (checks : List (Bool × Refusal)) (r : Result Answer Refusal) (a : Answer) → unless checks r ≡ Ok a → NoneHolds checks
+no_check [] r a h = tt
+no_check ((true, refusal) ∷ checks) r a h = cc
+no_check ((false, refusal) ∷ checks) r a h = (refl, no_check checks r a h)
 
 -- what is accepted was not refused because the journal is full
 pub verdict_law : (limit : ℕ) (past : List Entry) (e : Event) (a : Answer) → verdict limit past e ≡ Ok a → law past e ≡ Ok a
@@ -40,14 +50,6 @@ count_none p (x ∷ xs) h = step (count_none p xs) (p x) refl h
     step rest true e g = cc
     step rest false e g = let none : count_of p xs ≡ 0 = rest g in let here : one (p x) ≡ 0 = rw e refl in omega arith
 
-count_append : {X : Type 0} (p : X → Bool) (xs ys : List X) → count_of p (xs ++ ys) ≡ count_of p xs + count_of p ys
-count_append p [] ys = omega arith
-count_append p (x ∷ xs) ys = let rest : count_of p (xs ++ ys) ≡ count_of p xs + count_of p ys = count_append p xs ys in omega arith
-
-none_first : (a b : Bool) → (a || b) ≡ false → a ≡ false
-none_first true b h = h
-none_first false b h = refl
-
 -- what no element passes where the count is 0
 any_none : {X : Type 0} (p : X → Bool) (xs : List X) → count_of p xs ≡ 0 → list_any p xs ≡ false
 any_none p [] h = refl
@@ -57,134 +59,66 @@ any_none p (x ∷ xs) h = step (any_none p xs) (p x) refl h
     step rest true e g = absurd (omega arith)
     step rest false e g = rw e (rest (omega arith))
 
--- the first that passes does pass
-find_passes : (p : ℕ → Bool) (xs : List ℕ) (x : ℕ) → find p xs ≡ Some x → p x ≡ true
-find_passes p [] x h = cc
-find_passes p (y ∷ ys) x h = step (find_passes p ys x) (p y) refl h
+-- the versions of a warning have its code
+version_code : (k s : ℕ) (vs : List Version) → list_all (is_older k) vs ≡ true → list_any (is_version s) vs ≡ true → nat_eq (code_of k) (code_of s) ≡ true
+version_code k s [] h g = cc
+version_code k s (v ∷ vs) h g = step (version_code k s vs) (and_parts (is_older k v) (list_all (is_older k) vs) h) (nat_eq v.serial s) refl g
   where
-    step : (find p ys ≡ Some x → p x ≡ true) → (t : Bool) → p y ≡ t → cond t (Some y) (find p ys) ≡ Some x → p x ≡ true
-    step rest true e g = let same : y ≡ x = cc in rw (← same) e
-    step rest false e g = rest g
+    step : (list_all (is_older k) vs ≡ true → list_any (is_version s) vs ≡ true → nat_eq (code_of k) (code_of s) ≡ true) → (is_older k v ≡ true) × (list_all (is_older k) vs ≡ true) → (t : Bool) → nat_eq v.serial s ≡ t → (t || list_any (is_version s) vs) ≡ true → nat_eq (code_of k) (code_of s) ≡ true
+    step rest parts true e f =
+        let same : v.serial ≡ s = eqb-true v.serial s e in
+        let code : code_of v.serial ≡ code_of k = eqb-true (code_of v.serial) (code_of k) (and_parts (ltb v.serial k) (nat_eq (code_of v.serial) (code_of k)) parts.0).1 in
+        eq-eqb (code_of k) (code_of s) (sym code ∙ ap code_of same)
+    step rest parts false e f = rest parts.1 f
 
--- and it is one of the numbers looked through
-find_within : (p : ℕ → Bool) (from n x : ℕ) → find p (range_with_len from n) ≡ Some x → x < from + n
-find_within p from zero x h = cc
-find_within p from (suc n) x h = step (find_within p (from + 1) n x) (p from) h
+own_code : (w : Warning) (s : ℕ) → has_serials w ≡ true → (nat_eq w.serial s || list_any (is_version s) w.outdated) ≡ true → nat_eq (code_of w.serial) (code_of s) ≡ true
+own_code w s older h = step (nat_eq w.serial s) refl h
   where
-    step : (find p (range_with_len (from + 1) n) ≡ Some x → x < (from + 1) + n) → (t : Bool) → cond t (Some from) (find p (range_with_len (from + 1) n)) ≡ Some x → x < from + suc n
-    step rest true g = let same : from ≡ x = cc in omega arith
-    step rest false g = let below : x < (from + 1) + n = rest g in omega arith
-
-code_below : (used : List ℕ) (code : ℕ) → least_free used ≡ Some code → code < 1024
-unfolding every_code
-code_below used code h = let below : code < 0 + 1024 = find_within (λ k. not (list_any (nat_eq k) used)) 0 1024 code h in omega arith
-
-not_not : (t : Bool) → not t ≡ true → t ≡ false
-not_not true h = cc
-not_not false h = refl
-
-code_free : (used : List ℕ) (code : ℕ) → least_free used ≡ Some code → list_any (nat_eq code) used ≡ false
-code_free used code h = not_not (list_any (nat_eq code) used) (find_passes (λ k. not (list_any (nat_eq k) used)) every_code code h)
-
--- the code of a new serial number is the one that it was made with
-code_back : (scope code : ℕ) → code < 1024 → code_of (serial_of scope code 0) ≡ code
-code_back scope code below = omega arith
-
--- the code of a warning that was issued was free
-issue_free : (k scope n t : ℕ) (used : List ℕ) → issue_answer k (option_map (λ code. serial_of scope code 0) (least_free used)) ≡ Ok (answer.Issued n t) → list_any (nat_eq (code_of t)) used ≡ false
-issue_free k scope n t used h = step (least_free used) refl h
-  where
-    step : (o : Option ℕ) → least_free used ≡ o → issue_answer k (option_map (λ code. serial_of scope code 0) o) ≡ Ok (answer.Issued n t) → list_any (nat_eq (code_of t)) used ≡ false
-    step None e g = cc
-    step (Some code) e g =
-        let same : serial_of scope code 0 ≡ t = cc in
-        let back : code_of (serial_of scope code 0) ≡ code = code_back scope code (code_below used code e) in
-        let made : code_of t ≡ code = ap code_of (sym same) ∙ back in
-        rw made (code_free used code e)
-
--- every warning has its current version alone
-abbrev pub AllNew : List Warning → Type 0
-AllNew [] = Unit {0}
-AllNew (w ∷ ws) = (w.outdated ≡ []) × AllNew ws
-
-new_append : (xs ys : List Warning) → AllNew xs → AllNew ys → AllNew (xs ++ ys)
-new_append [] ys h g = g
-new_append (w ∷ ws) ys h g = (h.0, new_append ws ys h.1 g)
-
-new_issued : (notice : Notice) (names : List (List ℕ)) (a : Answer) → AllNew (issued notice names a)
-new_issued notice names (answer.Issued n s) = (refl, tt)
-new_issued notice names other = tt
-
-new_after : (e : Event) (a : Answer) (ws : List Warning) → AllNew ws → AllNew (book_after e a ws)
-new_after (Issue notice names) a ws h = new_append ws (issued notice names a) h (new_issued notice names a)
-new_after other a ws h = h
-
-pub all_new : (past : List Entry) → AllNew (book past)
-all_new [] = tt
-all_new (e ∷ before) = new_after e.event e.answer (book before) (all_new before)
+    step : (t : Bool) → nat_eq w.serial s ≡ t → (t || list_any (is_version s) w.outdated) ≡ true → nat_eq (code_of w.serial) (code_of s) ≡ true
+    step true e g = eq-eqb (code_of w.serial) (code_of s) (ap code_of (eqb-true w.serial s e))
+    step false e g = version_code w.serial s w.outdated older g
 
 -- a warning with the key has the key's code
-key_code : (m s : ℕ) (ws : List Warning) → AllNew ws → list_any (has_key m s) ws ≡ true → list_any (nat_eq (code_of s)) (codes_of m ws) ≡ true
-key_code m s [] new h = h
-key_code m s (w ∷ ws) new h = step (key_code m s ws new.1) (nat_eq w.message_id m) refl (nat_eq w.serial s) refl h
+key_code : (m s : ℕ) (w : Warning) → has_serials w ≡ true → has_key m s w ≡ true → is_same_key (key_of w) (m, code_of s) ≡ true
+key_code m s w older h =
+    let parts = and_parts (nat_eq w.message_id m) (nat_eq w.serial s || list_any (is_version s) w.outdated) h in
+    and_from (nat_eq w.message_id m) (nat_eq (code_of w.serial) (code_of s)) parts.0 (own_code w s older parts.1)
+
+-- two with one key are one
+keys_meet : (j k : ℕ × ℕ) (m c : ℕ) → is_same_key j (m, c) ≡ true → is_same_key k (m, c) ≡ true → is_same_key j k ≡ true
+keys_meet j k m c h g =
+    let first = and_parts (nat_eq j.0 m) (nat_eq j.1 c) h in
+    let second = and_parts (nat_eq k.0 m) (nat_eq k.1 c) g in
+    and_from (nat_eq j.0 k.0) (nat_eq j.1 k.1) (eq-eqb j.0 k.0 (eqb-true j.0 m first.0 ∙ sym (eqb-true k.0 m second.0))) (eq-eqb j.1 k.1 (eqb-true j.1 c first.1 ∙ sym (eqb-true k.1 c second.1)))
+
+-- where no other warning has the code, none has the key
+no_other : (m s : ℕ) (j : ℕ × ℕ) (ws : List Warning) → list_all has_serials ws ≡ true → is_same_key j (m, code_of s) ≡ true → list_any (is_same_key j) (map key_of ws) ≡ false → list_any (has_key m s) ws ≡ false
+no_other m s j [] older h g = refl
+no_other m s j (w ∷ ws) older h g =
+    let whole = and_parts (has_serials w) (list_all has_serials ws) older in
+    let parts = or_parts (is_same_key j (key_of w)) (list_any (is_same_key j) (map key_of ws)) g in
+    step (has_key m s w) refl whole.0 parts.0 (no_other m s j ws whole.1 h parts.1)
   where
-    step : (list_any (has_key m s) ws ≡ true → list_any (nat_eq (code_of s)) (codes_of m ws) ≡ true) → (t : Bool) → nat_eq w.message_id m ≡ t → (u : Bool) → nat_eq w.serial s ≡ u → ((t && (u || list_any (is_version s) w.outdated)) || list_any (has_key m s) ws) ≡ true → list_any (nat_eq (code_of s)) (codes_of m (w ∷ ws)) ≡ true
-    step rest true e true f g =
-        let same : code_of s ≡ code_of w.serial = ap code_of (sym (eqb-true w.serial s f)) in
-        rw e (ap (λ t. t || list_any (nat_eq (code_of s)) (codes_of m ws)) (eq-eqb (code_of s) (code_of w.serial) same))
-    step rest true e false f g =
-        let more : list_any (has_key m s) ws ≡ true = rw new.0 at g in
-        rw e (ap (λ t. nat_eq (code_of s) (code_of w.serial) || t) (rest more) ∙ or_right (nat_eq (code_of s) (code_of w.serial)))
-    step rest false e u f g = rw e (rest g)
+    step : (t : Bool) → has_key m s w ≡ t → has_serials w ≡ true → is_same_key j (key_of w) ≡ false → list_any (has_key m s) ws ≡ false → (t || list_any (has_key m s) ws) ≡ false
+    step true e whole differs rest = let meets : is_same_key j (key_of w) ≡ true = keys_meet j (key_of w) m (code_of s) h (key_code m s w whole e) in cc
+    step false e whole differs rest = rest
 
--- a new warning adds no second one with a key
-issue_unique : (before : List Entry) (notice : Notice) (names : List (List ℕ)) (n t : ℕ) → list_any (nat_eq (code_of t)) (codes_of notice.message_id (book before)) ≡ false → (m s : ℕ) → count_of (has_key m s) (book before) ≤ 1 → count_of (has_key m s) (book before ++ issued notice names (answer.Issued n t)) ≤ 1
-issue_unique before notice names n t free m s known = step (nat_eq notice.message_id m) refl (nat_eq t s) refl
+unique_in : (m s : ℕ) (ws : List Warning) → list_all has_serials ws ≡ true → shares_code ws ≡ false → count_of (has_key m s) ws ≤ 1
+unique_in m s [] older codes = omega arith
+unique_in m s (w ∷ ws) older codes =
+    let whole = and_parts (has_serials w) (list_all has_serials ws) older in
+    let parts = or_parts (list_any (is_same_key (key_of w)) (map key_of ws)) (shares_code ws) codes in
+    step (has_key m s w) refl whole.0 whole.1 parts.0 (unique_in m s ws whole.1 parts.1)
   where
-    sum : (x : Bool) → ((nat_eq notice.message_id m && (nat_eq t s || false)) ≡ x) → count_of (has_key m s) (book before ++ issued notice names (answer.Issued n t)) ≡ count_of (has_key m s) (book before) + (one x + 0)
-    sum x e = count_append (has_key m s) (book before) (issued notice names (answer.Issued n t)) ∙ ap (λ (b : Bool). count_of (has_key m s) (book before) + (one b + 0)) e
-
-    none : nat_eq notice.message_id m ≡ true → nat_eq t s ≡ true → count_of (has_key m s) (book before) ≡ 0
-    none e f =
-        let at_m : notice.message_id ≡ m = eqb-true notice.message_id m e in
-        let at_s : t ≡ s = eqb-true t s f in
-        let free_there : list_any (nat_eq (code_of s)) (codes_of m (book before)) ≡ false = rw (at_m, at_s) at free in
-        count_none (has_key m s) (book before) (absent (list_any (has_key m s) (book before)) refl free_there)
-      where
-        absent : (t : Bool) → list_any (has_key m s) (book before) ≡ t → list_any (nat_eq (code_of s)) (codes_of m (book before)) ≡ false → list_any (has_key m s) (book before) ≡ false
-        absent true e f = let there : list_any (nat_eq (code_of s)) (codes_of m (book before)) ≡ true = key_code m s (book before) (all_new before) e in cc
-        absent false e f = e
-
-    step : (a : Bool) → nat_eq notice.message_id m ≡ a → (b : Bool) → nat_eq t s ≡ b → count_of (has_key m s) (book before ++ issued notice names (answer.Issued n t)) ≤ 1
-    step true e true f =
-        let zero_there : count_of (has_key m s) (book before) ≡ 0 = none e f in
-        let all : count_of (has_key m s) (book before ++ issued notice names (answer.Issued n t)) ≡ count_of (has_key m s) (book before) + (1 + 0) = sum true (rw (e, f) refl) in
+    step : (t : Bool) → has_key m s w ≡ t → has_serials w ≡ true → list_all has_serials ws ≡ true → list_any (is_same_key (key_of w)) (map key_of ws) ≡ false → count_of (has_key m s) ws ≤ 1 → one t + count_of (has_key m s) ws ≤ 1
+    step true e own rest alone bound =
+        let none : count_of (has_key m s) ws ≡ 0 = count_none (has_key m s) ws (no_other m s (key_of w) ws rest (key_code m s w own e) alone) in
         omega arith
-    step true e false f =
-        let all : count_of (has_key m s) (book before ++ issued notice names (answer.Issued n t)) ≡ count_of (has_key m s) (book before) + (0 + 0) = sum false (rw (e, f) refl) in
-        omega arith
-    step false e b f =
-        let all : count_of (has_key m s) (book before ++ issued notice names (answer.Issued n t)) ≡ count_of (has_key m s) (book before) + (0 + 0) = sum false (rw e refl) in
-        omega arith
+    step false e own rest alone bound = omega arith
 
-after_issue : (limit : ℕ) (before : List Entry) (notice : Notice) (names : List (List ℕ)) (a : Answer) → verdict limit before (Issue notice names) ≡ Ok a → (m s : ℕ) → count_of (has_key m s) (book before) ≤ 1 → count_of (has_key m s) (book before ++ issued notice names a) ≤ 1
-after_issue limit before notice names (answer.Issued n t) v m s known =
-    issue_unique before notice names n t
-    (issue_free (issue_count before + 1) (scope_number notice.scope) n t (codes_of notice.message_id (book before))
-    (unless_ok (issue_checks before notice names) (issue_answer (issue_count before + 1) (new_serial before notice)) (answer.Issued n t) (verdict_law limit before (Issue notice names) (answer.Issued n t) v)))
-    m s known
-after_issue limit before notice names other v m s known =
-    let all : count_of (has_key m s) (book before ++ []) ≡ count_of (has_key m s) (book before) + 0 = count_append (has_key m s) (book before) [] in
-    omega arith
-
-after : (limit : ℕ) (before : List Entry) (e : Event) (a : Answer) → verdict limit before e ≡ Ok a → (m s : ℕ) → count_of (has_key m s) (book before) ≤ 1 → count_of (has_key m s) (book_after e a (book before)) ≤ 1
-after limit before (Issue notice names) a v m s known = after_issue limit before notice names a v m s known
-after limit before other a v m s known = known
-
--- at most one warning of the book has a key
-pub unique : (limit : ℕ) (past : List Entry) → Legal limit past → (m s : ℕ) → count_of (has_key m s) (book past) ≤ 1
-unique limit [] legal m s = omega arith
-unique limit (e ∷ before) legal m s = after limit before e.event e.answer legal.0 m s (unique limit before legal.1 m s)
+-- at most one warning of a sound book has a key
+pub unique : (st : State) → IsSound st → (m s : ℕ) → count_of (has_key m s) st.warnings ≤ 1
+unique st sound m s = unique_in m s st.warnings sound.older sound.codes
 
 not_implied : {X : Type 0} (p q : X → Bool) → ((x : X) → p x ≡ true → q x ≡ true) → (x : X) → q x ≡ false → p x ≡ false
 not_implied p q e x h = step (p x) refl

@@ -1,7 +1,6 @@
 -- Areas, their selectors, and the cells that they cover.
-use Rattle.std.specs.Prelude.{ℕ, Bool, true, false, ◌&&◌, ◌||◌, List, Option, Some, None, nat_eq, bytes_eq, if◌then◌else◌}
+use Rattle.std.specs.Prelude.{ℕ, Bool, true, false, ◌&&◌, ◌||◌, List, Option, Some, None, bytes_eq, if◌then◌else◌}
 use Rattle.std.specs.List.{list_any}
-use Rattle.cbsp_ie.specs.Cell.{cell_eq}
 use Rattle.cbsp_ie.specs.declared.cell.Cell.{Cell}
 use Rattle.centre_core.specs.Past.{latest, named, count_of}
 use Rattle.areas.specs.Selector.{selector_eq}

@@ -1,6 +1,7 @@
 -- The headline: the pending orders of each BSC, applied to what it has reported, give its part of the plan.
 use Rattle.std.specs.Prelude.{◌≡◌, ℕ, Bool, true, false, ◌&&◌, not, List, [], ◌∷◌, nat_eq, if◌then◌else◌}
 use Rattle.cbsp_ie.specs.declared.cell.Cell.{Cell}
+use Rattle.centre_core.specs.InFlight.{is_kill}
 use Rattle.centre_core.specs.Pending.{pending}
 use Rattle.centre_core.specs.Plan.{planned}
 use Rattle.centre_core.specs.Presence.{presence, is_among}
@@ -10,22 +11,24 @@ use Rattle.centre_core.specs.declared.mirror.presence.Presence.{Presence}
 use Rattle.centre_core.specs.declared.mirror.presence.Presence.TheVariants.{Absent, OnAir}
 use Rattle.centre_core.specs.declared.order_maker.order.Order.{Order}
 use Rattle.centre_core.specs.declared.order_maker.order_kind.OrderKind.{OrderKind}
-use Rattle.centre_core.specs.declared.order_maker.order_kind.OrderKind.TheVariants.{Write, Kill}
-
-abbrev pub is_killing : OrderKind → Bool
-is_killing Write = false
-is_killing Kill = true
+use Rattle.centre_core.specs.declared.order_maker.order_kind.OrderKind.TheVariants.{Write, Replace, Kill}
 
 abbrev pub names_cell : Order → Cell → ℕ → Bool
 names_cell order c m = nat_eq order.message_id m && is_among c order.cells
 
 -- the order puts the key on air
 abbrev pub airs : Cell → ℕ → ℕ → Order → Bool
-airs c m s order = names_cell order c m && (not (is_killing order.kind) && nat_eq order.serial s)
+airs c m s order = names_cell order c m && (not (is_kill order.kind) && nat_eq order.serial s)
+
+-- an order of the kind takes the version of serial number s off the air: a kill its own, a replace the one it names
+abbrev pub clears_serial : OrderKind → ℕ → ℕ → Bool
+clears_serial Write own s = false
+clears_serial (Replace old) own s = nat_eq old s
+clears_serial Kill own s = nat_eq own s
 
 -- the order takes the key off the air
 abbrev pub clears : Cell → ℕ → ℕ → Order → Bool
-clears c m s order = names_cell order c m && (is_killing order.kind && nat_eq order.serial s)
+clears c m s order = names_cell order c m && clears_serial order.kind order.serial s
 
 -- the presence of a key after the order
 abbrev pub applied_one : Cell → ℕ → ℕ → Order → Presence → Presence

@@ -1,5 +1,5 @@
 -- The order in flight to a BSC, and the replies that match it.
-use Rattle.std.specs.Prelude.{ℕ, Bool, true, false, ◌&&◌, List, Option, Some, None, nat_eq, map, if◌then◌else◌}
+use Rattle.std.specs.Prelude.{ℕ, Bool, true, false, ◌&&◌, not, List, Option, Some, None, nat_eq, map, if◌then◌else◌}
 use Rattle.cbsp_ie.specs.declared.cell.Cell.{Cell}
 use Rattle.cbsp_messages.specs.declared.message.Message.{Message}
 use Rattle.cbsp_messages.specs.declared.message.Message.TheVariants.{WriteComplete, KillComplete}
@@ -12,7 +12,7 @@ use Rattle.centre_core.specs.declared.event.Event.{Event}
 use Rattle.centre_core.specs.declared.event.Event.TheVariants.{LinkUp, LinkDown, Send, Report}
 use Rattle.centre_core.specs.declared.order_maker.order.Order.{Order}
 use Rattle.centre_core.specs.declared.order_maker.order_kind.OrderKind.{OrderKind}
-use Rattle.centre_core.specs.declared.order_maker.order_kind.OrderKind.TheVariants.{Write, Kill}
+use Rattle.centre_core.specs.declared.order_maker.order_kind.OrderKind.TheVariants.{Write, Replace, Kill}
 use Rattle.centre_core.specs.declared.outcome.Outcome.{Outcome}
 use Rattle.centre_core.specs.declared.outcome.Outcome.TheVariants.{Done}
 use Rattle.centre_core.specs.declared.reply.Reply.{Reply}
@@ -53,26 +53,25 @@ agrees (Some given) (Some counterpart) = nat_eq given counterpart
 -- the serial number that an order writes, and the one that it takes off the air
 abbrev pub new_of : Order → OrderKind → Option ℕ
 new_of order Write = Some order.serial
+new_of order (Replace old) = Some order.serial
 new_of order Kill = None
 
 abbrev pub old_of : Order → OrderKind → Option ℕ
 old_of order Write = None
+old_of order (Replace old) = Some old
 old_of order Kill = Some order.serial
 
 abbrev pub agree : Identifiers → Order → Bool
 agree given order = agrees given.message_id (Some order.message_id) && (agrees given.serial (new_of order order.kind) && agrees given.old (old_of order order.kind))
 
-abbrev pub is_write : OrderKind → Bool
-is_write Write = true
-is_write Kill = false
-
 abbrev pub is_kill : OrderKind → Bool
 is_kill Write = false
+is_kill (Replace old) = false
 is_kill Kill = true
 
 -- the message answers the order: it is of the order's kind, and no identifier that it gives differs
 abbrev pub matches : Message → Order → Bool
-matches (WriteComplete message_id serial old counts cells channel) order = is_write order.kind && agree (record { message_id = Some message_id; serial = Some serial; old = old }) order
+matches (WriteComplete message_id serial old counts cells channel) order = not (is_kill order.kind) && agree (record { message_id = Some message_id; serial = Some serial; old = old }) order
 matches (KillComplete message_id serial counts cells channel) order = is_kill order.kind && agree (record { message_id = Some message_id; serial = None; old = Some serial }) order
 matches other order = false
 

@@ -1,5 +1,5 @@
 -- What a centre keeps beside its journal, and how that is tied to the past: the register and the areas tell of each
--- BSC, cell, area and selector what the entries say of it.
+-- BSC, cell, area and selector what the entries say of it; the book of warnings is the one that the entries make.
 use Rattle.std.specs.Prelude.{◌≡◌, ◌⊎◌, ℕ, Bool, true, false, List, Result, Ok, Err}
 use Rattle.areas.specs.Areas.{has_area, with_area, without_area, with_selector, without_selector}
 use Rattle.areas.specs.Areas as kept
@@ -11,9 +11,10 @@ use Rattle.centre_core.specs.Cover.{is_area, has_selector}
 use Rattle.centre_core.specs.Links.{is_bsc}
 use Rattle.centre_core.specs.Places.{place}
 use Rattle.centre_core.specs.declared.answer.Answer.{Answer}
+use Rattle.centre_core.specs.declared.answer.Answer.TheVariants.{Sent, Replied}
 use Rattle.centre_core.specs.declared.entry.Entry.{Entry}
 use Rattle.centre_core.specs.declared.event.Event.{Event}
-use Rattle.centre_core.specs.declared.event.Event.TheVariants.{AddBsc, RemoveBsc, AddCell, MoveCell, RemoveCell, AddArea, DropArea, Put, Cut}
+use Rattle.centre_core.specs.declared.event.Event.TheVariants.{AddBsc, RemoveBsc, AddCell, MoveCell, RemoveCell, AddArea, DropArea, Put, Cut, Issue, Update, Widen, Narrow, Stop, Forget}
 use Rattle.centre_core.specs.declared.refusal.Refusal.{Refusal}
 use Rattle.centre_core.specs.declared.refusal.Refusal.TheVariants.{Memory}
 
@@ -44,7 +45,7 @@ areas_after (Put a s) areas = with_selector a s areas
 areas_after (Cut a s) areas = without_selector a s areas
 areas_after other areas = areas
 
--- the event changes the register or the areas
+-- the event changes the register, the areas or the book
 abbrev pub is_edit : Event → Bool
 is_edit (AddBsc b) = true
 is_edit (RemoveBsc b) = true
@@ -55,7 +56,19 @@ is_edit (AddArea a) = true
 is_edit (DropArea a) = true
 is_edit (Put a s) = true
 is_edit (Cut a s) = true
+is_edit (Issue notice areas) = true
+is_edit (Update n content) = true
+is_edit (Widen n a) = true
+is_edit (Narrow n a) = true
+is_edit (Stop n) = true
+is_edit (Forget n) = true
 is_edit other = false
+
+-- the answer takes no memory to copy
+abbrev pub is_plain : Answer → Bool
+is_plain (Sent order message) = false
+is_plain (Replied replies) = false
+is_plain other = true
 
 -- what is answered is the verdict, or want of memory
 abbrev pub Gives : Result Answer Refusal → Result Answer Refusal → Type 0

@@ -1,4 +1,3 @@
-pub mod Serials
 pub mod Refusals
 pub mod Replies
 pub mod Equality
@@ -12,14 +11,13 @@ pub mod InFlight
 pub mod Presence
 pub mod Plan
 pub mod Actions
-pub mod Issued
 pub mod Sorting
 pub mod Pending
 pub mod OrderMessage
 pub mod Table
 pub mod Numbers
+pub mod Reported
 pub mod Verdict
-pub mod Pages
 pub mod Fits
 pub mod Legal
 pub mod Kept

@@ -1,15 +1,17 @@
 -- The numbers of a warning.
-use Rattle.std.specs.Prelude.{ℕ, Bool, true, false, ◌&&◌, not, List, Option, Some, None, nat_eq, find, if◌then◌else◌}
+use Rattle.std.specs.Prelude.{ℕ, Bool, true, false, ◌&&◌, not, List, Option, Some, None, nat_eq, if◌then◌else◌}
 use Rattle.std.specs.Option.{option_map}
 use Rattle.std.specs.List.{list_any}
 use Rattle.cbsp_ie.specs.declared.cell.Cell.{Cell}
+use Rattle.warning_book.specs.Book.{versions, warning_of}
+use Rattle.warning_book.specs.declared.warning.Warning.{Warning}
 use Rattle.centre_core.specs.Cover.{is_covered}
 use Rattle.centre_core.specs.Links.{bscs}
 use Rattle.centre_core.specs.Past.{sum_of, count_of}
 use Rattle.centre_core.specs.Places.{cells, place}
 use Rattle.centre_core.specs.Plan.{wanted}
 use Rattle.centre_core.specs.Presence.{presence, is_absent, is_on_air}
-use Rattle.centre_core.specs.Warnings.{Warning, book, versions, has_number}
+use Rattle.centre_core.specs.Warnings.{book_of}
 use Rattle.centre_core.specs.declared.coverage_board.numbers.Numbers.{Numbers}
 use Rattle.centre_core.specs.declared.coverage_board.standing.Standing.{Standing}
 use Rattle.centre_core.specs.declared.coverage_board.standing.Standing.TheVariants.{Awaited, OnAir}
@@ -33,9 +35,13 @@ stands_on_air None = false
 stands_on_air (Some Awaited) = false
 stands_on_air (Some OnAir) = true
 
+-- the version of that serial number is on air there, or may be, and not wanted
+abbrev pub is_unwanted : List Entry → Warning → ℕ → Cell → ℕ → Bool
+is_unwanted past w b c s = not (nat_eq s w.serial && wanted past b w c) && not (is_absent (presence past b c w.message_id s))
+
 -- a version of the warning that isn't wanted there is on air, or may be
 abbrev pub is_left : List Entry → Warning → ℕ → Cell → Bool
-is_left past w b c = list_any (λ v. not (nat_eq v.serial w.serial && wanted past b w c) && not (is_absent (presence past b c w.message_id v.serial))) (versions w)
+is_left past w b c = list_any (λ v. is_unwanted past w b c v.serial) (versions w)
 
 -- over the cells, each once; what is left, over the pairs of a BSC and a cell
 abbrev pub total : List Entry → Warning → Numbers
@@ -43,4 +49,4 @@ total past w = record { awaited = count_of (λ c. is_awaited (standing past w c)
 
 -- the numbers of the warning of that number, if it is in the book
 abbrev pub board : List Entry → ℕ → Option Numbers
-board past n = option_map (total past) (find (has_number n) (book past))
+board past n = option_map (total past) (warning_of (book_of past) n)

@@ -3,9 +3,10 @@
 use Rattle.std.specs.Prelude.{ℕ, Bool, ◌&&◌, List, Option, Some, None, false, nat_eq}
 use Rattle.std.specs.List.{list_any}
 use Rattle.cbsp_ie.specs.declared.cell.Cell.{Cell}
+use Rattle.warning_book.specs.declared.warning.Warning.{Warning}
 use Rattle.centre_core.specs.Cover.{is_covered}
 use Rattle.centre_core.specs.Places.{place}
-use Rattle.centre_core.specs.Warnings.{Warning, book}
+use Rattle.centre_core.specs.Warnings.{warnings_of}
 use Rattle.centre_core.specs.declared.entry.Entry.{Entry}
 
 -- the place is that BSC
@@ -19,4 +20,4 @@ wanted past b w c = w.active && (is_place (place past c) b && is_covered past w.
 
 -- the message of that identifier and serial number is planned there
 abbrev pub planned : List Entry → ℕ → Cell → ℕ → ℕ → Bool
-planned past b c m s = list_any (λ w. nat_eq w.message_id m && (nat_eq w.serial s && wanted past b w c)) (book past)
+planned past b c m s = list_any (λ w. nat_eq w.message_id m && (nat_eq w.serial s && wanted past b w c)) (warnings_of past)

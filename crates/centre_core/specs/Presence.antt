@@ -15,7 +15,7 @@ use Rattle.centre_core.specs.declared.mirror.presence.Presence.{Presence}
 use Rattle.centre_core.specs.declared.mirror.presence.Presence.TheVariants.{Absent, OnAir, Unknown}
 use Rattle.centre_core.specs.declared.order_maker.order.Order.{Order}
 use Rattle.centre_core.specs.declared.order_maker.order_kind.OrderKind.{OrderKind}
-use Rattle.centre_core.specs.declared.order_maker.order_kind.OrderKind.TheVariants.{Write, Kill}
+use Rattle.centre_core.specs.declared.order_maker.order_kind.OrderKind.TheVariants.{Write, Replace, Kill}
 use Rattle.centre_core.specs.declared.outcome.Outcome.{Outcome}
 use Rattle.centre_core.specs.declared.outcome.Outcome.TheVariants.{Done, Silent}
 
@@ -28,15 +28,29 @@ pub data Effect : Type 0 where
   Sets : Presence → Effect
   Leaves : Effect
 
--- an order of each kind, by what became of it
+-- an order of each kind at the key of its serial number, by what became of it
 abbrev pub new_effect : OrderKind → Outcome → Effect
 new_effect Write Done = Sets OnAir
-new_effect Write Silent = Sets Unknown
+new_effect (Replace old) Done = Sets OnAir
 new_effect Kill Done = Sets Absent
-new_effect Kill Silent = Sets Unknown
+new_effect kind Silent = Sets Unknown
+
+-- a replace at the key that it takes off the air
+abbrev pub old_effect : Outcome → Effect
+old_effect Done = Sets Absent
+old_effect Silent = Sets Unknown
+
+-- the order replaces the version of that serial number
+abbrev pub replaces : OrderKind → ℕ → Bool
+replaces Write s = false
+replaces (Replace old) s = nat_eq old s
+replaces Kill s = false
+
+abbrev pub key_effect : Order → Outcome → ℕ → Effect
+key_effect order o s = if nat_eq order.serial s then new_effect order.kind o else (if replaces order.kind s then old_effect o else Leaves)
 
 abbrev pub order_effect : Order → Outcome → Cell → ℕ → ℕ → Effect
-order_effect order o c m s = if nat_eq order.message_id m && (nat_eq order.serial s && is_among c order.cells) then new_effect order.kind o else Leaves
+order_effect order o c m s = if nat_eq order.message_id m && is_among c order.cells then key_effect order o s else Leaves
 
 abbrev pub flight_effect : Option Order → Outcome → Cell → ℕ → ℕ → Effect
 flight_effect None o c m s = Leaves

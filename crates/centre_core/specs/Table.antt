@@ -3,10 +3,13 @@ use Rattle.std.specs.Prelude.{ℕ, Bool, ◌&&◌, ◌||◌, List, [], ◌∷◌
 use Rattle.std.specs.List.{flat_map}
 use Rattle.cbsp_ie.specs.Cell.{cell_eq, cell_lt}
 use Rattle.cbsp_ie.specs.declared.cell.Cell.{Cell}
+use Rattle.warning_book.specs.Book.{versions}
+use Rattle.warning_book.specs.declared.version.Version.{Version}
+use Rattle.warning_book.specs.declared.warning.Warning.{Warning}
 use Rattle.centre_core.specs.Places.{cells}
 use Rattle.centre_core.specs.Presence.{presence, is_absent}
 use Rattle.centre_core.specs.Sorting.{comes_before, sorted_by}
-use Rattle.centre_core.specs.Warnings.{Warning, Version, book, versions}
+use Rattle.centre_core.specs.Warnings.{warnings_of}
 use Rattle.centre_core.specs.declared.entry.Entry.{Entry}
 use Rattle.centre_core.specs.declared.mirror.presence.Presence.{Presence}
 use Rattle.centre_core.specs.declared.mirror.reported_key.ReportedKey.{ReportedKey}
@@ -15,9 +18,13 @@ use Rattle.centre_core.specs.declared.mirror.reported_key.ReportedKey.{ReportedK
 abbrev pub key_if : Cell → ℕ → ℕ → Presence → List ReportedKey
 key_if c m s p = if is_absent p then [] else record { cell = c; message_id = m; serial = s; presence = p } ∷ []
 
--- the keys of a warning in a cell, of each of its versions
+-- the key of a warning in a cell, of the version of that serial number
+abbrev pub key_of : List Entry → ℕ → Warning → Cell → ℕ → List ReportedKey
+key_of past b w c s = key_if c w.message_id s (presence past b c w.message_id s)
+
+-- its keys in the cell, of each of its versions
 abbrev pub keys_in : List Entry → ℕ → Warning → Cell → List ReportedKey
-keys_in past b w c = flat_map (λ (v : Version). key_if c w.message_id v.serial (presence past b c w.message_id v.serial)) (versions w)
+keys_in past b w c = flat_map (λ (v : Version). key_of past b w c v.serial) (versions w)
 
 -- the keys of a warning
 abbrev pub keys_of : List Entry → ℕ → Warning → List ReportedKey
@@ -28,4 +35,4 @@ key_lt x y = cell_lt x.cell y.cell || (cell_eq x.cell y.cell && comes_before x.m
 
 -- the keys of all warnings in the book, in order
 abbrev pub table : List Entry → ℕ → List ReportedKey
-table past b = sorted_by key_lt (flat_map (keys_of past b) (book past))
+table past b = sorted_by key_lt (flat_map (keys_of past b) (warnings_of past))

@@ -1,9 +1,15 @@
 -- What an event is answered: the first refusal whose cause holds, in the order of the refusals, or else its answer.
-use Rattle.std.specs.Prelude.{ℕ, ◌+◌, Bool, true, false, ◌&&◌, ◌||◌, not, List, [], ◌∷◌, ◌++◌, Option, Some, None, Result, Ok, Err, nat_eq, nat_le, bytes_eq, ltb, length, if◌then◌else◌}
+use Rattle.std.specs.Prelude.{ℕ, ◌+◌, Bool, not, List, [], ◌∷◌, ◌++◌, Option, Some, None, Result, Ok, Err, nat_eq, nat_le, length, if◌then◌else◌}
 use Rattle.std.specs.Option.{is_some}
 use Rattle.std.specs.List.{list_any}
 use Rattle.cbsp_ie.specs.declared.cell.Cell.{Cell}
 use Rattle.cbsp_messages.specs.declared.message.Message.{Message}
+use Rattle.warning_book.specs.Book.{names, warning_is, new_serial, next_serial, content_of}
+use Rattle.warning_book.specs.Checks as book
+use Rattle.warning_book.specs.declared.content.Content.{Content}
+use Rattle.warning_book.specs.declared.notice.Notice.{Notice}
+use Rattle.warning_book.specs.declared.refusal.Refusal as book_refusal
+use Rattle.warning_book.specs.declared.warning.Warning.{Warning}
 use Rattle.centre_core.specs.Cover.{is_area, area_count, has_selector, selector_count}
 use Rattle.centre_core.specs.InFlight.{in_flight, matches_flight, replies}
 use Rattle.centre_core.specs.Links.{is_bsc, bsc_count, is_up, last_link}
@@ -11,19 +17,20 @@ use Rattle.centre_core.specs.OrderMessage.{order_message}
 use Rattle.centre_core.specs.Pending.{pending, first}
 use Rattle.centre_core.specs.Places.{cells, place, is_registered, cell_count}
 use Rattle.centre_core.specs.Plan.{is_place}
-use Rattle.centre_core.specs.Warnings.{book, issue_count, new_serial, content_of}
+use Rattle.centre_core.specs.Refusals.{of_book}
+use Rattle.centre_core.specs.Reported.{is_reported, is_flying}
+use Rattle.centre_core.specs.Warnings.{book_of, warnings_of}
 use Rattle.centre_core.specs.declared.answer.Answer.{Answer}
 use Rattle.centre_core.specs.declared.answer.Answer.TheVariants as answer
 use Rattle.areas.specs.Name.{is_name}
 use Rattle.areas.specs.declared.selector.Selector.{Selector}
 use Rattle.centre_core.specs.declared.entry.Entry.{Entry}
 use Rattle.centre_core.specs.declared.event.Event.{Event}
-use Rattle.centre_core.specs.declared.event.Event.TheVariants.{AddBsc, RemoveBsc, AddCell, MoveCell, RemoveCell, AddArea, DropArea, Put, Cut, Issue, LinkUp, LinkDown, Send, Report}
+use Rattle.centre_core.specs.declared.event.Event.TheVariants.{AddBsc, RemoveBsc, AddCell, MoveCell, RemoveCell, AddArea, DropArea, Put, Cut, Issue, Update, Widen, Narrow, Stop, Forget, LinkUp, LinkDown, Send, Report}
 use Rattle.centre_core.specs.declared.order_maker.order.Order.{Order}
 use Rattle.centre_core.specs.declared.refusal.Limit.TheVariants as limit
 use Rattle.centre_core.specs.declared.refusal.Refusal.{Refusal}
 use Rattle.centre_core.specs.declared.refusal.Refusal.TheVariants as refusal
-use Rattle.centre_core.specs.declared.warning_book.notice.Notice.{Notice}
 
 -- the refusal of the first check that holds, or else the answer
 abbrev pub unless : List (Bool × Refusal) → Result Answer Refusal → Result Answer Refusal
@@ -72,7 +79,7 @@ add_area past a = unless (add_area_checks past a) (Ok answer.Done)
 
 -- a warning in the book names the area
 abbrev pub is_in_use : List Entry → List ℕ → Bool
-is_in_use past a = list_any (λ w. list_any (bytes_eq a) w.areas) (book past)
+is_in_use past a = list_any (names a) (warnings_of past)
 
 abbrev pub drop_area_checks : List Entry → List ℕ → List (Bool × Refusal)
 drop_area_checks past a = (not (is_area past a), refusal.NoSuchArea) ∷ (is_in_use past a, refusal.AreaInUse) ∷ []
@@ -92,28 +99,13 @@ cut_checks past a s = (not (is_area past a), refusal.NoSuchArea) ∷ (not (has_s
 abbrev pub cut : List Entry → List ℕ → Selector → Result Answer Refusal
 cut past a s = unless (cut_checks past a s) (Ok answer.Done)
 
--- a name stands in the list a second time
-abbrev pub has_twice : List (List ℕ) → Bool
-has_twice [] = false
-has_twice (a ∷ rest) = list_any (bytes_eq a) rest || has_twice rest
-
-abbrev pub is_empty : {A : Type 0} → List A → Bool
-is_empty [] = true
-is_empty (x ∷ xs) = false
-
--- 1 to 15 pages of 1 to 82 octets
-abbrev pub is_page : List ℕ → Bool
-is_page page = nat_le 1 (length page) && nat_le (length page) 82
-
-abbrev pub are_pages : List (List ℕ) → Bool
-are_pages pages = (nat_le 1 (length pages) && nat_le (length pages) 15) && not (list_any (λ page. not (is_page page)) pages)
-
--- a repetition period is 1 to 1,024
-abbrev pub is_period : ℕ → Bool
-is_period period = nat_le 1 period && nat_le period 1024
+-- the checks that the book makes, each with the centre's refusal
+abbrev pub by_book : List (Bool × book_refusal.Refusal) → List (Bool × Refusal)
+by_book [] = []
+by_book (check ∷ checks) = (check.0, of_book check.1) ∷ by_book checks
 
 abbrev pub issue_checks : List Entry → Notice → List (List ℕ) → List (Bool × Refusal)
-issue_checks past notice names = (list_any (λ a. not (is_area past a)) names, refusal.NoSuchArea) ∷ (is_empty names, refusal.NoAreas) ∷ (has_twice names, refusal.AreaThere) ∷ (not (are_pages notice.content.pages), refusal.BadPages) ∷ (not (is_period notice.content.period), refusal.BadPeriod) ∷ (nat_le 256 (length (book past)), refusal.Limit limit.Warnings) ∷ (ltb 16 (length names), refusal.Limit limit.WarningAreas) ∷ (nat_le 4294967295 (issue_count past), refusal.Limit limit.Ids) ∷ []
+issue_checks past notice areas = (list_any (λ a. not (is_area past a)) areas, refusal.NoSuchArea) ∷ by_book (book.issue_checks (book_of past) notice areas)
 
 -- the next number, and the serial number of a new warning
 abbrev pub issue_answer : ℕ → Option ℕ → Result Answer Refusal
@@ -121,7 +113,47 @@ issue_answer n None = Err (refusal.Limit limit.Warnings)
 issue_answer n (Some s) = Ok (answer.Issued n s)
 
 abbrev pub issue : List Entry → Notice → List (List ℕ) → Result Answer Refusal
-issue past notice names = unless (issue_checks past notice names) (issue_answer (issue_count past + 1) (new_serial past notice))
+issue past notice areas = unless (issue_checks past notice areas) (issue_answer ((book_of past).issued + 1) (new_serial (book_of past) notice))
+
+abbrev pub update_checks : List Entry → ℕ → Content → List (Bool × Refusal)
+update_checks past n content = by_book (book.update_checks (book_of past) n content)
+
+-- the serial number of the next version
+abbrev pub update_answer : Option ℕ → Result Answer Refusal
+update_answer None = Err refusal.NoSuchWarning
+update_answer (Some s) = Ok (answer.Updated s)
+
+abbrev pub update : List Entry → ℕ → Content → Result Answer Refusal
+update past n content = unless (update_checks past n content) (update_answer (next_serial (book_of past) n))
+
+abbrev pub widen_checks : List Entry → ℕ → List ℕ → List (Bool × Refusal)
+widen_checks past n a = (not (is_area past a), refusal.NoSuchArea) ∷ by_book (book.widen_checks (book_of past) n a)
+
+abbrev pub widen : List Entry → ℕ → List ℕ → Result Answer Refusal
+widen past n a = unless (widen_checks past n a) (Ok answer.Done)
+
+abbrev pub narrow_checks : List Entry → ℕ → List ℕ → List (Bool × Refusal)
+narrow_checks past n a = (not (is_area past a), refusal.NoSuchArea) ∷ by_book (book.narrow_checks (book_of past) n a)
+
+abbrev pub narrow : List Entry → ℕ → List ℕ → Result Answer Refusal
+narrow past n a = unless (narrow_checks past n a) (Ok answer.Done)
+
+abbrev pub stop_checks : List Entry → ℕ → List (Bool × Refusal)
+stop_checks past n = by_book (book.stop_checks (book_of past) n)
+
+abbrev pub stop : List Entry → ℕ → Result Answer Refusal
+stop past n = unless (stop_checks past n) (Ok answer.Done)
+
+-- the book's checks, and that nothing of the warning is on air, or may be, and no order for it is in flight
+abbrev pub forget_checks : List Entry → ℕ → List (Bool × Refusal)
+forget_checks past n = by_book (book.forget_checks (book_of past) n) ++ (warning_is (book_of past) n (is_reported past), refusal.StillReported) ∷ (warning_is (book_of past) n (is_flying past), refusal.StillInFlight) ∷ []
+
+abbrev pub forget : List Entry → ℕ → Result Answer Refusal
+forget past n = unless (forget_checks past n) (Ok answer.Done)
+
+-- the checks of a warning that is in the book
+abbrev pub forget_found_checks : List Entry → Warning → List (Bool × Refusal)
+forget_found_checks past w = (w.active, refusal.StillActive) ∷ (is_reported past w, refusal.StillReported) ∷ (is_flying past w, refusal.StillInFlight) ∷ []
 
 abbrev pub link_up_checks : List Entry → ℕ → List (Bool × Refusal)
 link_up_checks past b = (not (is_bsc past b), refusal.NoSuchBsc) ∷ []
@@ -142,7 +174,7 @@ send_checks past b generation = link_checks past b generation ++ (is_some (in_fl
 -- the order, and the message that carries it with its content
 abbrev pub send_answer : List Entry → Option Order → Result Answer Refusal
 send_answer past None = Err refusal.NothingPending
-send_answer past (Some order) = Ok (answer.Sent order (order_message order (content_of order.message_id order.serial (book past))))
+send_answer past (Some order) = Ok (answer.Sent order (order_message order (content_of order.message_id order.serial (warnings_of past))))
 
 abbrev pub send : List Entry → ℕ → ℕ → Result Answer Refusal
 send past b generation = unless (send_checks past b generation) (send_answer past (first (pending past b)))
@@ -167,7 +199,12 @@ law past (AddArea a) = add_area past a
 law past (DropArea a) = drop_area past a
 law past (Put a s) = put past a s
 law past (Cut a s) = cut past a s
-law past (Issue notice names) = issue past notice names
+law past (Issue notice areas) = issue past notice areas
+law past (Update n content) = update past n content
+law past (Widen n a) = widen past n a
+law past (Narrow n a) = narrow past n a
+law past (Stop n) = stop past n
+law past (Forget n) = forget past n
 law past (LinkUp b) = link_up past b
 law past (LinkDown b generation) = link_down past b generation
 law past (Send b generation) = send past b generation

@@ -1,14 +1,14 @@
 //! What an accepted event is answered.
 
-ghost use Rattle.std.specs.Prelude.{◌≡◌, ◌↔◌, IsTrue, IfOk, IsOk};
-ghost use Rattle.centre_core.specs.declared.answer.Answer.TheVariants.{Done};
+ghost use Rattle.std.specs.Prelude.{◌≡◌, ◌↔◌, true, IsTrue, IfOk, IsOk};
+ghost use Rattle.centre_core.specs.Kept.{is_plain};
 
 use crate::order_maker::Order;
 use crate::replies::Replies;
-use crate::serials::Serial;
-use crate::warning_book::WarningId;
 use cbsp_messages::Message;
+use serials::Serial;
 use std::alloc::{AllocError, Global};
+use warning_book::WarningId;
 
 /// What an accepted event is answered.
 #[derive(Debug, PartialEq, Eq, Drop)]
@@ -16,6 +16,8 @@ pub enum Answer {
     Done,
     /// The number and the serial number of a warning.
     Issued(WarningId, Serial),
+    /// The serial number of a warning's new version.
+    Updated(Serial),
     /// The generation of a link: the number of the entry that brought it up.
     Link(u64),
     /// An order that is now in flight, and the message that carries it.
@@ -25,14 +27,15 @@ pub enum Answer {
 }
 
 impl Answer {
-    /// The same answer in memory of its own. `Done` takes none.
+    /// The same answer in memory of its own. An answer without an order, a message or a list takes none.
     pub fn copied(&self, alloc: Global) -> Result<Answer, AllocError>
         ensures copy { IfOk result (λ copy. copy ≡ self.now) }
-        ensures done { self.now ≡ Done → IsOk result }
+        ensures plain { is_plain self.now ≡ true → IsOk result }
     {
         match self {
             Answer::Done => Ok(Answer::Done),
             Answer::Issued(warning, serial) => Ok(Answer::Issued(*warning, *serial)),
+            Answer::Updated(serial) => Ok(Answer::Updated(*serial)),
             Answer::Link(generation) => Ok(Answer::Link(*generation)),
             Answer::Sent { order, message } => Ok(Answer::Sent {
                 order: order.copied(alloc)?,
@@ -50,6 +53,7 @@ impl Answer {
             (Answer::Issued(number, serial), Answer::Issued(other_number, other_serial)) => {
                 number == other_number && serial == other_serial
             }
+            (Answer::Updated(serial), Answer::Updated(other_serial)) => serial == other_serial,
             (Answer::Link(generation), Answer::Link(other_generation)) => {
                 generation == other_generation
             }

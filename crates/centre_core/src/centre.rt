@@ -2,11 +2,9 @@
 
 ghost use Rattle.std.specs.Prelude.{◌≡◌, ◌<◌, length, reverse, true, IfOk, OnOk, OnErr};
 ghost use Rattle.std.specs.Vec.{vec_len, vec_capacity};
-ghost use Rattle.centre_core.specs.Kept.{IsRegisterOf, AreAreasOf, register_after, areas_after, is_edit, Gives};
-ghost use Rattle.centre_core.specs.Pages.{HasPages};
+ghost use Rattle.centre_core.specs.Kept.{IsRegisterOf, AreAreasOf, register_after, areas_after, is_edit, is_plain, Gives};
 ghost use Rattle.centre_core.specs.Verdict.{verdict, law};
-ghost use Rattle.centre_core.specs.Warnings.{book};
-ghost use Rattle.centre_core.specs.declared.answer.Answer.TheVariants.{Done};
+ghost use Rattle.centre_core.specs.Warnings.{book_of, book_after};
 
 use crate::answer::Answer;
 use crate::coverage_board::{self, Numbers};
@@ -17,12 +15,12 @@ use crate::laws::law;
 use crate::mirror::{self, ReportedKeys};
 use crate::order_maker::{self, Order, Orders};
 use crate::refusal::Refusal;
-use crate::warning_book::WarningId;
 use areas::Areas;
 use cbsp_ie::Cell;
 use cell_register::{BscId, Register};
 use std::alloc::Global;
 use std::marker::Model;
+use warning_book::{Book, WarningId};
 
 /// A cell broadcast centre. Contracts see its network, its limit and its journal, oldest entry first.
 #[derive(Drop)]
@@ -33,6 +31,7 @@ pub struct Centre {
     journal: Vec<Entry>,
     register: Register,
     areas: Areas,
+    book: Book,
 }
 
 /// What the event is answered after the entries of the journal, which holds so many at most; room for one more entry
@@ -43,11 +42,12 @@ fn answer_to(
     journal: &mut Vec<Entry>,
     register: &mut Register,
     areas: &mut Areas,
+    book: &mut Book,
     event: &Event,
 ) -> Result<Answer, Refusal>
-    requires pages { HasPages (book (reverse journal.old.items)) }
     requires registered { IsRegisterOf (reverse journal.old.items) register.old }
     requires selected { AreAreasOf (reverse journal.old.items) areas.old }
+    requires booked { book.old ≡ book_of (reverse journal.old.items) }
     ensures entries { journal.new.items ≡ journal.old.items }
     ensures room { OnOk result (vec_len journal.new < vec_capacity journal.new) }
     ensures few { OnOk result (length journal.old.items < limit) }
@@ -55,15 +55,17 @@ fn answer_to(
     ensures law { IfOk result (λ a. law (reverse journal.old.items) event.now ≡ Ok a) }
     ensures register { OnOk result (register.new ≡ register_after event.now register.old) }
     ensures areas { OnOk result (areas.new ≡ areas_after event.now areas.old) }
+    ensures book { IfOk result (λ a. book.new ≡ book_after event.now a book.old) }
     ensures register_stays { OnErr result (register.new ≡ register.old) }
     ensures areas_stay { OnErr result (areas.new ≡ areas.old) }
-    ensures edits { IfOk result (λ a. is_edit event.now ≡ true → a ≡ Done) }
+    ensures book_stays { OnErr result (book.new ≡ book.old) }
+    ensures edits { IfOk result (λ a. is_edit event.now ≡ true → is_plain a ≡ true) }
 {
     if journal.len() >= limit as usize {
         return Err(Refusal::JournalFull);
     }
     journal.try_reserve(1)?;
-    law(alloc, journal.as_slice(), register, areas, event)
+    law(alloc, journal.as_slice(), register, areas, book, event)
 }
 
 impl Model for Centre {
@@ -74,7 +76,7 @@ impl Model for Centre {
 
     ghost view = { λ c. record { plmn = c.plmn; limit = c.limit; journal = c.journal.items } };
 
-    ghost invariant = { λ c. IsCentre c.limit c.journal.items c.register c.areas };
+    ghost invariant = { λ c. IsCentre c.limit c.journal.items c.register c.areas c.book };
 }
 
 impl Centre {
@@ -105,6 +107,7 @@ impl Centre {
             journal: Vec::new(alloc),
             register: Register::new(alloc),
             areas: Areas::new(alloc),
+            book: Book::new(alloc),
         }
     }
 
@@ -126,6 +129,7 @@ impl Centre {
             &mut self.journal,
             &mut self.register,
             &mut self.areas,
+            &mut self.book,
             &event,
         )?;
         let entry = Entry::of(self.alloc, desk, event, &answer)?;
@@ -141,7 +145,7 @@ impl Centre {
         if !self.register.has_bsc(b) {
             return Err(Refusal::NoSuchBsc);
         }
-        Ok(order_maker::pending(self.alloc, self.journal.as_slice(), b)?)
+        Ok(order_maker::pending(self.alloc, self.journal.as_slice(), self.book.as_slice(), b)?)
     }
 
     /// The order in flight to the BSC.
@@ -171,7 +175,7 @@ impl Centre {
         if !self.register.has_bsc(b) {
             return Err(Refusal::NoSuchBsc);
         }
-        Ok(mirror::table(self.alloc, self.journal.as_slice(), b)?)
+        Ok(mirror::table(self.alloc, self.journal.as_slice(), self.book.as_slice(), b)?)
     }
 
     /// The numbers of the warning.
@@ -179,8 +183,8 @@ impl Centre {
         ensures numbers { IfOk result (λ numbers. board (past self.now) warning ≡ Some numbers) }
         ensures refusal { IfErr result (λ r. (r ≡ Refusal.NoSuchWarning) × (board (past self.now) warning ≡ None)) }
     {
-        match history::warning_with(self.journal.as_slice(), warning) {
-            Some(w) => Ok(coverage_board::total(self.journal.as_slice(), &w)),
+        match self.book.find(warning) {
+            Some(w) => Ok(coverage_board::total(self.journal.as_slice(), w)),
             None => Err(Refusal::NoSuchWarning),
         }
     }

@@ -1,7 +1,7 @@
 //! One entry of the journal.
 
-ghost use Rattle.std.specs.Prelude.{◌≡◌, ◌↔◌, IsTrue, IfOk, IsOk};
-ghost use Rattle.centre_core.specs.declared.answer.Answer.TheVariants.{Done};
+ghost use Rattle.std.specs.Prelude.{◌≡◌, ◌↔◌, true, IsTrue, IfOk, IsOk};
+ghost use Rattle.centre_core.specs.Kept.{is_plain};
 
 use crate::answer::Answer;
 use crate::event::Event;
@@ -17,7 +17,8 @@ pub struct Entry {
 }
 
 impl Entry {
-    /// The entry of an event and a copy of what it was answered. It takes no memory where that is `Done`.
+    /// The entry of an event and a copy of what it was answered. It takes no memory where the answer has no
+    /// order, message or list.
     pub(crate) fn of(
         alloc: Global,
         desk: u32,
@@ -25,7 +26,7 @@ impl Entry {
         answer: &Answer,
     ) -> Result<Entry, AllocError>
         ensures entry { IfOk result (λ e. e ≡ record { desk = desk; event = event; answer = answer.now }) }
-        ensures done { answer.now ≡ Done → IsOk result }
+        ensures plain { is_plain answer.now ≡ true → IsOk result }
     {
         let answer = answer.copied(alloc)?;
         Ok(Entry {

@@ -2,12 +2,12 @@
 
 ghost use Rattle.std.specs.Prelude.{◌≡◌, ◌↔◌, IsTrue, IfOk};
 
-use crate::warning_book::Notice;
 use areas::Selector;
 use cbsp_ie::{Cell, Name, Names};
 use cbsp_messages::Message;
 use cell_register::BscId;
 use std::alloc::{AllocError, Global};
+use warning_book::{Content, Notice, WarningId};
 
 /// What can happen to a centre: an edit, a link, an order or a report.
 #[derive(Debug, PartialEq, Eq, Drop)]
@@ -32,6 +32,16 @@ pub enum Event {
     Cut(Name, Selector),
     /// Issues a warning in these areas.
     Issue(Notice, Names),
+    /// Gives a warning a new version, with this content.
+    Update(WarningId, Content),
+    /// Puts an area last among those of a warning.
+    Widen(WarningId, Name),
+    /// Takes an area out of those of a warning.
+    Narrow(WarningId, Name),
+    /// Stops a warning, which stays in the book.
+    Stop(WarningId),
+    /// Takes a stopped warning out of the book of which nothing is on air.
+    Forget(WarningId),
     /// The link of a BSC has come up.
     LinkUp(BscId),
     /// The link of this generation is lost.
@@ -61,6 +71,13 @@ impl Event {
                 notice.copied(alloc)?,
                 areas.copied(alloc)?,
             )),
+            Event::Update(warning, content) => {
+                Ok(Event::Update(*warning, content.copied(alloc)?))
+            }
+            Event::Widen(warning, area) => Ok(Event::Widen(*warning, area.copied(alloc)?)),
+            Event::Narrow(warning, area) => Ok(Event::Narrow(*warning, area.copied(alloc)?)),
+            Event::Stop(warning) => Ok(Event::Stop(*warning)),
+            Event::Forget(warning) => Ok(Event::Forget(*warning)),
             Event::LinkUp(bsc) => Ok(Event::LinkUp(*bsc)),
             Event::LinkDown(bsc, generation) => Ok(Event::LinkDown(*bsc, *generation)),
             Event::Send(bsc, generation) => Ok(Event::Send(*bsc, *generation)),
@@ -84,6 +101,11 @@ impl Event {
             (Event::Put(a, s), Event::Put(b, t)) => a.same(b) && s == t,
             (Event::Cut(a, s), Event::Cut(b, t)) => a.same(b) && s == t,
             (Event::Issue(n, a), Event::Issue(o, b)) => n.same(o) && a.same(b),
+            (Event::Update(w, c), Event::Update(x, d)) => w == x && c.same(d),
+            (Event::Widen(w, a), Event::Widen(x, b)) => w == x && a.same(b),
+            (Event::Narrow(w, a), Event::Narrow(x, b)) => w == x && a.same(b),
+            (Event::Stop(w), Event::Stop(x)) => w == x,
+            (Event::Forget(w), Event::Forget(x)) => w == x,
             (Event::LinkUp(b), Event::LinkUp(d)) => b == d,
             (Event::LinkDown(b, g), Event::LinkDown(d, h)) => b == d && g == h,
             (Event::Send(b, g), Event::Send(d, h)) => b == d && g == h,

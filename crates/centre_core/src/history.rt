@@ -2,22 +2,20 @@
 
 mod area_marks;
 mod bsc_counts;
+mod bsc_list;
 mod bsc_marks;
 mod cell_counts;
 mod cell_list;
 mod cell_marks;
 mod flights;
 mod presences;
-mod warnings;
 
 pub(crate) use area_marks::is_covered;
 pub(crate) use bsc_counts::{added_bsc, was_bsc};
+pub(crate) use bsc_list::bscs;
 pub(crate) use bsc_marks::{is_up, last_link};
 pub(crate) use cell_counts::{added_cell, was_cell};
 pub(crate) use cell_list::cells;
 pub(crate) use cell_marks::place;
 pub(crate) use flights::in_flight;
 pub(crate) use presences::{is_among, outcome, presence};
-pub(crate) use warnings::{
-    book_length, codes_of, content_of, is_in_use, is_named, issue_count, issued_by, warning_with,
-};

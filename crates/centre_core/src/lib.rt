@@ -20,11 +20,11 @@ pub mod outcome;
 pub mod refusal;
 pub mod replies;
 pub mod reply;
-pub mod serials;
 mod sorting;
 #[cfg(test)]
 mod tests;
-pub mod warning_book;
 
 pub use areas::Selector;
 pub use cell_register::BscId;
+pub use serials::{Scope, Serial};
+pub use warning_book::{Content, ContentPages, Notice, WarningId};

@@ -59,14 +59,28 @@ pub enum Refusal {
     SelectorNotThere,
     #[error("no such warning")]
     NoSuchWarning,
+    #[error("the warning was stopped")]
+    NotActive,
+    #[error("the warning is active")]
+    StillActive,
+    #[error("a message of the warning is on air, or may be")]
+    StillReported,
+    #[error("an order for the warning is in flight")]
+    StillInFlight,
     #[error("a warning names one area at least")]
     NoAreas,
-    #[error("an area is named twice")]
+    #[error("the warning names the area already, or it is named twice")]
     AreaThere,
+    #[error("the warning does not name the area")]
+    AreaNotThere,
+    #[error("the warning names no other area")]
+    LastArea,
     #[error("a content has 1 to 15 pages of 1 to 82 octets")]
     BadPages,
     #[error("a repetition period is 1 to 1,024")]
     BadPeriod,
+    #[error("the warning had its last update")]
+    UpdatesExhausted,
     #[error("the link has ended; the latest is {now}")]
     StaleLink {
         /// The generation of the latest link, 0 where there was none.
@@ -109,10 +123,17 @@ impl Refusal {
             Refusal::SelectorThere => 14,
             Refusal::SelectorNotThere => 15,
             Refusal::NoSuchWarning => 16,
+            Refusal::NotActive => 17,
+            Refusal::StillActive => 18,
+            Refusal::StillReported => 19,
+            Refusal::StillInFlight => 20,
             Refusal::NoAreas => 21,
             Refusal::AreaThere => 22,
+            Refusal::AreaNotThere => 23,
+            Refusal::LastArea => 24,
             Refusal::BadPages => 25,
             Refusal::BadPeriod => 26,
+            Refusal::UpdatesExhausted => 28,
             Refusal::StaleLink { now: _ } => 29,
             Refusal::LinkNotUp => 30,
             Refusal::InFlight => 31,
@@ -175,6 +196,42 @@ impl From<areas::Refusal> for Refusal {
                 which: Limit::Selectors,
             },
             areas::Refusal::Memory => Refusal::Memory,
+        }
+    }
+}
+
+impl From<warning_book::Refusal> for Refusal {
+    ghost use Rattle.std.specs.Prelude.{◌≡◌};
+    ghost use Rattle.centre_core.specs.Refusals.{of_book};
+
+    ghost from_gives = { λ r e. e ≡ of_book r };
+
+    fn from(refusal: warning_book::Refusal) -> Refusal {
+        match refusal {
+            warning_book::Refusal::NoSuchWarning => Refusal::NoSuchWarning,
+            warning_book::Refusal::NotActive => Refusal::NotActive,
+            warning_book::Refusal::StillActive => Refusal::StillActive,
+            warning_book::Refusal::NoAreas => Refusal::NoAreas,
+            warning_book::Refusal::AreaThere => Refusal::AreaThere,
+            warning_book::Refusal::AreaNotThere => Refusal::AreaNotThere,
+            warning_book::Refusal::LastArea => Refusal::LastArea,
+            warning_book::Refusal::BadPages => Refusal::BadPages,
+            warning_book::Refusal::BadPeriod => Refusal::BadPeriod,
+            warning_book::Refusal::UpdatesExhausted => Refusal::UpdatesExhausted,
+            warning_book::Refusal::Limit {
+                which: warning_book::Limit::Warnings,
+            } => Refusal::Limit {
+                which: Limit::Warnings,
+            },
+            warning_book::Refusal::Limit {
+                which: warning_book::Limit::WarningAreas,
+            } => Refusal::Limit {
+                which: Limit::WarningAreas,
+            },
+            warning_book::Refusal::Limit {
+                which: warning_book::Limit::Ids,
+            } => Refusal::Limit { which: Limit::Ids },
+            warning_book::Refusal::Memory => Refusal::Memory,
         }
     }
 }

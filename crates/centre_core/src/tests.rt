@@ -1,3 +1,5 @@
+mod corrections;
+
 use crate::answer::Answer;
 use crate::centre::Centre;
 use crate::coverage_board::Numbers;
@@ -8,8 +10,7 @@ use crate::outcome::Outcome;
 use crate::refusal::Refusal;
 use crate::replies::Replies;
 use crate::reply::Reply;
-use crate::serials::{Scope, Serial};
-use crate::warning_book::{Content, ContentPages, Notice, WarningId};
+use crate::{Content, ContentPages, Notice, Scope, Serial, WarningId};
 use areas::Selector;
 use cbsp_ie::{Cell, CellIds, Cells, Name, Names, Octets};
 use cbsp_messages::{Message, Page, Pages};
@@ -250,19 +251,13 @@ fn events_are_copied(rt: &impl Abort, alloc: Global) -> Result<(), AllocError> {
     assert!(rt; drop.same(&drop.copied(alloc)?));
     let cut = Event::Cut(coast(alloc)?, Selector::Cell(CELL));
     assert!(rt; cut.same(&cut.copied(alloc)?));
-    Ok(())
-}
-
-fn notices_are_copied(rt: &impl Abort, alloc: Global) -> Result<(), AllocError> {
-    let notice = notice(alloc)?;
-    assert!(rt; notice.same(&notice.copied(alloc)?));
-    Ok(())
-}
-
-fn contents_are_copied(rt: &impl Abort, alloc: Global) -> Result<(), AllocError> {
-    let content = content(alloc)?;
-    assert!(rt; content.same(&content.copied(alloc)?));
-    assert!(rt; content.pages.same(&content.pages.copied(alloc)?));
+    let update = Event::Update(WarningId::new(1), content(alloc)?);
+    assert!(rt; update.same(&update.copied(alloc)?));
+    let widen = Event::Widen(WarningId::new(1), coast(alloc)?);
+    assert!(rt; widen.same(&widen.copied(alloc)?));
+    let narrow = Event::Narrow(WarningId::new(1), coast(alloc)?);
+    assert!(rt; narrow.same(&narrow.copied(alloc)?));
+    assert!(rt; !narrow.same(&widen));
     Ok(())
 }
 
@@ -434,8 +429,6 @@ fn every_call_answers(rt: HostRuntime) -> Result<(), Fail> {
     let alloc = rt.alloc();
     let b = BscId::new(1).ok_or("1 is a BSC")?;
     events_are_copied(&rt, alloc)?;
-    notices_are_copied(&rt, alloc)?;
-    contents_are_copied(&rt, alloc)?;
     replies_are_copied(&rt, alloc)?;
     kills_are_written(&rt, alloc)?;
     questions_are_answered(&rt, alloc, b)?;

@@ -19,11 +19,10 @@ use Rattle.framing.specs.declared.frame.Frame.{Frame}
 use Rattle.console.specs.Generations.{generation_of}
 use Rattle.console.specs.Grammar.{line_of}
 use Rattle.console.specs.HexText.{octets_of, pages_of}
-use Rattle.console.specs.Sessions.{SessionState, Says, entered, with_link, Submits, BringsUp, AsksBsc, ReportsBody, ReportsFrame, ReportsOctets, is_report_type, Responds, is_comment, notice_of, AnswersLine, AnswersWords}
+use Rattle.console.specs.Sessions.{SessionState, Says, entered, with_link, Submits, BringsUp, AsksBsc, ReportsBody, ReportsFrame, ReportsOctets, is_report_type, Responds, is_comment, content_of, notice_of, AnswersLine, AnswersWords}
 use Rattle.console.specs.Text.{IsText, without_return}
 use Rattle.console.specs.Texts.{response_text}
 use Rattle.console.specs.Words.{words_of}
-use Rattle.console.specs.declared.heading.Heading.{Heading}
 use Rattle.console.specs.declared.line.Line.{Line}
 use Rattle.console.specs.declared.line.Line.TheVariants as line
 use Rattle.console.specs.declared.response.Response.{Response}
@@ -71,11 +70,12 @@ brings_up_one : (old : SessionState) (b : ℕ) (r s : Response) (new last : Sess
 brings_up_one old b r s new last h k =
     let one = brings_up_so old b r new h in let two = brings_up_so old b s last k in (one.0 ∙ sym two.0, one.1 ∙ sym two.1)
 
-issues_one : (old : SessionState) (heading : Heading) (areas : List (List ℕ)) (pages : Option (List (List ℕ))) (r s : Response) (new last : SessionState)
-    → MatchOption pages (Says old response.BadHex r new) (λ ps. Submits old (event.Issue (notice_of heading ps) areas) r new)
-    → MatchOption pages (Says old response.BadHex s last) (λ ps. Submits old (event.Issue (notice_of heading ps) areas) s last) → Same r s new last
-issues_one old heading areas None r s new last h k = says_one old response.BadHex r s new last h k
-issues_one old heading areas (Some ps) r s new last h k = submits_one old (event.Issue (notice_of heading ps) areas) r s new last h k
+-- an event whose pages are a text
+pages_one : (old : SessionState) (e : List (List ℕ) → Event) (pages : Option (List (List ℕ))) (r s : Response) (new last : SessionState)
+    → MatchOption pages (Says old response.BadHex r new) (λ ps. Submits old (e ps) r new)
+    → MatchOption pages (Says old response.BadHex s last) (λ ps. Submits old (e ps) s last) → Same r s new last
+pages_one old e None r s new last h k = says_one old response.BadHex r s new last h k
+pages_one old e (Some ps) r s new last h k = submits_one old (e ps) r s new last h k
 
 body_one : (old : SessionState) (b kind : ℕ) (body : List ℕ) (r s : Response) (new last : SessionState) → ReportsBody old b kind body r new → ReportsBody old b kind body s last
     → Same r s new last
@@ -126,7 +126,12 @@ responds_one old (line.AddArea a) r s new last h k = submits_one old (event.AddA
 responds_one old (line.DropArea a) r s new last h k = submits_one old (event.DropArea a) r s new last h k
 responds_one old (line.Put a selector) r s new last h k = submits_one old (event.Put a selector) r s new last h k
 responds_one old (line.Cut a selector) r s new last h k = submits_one old (event.Cut a selector) r s new last h k
-responds_one old (line.Issue heading pages areas) r s new last h k = issues_one old heading areas (pages_of pages) r s new last h k
+responds_one old (line.Issue heading pages areas) r s new last h k = pages_one old (λ ps. event.Issue (notice_of heading ps) areas) (pages_of pages) r s new last h k
+responds_one old (line.Update w heading pages) r s new last h k = pages_one old (λ ps. event.Update w (content_of heading ps)) (pages_of pages) r s new last h k
+responds_one old (line.Widen w a) r s new last h k = submits_one old (event.Widen w a) r s new last h k
+responds_one old (line.Narrow w a) r s new last h k = submits_one old (event.Narrow w a) r s new last h k
+responds_one old (line.Stop w) r s new last h k = submits_one old (event.Stop w) r s new last h k
+responds_one old (line.Forget w) r s new last h k = submits_one old (event.Forget w) r s new last h k
 responds_one old (line.Up b) r s new last h k = brings_up_one old b r s new last h k
 responds_one old (line.Down b) r s new last h k = submits_one old (event.LinkDown b (generation_of old.kept b)) r s new last h k
 responds_one old (line.Keep b generation) r s new last h k = (h.0 ∙ sym k.0, h.1 ∙ sym k.1)

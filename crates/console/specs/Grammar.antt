@@ -3,13 +3,14 @@ use Rattle.std.specs.Prelude.{ℕ, ◌&&◌, ◌==◌, List, [], ◌∷◌, Opti
 use Rattle.std.specs.Option.{option_map}
 use Rattle.cbsp_ie.specs.declared.cell.Cell.{Cell}
 use Rattle.areas.specs.declared.selector.Selector.TheVariants as selector
-use Rattle.centre_core.specs.declared.serials.scope.Scope.{Scope}
-use Rattle.centre_core.specs.declared.serials.scope.Scope.TheVariants as scope
+use Rattle.serials.specs.declared.scope.Scope.{Scope}
+use Rattle.serials.specs.declared.scope.Scope.TheVariants as scope
 use Rattle.console.specs.Numbers.{number_in}
 use Rattle.console.specs.Parts.{parts_of}
+use Rattle.console.specs.declared.content_heading.ContentHeading.{ContentHeading}
 use Rattle.console.specs.declared.heading.Heading.{Heading}
 use Rattle.console.specs.declared.line.Line.{Line}
-use Rattle.console.specs.declared.line.Line.TheVariants.{AddBsc, RemoveBsc, AddCell, MoveCell, RemoveCell, AddArea, DropArea, Put, Cut, Issue, Up, Down, Keep, Send, Report, Board, Pending, Table}
+use Rattle.console.specs.declared.line.Line.TheVariants.{AddBsc, RemoveBsc, AddCell, MoveCell, RemoveCell, AddArea, DropArea, Put, Cut, Issue, Update, Widen, Narrow, Stop, Forget, Up, Down, Keep, Send, Report, Board, Pending, Table}
 
 -- f of what is there
 abbrev pub if_some : {A B : Type 0} → Option A → (A → Option B) → Option B
@@ -59,15 +60,25 @@ move_cell lac ci bsc = if_some (cell_of lac ci) (λ c. if_some (bsc_of bsc) (λ 
 abbrev pub keep : List ℕ → List ℕ → Option Line
 keep bsc generation = if_some (bsc_of bsc) (λ b. if_some (link_generation_of generation) (λ g. Some (Keep b g)))
 
+-- DCS CAT PERIOD of `issue` and `update`
+abbrev pub content_heading_of : List ℕ → List ℕ → List ℕ → Option ContentHeading
+content_heading_of dcs category period =
+    if_some (number_in 0 255 dcs) (λ d.
+    if_some (number_in 0 2 category) (λ k.
+    if_some (two_octets_of period) (λ p.
+    Some (record { dcs = d; category = k; period = p }))))
+
 -- M SCOPE DCS CAT PERIOD of `issue`
 abbrev pub heading_of : List ℕ → List ℕ → List ℕ → List ℕ → List ℕ → Option Heading
 heading_of message_id scope dcs category period =
     if_some (two_octets_of message_id) (λ m.
     if_some (scope_of scope) (λ s.
-    if_some (number_in 0 255 dcs) (λ d.
-    if_some (number_in 0 2 category) (λ k.
-    if_some (two_octets_of period) (λ p.
-    Some (record { message_id = m; scope = s; dcs = d; category = k; period = p }))))))
+    if_some (content_heading_of dcs category period) (λ h.
+    Some (record { message_id = m; scope = s; content = h }))))
+
+-- W DCS CAT PERIOD PAGES of `update`
+abbrev pub update : List ℕ → List ℕ → List ℕ → List ℕ → List ℕ → Option Line
+update warning dcs category period pages = if_some (warning_of warning) (λ w. if_some (content_heading_of dcs category period) (λ h. Some (Update w h pages)))
 
 -- the line of the words, by how many they are; there is no other line
 abbrev pub line_of : List (List ℕ) → Option Line
@@ -75,6 +86,8 @@ line_of (verb ∷ x ∷ []) =
     if bytes_eq verb (codes "up") then option_map Up (bsc_of x)
     else if bytes_eq verb (codes "down") then option_map Down (bsc_of x)
     else if bytes_eq verb (codes "send") then option_map Send (bsc_of x)
+    else if bytes_eq verb (codes "stop") then option_map Stop (warning_of x)
+    else if bytes_eq verb (codes "forget") then option_map Forget (warning_of x)
     else if bytes_eq verb (codes "board") then option_map Board (warning_of x)
     else if bytes_eq verb (codes "pending") then option_map Pending (bsc_of x)
     else if bytes_eq verb (codes "table") then option_map Table (bsc_of x)
@@ -84,6 +97,8 @@ line_of (verb ∷ x ∷ y ∷ []) =
     else if bytes_eq verb (codes "bsc") && bytes_eq x (codes "remove") then option_map RemoveBsc (bsc_of y)
     else if bytes_eq verb (codes "area") && bytes_eq x (codes "add") then Some (AddArea y)
     else if bytes_eq verb (codes "area") && bytes_eq x (codes "drop") then Some (DropArea y)
+    else if bytes_eq verb (codes "widen") then option_map (λ w. Widen w y) (warning_of x)
+    else if bytes_eq verb (codes "narrow") then option_map (λ w. Narrow w y) (warning_of x)
     else if bytes_eq verb (codes "gen") then keep x y
     else if bytes_eq verb (codes "rx") then option_map (λ b. Report b y) (bsc_of x)
     else None
@@ -97,6 +112,9 @@ line_of (verb ∷ x ∷ y ∷ z ∷ t ∷ []) =
     else if bytes_eq verb (codes "cell") && bytes_eq x (codes "move") then move_cell y z t
     else if bytes_eq verb (codes "area") && bytes_eq x (codes "put") then option_map (λ c. Put y (selector.Cell c)) (cell_of z t)
     else if bytes_eq verb (codes "area") && bytes_eq x (codes "cut") then option_map (λ c. Cut y (selector.Cell c)) (cell_of z t)
+    else None
+line_of (verb ∷ warning ∷ dcs ∷ category ∷ period ∷ pages ∷ []) =
+    if bytes_eq verb (codes "update") then update warning dcs category period pages
     else None
 line_of (verb ∷ message_id ∷ scope ∷ dcs ∷ category ∷ period ∷ pages ∷ areas ∷ []) =
     if bytes_eq verb (codes "issue") then option_map (λ h. Issue h pages (names_of areas)) (heading_of message_id scope dcs category period)

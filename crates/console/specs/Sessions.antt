@@ -19,13 +19,15 @@ use Rattle.centre_core.specs.declared.entry.Entry.{Entry}
 use Rattle.centre_core.specs.declared.event.Event.{Event}
 use Rattle.centre_core.specs.declared.event.Event.TheVariants as event
 use Rattle.centre_core.specs.declared.refusal.Refusal.TheVariants as refusal
-use Rattle.centre_core.specs.declared.warning_book.notice.Notice.{Notice}
 use Rattle.framing.specs.declared.frame.Frame.{Frame}
+use Rattle.warning_book.specs.declared.content.Content.{Content}
+use Rattle.warning_book.specs.declared.notice.Notice.{Notice}
 use Rattle.console.specs.Frames.{IsFrame, IsNoFrame}
 use Rattle.console.specs.Generations.{generation_of, with_generation}
 use Rattle.console.specs.Grammar.{line_of}
 use Rattle.console.specs.HexText.{octets_of, pages_of}
 use Rattle.console.specs.Words.{words_of}
+use Rattle.console.specs.declared.content_heading.ContentHeading.{ContentHeading}
 use Rattle.console.specs.declared.heading.Heading.{Heading}
 use Rattle.console.specs.declared.kept.Kept.{Kept}
 use Rattle.console.specs.declared.line.Line.{Line}
@@ -70,13 +72,22 @@ BringsUp old b (response.Accepted number a) new = Accepts old (event.LinkUp b) n
 BringsUp old b (response.Refused r) new = (verdict old.centre.limit (past old.centre) (event.LinkUp b) ≡ Err r) × (new ≡ old)
 BringsUp old b other new = ⊥
 
+-- what an operator writes of a version, and of a warning that is issued
+abbrev pub content_of : ContentHeading → List (List ℕ) → Content
+content_of h pages = record { dcs = h.dcs; category = h.category; period = h.period; pages = pages }
+
 abbrev pub notice_of : Heading → List (List ℕ) → Notice
-notice_of h pages = record { message_id = h.message_id; scope = h.scope; content = record { dcs = h.dcs; category = h.category; period = h.period; pages = pages } }
+notice_of h pages = record { message_id = h.message_id; scope = h.scope; content = content_of h.content pages }
 
 -- a warning is issued in these areas
 abbrev pub Issues : SessionState → Heading → List ℕ → List (List ℕ) → Response → SessionState → Type 0
 Issues old h text areas r new =
     MatchOption (pages_of text) (Says old response.BadHex r new) (λ pages. Submits old (event.Issue (notice_of h pages) areas) r new)
+
+-- a warning gets a new version
+abbrev pub Updates : SessionState → ℕ → ContentHeading → List ℕ → Response → SessionState → Type 0
+Updates old w h text r new =
+    MatchOption (pages_of text) (Says old response.BadHex r new) (λ pages. Submits old (event.Update w (content_of h pages)) r new)
 
 -- the board of a warning
 abbrev pub AsksBoard : SessionState → ℕ → Response → SessionState → Type 0
@@ -135,6 +146,11 @@ Responds old (line.DropArea a) r new = Submits old (event.DropArea a) r new
 Responds old (line.Put a s) r new = Submits old (event.Put a s) r new
 Responds old (line.Cut a s) r new = Submits old (event.Cut a s) r new
 Responds old (line.Issue heading pages areas) r new = Issues old heading pages areas r new
+Responds old (line.Update w heading pages) r new = Updates old w heading pages r new
+Responds old (line.Widen w a) r new = Submits old (event.Widen w a) r new
+Responds old (line.Narrow w a) r new = Submits old (event.Narrow w a) r new
+Responds old (line.Stop w) r new = Submits old (event.Stop w) r new
+Responds old (line.Forget w) r new = Submits old (event.Forget w) r new
 Responds old (line.Up b) r new = BringsUp old b r new
 Responds old (line.Down b) r new = Submits old (event.LinkDown b (generation_of old.kept b)) r new
 Responds old (line.Keep b generation) r new = Keeps old b generation r new

@@ -19,7 +19,7 @@ use Rattle.centre_core.specs.declared.mirror.presence.Presence.TheVariants.{Abse
 use Rattle.centre_core.specs.declared.mirror.reported_key.ReportedKey.{ReportedKey}
 use Rattle.centre_core.specs.declared.order_maker.order.Order.{Order}
 use Rattle.centre_core.specs.declared.order_maker.order_kind.OrderKind.{OrderKind}
-use Rattle.centre_core.specs.declared.order_maker.order_kind.OrderKind.TheVariants.{Write, Kill}
+use Rattle.centre_core.specs.declared.order_maker.order_kind.OrderKind.TheVariants.{Write, Replace, Kill}
 use Rattle.centre_core.specs.declared.refusal.Limit.{Limit}
 use Rattle.centre_core.specs.declared.refusal.Limit.TheVariants as limit
 use Rattle.centre_core.specs.declared.refusal.Refusal.{Refusal}
@@ -56,10 +56,17 @@ refusal_name refusal.AreaInUse = codes "AreaInUse"
 refusal_name refusal.SelectorThere = codes "SelectorThere"
 refusal_name refusal.SelectorNotThere = codes "SelectorNotThere"
 refusal_name refusal.NoSuchWarning = codes "NoSuchWarning"
+refusal_name refusal.NotActive = codes "NotActive"
+refusal_name refusal.StillActive = codes "StillActive"
+refusal_name refusal.StillReported = codes "StillReported"
+refusal_name refusal.StillInFlight = codes "StillInFlight"
 refusal_name refusal.NoAreas = codes "NoAreas"
 refusal_name refusal.AreaThere = codes "AreaThere"
+refusal_name refusal.AreaNotThere = codes "AreaNotThere"
+refusal_name refusal.LastArea = codes "LastArea"
 refusal_name refusal.BadPages = codes "BadPages"
 refusal_name refusal.BadPeriod = codes "BadPeriod"
+refusal_name refusal.UpdatesExhausted = codes "UpdatesExhausted"
 refusal_name (refusal.StaleLink now) = codes "StaleLink"
 refusal_name refusal.LinkNotUp = codes "LinkNotUp"
 refusal_name refusal.InFlight = codes "InFlight"
@@ -85,6 +92,7 @@ serial_text s = encode_upper (bytes_high_first 2 s)
 abbrev pub answer_text : Answer → List ℕ
 answer_text answer.Done = newline
 answer_text (answer.Issued n s) = codes " warning " ++ (decimal n ++ (codes " serial " ++ (serial_text s ++ newline)))
+answer_text (answer.Updated s) = codes " serial " ++ (serial_text s ++ newline)
 answer_text (answer.Link generation) = codes " link " ++ (decimal generation ++ newline)
 answer_text (answer.Sent order message) = codes " tx " ++ (encode_lower (frame_of message) ++ newline)
 answer_text (answer.Replied replies) = codes " cells " ++ (decimal (length replies) ++ newline)
@@ -128,11 +136,19 @@ board_text n = codes "awaited " ++ (decimal n.awaited ++ (codes " onair " ++ (de
 
 abbrev pub kind_name : OrderKind → List ℕ
 kind_name Write = codes "write"
+kind_name (Replace old) = codes "replace"
 kind_name Kill = codes "kill"
+
+-- the serial number of the message that a replace takes off the air
+abbrev pub old_text : OrderKind → List ℕ
+old_text Write = []
+old_text (Replace old) = codes " old " ++ serial_text old
+old_text Kill = []
 
 -- the line of one group: a pending order, with the number of its cells
 abbrev pub group_text : Order → List ℕ
-group_text o = kind_name o.kind ++ (codes " " ++ (decimal o.message_id ++ (codes " " ++ (serial_text o.serial ++ (codes " cells " ++ (decimal (length o.cells) ++ newline))))))
+group_text o =
+    kind_name o.kind ++ (codes " " ++ (decimal o.message_id ++ (codes " " ++ (serial_text o.serial ++ (old_text o.kind ++ (codes " cells " ++ (decimal (length o.cells) ++ newline)))))))
 
 -- a line for each group, and their number
 abbrev pub pending_text : List Order → List ℕ

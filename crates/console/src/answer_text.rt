@@ -46,6 +46,10 @@ fn accepted_text(alloc: Global, number: u64, answer: &Answer) -> Result<String, 
             let serial = serial_text(alloc, *serial)?;
             format!(in alloc; "ok {number} warning {warning} serial {serial}\n")
         }
+        Answer::Updated(serial) => {
+            let serial = serial_text(alloc, *serial)?;
+            format!(in alloc; "ok {number} serial {serial}\n")
+        }
         Answer::Link(generation) => format!(in alloc; "ok {number} link {generation}\n"),
         Answer::Sent { order: _, message } => {
             let octets = write(alloc, message)?;
@@ -107,10 +111,17 @@ fn refusal_name(refusal: Refusal) -> &'static str
         Refusal::SelectorThere => "SelectorThere",
         Refusal::SelectorNotThere => "SelectorNotThere",
         Refusal::NoSuchWarning => "NoSuchWarning",
+        Refusal::NotActive => "NotActive",
+        Refusal::StillActive => "StillActive",
+        Refusal::StillReported => "StillReported",
+        Refusal::StillInFlight => "StillInFlight",
         Refusal::NoAreas => "NoAreas",
         Refusal::AreaThere => "AreaThere",
+        Refusal::AreaNotThere => "AreaNotThere",
+        Refusal::LastArea => "LastArea",
         Refusal::BadPages => "BadPages",
         Refusal::BadPeriod => "BadPeriod",
+        Refusal::UpdatesExhausted => "UpdatesExhausted",
         Refusal::StaleLink { .. } => "StaleLink",
         Refusal::LinkNotUp => "LinkNotUp",
         Refusal::InFlight => "InFlight",

@@ -3,7 +3,7 @@
 ghost use Rattle.std.specs.Prelude.{◌≡◌, IfOk, string_bytes};
 ghost use Rattle.console.specs.Texts.{serial_text};
 
-use centre_core::serials::Serial;
+use serials::Serial;
 use std::alloc::{AllocError, Global};
 
 /// Four upper-case hexadecimal digits.

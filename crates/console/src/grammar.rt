@@ -1,8 +1,9 @@
 //! The lines that an operator may write.
 
 ghost use Rattle.std.specs.Prelude.{◌≡◌, [], ◌∷◌, IfOk};
-ghost use Rattle.console.specs.Grammar.{bsc_of, two_octets_of, warning_of, link_generation_of, cell_of, scope_of, names_of, add_cell, move_cell, keep, heading_of, line_of};
+ghost use Rattle.console.specs.Grammar.{bsc_of, two_octets_of, warning_of, link_generation_of, cell_of, scope_of, names_of, add_cell, move_cell, keep, content_heading_of, heading_of, line_of};
 
+use crate::content_heading::ContentHeading;
 use crate::heading::Heading;
 use crate::line::Line;
 use crate::numbers::read_number_in;
@@ -11,9 +12,9 @@ use crate::words::is_word;
 use areas::Selector;
 use cbsp_ie::{Cell, Name, Names, Octets};
 use cell_register::BscId;
-use centre_core::serials::Scope;
-use centre_core::warning_book::WarningId;
+use serials::Scope;
 use std::alloc::{AllocError, Global};
+use warning_book::WarningId;
 
 /// The line of the words; `None` where there is no such line, or a number isn't one or is out of its range.
 pub fn read_line(alloc: Global, words: &[Octets]) -> Result<Option<Line>, AllocError>
@@ -37,17 +38,12 @@ pub fn read_line(alloc: Global, words: &[Octets]) -> Result<Option<Line>, AllocE
             z.as_slice(),
             t.as_slice(),
         ),
+        [verb, warning, dcs, category, period, pages] => {
+            read_six(alloc, verb, warning, dcs, category, period, pages)
+        }
         [verb, message_id, scope, dcs, category, period, pages, areas] => {
             read_eight(
-                alloc,
-                verb.as_slice(),
-                message_id.as_slice(),
-                scope.as_slice(),
-                dcs.as_slice(),
-                category.as_slice(),
-                period.as_slice(),
-                pages.as_slice(),
-                areas.as_slice(),
+                alloc, verb, message_id, scope, dcs, category, period, pages, areas,
             )
         }
         _ => Ok(None),
@@ -124,7 +120,7 @@ fn read_name(alloc: Global, word: &[u8]) -> Result<Name, AllocError>
     Ok(Name::from_vec(Vec::from_slice(alloc, word)?))
 }
 
-/// `up B`, `down B`, `send B`, `board W`, `pending B`, `table B`
+/// `up B`, `down B`, `send B`, `stop W`, `forget W`, `board W`, `pending B`, `table B`
 fn read_two(verb: &[u8], x: &[u8]) -> Option<Line>
     ensures { result ≡ line_of (verb.now ∷ x.now ∷ []) }
 {
@@ -134,6 +130,10 @@ fn read_two(verb: &[u8], x: &[u8]) -> Option<Line>
         Some(Line::Down(read_bsc(x)?))
     } else if is_word(verb, b"send") {
         Some(Line::Send(read_bsc(x)?))
+    } else if is_word(verb, b"stop") {
+        Some(Line::Stop(read_warning(x)?))
+    } else if is_word(verb, b"forget") {
+        Some(Line::Forget(read_warning(x)?))
     } else if is_word(verb, b"board") {
         Some(Line::Board(read_warning(x)?))
     } else if is_word(verb, b"pending") {
@@ -145,7 +145,7 @@ fn read_two(verb: &[u8], x: &[u8]) -> Option<Line>
     }
 }
 
-/// `bsc add B`, `bsc remove B`, `area add N`, `area drop N`, `gen B G`, `rx B HEX`
+/// `bsc add B`, `bsc remove B`, `area add N`, `area drop N`, `widen W N`, `narrow W N`, `gen B G`, `rx B HEX`
 fn read_three(alloc: Global, verb: &[u8], x: &[u8], y: &[u8]) -> Result<Option<Line>, AllocError>
     ensures { IfOk result (λ line. line ≡ line_of (verb.now ∷ x.now ∷ y.now ∷ [])) }
 {
@@ -157,6 +157,16 @@ fn read_three(alloc: Global, verb: &[u8], x: &[u8], y: &[u8]) -> Result<Option<L
         Ok(Some(Line::AddArea(read_name(alloc, y)?)))
     } else if is_word(verb, b"area") && is_word(x, b"drop") {
         Ok(Some(Line::DropArea(read_name(alloc, y)?)))
+    } else if is_word(verb, b"widen") {
+        match read_warning(x) {
+            Some(warning) => Ok(Some(Line::Widen(warning, read_name(alloc, y)?))),
+            None => Ok(None),
+        }
+    } else if is_word(verb, b"narrow") {
+        match read_warning(x) {
+            Some(warning) => Ok(Some(Line::Narrow(warning, read_name(alloc, y)?))),
+            None => Ok(None),
+        }
     } else if is_word(verb, b"gen") {
         Ok(read_keep(x, y))
     } else if is_word(verb, b"rx") {
@@ -247,39 +257,75 @@ fn read_moved_cell(lac: &[u8], ci: &[u8], bsc: &[u8]) -> Option<Line>
     Some(Line::MoveCell(cell, read_bsc(bsc)?))
 }
 
+fn read_content_heading(dcs: &Octets, category: &Octets, period: &Octets) -> Option<ContentHeading>
+    ensures { result ≡ content_heading_of dcs.now category.now period.now }
+{
+    Some(ContentHeading {
+        dcs: read_number_in(dcs.as_slice(), 0, 255)? as u8,
+        category: read_number_in(category.as_slice(), 0, 2)? as u8,
+        period: read_two_octets(period.as_slice())?,
+    })
+}
+
 fn read_heading(
-    message_id: &[u8],
-    scope: &[u8],
-    dcs: &[u8],
-    category: &[u8],
-    period: &[u8],
+    message_id: &Octets,
+    scope: &Octets,
+    dcs: &Octets,
+    category: &Octets,
+    period: &Octets,
 ) -> Option<Heading>
     ensures { result ≡ heading_of message_id.now scope.now dcs.now category.now period.now }
 {
     Some(Heading {
-        message_id: read_two_octets(message_id)?,
-        scope: read_scope(scope)?,
-        dcs: read_number_in(dcs, 0, 255)? as u8,
-        category: read_number_in(category, 0, 2)? as u8,
-        period: read_two_octets(period)?,
+        message_id: read_two_octets(message_id.as_slice())?,
+        scope: read_scope(scope.as_slice())?,
+        content: read_content_heading(dcs, category, period)?,
     })
+}
+
+/// `update W DCS CAT PERIOD PAGES`
+fn read_six(
+    alloc: Global,
+    verb: &Octets,
+    warning: &Octets,
+    dcs: &Octets,
+    category: &Octets,
+    period: &Octets,
+    pages: &Octets,
+) -> Result<Option<Line>, AllocError>
+    ensures { IfOk result (λ line. line ≡ line_of (verb.now ∷ warning.now ∷ dcs.now ∷ category.now ∷ period.now ∷ pages.now ∷ [])) }
+{
+    if !is_word(verb.as_slice(), b"update") {
+        return Ok(None);
+    }
+    let Some(warning) = read_warning(warning.as_slice()) else {
+        return Ok(None);
+    };
+    let Some(heading) = read_content_heading(dcs, category, period) else {
+        return Ok(None);
+    };
+    Ok(Some(Line::Update {
+        warning,
+        heading,
+        pages: pages.copied(alloc)?,
+    }))
 }
 
 /// `issue M SCOPE DCS CAT PERIOD PAGES AREAS`
 fn read_eight(
     alloc: Global,
-    verb: &[u8],
-    message_id: &[u8],
-    scope: &[u8],
-    dcs: &[u8],
-    category: &[u8],
-    period: &[u8],
-    pages: &[u8],
-    areas: &[u8],
+    verb: &Octets,
+    message_id: &Octets,
+    scope: &Octets,
+    dcs: &Octets,
+    category: &Octets,
+    period: &Octets,
+    pages: &Octets,
+    areas: &Octets,
 ) -> Result<Option<Line>, AllocError>
     ensures { IfOk result (λ line. line ≡ line_of (verb.now ∷ message_id.now ∷ scope.now ∷ dcs.now ∷ category.now ∷ period.now ∷ pages.now ∷ areas.now ∷ [])) }
 {
-    if !is_word(verb, b"issue") {
+    if !is_word(verb.as_slice(), b"issue") {
         return Ok(None);
     }
     let Some(heading) = read_heading(message_id, scope, dcs, category, period) else {
@@ -287,7 +333,7 @@ fn read_eight(
     };
     Ok(Some(Line::Issue {
         heading,
-        pages: Octets::from_vec(Vec::from_slice(alloc, pages)?),
-        areas: read_names(alloc, areas)?,
+        pages: pages.copied(alloc)?,
+        areas: read_names(alloc, areas.as_slice())?,
     }))
 }

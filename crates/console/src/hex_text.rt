@@ -6,9 +6,9 @@ ghost use Rattle.console.specs.HexText.{octets_of, pages_of, all_octets_of};
 use crate::parts::split_parts;
 use crate::words::is_word;
 use cbsp_ie::Octets;
-use centre_core::warning_book::ContentPages;
 use hex::FromHexError;
 use std::alloc::{AllocError, Global};
+use warning_book::ContentPages;
 
 /// The octets that the text spells; `None` where it isn't pairs of hexadecimal digits.
 pub fn read_octets(alloc: Global, text: &[u8]) -> Result<Option<Octets>, AllocError>

@@ -7,6 +7,7 @@
 
 mod answer_text;
 mod console;
+mod content_heading;
 mod digits;
 mod fault;
 mod frames;

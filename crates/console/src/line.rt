@@ -1,10 +1,11 @@
 //! What an operator may ask for in a line.
 
+use crate::content_heading::ContentHeading;
 use crate::heading::Heading;
 use areas::Selector;
 use cbsp_ie::{Cell, Name, Names, Octets};
 use cell_register::BscId;
-use centre_core::warning_book::WarningId;
+use warning_book::WarningId;
 
 /// A line of the console whose words are known and whose numbers are in their ranges. Octets that the
 /// operator writes in hexadecimal digits are still text.
@@ -34,6 +35,20 @@ pub enum Line {
         pages: Octets,
         areas: Names,
     },
+    /// `update W DCS CAT PERIOD PAGES`
+    Update {
+        warning: WarningId,
+        heading: ContentHeading,
+        pages: Octets,
+    },
+    /// `widen W N`
+    Widen(WarningId, Name),
+    /// `narrow W N`
+    Narrow(WarningId, Name),
+    /// `stop W`
+    Stop(WarningId),
+    /// `forget W`
+    Forget(WarningId),
     /// `up B`
     Up(BscId),
     /// `down B`

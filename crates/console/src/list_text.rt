@@ -1,7 +1,7 @@
 //! The texts of answers that have a line for each thing that is asked for.
 
 ghost use Rattle.std.specs.Prelude.{◌≡◌, IfOk, string_bytes};
-ghost use Rattle.console.specs.Texts.{kind_name, group_text, pending_text, presence_name, key_text, table_text};
+ghost use Rattle.console.specs.Texts.{kind_name, old_text, group_text, pending_text, presence_name, key_text, table_text};
 
 use crate::digits::serial_text;
 use centre_core::mirror::{Presence, ReportedKey};
@@ -29,8 +29,9 @@ fn group_text(alloc: Global, order: &Order) -> Result<String, AllocError>
     let kind = kind_name(order.kind);
     let message_id = order.message_id;
     let serial = serial_text(alloc, order.serial)?;
+    let old = old_text(alloc, order.kind)?;
     let cells = order.cells.as_slice().len();
-    format!(in alloc; "{kind} {message_id} {serial} cells {cells}\n")
+    format!(in alloc; "{kind} {message_id} {serial}{old} cells {cells}\n")
 }
 
 fn kind_name(kind: OrderKind) -> &'static str
@@ -38,7 +39,21 @@ fn kind_name(kind: OrderKind) -> &'static str
 {
     match kind {
         OrderKind::Write => "write",
+        OrderKind::Replace { .. } => "replace",
         OrderKind::Kill => "kill",
+    }
+}
+
+/// The serial number of the message that a replace takes off the air.
+fn old_text(alloc: Global, kind: OrderKind) -> Result<String, AllocError>
+    ensures { IfOk result (λ text. string_bytes text ≡ old_text kind) }
+{
+    match kind {
+        OrderKind::Replace { old } => {
+            let old = serial_text(alloc, old)?;
+            format!(in alloc; " old {old}")
+        }
+        OrderKind::Write | OrderKind::Kill => Ok(String::new(alloc)),
     }
 }
 

@@ -4,6 +4,7 @@ ghost use Rattle.std.specs.Prelude.{◌≡◌};
 ghost use Rattle.cbsp_messages.specs.MessageType.{type_with};
 ghost use Rattle.console.specs.Sessions.{is_comment, is_report_type};
 
+use crate::content_heading::ContentHeading;
 use crate::frames::read_frame;
 use crate::generations::Generations;
 use crate::grammar::read_line;
@@ -19,10 +20,10 @@ use centre_core::answer::Answer;
 use centre_core::centre::Centre;
 use centre_core::event::Event;
 use centre_core::refusal::Refusal;
-use centre_core::warning_book::{Content, Notice, WarningId};
 use framing::Frame;
 use std::alloc::{AllocError, Global};
 use std::marker::Model;
+use warning_book::{Notice, WarningId};
 
 /// The desk by which the console submits.
 const DESK: u32 = 1;
@@ -47,7 +48,7 @@ impl Session {
     ghost use Rattle.std.specs.Prelude.{◌≡◌, ◌≤◌, ◌⊎◌, [], IfOk};
     ghost use Rattle.centre_core.specs.declared.event.Event.TheVariants as event;
     ghost use Rattle.console.specs.Texts.{ResponseFits};
-    ghost use Rattle.console.specs.Sessions.{AnswersOrStarves, AsksBoard, AsksPending, AsksTable, BringsUp, IsStarved, Issues, Keeps, Reports, ReportsBody, ReportsFrame, RespondsOrStarves, Submits};
+    ghost use Rattle.console.specs.Sessions.{AnswersOrStarves, AsksBoard, AsksPending, AsksTable, BringsUp, IsStarved, Issues, Keeps, Reports, ReportsBody, ReportsFrame, RespondsOrStarves, Submits, Updates};
     ghost use Rattle.console.specs.Generations.{generation_of};
 
     pub fn new(alloc: Global, plmn: [u8; 3], journal_limit: u32) -> Session
@@ -197,14 +198,24 @@ impl Session {
         let notice = Notice {
             message_id: heading.message_id,
             scope: heading.scope,
-            content: Content {
-                dcs: heading.dcs,
-                category: heading.category,
-                period: heading.period,
-                pages,
-            },
+            content: heading.content.content(pages),
         };
         Ok(self.submit(Event::Issue(notice, areas)))
+    }
+
+    fn update(
+        &mut self,
+        warning: WarningId,
+        heading: ContentHeading,
+        pages: &[u8],
+    ) -> Result<Response, AllocError>
+        ensures answer { IfOk result (λ r. Updates self.old warning heading pages.now r self.new ⊎ IsStarved self.old r self.new) }
+        ensures fits { IfOk result ResponseFits }
+    {
+        let Some(pages) = read_pages(self.alloc, pages)? else {
+            return Ok(Response::BadHex);
+        };
+        Ok(self.submit(Event::Update(warning, heading.content(pages))))
     }
 
     fn respond(&mut self, line: Line) -> Result<Response, AllocError>
@@ -226,6 +237,15 @@ impl Session {
                 pages,
                 areas,
             } => self.issue(heading, pages.as_slice(), areas),
+            Line::Update {
+                warning,
+                heading,
+                pages,
+            } => self.update(warning, heading, pages.as_slice()),
+            Line::Widen(warning, area) => Ok(self.submit(Event::Widen(warning, area))),
+            Line::Narrow(warning, area) => Ok(self.submit(Event::Narrow(warning, area))),
+            Line::Stop(warning) => Ok(self.submit(Event::Stop(warning))),
+            Line::Forget(warning) => Ok(self.submit(Event::Forget(warning))),
             Line::Up(bsc) => self.bring_up(bsc),
             Line::Down(bsc) => Ok(self.bring_down(bsc)),
             Line::Keep(bsc, generation) => self.keep(bsc, generation),

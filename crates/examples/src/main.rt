@@ -10,11 +10,12 @@ use std::rt::Files;
 use std::{fs, io};
 
 /// The scripts: NAME.txt, with its answers in NAME.answers.
-const NAMES: [&str; 5] = [
+const NAMES: [&str; 6] = [
     "first-warning",
     "flood-two-controllers",
     "link-lost",
     "link-up-again",
+    "warning-corrected",
     "wrong-input",
 ];
 

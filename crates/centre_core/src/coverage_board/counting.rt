@@ -3,7 +3,6 @@
 ghost use Rattle.std.specs.Prelude.{◌≡◌, ◌≤◌, length, reverse};
 ghost use Rattle.cbsp_ie.specs.Cell.{cell_eq};
 ghost use Rattle.centre_core.specs.Counted.{is_counted};
-ghost use Rattle.centre_core.specs.Issued.{warning_of};
 ghost use Rattle.centre_core.specs.Numbers.{standing, standing_at, is_awaited, stands_on_air};
 ghost use Rattle.centre_core.specs.Past.{count_of};
 ghost use Rattle.centre_core.specs.Places.{added_cell, cells};
@@ -13,40 +12,40 @@ use crate::entry::Entry;
 use crate::event::Event;
 use crate::history::{added_cell, is_covered, place, presence, was_cell};
 use crate::mirror::Presence;
-use crate::warning_book::IssuedWarning;
 use cbsp_ie::Cell;
+use warning_book::Warning;
 
 /// How the cell stands, if it is registered and the warning covers it.
-fn standing(journal: &[Entry], w: &IssuedWarning<'_>, c: Cell) -> Option<Standing>
-    ensures { result ≡ standing (reverse journal.now) (warning_of w.now) c }
+fn standing(journal: &[Entry], w: &Warning, c: Cell) -> Option<Standing>
+    ensures { result ≡ standing (reverse journal.now) w.now c }
 {
-    if !is_covered(journal, w.areas.as_slice(), c) {
+    if !w.is_active() || !is_covered(journal, w.areas(), c) {
         return None;
     }
     match place(journal, c) {
         None => None,
-        Some(b) => match presence(journal, b, c, w.notice.message_id, w.serial) {
+        Some(b) => match presence(journal, b, c, w.message_id(), w.serial()) {
             Presence::OnAir => Some(Standing::OnAir),
             Presence::Absent | Presence::Unknown => Some(Standing::Awaited),
         },
     }
 }
 
-fn is_awaited(journal: &[Entry], w: &IssuedWarning<'_>, c: Cell) -> bool
-    ensures { result ≡ is_awaited (standing (reverse journal.now) (warning_of w.now) c) }
+fn is_awaited(journal: &[Entry], w: &Warning, c: Cell) -> bool
+    ensures { result ≡ is_awaited (standing (reverse journal.now) w.now c) }
 {
     matches!(standing(journal, w, c), Some(Standing::Awaited))
 }
 
-fn is_on_air(journal: &[Entry], w: &IssuedWarning<'_>, c: Cell) -> bool
-    ensures { result ≡ stands_on_air (standing (reverse journal.now) (warning_of w.now) c) }
+fn is_on_air(journal: &[Entry], w: &Warning, c: Cell) -> bool
+    ensures { result ≡ stands_on_air (standing (reverse journal.now) w.now c) }
 {
     matches!(standing(journal, w, c), Some(Standing::OnAir))
 }
 
 /// Whether the event adds a cell to those that are awaited, after the entries before it.
-fn counts_awaited(journal: &[Entry], w: &IssuedWarning<'_>, before: &[Entry], event: &Event) -> bool
-    ensures { result ≡ is_counted cell_eq (λ c. is_awaited (standing (reverse journal.now) (warning_of w.now) c)) (added_cell event.now) (cells (reverse before.now)) }
+fn counts_awaited(journal: &[Entry], w: &Warning, before: &[Entry], event: &Event) -> bool
+    ensures { result ≡ is_counted cell_eq (λ c. is_awaited (standing (reverse journal.now) w.now c)) (added_cell event.now) (cells (reverse before.now)) }
 {
     match added_cell(event) {
         Some(c) => !was_cell(before, c) && is_awaited(journal, w, c),
@@ -56,8 +55,8 @@ fn counts_awaited(journal: &[Entry], w: &IssuedWarning<'_>, before: &[Entry], ev
 
 /// How many cells are awaited, each once.
 #[tactic(auto, using(crate::proofs::PastLemmas::past_more, crate::proofs::NamedLemmas::cell_counted))]
-pub(crate) fn awaited(journal: &[Entry], w: &IssuedWarning<'_>) -> u64
-    ensures { result ≡ count_of (λ c. is_awaited (standing (reverse journal.now) (warning_of w.now) c)) (cells (reverse journal.now)) }
+pub(crate) fn awaited(journal: &[Entry], w: &Warning) -> u64
+    ensures { result ≡ count_of (λ c. is_awaited (standing (reverse journal.now) w.now c)) (cells (reverse journal.now)) }
 {
     let mut count = 0;
     for (i, entry) in journal.iter().enumerate() {
@@ -69,8 +68,8 @@ pub(crate) fn awaited(journal: &[Entry], w: &IssuedWarning<'_>) -> u64
 }
 
 /// Whether the event adds a cell to those on air, after the entries before it.
-fn counts_on_air(journal: &[Entry], w: &IssuedWarning<'_>, before: &[Entry], event: &Event) -> bool
-    ensures { result ≡ is_counted cell_eq (λ c. stands_on_air (standing (reverse journal.now) (warning_of w.now) c)) (added_cell event.now) (cells (reverse before.now)) }
+fn counts_on_air(journal: &[Entry], w: &Warning, before: &[Entry], event: &Event) -> bool
+    ensures { result ≡ is_counted cell_eq (λ c. stands_on_air (standing (reverse journal.now) w.now c)) (added_cell event.now) (cells (reverse before.now)) }
 {
     match added_cell(event) {
         Some(c) => !was_cell(before, c) && is_on_air(journal, w, c),
@@ -80,8 +79,8 @@ fn counts_on_air(journal: &[Entry], w: &IssuedWarning<'_>, before: &[Entry], eve
 
 /// How many cells are on air, each once.
 #[tactic(auto, using(crate::proofs::PastLemmas::past_more, crate::proofs::NamedLemmas::cell_counted))]
-pub(crate) fn on_air(journal: &[Entry], w: &IssuedWarning<'_>) -> u64
-    ensures { result ≡ count_of (λ c. stands_on_air (standing (reverse journal.now) (warning_of w.now) c)) (cells (reverse journal.now)) }
+pub(crate) fn on_air(journal: &[Entry], w: &Warning) -> u64
+    ensures { result ≡ count_of (λ c. stands_on_air (standing (reverse journal.now) w.now c)) (cells (reverse journal.now)) }
 {
     let mut count = 0;
     for (i, entry) in journal.iter().enumerate() {

@@ -3,7 +3,7 @@
 ghost use Rattle.std.specs.Prelude.{◌≡◌, reverse, unwrap_or};
 ghost use Rattle.std.specs.Option.{option_copied};
 ghost use Rattle.centre_core.specs.InFlight.{outcome};
-ghost use Rattle.centre_core.specs.Presence.{is_among, effect, flight_effect, new_effect, presence_mark, presence};
+ghost use Rattle.centre_core.specs.Presence.{is_among, effect, flight_effect, new_effect, old_effect, key_effect, presence_mark, presence};
 
 use crate::entry::Entry;
 use crate::event::Event;
@@ -12,10 +12,10 @@ use crate::history::flights::{flight_after, is_replied};
 use crate::mirror::Presence;
 use crate::order_maker::{Order, OrderKind};
 use crate::outcome::Outcome;
-use crate::serials::Serial;
 use cbsp_ie::Cell;
 use cbsp_messages::Message;
 use cell_register::BscId;
+use serials::Serial;
 
 /// Whether the cell is one of the list.
 pub(crate) fn is_among(c: Cell, cells: &[Cell]) -> bool
@@ -36,14 +36,37 @@ pub(crate) fn outcome(_message: &Message, _c: Cell) -> Outcome
     Outcome::Done
 }
 
-/// The presence after an order of the kind with that outcome.
-fn presence_after(kind: OrderKind, outcome: Outcome) -> Presence
+/// The presence at the key of its serial number after an order of the kind with that outcome.
+fn new_presence(kind: OrderKind, outcome: Outcome) -> Presence
     ensures { Some result ≡ presence_mark (new_effect kind outcome) }
 {
     match (kind, outcome) {
-        (OrderKind::Write, Outcome::Done) => Presence::OnAir,
+        (OrderKind::Write | OrderKind::Replace { old: _ }, Outcome::Done) => Presence::OnAir,
         (OrderKind::Kill, Outcome::Done) => Presence::Absent,
         (_, Outcome::Silent) => Presence::Unknown,
+    }
+}
+
+/// The presence of what was to be replaced after a replace with that outcome.
+fn old_presence(outcome: Outcome) -> Presence
+    ensures { Some result ≡ presence_mark (old_effect outcome) }
+{
+    match outcome {
+        Outcome::Done => Presence::Absent,
+        Outcome::Silent => Presence::Unknown,
+    }
+}
+
+/// The presence that the order leaves at the key of that serial number; `None` where it does not name it.
+fn key_presence(order: &Order, outcome: Outcome, serial: Serial) -> Option<Presence>
+    ensures { result ≡ presence_mark (key_effect order.now outcome serial) }
+{
+    if order.serial == serial {
+        return Some(new_presence(order.kind, outcome));
+    }
+    match order.kind {
+        OrderKind::Replace { old } if old == serial => Some(old_presence(outcome)),
+        _ => None,
     }
 }
 
@@ -58,11 +81,8 @@ fn flight_presence(
     ensures { result ≡ presence_mark (flight_effect (option_copied flight.entry) outcome c message_id serial) }
 {
     match flight {
-        Some(order)
-            if order.message_id == message_id
-                && order.serial == serial
-                && is_among(c, order.cells.as_slice()) => {
-            Some(presence_after(order.kind, outcome))
+        Some(order) if order.message_id == message_id && is_among(c, order.cells.as_slice()) => {
+            key_presence(order, outcome, serial)
         }
         _ => None,
     }

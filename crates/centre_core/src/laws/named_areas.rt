@@ -1,17 +1,17 @@
 //! Events of areas.
 
-ghost use Rattle.std.specs.Prelude.{◌≡◌, List, OnOk, OnErr, reverse};
+ghost use Rattle.std.specs.Prelude.{◌≡◌, List, OnOk, OnErr};
 ghost use Rattle.areas.specs.Areas.{with_area, without_area, with_selector, without_selector};
 ghost use Rattle.centre_core.specs.Kept.{AreAreasOf, Gives};
 ghost use Rattle.centre_core.specs.Verdict.{add_area, drop_area, put, cut};
+ghost use Rattle.centre_core.specs.Warnings.{book_of};
 ghost use Rattle.centre_core.specs.declared.entry.Entry.{Entry};
 
 use crate::answer::Answer;
-use crate::entry::Entry;
-use crate::history::is_in_use;
 use crate::refusal::Refusal;
 use areas::{Areas, Selector};
 use cbsp_ie::Name;
+use warning_book::Book;
 
 /// AddArea: makes an area that is not there, without selectors.
 #[tactic(auto, using(crate::proofs::AreaLemmas::add_area_taken, crate::proofs::AreaLemmas::add_area_refused))]
@@ -26,16 +26,15 @@ pub(crate) fn add_area(areas: &mut Areas, a: &Name) -> Result<Answer, Refusal>
 }
 
 /// DropArea: drops an area that no warning names.
-pub(crate) fn drop_area(journal: &[Entry], areas: &mut Areas, a: &Name) -> Result<Answer, Refusal>
-    requires { AreAreasOf (reverse journal.now) areas.old }
-    ensures verdict { Gives (drop_area (reverse journal.now) a.now) result }
+pub(crate) fn drop_area(book: &Book, areas: &mut Areas, a: &Name) -> Result<Answer, Refusal>
+    ensures verdict { (past : List Entry) → AreAreasOf past areas.old → book.now ≡ book_of past → Gives (drop_area past a.now) result }
     ensures changed { OnOk result (areas.new ≡ without_area a.now areas.old) }
     ensures unchanged { OnErr result (areas.new ≡ areas.old) }
 {
     if !areas.has_area(a) {
         return Err(Refusal::NoSuchArea);
     }
-    if is_in_use(journal, a) {
+    if book.names_area(a) {
         return Err(Refusal::AreaInUse);
     }
     areas.drop_area(a)?;

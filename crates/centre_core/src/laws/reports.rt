@@ -2,7 +2,7 @@
 
 ghost use Rattle.std.specs.Prelude.{◌≡◌, reverse, map, IfOk};
 ghost use Rattle.std.specs.Option.{option_copied};
-ghost use Rattle.centre_core.specs.InFlight.{agrees, new_of, old_of, is_write, is_kill, matches, matches_flight, replies};
+ghost use Rattle.centre_core.specs.InFlight.{agrees, new_of, old_of, is_kill, matches, matches_flight, replies};
 ghost use Rattle.centre_core.specs.Kept.{IsRegisterOf};
 ghost use Rattle.centre_core.specs.Verdict.{report, report_answer};
 
@@ -33,7 +33,7 @@ fn new_of(order: &Order) -> Option<u16>
     ensures { result ≡ new_of order.now order.now.kind }
 {
     match order.kind {
-        OrderKind::Write => Some(order.serial.to_u16()),
+        OrderKind::Write | OrderKind::Replace { old: _ } => Some(order.serial.to_u16()),
         OrderKind::Kill => None,
     }
 }
@@ -44,6 +44,7 @@ fn old_of(order: &Order) -> Option<u16>
 {
     match order.kind {
         OrderKind::Write => None,
+        OrderKind::Replace { old } => Some(old.to_u16()),
         OrderKind::Kill => Some(order.serial.to_u16()),
     }
 }
@@ -59,7 +60,7 @@ fn matches(message: &Message, order: &Order) -> bool
             old,
             ..
         } => {
-            order.kind == OrderKind::Write
+            order.kind != OrderKind::Kill
                 && agrees(Some(*message_id), Some(order.message_id))
                 && agrees(Some(*serial), new_of(order))
                 && agrees(*old, old_of(order))

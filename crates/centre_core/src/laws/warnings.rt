@@ -1,22 +1,19 @@
 //! Events of warnings.
 
-ghost use Rattle.std.specs.Prelude.{◌≡◌, ◌+◌, not, length, reverse, Option, IfOk};
+ghost use Rattle.std.specs.Prelude.{◌≡◌, not, true, List, OnOk, OnErr, IfOk};
 ghost use Rattle.std.specs.List.{list_any};
 ghost use Rattle.areas.specs.Areas.{has_area};
-ghost use Rattle.centre_core.specs.Kept.{AreAreasOf};
-ghost use Rattle.centre_core.specs.Verdict.{has_twice, is_page, are_pages, is_period, issue_answer, issue};
-ghost use Rattle.centre_core.specs.Warnings.{new_serial, issue_count};
+ghost use Rattle.warning_book.specs.Book.{after_update, after_widen, after_narrow, after_stop};
+ghost use Rattle.centre_core.specs.Kept.{AreAreasOf, Gives, is_plain};
+ghost use Rattle.centre_core.specs.Verdict.{issue, update, widen, narrow, stop};
+ghost use Rattle.centre_core.specs.Warnings.{book_of, book_with};
+ghost use Rattle.centre_core.specs.declared.entry.Entry.{Entry};
 
 use crate::answer::Answer;
-use crate::entry::Entry;
-use crate::history::{book_length, codes_of, is_named, issue_count};
-use crate::laws::Verdict;
-use crate::refusal::{Limit, Refusal};
-use crate::serials::{Serial, least_free_code};
-use crate::warning_book::{Notice, WarningId};
+use crate::refusal::Refusal;
 use areas::Areas;
-use cbsp_ie::{Name, Octets};
-use std::alloc::{AllocError, Global};
+use cbsp_ie::Name;
+use warning_book::{Book, Content, Notice, WarningId};
 
 /// Whether one of the names is no area.
 fn names_no_area(areas: &Areas, names: &[Name]) -> bool
@@ -30,108 +27,86 @@ fn names_no_area(areas: &Areas, names: &[Name]) -> bool
     false
 }
 
-/// Whether a name stands in the list a second time.
-fn has_twice(names: &[Name]) -> bool
-    ensures { result ≡ has_twice names.now }
-{
-    for (i, name) in names.iter().enumerate() {
-        if is_named(name, &names[i + 1..]) {
-            return true;
-        }
-    }
-    false
-}
-
-fn is_page(page: &Octets) -> bool
-    ensures { result ≡ is_page page.now }
-{
-    let octets = page.as_slice();
-    1 <= octets.len() && octets.len() <= 82
-}
-
-fn has_bad_page(pages: &[Octets]) -> bool
-    ensures { result ≡ list_any (λ page. not (is_page page)) pages.now }
-{
-    for page in pages {
-        if !is_page(page) {
-            return true;
-        }
-    }
-    false
-}
-
-fn are_pages(pages: &[Octets]) -> bool
-    ensures { result ≡ are_pages pages.now }
-{
-    1 <= pages.len() && pages.len() <= 15 && !has_bad_page(pages)
-}
-
-fn is_period(period: u16) -> bool
-    ensures { result ≡ is_period period }
-{
-    1 <= period && period <= 1024
-}
-
-/// The serial number of a new warning; `None` where no code is free.
-fn new_serial(
-    alloc: Global,
-    journal: &[Entry],
-    notice: &Notice,
-) -> Result<Option<Serial>, AllocError>
-    ensures { IfOk result (λ serial. serial ≡ new_serial (reverse journal.now) notice.now) }
-{
-    let used = codes_of(alloc, journal, notice.message_id)?;
-    match least_free_code(used.as_slice()) {
-        Some(code) => Ok(Serial::new(notice.scope, code, 0)),
-        None => Ok(None),
-    }
-}
-
 /// Issue: puts a new warning into the book.
-#[tactic(auto, using(crate::proofs::AreaLemmas::names_there))]
+#[tactic(auto, using(crate::proofs::AreaLemmas::names_there, crate::proofs::WarningLemmas::issue_taken, crate::proofs::WarningLemmas::issue_refused))]
 pub(crate) fn issue(
-    alloc: Global,
-    journal: &[Entry],
     areas: &Areas,
+    book: &mut Book,
     notice: &Notice,
     names: &[Name],
-) -> Result<Verdict, AllocError>
-    requires { AreAreasOf (reverse journal.now) areas.now }
-    ensures { IfOk result (λ verdict. verdict ≡ issue (reverse journal.now) notice.now names.now) }
+) -> Result<Answer, Refusal>
+    ensures verdict { (past : List Entry) → AreAreasOf past areas.now → book.old ≡ book_of past → Gives (issue past notice.now names.now) result }
+    ensures changed { IfOk result (λ a. book.new ≡ book_with notice.now names.now a book.old) }
+    ensures unchanged { OnErr result (book.new ≡ book.old) }
+    ensures plain { IfOk result (λ a. is_plain a ≡ true) }
 {
     if names_no_area(areas, names) {
-        return Ok(Err(Refusal::NoSuchArea));
+        return Err(Refusal::NoSuchArea);
     }
-    if names.is_empty() {
-        return Ok(Err(Refusal::NoAreas));
+    let (number, serial) = book.issue(notice, names)?;
+    Ok(Answer::Issued(number, serial))
+}
+
+/// Update: gives a warning a new version.
+#[tactic(auto, using(crate::proofs::WarningLemmas::update_taken, crate::proofs::WarningLemmas::update_refused))]
+pub(crate) fn update(book: &mut Book, w: WarningId, content: &Content) -> Result<Answer, Refusal>
+    ensures verdict { (past : List Entry) → book.old ≡ book_of past → Gives (update past w content.now) result }
+    ensures changed { OnOk result (book.new ≡ after_update w content.now book.old) }
+    ensures unchanged { OnErr result (book.new ≡ book.old) }
+    ensures plain { IfOk result (λ a. is_plain a ≡ true) }
+{
+    let serial = book.update(w, content)?;
+    Ok(Answer::Updated(serial))
+}
+
+/// Widen: puts an area last among those of a warning.
+#[tactic(auto, using(crate::proofs::WarningLemmas::widen_taken, crate::proofs::WarningLemmas::widen_refused))]
+pub(crate) fn widen(
+    areas: &Areas,
+    book: &mut Book,
+    w: WarningId,
+    a: &Name,
+) -> Result<Answer, Refusal>
+    ensures verdict { (past : List Entry) → AreAreasOf past areas.now → book.old ≡ book_of past → Gives (widen past w a.now) result }
+    ensures changed { OnOk result (book.new ≡ after_widen w a.now book.old) }
+    ensures unchanged { OnErr result (book.new ≡ book.old) }
+    ensures plain { IfOk result (λ a. is_plain a ≡ true) }
+{
+    if !areas.has_area(a) {
+        return Err(Refusal::NoSuchArea);
     }
-    if has_twice(names) {
-        return Ok(Err(Refusal::AreaThere));
+    book.widen(w, a)?;
+    Ok(Answer::Done)
+}
+
+/// Narrow: takes an area out of those of a warning.
+#[tactic(auto, using(crate::proofs::WarningLemmas::narrow_taken, crate::proofs::WarningLemmas::narrow_refused))]
+pub(crate) fn narrow(
+    areas: &Areas,
+    book: &mut Book,
+    w: WarningId,
+    a: &Name,
+) -> Result<Answer, Refusal>
+    ensures verdict { (past : List Entry) → AreAreasOf past areas.now → book.old ≡ book_of past → Gives (narrow past w a.now) result }
+    ensures changed { OnOk result (book.new ≡ after_narrow w a.now book.old) }
+    ensures unchanged { OnErr result (book.new ≡ book.old) }
+    ensures plain { IfOk result (λ a. is_plain a ≡ true) }
+{
+    if !areas.has_area(a) {
+        return Err(Refusal::NoSuchArea);
     }
-    if !are_pages(notice.content.pages.as_slice()) {
-        return Ok(Err(Refusal::BadPages));
-    }
-    if !is_period(notice.content.period) {
-        return Ok(Err(Refusal::BadPeriod));
-    }
-    if book_length(journal) >= 256 {
-        return Ok(Err(Refusal::Limit {
-            which: Limit::Warnings,
-        }));
-    }
-    if names.len() > 16 {
-        return Ok(Err(Refusal::Limit {
-            which: Limit::WarningAreas,
-        }));
-    }
-    let issued = issue_count(journal);
-    if issued >= 4294967295 {
-        return Ok(Err(Refusal::Limit { which: Limit::Ids }));
-    }
-    match new_serial(alloc, journal, notice)? {
-        Some(serial) => Ok(Ok(Answer::Issued(WarningId::new(issued as u32 + 1), serial))),
-        None => Ok(Err(Refusal::Limit {
-            which: Limit::Warnings,
-        })),
-    }
+    book.narrow(w, a)?;
+    Ok(Answer::Done)
+}
+
+/// Stop: stops a warning, which stays in the book.
+#[tactic(auto, using(crate::proofs::WarningLemmas::stop_taken, crate::proofs::WarningLemmas::stop_refused))]
+pub(crate) fn stop(book: &mut Book, w: WarningId) -> Result<Answer, Refusal>
+    ensures verdict { (past : List Entry) → book.old ≡ book_of past → Gives (stop past w) result }
+    ensures changed { OnOk result (book.new ≡ after_stop w book.old) }
+    ensures unchanged { OnErr result (book.new ≡ book.old) }
+    ensures plain { IfOk result (λ a. is_plain a ≡ true) }
+{
+    book.stop(w)?;
+    Ok(Answer::Done)
 }

@@ -3,9 +3,9 @@
 ghost use Rattle.std.specs.Prelude.{◌≡◌, Bool};
 
 use crate::mirror::presence::Presence;
-use crate::serials::Serial;
 use crate::sorting::{Ordered, comes_before};
 use cbsp_ie::Cell;
+use serials::Serial;
 
 /// A message that is on air in a cell at a BSC, or may be.
 #[derive(Clone, Copy, Debug, PartialEq, Eq)]
@@ -25,7 +25,7 @@ impl Ordered for ReportedKey {
 
     fn is_before(&self, other: &ReportedKey) -> bool {
         let by_serial = self.serial.to_u16() < other.serial.to_u16();
-        let by_message = comes_before(self.message_id, other.message_id, by_serial);
+        let by_message = comes_before(self.message_id as u32, other.message_id as u32, by_serial);
         self.cell.is_before(&other.cell) || (self.cell == other.cell && by_message)
     }
 }

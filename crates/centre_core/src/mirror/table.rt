@@ -2,19 +2,21 @@
 
 ghost use Rattle.std.specs.Prelude.{◌≡◌, ◌++◌, reverse, IfOk, OnOk};
 ghost use Rattle.std.specs.List.{flat_map};
-ghost use Rattle.centre_core.specs.Issued.{warning_of, issued_by, along, by_warning};
-ghost use Rattle.centre_core.specs.Table.{key_if, keys_in, keys_of, table};
+ghost use Rattle.centre_core.specs.Presence.{presence};
+ghost use Rattle.centre_core.specs.Table.{key_if, key_of, keys_in, keys_of, table};
+ghost use Rattle.centre_core.specs.Warnings.{warnings_of};
 
 use crate::entry::Entry;
-use crate::history::{cells, issued_by, presence};
+use crate::history::{cells, presence};
 use crate::mirror::presence::Presence;
 use crate::mirror::reported_key::ReportedKey;
 use crate::mirror::reported_keys::ReportedKeys;
 use crate::sorting::in_order;
-use crate::warning_book::IssuedWarning;
 use cbsp_ie::Cell;
 use cell_register::BscId;
+use serials::Serial;
 use std::alloc::{AllocError, Global};
+use warning_book::{Version, Warning};
 
 /// Adds the key, unless it is absent.
 fn push_key(out: &mut Vec<ReportedKey>, key: ReportedKey) -> Result<(), AllocError>
@@ -26,26 +28,59 @@ fn push_key(out: &mut Vec<ReportedKey>, key: ReportedKey) -> Result<(), AllocErr
     Ok(())
 }
 
+/// Adds what is reported in the cell of the version of that serial number.
+fn add_key(
+    out: &mut Vec<ReportedKey>,
+    journal: &[Entry],
+    b: BscId,
+    w: &Warning,
+    c: Cell,
+    serial: Serial,
+) -> Result<(), AllocError>
+    ensures { OnOk result (out.new.items ≡ out.old.items ++ key_of (reverse journal.now) b w.now c serial) }
+{
+    let message_id = w.message_id();
+    let presence = presence(journal, b, c, message_id, serial);
+    push_key(
+        out,
+        ReportedKey {
+            cell: c,
+            message_id,
+            serial,
+            presence,
+        },
+    )
+}
+
+/// Adds what is reported in the cell of the versions.
+fn add_keys(
+    out: &mut Vec<ReportedKey>,
+    journal: &[Entry],
+    b: BscId,
+    w: &Warning,
+    c: Cell,
+    versions: &[Version],
+) -> Result<(), AllocError>
+    ensures { OnOk result (out.new.items ≡ out.old.items ++ flat_map (λ v. key_of (reverse journal.now) b w.now c v.serial) versions.now) }
+{
+    for version in versions {
+        add_key(out, journal, b, w, c, version.serial)?;
+    }
+    Ok(())
+}
+
 /// Adds what is reported of the warning in the cell.
 fn add_keys_in(
     out: &mut Vec<ReportedKey>,
     journal: &[Entry],
     b: BscId,
-    w: &IssuedWarning<'_>,
+    w: &Warning,
     c: Cell,
 ) -> Result<(), AllocError>
-    ensures { OnOk result (out.new.items ≡ out.old.items ++ keys_in (reverse journal.now) b (warning_of w.now) c) }
+    ensures { OnOk result (out.new.items ≡ out.old.items ++ keys_in (reverse journal.now) b w.now c) }
 {
-    let presence = presence(journal, b, c, w.notice.message_id, w.serial);
-    push_key(
-        out,
-        ReportedKey {
-            cell: c,
-            message_id: w.notice.message_id,
-            serial: w.serial,
-            presence,
-        },
-    )
+    add_key(out, journal, b, w, c, w.serial())?;
+    add_keys(out, journal, b, w, c, w.outdated())
 }
 
 /// Adds what is reported of the warning in the cells.
@@ -53,10 +88,10 @@ fn add_keys_of(
     out: &mut Vec<ReportedKey>,
     journal: &[Entry],
     b: BscId,
-    w: &IssuedWarning<'_>,
+    w: &Warning,
     cells: &[Cell],
 ) -> Result<(), AllocError>
-    ensures { OnOk result (out.new.items ≡ out.old.items ++ flat_map (keys_in (reverse journal.now) b (warning_of w.now)) cells.now) }
+    ensures { OnOk result (out.new.items ≡ out.old.items ++ flat_map (keys_in (reverse journal.now) b w.now) cells.now) }
 {
     for cell in cells {
         add_keys_in(out, journal, b, w, *cell)?;
@@ -64,44 +99,34 @@ fn add_keys_of(
     Ok(())
 }
 
-/// Adds what is reported of the warning that the entry issues.
-fn add_keys_by(
-    out: &mut Vec<ReportedKey>,
-    journal: &[Entry],
-    b: BscId,
-    entry: &Entry,
-    cells: &[Cell],
-) -> Result<(), AllocError>
-    ensures { OnOk result (out.new.items ≡ out.old.items ++ by_warning (λ w. flat_map (keys_in (reverse journal.now) b w) cells.now) (issued_by entry.now.event entry.now.answer)) }
-{
-    match issued_by(entry) {
-        Some(w) => add_keys_of(out, journal, b, &w, cells),
-        None => Ok(()),
-    }
-}
-
-/// What is reported in the cells, of what the entries issue one after another.
-fn keys_along(
+/// What is reported in the cells of the warnings, one after another.
+fn keys_among(
     alloc: Global,
     journal: &[Entry],
     b: BscId,
     cells: &[Cell],
+    warnings: &[Warning],
 ) -> Result<Vec<ReportedKey>, AllocError>
-    ensures { IfOk result (λ v. v.items ≡ along (λ w. flat_map (keys_in (reverse journal.now) b w) cells.now) journal.now) }
+    ensures { IfOk result (λ v. v.items ≡ flat_map (λ w. flat_map (keys_in (reverse journal.now) b w) cells.now) warnings.now) }
 {
     let mut out = Vec::new(alloc);
-    for entry in journal {
-        add_keys_by(&mut out, journal, b, entry, cells)?;
+    for warning in warnings {
+        add_keys_of(&mut out, journal, b, warning, cells)?;
     }
     Ok(out)
 }
 
 /// What the BSC has reported.
-#[tactic(auto, using(crate::proofs::BookLemmas::along_journal))]
-pub(crate) fn table(alloc: Global, journal: &[Entry], b: BscId) -> Result<ReportedKeys, AllocError>
+pub(crate) fn table(
+    alloc: Global,
+    journal: &[Entry],
+    warnings: &[Warning],
+    b: BscId,
+) -> Result<ReportedKeys, AllocError>
+    requires { warnings.now ≡ warnings_of (reverse journal.now) }
     ensures { IfOk result (λ keys. keys ≡ table (reverse journal.now) b) }
 {
     let cells = cells(alloc, journal)?;
-    let keys = keys_along(alloc, journal, b, cells.as_slice())?;
+    let keys = keys_among(alloc, journal, b, cells.as_slice(), warnings)?;
     Ok(ReportedKeys::from_vec(in_order(alloc, keys)?))
 }

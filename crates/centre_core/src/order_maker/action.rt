@@ -1,8 +1,8 @@
 //! One thing to order in one cell.
 
 use crate::order_maker::order_kind::OrderKind;
-use crate::serials::Serial;
 use cbsp_ie::Cell;
+use serials::Serial;
 
 /// What is to be ordered in one cell, for one message.
 #[derive(Clone, Copy, Debug, PartialEq, Eq)]

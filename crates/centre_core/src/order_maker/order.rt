@@ -3,8 +3,8 @@
 ghost use Rattle.std.specs.Prelude.{◌≡◌, ◌↔◌, IsTrue, IfOk};
 
 use crate::order_maker::order_kind::OrderKind;
-use crate::serials::Serial;
 use cbsp_ie::Cells;
+use serials::Serial;
 use std::alloc::{AllocError, Global};
 
 /// An order of one kind for one message, in all cells that need it.
@@ -13,7 +13,7 @@ pub struct Order {
     pub kind: OrderKind,
     /// The message identifier (TS 23.041, 9.4.1.2.2).
     pub message_id: u16,
-    /// The message that is written or killed.
+    /// The message that is written, or killed.
     pub serial: Serial,
     /// In order of location area, then cell.
     pub cells: Cells,

@@ -7,10 +7,10 @@ ghost use Rattle.centre_core.specs.OrderMessage.{order_message, write_message, k
 
 use crate::order_maker::order::Order;
 use crate::order_maker::order_kind::OrderKind;
-use crate::warning_book::Content;
 use cbsp_ie::{CellIds, Octets};
 use cbsp_messages::{Message, Page, Pages};
 use std::alloc::{AllocError, Global};
+use warning_book::Content;
 
 /// The pages as they are sent, each with zeros up to 82 octets.
 fn pages_of(alloc: Global, contents: &[Octets]) -> Result<Pages, AllocError>
@@ -24,14 +24,19 @@ fn pages_of(alloc: Global, contents: &[Octets]) -> Result<Pages, AllocError>
     Ok(pages)
 }
 
-fn write_message(alloc: Global, order: &Order, content: &Content) -> Result<Message, AllocError>
+fn write_message(
+    alloc: Global,
+    order: &Order,
+    old: Option<u16>,
+    content: &Content,
+) -> Result<Message, AllocError>
     requires { All (λ p. length p ≤ 82) content.now.pages }
-    ensures { IfOk result (λ m. m ≡ write_message order.now content.now) }
+    ensures { IfOk result (λ m. m ≡ write_message order.now old content.now) }
 {
     Ok(Message::WriteReplace {
         message_id: order.message_id,
         serial: order.serial.to_u16(),
-        old: None,
+        old,
         cells: CellIds::of_cells(alloc, order.cells.as_slice())?,
         channel: Some(0),
         category: content.category,
@@ -54,7 +59,8 @@ fn kill_message(alloc: Global, order: &Order) -> Result<Message, AllocError>
 }
 
 /// The message that carries the order (TS 48.049, 8.1.3.1 and 8.1.3.4): a WRITE-REPLACE on the basic channel that is
-/// broadcast until it is killed, or a KILL. A write has its content.
+/// broadcast until it is killed, with the Old Serial Number where it replaces a message, or a KILL. A write or a replace
+/// has its content.
 pub fn message_of(
     alloc: Global,
     order: &Order,
@@ -63,8 +69,12 @@ pub fn message_of(
     requires { IfSome content (λ c. All (λ p. length p ≤ 82) c.now.pages) }
     ensures { IfOk result (λ m. m ≡ order_message order.now (option_copied content.entry)) }
 {
-    match (order.kind, content) {
-        (OrderKind::Write, Some(content)) => write_message(alloc, order, content),
-        _ => kill_message(alloc, order),
+    let Some(content) = content else {
+        return kill_message(alloc, order);
+    };
+    match order.kind {
+        OrderKind::Write => write_message(alloc, order, None, content),
+        OrderKind::Replace { old } => { write_message(alloc, order, Some(old.to_u16()), content) }
+        OrderKind::Kill => kill_message(alloc, order),
     }
 }

@@ -2,6 +2,7 @@
 
 ghost use Rattle.std.specs.Prelude.{◌≡◌, take, reverse, IfOk};
 ghost use Rattle.centre_core.specs.Pending.{pending, shortened, most_cells, first};
+ghost use Rattle.centre_core.specs.Warnings.{warnings_of};
 
 use crate::entry::Entry;
 use crate::order_maker::actions::all_actions;
@@ -12,12 +13,19 @@ use crate::sorting::in_order;
 use cbsp_ie::{Cell, Cells};
 use cell_register::BscId;
 use std::alloc::{AllocError, Global};
+use warning_book::Warning;
 
 /// The pending orders of the BSC.
-pub(crate) fn pending(alloc: Global, journal: &[Entry], b: BscId) -> Result<Orders, AllocError>
+pub(crate) fn pending(
+    alloc: Global,
+    journal: &[Entry],
+    warnings: &[Warning],
+    b: BscId,
+) -> Result<Orders, AllocError>
+    requires { warnings.now ≡ warnings_of (reverse journal.now) }
     ensures { IfOk result (λ orders. orders ≡ pending (reverse journal.now) b) }
 {
-    let actions = all_actions(alloc, journal, b)?;
+    let actions = all_actions(alloc, journal, warnings, b)?;
     let ordered = in_order(alloc, actions)?;
     Ok(Orders::from_vec(grouped(alloc, ordered)?))
 }

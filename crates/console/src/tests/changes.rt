@@ -1,26 +1,5 @@
-use super::{Row, agrees, answered};
+use super::{Row, agrees, agrees_after_order, answered};
 use std::test::Fail;
-
-/// The first warning, whose order is out.
-const ORDERED: &str = "bsc add 1\n\
-     cell add 100 7 1\n\
-     area add Coast\n\
-     area put Coast 100 7\n\
-     issue 4370 3 15 0 30 d4f29c0e Coast\n\
-     up 1\n\
-     send 1\n";
-
-/// What begins the answers to these lines, and ends them. Between are the 78 octets of 0 that fill the page.
-const ORDERED_ANSWERS: [&str; 2] = [
-    "ok 1\n\
-     ok 2\n\
-     ok 3\n\
-     ok 4\n\
-     ok 5 warning 1 serial C000\n\
-     ok 6 link 6\n\
-     ok 7 tx 010000700e111203c00004000501006400071200050006001e07000013010c0f0104d4f29c0e",
-    "\n",
-];
 
 /// What follows the first order, entry 7.
 static AFTER_ORDER: [Row; 5] = [
@@ -154,18 +133,8 @@ static AFTER_ORDER: [Row; 5] = [
 
 #[test]
 fn changes_after_an_order_have_their_answers(rt: HostRuntime) -> Result<(), Fail> {
-    let alloc = rt.alloc();
-    let mut begun = String::from_str(alloc, ORDERED_ANSWERS[0])?;
-    for _ in 0..78 {
-        begun.push_str("00")?;
-    }
-    begun.push_str(ORDERED_ANSWERS[1])?;
     for row in &AFTER_ORDER {
-        let script = format!(in alloc; "{ORDERED}{}", row.script)?;
-        let answers = format!(in alloc; "{begun}{}", row.answers)?;
-        let (ended, wrote) = answered(alloc, script.as_bytes(), 4_000_000);
-        assert_eq!(rt; ended, Ok(()), "{}", row.name);
-        assert_eq!(rt; wrote.as_slice(), answers.as_bytes(), "{}", row.name);
+        agrees_after_order(&rt, rt.alloc(), row.name, row.script, row.answers)?;
     }
     Ok(())
 }

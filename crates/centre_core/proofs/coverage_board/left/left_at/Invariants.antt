@@ -1,5 +1,4 @@
 use Rattle.std.proofs.Common.{◌≡◌, ◌≤◌, take, reverse}
-use Rattle.centre_core.specs.Issued.{warning_of}
 use Rattle.centre_core.specs.Past.{count_of}
 use Rattle.centre_core.specs.Places.{cells}
 use Rattle.centre_core.specs.Numbers.{is_left}
@@ -7,4 +6,4 @@ use Rattle.centre_core.proofs.coverage_board.left.left_at.Given as goal
 
 -- the cells where it is left of those that the entries passed register
 abbrev pub invariant-loop-i : goal.invariant-loop-i
-invariant-loop-i l = record { bound : l.count ≤ l.i; count : l.count ≡ count_of (is_left (reverse l.journal) (warning_of l.w) l.b) (cells (reverse (take l.i l.journal))) }
+invariant-loop-i l = record { bound : l.count ≤ l.i; count : l.count ≡ count_of (is_left (reverse l.journal) l.w l.b) (cells (reverse (take l.i l.journal))) }

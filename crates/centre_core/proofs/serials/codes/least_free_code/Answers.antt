@@ -1,6 +1,0 @@
-use Rattle.centre_core.specs.Serials.{every_code}
-use Rattle.centre_core.proofs.serials.codes.least_free_code.Goals as goal
-
-pub returns-clause-value : goal.returns-clause-value
-unfolding every_code
-returns-clause-value c = c.first_free.ensures.value
