@@ -4,6 +4,7 @@ use Rattle.std.specs.Prelude.{bytes_eq}
 use Rattle.std.specs.List.{list_all, filter}
 use Rattle.std.proofs.lemmas.Bool.{and_parts, and_from, not-true, or_parts}
 use Rattle.std.proofs.lemmas.Slice.Eq.{bytes_eq-Decides}
+use Rattle.cbsp_ie.specs.OrderLaws.{all_filter, length_filter}
 use Rattle.areas.specs.Areas.{is_named, has_area, selectors_of, is_among, has_selector, empty_area, with_area, without_area, changed_by, with_selector, without, without_selector, is_ascending, each_once, IsSound}
 use Rattle.areas.specs.Equality.{selector_decides}
 use Rattle.areas.specs.Keys.{keys_once-without_key}
@@ -43,21 +44,13 @@ ascending-with_area a (y ∷ l) h o = step (ascending-with_area a l) (octets_lt 
         (and_from (octets_lt a y.name) (list_all (λ z. octets_lt a z.name) l) first (before_all a y.name l first parts.0))
         (and_from (list_all (λ z. octets_lt y.name z.name) l) (is_ascending l) parts.0 parts.1)
 
-all-filter : {X : Type 0} (p q : X → Bool) (l : List X) → list_all p l ≡ true → list_all p (filter q l) ≡ true
-all-filter p q [] h = refl
-all-filter {X} p q (y ∷ l) h = step (all-filter p q l) (q y) (and_parts (p y) (list_all p l) h)
-  where
-    step : (list_all p l ≡ true → list_all p (filter q l) ≡ true) → (t : Bool) → (p y ≡ true) × (list_all p l ≡ true) → list_all p (cond t (y ∷ filter q l) (filter q l)) ≡ true
-    step rest true parts = and_from (p y) (list_all p (filter q l)) parts.0 (rest parts.1)
-    step rest false parts = rest parts.1
-
 ascending-filter : (q : Area → Bool) (l : List Area) → is_ascending l ≡ true → is_ascending (filter q l) ≡ true
 ascending-filter q [] o = refl
 ascending-filter q (y ∷ l) o = step (ascending-filter q l) (q y) (and_parts (list_all (λ z. octets_lt y.name z.name) l) (is_ascending l) o)
   where
     step : (is_ascending l ≡ true → is_ascending (filter q l) ≡ true) → (t : Bool) → (list_all (λ z. octets_lt y.name z.name) l ≡ true) × (is_ascending l ≡ true) → is_ascending (cond t (y ∷ filter q l) (filter q l)) ≡ true
     step rest true parts =
-        and_from (list_all (λ z. octets_lt y.name z.name) (filter q l)) (is_ascending (filter q l)) (all-filter (λ z. octets_lt y.name z.name) q l parts.0) (rest parts.1)
+        and_from (list_all (λ z. octets_lt y.name z.name) (filter q l)) (is_ascending (filter q l)) (all_filter (λ z. octets_lt y.name z.name) q l parts.0) (rest parts.1)
     step rest false parts = rest parts.1
 
 name-changed_by : (a : List ℕ) (f : List Selector → List Selector) (x : Area) → (changed_by a f x).name ≡ x.name
@@ -78,14 +71,6 @@ ascending-changed a f (y ∷ l) =
     ap (λ n. list_all (λ z. octets_lt n z.name) (map (changed_by a f) l) && is_ascending (map (changed_by a f) l)) (name-changed_by a f y)
     ∙ ap (λ t. t && is_ascending (map (changed_by a f) l)) (before-changed y.name a f l)
     ∙ ap (λ t. list_all (λ z. octets_lt y.name z.name) l && t) (ascending-changed a f l)
-
-length-filter-le : {X : Type 0} (q : X → Bool) (l : List X) → length (filter q l) ≤ length l
-length-filter-le q [] = omega arith
-length-filter-le {X} q (y ∷ l) = step (length-filter-le q l) (q y)
-  where
-    step : length (filter q l) ≤ length l → (t : Bool) → length (cond t (y ∷ filter q l) (filter q l)) ≤ length (y ∷ l)
-    step rest true = omega arith
-    step rest false = omega arith
 
 -- selectors
 
@@ -135,7 +120,7 @@ pub sound-without_area : (a : List ℕ) (l : List Area) → IsSound l → IsSoun
 sound-without_area a l s =
     record {
       ascending = ascending-filter (λ x. not (is_named a x)) l s.ascending;
-      few = let fewer = length-filter-le (λ (x : Area). not (is_named a x)) l in let all = s.few in omega arith;
+      few = let fewer = length_filter (λ (x : Area). not (is_named a x)) l in let all = s.few in omega arith;
       once = λ x. rw (selectors_of_without_area a l x) (once_either (bytes_eq a x) [] (selectors_of l x) (λ e. refl) (s.once x));
       short = λ x. rw (selectors_of_without_area a l x) (short_either (bytes_eq a x) [] (selectors_of l x) (λ e. lit≤ tt) (s.short x));
     }
@@ -167,4 +152,4 @@ sound-without_selector a t l s =
     }
   where
     fewer : (xs : List Selector) → length xs ≤ 4096 → length (without t xs) ≤ 4096
-    fewer xs g = let less = length-filter-le (λ (u : Selector). not (selector_eq u t)) xs in omega arith
+    fewer xs g = let less = length_filter (λ (u : Selector). not (selector_eq u t)) xs in omega arith

@@ -1,5 +1,5 @@
 -- Why an edit is refused: the first cause that holds, in the order of the checks.
-use Rattle.std.specs.Prelude.{ℕ, Bool, not, List, [], ◌∷◌, Option, Some, None, nat_le, length, if◌then◌else◌}
+use Rattle.std.specs.Prelude.{ℕ, Bool, not, List, [], ◌∷◌, nat_le, length}
 use Rattle.areas.specs.Areas.{has_area, has_selector, selectors_of}
 use Rattle.areas.specs.Name.{is_name}
 use Rattle.areas.specs.declared.area.Area.{Area}
@@ -7,11 +7,6 @@ use Rattle.areas.specs.declared.refusal.Limit.TheVariants as limit
 use Rattle.areas.specs.declared.refusal.Refusal.{Refusal}
 use Rattle.areas.specs.declared.refusal.Refusal.TheVariants.{BadName, AreaExists, NoSuchArea, SelectorThere, SelectorNotThere, Limit}
 use Rattle.areas.specs.declared.selector.Selector.{Selector}
-
--- the refusal of the first check that holds
-abbrev pub first_refusal : List (Bool × Refusal) → Option Refusal
-first_refusal [] = None
-first_refusal (check ∷ checks) = if check.0 then Some check.1 else first_refusal checks
 
 abbrev pub add_area_checks : List Area → List ℕ → List (Bool × Refusal)
 add_area_checks l a = (not (is_name a), BadName) ∷ (has_area l a, AreaExists) ∷ (nat_le 4096 (length l), Limit limit.Areas) ∷ []

@@ -7,6 +7,7 @@ use Rattle.std.proofs.lemmas.List.Folds.{list_any-append}
 use Rattle.std.proofs.lemmas.Slice.Eq.{bytes_eq-Decides}
 use Rattle.std.specs.List.{list_any, list_all}
 use Rattle.cbsp_ie.specs.declared.cell.Cell.{Cell}
+use Rattle.cbsp_ie.specs.OrderLaws.{left_out, left_in}
 use Rattle.areas.specs.Areas.{is_named, has_area, selectors_of, is_among, has_selector, covers, names_of, areas_of, empty_area, with_area, without_area, changed_by, with_selector, without, without_selector, is_ascending, each_once}
 use Rattle.areas.specs.Equality.{selector_decides}
 use Rattle.areas.specs.Keys.{keys_once, other_key, has_key-without_key, length-without_key, has_key-filter}
@@ -83,25 +84,13 @@ selectors_of_with_area a (y ∷ l) x h = step (selectors_of_with_area a l x (or_
     step rest true = ap (λ xs. cond (bytes_eq y.name x) y.selectors xs) rest
     step rest false = new_is_absent (y ∷ l) a x h
 
--- an area that is left out has none
-left_out : {A : Type 0} (p q : Bool) (none s r : A) → q ≡ p → cond p none r ≡ cond p none (cond q s r)
-left_out true q none s r e = refl
-left_out false true none s r e = cc
-left_out false false none s r e = refl
-
-kept : {A : Type 0} (p q : Bool) (none s r : A) → (p ≡ true → q ≡ false) → cond q s (cond p none r) ≡ cond p none (cond q s r)
-kept true true none s r f = absurd (let no : true ≡ false = f refl in cc)
-kept true false none s r f = refl
-kept false true none s r f = refl
-kept false false none s r f = refl
-
 pub selectors_of_without_area : (a : List ℕ) (l : List Area) (x : List ℕ) → selectors_of (without_area a l) x ≡ cond (bytes_eq a x) [] (selectors_of l x)
 selectors_of_without_area a [] x = sym (cond_same (bytes_eq a x) [])
 selectors_of_without_area a (y ∷ l) x = step (selectors_of_without_area a l x) (bytes_eq y.name a) refl
   where
     step : selectors_of (without_area a l) x ≡ cond (bytes_eq a x) [] (selectors_of l x) → (t : Bool) → bytes_eq y.name a ≡ t → selectors_of (cond (not t) (y ∷ without_area a l) (without_area a l)) x ≡ cond (bytes_eq a x) [] (cond (bytes_eq y.name x) y.selectors (selectors_of l x))
     step rest true e = rest ∙ left_out (bytes_eq a x) (bytes_eq y.name x) [] y.selectors (selectors_of l x) (ap (λ n. bytes_eq n x) ((bytes_eq-Decides y.name a).0 e))
-    step rest false e = ap (λ xs. cond (bytes_eq y.name x) y.selectors xs) rest ∙ kept (bytes_eq a x) (bytes_eq y.name x) [] y.selectors (selectors_of l x) (other_key bytes_eq bytes_eq-Decides y.name a x e)
+    step rest false e = ap (λ xs. cond (bytes_eq y.name x) y.selectors xs) rest ∙ left_in (bytes_eq a x) (bytes_eq y.name x) [] y.selectors (selectors_of l x) (other_key bytes_eq bytes_eq-Decides y.name a x e)
 
 -- the area that has the name is the one that is changed
 here : {A : Type 0} (f : A → A) (p q h : Bool) (s r : A) → q ≡ p → cond q (f s) (cond (p && h) (f r) r) ≡ cond (p && (q || h)) (f (cond q s r)) (cond q s r)

@@ -31,7 +31,8 @@ impl Model for Areas {
 impl Areas {
     ghost use Rattle.std.specs.Prelude.{◌≡◌, ◌≤◌, ◌⊎◌, ℕ, List, [], None, Some, true, length, IfOk, IfErr, OnOk, OnErr};
     ghost use Rattle.areas.specs.Areas.{has_area, selectors_of, has_selector, covers, areas_of, with_area, without_area, with_selector, without_selector, is_ascending, each_once};
-    ghost use Rattle.areas.specs.Checks.{first_refusal, add_area_checks, drop_area_checks, put_checks, cut_checks};
+    ghost use Rattle.cbsp_ie.specs.Checks.{first_refusal};
+    ghost use Rattle.areas.specs.Checks.{add_area_checks, drop_area_checks, put_checks, cut_checks};
     ghost use Rattle.areas.specs.declared.refusal.Refusal.TheVariants as refusal;
 
     /// No areas. What they will need is taken from the allocator.

@@ -14,3 +14,6 @@ pub mod IeFault
 pub mod Laws
 pub mod Page
 pub mod Written
+pub mod Checks
+pub mod Order
+pub mod OrderLaws

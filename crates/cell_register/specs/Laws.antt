@@ -8,8 +8,8 @@ use Rattle.cbsp_ie.specs.Cell.{cell_eq, cell_lt}
 use Rattle.cbsp_ie.specs.Equality.{cell_decides}
 use Rattle.cbsp_ie.specs.declared.cell.Cell.{Cell}
 use Rattle.cell_register.specs.CellLaws.{cell_lt_other, ltb_other, nat_eq_along, nat_eq_differs, cell_eq_along, cell_eq_differs}
-use Rattle.cell_register.specs.Order.{inserted, is_ascending}
-use Rattle.cell_register.specs.OrderLaws.{any_inserted, any_without, length_inserted, length_without, ascending_filter, ascending_map}
+use Rattle.cbsp_ie.specs.Order.{inserted, is_ascending}
+use Rattle.cbsp_ie.specs.OrderLaws.{any_inserted, any_without, length_inserted, length_without, ascending_filter, ascending_map}
 use Rattle.cell_register.specs.Register.{State, has_bsc, place_among, place_in, has_cells, cell_of, cells_of, cells_in, placed_lt, new_placed, with_bsc, without_bsc, with_cell, placed_after_move, moved, without_cell, is_place}
 use Rattle.cell_register.specs.Sound.{IsRegister}
 use Rattle.cell_register.specs.declared.placed.Placed.{Placed}

@@ -4,7 +4,7 @@ use Rattle.std.specs.List.{list_any}
 use Rattle.std.specs.Option.{is_some}
 use Rattle.cbsp_ie.specs.Cell.{cell_eq, cell_lt}
 use Rattle.cbsp_ie.specs.declared.cell.Cell.{Cell}
-use Rattle.cell_register.specs.Order.{inserted}
+use Rattle.cbsp_ie.specs.Order.{inserted}
 use Rattle.cell_register.specs.declared.placed.Placed.{Placed}
 use Rattle.cell_register.specs.declared.refusal.Limit.TheVariants as limit
 use Rattle.cell_register.specs.declared.refusal.Refusal.{Refusal}
@@ -69,11 +69,6 @@ moved c b r = record r { cells = map (placed_after_move c b) r.cells }
 
 abbrev pub without_cell : Cell → State → State
 without_cell c r = record r { cells = filter (λ p. not (cell_eq p.cell c)) r.cells }
-
--- the refusal of the first check that holds
-abbrev pub first_refusal : List (Bool × Refusal) → Option Refusal
-first_refusal [] = None
-first_refusal (check ∷ checks) = if check.0 then Some check.1 else first_refusal checks
 
 abbrev pub add_bsc_checks : State → ℕ → List (Bool × Refusal)
 add_bsc_checks r b = (has_bsc r b, refusal.BscExists) ∷ (nat_le 256 (length r.bscs), refusal.Limit limit.Bscs) ∷ []

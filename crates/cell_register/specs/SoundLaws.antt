@@ -7,7 +7,7 @@ use Rattle.cbsp_ie.specs.Cell.{cell_eq, cell_lt}
 use Rattle.cbsp_ie.specs.declared.cell.Cell.{Cell}
 use Rattle.cell_register.specs.CellLaws.{cell_lt_follows, cell_lt_apart, ltb_follows, ltb_apart, nat_eq_turned}
 use Rattle.cell_register.specs.Laws.{has_bsc_with_bsc, has_bsc_without_bsc, length_with_bsc, length_with_cell, length_moved, is_some_place_among}
-use Rattle.cell_register.specs.OrderLaws.{all_same, all_besides, all_from_none, all_map, all_filter, all_inserted, ascending_inserted, ascending_filter, ascending_map, length_filter_le}
+use Rattle.cbsp_ie.specs.OrderLaws.{all_same, all_besides, all_from_none, all_map, all_filter, all_inserted, ascending_inserted, ascending_filter, ascending_map, length_filter_le}
 use Rattle.cell_register.specs.Register.{State, empty, has_bsc, place_in, has_cells, placed_lt, new_placed, cell_of, with_bsc, without_bsc, with_cell, placed_after_move, moved, without_cell}
 use Rattle.cell_register.specs.Sound.{IsRegister}
 use Rattle.cell_register.specs.declared.placed.Placed.{Placed}

@@ -1,7 +1,8 @@
 //! The register.
 
 ghost use Rattle.std.specs.Prelude.{◌≡◌, ◌⊎◌, None, Some, OnOk, OnErr, IfOk, IfErr};
-ghost use Rattle.cell_register.specs.Register.{empty, has_bsc, has_cells, place_in, cells_of, cells_in, with_bsc, without_bsc, with_cell, moved, without_cell, first_refusal, add_bsc_checks, remove_bsc_checks, add_cell_checks, move_cell_checks, remove_cell_checks};
+ghost use Rattle.cbsp_ie.specs.Checks.{first_refusal};
+ghost use Rattle.cell_register.specs.Register.{empty, has_bsc, has_cells, place_in, cells_of, cells_in, with_bsc, without_bsc, with_cell, moved, without_cell, add_bsc_checks, remove_bsc_checks, add_cell_checks, move_cell_checks, remove_cell_checks};
 ghost use Rattle.cell_register.specs.Sound.{IsRegister};
 
 use crate::bsc_id::BscId;

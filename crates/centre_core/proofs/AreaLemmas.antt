@@ -1,12 +1,12 @@
 -- What the areas tell, count and refuse is what the entries say.
-use Rattle.std.proofs.Common.{◌≡◌, ◌⊎◌, inl, inr, subst, ℕ, Bool, true, false, ◌&&◌, ◌||◌, not, List, [], ◌∷◌, Some, None, Result, Ok, Err, unwrap_or, length, map, refl, sym, ◌∙◌, ap, cond}
+use Rattle.std.proofs.Common.{◌≡◌, ◌⊎◌, subst, ℕ, Bool, true, false, ◌&&◌, ◌||◌, not, List, [], ◌∷◌, Some, None, Ok, Err, unwrap_or, length, map, refl, sym, ◌∙◌, ap, cond}
 use Rattle.std.proofs.lemmas.List.{length-map}
 use Rattle.std.proofs.lemmas.Slice.Eq.{bytes_eq-Decides}
 use Rattle.std.specs.List.{list_any}
 use Rattle.std.specs.Prelude.{bytes_eq}
 use Rattle.areas.specs.Areas.{has_area, selectors_of, is_among, is_ascending, with_area, without_area, with_selector, without_selector}
 use Rattle.areas.specs.Areas as kept_areas
-use Rattle.areas.specs.Checks.{first_refusal}
+use Rattle.cbsp_ie.specs.Checks.{first_refusal}
 use Rattle.areas.specs.Checks as checked
 use Rattle.areas.specs.Equality.{selector_decides}
 use Rattle.areas.specs.Keys.{has_key, keys_once}
@@ -20,15 +20,14 @@ use Rattle.centre_core.specs.Cover.{area_mark, is_area, areas, area_count, added
 use Rattle.centre_core.specs.Kept.{AreAreasOf, Gives, areas_after}
 use Rattle.centre_core.specs.Past.{with_new}
 use Rattle.centre_core.specs.Refusals.{of_areas}
-use Rattle.centre_core.specs.Verdict.{law, unless, add_area, add_area_checks, put, put_checks, cut, cut_checks}
+use Rattle.centre_core.specs.Verdict.{translated, law, unless, add_area, add_area_checks, put, put_checks, cut, cut_checks}
 use Rattle.centre_core.specs.declared.answer.Answer.{Answer}
 use Rattle.centre_core.specs.declared.answer.Answer.TheVariants as answer
 use Rattle.centre_core.specs.declared.entry.Entry.{Entry}
 use Rattle.centre_core.specs.declared.event.Event.{Event}
 use Rattle.centre_core.specs.declared.event.Event.TheVariants.{AddArea, DropArea, Put, Cut}
-use Rattle.centre_core.specs.declared.refusal.Refusal.{Refusal}
 use Rattle.centre_core.proofs.AnyLemmas.{any_same}
-use Rattle.centre_core.proofs.UniqueLemmas.{no_check}
+use Rattle.centre_core.proofs.CheckLemmas.{no_check, taken, refused, given}
 use Rattle.centre_core.proofs.CountLemmas.{each_once, same_count, named_once, any_turned, among_more, among_new, both_or_it}
 use Rattle.centre_core.proofs.RegisterLemmas.{not_not, said_or, unsaid_or}
 
@@ -157,51 +156,32 @@ selectors_counted past l a once tied = sym (same_count selector_eq selector_deci
 
 -- What is refused.
 
--- the checks of the areas, with the refusals of the centre
-abbrev pub translated : List (Bool × areas_refusal.Refusal) → List (Bool × Refusal)
-translated [] = []
-translated (check ∷ checks) = (check.0, of_areas check.1) ∷ translated checks
-
-taken : (checks : List (Bool × areas_refusal.Refusal)) (a : Result Answer Refusal) → first_refusal checks ≡ None → unless (translated checks) a ≡ a
-taken [] a h = refl
-taken ((true, refusal) ∷ checks) a h = cc
-taken ((false, refusal) ∷ checks) a h = taken checks a h
-
-refused : (checks : List (Bool × areas_refusal.Refusal)) (a : Result Answer Refusal) (e : areas_refusal.Refusal) → first_refusal checks ≡ Some e → unless (translated checks) a ≡ Err (of_areas e)
-refused [] a e h = cc
-refused ((true, refusal) ∷ checks) a e h = let same : refusal ≡ e = cc in ap (λ k. Err (of_areas k)) same
-refused ((false, refusal) ∷ checks) a e h = refused checks a e h
-
-given : (checks : List (Bool × areas_refusal.Refusal)) (a : Result Answer Refusal) (e : areas_refusal.Refusal) → (first_refusal checks ≡ Some e) ⊎ ((e ≡ areas_refusal_is.Memory) × (first_refusal checks ≡ None)) → Gives (unless (translated checks) a) (Err (of_areas e))
-given checks a e (inl h) = inr (refused checks a e h)
-given checks a e (inr h) = inl (ap of_areas h.0)
-
-add_area_same : (past : List Entry) (l : List Area) (a : List ℕ) → is_ascending l ≡ true → AreAreasOf past l → translated (checked.add_area_checks l a) ≡ add_area_checks past a
+add_area_same : (past : List Entry) (l : List Area) (a : List ℕ) → is_ascending l ≡ true → AreAreasOf past l → translated of_areas (checked.add_area_checks l a) ≡ add_area_checks past a
 add_area_same past l a ascending tied = rw (tied.names a, areas_counted past l ascending tied) refl
 
 pub add_area_taken : (past : List Entry) (l : List Area) (a : List ℕ) → is_ascending l ≡ true → AreAreasOf past l → first_refusal (checked.add_area_checks l a) ≡ None → add_area past a ≡ Ok answer.Done
-add_area_taken past l a ascending tied h = ap (λ cs. unless cs (Ok answer.Done)) (sym (add_area_same past l a ascending tied)) ∙ taken (checked.add_area_checks l a) (Ok answer.Done) h
+add_area_taken past l a ascending tied h = ap (λ cs. unless cs (Ok answer.Done)) (sym (add_area_same past l a ascending tied)) ∙ taken of_areas (checked.add_area_checks l a) (Ok answer.Done) h
 
 pub add_area_refused : (past : List Entry) (l : List Area) (a : List ℕ) (e : areas_refusal.Refusal) → is_ascending l ≡ true → AreAreasOf past l → (first_refusal (checked.add_area_checks l a) ≡ Some e) ⊎ ((e ≡ areas_refusal_is.Memory) × (first_refusal (checked.add_area_checks l a) ≡ None)) → Gives (add_area past a) (Err (of_areas e))
-add_area_refused past l a e ascending tied h = subst (λ cs. Gives (unless cs (Ok answer.Done)) (Err (of_areas e))) (add_area_same past l a ascending tied) (given (checked.add_area_checks l a) (Ok answer.Done) e h)
+add_area_refused past l a e ascending tied h = subst (λ cs. Gives (unless cs (Ok answer.Done)) (Err (of_areas e))) (add_area_same past l a ascending tied) (given of_areas areas_refusal_is.Memory refl (checked.add_area_checks l a) (Ok answer.Done) e h)
 
-put_same : (past : List Entry) (l : List Area) (a : List ℕ) (s : Selector) → ((x : List ℕ) → kept_areas.each_once (selectors_of l x) ≡ true) → AreAreasOf past l → translated (checked.put_checks l a s) ≡ put_checks past a s
+put_same : (past : List Entry) (l : List Area) (a : List ℕ) (s : Selector) → ((x : List ℕ) → kept_areas.each_once (selectors_of l x) ≡ true) → AreAreasOf past l → translated of_areas (checked.put_checks l a s) ≡ put_checks past a s
 put_same past l a s once tied = rw (tied.names a, tied.selectors a s, selectors_counted past l a once tied) refl
 
 pub put_taken : (past : List Entry) (l : List Area) (a : List ℕ) (s : Selector) → ((x : List ℕ) → kept_areas.each_once (selectors_of l x) ≡ true) → AreAreasOf past l → first_refusal (checked.put_checks l a s) ≡ None → put past a s ≡ Ok answer.Done
-put_taken past l a s once tied h = ap (λ cs. unless cs (Ok answer.Done)) (sym (put_same past l a s once tied)) ∙ taken (checked.put_checks l a s) (Ok answer.Done) h
+put_taken past l a s once tied h = ap (λ cs. unless cs (Ok answer.Done)) (sym (put_same past l a s once tied)) ∙ taken of_areas (checked.put_checks l a s) (Ok answer.Done) h
 
 pub put_refused : (past : List Entry) (l : List Area) (a : List ℕ) (s : Selector) (e : areas_refusal.Refusal) → ((x : List ℕ) → kept_areas.each_once (selectors_of l x) ≡ true) → AreAreasOf past l → (first_refusal (checked.put_checks l a s) ≡ Some e) ⊎ ((e ≡ areas_refusal_is.Memory) × (first_refusal (checked.put_checks l a s) ≡ None)) → Gives (put past a s) (Err (of_areas e))
-put_refused past l a s e once tied h = subst (λ cs. Gives (unless cs (Ok answer.Done)) (Err (of_areas e))) (put_same past l a s once tied) (given (checked.put_checks l a s) (Ok answer.Done) e h)
+put_refused past l a s e once tied h = subst (λ cs. Gives (unless cs (Ok answer.Done)) (Err (of_areas e))) (put_same past l a s once tied) (given of_areas areas_refusal_is.Memory refl (checked.put_checks l a s) (Ok answer.Done) e h)
 
-cut_same : (past : List Entry) (l : List Area) (a : List ℕ) (s : Selector) → AreAreasOf past l → translated (checked.cut_checks l a s) ≡ cut_checks past a s
+cut_same : (past : List Entry) (l : List Area) (a : List ℕ) (s : Selector) → AreAreasOf past l → translated of_areas (checked.cut_checks l a s) ≡ cut_checks past a s
 cut_same past l a s tied = rw (tied.names a, tied.selectors a s) refl
 
 pub cut_taken : (past : List Entry) (l : List Area) (a : List ℕ) (s : Selector) → AreAreasOf past l → first_refusal (checked.cut_checks l a s) ≡ None → cut past a s ≡ Ok answer.Done
-cut_taken past l a s tied h = ap (λ cs. unless cs (Ok answer.Done)) (sym (cut_same past l a s tied)) ∙ taken (checked.cut_checks l a s) (Ok answer.Done) h
+cut_taken past l a s tied h = ap (λ cs. unless cs (Ok answer.Done)) (sym (cut_same past l a s tied)) ∙ taken of_areas (checked.cut_checks l a s) (Ok answer.Done) h
 
 pub cut_refused : (past : List Entry) (l : List Area) (a : List ℕ) (s : Selector) (e : areas_refusal.Refusal) → AreAreasOf past l → first_refusal (checked.cut_checks l a s) ≡ Some e → cut past a s ≡ Err (of_areas e)
-cut_refused past l a s e tied h = ap (λ cs. unless cs (Ok answer.Done)) (sym (cut_same past l a s tied)) ∙ refused (checked.cut_checks l a s) (Ok answer.Done) e h
+cut_refused past l a s e tied h = ap (λ cs. unless cs (Ok answer.Done)) (sym (cut_same past l a s tied)) ∙ refused of_areas (checked.cut_checks l a s) (Ok answer.Done) e h
 
 -- a name is no area where the areas have none of it
 pub names_there : (past : List Entry) (l : List Area) (names : List (List ℕ)) → AreAreasOf past l → list_any (λ a. not (has_area l a)) names ≡ list_any (λ a. not (is_area past a)) names

@@ -15,7 +15,8 @@ use Rattle.warning_book.specs.Book.{new_serial, next_serial, content_of}
 use Rattle.warning_book.specs.Content.{is_page, are_pages}
 use Rattle.warning_book.specs.Sound.{IsSound}
 use Rattle.warning_book.specs.declared.content.Content.{Content}
-use Rattle.centre_core.proofs.UniqueLemmas.{unless_ok, verdict_law}
+use Rattle.centre_core.proofs.CheckLemmas.{unless_ok}
+use Rattle.centre_core.proofs.UniqueLemmas.{verdict_law}
 use Rattle.centre_core.proofs.WarningLemmas.{content_has_pages, legal_sound}
 use Rattle.centre_core.specs.Fits.{AnswerFits}
 use Rattle.centre_core.specs.InFlight.{in_flight}

@@ -7,13 +7,13 @@ use Rattle.centre_core.specs.Actions.{all_actions}
 use Rattle.centre_core.specs.Headline.{names_cell}
 use Rattle.centre_core.specs.Pending.{kind_eq, action_lt, in_order, alone, fits, joined, grouped, pending}
 use Rattle.centre_core.specs.Presence.{is_among}
-use Rattle.centre_core.specs.Sorting.{put_by, sorted_by}
+use Rattle.cbsp_ie.specs.OrderLaws.{any_inserted}
+use Rattle.centre_core.specs.Sorting.{sorted_by}
 use Rattle.centre_core.specs.declared.entry.Entry.{Entry}
 use Rattle.centre_core.specs.declared.order_maker.action.Action.{Action}
 use Rattle.centre_core.specs.declared.order_maker.order.Order.{Order}
 use Rattle.centre_core.specs.declared.order_maker.order_kind.OrderKind.{OrderKind}
 use Rattle.centre_core.specs.declared.order_maker.order_kind.OrderKind.TheVariants.{Write, Replace, Kill}
-use Rattle.centre_core.proofs.AnyLemmas.{or_swap}
 
 -- an order names the cell with this message identifier, and what it does passes g
 abbrev pub tests : (OrderKind → ℕ → Bool) → Cell → ℕ → Order → Bool
@@ -63,17 +63,9 @@ pub any_grouped : (g : OrderKind → ℕ → Bool) (c : Cell) (m : ℕ) (xs : Li
 any_grouped g c m [] = refl
 any_grouped g c m (a ∷ xs) = any_joined g c m a (grouped xs) ∙ ap (λ t. touches g c m a || t) (any_grouped g c m xs)
 
-any_put : {A : Type 0} (before : A → A → Bool) (p : A → Bool) (x : A) (ys : List A) → list_any p (put_by before x ys) ≡ (p x || list_any p ys)
-any_put before p x [] = refl
-any_put before p x (y ∷ ys) = step (any_put before p x ys) (before y x) refl
-  where
-    step : list_any p (put_by before x ys) ≡ (p x || list_any p ys) → (t : Bool) → before y x ≡ t → list_any p (put_by before x (y ∷ ys)) ≡ (p x || (p y || list_any p ys))
-    step rest true h = rw h (ap (λ t. p y || t) rest ∙ or_swap (p y) (p x) (list_any p ys))
-    step rest false h = rw h refl
-
 any_sorted : {A : Type 0} (before : A → A → Bool) (p : A → Bool) (xs : List A) → list_any p (sorted_by before xs) ≡ list_any p xs
 any_sorted before p [] = refl
-any_sorted before p (x ∷ xs) = any_put before p x (sorted_by before xs) ∙ ap (λ t. p x || t) (any_sorted before p xs)
+any_sorted before p (x ∷ xs) = any_inserted before p x (sorted_by before xs) ∙ ap (λ t. p x || t) (any_sorted before p xs)
 
 -- what the pending orders touch is what the actions touch
 pub any_pending : (g : OrderKind → ℕ → Bool) (c : Cell) (m : ℕ) (past : List Entry) (b : ℕ) → list_any (tests g c m) (pending past b) ≡ list_any (touches g c m) (all_actions past b)

@@ -14,7 +14,8 @@ use Rattle.centre_core.specs.declared.event.Event.{Event}
 use Rattle.centre_core.specs.declared.refusal.Refusal.{Refusal}
 use Rattle.centre_core.specs.Pending.{pending}
 use Rattle.centre_core.specs.Places.{place, cells}
-use Rattle.centre_core.specs.Plan.{is_place, wanted, planned}
+use Rattle.cell_register.specs.Register.{is_place}
+use Rattle.centre_core.specs.Plan.{wanted, planned}
 use Rattle.centre_core.specs.Presence.{is_among, presence, is_absent, is_on_air}
 use Rattle.centre_core.specs.Warnings.{book_of, warnings_of, is_version, has_key, is_key}
 use Rattle.centre_core.specs.declared.entry.Entry.{Entry}

@@ -13,7 +13,7 @@ use Rattle.centre_core.specs.Links.{is_up}
 use Rattle.centre_core.specs.OrderMessage.{order_message}
 use Rattle.centre_core.specs.Pending.{pending, first, most_cells}
 use Rattle.centre_core.specs.Places.{place, place_mark, added_cell, cells}
-use Rattle.centre_core.specs.Plan.{is_place}
+use Rattle.cell_register.specs.Register.{is_place}
 use Rattle.centre_core.specs.Presence.{Sets, Leaves, is_among, presence, presence_mark, effect, flight_effect, is_absent}
 use Rattle.centre_core.specs.Verdict.{verdict, send_checks, send_answer}
 use Rattle.centre_core.specs.Warnings.{warnings_of}
@@ -31,7 +31,8 @@ use Rattle.centre_core.specs.declared.outcome.Outcome.TheVariants.{Silent}
 use Rattle.centre_core.proofs.CountLemmas.{among_more, among_new}
 use Rattle.centre_core.proofs.ActingLemmas.{does, any_all}
 use Rattle.centre_core.proofs.GroupingLemmas.{second_true, tests, any_pending}
-use Rattle.centre_core.proofs.UniqueLemmas.{unless_ok, verdict_law}
+use Rattle.centre_core.proofs.CheckLemmas.{unless_ok}
+use Rattle.centre_core.proofs.UniqueLemmas.{verdict_law}
 
 placed_after : (d : Cell) (other : ℕ) (before : List Entry) (b : ℕ) (c : Cell) → (is_place (place before c) b ≡ true → is_among c (cells before) ≡ true) → is_place (unwrap_or (cond (cell_eq d c) (Some (Some other)) None) (place before c)) b ≡ true → is_among c (with_new cell_eq (Some d) (cells before)) ≡ true
 placed_after d other before b c known h = step (cell_eq d c) refl

@@ -3,6 +3,7 @@ pub mod NamedLemmas
 pub mod OrderLemmas
 pub mod FitsLemmas
 pub mod AnyLemmas
+pub mod CheckLemmas
 pub mod WarningLemmas
 pub mod ApplyingLemmas
 pub mod GroupingLemmas

@@ -1,5 +1,5 @@
 -- What the register tells, counts and refuses is what the entries say.
-use Rattle.std.proofs.Common.{◌≡◌, ◌⊎◌, inl, inr, subst, ℕ, Bool, true, false, ◌&&◌, ◌||◌, not, nat_eq, ltb, List, [], ◌∷◌, Option, Some, None, Result, Ok, Err, unwrap_or, length, map, refl, sym, ◌∙◌, ap, cond, eqb-true, eq-eqb}
+use Rattle.std.proofs.Common.{◌≡◌, ◌⊎◌, subst, ℕ, Bool, true, false, ◌&&◌, ◌||◌, not, nat_eq, ltb, List, [], ◌∷◌, Option, Some, None, Ok, Err, unwrap_or, length, map, refl, sym, ◌∙◌, ap, cond, eqb-true, eq-eqb}
 use Rattle.std.proofs.lemmas.List.{length-map}
 use Rattle.std.specs.Cmp.{unsigned_Decides}
 use Rattle.std.specs.List.{list_any, list_all}
@@ -9,9 +9,10 @@ use Rattle.cbsp_ie.specs.Equality.{cell_decides}
 use Rattle.cbsp_ie.specs.declared.cell.Cell.{Cell}
 use Rattle.cell_register.specs.CellLaws.{cell_lt_other, ltb_other, nat_eq_turned}
 use Rattle.cell_register.specs.Laws.{has_bsc_with_bsc, has_bsc_without_bsc, place_in_with_cell, place_in_without_cell, place_in_moved, is_some_place_among, has_cells_from_place, place_from_has_cells}
-use Rattle.cell_register.specs.Order.{is_ascending}
-use Rattle.cell_register.specs.OrderLaws.{ascending_map}
-use Rattle.cell_register.specs.Register.{State, has_bsc, place_in, place_among, cell_of, placed_lt, with_bsc, without_bsc, with_cell, moved, without_cell, first_refusal}
+use Rattle.cbsp_ie.specs.Order.{is_ascending}
+use Rattle.cbsp_ie.specs.OrderLaws.{ascending_map}
+use Rattle.cbsp_ie.specs.Checks.{first_refusal}
+use Rattle.cell_register.specs.Register.{State, has_bsc, place_in, place_among, cell_of, placed_lt, with_bsc, without_bsc, with_cell, moved, without_cell}
 use Rattle.cell_register.specs.Register as register
 use Rattle.cell_register.specs.Sound.{IsRegister}
 use Rattle.cell_register.specs.declared.placed.Placed.{Placed}
@@ -21,16 +22,15 @@ use Rattle.centre_core.specs.Kept.{IsRegisterOf, Gives, register_after}
 use Rattle.centre_core.specs.Links.{bsc_mark, bscs, is_bsc, bsc_count, added_bsc}
 use Rattle.centre_core.specs.Past.{with_new}
 use Rattle.centre_core.specs.Places.{place_mark, place, cells, is_registered, cell_count, added_cell}
-use Rattle.centre_core.specs.Plan.{is_place}
+use Rattle.cell_register.specs.Register.{is_place}
 use Rattle.centre_core.specs.Refusals.{of_register}
-use Rattle.centre_core.specs.Verdict.{law, unless, has_cells, add_bsc, add_bsc_checks, add_cell, add_cell_checks, move_cell, move_cell_checks, remove_cell, remove_cell_checks}
+use Rattle.centre_core.specs.Verdict.{translated, law, unless, has_cells, add_bsc, add_bsc_checks, add_cell, add_cell_checks, move_cell, move_cell_checks, remove_cell, remove_cell_checks}
 use Rattle.centre_core.specs.declared.answer.Answer.{Answer}
 use Rattle.centre_core.specs.declared.answer.Answer.TheVariants as answer
 use Rattle.centre_core.specs.declared.entry.Entry.{Entry}
 use Rattle.centre_core.specs.declared.event.Event.{Event}
 use Rattle.centre_core.specs.declared.event.Event.TheVariants.{AddBsc, RemoveBsc, AddCell, MoveCell, RemoveCell}
-use Rattle.centre_core.specs.declared.refusal.Refusal.{Refusal}
-use Rattle.centre_core.proofs.UniqueLemmas.{no_check}
+use Rattle.centre_core.proofs.CheckLemmas.{no_check, taken, refused, given}
 use Rattle.centre_core.proofs.CountLemmas.{each_once, same_count, named_once, turned, any_turned, among_more, among_new, both_or_it, or_right}
 use Rattle.centre_core.proofs.KnownLemmas.{known_place}
 
@@ -187,61 +187,42 @@ cells_there past r b sound kept = step (register.has_cells r b) refl (has_cells 
 
 -- What is refused.
 
--- the checks of the register, with the refusals of the centre
-abbrev pub translated : List (Bool × register_refusal.Refusal) → List (Bool × Refusal)
-translated [] = []
-translated (check ∷ checks) = (check.0, of_register check.1) ∷ translated checks
-
-taken : (checks : List (Bool × register_refusal.Refusal)) (a : Result Answer Refusal) → first_refusal checks ≡ None → unless (translated checks) a ≡ a
-taken [] a h = refl
-taken ((true, refusal) ∷ checks) a h = cc
-taken ((false, refusal) ∷ checks) a h = taken checks a h
-
-refused : (checks : List (Bool × register_refusal.Refusal)) (a : Result Answer Refusal) (e : register_refusal.Refusal) → first_refusal checks ≡ Some e → unless (translated checks) a ≡ Err (of_register e)
-refused [] a e h = cc
-refused ((true, refusal) ∷ checks) a e h = let same : refusal ≡ e = cc in ap (λ k. Err (of_register k)) same
-refused ((false, refusal) ∷ checks) a e h = refused checks a e h
-
-given : (checks : List (Bool × register_refusal.Refusal)) (a : Result Answer Refusal) (e : register_refusal.Refusal) → (first_refusal checks ≡ Some e) ⊎ ((e ≡ register_refusal_is.Memory) × (first_refusal checks ≡ None)) → Gives (unless (translated checks) a) (Err (of_register e))
-given checks a e (inl h) = inr (refused checks a e h)
-given checks a e (inr h) = inl (ap of_register h.0)
-
-add_bsc_same : (past : List Entry) (r : State) (b : ℕ) → IsRegister r → IsRegisterOf past r → translated (register.add_bsc_checks r b) ≡ add_bsc_checks past b
+add_bsc_same : (past : List Entry) (r : State) (b : ℕ) → IsRegister r → IsRegisterOf past r → translated of_register (register.add_bsc_checks r b) ≡ add_bsc_checks past b
 add_bsc_same past r b sound kept = rw (kept.bscs b, bscs_counted past r sound kept) refl
 
 pub add_bsc_taken : (past : List Entry) (r : State) (b : ℕ) → IsRegister r → IsRegisterOf past r → first_refusal (register.add_bsc_checks r b) ≡ None → add_bsc past b ≡ Ok answer.Done
-add_bsc_taken past r b sound kept h = ap (λ cs. unless cs (Ok answer.Done)) (sym (add_bsc_same past r b sound kept)) ∙ taken (register.add_bsc_checks r b) (Ok answer.Done) h
+add_bsc_taken past r b sound kept h = ap (λ cs. unless cs (Ok answer.Done)) (sym (add_bsc_same past r b sound kept)) ∙ taken of_register (register.add_bsc_checks r b) (Ok answer.Done) h
 
 pub add_bsc_refused : (past : List Entry) (r : State) (b : ℕ) (e : register_refusal.Refusal) → IsRegister r → IsRegisterOf past r → (first_refusal (register.add_bsc_checks r b) ≡ Some e) ⊎ ((e ≡ register_refusal_is.Memory) × (first_refusal (register.add_bsc_checks r b) ≡ None)) → Gives (add_bsc past b) (Err (of_register e))
-add_bsc_refused past r b e sound kept h = subst (λ cs. Gives (unless cs (Ok answer.Done)) (Err (of_register e))) (add_bsc_same past r b sound kept) (given (register.add_bsc_checks r b) (Ok answer.Done) e h)
+add_bsc_refused past r b e sound kept h = subst (λ cs. Gives (unless cs (Ok answer.Done)) (Err (of_register e))) (add_bsc_same past r b sound kept) (given of_register register_refusal_is.Memory refl (register.add_bsc_checks r b) (Ok answer.Done) e h)
 
-add_cell_same : (past : List Entry) (r : State) (c : Cell) (b : ℕ) → IsRegister r → IsRegisterOf past r → translated (register.add_cell_checks r c b) ≡ add_cell_checks past c b
+add_cell_same : (past : List Entry) (r : State) (c : Cell) (b : ℕ) → IsRegister r → IsRegisterOf past r → translated of_register (register.add_cell_checks r c b) ≡ add_cell_checks past c b
 add_cell_same past r c b sound kept = rw (kept.bscs b, kept.places c, cells_counted past r sound kept) refl
 
 pub add_cell_taken : (past : List Entry) (r : State) (c : Cell) (b : ℕ) → IsRegister r → IsRegisterOf past r → first_refusal (register.add_cell_checks r c b) ≡ None → add_cell past c b ≡ Ok answer.Done
-add_cell_taken past r c b sound kept h = ap (λ cs. unless cs (Ok answer.Done)) (sym (add_cell_same past r c b sound kept)) ∙ taken (register.add_cell_checks r c b) (Ok answer.Done) h
+add_cell_taken past r c b sound kept h = ap (λ cs. unless cs (Ok answer.Done)) (sym (add_cell_same past r c b sound kept)) ∙ taken of_register (register.add_cell_checks r c b) (Ok answer.Done) h
 
 pub add_cell_refused : (past : List Entry) (r : State) (c : Cell) (b : ℕ) (e : register_refusal.Refusal) → IsRegister r → IsRegisterOf past r → (first_refusal (register.add_cell_checks r c b) ≡ Some e) ⊎ ((e ≡ register_refusal_is.Memory) × (first_refusal (register.add_cell_checks r c b) ≡ None)) → Gives (add_cell past c b) (Err (of_register e))
-add_cell_refused past r c b e sound kept h = subst (λ cs. Gives (unless cs (Ok answer.Done)) (Err (of_register e))) (add_cell_same past r c b sound kept) (given (register.add_cell_checks r c b) (Ok answer.Done) e h)
+add_cell_refused past r c b e sound kept h = subst (λ cs. Gives (unless cs (Ok answer.Done)) (Err (of_register e))) (add_cell_same past r c b sound kept) (given of_register register_refusal_is.Memory refl (register.add_cell_checks r c b) (Ok answer.Done) e h)
 
 same_place : (o : Option ℕ) (b : ℕ) → register.is_place o b ≡ is_place o b
 same_place None b = refl
 same_place (Some d) b = refl
 
-move_cell_same : (past : List Entry) (r : State) (c : Cell) (b : ℕ) → IsRegisterOf past r → translated (register.move_cell_checks r c b) ≡ move_cell_checks past c b
+move_cell_same : (past : List Entry) (r : State) (c : Cell) (b : ℕ) → IsRegisterOf past r → translated of_register (register.move_cell_checks r c b) ≡ move_cell_checks past c b
 move_cell_same past r c b kept = rw (kept.bscs b, kept.places c, same_place (place past c) b) refl
 
 pub move_cell_taken : (past : List Entry) (r : State) (c : Cell) (b : ℕ) → IsRegisterOf past r → first_refusal (register.move_cell_checks r c b) ≡ None → move_cell past c b ≡ Ok answer.Done
-move_cell_taken past r c b kept h = ap (λ cs. unless cs (Ok answer.Done)) (sym (move_cell_same past r c b kept)) ∙ taken (register.move_cell_checks r c b) (Ok answer.Done) h
+move_cell_taken past r c b kept h = ap (λ cs. unless cs (Ok answer.Done)) (sym (move_cell_same past r c b kept)) ∙ taken of_register (register.move_cell_checks r c b) (Ok answer.Done) h
 
 pub move_cell_refused : (past : List Entry) (r : State) (c : Cell) (b : ℕ) (e : register_refusal.Refusal) → IsRegisterOf past r → first_refusal (register.move_cell_checks r c b) ≡ Some e → move_cell past c b ≡ Err (of_register e)
-move_cell_refused past r c b e kept h = ap (λ cs. unless cs (Ok answer.Done)) (sym (move_cell_same past r c b kept)) ∙ refused (register.move_cell_checks r c b) (Ok answer.Done) e h
+move_cell_refused past r c b e kept h = ap (λ cs. unless cs (Ok answer.Done)) (sym (move_cell_same past r c b kept)) ∙ refused of_register (register.move_cell_checks r c b) (Ok answer.Done) e h
 
-remove_cell_same : (past : List Entry) (r : State) (c : Cell) → IsRegisterOf past r → translated (register.remove_cell_checks r c) ≡ remove_cell_checks past c
+remove_cell_same : (past : List Entry) (r : State) (c : Cell) → IsRegisterOf past r → translated of_register (register.remove_cell_checks r c) ≡ remove_cell_checks past c
 remove_cell_same past r c kept = rw (kept.places c) refl
 
 pub remove_cell_taken : (past : List Entry) (r : State) (c : Cell) → IsRegisterOf past r → first_refusal (register.remove_cell_checks r c) ≡ None → remove_cell past c ≡ Ok answer.Done
-remove_cell_taken past r c kept h = ap (λ cs. unless cs (Ok answer.Done)) (sym (remove_cell_same past r c kept)) ∙ taken (register.remove_cell_checks r c) (Ok answer.Done) h
+remove_cell_taken past r c kept h = ap (λ cs. unless cs (Ok answer.Done)) (sym (remove_cell_same past r c kept)) ∙ taken of_register (register.remove_cell_checks r c) (Ok answer.Done) h
 
 pub remove_cell_refused : (past : List Entry) (r : State) (c : Cell) (e : register_refusal.Refusal) → IsRegisterOf past r → first_refusal (register.remove_cell_checks r c) ≡ Some e → remove_cell past c ≡ Err (of_register e)
-remove_cell_refused past r c e kept h = ap (λ cs. unless cs (Ok answer.Done)) (sym (remove_cell_same past r c kept)) ∙ refused (register.remove_cell_checks r c) (Ok answer.Done) e h
+remove_cell_refused past r c e kept h = ap (λ cs. unless cs (Ok answer.Done)) (sym (remove_cell_same past r c kept)) ∙ refused of_register (register.remove_cell_checks r c) (Ok answer.Done) e h

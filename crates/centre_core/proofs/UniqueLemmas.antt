@@ -1,5 +1,5 @@
 -- At most one warning of a legal past's book has a key.
-use Rattle.std.proofs.Common.{◌≡◌, ℕ, ◌+◌, ◌≤◌, Bool, true, false, ◌&&◌, ◌||◌, not, nat_eq, nat_le, ltb, List, [], ◌∷◌, Result, Ok, Err, refl, sym, ◌∙◌, ap, cond, map, length, eqb-true, eq-eqb, arith}
+use Rattle.std.proofs.Common.{◌≡◌, ℕ, ◌+◌, ◌≤◌, Bool, true, false, ◌&&◌, ◌||◌, not, nat_eq, nat_le, ltb, List, [], ◌∷◌, Ok, refl, sym, ◌∙◌, ap, map, length, eqb-true, eq-eqb, arith}
 use Rattle.std.specs.List.{list_any, list_all}
 use Rattle.std.proofs.lemmas.Bool.{and_parts, and_from, or_parts}
 use Rattle.serials.specs.Serials.{code_of}
@@ -8,34 +8,14 @@ use Rattle.warning_book.specs.Sound.{is_older, has_serials, key_of, is_same_key,
 use Rattle.warning_book.specs.declared.version.Version.{Version}
 use Rattle.warning_book.specs.declared.warning.Warning.{Warning}
 use Rattle.centre_core.specs.Past.{one, count_of}
-use Rattle.centre_core.specs.Verdict.{verdict, law, unless}
+use Rattle.centre_core.specs.Verdict.{verdict, law}
 use Rattle.centre_core.specs.Warnings.{has_key, is_version}
 use Rattle.centre_core.specs.declared.answer.Answer.{Answer}
 use Rattle.centre_core.specs.declared.entry.Entry.{Entry}
 use Rattle.centre_core.specs.declared.event.Event.{Event}
-use Rattle.centre_core.specs.declared.refusal.Refusal.{Refusal}
 use Rattle.centre_core.specs.declared.refusal.Refusal.TheVariants as refusal
 use Rattle.centre_core.proofs.AnyLemmas.{any_implies}
-
--- an answer that is none of the refusals comes after all checks
-pub unless_ok : (checks : List (Bool × Refusal)) (r : Result Answer Refusal) (a : Answer) → unless checks r ≡ Ok a → r ≡ Ok a
-unless_ok [] r a h = h
-unless_ok (check ∷ checks) r a h = step (unless_ok checks r a) check.0 h
-  where
-    step : (unless checks r ≡ Ok a → r ≡ Ok a) → (t : Bool) → cond t (Err check.1) (unless checks r) ≡ Ok a → r ≡ Ok a
-    step rest true e = cc
-    step rest false e = rest e
-
--- each of the checks fails to hold
-abbrev pub NoneHolds : List (Bool × Refusal) → Type 0
-NoneHolds [] = Unit {0}
-NoneHolds (check ∷ checks) = (check.0 ≡ false) × NoneHolds checks
-
--- no check of an accepted event held
-pub no_check : (checks : List (Bool × Refusal)) (r : Result Answer Refusal) (a : Answer) → unless checks r ≡ Ok a → NoneHolds checks
-no_check [] r a h = tt
-no_check ((true, refusal) ∷ checks) r a h = cc
-no_check ((false, refusal) ∷ checks) r a h = (refl, no_check checks r a h)
+use Rattle.centre_core.proofs.CheckLemmas.{unless_ok}
 
 -- what is accepted was not refused because the journal is full
 pub verdict_law : (limit : ℕ) (past : List Entry) (e : Event) (a : Answer) → verdict limit past e ≡ Ok a → law past e ≡ Ok a

@@ -1,11 +1,12 @@
 -- The book of a legal past is sound, and what the book refuses is what an event is refused.
-use Rattle.std.proofs.Common.{◌≡◌, ◌⊎◌, inl, inr, ℕ, ◌+◌, ◌≤◌, Bool, true, false, ◌&&◌, ◌||◌, not, List, [], ◌∷◌, ◌++◌, Option, Some, None, Result, Ok, Err, Bor, nat_eq, nat_le, length, cond, refl, ◌∙◌, ap, arith}
+use Rattle.std.proofs.Common.{◌≡◌, ◌⊎◌, inl, inr, ℕ, ◌+◌, ◌≤◌, Bool, true, false, ◌&&◌, ◌||◌, not, List, [], ◌∷◌, Option, Some, None, Ok, Err, Bor, nat_eq, nat_le, length, cond, refl, ◌∙◌, ap, arith}
 use Rattle.std.specs.Prelude.{All, IfSome, find}
 use Rattle.std.specs.List.{list_any, list_all}
 use Rattle.std.specs.Option.{option_map, option_copied}
 use Rattle.std.proofs.lemmas.Bool.{leb-true, or_parts, and_parts, and_from, not-false, not-true}
 use Rattle.std.proofs.lemmas.List.Elements.{All-nil, All-cons}
 use Rattle.std.proofs.lemmas.List.Folds.{list_all-append}
+use Rattle.cbsp_ie.specs.Checks.{first_refusal}
 use Rattle.warning_book.specs.Book.{State, empty, has_number, warning_is, warning_of, is_so, numbers, versions, versions_if, versions_with, content_of, new_serial, next_serial}
 use Rattle.warning_book.specs.Checks as book
 use Rattle.warning_book.specs.Content.{is_page, are_pages, is_period}
@@ -33,102 +34,62 @@ use Rattle.centre_core.specs.declared.event.Event.{Event}
 use Rattle.centre_core.specs.declared.event.Event.TheVariants.{Issue, Update, Widen, Narrow, Stop, Forget}
 use Rattle.centre_core.specs.declared.refusal.Refusal.{Refusal}
 use Rattle.centre_core.specs.declared.refusal.Refusal.TheVariants as refusal
-use Rattle.centre_core.proofs.UniqueLemmas.{unless_ok, verdict_law}
+use Rattle.centre_core.proofs.CheckLemmas.{unless_ok, taken, refused, refused_first, given, none_held, past_check, past_given, checked_after}
+use Rattle.centre_core.proofs.UniqueLemmas.{verdict_law}
 
 -- What the book refuses.
-
--- where none of the book's checks holds, the rest decides
-taken : (checks : List (Bool × book_refusal.Refusal)) (r : Result Answer Refusal) → book.first_refusal checks ≡ None → unless (by_book checks) r ≡ r
-taken [] r h = refl
-taken ((true, e) ∷ checks) r h = cc
-taken ((false, e) ∷ checks) r h = taken checks r h
-
-refused : (checks : List (Bool × book_refusal.Refusal)) (r : Result Answer Refusal) (e : book_refusal.Refusal) → book.first_refusal checks ≡ Some e → unless (by_book checks) r ≡ Err (of_book e)
-refused [] r e h = cc
-refused ((true, x) ∷ checks) r e h = let same : x ≡ e = cc in ap (λ k. Err (of_book k)) same
-refused ((false, x) ∷ checks) r e h = refused checks r e h
-
-given : (checks : List (Bool × book_refusal.Refusal)) (r : Result Answer Refusal) (e : book_refusal.Refusal) → (book.first_refusal checks ≡ Some e) ⊎ ((e ≡ book_refusal_is.Memory) × (book.first_refusal checks ≡ None)) → Gives (unless (by_book checks) r) (Err (of_book e))
-given checks r e (inl h) = inr (refused checks r e h)
-given checks r e (inr h) = inl (ap of_book h.0)
-
--- none of the book's checks of an accepted event held
-none_held : (checks : List (Bool × book_refusal.Refusal)) (rest : List (Bool × Refusal)) (r : Result Answer Refusal) (a : Answer) → unless (by_book checks ++ rest) r ≡ Ok a → book.first_refusal checks ≡ None
-none_held [] rest r a h = refl
-none_held ((true, e) ∷ checks) rest r a h = cc
-none_held ((false, e) ∷ checks) rest r a h = none_held checks rest r a h
-
-none_held_alone : (checks : List (Bool × book_refusal.Refusal)) (r : Result Answer Refusal) (a : Answer) → unless (by_book checks) r ≡ Ok a → book.first_refusal checks ≡ None
-none_held_alone [] r a h = refl
-none_held_alone ((true, e) ∷ checks) r a h = cc
-none_held_alone ((false, e) ∷ checks) r a h = none_held_alone checks r a h
-
--- after a check that does not hold
-past_check : (t : Bool) (e : Refusal) (v w : Result Answer Refusal) → t ≡ false → v ≡ w → cond t (Err e) v ≡ w
-past_check true e v w h g = cc
-past_check false e v w h g = g
-
-past_given : (t : Bool) (e : Refusal) (v r : Result Answer Refusal) → t ≡ false → Gives v r → Gives (cond t (Err e) v) r
-past_given true e v r h g = cc
-past_given false e v r h g = g
 
 -- an area that is not there
 pub issue_elsewhere : (past : List Entry) (notice : Notice) (areas : List (List ℕ)) → list_any (λ a. not (is_area past a)) areas ≡ true → issue past notice areas ≡ Err refusal.NoSuchArea
 issue_elsewhere past notice areas missing = rw missing refl
 
-pub issue_taken : (past : List Entry) (st : State) (notice : Notice) (areas : List (List ℕ)) (n s : ℕ) → st ≡ book_of past → list_any (λ a. not (is_area past a)) areas ≡ false → book.first_refusal (book.issue_checks st notice areas) ≡ None → n ≡ st.issued + 1 → new_serial st notice ≡ Some s → issue past notice areas ≡ Ok (answer.Issued n s)
+pub issue_taken : (past : List Entry) (st : State) (notice : Notice) (areas : List (List ℕ)) (n s : ℕ) → st ≡ book_of past → list_any (λ a. not (is_area past a)) areas ≡ false → first_refusal (book.issue_checks st notice areas) ≡ None → n ≡ st.issued + 1 → new_serial st notice ≡ Some s → issue past notice areas ≡ Ok (answer.Issued n s)
 issue_taken past st notice areas n s is there checked number serial =
     past_check (list_any (λ a. not (is_area past a)) areas) refusal.NoSuchArea (unless (by_book (book.issue_checks (book_of past) notice areas)) (issue_answer ((book_of past).issued + 1) (new_serial (book_of past) notice))) (Ok (answer.Issued n s)) there
-    (taken (book.issue_checks (book_of past) notice areas) (issue_answer ((book_of past).issued + 1) (new_serial (book_of past) notice)) (rw (← is) checked)
+    (taken of_book (book.issue_checks (book_of past) notice areas) (issue_answer ((book_of past).issued + 1) (new_serial (book_of past) notice)) (rw (← is) checked)
     ∙ (rw (← is, serial, ← number) refl))
 
-pub issue_refused : (past : List Entry) (st : State) (notice : Notice) (areas : List (List ℕ)) (e : book_refusal.Refusal) → st ≡ book_of past → list_any (λ a. not (is_area past a)) areas ≡ false → (book.first_refusal (book.issue_checks st notice areas) ≡ Some e) ⊎ ((e ≡ book_refusal_is.Memory) × (book.first_refusal (book.issue_checks st notice areas) ≡ None)) → Gives (issue past notice areas) (Err (of_book e))
+pub issue_refused : (past : List Entry) (st : State) (notice : Notice) (areas : List (List ℕ)) (e : book_refusal.Refusal) → st ≡ book_of past → list_any (λ a. not (is_area past a)) areas ≡ false → (first_refusal (book.issue_checks st notice areas) ≡ Some e) ⊎ ((e ≡ book_refusal_is.Memory) × (first_refusal (book.issue_checks st notice areas) ≡ None)) → Gives (issue past notice areas) (Err (of_book e))
 issue_refused past st notice areas e is there h =
     past_given (list_any (λ a. not (is_area past a)) areas) refusal.NoSuchArea (unless (by_book (book.issue_checks (book_of past) notice areas)) (issue_answer ((book_of past).issued + 1) (new_serial (book_of past) notice))) (Err (of_book e)) there
-    (given (book.issue_checks (book_of past) notice areas) (issue_answer ((book_of past).issued + 1) (new_serial (book_of past) notice)) e (rw (← is) h))
+    (given of_book book_refusal_is.Memory refl (book.issue_checks (book_of past) notice areas) (issue_answer ((book_of past).issued + 1) (new_serial (book_of past) notice)) e (rw (← is) h))
 
-pub update_taken : (past : List Entry) (st : State) (n : ℕ) (content : Content) (s : ℕ) → st ≡ book_of past → book.first_refusal (book.update_checks st n content) ≡ None → next_serial st n ≡ Some s → update past n content ≡ Ok (answer.Updated s)
+pub update_taken : (past : List Entry) (st : State) (n : ℕ) (content : Content) (s : ℕ) → st ≡ book_of past → first_refusal (book.update_checks st n content) ≡ None → next_serial st n ≡ Some s → update past n content ≡ Ok (answer.Updated s)
 update_taken past st n content s is checked serial =
-    taken (book.update_checks (book_of past) n content) (update_answer (next_serial (book_of past) n)) (rw (← is) checked) ∙ (rw (← is, serial) refl)
+    taken of_book (book.update_checks (book_of past) n content) (update_answer (next_serial (book_of past) n)) (rw (← is) checked) ∙ (rw (← is, serial) refl)
 
-pub update_refused : (past : List Entry) (st : State) (n : ℕ) (content : Content) (e : book_refusal.Refusal) → st ≡ book_of past → (book.first_refusal (book.update_checks st n content) ≡ Some e) ⊎ ((e ≡ book_refusal_is.Memory) × (book.first_refusal (book.update_checks st n content) ≡ None)) → Gives (update past n content) (Err (of_book e))
-update_refused past st n content e is h = given (book.update_checks (book_of past) n content) (update_answer (next_serial (book_of past) n)) e (rw (← is) h)
+pub update_refused : (past : List Entry) (st : State) (n : ℕ) (content : Content) (e : book_refusal.Refusal) → st ≡ book_of past → (first_refusal (book.update_checks st n content) ≡ Some e) ⊎ ((e ≡ book_refusal_is.Memory) × (first_refusal (book.update_checks st n content) ≡ None)) → Gives (update past n content) (Err (of_book e))
+update_refused past st n content e is h = given of_book book_refusal_is.Memory refl (book.update_checks (book_of past) n content) (update_answer (next_serial (book_of past) n)) e (rw (← is) h)
 
-pub widen_taken : (past : List Entry) (st : State) (n : ℕ) (a : List ℕ) → st ≡ book_of past → is_area past a ≡ true → book.first_refusal (book.widen_checks st n a) ≡ None → widen past n a ≡ Ok answer.Done
+pub widen_taken : (past : List Entry) (st : State) (n : ℕ) (a : List ℕ) → st ≡ book_of past → is_area past a ≡ true → first_refusal (book.widen_checks st n a) ≡ None → widen past n a ≡ Ok answer.Done
 widen_taken past st n a is there checked =
     past_check (not (is_area past a)) refusal.NoSuchArea (unless (by_book (book.widen_checks (book_of past) n a)) (Ok answer.Done)) (Ok answer.Done) (ap not there)
-    (taken (book.widen_checks (book_of past) n a) (Ok answer.Done) (rw (← is) checked))
+    (taken of_book (book.widen_checks (book_of past) n a) (Ok answer.Done) (rw (← is) checked))
 
-pub widen_refused : (past : List Entry) (st : State) (n : ℕ) (a : List ℕ) (e : book_refusal.Refusal) → st ≡ book_of past → is_area past a ≡ true → (book.first_refusal (book.widen_checks st n a) ≡ Some e) ⊎ ((e ≡ book_refusal_is.Memory) × (book.first_refusal (book.widen_checks st n a) ≡ None)) → Gives (widen past n a) (Err (of_book e))
+pub widen_refused : (past : List Entry) (st : State) (n : ℕ) (a : List ℕ) (e : book_refusal.Refusal) → st ≡ book_of past → is_area past a ≡ true → (first_refusal (book.widen_checks st n a) ≡ Some e) ⊎ ((e ≡ book_refusal_is.Memory) × (first_refusal (book.widen_checks st n a) ≡ None)) → Gives (widen past n a) (Err (of_book e))
 widen_refused past st n a e is there h =
     past_given (not (is_area past a)) refusal.NoSuchArea (unless (by_book (book.widen_checks (book_of past) n a)) (Ok answer.Done)) (Err (of_book e)) (ap not there)
-    (given (book.widen_checks (book_of past) n a) (Ok answer.Done) e (rw (← is) h))
+    (given of_book book_refusal_is.Memory refl (book.widen_checks (book_of past) n a) (Ok answer.Done) e (rw (← is) h))
 
-pub narrow_taken : (past : List Entry) (st : State) (n : ℕ) (a : List ℕ) → st ≡ book_of past → is_area past a ≡ true → book.first_refusal (book.narrow_checks st n a) ≡ None → narrow past n a ≡ Ok answer.Done
+pub narrow_taken : (past : List Entry) (st : State) (n : ℕ) (a : List ℕ) → st ≡ book_of past → is_area past a ≡ true → first_refusal (book.narrow_checks st n a) ≡ None → narrow past n a ≡ Ok answer.Done
 narrow_taken past st n a is there checked =
     past_check (not (is_area past a)) refusal.NoSuchArea (unless (by_book (book.narrow_checks (book_of past) n a)) (Ok answer.Done)) (Ok answer.Done) (ap not there)
-    (taken (book.narrow_checks (book_of past) n a) (Ok answer.Done) (rw (← is) checked))
+    (taken of_book (book.narrow_checks (book_of past) n a) (Ok answer.Done) (rw (← is) checked))
 
-pub narrow_refused : (past : List Entry) (st : State) (n : ℕ) (a : List ℕ) (e : book_refusal.Refusal) → st ≡ book_of past → is_area past a ≡ true → book.first_refusal (book.narrow_checks st n a) ≡ Some e → narrow past n a ≡ Err (of_book e)
+pub narrow_refused : (past : List Entry) (st : State) (n : ℕ) (a : List ℕ) (e : book_refusal.Refusal) → st ≡ book_of past → is_area past a ≡ true → first_refusal (book.narrow_checks st n a) ≡ Some e → narrow past n a ≡ Err (of_book e)
 narrow_refused past st n a e is there h =
     past_check (not (is_area past a)) refusal.NoSuchArea (unless (by_book (book.narrow_checks (book_of past) n a)) (Ok answer.Done)) (Err (of_book e)) (ap not there)
-    (refused (book.narrow_checks (book_of past) n a) (Ok answer.Done) e (rw (← is) h))
+    (refused of_book (book.narrow_checks (book_of past) n a) (Ok answer.Done) e (rw (← is) h))
 
-pub stop_taken : (past : List Entry) (st : State) (n : ℕ) → st ≡ book_of past → book.first_refusal (book.stop_checks st n) ≡ None → stop past n ≡ Ok answer.Done
-stop_taken past st n is checked = taken (book.stop_checks (book_of past) n) (Ok answer.Done) (rw (← is) checked)
+pub stop_taken : (past : List Entry) (st : State) (n : ℕ) → st ≡ book_of past → first_refusal (book.stop_checks st n) ≡ None → stop past n ≡ Ok answer.Done
+stop_taken past st n is checked = taken of_book (book.stop_checks (book_of past) n) (Ok answer.Done) (rw (← is) checked)
 
-pub stop_refused : (past : List Entry) (st : State) (n : ℕ) (e : book_refusal.Refusal) → st ≡ book_of past → book.first_refusal (book.stop_checks st n) ≡ Some e → stop past n ≡ Err (of_book e)
-stop_refused past st n e is h = refused (book.stop_checks (book_of past) n) (Ok answer.Done) e (rw (← is) h)
+pub stop_refused : (past : List Entry) (st : State) (n : ℕ) (e : book_refusal.Refusal) → st ≡ book_of past → first_refusal (book.stop_checks st n) ≡ Some e → stop past n ≡ Err (of_book e)
+stop_refused past st n e is h = refused of_book (book.stop_checks (book_of past) n) (Ok answer.Done) e (rw (← is) h)
 
--- the rest is not looked at where one of the book's checks holds
-refused_first : (checks : List (Bool × book_refusal.Refusal)) (rest : List (Bool × Refusal)) (r : Result Answer Refusal) (e : book_refusal.Refusal) → book.first_refusal checks ≡ Some e → unless (by_book checks ++ rest) r ≡ Err (of_book e)
-refused_first [] rest r e h = cc
-refused_first ((true, x) ∷ checks) rest r e h = let same : x ≡ e = cc in ap (λ k. Err (of_book k)) same
-refused_first ((false, x) ∷ checks) rest r e h = refused_first checks rest r e h
-
-pub forget_refused : (past : List Entry) (st : State) (n : ℕ) (e : book_refusal.Refusal) → st ≡ book_of past → book.first_refusal (book.forget_checks st n) ≡ Some e → forget past n ≡ Err (of_book e)
+pub forget_refused : (past : List Entry) (st : State) (n : ℕ) (e : book_refusal.Refusal) → st ≡ book_of past → first_refusal (book.forget_checks st n) ≡ Some e → forget past n ≡ Err (of_book e)
 forget_refused past st n e is h =
-    refused_first (book.forget_checks (book_of past) n) ((warning_is (book_of past) n (is_reported past), refusal.StillReported) ∷ (warning_is (book_of past) n (is_flying past), refusal.StillInFlight) ∷ []) (Ok answer.Done) e (rw (← is) h)
+    refused_first of_book (book.forget_checks (book_of past) n) ((warning_is (book_of past) n (is_reported past), refusal.StillReported) ∷ (warning_is (book_of past) n (is_flying past), refusal.StillInFlight) ∷ []) (Ok answer.Done) e (rw (← is) h)
 
 -- no warning has the number where none is found
 none_found : (n : ℕ) (ws : List Warning) → find (has_number n) ws ≡ None → list_any (has_number n) ws ≡ false
@@ -172,7 +133,7 @@ forget_checked past st n w e is ordered h (inr first) = inr (forget_found past s
 issued_sound : (past : List Entry) (notice : Notice) (areas : List (List ℕ)) (a : Answer) → issue past notice areas ≡ Ok a → IsSound (book_of past) → IsSound (book_with notice areas a (book_of past))
 issued_sound past notice areas (answer.Issued n s) h sound =
     sound_after_issue (book_of past) notice areas s
-    (none_held_alone (book.issue_checks (book_of past) notice areas) (issue_answer ((book_of past).issued + 1) (new_serial (book_of past) notice)) (answer.Issued n s) after)
+    (none_held of_book (book.issue_checks (book_of past) notice areas) (issue_answer ((book_of past).issued + 1) (new_serial (book_of past) notice)) (answer.Issued n s) after)
     (serial (new_serial (book_of past) notice) (unless_ok (by_book (book.issue_checks (book_of past) notice areas)) (issue_answer ((book_of past).issued + 1) (new_serial (book_of past) notice)) (answer.Issued n s) after))
     sound
   where
@@ -180,26 +141,17 @@ issued_sound past notice areas (answer.Issued n s) h sound =
     serial None g = cc
     serial (Some t) g = let same : t ≡ s = cc in ap (λ k. Some k) same
 
-    drop_check : (t : Bool) (v : Result Answer Refusal) → cond t (Err refusal.NoSuchArea) v ≡ Ok (answer.Issued n s) → v ≡ Ok (answer.Issued n s)
-    drop_check true v g = cc
-    drop_check false v g = g
-
     after : unless (by_book (book.issue_checks (book_of past) notice areas)) (issue_answer ((book_of past).issued + 1) (new_serial (book_of past) notice)) ≡ Ok (answer.Issued n s)
-    after = drop_check (list_any (λ a. not (is_area past a)) areas) (unless (by_book (book.issue_checks (book_of past) notice areas)) (issue_answer ((book_of past).issued + 1) (new_serial (book_of past) notice))) h
+    after = checked_after (list_any (λ a. not (is_area past a)) areas) refusal.NoSuchArea (unless (by_book (book.issue_checks (book_of past) notice areas)) (issue_answer ((book_of past).issued + 1) (new_serial (book_of past) notice))) (answer.Issued n s) h
 issued_sound past notice areas other h sound = sound
-
--- after a check that did not hold
-checked_after : (t : Bool) (e : Refusal) (v : Result Answer Refusal) (a : Answer) → cond t (Err e) v ≡ Ok a → v ≡ Ok a
-checked_after true e v a h = cc
-checked_after false e v a h = h
 
 sound_after : (past : List Entry) (e : Event) (a : Answer) → law past e ≡ Ok a → IsSound (book_of past) → IsSound (book_after e a (book_of past))
 sound_after past (Issue notice areas) a h sound = issued_sound past notice areas a h sound
-sound_after past (Update n content) a h sound = sound_after_update (book_of past) n content (none_held_alone (book.update_checks (book_of past) n content) (update_answer (next_serial (book_of past) n)) a h) sound
+sound_after past (Update n content) a h sound = sound_after_update (book_of past) n content (none_held of_book (book.update_checks (book_of past) n content) (update_answer (next_serial (book_of past) n)) a h) sound
 sound_after past (Widen n x) a h sound =
-    sound_after_widen (book_of past) n x (none_held_alone (book.widen_checks (book_of past) n x) (Ok answer.Done) a (checked_after (not (is_area past x)) refusal.NoSuchArea (unless (by_book (book.widen_checks (book_of past) n x)) (Ok answer.Done)) a h)) sound
+    sound_after_widen (book_of past) n x (none_held of_book (book.widen_checks (book_of past) n x) (Ok answer.Done) a (checked_after (not (is_area past x)) refusal.NoSuchArea (unless (by_book (book.widen_checks (book_of past) n x)) (Ok answer.Done)) a h)) sound
 sound_after past (Narrow n x) a h sound =
-    sound_after_narrow (book_of past) n x (none_held_alone (book.narrow_checks (book_of past) n x) (Ok answer.Done) a (checked_after (not (is_area past x)) refusal.NoSuchArea (unless (by_book (book.narrow_checks (book_of past) n x)) (Ok answer.Done)) a h)) sound
+    sound_after_narrow (book_of past) n x (none_held of_book (book.narrow_checks (book_of past) n x) (Ok answer.Done) a (checked_after (not (is_area past x)) refusal.NoSuchArea (unless (by_book (book.narrow_checks (book_of past) n x)) (Ok answer.Done)) a h)) sound
 sound_after past (Stop n) a h sound = sound_after_stop (book_of past) n sound
 sound_after past (Forget n) a h sound = sound_after_forget (book_of past) n sound
 sound_after past other a h sound = sound

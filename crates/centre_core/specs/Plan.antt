@@ -1,18 +1,14 @@
 -- What is wanted on air: each cell at its BSC, with the current version of each active warning one of whose areas
 -- covers it.
-use Rattle.std.specs.Prelude.{ℕ, Bool, ◌&&◌, List, Option, Some, None, false, nat_eq}
+use Rattle.std.specs.Prelude.{ℕ, Bool, ◌&&◌, List, nat_eq}
 use Rattle.std.specs.List.{list_any}
 use Rattle.cbsp_ie.specs.declared.cell.Cell.{Cell}
+use Rattle.cell_register.specs.Register.{is_place}
 use Rattle.warning_book.specs.declared.warning.Warning.{Warning}
 use Rattle.centre_core.specs.Cover.{is_covered}
 use Rattle.centre_core.specs.Places.{place}
 use Rattle.centre_core.specs.Warnings.{warnings_of}
 use Rattle.centre_core.specs.declared.entry.Entry.{Entry}
-
--- the place is that BSC
-abbrev pub is_place : Option ℕ → ℕ → Bool
-is_place None b = false
-is_place (Some other) b = nat_eq other b
 
 -- the warning's current version is wanted in the cell at the BSC
 abbrev pub wanted : List Entry → ℕ → Warning → Cell → Bool

@@ -16,7 +16,7 @@ use Rattle.centre_core.specs.Links.{is_bsc, bsc_count, is_up, last_link}
 use Rattle.centre_core.specs.OrderMessage.{order_message}
 use Rattle.centre_core.specs.Pending.{pending, first}
 use Rattle.centre_core.specs.Places.{cells, place, is_registered, cell_count}
-use Rattle.centre_core.specs.Plan.{is_place}
+use Rattle.cell_register.specs.Register.{is_place}
 use Rattle.centre_core.specs.Refusals.{of_book}
 use Rattle.centre_core.specs.Reported.{is_reported, is_flying}
 use Rattle.centre_core.specs.Warnings.{book_of, warnings_of}
@@ -99,10 +99,14 @@ cut_checks past a s = (not (is_area past a), refusal.NoSuchArea) ∷ (not (has_s
 abbrev pub cut : List Entry → List ℕ → Selector → Result Answer Refusal
 cut past a s = unless (cut_checks past a s) (Ok answer.Done)
 
--- the checks that the book makes, each with the centre's refusal
+-- the checks that a lower crate makes, each with the centre's refusal
+abbrev pub translated : {E : Type 0} → (E → Refusal) → List (Bool × E) → List (Bool × Refusal)
+translated f [] = []
+translated f (check ∷ checks) = (check.0, f check.1) ∷ translated f checks
+
+-- the checks that the book makes
 abbrev pub by_book : List (Bool × book_refusal.Refusal) → List (Bool × Refusal)
-by_book [] = []
-by_book (check ∷ checks) = (check.0, of_book check.1) ∷ by_book checks
+by_book checks = translated of_book checks
 
 abbrev pub issue_checks : List Entry → Notice → List (List ℕ) → List (Bool × Refusal)
 issue_checks past notice areas = (list_any (λ a. not (is_area past a)) areas, refusal.NoSuchArea) ∷ by_book (book.issue_checks (book_of past) notice areas)

@@ -1,5 +1,5 @@
 -- Why an edit is refused: the first cause that holds, in the order of the checks.
-use Rattle.std.specs.Prelude.{ℕ, Bool, true, false, not, List, [], ◌∷◌, Option, Some, None, nat_le, ltb, length, if◌then◌else◌}
+use Rattle.std.specs.Prelude.{ℕ, Bool, true, false, not, List, [], ◌∷◌, nat_le, ltb, length}
 use Rattle.warning_book.specs.Book.{State, names, is_full, has_one_area, is_exhausted, warning_is, is_there, is_active}
 use Rattle.warning_book.specs.Content.{are_pages, is_period}
 use Rattle.warning_book.specs.Once.{has_twice}
@@ -8,11 +8,6 @@ use Rattle.warning_book.specs.declared.notice.Notice.{Notice}
 use Rattle.warning_book.specs.declared.refusal.Limit.TheVariants as limit
 use Rattle.warning_book.specs.declared.refusal.Refusal.{Refusal}
 use Rattle.warning_book.specs.declared.refusal.Refusal.TheVariants as refusal
-
--- the refusal of the first check that holds
-abbrev pub first_refusal : List (Bool × Refusal) → Option Refusal
-first_refusal [] = None
-first_refusal (check ∷ checks) = if check.0 then Some check.1 else first_refusal checks
 
 abbrev pub is_empty : List (List ℕ) → Bool
 is_empty [] = true

@@ -8,6 +8,7 @@ use Rattle.std.proofs.lemmas.Bool.{or_parts, or_from}
 use Rattle.std.proofs.lemmas.Bool.Decides.{nat_tests}
 use Rattle.std.proofs.lemmas.Grind.{common_steps}
 use Rattle.std.proofs.lemmas.List.Folds.{find-append, list_any-append}
+use Rattle.cbsp_ie.specs.OrderLaws.{left_out, left_in}
 use Rattle.warning_book.specs.Book.{has_number, is_so, numbers, changed_if, edited, without}
 use Rattle.warning_book.specs.Once.{is_disordered}
 use Rattle.warning_book.specs.declared.warning.Warning.{Warning}
@@ -85,17 +86,6 @@ there_edited n m f keeps (w ∷ l) =
 
 -- a warning that is forgotten
 
-left_out : {A : Type 0} (p q : Bool) (none s r : A) → q ≡ p → cond p none r ≡ cond p none (cond q s r)
-left_out true q none s r e = refl
-left_out false true none s r e = cc
-left_out false false none s r e = refl
-
-kept : {A : Type 0} (p q : Bool) (none s r : A) → (p ≡ true → q ≡ false) → cond q s (cond p none r) ≡ cond p none (cond q s r)
-kept true true none s r f = absurd (let no : true ≡ false = f refl in cc)
-kept true false none s r f = refl
-kept false true none s r f = refl
-kept false false none s r f = refl
-
 -- a warning of another number
 other_number : (n m : ℕ) (w : Warning) → has_number n w ≡ false → nat_eq n m ≡ true → has_number m w ≡ false
 other_number n m w h e = ap (nat_eq w.number) (sym ((unsigned_Decides n m).0 e)) ∙ h
@@ -112,7 +102,7 @@ found_without n m (w ∷ l) = step (found_without n m l) (has_number n w) refl
     step rest true e =
         rest ∙ left_out (nat_eq n m) (has_number m w) None (Some w) (find (has_number m) l) (ap (λ k. nat_eq k m) ((unsigned_Decides w.number n).0 e))
     step rest false e =
-        ap (λ o. cond (has_number m w) (Some w) o) rest ∙ kept (nat_eq n m) (has_number m w) None (Some w) (find (has_number m) l) (other_number n m w e)
+        ap (λ o. cond (has_number m w) (Some w) o) rest ∙ left_in (nat_eq n m) (has_number m w) None (Some w) (find (has_number m) l) (other_number n m w e)
 
 pub so_without : (n m : ℕ) (g : Warning → Bool) (l : List Warning) → is_so m g (without n l) ≡ cond (nat_eq n m) false (is_so m g l)
 so_without n m g [] = step (nat_eq n m)

@@ -1,6 +1,6 @@
 -- Each edit that nothing forbids leaves the book sound. Crates that recompute the book from their own record of edits
 -- cite the last section.
-use Rattle.std.proofs.Common.{◌≡◌, ℕ, suc, ◌+◌, ◌<◌, ◌≤◌, Bool, true, false, ◌&&◌, ◌||◌, not, cond, List, [], ◌∷◌, ◌++◌, Option, Some, None, map, nat_eq, nat_le, ltb, length, refl, sym, ap, ◌∙◌, arith, length-append}
+use Rattle.std.proofs.Common.{◌≡◌, ℕ, suc, ◌+◌, ◌<◌, ◌≤◌, Bool, true, false, ◌&&◌, ◌||◌, not, cond, List, [], ◌∷◌, ◌++◌, Some, None, map, nat_eq, nat_le, ltb, length, refl, sym, ap, ◌∙◌, arith, length-append}
 use Rattle.std.specs.Prelude.{bytes_eq}
 use Rattle.std.specs.List.{list_any, list_all, filter}
 use Rattle.std.proofs.lemmas.Bool.{and_parts, and_from, or_parts, or_from, not-true}
@@ -9,9 +9,11 @@ use Rattle.std.proofs.lemmas.Grind.{common_steps}
 use Rattle.std.proofs.lemmas.List.{length-map, map-append}
 use Rattle.std.proofs.lemmas.List.Folds.{list_any-append, list_all-append}
 use Rattle.std.proofs.lemmas.Slice.Eq.{bytes_eq-Decides}
+use Rattle.cbsp_ie.specs.OrderLaws.{all_same, all_filter, length_filter}
 use Rattle.serials.specs.Serials.{code_of, update_of}
 use Rattle.warning_book.specs.Book.{State, has_number, names, is_full, has_one_area, is_exhausted, is_so, as_version, versions, numbers, codes_of, new_serial, new_warning, updated, widened, narrowed, stopped, changed_if, edited, without, after_issue, after_update, after_widen, after_narrow, after_stop, after_forget}
-use Rattle.warning_book.specs.Checks.{is_empty, first_refusal, issue_checks, update_checks, widen_checks, narrow_checks}
+use Rattle.cbsp_ie.specs.Checks.{first_refusal}
+use Rattle.warning_book.specs.Checks.{is_empty, issue_checks, update_checks, widen_checks, narrow_checks}
 use Rattle.warning_book.specs.Content.{are_pages, is_period}
 use Rattle.warning_book.specs.SerialLaws.{new_serial_parts}
 use Rattle.warning_book.specs.Once.{some_pair, has_twice, is_disordered}
@@ -30,12 +32,6 @@ any-last p x xs h e = list_any-append p xs (x ∷ []) ∙ or_from (list_any p xs
 all-last : {X : Type 0} (p : X → Bool) (x : X) (xs : List X) → list_all p xs ≡ true → p x ≡ true → list_all p (xs ++ x ∷ []) ≡ true
 all-last p x xs h e = list_all-append p xs (x ∷ []) ∙ and_from (list_all p xs) (p x && true) h (and_from (p x) true e refl)
 
-all-weaker : {X : Type 0} (p q : X → Bool) → ((x : X) → p x ≡ true → q x ≡ true) → (xs : List X) → list_all p xs ≡ true → list_all q xs ≡ true
-all-weaker p q f [] h = refl
-all-weaker p q f (x ∷ xs) h =
-    let parts = and_parts (p x) (list_all p xs) h in
-    and_from (q x) (list_all q xs) (f x parts.0) (all-weaker p q f xs parts.1)
-
 pub some_pair-last : {X : Type 0} (r : X → X → Bool) (x : X) (xs : List X) → list_any (λ y. r y x) xs ≡ false → some_pair r xs ≡ false → some_pair r (xs ++ x ∷ []) ≡ false
 some_pair-last r x [] h o = refl
 some_pair-last r x (y ∷ xs) h o =
@@ -49,14 +45,6 @@ any-filter {X} p q (x ∷ xs) h = step (any-filter p q xs) (q x) (or_parts (p x)
   where
     step : (list_any p xs ≡ false → list_any p (filter q xs) ≡ false) → (t : Bool) → (p x ≡ false) × (list_any p xs ≡ false) → list_any p (cond t (x ∷ filter q xs) (filter q xs)) ≡ false
     step rest true parts = or_from (p x) (list_any p (filter q xs)) parts.0 (rest parts.1)
-    step rest false parts = rest parts.1
-
-all-filter : {X : Type 0} (p q : X → Bool) (xs : List X) → list_all p xs ≡ true → list_all p (filter q xs) ≡ true
-all-filter p q [] h = refl
-all-filter {X} p q (x ∷ xs) h = step (all-filter p q xs) (q x) (and_parts (p x) (list_all p xs) h)
-  where
-    step : (list_all p xs ≡ true → list_all p (filter q xs) ≡ true) → (t : Bool) → (p x ≡ true) × (list_all p xs ≡ true) → list_all p (cond t (x ∷ filter q xs) (filter q xs)) ≡ true
-    step rest true parts = and_from (p x) (list_all p (filter q xs)) parts.0 (rest parts.1)
     step rest false parts = rest parts.1
 
 some_pair-filter : {X : Type 0} (r : X → X → Bool) (q : X → Bool) (xs : List X) → some_pair r xs ≡ false → some_pair r (filter q xs) ≡ false
@@ -79,14 +67,6 @@ some_pair-map r key (x ∷ xs) =
 some_pair-filter-map : {X K : Type 0} (r : K → K → Bool) (key : X → K) (q : X → Bool) (xs : List X) → some_pair r (map key xs) ≡ false → some_pair r (map key (filter q xs)) ≡ false
 some_pair-filter-map r key q xs h =
     some_pair-map r key (filter q xs) ∙ some_pair-filter (λ x y. r (key x) (key y)) q xs (sym (some_pair-map r key xs) ∙ h)
-
-length-filter-le : {X : Type 0} (q : X → Bool) (xs : List X) → length (filter q xs) ≤ length xs
-length-filter-le q [] = omega arith
-length-filter-le {X} q (x ∷ xs) = step (length-filter-le q xs) (q x)
-  where
-    step : length (filter q xs) ≤ length xs → (t : Bool) → length (cond t (x ∷ filter q xs) (filter q xs)) ≤ length (x ∷ xs)
-    step rest true = omega arith
-    step rest false = omega arith
 
 -- names that are each there once: a name takes one with it at most
 kept_without : (a : List ℕ) (xs : List (List ℕ)) → list_any (bytes_eq a) xs ≡ false → length (filter (λ b. not (bytes_eq b a)) xs) ≡ length xs
@@ -196,7 +176,7 @@ areas-narrowed a w h e =
     let parts = and_parts (nat_le 1 (length w.areas) && nat_le (length w.areas) 16) (not (has_twice w.areas)) e in
     let once : has_twice w.areas ≡ false = not-true (has_twice w.areas) parts.1 in
     let twice : has_twice (filter (λ b. not (bytes_eq b a)) w.areas) ≡ false = some_pair-filter bytes_eq (λ b. not (bytes_eq b a)) w.areas once in
-    bounds (length w.areas) (length (filter (λ b. not (bytes_eq b a)) w.areas)) (has_twice (filter (λ b. not (bytes_eq b a)) w.areas)) h parts.0 twice (length-without a w.areas once) (length-filter-le (λ b. not (bytes_eq b a)) w.areas)
+    bounds (length w.areas) (length (filter (λ b. not (bytes_eq b a)) w.areas)) (has_twice (filter (λ b. not (bytes_eq b a)) w.areas)) h parts.0 twice (length-without a w.areas once) (length_filter (λ b. not (bytes_eq b a)) w.areas)
   where
     bounds : (n k : ℕ) (t : Bool) → nat_le n 1 ≡ false → (nat_le 1 n && nat_le n 16) ≡ true → t ≡ false → n ≤ k + 1 → k ≤ n → ((nat_le 1 k && nat_le k 16) && not t) ≡ true
     bounds n k t h e o f g = grind (arith, nat_tests, common_steps)
@@ -275,7 +255,7 @@ keeps-updated c good period =
       areas = λ w h e. e;
       contents = λ w e. and_from (are_pages c.pages && is_period c.period) (list_all is_good (versions w)) (and_from (are_pages c.pages) (is_period c.period) good period) e;
       counted = λ w h e. counts (length w.outdated) (update_of w.serial) (update_of (w.serial + 1)) (next_update w.serial h) e;
-      older = λ w h e. and_from (is_older (w.serial + 1) (as_version w)) (list_all (is_older (w.serial + 1)) w.outdated) (older_now w.serial w.content (same_code w.serial h)) (all-weaker (is_older w.serial) (is_older (w.serial + 1)) (λ v g. older_still w.serial v (same_code w.serial h) g) w.outdated e);
+      older = λ w h e. and_from (is_older (w.serial + 1) (as_version w)) (list_all (is_older (w.serial + 1)) w.outdated) (older_now w.serial w.content (same_code w.serial h)) (all_same (is_older w.serial) (is_older (w.serial + 1)) (λ v g. older_still w.serial v (same_code w.serial h) g) w.outdated e);
       key = λ w h. ap (λ (k : ℕ). (w.message_id, k)) (same_code w.serial h);
     }
   where
@@ -291,12 +271,12 @@ pub sound-without : (n i : ℕ) (l : List Warning) → IsSound (record { issued 
 sound-without n i l s =
     record {
       ordered = some_pair-filter-map (λ m k. nat_le k m) (λ (w : Warning). w.number) (λ w. not (has_number n w)) l s.ordered;
-      given = all-filter (was_issued i) (λ w. not (has_number n w)) l s.given;
-      few = let fewer = length-filter-le (λ (w : Warning). not (has_number n w)) l in let all = s.few in omega arith;
-      areas = all-filter has_areas (λ w. not (has_number n w)) l s.areas;
-      contents = all-filter has_contents (λ w. not (has_number n w)) l s.contents;
-      counted = all-filter counts_updates (λ w. not (has_number n w)) l s.counted;
-      older = all-filter has_serials (λ w. not (has_number n w)) l s.older;
+      given = all_filter (was_issued i) (λ w. not (has_number n w)) l s.given;
+      few = let fewer = length_filter (λ (w : Warning). not (has_number n w)) l in let all = s.few in omega arith;
+      areas = all_filter has_areas (λ w. not (has_number n w)) l s.areas;
+      contents = all_filter has_contents (λ w. not (has_number n w)) l s.contents;
+      counted = all_filter counts_updates (λ w. not (has_number n w)) l s.counted;
+      older = all_filter has_serials (λ w. not (has_number n w)) l s.older;
       codes = some_pair-filter-map is_same_key key_of (λ w. not (has_number n w)) l s.codes;
     }
 
@@ -357,7 +337,7 @@ sound-issue i l notice areas serial new s =
     let w : Warning = new_warning (i + 1) notice areas serial in
     record {
       ordered = ap is_disordered (map-append (λ (v : Warning). v.number) l (w ∷ [])) ∙ some_pair-last (λ m k. nat_le k m) (i + 1) (numbers l) (no_later i l s.given) s.ordered;
-      given = all-last (was_issued (i + 1)) w l (all-weaker (was_issued i) (was_issued (i + 1)) (was_issued-more i) l s.given) (was_issued-new i);
+      given = all-last (was_issued (i + 1)) w l (all_same (was_issued i) (was_issued (i + 1)) (was_issued-more i) l s.given) (was_issued-new i);
       few = let room = new.room in omega (arith, length-append l (w ∷ []));
       areas = all-last has_areas w l s.areas (new_areas areas new.some new.once new.few);
       contents = all-last has_contents w l s.contents (and_from (are_pages notice.content.pages && is_period notice.content.period) true (and_from (are_pages notice.content.pages) (is_period notice.content.period) new.pages new.period) refl);

@@ -37,7 +37,8 @@ impl Book {
     ghost use Rattle.std.specs.List.{list_any, list_all};
     ghost use Rattle.std.specs.Option.{option_map, option_copied};
     ghost use Rattle.warning_book.specs.Book.{empty, names, is_active, warning_of, current, message_id, versions, lent, numbers, naming, areas_of, content_of, new_serial, next_serial, after_issue, after_update, after_widen, after_narrow, after_stop, after_forget};
-    ghost use Rattle.warning_book.specs.Checks.{first_refusal, issue_checks, update_checks, widen_checks, narrow_checks, stop_checks, forget_checks};
+    ghost use Rattle.cbsp_ie.specs.Checks.{first_refusal};
+    ghost use Rattle.warning_book.specs.Checks.{issue_checks, update_checks, widen_checks, narrow_checks, stop_checks, forget_checks};
     ghost use Rattle.warning_book.specs.Once.{is_disordered};
     ghost use Rattle.warning_book.specs.Sound.{was_issued, has_areas, has_contents, counts_updates, has_serials, shares_code};
     ghost use Rattle.warning_book.specs.declared.refusal.Refusal.TheVariants as refusal;

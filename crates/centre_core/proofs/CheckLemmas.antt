@@ -1,0 +1,72 @@
+-- Checks, and the answer after them.
+use Rattle.std.proofs.Common.{◌≡◌, ◌⊎◌, inl, inr, Bool, true, false, List, [], ◌∷◌, ◌++◌, Some, None, Result, Ok, Err, cond, refl, ◌∙◌, ap}
+use Rattle.cbsp_ie.specs.Checks.{first_refusal}
+use Rattle.centre_core.specs.Kept.{Gives}
+use Rattle.centre_core.specs.Verdict.{unless, translated}
+use Rattle.centre_core.specs.declared.answer.Answer.{Answer}
+use Rattle.centre_core.specs.declared.refusal.Refusal.{Refusal}
+use Rattle.centre_core.specs.declared.refusal.Refusal.TheVariants.{Memory}
+
+-- an answer that is none of the refusals comes after all checks
+pub unless_ok : (checks : List (Bool × Refusal)) (r : Result Answer Refusal) (a : Answer) → unless checks r ≡ Ok a → r ≡ Ok a
+unless_ok [] r a h = h
+unless_ok (check ∷ checks) r a h = step (unless_ok checks r a) check.0 h
+  where
+    step : (unless checks r ≡ Ok a → r ≡ Ok a) → (t : Bool) → cond t (Err check.1) (unless checks r) ≡ Ok a → r ≡ Ok a
+    step rest true e = cc
+    step rest false e = rest e
+
+-- each of the checks fails to hold
+abbrev pub NoneHolds : List (Bool × Refusal) → Type 0
+NoneHolds [] = Unit {0}
+NoneHolds (check ∷ checks) = (check.0 ≡ false) × NoneHolds checks
+
+-- no check of an accepted event held
+pub no_check : (checks : List (Bool × Refusal)) (r : Result Answer Refusal) (a : Answer) → unless checks r ≡ Ok a → NoneHolds checks
+no_check [] r a h = tt
+no_check ((true, refusal) ∷ checks) r a h = cc
+no_check ((false, refusal) ∷ checks) r a h = (refl, no_check checks r a h)
+
+-- the checks of a lower crate, whose refusals f says in the centre's words
+
+-- where none of them holds, the answer stands
+pub taken : {E : Type 0} (f : E → Refusal) (checks : List (Bool × E)) (r : Result Answer Refusal) → first_refusal checks ≡ None → unless (translated f checks) r ≡ r
+taken f [] r h = refl
+taken f ((true, e) ∷ checks) r h = cc
+taken f ((false, e) ∷ checks) r h = taken f checks r h
+
+-- the first that holds refuses, whatever checks follow
+pub refused_first : {E : Type 0} (f : E → Refusal) (checks : List (Bool × E)) (rest : List (Bool × Refusal)) (r : Result Answer Refusal) (e : E) → first_refusal checks ≡ Some e → unless (translated f checks ++ rest) r ≡ Err (f e)
+refused_first f [] rest r e h = cc
+refused_first f ((true, x) ∷ checks) rest r e h = let same : x ≡ e = cc in ap (λ k. Err (f k)) same
+refused_first f ((false, x) ∷ checks) rest r e h = refused_first f checks rest r e h
+
+pub refused : {E : Type 0} (f : E → Refusal) (checks : List (Bool × E)) (r : Result Answer Refusal) (e : E) → first_refusal checks ≡ Some e → unless (translated f checks) r ≡ Err (f e)
+refused f [] r e h = cc
+refused f ((true, x) ∷ checks) r e h = let same : x ≡ e = cc in ap (λ k. Err (f k)) same
+refused f ((false, x) ∷ checks) r e h = refused f checks r e h
+
+-- what a lower crate refuses is the verdict, or want of memory
+pub given : {E : Type 0} (f : E → Refusal) (memory : E) → f memory ≡ Memory → (checks : List (Bool × E)) (r : Result Answer Refusal) (e : E) → (first_refusal checks ≡ Some e) ⊎ ((e ≡ memory) × (first_refusal checks ≡ None)) → Gives (unless (translated f checks) r) (Err (f e))
+given f memory is checks r e (inl h) = inr (refused f checks r e h)
+given f memory is checks r e (inr h) = inl (ap f h.0 ∙ is)
+
+-- none of them held where the answer stands
+pub none_held : {E : Type 0} (f : E → Refusal) (checks : List (Bool × E)) (r : Result Answer Refusal) (a : Answer) → unless (translated f checks) r ≡ Ok a → first_refusal checks ≡ None
+none_held f [] r a h = refl
+none_held f ((true, e) ∷ checks) r a h = cc
+none_held f ((false, e) ∷ checks) r a h = none_held f checks r a h
+
+-- after a check that does not hold
+pub past_check : (t : Bool) (e : Refusal) (v w : Result Answer Refusal) → t ≡ false → v ≡ w → cond t (Err e) v ≡ w
+past_check true e v w h g = cc
+past_check false e v w h g = g
+
+pub past_given : (t : Bool) (e : Refusal) (v r : Result Answer Refusal) → t ≡ false → Gives v r → Gives (cond t (Err e) v) r
+past_given true e v r h g = cc
+past_given false e v r h g = g
+
+-- after a check that did not hold
+pub checked_after : (t : Bool) (e : Refusal) (v : Result Answer Refusal) (a : Answer) → cond t (Err e) v ≡ Ok a → v ≡ Ok a
+checked_after true e v a h = cc
+checked_after false e v a h = h
