@@ -24,7 +24,7 @@ use Rattle.centre_core.specs.Cover.{is_area}
 use Rattle.centre_core.specs.Kept.{Gives}
 use Rattle.centre_core.specs.Legal.{Legal}
 use Rattle.centre_core.specs.Refusals.{of_book}
-use Rattle.centre_core.specs.Reported.{is_reported, is_flying}
+use Rattle.centre_core.specs.Reported.{is_reported, is_in_flight}
 use Rattle.centre_core.specs.Verdict.{unless, law, by_book, issue, issue_answer, update, update_answer, widen, narrow, stop, forget, forget_found_checks}
 use Rattle.centre_core.specs.Warnings.{book_of, book_after, book_with}
 use Rattle.centre_core.specs.declared.answer.Answer.{Answer}
@@ -89,7 +89,7 @@ stop_refused past st n e is h = refused of_book (book.stop_checks (book_of past)
 
 pub forget_refused : (past : List Entry) (st : State) (n : ℕ) (e : book_refusal.Refusal) → st ≡ book_of past → first_refusal (book.forget_checks st n) ≡ Some e → forget past n ≡ Err (of_book e)
 forget_refused past st n e is h =
-    refused_first of_book (book.forget_checks (book_of past) n) ((warning_is (book_of past) n (is_reported past), refusal.StillReported) ∷ (warning_is (book_of past) n (is_flying past), refusal.StillInFlight) ∷ []) (Ok answer.Done) e (rw (← is) h)
+    refused_first of_book (book.forget_checks (book_of past) n) ((warning_is (book_of past) n (is_reported past), refusal.StillReported) ∷ (warning_is (book_of past) n (is_in_flight past), refusal.StillInFlight) ∷ []) (Ok answer.Done) e (rw (← is) h)
 
 -- no warning has the number where none is found
 none_found : (n : ℕ) (ws : List Warning) → find (has_number n) ws ≡ None → list_any (has_number n) ws ≡ false
@@ -120,7 +120,7 @@ forget_found past st n w is ordered h =
     let there : list_any (has_number n) (book_of past).warnings ≡ true = one_found n (book_of past).warnings w found in
     let active : is_so n (λ v. v.active) (book_of past).warnings ≡ w.active = found_so n (λ v. v.active) (book_of past).warnings w order found in
     let reported : is_so n (is_reported past) (book_of past).warnings ≡ is_reported past w = found_so n (is_reported past) (book_of past).warnings w order found in
-    let flying : is_so n (is_flying past) (book_of past).warnings ≡ is_flying past w = found_so n (is_flying past) (book_of past).warnings w order found in
+    let flying : is_so n (is_in_flight past) (book_of past).warnings ≡ is_in_flight past w = found_so n (is_in_flight past) (book_of past).warnings w order found in
     rw (there, active, reported, flying) refl
 
 -- the refusal of a warning that is there

@@ -39,5 +39,5 @@ flight_names w None = false
 flight_names w (Some order) = names_warning order w
 
 -- an order in flight names a version of the warning
-abbrev pub is_flying : List Entry → Warning → Bool
-is_flying past w = list_any (λ b. flight_names w (in_flight past b)) (bscs past)
+abbrev pub is_in_flight : List Entry → Warning → Bool
+is_in_flight past w = list_any (λ b. flight_names w (in_flight past b)) (bscs past)

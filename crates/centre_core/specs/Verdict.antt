@@ -18,7 +18,7 @@ use Rattle.centre_core.specs.Pending.{pending, first}
 use Rattle.centre_core.specs.Places.{cells, place, is_registered, cell_count}
 use Rattle.cell_register.specs.Register.{is_place}
 use Rattle.centre_core.specs.Refusals.{of_book}
-use Rattle.centre_core.specs.Reported.{is_reported, is_flying}
+use Rattle.centre_core.specs.Reported.{is_reported, is_in_flight}
 use Rattle.centre_core.specs.Warnings.{book_of, warnings_of}
 use Rattle.centre_core.specs.declared.answer.Answer.{Answer}
 use Rattle.centre_core.specs.declared.answer.Answer.TheVariants as answer
@@ -150,14 +150,14 @@ stop past n = unless (stop_checks past n) (Ok answer.Done)
 
 -- the book's checks, and that nothing of the warning is on air, or may be, and no order for it is in flight
 abbrev pub forget_checks : List Entry → ℕ → List (Bool × Refusal)
-forget_checks past n = by_book (book.forget_checks (book_of past) n) ++ (warning_is (book_of past) n (is_reported past), refusal.StillReported) ∷ (warning_is (book_of past) n (is_flying past), refusal.StillInFlight) ∷ []
+forget_checks past n = by_book (book.forget_checks (book_of past) n) ++ (warning_is (book_of past) n (is_reported past), refusal.StillReported) ∷ (warning_is (book_of past) n (is_in_flight past), refusal.StillInFlight) ∷ []
 
 abbrev pub forget : List Entry → ℕ → Result Answer Refusal
 forget past n = unless (forget_checks past n) (Ok answer.Done)
 
 -- the checks of a warning that is in the book
 abbrev pub forget_found_checks : List Entry → Warning → List (Bool × Refusal)
-forget_found_checks past w = (w.active, refusal.StillActive) ∷ (is_reported past w, refusal.StillReported) ∷ (is_flying past w, refusal.StillInFlight) ∷ []
+forget_found_checks past w = (w.active, refusal.StillActive) ∷ (is_reported past w, refusal.StillReported) ∷ (is_in_flight past w, refusal.StillInFlight) ∷ []
 
 abbrev pub link_up_checks : List Entry → ℕ → List (Bool × Refusal)
 link_up_checks past b = (not (is_bsc past b), refusal.NoSuchBsc) ∷ []

@@ -7,7 +7,7 @@ ghost use Rattle.warning_book.specs.Book.{after_forget};
 ghost use Rattle.centre_core.specs.InFlight.{in_flight};
 ghost use Rattle.centre_core.specs.Kept.{Gives, is_plain};
 ghost use Rattle.centre_core.specs.Presence.{replaces};
-ghost use Rattle.centre_core.specs.Reported.{is_present, is_reported_in, is_reported_at, is_reported, names_serial, names_warning, flight_names, is_flying};
+ghost use Rattle.centre_core.specs.Reported.{is_present, is_reported_in, is_reported_at, is_reported, names_serial, names_warning, flight_names, is_in_flight};
 ghost use Rattle.centre_core.specs.Verdict.{unless, forget_found_checks, forget};
 ghost use Rattle.centre_core.specs.Warnings.{book_of};
 
@@ -123,7 +123,7 @@ fn flight_names(flight: Option<&Order>, w: &Warning) -> bool
 }
 
 /// Whether an order in flight to one of the BSCs names a version of the warning.
-fn is_flying_among(journal: &[Entry], bscs: &[BscId], w: &Warning) -> bool
+fn is_in_flight_among(journal: &[Entry], bscs: &[BscId], w: &Warning) -> bool
     ensures { result ≡ list_any (λ b. flight_names w.now (in_flight (reverse journal.now) b)) bscs.now }
 {
     for bsc in bscs {
@@ -135,11 +135,11 @@ fn is_flying_among(journal: &[Entry], bscs: &[BscId], w: &Warning) -> bool
 }
 
 /// Whether an order in flight names a version of the warning.
-fn is_flying(alloc: Global, journal: &[Entry], w: &Warning) -> Result<bool, AllocError>
-    ensures { IfOk result (λ is. is ≡ is_flying (reverse journal.now) w.now) }
+fn is_in_flight(alloc: Global, journal: &[Entry], w: &Warning) -> Result<bool, AllocError>
+    ensures { IfOk result (λ is. is ≡ is_in_flight (reverse journal.now) w.now) }
 {
     let bscs = bscs(alloc, journal)?;
-    Ok(is_flying_among(journal, bscs.as_slice(), w))
+    Ok(is_in_flight_among(journal, bscs.as_slice(), w))
 }
 
 /// Whether the warning can be forgotten: it was stopped, and nothing of it is on air or in flight.
@@ -153,7 +153,7 @@ fn check_found(alloc: Global, journal: &[Entry], w: &Warning) -> Result<(), Refu
     if is_reported(alloc, journal, w)? {
         return Err(Refusal::StillReported);
     }
-    if is_flying(alloc, journal, w)? {
+    if is_in_flight(alloc, journal, w)? {
         return Err(Refusal::StillInFlight);
     }
     Ok(())
