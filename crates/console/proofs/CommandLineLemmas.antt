@@ -1,13 +1,118 @@
--- Command lines that run no script.
-use Rattle.std.proofs.Common.{◌≡◌, true, List}
-use Rattle.clap.specs.Words.{Text, takes}
-use Rattle.console.specs.CommandLine.{command_line, Refuses}
+-- What the command line asks for, and the command lines that run no script.
+use Rattle.std.proofs.Common.{◌≡◌, ◌∙◌, ◌≤◌, inl, inr, subst, ℕ, Bool, true, false, List, [], Option, Some, None, Result, codes, refl, sym, ap, arith, option_map, cond}
+use Rattle.std.specs.Prelude.{bytes_eq, option_and_then, Box}
+use Rattle.std.specs.Borrow.{Bor}
+use Rattle.std.specs.Box.{box_value}
+use Rattle.std.specs.Str.Parse.{ExplainsUnsignedError, HasUnsignedDigitsIfOk, ParsesUnsigned, digits_value, without_leading_plus}
+use Rattle.std.specs.declared.num.ParseIntError.{ParseIntError}
+use Rattle.std.proofs.lemmas.Slice.Eq.{bytes_eq-Decides}
+use Rattle.clap.specs.ValueTests.{accepts}
+use Rattle.clap.proofs.ValueTestLemmas.{Accepts-accepts, accepts-Accepts}
+use Rattle.clap.proofs.OnLiterals.{clap_on_literals}
+use Rattle.clap.proofs.WalkLemmas.{first_value-rows, one_text-rows}
+use Rattle.clap.specs.Words.{App, HasKind, HasMatchesOf, Kinds, ReadsOne, Row, Text, fault_of, first_value, found_of, is_simple, is_simple_and_free, kind_of, one_text, rows_of, subcommand_name_of, subcommand_of, subcommand_rows, subcommand_rows_of, takes}
+use Rattle.clap.specs.declared.error.Error.{Error}
+use Rattle.clap.specs.declared.error.kind.ErrorKind.TheVariants.{OutOfMemory}
+use Rattle.clap.specs.declared.parser.matches.ArgMatches.{ArgMatches}
+use Rattle.clap.specs.declared.parser.matches.ArgMatches.TheViews.{out-ArgMatches, out-SubCommand}
+use Rattle.clap.specs.declared.parser.matches.SubCommand.{SubCommand}
+use Rattle.console.specs.CommandLine.{command_line, entry_numbers, limit_in, limit_of, most_entries, network_in, network_of, replay_rows, AreTaken, HasNoFault, Refuses}
 use Rattle.console.specs.declared.no_run.NoRun.{NoRun}
 use Rattle.console.specs.declared.no_run.NoRun.TheVariants.{Help, Refused, BadPlmn, Memory}
 
+is_plain : is_simple command_line ≡ true
+unfolding clap_on_literals
+is_plain = refl
+
+is_plain_and_free : is_simple_and_free command_line ≡ true
+unfolding clap_on_literals
+is_plain_and_free = refl
+
 -- a command line that is taken is refused for want of memory alone
-pub refuses_untaken : (words : List Text) (e : NoRun) → (takes command_line words ≡ true → e ≡ Memory) → Refuses words e
-refuses_untaken words (Help text) h = λ taken. cc (h taken)
-refuses_untaken words (Refused text) h = λ taken. cc (h taken)
-refuses_untaken words BadPlmn h = tt
-refuses_untaken words Memory h = tt
+pub refuses_untaken : (words : List Text) (e : NoRun) → (AreTaken words → e ≡ Memory) → (e ≡ BadPlmn → ⊥) → Refuses words e
+refuses_untaken words (Help text) h other = λ taken. cc (h taken)
+refuses_untaken words (Refused text) h other = λ taken. cc (h taken)
+refuses_untaken words BadPlmn h other = absurd (other refl)
+refuses_untaken words Memory h other = tt
+
+pub taken_wants_memory : (a : App) (words : List Text) (e : Error) → a ≡ command_line → (takes a words ≡ true → kind_of e ≡ OutOfMemory)
+    → (is_simple_and_free a ≡ true → HasKind (fault_of a words) e) → AreTaken words → kind_of e ≡ OutOfMemory
+taken_wants_memory a words e same passes kinds (inl taken) = passes (ap (λ (x : App). takes x words) same ∙ taken)
+taken_wants_memory a words e same passes kinds (inr none) =
+    among (subst (λ (ks : Kinds). HasKind ks e) (ap (λ (x : App). fault_of x words) same ∙ none) (kinds (ap is_simple_and_free same ∙ is_plain_and_free)))
+  where
+    among : HasKind [] e → kind_of e ≡ OutOfMemory
+    among (inl memory) = memory
+    among (inr other) = absurd other
+
+-- words that the parser takes have no fault
+pub taken_has_no_fault : (a : App) (words : List Text) → a ≡ command_line → (is_simple_and_free a ≡ true → fault_of a words ≡ []) → HasNoFault words
+taken_has_no_fault a words same taken = ap (λ (x : App). fault_of x words) (sym same) ∙ taken (ap is_simple_and_free same ∙ is_plain_and_free)
+
+-- and the matches that clap's rules give
+pub taken_has_matches : (a : App) (words : List Text) (m : ArgMatches) → a ≡ command_line → HasMatchesOf a words m → subcommand_rows_of m ≡ subcommand_of command_line words
+taken_has_matches a words m same matched =
+    (matched (ap is_simple same ∙ is_plain)).1 ∙ ap (λ (x : App). subcommand_of x words) same
+
+-- what the reader of 32 bits answers for a text
+abbrev pub Reads : List ℕ → Result ℕ ParseIntError → Type 0
+Reads text r = ParsesUnsigned 32 10 text r × ExplainsUnsignedError 10 text r × HasUnsignedDigitsIfOk text r
+
+-- a number that is read and that the option takes is the limit
+pub limit_of_number : (o : Option Text) (r : Option ℕ) (n : ℕ) → (o ≡ None → r ≡ None) → ((t : Text) → o ≡ Some t → ReadsOne Reads t r)
+    → r ≡ Some n → 1 ≤ n → n ≤ most_entries → n ≡ limit_of o
+limit_of_number None None n none value is least most = cc is
+limit_of_number None (Some m) n none value is least most = cc (none refl)
+limit_of_number (Some t) None n none value is least most = cc is
+limit_of_number (Some t) (Some m) n none value is least most =
+    let ok = (value t refl).0 in
+    let same : m ≡ n = cc is in
+    let taken : accepts false entry_numbers t ≡ true = Accepts-accepts false entry_numbers t (ok.0.0, omega (arith, ok.1, same), omega (arith, ok.1, same), omega (arith, ok.1, same)) in
+    rw taken (sym same ∙ ok.1)
+
+-- and where no such number is read the limit is the greatest
+pub limit_of_none : (o : Option Text) (r : Option ℕ) → ((t : Text) → o ≡ Some t → ReadsOne Reads t r)
+    → ((n : ℕ) → r ≡ Some n → 1 ≤ n → n ≤ most_entries → ⊥) → most_entries ≡ limit_of o
+limit_of_none None r value out = refl
+limit_of_none (Some t) r value out = go (accepts false entry_numbers t) refl r (value t refl) out
+  where
+    go : (b : Bool) → accepts false entry_numbers t ≡ b → (r : Option ℕ) → ReadsOne Reads t r → ((n : ℕ) → r ≡ Some n → 1 ≤ n → n ≤ most_entries → ⊥)
+        → most_entries ≡ cond b (digits_value 10 (without_leading_plus t)) most_entries
+    go false e r read out = refl
+    go true e (Some n) read out =
+        let passed = accepts-Accepts false entry_numbers t e in
+        absurd (out n refl (omega (arith, read.0.1, passed.2)) (omega (arith, read.0.1, passed.3)))
+    go true e None read out =
+        let passed = accepts-Accepts false entry_numbers t e in
+        absurd (read.1.0 (passed.0, omega (arith, passed.3)))
+
+-- the matches of the command that is met
+met_rows : (met : Option (Text × List Row)) (rows : List Row) → option_map (λ p. p.0) met ≡ Some (codes "replay") → option_map (λ p. p.1) met ≡ Some rows → replay_rows met ≡ rows
+met_rows None rows name is = cc is
+met_rows (Some p) rows name is =
+    let same : bytes_eq p.0 (codes "replay") ≡ true = (bytes_eq-Decides p.0 (codes "replay")).1 (cc name) in
+    rw same (cc is)
+
+name_of_met : {Z : Type 0} (s : Option (Box SubCommand Z)) → option_map (λ p. p.0) (subcommand_rows s) ≡ option_map (λ b. (out-SubCommand (box_value b)).name.now) s
+name_of_met None = refl
+name_of_met (Some b) = refl
+
+-- the command that the parser met is `replay`, with these matches
+abbrev pub Met : ArgMatches → ArgMatches → Type 0
+Met m replay = option_map (λ p. p.1) (subcommand_rows (out-ArgMatches m).subcommand) ≡ Some (rows_of (found_of replay))
+
+replay_rows_met : (m replay : ArgMatches) → subcommand_name_of m ≡ Some (codes "replay") → Met m replay → replay_rows (subcommand_rows_of m) ≡ rows_of (found_of replay)
+replay_rows_met m replay name rows =
+    met_rows (subcommand_rows_of m) (rows_of (found_of replay)) (name_of_met (out-ArgMatches m).subcommand ∙ name) rows
+
+-- the limit and the network of the values that are read of it
+pub met_limit : (m replay : ArgMatches) → subcommand_name_of m ≡ Some (codes "replay") → Met m replay
+    → limit_of (one_text (found_of replay) (codes "journal")) ≡ limit_in (replay_rows (subcommand_rows_of m))
+met_limit m replay name rows =
+    ap limit_of (one_text-rows (found_of replay) (codes "journal")) ∙ ap limit_in (sym (replay_rows_met m replay name rows))
+
+pub met_network : (m replay : ArgMatches) (value : Option (Bor Text)) → subcommand_name_of m ≡ Some (codes "replay") → Met m replay
+    → option_map (λ s. s.now) value ≡ first_value (found_of replay) (codes "plmn")
+    → option_and_then network_of (option_map (λ s. s.now) value) ≡ network_in (replay_rows (subcommand_rows_of m))
+met_network m replay value name rows read =
+    ap (option_and_then network_of) (read ∙ first_value-rows (found_of replay) (codes "plmn")) ∙ ap network_in (sym (replay_rows_met m replay name rows))

@@ -1,3 +1,4 @@
+pub mod PartLemmas
 pub mod HexTextLemmas
 pub mod FrameLemmas
 pub mod GenerationLemmas

@@ -18,6 +18,7 @@ use Rattle.console.specs.declared.line.Line.{Line}
 use Rattle.console.specs.declared.line.Line.TheVariants as line
 use Rattle.console.specs.declared.response.Response.{Response}
 use Rattle.console.specs.declared.response.Response.TheVariants as response
+use Rattle.console.proofs.PartLemmas.{lines_from_start}
 use Rattle.console.proofs.StopLemmas.{goes_stops, written_after}
 use Rattle.console.proofs.TextLemmas.{text_append, goes_goes, goes_nowhere}
 
@@ -94,7 +95,8 @@ module _ (a b : ConsoleState) (g h p q : Option (List ℕ)) (fresh : a.begun ≡
   -- the lines that have ended, and the one that has begun
   lines_end : lines_of reads.octets ≡ reads.goes.lines ++ b.begun ∷ []
   lines_end =
-      ap (λ begun. lines_from begun reads.octets) (sym fresh) ∙ ap (λ octets. lines_from a.begun octets) (sym (append-nil reads.octets)) ∙ reads.goes.cut []
+      sym (lines_from_start reads.octets) ∙ ap (λ begun. lines_from begun reads.octets) (sym fresh) ∙ ap (λ octets. lines_from a.begun octets) (sym (append-nil reads.octets)) ∙ reads.goes.cut []
+      ∙ ap (λ begun. reads.goes.lines ++ begun ∷ []) (append-nil b.begun)
 
   -- the input ends, and its last line is answered
   pub replays : (c : ConsoleState) (r : Option (List ℕ)) → IsAtEnd h → EndsLine b c q r → Replays a.session g h p r
@@ -149,7 +151,7 @@ module _ (a b : ConsoleState) (g h p q : Option (List ℕ)) (fresh : a.begun ≡
         part = stops.part;
         consumed = Consumes-trans g h k reads.octets next.octets reads.consumed next.consumed;
         cut =
-            ap (λ begun. lines_from begun (reads.octets ++ next.octets)) (sym fresh)
+            sym (lines_from_start (reads.octets ++ next.octets)) ∙ ap (λ begun. lines_from begun (reads.octets ++ next.octets)) (sym fresh)
             ∙ ap (λ octets. lines_from a.begun octets) (sym (append-nil (reads.octets ++ next.octets))) ∙ back.1;
         behind = back.2;
         told = text_or_want a.session stops.lines stops.session stops.text stops.told;

@@ -6,10 +6,12 @@ use Rattle.std.proofs.KnownBytes.{Appends-nil, Appends-trans}
 use Rattle.std.specs.Io.KnownBytes.{Appends}
 use Rattle.console.specs.Consoles.{ConsoleState, BreaksInLine, BreaksLine, Goes, Stops, BeginsLong, Behind, IsWritten}
 use Rattle.console.specs.Sessions.{AnswersOrStarves}
-use Rattle.console.specs.Text.{longest_line, without_return, lines_from}
+use Rattle.console.specs.Text.{longest_line, without_return, lines_from, lines_of}
 use Rattle.console.specs.Texts.{response_text}
+use Rattle.console.specs.Parts.{in_front}
 use Rattle.console.specs.declared.fault.ReplayFault.{ReplayFault}
 use Rattle.console.specs.declared.fault.ReplayFault.TheVariants.{ReadFault, WriteFault, Memory, LongLine}
+use Rattle.console.proofs.PartLemmas.{line_ends, line_goes_on}
 use Rattle.console.proofs.TextLemmas.{text_append}
 
 -- at most one octet is dropped
@@ -22,12 +24,11 @@ length-without_return line =
 
 -- a line that is too long before it ends is the first
 pub begins_long : (begun octets : List ℕ) → longest_line + 1 < length begun → BeginsLong (lines_from begun octets)
-begins_long begun [] long = omega (arith, length-without_return begun)
-begins_long begun (x ∷ octets) long =
-    elim (eqb x 10) as (λ b. BeginsLong (cond b (begun ∷ lines_from [] octets) (lines_from (begun ++ x ∷ []) octets))) [
-      | true ↦ omega (arith, length-without_return begun)
-      | false ↦ begins_long (begun ++ x ∷ []) octets (omega (arith, length-append begun (x ∷ [])))
-    ]
+begins_long begun octets long = go (lines_of octets)
+  where
+    go : (lines : List (List ℕ)) → BeginsLong (in_front begun lines)
+    go [] = omega (arith, length-without_return begun)
+    go (line ∷ lines) = omega (arith, length-without_return (begun ++ line), length-append begun line)
 
 -- nothing is answered before the fault
 stops_at_once : (a : ConsoleState) (octets : List ℕ) (p q : Option (List ℕ)) (fault : ReplayFault)
@@ -50,7 +51,7 @@ stops_in_line a p q breaks = record {
   session = breaks.session;
   text = response_text breaks.response;
   part = take breaks.written.count (response_text breaks.response);
-  cut = λ rest. (lines_from [] rest, refl, tt);
+  cut = λ rest. (lines_from [] rest, line_ends a.begun rest, tt);
   told = (breaks.response, breaks.session, [], breaks.short, breaks.answered, (refl, refl), sym (append-nil (response_text breaks.response)));
   written = (breaks.written.count, refl);
   appended = breaks.written.appended;
@@ -61,13 +62,13 @@ pub stops_at_line : (a : ConsoleState) (p q : Option (List ℕ)) (fault : Replay
 stops_at_line a p q ReadFault breaks = absurd breaks
 stops_at_line a p q WriteFault breaks = stops_in_line a p q breaks
 stops_at_line a p q Memory breaks = stops_at_once a (10 ∷ []) p q Memory (λ rest. tt) refl breaks
-stops_at_line a p q LongLine breaks = stops_at_once a (10 ∷ []) p q LongLine (λ rest. breaks.0) refl breaks.1
+stops_at_line a p q LongLine breaks = stops_at_once a (10 ∷ []) p q LongLine (λ rest. subst BeginsLong (sym (line_ends a.begun rest)) breaks.0) refl breaks.1
 
 -- one more octet makes the line too long
 pub stops_at_long : (a : ConsoleState) (p : Option (List ℕ)) (x : ℕ) → eqb x 10 ≡ false → longest_line < length a.begun → Stops a (x ∷ []) p p LongLine
 stops_at_long a p x other long =
     let more : longest_line + 1 < length (a.begun ++ x ∷ []) = omega (arith, length-append a.begun (x ∷ [])) in
-    stops_at_once a (x ∷ []) p p LongLine (λ rest. rw other (begins_long (a.begun ++ x ∷ []) rest more)) refl refl
+    stops_at_once a (x ∷ []) p p LongLine (λ rest. subst BeginsLong (sym (line_goes_on a.begun x rest other)) (begins_long (a.begun ++ x ∷ []) rest more)) refl refl
 
 -- there is no memory for one more octet
 pub stops_starved : (a : ConsoleState) (octets : List ℕ) (p : Option (List ℕ)) → Stops a octets p p Memory

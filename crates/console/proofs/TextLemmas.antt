@@ -6,6 +6,7 @@ use Rattle.console.specs.Consoles.{ConsoleState, EndsLine, Goes}
 use Rattle.console.specs.Sessions.{SessionState, AnswersOrStarves}
 use Rattle.console.specs.Text.{lines_from, Answering, IsTextBy, IsTextOrStarves}
 use Rattle.console.specs.Texts.{response_text}
+use Rattle.console.proofs.PartLemmas.{line_ends, line_goes_on}
 
 -- the answers to some lines, and those to the lines after them
 pub text_append : (answers : Answering) (a b c : SessionState) (xs ys : List (List ℕ)) (s t : List ℕ) → IsTextBy answers a xs b s → IsTextBy answers b ys c t
@@ -27,7 +28,7 @@ pub goes_line : (old new : ConsoleState) (p q : Option (List ℕ)) → EndsLine 
 goes_line old new p q ends = record {
   lines = old.begun ∷ [];
   text = response_text ends.response;
-  cut = λ rest. ap (λ begun. old.begun ∷ lines_from begun rest) (sym ends.begun);
+  cut = λ rest. line_ends old.begun rest ∙ ap (λ begun. old.begun ∷ lines_from begun rest) (sym ends.begun);
   told = one_line old new p q ends;
   written = ends.written;
 }
@@ -37,7 +38,7 @@ pub goes_octet : (old new : ConsoleState) (p : Option (List ℕ)) (x : ℕ) → 
 goes_octet old new p x other same more = record {
   lines = [];
   text = [];
-  cut = λ rest. rw (other, more) refl;
+  cut = λ rest. line_goes_on old.begun x rest other ∙ ap (λ begun. lines_from begun rest) (sym more);
   told = (same, refl);
   written = Appends-nil p;
 }

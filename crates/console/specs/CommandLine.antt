@@ -1,17 +1,29 @@
 -- The command line: `cbc replay [--plmn HEX] [--journal N]`.
-use Rattle.std.specs.Prelude.{◌≡◌, true, List, [], ◌∷◌, Some, codes}
-use Rattle.clap.specs.Words.{App, Rule, Text, new_app, new_rule, takes, with_rule, with_subcommand}
+use Rattle.std.specs.Prelude.{◌≡◌, ◌⊎◌, true, false, ℕ, List, [], ◌∷◌, Option, Some, None, codes, bytes_eq, option_and_then, if◌then◌else◌}
+use Rattle.std.specs.Result.{result_ok}
+use Rattle.std.specs.Str.Parse.{digits_value, without_leading_plus}
+use Rattle.hex.specs.Hex.{decode_sized}
+use Rattle.clap.specs.ValueTests.{accepts}
+use Rattle.clap.specs.Words.{App, Row, Rule, Text, fault_of, first_of, new_app, new_rule, one_of, subcommand_of, takes, with_rule, with_subcommand}
+use Rattle.clap.specs.declared.builder.value_parser.ValueParser.{ValueParser}
 use Rattle.clap.specs.declared.builder.value_parser.ValueParser.TheVariants.{Unsigned}
 use Rattle.console.specs.declared.no_run.NoRun.{NoRun}
 use Rattle.console.specs.declared.no_run.NoRun.TheVariants.{Help, Refused, BadPlmn, Memory}
+
+-- the most entries that a journal may hold, and the number where none is given
+abbrev pub most_entries : ℕ
+most_entries = 4000000
 
 -- HEX is any text here
 abbrev pub plmn_option : Rule
 plmn_option = record (new_rule (codes "plmn")) { long = Some (codes "plmn"); value_names = 1; defaults = codes "00f110" ∷ [] }
 
 -- N is a number from 1 to 4,000,000
+abbrev pub entry_numbers : ValueParser
+entry_numbers = Unsigned 1 most_entries
+
 abbrev pub journal_option : Rule
-journal_option = record (new_rule (codes "journal")) { long = Some (codes "journal"); value_names = 1; defaults = codes "4000000" ∷ []; parser = Some (Unsigned 1 4000000) }
+journal_option = record (new_rule (codes "journal")) { long = Some (codes "journal"); value_names = 1; defaults = codes "4000000" ∷ []; parser = Some entry_numbers }
 
 abbrev pub replay_command : App
 replay_command = with_rule (with_rule (new_app (codes "replay")) plmn_option) journal_option
@@ -23,9 +35,57 @@ program = let a = new_app (codes "cbc") in record a { top = record a.top { subco
 abbrev pub command_line : App
 command_line = with_subcommand program replay_command.top
 
--- what no script is run for: the command line isn't taken, unless memory was wanting or the network code is bad
+-- clap's rules find no fault in the words
+abbrev pub HasNoFault : List Text → Type 0
+HasNoFault words = fault_of command_line words ≡ []
+
+-- clap's rules take the words, by either of their two tests
+abbrev pub AreTaken : List Text → Type 0
+AreTaken words = (takes command_line words ≡ true) ⊎ HasNoFault words
+
+-- the matches of `replay`, where that is the command that is met
+abbrev pub replay_rows : Option (Text × List Row) → List Row
+replay_rows None = []
+replay_rows (Some met) = if bytes_eq met.0 (codes "replay") then met.1 else []
+
+-- the octets that the text spells in six hexadecimal digits, of either case
+abbrev pub network_of : Text → Option (List ℕ)
+network_of text = result_ok (decode_sized text 3)
+
+-- the network of the value of `--plmn`
+abbrev pub network_in : List Row → Option (List ℕ)
+network_in rows = option_and_then network_of (first_of (codes "plmn") rows)
+
+-- the number that the text writes; 4,000,000 for a text that the option does not take, which clap refuses
+abbrev pub limit_of : Option Text → ℕ
+limit_of None = most_entries
+limit_of (Some text) = if accepts false entry_numbers text then digits_value 10 (without_leading_plus text) else most_entries
+
+-- the number of the value of `--journal`
+abbrev pub limit_in : List Row → ℕ
+limit_in rows = limit_of (one_of (codes "journal") rows)
+
+-- the network that the words ask for, by the matches that clap's rules give; none where the value isn't six hexadecimal digits
+abbrev pub asked_network : List Text → Option (List ℕ)
+asked_network words = network_in (replay_rows (subcommand_of command_line words))
+
+-- the greatest number of entries that they ask for
+abbrev pub asked_limit : List Text → ℕ
+asked_limit words = limit_in (replay_rows (subcommand_of command_line words))
+
+-- the words ask for a script to be run with this network and this limit
+pub record Asks (words : List Text) (plmn : List ℕ) (limit : ℕ) : Type 0 where
+  pub well_formed : HasNoFault words
+  pub network : asked_network words ≡ Some plmn
+  pub entries : asked_limit words ≡ limit
+
+-- the words have no fault, and the value of `--plmn` isn't six hexadecimal digits
+abbrev pub AsksBadPlmn : List Text → Type 0
+AsksBadPlmn words = HasNoFault words × (asked_network words ≡ None)
+
+-- what no script is run for: the command line isn't taken, the network is bad, or memory was wanting
 abbrev pub Refuses : List Text → NoRun → Type 0
-Refuses words (Help text) = takes command_line words ≡ true → ⊥
-Refuses words (Refused text) = takes command_line words ≡ true → ⊥
-Refuses words BadPlmn = Unit {0}
+Refuses words (Help text) = AreTaken words → ⊥
+Refuses words (Refused text) = AreTaken words → ⊥
+Refuses words BadPlmn = AsksBadPlmn words
 Refuses words Memory = Unit {0}

@@ -1,10 +1,11 @@
 -- The parts of a text between separators. A text with no separator is one part; a part may be empty.
 use Rattle.std.specs.Prelude.{ℕ, ◌==◌, List, [], ◌∷◌, ◌++◌, if◌then◌else◌}
 
--- the parts of the octets, after those that the first of them begins with
-abbrev pub parts_from : ℕ → List ℕ → List ℕ → List (List ℕ)
-parts_from separator begun [] = begun ∷ []
-parts_from separator begun (x ∷ xs) = if x == separator then begun ∷ parts_from separator [] xs else parts_from separator (begun ++ x ∷ []) xs
+-- the octets stand in front of the first part
+abbrev pub in_front : List ℕ → List (List ℕ) → List (List ℕ)
+in_front octets [] = octets ∷ []
+in_front octets (part ∷ parts) = (octets ++ part) ∷ parts
 
 abbrev pub parts_of : ℕ → List ℕ → List (List ℕ)
-parts_of separator text = parts_from separator [] text
+parts_of separator [] = [] ∷ []
+parts_of separator (x ∷ xs) = if x == separator then [] ∷ parts_of separator xs else in_front (x ∷ []) (parts_of separator xs)

@@ -1,10 +1,10 @@
 -- How a run of the program ends.
-use Rattle.std.specs.Prelude.{◌≡◌, ◌⊎◌, ℕ, ◌==◌, true, List, ◌++◌, Option, codes}
+use Rattle.std.specs.Prelude.{◌≡◌, ◌⊎◌, ℕ, Bool, true, ◌==◌, List, ◌++◌, Option, codes}
 use Rattle.std.specs.Bool.{MatchBool}
 use Rattle.std.specs.Io.KnownBytes.{Appends}
 use Rattle.framing.specs.Sink.{AppendsFront}
-use Rattle.clap.specs.Words.{Text, takes}
-use Rattle.console.specs.CommandLine.{command_line}
+use Rattle.clap.specs.Words.{Text}
+use Rattle.console.specs.CommandLine.{AreTaken, Asks, AsksBadPlmn}
 use Rattle.console.specs.Replays.{new_session, Replays, BreaksOff}
 use Rattle.console.specs.Sessions.{SessionState}
 use Rattle.console.specs.Texts.{newline}
@@ -21,15 +21,19 @@ fault_words LongLine = codes "cbc: line too long" ++ newline
 abbrev pub bad_plmn : List ℕ
 bad_plmn = codes "cbc: bad plmn" ++ newline
 
--- the text is written, or a front of it where a write fails
-abbrev pub Tells : Option (List ℕ) → Option (List ℕ) → List ℕ → Type 0
-Tells before after text = Appends before after text ⊎ AppendsFront before after text
-
--- what a run has read, what it has yet to read, what it has written, and what it has said
+-- what a run has yet to read, what it has written, what it has said, and whether saying it has failed
 pub record Streams : Type 0 where
   pub input : Option (List ℕ)
   pub output : Option (List ℕ)
   pub errors : Option (List ℕ)
+  pub is_mute : Bool
+
+-- the text is said, or a front of it where that fails
+abbrev pub IsTold : Option (List ℕ) → Option (List ℕ) → Bool → List ℕ → Type 0
+IsTold before after has_failed text = Appends before after text ⊎ (AppendsFront before after text × (has_failed ≡ true))
+
+abbrev pub Tells : Streams → Streams → List ℕ → Type 0
+Tells old new text = IsTold old.errors new.errors new.is_mute text
 
 -- a script was run to its end
 abbrev pub RunsWhole : SessionState → Streams → Streams → Type 0
@@ -39,30 +43,31 @@ RunsWhole start old new = Replays start old.input new.input old.output new.outpu
 pub record RunsInPart (start : SessionState) (old new : Streams) : Type 0 where
   pub fault : ReplayFault
   pub broke : BreaksOff start old.input new.input old.output new.output fault
-  pub told : Tells old.errors new.errors (fault_words fault)
+  pub told : Tells old new (fault_words fault)
 
 -- the status of a run of a script
 abbrev pub Runs : SessionState → Streams → Streams → ℕ → Type 0
 Runs start old new status = MatchBool (status == 0) (RunsWhole start old new) ((status ≡ 1) × RunsInPart start old new)
 
--- what is said of a command line that is taken, where no script is run: memory was wanting, or the network code is bad
-abbrev pub IsCause : ℕ → List ℕ → Type 0
-IsCause status said = ((status ≡ 1) × (said ≡ fault_words Memory)) ⊎ ((status ≡ 2) × (said ≡ bad_plmn))
+-- what is said of a command line that is taken, where no script is run: memory was wanting, or the network is bad
+abbrev pub IsCause : List Text → ℕ → List ℕ → Type 0
+IsCause words status said = ((status ≡ 1) × (said ≡ fault_words Memory)) ⊎ ((status ≡ 2) × (said ≡ bad_plmn) × AsksBadPlmn words)
 
 -- no script was run: help is written, or the fault is said that is the cause
 pub record RunsNone (words : List Text) (old new : Streams) (status : ℕ) : Type 0 where
   pub said : List ℕ
-  pub cause : takes command_line words ≡ true → IsCause status said
+  pub cause : AreTaken words → IsCause words status said
   pub unread : new.input ≡ old.input
-  pub answered : MatchBool (status == 0) (Appends old.output new.output said × (new.errors ≡ old.errors)) (Tells old.errors new.errors said)
+  pub answered : MatchBool (status == 0) (Appends old.output new.output said × (new.errors ≡ old.errors)) (Tells old new said)
   pub silent : status ≡ 2 → new.output ≡ old.output
   pub least : (status ≡ 0) ⊎ ((status ≡ 1) ⊎ (status ≡ 2))
 
--- a script was run with some options, or none was
-pub record RunsSome (old new : Streams) (status : ℕ) : Type 0 where
+-- a script was run, with the network and the limit that the words ask for
+pub record RunsSome (words : List Text) (old new : Streams) (status : ℕ) : Type 0 where
   pub plmn : List ℕ
   pub limit : ℕ
+  pub asked : Asks words plmn limit
   pub runs : Runs (new_session plmn limit) old new status
 
 abbrev pub Ends : List Text → Streams → Streams → ℕ → Type 0
-Ends words old new status = RunsSome old new status ⊎ RunsNone words old new status
+Ends words old new status = RunsSome words old new status ⊎ RunsNone words old new status

@@ -1,6 +1,6 @@
 -- What is answered to lines in turn.
 use Rattle.std.specs.Prelude.{◌≡◌, ℕ, ◌-◌, ◌≤◌, ◌==◌, List, [], ◌∷◌, ◌++◌, length, take, slice_index, if◌then◌else◌}
-use Rattle.console.specs.Parts.{parts_from, parts_of}
+use Rattle.console.specs.Parts.{in_front, parts_of}
 use Rattle.console.specs.Sessions.{SessionState, Answers, AnswersOrStarves}
 use Rattle.console.specs.Texts.{response_text}
 use Rattle.console.specs.declared.response.Response.{Response}
@@ -13,12 +13,13 @@ longest_line = 600000
 abbrev pub without_return : List ℕ → List ℕ
 without_return line = if slice_index line (length line - 1) == 13 then take (length line - 1) line else line
 
--- the lines of the octets: each ends at 0A, or at the end; those of the second are begun with the first
-abbrev pub lines_from : List ℕ → List ℕ → List (List ℕ)
-lines_from begun octets = parts_from 10 begun octets
-
+-- the lines of the octets: each ends at 0A, or at the end
 abbrev pub lines_of : List ℕ → List (List ℕ)
 lines_of octets = parts_of 10 octets
+
+-- the same, where the first has begun with some octets
+abbrev pub lines_from : List ℕ → List ℕ → List (List ℕ)
+lines_from begun octets = in_front begun (lines_of octets)
 
 -- how a line is answered
 abbrev pub Answering : Type 1

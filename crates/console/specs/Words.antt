@@ -1,15 +1,12 @@
 -- The words of a line: its longest runs of octets other than the space.
-use Rattle.std.specs.Prelude.{ℕ, ◌==◌, List, [], ◌∷◌, ◌++◌, if◌then◌else◌}
+use Rattle.std.specs.Prelude.{ℕ, ◌==◌, not, List, length}
+use Rattle.std.specs.List.{filter}
+use Rattle.console.specs.Parts.{parts_of}
 
--- a word that has octets stands before the others
-abbrev pub and_word : List ℕ → List (List ℕ) → List (List ℕ)
-and_word [] others = others
-and_word (x ∷ xs) others = (x ∷ xs) ∷ others
+-- the parts that have octets
+abbrev pub non_empty : List (List ℕ) → List (List ℕ)
+non_empty parts = filter (λ part. not (length part == 0)) parts
 
--- the words of the octets, after those that the first of them begins with
-abbrev pub words_from : List ℕ → List ℕ → List (List ℕ)
-words_from begun [] = and_word begun []
-words_from begun (x ∷ xs) = if x == 32 then and_word begun (words_from [] xs) else words_from (begun ++ x ∷ []) xs
-
+-- those between spaces, which are 32
 abbrev pub words_of : List ℕ → List (List ℕ)
-words_of line = words_from [] line
+words_of line = non_empty (parts_of 32 line)

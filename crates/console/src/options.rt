@@ -1,9 +1,10 @@
 //! What the command line asks for.
 
-ghost use Rattle.std.specs.Prelude.{◌≡◌, ◌≤◌, false, map, string_bytes, IfOk, IfErr};
-ghost use Rattle.clap.specs.Words.{app_of, kind_of, rule_of};
+ghost use Rattle.std.specs.Prelude.{◌≡◌, ◌≢◌, ◌≤◌, false, map, string_bytes, IfOk, IfErr};
+ghost use Rattle.clap.specs.Words.{app_of, kind_of, rule_of, subcommand_rows_of};
 ghost use Rattle.clap.specs.declared.builder.command.Command.TheViews.{out-Command as fields_of};
-ghost use Rattle.console.specs.CommandLine.{plmn_option, journal_option, replay_command, command_line, Refuses};
+ghost use Rattle.console.specs.CommandLine.{plmn_option, journal_option, replay_command, command_line, most_entries};
+ghost use Rattle.console.specs.CommandLine.{replay_rows, network_in, limit_in, Asks, Refuses};
 
 use crate::no_run::NoRun;
 use clap::builder::ValueParser;
@@ -21,7 +22,7 @@ pub struct Options {
     /// The network code, as TS 24.008 writes it in three octets.
     pub plmn: [u8; 3],
     pub journal_limit: u32,
-    ghost few: { journal_limit ≤ 4000000 },
+    ghost few: { journal_limit ≤ most_entries },
 }
 
 fn plmn_option<'a>(alloc: Global) -> Arg<'a>
@@ -43,7 +44,7 @@ fn journal_option<'a>(alloc: Global) -> Arg<'a>
         .long("journal")
         .value_name("N")
         .default_value("4000000")
-        .value_parser(ValueParser::unsigned(1, 4_000_000))
+        .value_parser(ValueParser::unsigned(1, u64::from(MOST_ENTRIES)))
         .help("How many entries the journal holds")
 }
 
@@ -68,7 +69,8 @@ fn command_line<'a>(alloc: Global) -> Result<Command<'a>, AllocError>
 
 /// What the words ask for; the program's own is the first.
 pub fn read_options<'a>(alloc: Global, words: &'a [String]) -> Result<Options, NoRun>
-    ensures { IfErr result (Refuses (map string_bytes words.now)) }
+    ensures asked { IfOk result (λ options. Asks (map string_bytes words.now) options.plmn options.journal_limit) }
+    ensures refused { IfErr result (Refuses (map string_bytes words.now)) }
 {
     let matches = match command_line(alloc)?.try_get_matches_from(words) {
         Ok(matches) => matches,
@@ -84,27 +86,32 @@ pub fn read_options<'a>(alloc: Global, words: &'a [String]) -> Result<Options, N
 }
 
 /// The network code; `None` where it isn't six hexadecimal digits.
-fn asked_plmn(matches: &ArgMatches<'_>) -> Option<[u8; 3]> {
+fn asked_plmn(matches: &ArgMatches<'_>) -> Option<[u8; 3]>
+    ensures { result ≡ network_in (replay_rows (subcommand_rows_of matches.now)) }
+{
     let replay = matches.subcommand_matches("replay")?;
     <[u8; 3] as FromHex>::from_hex(replay.get_str("plmn")?).ok()
 }
 
-/// How many entries the journal may hold.
+/// How many entries the journal may hold. The range is looked at once more: no contract of the parser's names the
+/// values that a command below the first may have.
 fn asked_journal(matches: &ArgMatches<'_>) -> u32
-    ensures { result ≤ 4000000 }
+    ensures asked { result ≡ limit_in (replay_rows (subcommand_rows_of matches.now)) }
+    ensures few { result ≤ most_entries }
 {
-    match matches.subcommand_matches("replay") {
-        Some(replay) => replay
-            .get_one::<u32>("journal")
-            .unwrap_or(MOST_ENTRIES)
-            .min(MOST_ENTRIES),
-        None => MOST_ENTRIES,
+    let Some(replay) = matches.subcommand_matches("replay") else {
+        return MOST_ENTRIES;
+    };
+    match replay.get_one::<u32>("journal") {
+        Some(limit @ 1..=MOST_ENTRIES) => limit,
+        _ => MOST_ENTRIES,
     }
 }
 
 /// Why the parser of command lines gave no matches.
 fn no_run(alloc: Global, error: &Error) -> NoRun
-    ensures { kind_of error.now ≡ ErrorKind.OutOfMemory → result ≡ NoRun.Memory }
+    ensures memory { kind_of error.now ≡ ErrorKind.OutOfMemory → result ≡ NoRun.Memory }
+    ensures network { result ≢ NoRun.BadPlmn }
 {
     if error.kind() == ErrorKind::OutOfMemory {
         return NoRun::Memory;

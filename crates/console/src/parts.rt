@@ -7,6 +7,7 @@ use cbsp_ie::Octets;
 use std::alloc::{AllocError, Global};
 
 /// What stands between the separators, empty parts too.
+#[tactic(auto, using(crate::proofs::PartLemmas::parts_from_start))]
 pub fn split_parts(alloc: Global, text: &[u8], separator: u8) -> Result<Vec<Octets>, AllocError>
     ensures { IfOk result (λ parts. parts.items ≡ parts_of separator text.now) }
 {

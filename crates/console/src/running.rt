@@ -2,7 +2,7 @@
 
 ghost use Rattle.std.specs.Prelude.{◌≡◌, map, string_bytes};
 ghost use Rattle.console.specs.Replays.{new_session};
-ghost use Rattle.console.specs.Running.{Ends, Runs, Tells, fault_words};
+ghost use Rattle.console.specs.Running.{Ends, IsTold, Runs, fault_words};
 
 use crate::fault::ReplayFault;
 use crate::no_run::NoRun;
@@ -24,8 +24,8 @@ pub fn run<R: Source, W: Sink, E: Sink>(
     errors: &mut E,
 ) -> u8
     ensures { Ends (map string_bytes words.now)
-        (record { input = R.remaining reader.old; output = W.written writer.old; errors = E.written errors.old })
-        (record { input = R.remaining reader.new; output = W.written writer.new; errors = E.written errors.new }) result }
+        (record { input = R.remaining reader.old; output = W.written writer.old; errors = E.written errors.old; is_mute = E.has_failed errors.old })
+        (record { input = R.remaining reader.new; output = W.written writer.new; errors = E.written errors.new; is_mute = E.has_failed errors.new }) result }
 {
     match read_options(alloc, words) {
         Ok(options) => run_script(alloc, &options, reader, writer, errors),
@@ -59,8 +59,8 @@ fn run_script<R: Source, W: Sink, E: Sink>(
     errors: &mut E,
 ) -> u8
     ensures { Runs (new_session options.now.plmn options.now.journal_limit)
-        (record { input = R.remaining reader.old; output = W.written writer.old; errors = E.written errors.old })
-        (record { input = R.remaining reader.new; output = W.written writer.new; errors = E.written errors.new }) result }
+        (record { input = R.remaining reader.old; output = W.written writer.old; errors = E.written errors.old; is_mute = E.has_failed errors.old })
+        (record { input = R.remaining reader.new; output = W.written writer.new; errors = E.written errors.new; is_mute = E.has_failed errors.new }) result }
 {
     match replay(alloc, reader, writer, options.plmn, options.journal_limit) {
         Ok(()) => 0,
@@ -73,7 +73,7 @@ fn run_script<R: Source, W: Sink, E: Sink>(
 
 /// Says the text. What can't be said is left out: there is nowhere to say that.
 fn tell<E: Sink>(errors: &mut E, text: &[u8])
-    ensures { Tells (E.written errors.old) (E.written errors.new) text.now }
+    ensures { IsTold (E.written errors.old) (E.written errors.new) (E.has_failed errors.new) text.now }
 {
     let _ = write_all(errors, text);
 }

@@ -1,12 +1,13 @@
 //! The words of a line.
 
-ghost use Rattle.std.specs.Prelude.{◌≡◌, ◌++◌, [], IfOk, OnOk, bytes_eq};
-ghost use Rattle.console.specs.Words.{words_of, and_word};
+ghost use Rattle.std.specs.Prelude.{◌≡◌, ◌++◌, ◌∷◌, [], IfOk, OnOk, bytes_eq};
+ghost use Rattle.console.specs.Words.{words_of, non_empty};
 
 use cbsp_ie::Octets;
 use std::alloc::{AllocError, Global};
 
 /// The longest runs of octets other than the space, in their order.
+#[tactic(auto, using(crate::proofs::PartLemmas::parts_from_start, crate::proofs::PartLemmas::non_empty_more))]
 pub fn split_words(alloc: Global, line: &[u8]) -> Result<Vec<Octets>, AllocError>
     ensures { IfOk result (λ words. words.items ≡ words_of line.now) }
 {
@@ -25,7 +26,7 @@ pub fn split_words(alloc: Global, line: &[u8]) -> Result<Vec<Octets>, AllocError
 }
 
 fn end_word(words: &mut Vec<Octets>, word: Vec<u8>) -> Result<(), AllocError>
-    ensures { OnOk result (words.new.items ≡ words.old.items ++ and_word word.items []) }
+    ensures { OnOk result (words.new.items ≡ words.old.items ++ non_empty (word.items ∷ [])) }
 {
     if word.is_empty() {
         return Ok(());

@@ -1,5 +1,6 @@
 use Rattle.std.proofs.Common.{◌≡◌, ◌++◌, drop}
-use Rattle.console.specs.Parts.{parts_of, parts_from}
+use Rattle.console.specs.Parts.{parts_of}
+use Rattle.console.proofs.PartLemmas.{parts_from}
 use Rattle.console.proofs.parts.split_parts.Given as goal
 
 -- the parts so far, and those of what is left, are all of them
