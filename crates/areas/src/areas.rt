@@ -9,7 +9,8 @@ use cbsp_ie::{Cell, Name, Names};
 use std::alloc::{AllocError, Global};
 use std::marker::Model;
 
-/// Named areas. Contracts see them as a list, in the order of the octets of their names.
+/// Named areas. Contracts see them as a list, in the order of the octets of their names. An edit that is refused
+/// leaves them as they were.
 #[derive(Drop)]
 pub struct Areas {
     alloc: Global,
@@ -124,6 +125,7 @@ impl Areas {
         Ok(())
     }
 
+    /// Whether the area is there, with selectors or without.
     pub fn has_area(&self, a: &Name) -> bool
         ensures { result ≡ has_area self.now a.now }
     {

@@ -17,7 +17,7 @@ fn put_covering(
 ) -> Result<(), AllocError>
     ensures { OnOk result (names.new.items ≡ names.old.items ++ (if selects area.now.selectors c then area.now.name ∷ [] else [])) }
 {
-    if selects(&area.selectors, c) {
+    if selects(area.selectors.as_slice(), c) {
         names.push(area.name.copied(alloc)?)?;
     }
     Ok(())

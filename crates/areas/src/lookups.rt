@@ -6,19 +6,13 @@ ghost use Rattle.areas.specs.Areas.{is_named, has_area, selectors_of, has_select
 
 use crate::area::Area;
 use crate::selector::Selector;
-use crate::selectors::Selectors;
 use cbsp_ie::{Cell, Name};
 
 /// Whether the area is there.
 pub(crate) fn has_area(areas: &[Area], a: &Name) -> bool
     ensures { result ≡ has_area areas.now a.now }
 {
-    for area in areas {
-        if area.name == *a {
-            return true;
-        }
-    }
-    false
+    areas.iter().any(|area| area.name == *a)
 }
 
 /// Where the area of that name stands; past the last where there is none.
@@ -33,45 +27,42 @@ pub(crate) fn place_of(areas: &[Area], a: &Name) -> usize
     areas.len()
 }
 
+/// The selectors of the area; none where it isn't there.
+pub(crate) fn selectors_of<'a>(areas: &'a [Area], a: &Name) -> &'a [Selector]
+    ensures { result.now ≡ selectors_of areas.now a.now }
+{
+    for area in areas {
+        if area.name == *a {
+            return area.selectors.as_slice();
+        }
+    }
+    &[]
+}
+
 /// Whether the area has the selector.
 pub(crate) fn has_selector(areas: &[Area], a: &Name, s: Selector) -> bool
     ensures { result ≡ has_selector areas.now a.now s }
 {
-    for area in areas {
-        if area.name == *a {
-            return area.selectors.has(s);
-        }
-    }
-    false
+    selectors_of(areas, a).contains(&s)
 }
 
 /// How many selectors the area has.
 pub(crate) fn selector_count(areas: &[Area], a: &Name) -> usize
     ensures { result ≡ length (selectors_of areas.now a.now) }
 {
-    for area in areas {
-        if area.name == *a {
-            return area.selectors.len();
-        }
-    }
-    0
+    selectors_of(areas, a).len()
 }
 
 /// Whether one of the selectors is the cell or its location area.
-pub(crate) fn selects(selectors: &Selectors, c: Cell) -> bool
+pub(crate) fn selects(selectors: &[Selector], c: Cell) -> bool
     ensures { result ≡ selects selectors.now c }
 {
-    selectors.has(Selector::Cell(c)) || selectors.has(Selector::Lac(c.lac))
+    selectors.contains(&Selector::Cell(c)) || selectors.contains(&Selector::Lac(c.lac))
 }
 
 /// Whether the area covers the cell.
 pub(crate) fn covers(areas: &[Area], a: &Name, c: Cell) -> bool
     ensures { result ≡ covers areas.now a.now c }
 {
-    for area in areas {
-        if area.name == *a {
-            return selects(&area.selectors, c);
-        }
-    }
-    false
+    selects(selectors_of(areas, a), c)
 }

@@ -16,12 +16,7 @@ fn is_name_octet(octet: u8) -> bool
 fn has_other_octet(octets: &[u8]) -> bool
     ensures { result ≡ list_any (λ x. not (is_name_octet x)) octets.now }
 {
-    for octet in octets {
-        if !is_name_octet(*octet) {
-            return true;
-        }
-    }
-    false
+    octets.iter().any(|octet| !is_name_octet(*octet))
 }
 
 /// Whether an area may have the name.

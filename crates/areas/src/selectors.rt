@@ -1,9 +1,9 @@
 //! A list of selectors.
 
-ghost use Rattle.std.specs.Prelude.{◌≡◌, ◌≢◌, ◌↔◌, ◌++◌, ◌∷◌, [], not, length, IsTrue, IfOk, OnOk, OnErr};
+ghost use Rattle.std.specs.Prelude.{◌≡◌, ◌≢◌, ◌↔◌, ◌++◌, ◌∷◌, [], not, IsTrue, IfOk, OnOk, OnErr};
 ghost use Rattle.std.specs.Cmp.{decided, partial_equiv_from_equiv};
 ghost use Rattle.std.specs.Cmp.Lexicographic.{pointwise};
-ghost use Rattle.std.specs.List.{filter, list_any};
+ghost use Rattle.std.specs.List.{filter};
 ghost use Rattle.areas.specs.Equality.{selectors_decide};
 ghost use Rattle.areas.specs.Selector.{selector_eq};
 
@@ -60,20 +60,6 @@ impl Selectors {
         ensures { IsTrue result ↔ (self.now ≡ other.now) }
     {
         *self == *other
-    }
-
-    /// Whether the selector is among them.
-    pub(crate) fn has(&self, s: Selector) -> bool
-        ensures { result ≡ list_any (λ t. selector_eq t s) self.now }
-    {
-        self.as_slice().contains(&s)
-    }
-
-    /// How many there are.
-    pub(crate) fn len(&self) -> usize
-        ensures { result ≡ length self.now }
-    {
-        self.selectors.len()
     }
 
     /// Puts the selector last.

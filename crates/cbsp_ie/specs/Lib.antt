@@ -15,5 +15,6 @@ pub mod Laws
 pub mod Page
 pub mod Written
 pub mod Checks
+pub mod CheckLaws
 pub mod Order
 pub mod OrderLaws

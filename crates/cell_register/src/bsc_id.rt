@@ -35,6 +35,7 @@ impl BscId {
         }
     }
 
+    /// The number as an operator sees it, 1 to 65,535.
     pub fn number(self) -> u16
         ensures value { result ≡ self }
         ensures some { 0 < result }

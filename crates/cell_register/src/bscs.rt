@@ -11,12 +11,7 @@ use std::alloc::AllocError;
 pub(crate) fn is_among(b: BscId, bscs: &[BscId]) -> bool
     ensures { result ≡ list_any (λ x. nat_eq x b) bscs.now }
 {
-    for other in bscs {
-        if *other == b {
-            return true;
-        }
-    }
-    false
+    bscs.contains(&b)
 }
 
 /// Where the BSC belongs among them.

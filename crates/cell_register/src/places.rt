@@ -27,12 +27,7 @@ pub(crate) fn place_among(c: Cell, cells: &[Placed]) -> Option<BscId>
 pub(crate) fn has_cells(b: BscId, cells: &[Placed]) -> bool
     ensures { result ≡ list_any (λ p. nat_eq p.bsc b) cells.now }
 {
-    for placed in cells {
-        if placed.bsc == b {
-            return true;
-        }
-    }
-    false
+    cells.iter().any(|placed| placed.bsc == b)
 }
 
 /// Where the cell belongs among them.

@@ -13,7 +13,7 @@ use cbsp_ie::{Cell, Cells};
 use std::alloc::{AllocError, Global};
 use std::marker::Model;
 
-/// The BSCs that are registered, and the cells, each at one of them.
+/// The BSCs that are registered, and the cells, each at one of them. An edit that is refused leaves it as it was.
 #[derive(Drop)]
 pub struct Register {
     alloc: Global,
@@ -33,6 +33,7 @@ impl Model for Register {
 }
 
 impl Register {
+    /// A register without BSCs and cells.
     pub fn new(alloc: Global) -> Register
         ensures { result ≡ empty }
     {
@@ -50,6 +51,7 @@ impl Register {
         let _ = &self.bscs;
     }
 
+    /// Whether the BSC is registered, with cells or without.
     pub fn has_bsc(&self, b: BscId) -> bool
         ensures { result ≡ has_bsc self.now b }
     {

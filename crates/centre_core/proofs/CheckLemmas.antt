@@ -1,5 +1,6 @@
 -- Checks, and the answer after them.
 use Rattle.std.proofs.Common.{◌≡◌, ◌⊎◌, inl, inr, Bool, true, false, List, [], ◌∷◌, ◌++◌, Some, None, Result, Ok, Err, cond, refl, ◌∙◌, ap}
+use Rattle.cbsp_ie.specs.CheckLaws.{NoneHolds}
 use Rattle.cbsp_ie.specs.Checks.{first_refusal}
 use Rattle.centre_core.specs.Kept.{Gives}
 use Rattle.centre_core.specs.Verdict.{unless, translated}
@@ -15,11 +16,6 @@ unless_ok (check ∷ checks) r a h = step (unless_ok checks r a) check.0 h
     step : (unless checks r ≡ Ok a → r ≡ Ok a) → (t : Bool) → cond t (Err check.1) (unless checks r) ≡ Ok a → r ≡ Ok a
     step rest true e = cc
     step rest false e = rest e
-
--- each of the checks fails to hold
-abbrev pub NoneHolds : List (Bool × Refusal) → Type 0
-NoneHolds [] = Unit {0}
-NoneHolds (check ∷ checks) = (check.0 ≡ false) × NoneHolds checks
 
 -- no check of an accepted event held
 pub no_check : (checks : List (Bool × Refusal)) (r : Result Answer Refusal) (a : Answer) → unless checks r ≡ Ok a → NoneHolds checks

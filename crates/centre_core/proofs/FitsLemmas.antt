@@ -1,28 +1,32 @@
--- The messages that are sent fit: an order names at most 1,000 cells, and a content has 1 to 15 pages.
-use Rattle.std.proofs.Common.{◌≡◌, ℕ, ◌+◌, ◌*◌, ◌<◌, ◌≤◌, Bool, true, ◌&&◌, not, List, [], ◌∷◌, Option, Some, None, Result, Ok, nat_le, length, take, map, refl, subst, ◌∙◌, arith, length-append, lit≤}
-use Rattle.std.specs.Prelude.{IfSome}
-use Rattle.std.specs.List.{list_any, flat_map}
+-- The messages that are sent fit, since an order names at most 1,000 cells and a content has 1 to 15 pages; and they
+-- carry their orders.
+use Rattle.std.proofs.Common.{◌≡◌, ℕ, ◌+◌, ◌*◌, ◌<◌, ◌≤◌, Bool, true, ◌&&◌, ◌||◌, not, is_some, List, [], ◌∷◌, Option, Some, None, Result, Ok, nat_le, length, take, map, refl, subst, ◌∙◌, arith, length-append, lit≤}
+use Rattle.std.specs.Prelude.{IfSome, if◌then◌else◌}
+use Rattle.std.specs.List.{list_any, list_all, flat_map}
 use Rattle.std.proofs.lemmas.Bool.{leb-true, and_parts}
 use Rattle.std.proofs.lemmas.List.{length-take, length-map}
 use Rattle.cbsp_ie.specs.CellId.{id_octets}
 use Rattle.cbsp_ie.specs.Identifications.{id_of_cell}
 use Rattle.cbsp_ie.specs.Written.{cells_octets}
 use Rattle.cbsp_ie.specs.declared.cell.Cell.{Cell}
+use Rattle.cbsp_messages.specs.Message.{type_of}
 use Rattle.cbsp_messages.specs.PageText.{page_with}
 use Rattle.cbsp_messages.specs.Written.{Fits}
 use Rattle.cbsp_messages.specs.declared.message.Message.{Message}
+use Rattle.cbsp_messages.specs.declared.message_type.MessageType.TheVariants as type
 use Rattle.warning_book.specs.Book.{new_serial, next_serial, content_of}
 use Rattle.warning_book.specs.Content.{is_page, are_pages}
 use Rattle.warning_book.specs.Sound.{IsSound}
 use Rattle.warning_book.specs.declared.content.Content.{Content}
+use Rattle.centre_core.proofs.CarriedLemmas.{pending_carry, message_carries}
 use Rattle.centre_core.proofs.CheckLemmas.{unless_ok}
 use Rattle.centre_core.proofs.UniqueLemmas.{verdict_law}
 use Rattle.centre_core.proofs.WarningLemmas.{content_has_pages, legal_sound}
-use Rattle.centre_core.specs.Fits.{AnswerFits}
-use Rattle.centre_core.specs.InFlight.{in_flight}
+use Rattle.centre_core.specs.Fits.{AnswerFits, IsCarried}
+use Rattle.centre_core.specs.InFlight.{in_flight, is_kill}
 use Rattle.centre_core.specs.Legal.{Legal}
 use Rattle.centre_core.specs.OrderMessage.{listed, message_by, order_message}
-use Rattle.centre_core.specs.Pending.{first, most_cells, pending}
+use Rattle.centre_core.specs.Pending.{first, most_cells, shortened, pending}
 use Rattle.centre_core.specs.Verdict.{unless, law, verdict, add_bsc_checks, remove_bsc_checks, add_cell_checks, move_cell_checks, remove_cell_checks, add_area_checks, drop_area_checks, put_checks, cut_checks, issue_checks, issue_answer, update_checks, update_answer, widen_checks, narrow_checks, stop_checks, forget_checks, link_up_checks, link_checks, send_checks, send_answer, report_checks, report_answer}
 use Rattle.centre_core.specs.Warnings.{book_of, warnings_of}
 use Rattle.centre_core.specs.declared.answer.Answer.{Answer}
@@ -78,6 +82,16 @@ sent_fits past (Some o) order message good few h =
     let same : order_message o (content_of o.message_id o.serial (warnings_of past)) ≡ message = cc in
     subst Fits same (message_fits o o.kind (content_of o.message_id o.serial (warnings_of past)) few (content_has_pages o.message_id o.serial (warnings_of past) good.contents))
 
+sent_carried : (past : List Entry) (orders : List Order) (order : Order) (message : Message) → list_all (λ (o : Order). is_kill o.kind || is_some (content_of o.message_id o.serial (warnings_of past))) orders ≡ true → send_answer past (first orders) ≡ Ok (Sent order message) → IsCarried (Sent order message)
+sent_carried past [] order message good h = absurd (let no : send_answer past None ≡ Ok (Sent order message) = h in cc)
+sent_carried past (o ∷ orders) order message good h =
+    let given = and_parts (is_kill o.kind || is_some (content_of o.message_id o.serial (warnings_of past))) (list_all (λ (p : Order). is_kill p.kind || is_some (content_of p.message_id p.serial (warnings_of past))) orders) good in
+    let taken : shortened most_cells o ≡ order = cc in
+    let same : order_message (shortened most_cells o) (content_of o.message_id o.serial (warnings_of past)) ≡ message = cc in
+    subst (λ m. type_of m ≡ (if is_kill order.kind then type.Kill else type.WriteReplace)) same
+    (subst (λ (p : Order). type_of (order_message (shortened most_cells o) (content_of o.message_id o.serial (warnings_of past))) ≡ (if is_kill p.kind then type.Kill else type.WriteReplace)) taken
+    (message_carries (shortened most_cells o) o.kind (content_of o.message_id o.serial (warnings_of past)) given.0))
+
 no_done : (checks : List (Bool × Refusal)) (order : Order) (message : Message) → unless checks (Ok Done) ≡ Ok (Sent order message) → ⊥
 no_done checks order message h =
     let done : Result Answer Refusal = Ok Done in
@@ -102,32 +116,47 @@ no_report : (report : Message) (o : Option Order) (order : Order) (message : Mes
 no_report report None order message e = cc
 no_report report (Some x) order message e = cc
 
-answer_fits : (past : List Entry) (event : Event) (answer : Answer) → IsSound (book_of past) → law past event ≡ Ok answer → AnswerFits answer
-answer_fits past (AddBsc b) (Sent order message) good h = absurd (no_done (add_bsc_checks past b) order message h)
-answer_fits past (RemoveBsc b) (Sent order message) good h = absurd (no_done (remove_bsc_checks past b) order message h)
-answer_fits past (AddCell c b) (Sent order message) good h = absurd (no_done (add_cell_checks past c b) order message h)
-answer_fits past (MoveCell c b) (Sent order message) good h = absurd (no_done (move_cell_checks past c b) order message h)
-answer_fits past (RemoveCell c) (Sent order message) good h = absurd (no_done (remove_cell_checks past c) order message h)
-answer_fits past (AddArea a) (Sent order message) good h = absurd (no_done (add_area_checks past a) order message h)
-answer_fits past (DropArea a) (Sent order message) good h = absurd (no_done (drop_area_checks past a) order message h)
-answer_fits past (Put a s) (Sent order message) good h = absurd (no_done (put_checks past a s) order message h)
-answer_fits past (Cut a s) (Sent order message) good h = absurd (no_done (cut_checks past a s) order message h)
-answer_fits past (Issue notice areas) (Sent order message) good h =
+-- a message is answered to a Send alone, with the first pending order
+sent_by : (past : List Entry) (event : Event) (order : Order) (message : Message) → law past event ≡ Ok (Sent order message) → (b : ℕ) × (send_answer past (first (pending past b)) ≡ Ok (Sent order message))
+sent_by past (AddBsc b) order message h = absurd (no_done (add_bsc_checks past b) order message h)
+sent_by past (RemoveBsc b) order message h = absurd (no_done (remove_bsc_checks past b) order message h)
+sent_by past (AddCell c b) order message h = absurd (no_done (add_cell_checks past c b) order message h)
+sent_by past (MoveCell c b) order message h = absurd (no_done (move_cell_checks past c b) order message h)
+sent_by past (RemoveCell c) order message h = absurd (no_done (remove_cell_checks past c) order message h)
+sent_by past (AddArea a) order message h = absurd (no_done (add_area_checks past a) order message h)
+sent_by past (DropArea a) order message h = absurd (no_done (drop_area_checks past a) order message h)
+sent_by past (Put a s) order message h = absurd (no_done (put_checks past a s) order message h)
+sent_by past (Cut a s) order message h = absurd (no_done (cut_checks past a s) order message h)
+sent_by past (Issue notice areas) order message h =
     absurd (no_issue ((book_of past).issued + 1) (new_serial (book_of past) notice) order message (unless_ok (issue_checks past notice areas) (issue_answer ((book_of past).issued + 1) (new_serial (book_of past) notice)) (Sent order message) h))
-answer_fits past (Update n content) (Sent order message) good h =
+sent_by past (Update n content) order message h =
     absurd (no_update (next_serial (book_of past) n) order message (unless_ok (update_checks past n content) (update_answer (next_serial (book_of past) n)) (Sent order message) h))
-answer_fits past (Widen n a) (Sent order message) good h = absurd (no_done (widen_checks past n a) order message h)
-answer_fits past (Narrow n a) (Sent order message) good h = absurd (no_done (narrow_checks past n a) order message h)
-answer_fits past (Stop n) (Sent order message) good h = absurd (no_done (stop_checks past n) order message h)
-answer_fits past (Forget n) (Sent order message) good h = absurd (no_done (forget_checks past n) order message h)
-answer_fits past (LinkUp b) (Sent order message) good h = absurd (no_link (link_up_checks past b) (length past + 1) order message h)
-answer_fits past (LinkDown b generation) (Sent order message) good h = absurd (no_done (link_checks past b generation) order message h)
-answer_fits past (Send b generation) (Sent order message) good h =
-    sent_fits past (first (pending past b)) order message good (first_is_short (pending past b)) (unless_ok (send_checks past b generation) (send_answer past (first (pending past b))) (Sent order message) h)
-answer_fits past (Report b generation report) (Sent order message) good h = absurd (no_report report (in_flight past b) order message (unless_ok (report_checks past b generation report) (report_answer report (in_flight past b)) (Sent order message) h))
+sent_by past (Widen n a) order message h = absurd (no_done (widen_checks past n a) order message h)
+sent_by past (Narrow n a) order message h = absurd (no_done (narrow_checks past n a) order message h)
+sent_by past (Stop n) order message h = absurd (no_done (stop_checks past n) order message h)
+sent_by past (Forget n) order message h = absurd (no_done (forget_checks past n) order message h)
+sent_by past (LinkUp b) order message h = absurd (no_link (link_up_checks past b) (length past + 1) order message h)
+sent_by past (LinkDown b generation) order message h = absurd (no_done (link_checks past b generation) order message h)
+sent_by past (Send b generation) order message h = (b, unless_ok (send_checks past b generation) (send_answer past (first (pending past b))) (Sent order message) h)
+sent_by past (Report b generation report) order message h = absurd (no_report report (in_flight past b) order message (unless_ok (report_checks past b generation report) (report_answer report (in_flight past b)) (Sent order message) h))
+
+answer_fits : (past : List Entry) (event : Event) (answer : Answer) → IsSound (book_of past) → law past event ≡ Ok answer → AnswerFits answer
+answer_fits past event (Sent order message) good h =
+    let sent = sent_by past event order message h in
+    sent_fits past (first (pending past sent.0)) order message good (first_is_short (pending past sent.0)) sent.1
 answer_fits past event answer good h = tt
+
+answer_carried : (past : List Entry) (event : Event) (answer : Answer) → law past event ≡ Ok answer → IsCarried answer
+answer_carried past event (Sent order message) h =
+    let sent = sent_by past event order message h in
+    sent_carried past (pending past sent.0) order message (pending_carry past sent.0) sent.1
+answer_carried past event answer h = tt
 
 -- what an event is answered after a legal past fits
 pub verdict_fits : (limit : ℕ) (past : List Entry) (event : Event) (answer : Answer) → Legal limit past → verdict limit past event ≡ Ok answer → AnswerFits answer
 verdict_fits limit past event answer legal h =
     answer_fits past event answer (legal_sound limit past legal) (verdict_law limit past event answer h)
+
+-- and carries its order
+pub verdict_carried : (limit : ℕ) (past : List Entry) (event : Event) (answer : Answer) → verdict limit past event ≡ Ok answer → IsCarried answer
+verdict_carried limit past event answer h = answer_carried past event answer (verdict_law limit past event answer h)

@@ -1,6 +1,7 @@
 pub mod PastLemmas
 pub mod NamedLemmas
 pub mod OrderLemmas
+pub mod CarriedLemmas
 pub mod FitsLemmas
 pub mod AnyLemmas
 pub mod CheckLemmas
@@ -12,6 +13,7 @@ pub mod UniqueLemmas
 pub mod CountLemmas
 pub mod KnownLemmas
 pub mod HeadlineLemmas
+pub mod HeadlineExamples
 pub mod RegisterLemmas
 pub mod AreaLemmas
 pub mod CentreLemmas

@@ -19,7 +19,7 @@ use Rattle.centre_core.specs.declared.order_maker.order_kind.OrderKind.TheVarian
 abbrev pub action : Warning → Cell → OrderKind → ℕ → Action
 action w c kind s = record { kind = kind; message_id = w.message_id; serial = s; cell = c }
 
--- nothing keeps the key from being ordered
+-- nothing keeps the key from being ordered: so far nothing does
 abbrev pub is_free : List Entry → ℕ → Cell → ℕ → ℕ → Bool
 is_free past b c m s = true
 

@@ -25,15 +25,12 @@ standing_at past w c (Some b) = if is_on_air (presence past b c w.message_id w.s
 abbrev pub standing : List Entry → Warning → Cell → Option Standing
 standing past w c = if w.active && is_covered past w.areas c then standing_at past w c (place past c) else None
 
-abbrev pub is_awaited : Option Standing → Bool
-is_awaited None = false
-is_awaited (Some Awaited) = true
-is_awaited (Some OnAir) = false
-
-abbrev pub stands_on_air : Option Standing → Bool
-stands_on_air None = false
-stands_on_air (Some Awaited) = false
-stands_on_air (Some OnAir) = true
+-- a cell that stands in one way, if it counts at all, stands in that way
+abbrev pub stands : Standing → Option Standing → Bool
+stands way None = false
+stands Awaited (Some Awaited) = true
+stands OnAir (Some OnAir) = true
+stands way (Some other) = false
 
 -- the version of that serial number is on air there, or may be, and not wanted
 abbrev pub is_unwanted : List Entry → Warning → ℕ → Cell → ℕ → Bool
@@ -45,7 +42,7 @@ is_left past w b c = list_any (λ v. is_unwanted past w b c v.serial) (versions 
 
 -- over the cells, each once; what is left, over the pairs of a BSC and a cell
 abbrev pub total : List Entry → Warning → Numbers
-total past w = record { awaited = count_of (λ c. is_awaited (standing past w c)) (cells past); on_air = count_of (λ c. stands_on_air (standing past w c)) (cells past); failed = 0; left = sum_of (λ b. count_of (is_left past w b) (cells past)) (bscs past); broadcasts = 0 }
+total past w = record { awaited = count_of (λ c. stands Awaited (standing past w c)) (cells past); on_air = count_of (λ c. stands OnAir (standing past w c)) (cells past); failed = 0; left = sum_of (λ b. count_of (is_left past w b) (cells past)) (bscs past); broadcasts = 0 }
 
 -- the numbers of the warning of that number, if it is in the book
 abbrev pub board : List Entry → ℕ → Option Numbers

@@ -1,6 +1,6 @@
 //! The centre: its journal, and the questions that the journal answers.
 
-ghost use Rattle.std.specs.Prelude.{◌≡◌, ◌<◌, length, reverse, true, IfOk, OnOk, OnErr};
+ghost use Rattle.std.specs.Prelude.{◌≡◌, ◌<◌, length, reverse, true, IfOk, IfErr, OnOk, OnErr};
 ghost use Rattle.std.specs.Vec.{vec_len, vec_capacity};
 ghost use Rattle.centre_core.specs.Kept.{IsRegisterOf, AreAreasOf, register_after, areas_after, is_edit, is_plain, Gives};
 ghost use Rattle.centre_core.specs.Verdict.{verdict, law};
@@ -52,6 +52,7 @@ fn answer_to(
     ensures room { OnOk result (vec_len journal.new < vec_capacity journal.new) }
     ensures few { OnOk result (length journal.old.items < limit) }
     ensures verdict { Gives (verdict limit (reverse journal.old.items) event.now) result }
+    ensures memory { IfErr result (λ r. r ≡ Refusal.Memory → length journal.old.items < limit) }
     ensures law { IfOk result (λ a. law (reverse journal.old.items) event.now ≡ Ok a) }
     ensures register { OnOk result (register.new ≡ register_after event.now register.old) }
     ensures areas { OnOk result (areas.new ≡ areas_after event.now areas.old) }
@@ -85,7 +86,7 @@ impl Centre {
     ghost use Rattle.std.specs.Option.{option_copied};
     ghost use mathlib.Core.Option.{none};
     ghost use Rattle.centre_core.specs.contracts.centre.Centre.{the_row};
-    ghost use Rattle.centre_core.specs.Fits.{AnswerFits};
+    ghost use Rattle.centre_core.specs.Fits.{AnswerFits, IsCarried};
     ghost use Rattle.centre_core.specs.InFlight.{in_flight};
     ghost use Rattle.centre_core.specs.Legal.{Legal, past};
     ghost use Rattle.centre_core.specs.Links.{is_bsc};
@@ -112,16 +113,18 @@ impl Centre {
     }
 
     /// Takes an event that the desk submits. An accepted event becomes one entry of the journal; a refused one changes
-    /// nothing. The refusal is the first, in the order of their numbers, whose cause holds, or want of memory.
+    /// nothing. The refusal is the first, in the order of their numbers, whose cause holds; `Memory` may stand in the
+    /// place of any but `JournalFull`, since room for the entry is made before the event is looked at.
     pub fn accept(&mut self, desk: u32, event: Event) -> Result<Answer, Refusal>
         ensures plmn { self.new.plmn ≡ self.old.plmn }
         ensures limit { self.new.limit ≡ self.old.limit }
         ensures answer { IfOk result (λ a. verdict self.old.limit (past self.old) event ≡ Ok a) }
         ensures entry { IfOk result (λ a. self.new.journal ≡ self.old.journal ++ record { desk = desk; event = event; answer = a } ∷ []) }
-        ensures refusal { IfErr result (λ r. (r ≡ Refusal.Memory) ⊎ (verdict self.old.limit (past self.old) event ≡ Err r)) }
+        ensures refusal { IfErr result (λ r. ((r ≡ Refusal.Memory) × (length self.old.journal < self.old.limit)) ⊎ (verdict self.old.limit (past self.old) event ≡ Err r)) }
         ensures unchanged { IfErr result (λ _. self.new ≡ self.old) }
         ensures legal { Legal self.new.limit (past self.new) }
         ensures fits { IfOk result AnswerFits }
+        ensures carried { IfOk result IsCarried }
     {
         let answer = answer_to(
             self.alloc,
@@ -137,10 +140,11 @@ impl Centre {
         Ok(answer)
     }
 
-    /// The pending orders of the BSC.
+    /// The pending orders of the BSC: writes and replaces before kills, then by message identifier, serial number and
+    /// the serial number that is replaced, none first. `NoSuchBsc`, then `Memory`.
     pub fn pending_of(&self, b: BscId) -> Result<Orders, Refusal>
         ensures orders { IfOk result (λ orders. (orders ≡ pending (past self.now) b) × (is_bsc (past self.now) b ≡ true)) }
-        ensures refusal { IfErr result (λ r. (r ≡ Refusal.Memory) ⊎ ((r ≡ Refusal.NoSuchBsc) × (is_bsc (past self.now) b ≡ false))) }
+        ensures refusal { IfErr result (λ r. ((r ≡ Refusal.Memory) × (is_bsc (past self.now) b ≡ true)) ⊎ ((r ≡ Refusal.NoSuchBsc) × (is_bsc (past self.now) b ≡ false))) }
     {
         if !self.register.has_bsc(b) {
             return Err(Refusal::NoSuchBsc);
@@ -148,7 +152,7 @@ impl Centre {
         Ok(order_maker::pending(self.alloc, self.journal.as_slice(), self.book.as_slice(), b)?)
     }
 
-    /// The order in flight to the BSC.
+    /// The order in flight to the BSC: sent, and neither answered nor lost with its link. `NoSuchBsc`.
     pub fn in_flight_of(&self, b: BscId) -> Result<Option<&Order>, Refusal>
         ensures order { IfOk result (λ order. (option_copied order ≡ in_flight (past self.now) b) × (is_bsc (past self.now) b ≡ true)) }
         ensures refusal { IfErr result (λ r. (r ≡ Refusal.NoSuchBsc) × (is_bsc (past self.now) b ≡ false)) }
@@ -166,10 +170,11 @@ impl Centre {
         Ok(self.register.bsc_of(cell))
     }
 
-    /// What the BSC has reported: each of its keys that is on air, or may be.
+    /// What the BSC has reported: each of its keys that is on air, or may be, by cell, message identifier and serial
+    /// number. `NoSuchBsc`, then `Memory`.
     pub fn table_of(&mut self, b: BscId) -> Result<ReportedKeys, Refusal>
         ensures table { IfOk result (λ keys. (keys ≡ table (past self.old) b) × (is_bsc (past self.old) b ≡ true)) }
-        ensures refusal { IfErr result (λ r. (r ≡ Refusal.Memory) ⊎ ((r ≡ Refusal.NoSuchBsc) × (is_bsc (past self.old) b ≡ false))) }
+        ensures refusal { IfErr result (λ r. ((r ≡ Refusal.Memory) × (is_bsc (past self.old) b ≡ true)) ⊎ ((r ≡ Refusal.NoSuchBsc) × (is_bsc (past self.old) b ≡ false))) }
         ensures unchanged { self.new ≡ self.old }
     {
         if !self.register.has_bsc(b) {
@@ -178,7 +183,7 @@ impl Centre {
         Ok(mirror::table(self.alloc, self.journal.as_slice(), self.book.as_slice(), b)?)
     }
 
-    /// The numbers of the warning.
+    /// The numbers of the warning. `NoSuchWarning`.
     pub fn board_total(&self, warning: WarningId) -> Result<Numbers, Refusal>
         ensures numbers { IfOk result (λ numbers. board (past self.now) warning ≡ Some numbers) }
         ensures refusal { IfErr result (λ r. (r ≡ Refusal.NoSuchWarning) × (board (past self.now) warning ≡ None)) }

@@ -36,7 +36,7 @@ pub(crate) fn law(
     areas: &mut Areas,
     book: &mut Book,
     event: &Event,
-) -> Result<Answer, Refusal>
+) -> Verdict
     requires registered { IsRegisterOf (reverse journal.now) register.old }
     requires selected { AreAreasOf (reverse journal.now) areas.old }
     requires booked { book.old ≡ book_of (reverse journal.now) }
@@ -67,9 +67,9 @@ pub(crate) fn law(
         Event::Forget(w) => forgetting::forget(alloc, journal, book, *w),
         Event::LinkUp(b) => links::link_up(journal, register, *b),
         Event::LinkDown(b, generation) => links::link_down(journal, register, *b, *generation),
-        Event::Send(b, generation) => sends::send(alloc, journal, register, book, *b, *generation)?,
+        Event::Send(b, generation) => sends::send(alloc, journal, register, book, *b, *generation),
         Event::Report(b, generation, message) => {
-            reports::report(alloc, journal, register, *b, *generation, message)?
+            reports::report(alloc, journal, register, *b, *generation, message)
         }
     }
 }

@@ -26,7 +26,7 @@ pub enum Limit {
 }
 
 /// Why an event or a question is refused, in the order in which the causes are looked at. The first that holds is
-/// the answer; want of memory is the last.
+/// the answer; want of memory for an event's entry may stand in the place of any but `JournalFull`.
 #[derive(Clone, Copy, Debug, PartialEq, Eq, Error)]
 pub enum Refusal {
     #[error("the journal is full")]

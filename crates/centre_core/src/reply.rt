@@ -8,6 +8,6 @@ use cbsp_ie::Cell;
 pub struct Reply {
     pub cell: Cell,
     pub outcome: Outcome,
-    /// The number of broadcasts completed, where the reply gives one.
+    /// The number of broadcasts completed: `None` so far, since it is not read from replies.
     pub count: Option<u16>,
 }

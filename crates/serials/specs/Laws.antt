@@ -4,7 +4,7 @@ use Rattle.std.specs.Prelude.{find}
 use Rattle.std.specs.Cmp.{unsigned_Decides}
 use Rattle.std.specs.List.{list_any, filter, range_with_len}
 use Rattle.std.specs.Option.{is_some}
-use Rattle.std.proofs.lemmas.Bool.{not-true}
+use Rattle.std.proofs.lemmas.Bool.{not-false, not-true}
 use Rattle.std.proofs.lemmas.Bool.Decides.{nat_tests}
 use Rattle.std.proofs.lemmas.Grind.{common_steps}
 use Rattle.serials.specs.Serials.{serial_of, code_of, update_of, every_code, least_free}
@@ -85,10 +85,6 @@ as_many (suc n) xs h =
     let rest : n ≤ length (filter (λ x. not (nat_eq n x)) xs) = as_many n (filter (λ x. not (nat_eq n x)) xs) (λ k g. among_others n k xs (below_is_other n k g) (h k (omega arith))) in
     let fewer : length (filter (λ x. not (nat_eq n x)) xs) + 1 ≤ length xs = fewer_others n xs (h n (omega arith)) in
     omega arith
-
-not-false : (b : Bool) → not b ≡ false → b ≡ true
-not-false true h = refl
-not-false false h = cc
 
 -- while fewer than 1,024 codes are used one is free
 pub some_free : (used : List ℕ) → length used < 1024 → is_some (least_free used) ≡ true

@@ -7,12 +7,7 @@ ghost use Rattle.serials.specs.Serials.{least_free};
 fn is_used(used: &[u16], code: u16) -> bool
     ensures { result ≡ list_any (nat_eq code) used.now }
 {
-    for other in used {
-        if code == *other {
-            return true;
-        }
-    }
-    false
+    used.iter().any(|other| code == *other)
 }
 
 /// The first of so many codes that is not used.

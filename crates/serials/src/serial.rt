@@ -37,6 +37,7 @@ impl Serial {
         }
     }
 
+    /// The geographical scope, the two highest bits.
     pub fn scope(self) -> Scope
         ensures { scope_number result ≡ scope_part self }
     {
@@ -62,12 +63,14 @@ impl Serial {
         self.value % 16
     }
 
+    /// The number as it stands in a message.
     pub fn to_u16(self) -> u16
         ensures { result ≡ self }
     {
         self.value
     }
 
+    /// The serial number that stands in a message: each number of 16 bits is one.
     pub fn from_u16(value: u16) -> Serial
         ensures { result ≡ value }
     {

@@ -120,11 +120,6 @@ absent_current n (w ∷ l) h = step (absent_current n l) (has_number n w) h
     step rest true e = cc
     step rest false e = rest e
 
--- the next serial number follows the current one
-pub next_of_current : (o : Option Warning) (s k : ℕ) → option_map (λ w. w.serial) o ≡ Some s → k ≡ s + 1 → option_map (λ w. w.serial + 1) o ≡ Some k
-next_of_current None s k h e = cc
-next_of_current (Some w) s k h e = let same : w.serial ≡ s = cc in ap (λ n. Some (n + 1)) same ∙ ap (λ (n : ℕ). Some n) (sym e)
-
 -- a next serial number is there just where the last update was not made
 pub next_left : (o : Option ℕ) (u : ℕ) (b : Bool) → b ≡ nat_eq u 15 → (IsSome o → u < 15) → IfSome o (λ s. b ≡ false)
 next_left None u b e f = tt

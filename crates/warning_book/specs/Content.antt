@@ -1,4 +1,4 @@
--- What a content must have (TS 48.049, 8.2.3.2, and TS 23.041, 9.4.1.2).
+-- What a content must have (TS 48.049, 8.2.3, and TS 23.041, 9.4.1.2).
 use Rattle.std.specs.Prelude.{ℕ, Bool, ◌&&◌, not, List, nat_le, length}
 use Rattle.std.specs.List.{list_any}
 

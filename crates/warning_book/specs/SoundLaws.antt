@@ -3,7 +3,7 @@
 use Rattle.std.proofs.Common.{◌≡◌, ℕ, suc, ◌+◌, ◌<◌, ◌≤◌, Bool, true, false, ◌&&◌, ◌||◌, not, cond, List, [], ◌∷◌, ◌++◌, Some, None, map, nat_eq, nat_le, ltb, length, refl, sym, ap, ◌∙◌, arith, length-append}
 use Rattle.std.specs.Prelude.{bytes_eq}
 use Rattle.std.specs.List.{list_any, list_all, filter}
-use Rattle.std.proofs.lemmas.Bool.{and_parts, and_from, or_parts, or_from, not-true}
+use Rattle.std.proofs.lemmas.Bool.{and_parts, and_from, or_parts, or_from, not-false, not-true}
 use Rattle.std.proofs.lemmas.Bool.Decides.{nat_tests}
 use Rattle.std.proofs.lemmas.Grind.{common_steps}
 use Rattle.std.proofs.lemmas.List.{length-map, map-append}
@@ -12,6 +12,7 @@ use Rattle.std.proofs.lemmas.Slice.Eq.{bytes_eq-Decides}
 use Rattle.cbsp_ie.specs.OrderLaws.{all_same, all_filter, length_filter}
 use Rattle.serials.specs.Serials.{code_of, update_of}
 use Rattle.warning_book.specs.Book.{State, has_number, names, is_full, has_one_area, is_exhausted, is_so, as_version, versions, numbers, codes_of, new_serial, new_warning, updated, widened, narrowed, stopped, changed_if, edited, without, after_issue, after_update, after_widen, after_narrow, after_stop, after_forget}
+use Rattle.cbsp_ie.specs.CheckLaws.{none_holds}
 use Rattle.cbsp_ie.specs.Checks.{first_refusal}
 use Rattle.warning_book.specs.Checks.{is_empty, issue_checks, update_checks, widen_checks, narrow_checks}
 use Rattle.warning_book.specs.Content.{are_pages, is_period}
@@ -20,7 +21,6 @@ use Rattle.warning_book.specs.Once.{some_pair, has_twice, is_disordered}
 use Rattle.warning_book.specs.Sound.{was_issued, has_areas, is_good, has_contents, counts_updates, is_older, has_serials, key_of, is_same_key, IsSound}
 use Rattle.warning_book.specs.declared.content.Content.{Content}
 use Rattle.warning_book.specs.declared.notice.Notice.{Notice}
-use Rattle.warning_book.specs.declared.refusal.Refusal.{Refusal}
 use Rattle.warning_book.specs.declared.version.Version.{Version}
 use Rattle.warning_book.specs.declared.warning.Warning.{Warning}
 
@@ -348,20 +348,6 @@ sound-issue i l notice areas serial new s =
 
 -- an edit none of whose checks holds
 
--- each of the checks fails to hold
-abbrev pub NoneHolds : List (Bool × Refusal) → Type 0
-NoneHolds [] = Unit {0}
-NoneHolds (check ∷ checks) = (check.0 ≡ false) × NoneHolds checks
-
-pub none_holds : (checks : List (Bool × Refusal)) → first_refusal checks ≡ None → NoneHolds checks
-none_holds [] h = tt
-none_holds ((true, refusal) ∷ checks) h = cc
-none_holds ((false, refusal) ∷ checks) h = (refl, none_holds checks h)
-
-held : (b : Bool) → not b ≡ false → b ≡ true
-held true h = refl
-held false h = cc
-
 pub sound_after_issue : (st : State) (notice : Notice) (areas : List (List ℕ)) (serial : ℕ) → first_refusal (issue_checks st notice areas) ≡ None → new_serial st notice ≡ Some serial → IsSound st → IsSound (after_issue notice areas serial st)
 sound_after_issue st notice areas serial checked given sound =
     let none = none_holds (issue_checks st notice areas) checked in
@@ -371,8 +357,8 @@ sound_after_issue st notice areas serial checked given sound =
       some = none.0;
       once = none.1.0;
       few = few (length areas) none.1.1.1.1.1.0;
-      pages = held (are_pages notice.content.pages) none.1.1.0;
-      period = held (is_period notice.content.period) none.1.1.1.0;
+      pages = not-false (are_pages notice.content.pages) none.1.1.0;
+      period = not-false (is_period notice.content.period) none.1.1.1.0;
       room = room (length st.warnings) none.1.1.1.1.0;
       first = parts.0;
       free = parts.1;
@@ -388,7 +374,7 @@ sound_after_issue st notice areas serial checked given sound =
 pub sound_after_update : (st : State) (n : ℕ) (content : Content) → first_refusal (update_checks st n content) ≡ None → IsSound st → IsSound (after_update n content st)
 sound_after_update st n content checked sound =
     let none = none_holds (update_checks st n content) checked in
-    sound-updated n content st.issued st.warnings (held (are_pages content.pages) none.1.1.0) (held (is_period content.period) none.1.1.1.0) none.1.1.1.1.0 sound
+    sound-updated n content st.issued st.warnings (not-false (are_pages content.pages) none.1.1.0) (not-false (is_period content.period) none.1.1.1.0) none.1.1.1.1.0 sound
 
 pub sound_after_widen : (st : State) (n : ℕ) (a : List ℕ) → first_refusal (widen_checks st n a) ≡ None → IsSound st → IsSound (after_widen n a st)
 sound_after_widen st n a checked sound =

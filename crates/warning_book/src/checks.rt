@@ -10,12 +10,7 @@ use cbsp_ie::{Name, Octets};
 fn is_among(a: &Name, names: &[Name]) -> bool
     ensures { result ≡ list_any (bytes_eq a.now) names.now }
 {
-    for name in names {
-        if *a == *name {
-            return true;
-        }
-    }
-    false
+    names.iter().any(|name| *a == *name)
 }
 
 /// Whether a name stands in the list a second time.
@@ -40,12 +35,7 @@ fn is_page(page: &Octets) -> bool
 fn has_bad_page(pages: &[Octets]) -> bool
     ensures { result ≡ list_any (λ page. not (is_page page)) pages.now }
 {
-    for page in pages {
-        if !is_page(page) {
-            return true;
-        }
-    }
-    false
+    pages.iter().any(|page| !is_page(page))
 }
 
 /// Whether there are 1 to 15 pages, each of 1 to 82 octets.

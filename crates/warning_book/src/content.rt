@@ -5,7 +5,7 @@ ghost use Rattle.std.specs.Prelude.{◌≡◌, ◌↔◌, IsTrue, IfOk};
 use crate::content_pages::ContentPages;
 use std::alloc::{AllocError, Global};
 
-/// What a version of a warning broadcasts (TS 48.049, 8.2.3.13, 8.2.3.8, 8.2.3.9 and 8.2.3.2).
+/// What a version of a warning broadcasts (TS 48.049, 8.2.14, 8.2.7, 8.2.8 and 8.2.3).
 #[derive(Debug, PartialEq, Eq, Drop)]
 pub struct Content {
     /// The data coding scheme, as coded by TS 23.038.

@@ -16,12 +16,7 @@ use serials::Serial;
 pub(crate) fn is_there(warnings: &[Warning], n: WarningId) -> bool
     ensures { result ≡ list_any (has_number n) warnings.now }
 {
-    for warning in warnings {
-        if warning.number == n {
-            return true;
-        }
-    }
-    false
+    warnings.iter().any(|warning| warning.number == n)
 }
 
 /// Where the warning of that number stands; past the last where there is none.
@@ -40,84 +35,57 @@ pub(crate) fn place_of(warnings: &[Warning], n: WarningId) -> usize
 pub(crate) fn is_active(warnings: &[Warning], n: WarningId) -> bool
     ensures { result ≡ is_so n (λ w. w.active) warnings.now }
 {
-    for warning in warnings {
-        if warning.number == n && warning.active {
-            return true;
-        }
-    }
-    false
+    warnings
+        .iter()
+        .any(|warning| warning.number == n && warning.active)
 }
 
 /// Whether the warning is there and names the area.
 pub(crate) fn names(warnings: &[Warning], n: WarningId, a: &Name) -> bool
     ensures { result ≡ is_so n (names a.now) warnings.now }
 {
-    for warning in warnings {
-        if warning.number == n && warning.areas.has(a) {
-            return true;
-        }
-    }
-    false
+    warnings
+        .iter()
+        .any(|warning| warning.number == n && warning.areas.has(a))
 }
 
 /// Whether the warning is there and names as many areas as it may.
 pub(crate) fn is_full(warnings: &[Warning], n: WarningId) -> bool
     ensures { result ≡ is_so n is_full warnings.now }
 {
-    for warning in warnings {
-        if warning.number == n && warning.areas.len() >= 16 {
-            return true;
-        }
-    }
-    false
+    warnings
+        .iter()
+        .any(|warning| warning.number == n && warning.areas.len() >= 16)
 }
 
 /// Whether the warning is there and names no second area.
 pub(crate) fn has_one_area(warnings: &[Warning], n: WarningId) -> bool
     ensures { result ≡ is_so n has_one_area warnings.now }
 {
-    for warning in warnings {
-        if warning.number == n && warning.areas.len() <= 1 {
-            return true;
-        }
-    }
-    false
+    warnings
+        .iter()
+        .any(|warning| warning.number == n && warning.areas.len() <= 1)
 }
 
 /// The warning of that number.
 pub(crate) fn find(warnings: &[Warning], n: WarningId) -> Option<&Warning>
     ensures { option_copied result ≡ find (has_number n) warnings.now }
 {
-    for warning in warnings {
-        if warning.number == n {
-            return Some(warning);
-        }
-    }
-    None
+    warnings.iter().find(|warning| warning.number == n)
 }
 
 /// The serial number of the warning's current version.
 pub(crate) fn current(warnings: &[Warning], n: WarningId) -> Option<Serial>
     ensures { result ≡ option_map (λ w. w.serial) (find (has_number n) warnings.now) }
 {
-    for warning in warnings {
-        if warning.number == n {
-            return Some(warning.serial);
-        }
-    }
-    None
+    find(warnings, n).map(|warning| warning.serial)
 }
 
 /// The warning's message identifier.
 pub(crate) fn message_id(warnings: &[Warning], n: WarningId) -> Option<u16>
     ensures { result ≡ option_map (λ w. w.message_id) (find (has_number n) warnings.now) }
 {
-    for warning in warnings {
-        if warning.number == n {
-            return Some(warning.message_id);
-        }
-    }
-    None
+    find(warnings, n).map(|warning| warning.message_id)
 }
 
 /// The serial number of the warning's next version; `None` where it had its last update.
@@ -161,10 +129,5 @@ fn lent_of(warning: &Warning) -> LentVersions<'_>
 pub(crate) fn versions(warnings: &[Warning], n: WarningId) -> Option<LentVersions<'_>>
     ensures { option_map lent result ≡ option_map versions (find (has_number n) warnings.now) }
 {
-    for warning in warnings {
-        if warning.number == n {
-            return Some(lent_of(warning));
-        }
-    }
-    None
+    find(warnings, n).map(lent_of)
 }

@@ -18,12 +18,7 @@ use std::alloc::{AllocError, Global};
 pub(crate) fn names_area(warnings: &[Warning], a: &Name) -> bool
     ensures { result ≡ list_any (names a.now) warnings.now }
 {
-    for warning in warnings {
-        if warning.areas.has(a) {
-            return true;
-        }
-    }
-    false
+    warnings.iter().any(|warning| warning.areas.has(a))
 }
 
 /// The numbers of the warnings, in order.
@@ -93,12 +88,10 @@ pub(crate) fn codes_of(
 fn content_among(versions: &[Version], serial: Serial) -> Option<&Content>
     ensures { option_copied result ≡ option_map (λ v. v.content) (find (λ v. nat_eq v.serial serial) versions.now) }
 {
-    for version in versions {
-        if version.serial == serial {
-            return Some(&version.content);
-        }
-    }
-    None
+    versions
+        .iter()
+        .find(|version| version.serial == serial)
+        .map(|version| &version.content)
 }
 
 /// The content of the warning's version that has the serial number; none where the message identifier is another.

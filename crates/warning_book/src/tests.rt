@@ -241,6 +241,29 @@ fn the_first_cause_refuses_an_issue(rt: HostRuntime) -> Result<(), Fail> {
     Ok(())
 }
 
+/// So many pages of one octet.
+fn pages(alloc: Global, count: usize) -> Result<ContentPages, AllocError> {
+    let mut pages = Vec::new(alloc);
+    for _ in 0..count {
+        pages.push(Octets::from_vec(Vec::from_slice(alloc, &[0x41])?))?;
+    }
+    Ok(ContentPages::from_vec(pages))
+}
+
+#[test]
+fn a_content_has_fifteen_pages_at_most(rt: HostRuntime) -> Result<(), Fail> {
+    let alloc = rt.alloc();
+    let mut book = Book::new(alloc);
+    let coast = names(alloc, &[b"coast"])?;
+    let mut long = notice(alloc, 4370, Scope::Cell)?;
+    long.content.period = 1;
+    long.content.pages = pages(alloc, 16)?;
+    assert!(rt; book.issue(&long, coast.as_slice()) == Err(Refusal::BadPages));
+    long.content.pages = pages(alloc, 15)?;
+    assert!(rt; book.issue(&long, coast.as_slice()).is_ok());
+    Ok(())
+}
+
 #[test]
 fn the_first_cause_refuses_an_edit(rt: HostRuntime) -> Result<(), Fail> {
     let alloc = rt.alloc();

@@ -54,12 +54,7 @@ impl WarningAreas {
     pub(crate) fn has(&self, a: &Name) -> bool
         ensures { result ≡ list_any (λ b. bytes_eq b a.now) self.now }
     {
-        for name in self.names.as_slice() {
-            if *name == *a {
-                return true;
-            }
-        }
-        false
+        self.names.as_slice().iter().any(|name| *name == *a)
     }
 
     /// Puts an area last that is not among them.

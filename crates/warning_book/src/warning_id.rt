@@ -21,12 +21,14 @@ impl Model for WarningId {
 }
 
 impl WarningId {
+    /// The number as an operator gives it; no warning has 0.
     pub fn new(number: u32) -> WarningId
         ensures { result ≡ number }
     {
         WarningId { number }
     }
 
+    /// The number as an operator sees it.
     pub fn number(self) -> u32
         ensures { result ≡ self }
     {

@@ -3,7 +3,7 @@
 ghost use Rattle.std.specs.Prelude.{◌≡◌, ◌≤◌, length, reverse};
 ghost use Rattle.cbsp_ie.specs.Cell.{cell_eq};
 ghost use Rattle.centre_core.specs.Counted.{is_counted};
-ghost use Rattle.centre_core.specs.Numbers.{standing, standing_at, is_awaited, stands_on_air};
+ghost use Rattle.centre_core.specs.Numbers.{standing, standing_at, stands};
 ghost use Rattle.centre_core.specs.Past.{count_of};
 ghost use Rattle.centre_core.specs.Places.{added_cell, cells};
 
@@ -31,60 +31,30 @@ fn standing(journal: &[Entry], w: &Warning, c: Cell) -> Option<Standing>
     }
 }
 
-fn is_awaited(journal: &[Entry], w: &Warning, c: Cell) -> bool
-    ensures { result ≡ is_awaited (standing (reverse journal.now) w.now c) }
-{
-    matches!(standing(journal, w, c), Some(Standing::Awaited))
-}
-
-fn is_on_air(journal: &[Entry], w: &Warning, c: Cell) -> bool
-    ensures { result ≡ stands_on_air (standing (reverse journal.now) w.now c) }
-{
-    matches!(standing(journal, w, c), Some(Standing::OnAir))
-}
-
-/// Whether the event adds a cell to those that are awaited, after the entries before it.
-fn counts_awaited(journal: &[Entry], w: &Warning, before: &[Entry], event: &Event) -> bool
-    ensures { result ≡ is_counted cell_eq (λ c. is_awaited (standing (reverse journal.now) w.now c)) (added_cell event.now) (cells (reverse before.now)) }
+/// Whether the event adds a cell to those that stand so, after the entries before it.
+fn is_counted(
+    journal: &[Entry],
+    w: &Warning,
+    way: Standing,
+    before: &[Entry],
+    event: &Event,
+) -> bool
+    ensures { result ≡ is_counted cell_eq (λ c. stands way (standing (reverse journal.now) w.now c)) (added_cell event.now) (cells (reverse before.now)) }
 {
     match added_cell(event) {
-        Some(c) => !was_cell(before, c) && is_awaited(journal, w, c),
+        Some(c) => !was_cell(before, c) && standing(journal, w, c) == Some(way),
         None => false,
     }
 }
 
-/// How many cells are awaited, each once.
+/// How many cells stand so, each once.
 #[tactic(auto, using(crate::proofs::PastLemmas::past_more, crate::proofs::NamedLemmas::cell_counted))]
-pub(crate) fn awaited(journal: &[Entry], w: &Warning) -> u64
-    ensures { result ≡ count_of (λ c. is_awaited (standing (reverse journal.now) w.now c)) (cells (reverse journal.now)) }
+pub(crate) fn count_of(journal: &[Entry], w: &Warning, way: Standing) -> u64
+    ensures { result ≡ count_of (λ c. stands way (standing (reverse journal.now) w.now c)) (cells (reverse journal.now)) }
 {
     let mut count = 0;
     for (i, entry) in journal.iter().enumerate() {
-        if counts_awaited(journal, w, &journal[..i], &entry.event) {
-            count += 1;
-        }
-    }
-    count
-}
-
-/// Whether the event adds a cell to those on air, after the entries before it.
-fn counts_on_air(journal: &[Entry], w: &Warning, before: &[Entry], event: &Event) -> bool
-    ensures { result ≡ is_counted cell_eq (λ c. stands_on_air (standing (reverse journal.now) w.now c)) (added_cell event.now) (cells (reverse before.now)) }
-{
-    match added_cell(event) {
-        Some(c) => !was_cell(before, c) && is_on_air(journal, w, c),
-        None => false,
-    }
-}
-
-/// How many cells are on air, each once.
-#[tactic(auto, using(crate::proofs::PastLemmas::past_more, crate::proofs::NamedLemmas::cell_counted))]
-pub(crate) fn on_air(journal: &[Entry], w: &Warning) -> u64
-    ensures { result ≡ count_of (λ c. stands_on_air (standing (reverse journal.now) w.now c)) (cells (reverse journal.now)) }
-{
-    let mut count = 0;
-    for (i, entry) in journal.iter().enumerate() {
-        if counts_on_air(journal, w, &journal[..i], &entry.event) {
+        if is_counted(journal, w, way, &journal[..i], &entry.event) {
             count += 1;
         }
     }

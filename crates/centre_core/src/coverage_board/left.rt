@@ -31,12 +31,9 @@ fn is_unwanted(journal: &[Entry], w: &Warning, b: BscId, c: Cell, serial: Serial
 fn has_unwanted(journal: &[Entry], w: &Warning, b: BscId, c: Cell, versions: &[Version]) -> bool
     ensures { result ≡ list_any (λ v. is_unwanted (reverse journal.now) w.now b c v.serial) versions.now }
 {
-    for version in versions {
-        if is_unwanted(journal, w, b, c, version.serial) {
-            return true;
-        }
-    }
-    false
+    versions
+        .iter()
+        .any(|version| is_unwanted(journal, w, b, c, version.serial))
 }
 
 /// Whether a version of the warning is on air, or may be, in the cell at the BSC, and not wanted there.

@@ -3,9 +3,10 @@
 ghost use Rattle.std.specs.Prelude.{◌≡◌, ◌≤◌, length, reverse};
 ghost use Rattle.centre_core.specs.Numbers.{total};
 
-use crate::coverage_board::counting::{awaited, on_air};
+use crate::coverage_board::counting::count_of;
 use crate::coverage_board::left::left;
 use crate::coverage_board::numbers::Numbers;
+use crate::coverage_board::standing::Standing;
 use crate::entry::Entry;
 use warning_book::Warning;
 
@@ -15,8 +16,8 @@ pub(crate) fn total(journal: &[Entry], w: &Warning) -> Numbers
     ensures { result ≡ total (reverse journal.now) w.now }
 {
     Numbers {
-        awaited: awaited(journal, w),
-        on_air: on_air(journal, w),
+        awaited: count_of(journal, w, Standing::Awaited),
+        on_air: count_of(journal, w, Standing::OnAir),
         failed: 0,
         left: left(journal, w),
         broadcasts: 0,

@@ -44,10 +44,5 @@ pub(crate) fn covers(journal: &[Entry], a: &Name, c: Cell) -> bool
 pub(crate) fn is_covered(journal: &[Entry], names: &[Name], c: Cell) -> bool
     ensures { result ≡ is_covered (reverse journal.now) names.now c }
 {
-    for name in names {
-        if covers(journal, name, c) {
-            return true;
-        }
-    }
-    false
+    names.iter().any(|name| covers(journal, name, c))
 }

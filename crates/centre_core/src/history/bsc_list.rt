@@ -15,12 +15,7 @@ use std::alloc::{AllocError, Global};
 fn is_listed(b: BscId, bscs: &[BscId]) -> bool
     ensures { result ≡ list_any (nat_eq b) bscs.now }
 {
-    for other in bscs {
-        if b == *other {
-            return true;
-        }
-    }
-    false
+    bscs.iter().any(|other| b == *other)
 }
 
 /// Puts a BSC that is new before the others.

@@ -21,12 +21,7 @@ use serials::Serial;
 pub(crate) fn is_among(c: Cell, cells: &[Cell]) -> bool
     ensures { result ≡ is_among c cells.now }
 {
-    for d in cells {
-        if c == *d {
-            return true;
-        }
-    }
-    false
+    cells.iter().any(|d| c == *d)
 }
 
 /// What a reply says of a cell of its order: a COMPLETE says that it was done.

@@ -34,12 +34,9 @@ fn is_present(journal: &[Entry], w: &Warning, b: BscId, c: Cell, serial: Serial)
 fn has_present(journal: &[Entry], w: &Warning, b: BscId, c: Cell, versions: &[Version]) -> bool
     ensures { result ≡ list_any (λ v. is_present (reverse journal.now) w.now b c v.serial) versions.now }
 {
-    for version in versions {
-        if is_present(journal, w, b, c, version.serial) {
-            return true;
-        }
-    }
-    false
+    versions
+        .iter()
+        .any(|version| is_present(journal, w, b, c, version.serial))
 }
 
 /// Whether a version of the warning is on air, or may be, in the cell at the BSC.
@@ -53,24 +50,17 @@ fn is_reported_in(journal: &[Entry], w: &Warning, b: BscId, c: Cell) -> bool
 fn is_reported_at(journal: &[Entry], cells: &[Cell], w: &Warning, b: BscId) -> bool
     ensures { result ≡ list_any (is_reported_in (reverse journal.now) w.now b) cells.now }
 {
-    for cell in cells {
-        if is_reported_in(journal, w, b, *cell) {
-            return true;
-        }
-    }
-    false
+    cells
+        .iter()
+        .any(|cell| is_reported_in(journal, w, b, *cell))
 }
 
 /// Whether one is in one of the cells at one of the BSCs.
 fn is_reported_among(journal: &[Entry], bscs: &[BscId], cells: &[Cell], w: &Warning) -> bool
     ensures { result ≡ list_any (λ b. list_any (is_reported_in (reverse journal.now) w.now b) cells.now) bscs.now }
 {
-    for bsc in bscs {
-        if is_reported_at(journal, cells, w, *bsc) {
-            return true;
-        }
-    }
-    false
+    bscs.iter()
+        .any(|bsc| is_reported_at(journal, cells, w, *bsc))
 }
 
 /// Whether a version of the warning is on air anywhere, or may be.
@@ -96,12 +86,9 @@ fn names_serial(order: &Order, serial: Serial) -> bool
 fn names_one(order: &Order, versions: &[Version]) -> bool
     ensures { result ≡ list_any (λ v. names_serial order.now v.serial) versions.now }
 {
-    for version in versions {
-        if names_serial(order, version.serial) {
-            return true;
-        }
-    }
-    false
+    versions
+        .iter()
+        .any(|version| names_serial(order, version.serial))
 }
 
 /// Whether the order names a version of the warning.
@@ -126,12 +113,8 @@ fn flight_names(flight: Option<&Order>, w: &Warning) -> bool
 fn is_in_flight_among(journal: &[Entry], bscs: &[BscId], w: &Warning) -> bool
     ensures { result ≡ list_any (λ b. flight_names w.now (in_flight (reverse journal.now) b)) bscs.now }
 {
-    for bsc in bscs {
-        if flight_names(in_flight(journal, *bsc), w) {
-            return true;
-        }
-    }
-    false
+    bscs.iter()
+        .any(|bsc| flight_names(in_flight(journal, *bsc), w))
 }
 
 /// Whether an order in flight names a version of the warning.

@@ -1,8 +1,9 @@
 //! Events of links.
 
-ghost use Rattle.std.specs.Prelude.{◌≡◌, reverse};
+ghost use Rattle.std.specs.Prelude.{◌≡◌, reverse, Some, None, OnOk, IfErr};
+ghost use Rattle.cbsp_ie.specs.Checks.{first_refusal};
 ghost use Rattle.centre_core.specs.Kept.{IsRegisterOf};
-ghost use Rattle.centre_core.specs.Verdict.{link_up, link_down};
+ghost use Rattle.centre_core.specs.Verdict.{link_up, link_checks, link_down};
 
 use crate::answer::Answer;
 use crate::entry::Entry;
@@ -22,15 +23,16 @@ pub(crate) fn link_up(journal: &[Entry], register: &Register, b: BscId) -> Verdi
     Ok(Answer::Link(journal.len() as u64 + 1))
 }
 
-/// LinkDown: the link of this generation is lost.
-pub(crate) fn link_down(
+/// Whether the link of this generation is the latest of its BSC, and up.
+pub(crate) fn check_link(
     journal: &[Entry],
     register: &Register,
     b: BscId,
     generation: u64,
-) -> Verdict
+) -> Result<(), Refusal>
     requires { IsRegisterOf (reverse journal.now) register.now }
-    ensures { result ≡ link_down (reverse journal.now) b generation }
+    ensures free { OnOk result (first_refusal (link_checks (reverse journal.now) b generation) ≡ None) }
+    ensures refusal { IfErr result (λ e. first_refusal (link_checks (reverse journal.now) b generation) ≡ Some e) }
 {
     if !register.has_bsc(b) {
         return Err(Refusal::NoSuchBsc);
@@ -42,5 +44,19 @@ pub(crate) fn link_down(
     if !is_up(journal, b) {
         return Err(Refusal::LinkNotUp);
     }
+    Ok(())
+}
+
+/// LinkDown: the link of this generation is lost.
+pub(crate) fn link_down(
+    journal: &[Entry],
+    register: &Register,
+    b: BscId,
+    generation: u64,
+) -> Verdict
+    requires { IsRegisterOf (reverse journal.now) register.now }
+    ensures { result ≡ link_down (reverse journal.now) b generation }
+{
+    check_link(journal, register, b, generation)?;
     Ok(Answer::Done)
 }

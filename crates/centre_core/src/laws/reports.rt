@@ -3,13 +3,14 @@
 ghost use Rattle.std.specs.Prelude.{◌≡◌, reverse, map, IfOk};
 ghost use Rattle.std.specs.Option.{option_copied};
 ghost use Rattle.centre_core.specs.InFlight.{agrees, new_of, old_of, is_kill, matches, matches_flight, replies};
-ghost use Rattle.centre_core.specs.Kept.{IsRegisterOf};
+ghost use Rattle.centre_core.specs.Kept.{IsRegisterOf, Gives};
 ghost use Rattle.centre_core.specs.Verdict.{report, report_answer};
 
 use crate::answer::Answer;
 use crate::entry::Entry;
-use crate::history::{in_flight, is_up, last_link, outcome};
+use crate::history::{in_flight, outcome};
 use crate::laws::Verdict;
+use crate::laws::links::check_link;
 use crate::order_maker::{Order, OrderKind};
 use crate::refusal::Refusal;
 use crate::replies::Replies;
@@ -102,24 +103,15 @@ pub(crate) fn report(
     b: BscId,
     generation: u64,
     message: &Message,
-) -> Result<Verdict, AllocError>
+) -> Verdict
     requires { IsRegisterOf (reverse journal.now) register.now }
-    ensures { IfOk result (λ verdict. verdict ≡ report (reverse journal.now) b generation message.now) }
+    ensures { Gives (report (reverse journal.now) b generation message.now) result }
 {
-    if !register.has_bsc(b) {
-        return Ok(Err(Refusal::NoSuchBsc));
-    }
-    let last = last_link(journal, b);
-    if generation != last {
-        return Ok(Err(Refusal::StaleLink { now: last }));
-    }
-    if !is_up(journal, b) {
-        return Ok(Err(Refusal::LinkNotUp));
-    }
+    check_link(journal, register, b, generation)?;
     match in_flight(journal, b) {
         Some(order) if matches(message, order) => {
-            Ok(Ok(Answer::Replied(replies(alloc, message, order)?)))
+            Ok(Answer::Replied(replies(alloc, message, order)?))
         }
-        _ => Ok(Err(Refusal::NoOrder)),
+        _ => Err(Refusal::NoOrder),
     }
 }

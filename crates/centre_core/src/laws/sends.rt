@@ -1,33 +1,34 @@
 //! Sending of orders.
 
-ghost use Rattle.std.specs.Prelude.{◌≡◌, List, reverse, IfOk};
-ghost use Rattle.centre_core.specs.Kept.{IsRegisterOf};
+ghost use Rattle.std.specs.Prelude.{◌≡◌, List, reverse};
+ghost use Rattle.centre_core.specs.Kept.{IsRegisterOf, Gives};
 ghost use Rattle.centre_core.specs.Verdict.{send, send_answer};
 ghost use Rattle.centre_core.specs.Warnings.{book_of};
 ghost use Rattle.centre_core.specs.declared.entry.Entry.{Entry};
 
 use crate::answer::Answer;
 use crate::entry::Entry;
-use crate::history::{in_flight, is_up, last_link};
+use crate::history::in_flight;
 use crate::laws::Verdict;
+use crate::laws::links::check_link;
 use crate::order_maker::{Order, first, message_of, pending};
 use crate::refusal::Refusal;
 use cell_register::{BscId, Register};
-use std::alloc::{AllocError, Global};
+use std::alloc::Global;
 use warning_book::Book;
 
 /// What is answered where that is the first pending order.
-fn send_answer(alloc: Global, book: &Book, order: Option<Order>) -> Result<Verdict, AllocError>
-    ensures { IfOk result (λ verdict. (past : List Entry) → book.now ≡ book_of past → verdict ≡ send_answer past order) }
+fn send_answer(alloc: Global, book: &Book, order: Option<Order>) -> Verdict
+    ensures { (past : List Entry) → book.now ≡ book_of past → Gives (send_answer past order) result }
 {
     match order {
         Some(order) => {
             book.is_sound();
             let content = book.content_of(order.message_id, order.serial);
             let message = message_of(alloc, &order, content)?;
-            Ok(Ok(Answer::Sent { order, message }))
+            Ok(Answer::Sent { order, message })
         }
-        None => Ok(Err(Refusal::NothingPending)),
+        None => Err(Refusal::NothingPending),
     }
 }
 
@@ -39,23 +40,14 @@ pub(crate) fn send(
     book: &Book,
     b: BscId,
     generation: u64,
-) -> Result<Verdict, AllocError>
+) -> Verdict
     requires registered { IsRegisterOf (reverse journal.now) register.now }
     requires booked { book.now ≡ book_of (reverse journal.now) }
-    ensures { IfOk result (λ verdict. verdict ≡ send (reverse journal.now) b generation) }
+    ensures { Gives (send (reverse journal.now) b generation) result }
 {
-    if !register.has_bsc(b) {
-        return Ok(Err(Refusal::NoSuchBsc));
-    }
-    let last = last_link(journal, b);
-    if generation != last {
-        return Ok(Err(Refusal::StaleLink { now: last }));
-    }
-    if !is_up(journal, b) {
-        return Ok(Err(Refusal::LinkNotUp));
-    }
+    check_link(journal, register, b, generation)?;
     if in_flight(journal, b).is_some() {
-        return Ok(Err(Refusal::InFlight));
+        return Err(Refusal::InFlight);
     }
     let orders = pending(alloc, journal, book.as_slice(), b)?;
     let order = first(alloc, orders.as_slice())?;

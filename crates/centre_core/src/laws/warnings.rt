@@ -19,12 +19,7 @@ use warning_book::{Book, Content, Notice, WarningId};
 fn names_no_area(areas: &Areas, names: &[Name]) -> bool
     ensures { result ≡ list_any (λ a. not (has_area areas.now a)) names.now }
 {
-    for name in names {
-        if !areas.has_area(name) {
-            return true;
-        }
-    }
-    false
+    names.iter().any(|name| !areas.has_area(name))
 }
 
 /// Issue: puts a new warning into the book.

@@ -63,12 +63,10 @@ fn newest_on_air(
 ) -> Option<Serial>
     ensures { result ≡ option_map (λ v. v.serial) (find (is_replaceable (reverse journal.now) b w.now c) versions.now) }
 {
-    for version in versions {
-        if is_replaceable(journal, b, w, c, version) {
-            return Some(version.serial);
-        }
-    }
-    None
+    versions
+        .iter()
+        .find(|version| is_replaceable(journal, b, w, c, version))
+        .map(|version| version.serial)
 }
 
 /// The serial number of the version that the current one replaces.

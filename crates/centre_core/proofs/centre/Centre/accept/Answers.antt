@@ -1,6 +1,6 @@
 use Rattle.std.proofs.Common.{reverse}
 use Rattle.centre_core.proofs.CentreLemmas.{centre_stays, centre_with}
-use Rattle.centre_core.proofs.FitsLemmas.{verdict_fits}
+use Rattle.centre_core.proofs.FitsLemmas.{verdict_fits, verdict_carried}
 use Rattle.centre_core.proofs.centre.Centre.accept.Goals as goal
 
 pub invariant_of-self-in_err-entry : goal.invariant_of-self-in_err-entry
@@ -18,3 +18,7 @@ invariant_of-self-2 c =
 pub returns-clause-fits : goal.returns-clause-fits
 returns-clause-fits c =
     verdict_fits c.self.inside.limit (reverse c.self.inside.journal.items) c.args.event c.in_ok-answer.answer c.self.invariant.legal c.in_ok-answer.ensures.verdict
+
+pub returns-clause-carried : goal.returns-clause-carried
+returns-clause-carried c =
+    verdict_carried c.self.inside.limit (reverse c.self.inside.journal.items) c.args.event c.in_ok-answer.answer c.in_ok-answer.ensures.verdict
