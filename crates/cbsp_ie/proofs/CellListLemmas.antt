@@ -1,7 +1,7 @@
 -- The octets of a cell list, and the identifications that they are read as.
-use Rattle.std.proofs.Common.{◌≡◌, ℕ, zero, suc, ◌+◌, ◌*◌, ◌%◌, ◌<◌, ◌≤◌, List, [], ◌∷◌, ◌++◌, drop, length, slice_get, slice_index, Some, refl, sym, ◌∙◌, ap, subst, arith}
+use Rattle.std.proofs.Common.{◌≡◌, ℕ, zero, suc, ◌+◌, ◌*◌, ◌%◌, ◌<◌, ◌≤◌, List, [], ◌∷◌, ◌++◌, drop, length, slice_get, slice_index, Some, refl, sym, ◌∙◌, ap, arith}
 use Rattle.std.proofs.lemmas.List.{length-append, drop-drop, length-drop, take-append-drop}
-use Rattle.std.proofs.Math.Nat.{mul-le-mul_right, suc-mul}
+use Rattle.std.proofs.Math.Nat.{suc-mul}
 use Rattle.std.proofs.Math.Seq.{drop-append_seam}
 use Rattle.std.specs.List.{AllByRecursion, flat_map}
 use Rattle.cbsp_ie.specs.declared.cell_id.CellId.{CellId}
@@ -11,7 +11,7 @@ use Rattle.cbsp_ie.specs.declared.form.Form.TheVariants as form
 use Rattle.cbsp_ie.specs.CellId.{IsCellId, form_of, id_at, id_octets}
 use Rattle.cbsp_ie.specs.CellList.{IsCellList, ids_at}
 use Rattle.cbsp_ie.specs.Form.{form_with, size_of}
-use Rattle.cbsp_ie.specs.Identifications.{HasForm, Identifications}
+use Rattle.cbsp_ie.specs.Identifications.{HasForm}
 use Rattle.cbsp_ie.proofs.CellIdLemmas.{IsCellId-id_at, form_of-id_at, id_at-id_octets, id_octets-id_at, length-id_octets}
 use Rattle.cbsp_ie.proofs.NumberLemmas.{IsBytes, IsBytes-drop}
 
@@ -100,20 +100,6 @@ pub some_cells : (listed octets : List ℕ) (f : Form) (n : ℕ) → 1 ≤ lengt
 some_cells [] octets f n some parts announced has whole bytes = absurd (omega arith)
 some_cells (d ∷ rest) octets f n some parts announced has whole bytes =
     (announced, has, sym parts ∙ sym (flat_map-ids_at f n octets whole bytes))
-
--- a list of form All names every cell, once
-pub all_cells : (cells : Identifications) → cells.form ≡ form.All → HasForm cells.form cells.ids → record { form = form.All; ids = id.All ∷ [] } ≡ cells
-all_cells cells e has =
-    let P : Form → Type 0 = λ f. HasForm f cells.ids in
-    let ids : cells.ids ≡ id.All ∷ [] = subst P e has in
-    λ i. record { form = sym e i; ids = sym ids i }
-
--- the octets of an identification within the list
-pub place_fits : (n k size : ℕ) (octets : List ℕ) → k < n → n * size ≡ length octets → k * size + size ≤ length octets
-place_fits n k size octets lt whole =
-    let le : suc k * size ≤ n * size = mul-le-mul_right size (omega arith) in
-    let e = suc-mul k size in
-    omega arith
 
 pub ids_at-all : ids_at form.All 1 [] ≡ id.All ∷ []
 unfolding ids_at

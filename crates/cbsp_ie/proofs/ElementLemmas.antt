@@ -1,10 +1,10 @@
 -- Elements and their octets: one element stands at the front of octets, or they have one fault.
-use Rattle.std.proofs.Common.{◌≡◌, ℕ, suc, ◌+◌, ◌*◌, ◌/◌, ◌%◌, ◌<◌, ◌≤◌, inl, inr, List, [], ◌∷◌, ◌++◌, take, drop, length, slice_index, Bool, true, false, cond, Option, Some, None, Result, Ok, Err, IfOk, IfErr, refl, sym, ◌∙◌, ap, subst, arith, append-nil, eqb-true, ◌==◌}
+use Rattle.std.proofs.Common.{◌≡◌, ℕ, suc, ◌+◌, ◌*◌, ◌/◌, ◌%◌, ◌<◌, ◌≤◌, inl, inr, List, [], ◌∷◌, ◌++◌, take, drop, length, slice_index, Option, Some, None, Result, Ok, Err, IfOk, IfErr, refl, sym, ◌∙◌, ap, subst, arith, append-nil, eqb-true, ◌==◌}
 use Rattle.std.proofs.lemmas.List.{length-append, length-take-le, take-append-drop}
 use Rattle.std.proofs.Math.Nat.{mul-div_cancel}
 use Rattle.std.proofs.Math.Seq.{drop-append_seam, take-append_seam}
 use Rattle.std.specs.Int.{bytes_high_first}
-use Rattle.std.specs.List.{find, flat_map}
+use Rattle.std.specs.List.{flat_map}
 use Rattle.byteorder.specs.Endian.{big_number}
 use Rattle.byteorder.specs.Numbers.{big_number-reads_back}
 use Rattle.cbsp_ie.specs.declared.cell_id.CellId.{CellId}
@@ -28,6 +28,7 @@ use Rattle.cbsp_ie.specs.FailureList.{AreFailures, IsBadFailureList, entries_aft
 use Rattle.cbsp_ie.specs.Form.{form_with, size_of}
 use Rattle.cbsp_ie.specs.Identifications.{HasForm, Identifications}
 use Rattle.cbsp_ie.specs.Laws.{NoFault, OneFault, OneReading}
+use Rattle.cbsp_ie.specs.OrderLaws.{find_passes}
 use Rattle.cbsp_ie.proofs.CellListLemmas.{ids_at-all, ids_at-flat_map, length-flat_map-ids}
 use Rattle.cbsp_ie.proofs.CountListLemmas.{counts_at-AreCounts, length-AreCounts}
 use Rattle.cbsp_ie.proofs.FailureListLemmas.{entries_after-AreFailures, not_bad_list, one_bad_list}
@@ -55,14 +56,6 @@ id_of-code_of element_id.ChannelIndicator = refl
 id_of-code_of element_id.NumberOfPages = refl
 id_of-code_of element_id.BroadcastMessageType = refl
 id_of-code_of element_id.WarningPeriod = refl
-
-find_passes : {A : Type 0} (test : A → Bool) (xs : List A) (x : A) → find test xs ≡ Some x → test x ≡ true
-find_passes test [] x h = absurd cc
-find_passes test (y ∷ xs) x h = by (test y) refl h (λ k. find_passes test xs x k)
-  where
-    by : (b : Bool) → test y ≡ b → cond b (Some y) (find test xs) ≡ Some x → (find test xs ≡ Some x → test x ≡ true) → test x ≡ true
-    by true e k later = let same : y ≡ x = cc in ap test (sym same) ∙ e
-    by false e k later = later k
 
 pub code_of-id_of : (code : ℕ) (id : ElementId) → id_of code ≡ Some id → code_of id ≡ code
 code_of-id_of code id h = eqb-true (code_of id) code (find_passes (λ i. code_of i == code) element_ids id h)

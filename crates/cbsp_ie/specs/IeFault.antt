@@ -1,4 +1,5 @@
--- The faults of an information element, in the order in which they are looked for.
+-- The faults of an information element and their numbers. In which order they are looked for is said in
+-- Element, CellList, CountList and FailureList.
 use Rattle.std.specs.Prelude.{ℕ}
 use Rattle.cbsp_ie.specs.declared.ie_fault.IeFault.{IeFault}
 use Rattle.cbsp_ie.specs.declared.ie_fault.IeFault.TheVariants.{Cut, UnknownElement, BadDiscriminator, PartialEntry, LongPage}

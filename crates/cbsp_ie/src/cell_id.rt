@@ -24,6 +24,7 @@ pub enum CellId {
 }
 
 impl CellId {
+    /// The form that a list with this identification announces.
     pub fn form(&self) -> Form
         ensures { result ≡ form_of self.now }
     {

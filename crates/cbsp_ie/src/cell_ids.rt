@@ -77,6 +77,7 @@ impl CellIds {
         Ok(list)
     }
 
+    /// The form of the identifications, which the list has without any too.
     pub fn form(&self) -> Form
         ensures { result ≡ self.now.form }
     {

@@ -63,6 +63,7 @@ impl<'a> CellList<'a> {
         }
     }
 
+    /// The form that the discriminator announced. A list that was read from no octets has `LacCi`.
     pub fn form(&self) -> Form
         ensures value { result ≡ self.now.form }
         ensures has_form { HasForm self.now.form self.now.ids }

@@ -65,6 +65,7 @@ impl<'a> CountList<'a> {
         }
     }
 
+    /// The form that the discriminator announced. A list that was read from no octets has `LacCi`.
     pub fn form(&self) -> Form
         ensures value { result ≡ self.now.form }
         ensures has_form { AreCountsOf self.now.form self.now.entries }

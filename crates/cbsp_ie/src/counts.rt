@@ -48,6 +48,7 @@ impl Counts {
         Ok(Counts { form, entries })
     }
 
+    /// The form of the entries' identifications, which the list has without any too.
     pub fn form(&self) -> Form
         ensures { result ≡ self.now.form }
     {

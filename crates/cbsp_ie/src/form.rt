@@ -21,7 +21,8 @@ pub enum Form {
 }
 
 impl Form {
-    /// The form that the low four bits of a discriminator octet announce.
+    /// The form with this discriminator, 0 to 2 or 4 to 6, else `None`. The caller takes off the four
+    /// spare bits.
     pub fn from_discriminator(value: u8) -> Option<Form>
         ensures { result ≡ form_with value }
     {

@@ -5,10 +5,12 @@ ghost use Rattle.cbsp_ie.specs.IeFault.{fault_number};
 
 use thiserror::Error;
 
-/// The faults of an element, in the order in which they are looked for.
+/// The faults of an element, in the order of their numbers. They are looked for in this order: no
+/// octets, an unknown identifier, too few octets, a page that uses too many; in a list the
+/// discriminator before the entries, and a failure list entry by entry from the left.
 #[derive(Clone, Copy, PartialEq, Eq, Debug, Error)]
 pub enum IeFault {
-    /// There are fewer octets than the element needs.
+    /// There are no octets, or fewer than the element needs.
     #[error("an element is cut")]
     Cut,
     /// The octet names no element of this profile.

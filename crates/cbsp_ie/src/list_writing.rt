@@ -15,7 +15,9 @@ use crate::fail_entry::FailEntry;
 use crate::failures::Failures;
 use std::alloc::AllocError;
 
-/// Appends a Cell List. At an `Err` nothing is appended.
+/// Appends a Cell List: its identifier, two octets of length, the discriminator and the identifications
+/// (3GPP TS 48.049, 8.2.6). There may be at most 65,535 octets after the length, as `octets_len` counts
+/// them. At an `Err` nothing is appended.
 pub fn write_cells(out: &mut Vec<u8>, cells: &CellIds) -> Result<(), AllocError>
     requires { length (cells_octets cells.now) < 65536 }
     ensures ok { OnOk result (out.new.items ≡ out.old.items ++ element_octets (Element.CellList cells.now)) }
@@ -35,7 +37,10 @@ pub fn write_cells(out: &mut Vec<u8>, cells: &CellIds) -> Result<(), AllocError>
     }
 }
 
-/// Appends a Number of Broadcasts Completed List. At an `Err` nothing is appended.
+/// Appends a Number of Broadcasts Completed List: its identifier, two octets of length, the
+/// discriminator, and for each entry the identification, two octets of number and one of info (3GPP TS
+/// 48.049, 8.2.10). There may be at most 65,535 octets after the length, as `octets_len` counts them. At
+/// an `Err` nothing is appended.
 pub fn write_counts(out: &mut Vec<u8>, counts: &Counts) -> Result<(), AllocError>
     requires { length (counts_octets counts.now) < 65536 }
     ensures ok { OnOk result (out.new.items ≡ out.old.items ++ element_octets (Element.BroadcastsCompleted counts.now)) }
@@ -55,7 +60,9 @@ pub fn write_counts(out: &mut Vec<u8>, counts: &Counts) -> Result<(), AllocError
     }
 }
 
-/// Appends a Failure List. At an `Err` nothing is appended.
+/// Appends a Failure List: its identifier, two octets of length, and for each entry a discriminator, the
+/// identification and the cause (3GPP TS 48.049, 8.2.11). There may be at most 65,535 octets after the
+/// length, as `octets_len` counts them. At an `Err` nothing is appended.
 pub fn write_failures(out: &mut Vec<u8>, failures: &Failures) -> Result<(), AllocError>
     requires { length (failures_octets failures.now) < 65536 }
     ensures ok { OnOk result (out.new.items ≡ out.old.items ++ element_octets (Element.FailureList failures.now)) }

@@ -21,7 +21,7 @@ use crate::security_view::SecurityView;
 use byteorder::{BigEndian, ByteOrder};
 
 /// Reads the element at the front of the octets, and how many of them it takes. What follows it
-/// changes nothing. The faults are looked for in the order in which `IeFault` lists them.
+/// changes nothing. The faults are looked for in the order that `IeFault` tells.
 pub fn read_element(octets: &[u8]) -> Result<(Element<'_>, usize), IeFault>
     ensures within { IfOk result (λ r. r.1 ≤ length octets.now) }
     ensures found { IfOk result (λ r. IsElement (take r.1 octets.now) r.0) }

@@ -21,6 +21,7 @@ impl<'a> Model for SecurityView<'a> {
 }
 
 impl<'a> SecurityView<'a> {
+    /// The information in these octets, which are lent and not copied.
     pub fn new(octets: &'a [u8]) -> SecurityView<'a>
         requires { length octets.now ≡ 50 }
         ensures { result ≡ octets.entry.now }
@@ -28,6 +29,7 @@ impl<'a> SecurityView<'a> {
         SecurityView { octets }
     }
 
+    /// The octets as they stand; nothing is made out in them.
     pub fn octets(&self) -> &'a [u8]
         ensures value { result.now ≡ self.now }
         ensures length { length self.now ≡ 50 }

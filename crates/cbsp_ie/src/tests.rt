@@ -1,10 +1,15 @@
 //! What no clause says: the octets of the standard's layout, and that each call can succeed.
 
+ghost use Rattle.std.specs.Prelude.{IsTrue};
+ghost use Rattle.cbsp_ie.specs.Written.{FitsElement};
+
 use crate::{
     Cause, Cell, CellId, CellIds, Cells, CountEntry, Counts, Element, FailEntry, Failures, Form,
     IeFault, Name, Names, Octets, read_element, write_cells, write_counts, write_element,
     write_failures,
 };
+use std::alloc::Global;
+use std::process::Abort;
 use std::test::Fail;
 
 fn fault_of(octets: &[u8]) -> Option<IeFault> {
@@ -134,24 +139,81 @@ fn failure_lists_are_read_and_written(rt: HostRuntime) -> Result<(), Fail> {
 #[test]
 fn forms_name_cells(rt: HostRuntime) {
     let (own, other) = ([0x00, 0xf1, 0x10], [0x00, 0xf1, 0x20]);
-    let cell = Cell { lac: 100, ci: 7 };
-    let global = CellId::Global {
-        plmn: own,
-        lac: 100,
-        ci: 7,
-    };
-    assert!(rt; global.names(own, cell) && !global.names(other, cell));
-    // a cell identity names the cell in every location area
-    assert!(rt; CellId::Ci { ci: 7 }.names(own, cell));
-    assert!(rt; CellId::Ci { ci: 7 }.names(own, Cell { lac: 200, ci: 7 }));
-    assert!(rt; CellId::Lac { lac: 100 }.names(own, cell));
-    assert!(rt;
-        !CellId::Lai {
-            plmn: other,
-            lac: 100
-        }
-        .names(own, cell)
-    );
+    let (lac, ci) = (100, 7);
+    let global = CellId::Global { plmn: own, lac, ci };
+    let lai = CellId::Lai { plmn: own, lac };
+    // an identification, the network asked for, a cell by its codes, and whether it is named
+    for (id, plmn, lac, ci, is_named) in [
+        (global, own, 100, 7, true),
+        (global, other, 100, 7, false),
+        (global, own, 200, 7, false),
+        (global, own, 100, 8, false),
+        (CellId::LacCi { lac, ci }, own, 100, 7, true),
+        (CellId::LacCi { lac, ci }, other, 100, 7, true),
+        (CellId::LacCi { lac, ci }, own, 7, 100, false),
+        // a cell identity names the cell in every location area
+        (CellId::Ci { ci }, own, 100, 7, true),
+        (CellId::Ci { ci }, own, 200, 7, true),
+        (CellId::Ci { ci }, own, 7, 100, false),
+        (lai, own, 100, 7, true),
+        (lai, own, 100, 8, true),
+        (lai, own, 200, 7, false),
+        (lai, other, 100, 7, false),
+        (CellId::Lac { lac }, own, 100, 7, true),
+        (CellId::Lac { lac }, own, 7, 100, false),
+        (CellId::All, other, 0, 65535, true),
+    ] {
+        assert_eq!(rt;
+            id.names(plmn, Cell { lac, ci }),
+            is_named,
+            "{id:?} in the network {plmn:?} names the cell {lac} {ci}"
+        );
+    }
+}
+
+/// Whether two octets can say the length of the element, where it is a list.
+fn fits(element: &Element<'_>) -> bool
+    ensures { IsTrue result → FitsElement element.now }
+{
+    match element {
+        Element::CellList(cells) => cells.octets_len() < 65536,
+        Element::BroadcastsCompleted(counts) => counts.octets_len() < 65536,
+        Element::FailureList(failures) => failures.octets_len() < 65536,
+        _ => true,
+    }
+}
+
+/// Reads the element, and writes the same octets again.
+fn is_spelled(rt: &impl Abort, alloc: Global, octets: &[u8]) -> Result<(), Fail> {
+    let (element, size) = read_element(octets)?;
+    assert_eq!(rt; size, octets.len());
+    assert!(rt; fits(&element));
+    let mut out = Vec::new(alloc);
+    write_element(&mut out, &element)?;
+    assert_eq!(rt; out.as_slice(), octets);
+    Ok(())
+}
+
+/// One element of each kind that is lent but a page, and of each that no message has.
+fn lent_elements_are_spelled(rt: &impl Abort, alloc: Global) -> Result<(), Fail> {
+    let mut security = [0xa5; 51];
+    security[0] = 0x11;
+    for octets in [
+        &[0x04, 0x00, 0x05, 0x01, 0x00, 0x64, 0x00, 0x07][..],
+        &[
+            0x08, 0x00, 0x08, 0x01, 0x00, 0x64, 0x00, 0x07, 0x00, 0x0c, 0x01,
+        ],
+        &[
+            0x09, 0x00, 0x0a, 0x01, 0x00, 0x64, 0x00, 0x07, 0x06, 0x02, 0x00, 0x08, 0x03,
+        ],
+        &[0x0f, 0x01],
+        &[0x10, 0x05, 0x80],
+        &security,
+        &[0x17, 0x14],
+    ] {
+        is_spelled(rt, alloc, octets)?;
+    }
+    Ok(())
 }
 
 // Each call that can answer that memory is short, with ample memory.
@@ -197,5 +259,5 @@ fn every_call_answers(rt: HostRuntime) -> Result<(), Fail> {
     assert!(rt; every.octets_len() < 65536);
     write_cells(&mut out, &every)?;
     assert_eq!(rt; out.len(), 3 + 8 + 7 + 5 + 4);
-    Ok(())
+    lent_elements_are_spelled(&rt, alloc)
 }

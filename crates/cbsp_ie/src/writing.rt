@@ -10,7 +10,8 @@ use crate::element_id::ElementId;
 use crate::lent_writing::{write_cell_list, write_count_list, write_failure_list};
 use std::alloc::AllocError;
 
-/// Appends the element. At an `Err` nothing is appended.
+/// Appends the element: the octet of its identifier and its value, with spare bits as 0 (3GPP TS 48.049,
+/// 8.2). A list may have at most 65,535 octets after its length. At an `Err` nothing is appended.
 pub fn write_element(out: &mut Vec<u8>, element: &Element<'_>) -> Result<(), AllocError>
     requires { FitsElement element.now }
     ensures ok { OnOk result (out.new.items ≡ out.old.items ++ element_octets element.now) }

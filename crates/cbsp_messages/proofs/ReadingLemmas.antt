@@ -9,6 +9,7 @@ use Rattle.cbsp_ie.specs.declared.element_id.ElementId.{ElementId}
 use Rattle.cbsp_ie.specs.declared.element_id.ElementId.TheVariants as id
 use Rattle.cbsp_ie.specs.declared.ie_fault.IeFault.{IeFault}
 use Rattle.cbsp_ie.specs.Element.{IsElement, IsElementFault, element_id_of}
+use Rattle.cbsp_ie.specs.OrderLaws.{find_passes}
 use Rattle.cbsp_messages.specs.declared.fault.MessageFault.{MessageFault}
 use Rattle.cbsp_messages.specs.declared.fault.MessageFault.TheVariants as fault
 use Rattle.cbsp_messages.specs.declared.message.Message.{Message}
@@ -147,16 +148,8 @@ HasDemanded-taken parts t none = all_there parts (demanded_of t) none
 
 -- ---- what read answers
 
-found_passes : {X : Type 0} (test : X → Bool) (xs : List X) (x : X) → find test xs ≡ Some x → test x ≡ true
-found_passes test [] x e = absurd cc
-found_passes test (y ∷ ys) x e =
-    elim (test y) as (λ b. test y ≡ b → cond b (Some y) (find test ys) ≡ Some x → test x ≡ true) [
-      | true ↦ λ passes h. ap test (let eq : y ≡ x = cc in sym eq) ∙ passes
-      | false ↦ λ fails h. found_passes test ys x h
-    ] refl e
-
 pub code_of-type_with : (kind : ℕ) (t : MessageType) → type_with kind ≡ Some t → kind ≡ code_of t
-code_of-type_with kind t e = sym (eqb-true _ _ (found_passes (λ t. code_of t == kind) message_types t e))
+code_of-type_with kind t e = sym (eqb-true _ _ (find_passes (λ t. code_of t == kind) message_types t e))
 
 pub Spells-result : (body : List ℕ) (parts : Parts) (t : MessageType) (kind : ℕ) (r : Result Message MessageFault) → Takes body [] parts → type_with kind ≡ Some t
     → IfOk r (λ m. type_of m ≡ t) → IfOk r (Says (values_at parts)) → IfOk r (Spells kind body)

@@ -1,4 +1,4 @@
--- The types of messages, and the elements of each (TS 48.049, 8.2.1 and 8.1.3).
+-- The types of messages, and the elements of each (TS 48.049, 8.2.2 and 8.1.3).
 use Rattle.std.specs.Prelude.{ℕ, ◌==◌, ◌&&◌, Bool, true, false, List, [], ◌∷◌, ◌++◌, length, Option}
 use Rattle.std.specs.List.{count_by, find, list_all, list_any}
 use Rattle.cbsp_ie.specs.declared.element_id.ElementId.{ElementId}

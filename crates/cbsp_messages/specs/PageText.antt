@@ -1,4 +1,4 @@
--- A page of a broadcast message (TS 48.049, 8.2.2).
+-- A page of a broadcast message (TS 48.049, 8.2.3).
 use Rattle.std.specs.Prelude.{◌≡◌, ℕ, nat_eq, ◌-◌, ◌&&◌, Bool, List, ◌++◌, length, replicate}
 use Rattle.std.specs.Bool.{Decides}
 use Rattle.std.specs.Cmp.{unsigned_Decides, first_so, second_so}

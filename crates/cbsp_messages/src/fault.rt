@@ -7,8 +7,9 @@ use cbsp_ie::{ElementId, IeFault};
 use std::alloc::AllocError;
 use thiserror::Error;
 
-/// The faults of a body in the order in which they are looked for, but that `NotInProfile` comes before
-/// all others.
+/// The faults of a body, in the order of their numbers. They are looked for in this order: that the type
+/// isn't in the profile; from the left, and in one step for each element, that it has a fault or else that
+/// it stands a second time; that a demanded element is missing, the first of the type's table; the pages.
 #[derive(Clone, Copy, Debug, PartialEq, Eq, Error)]
 pub enum MessageFault {
     /// An element has a fault.

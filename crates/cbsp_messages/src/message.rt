@@ -13,9 +13,13 @@ use std::alloc::{AllocError, Global};
 /// `message_id` is the Message Identifier. `serial` is the New Serial Number where a type has one, else
 /// the Old Serial Number, which then names the message that is meant. `old` is the Old Serial Number
 /// beside a new one. `channel` is the Channel Indicator, `counts` the Number of Broadcasts Completed
-/// List, `requested` the Number of Broadcasts Requested, `dcs` the Data Coding Scheme, `kind` the
-/// Broadcast Message Type and `recovery` the Recovery Indication, each without its spare bits. An
-/// element that a type may lack is an `Option`. The Number of Pages is the number of the pages.
+/// List, `period` the Repetition Period in units of 1.883 s, `requested` the Number of Broadcasts
+/// Requested, where 0 means until the message is killed, `dcs` the Data Coding Scheme, `kind` the
+/// Broadcast Message Type and `recovery` the Recovery Indication. An element that a type may lack is an
+/// `Option`. The Number of Pages is the number of the pages.
+///
+/// Of `category`, `channel`, `kind`, `recovery` and the info of each of `counts` the low four bits alone
+/// are read and written, so a message that was read has no others.
 #[derive(Debug, Drop, PartialEq, Eq)]
 pub enum Message {
     /// Writes a message, or replaces the older one that `old` names.
@@ -118,6 +122,7 @@ pub enum Message {
 }
 
 impl Message {
+    /// The type by whose table the message is read and written.
     pub fn message_type(&self) -> MessageType
         ensures { result ≡ type_of self.now }
     {

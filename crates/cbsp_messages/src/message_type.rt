@@ -5,7 +5,7 @@ ghost use Rattle.cbsp_messages.specs.MessageType.{code_of, type_with, is_report,
 
 use cbsp_ie::ElementId;
 
-/// The types of messages that this centre speaks (TS 48.049, 8.2.1). It skips every other type.
+/// The types of messages that this centre speaks (TS 48.049, 8.2.2). It skips every other type.
 #[derive(Clone, Copy, Debug, PartialEq, Eq)]
 pub enum MessageType {
     WriteReplace,

@@ -34,12 +34,14 @@ impl Pages {
         }
     }
 
+    /// The pages of the vector, which is moved. Any number of them is taken.
     pub fn from_vec(pages: Vec<Page>) -> Pages
         ensures { result ≡ pages.items }
     {
         Pages { pages }
     }
 
+    /// The pages as a vector, which is moved and not copied.
     pub fn into_vec(self) -> Vec<Page>
         ensures { result.items ≡ self }
     {
@@ -47,6 +49,7 @@ impl Pages {
         pages
     }
 
+    /// The pages in the order in which they are read and written.
     pub fn as_slice(&self) -> &[Page]
         ensures { result.now ≡ self.now }
     {
@@ -62,6 +65,7 @@ impl Pages {
         Ok(())
     }
 
+    /// How many there are. A message with none, or with more than 15, isn't written.
     pub fn len(&self) -> usize
         ensures { result ≡ length self.now }
     {

@@ -14,6 +14,7 @@ use crate::pages::Pages;
 use cbsp_ie::{CellIds, Counts, Failures};
 
 impl<'m> MessageParts<'m> {
+    /// Does nothing but read the numbers, so that what their types say of them is known.
     pub fn ranges(&self)
         ensures { AreInRange (parts_lent self.now) }
     {

@@ -55,6 +55,14 @@ fn counted(alloc: Global, entries: &[(u16, u16, u8)]) -> Result<Counts, AllocErr
     Ok(counts)
 }
 
+fn cell_identities(alloc: Global, count: u16) -> Result<CellIds, AllocError> {
+    let mut cells = CellIds::new(alloc, Form::Ci);
+    for ci in 0..count {
+        cells.push(CellId::Ci { ci })?;
+    }
+    Ok(cells)
+}
+
 /// The body of a WRITE-REPLACE of one page of four octets.
 fn write_replace_body(alloc: Global) -> Result<Vec<u8>, AllocError> {
     let mut body = Vec::from_slice(alloc, &WRITE_REPLACE)?;
@@ -85,6 +93,7 @@ fn is_spelled(rt: &impl Abort, alloc: Global, frame: &[u8], message: &Message) -
     assert!(rt; frame.len() >= 4);
     let read = read(alloc, frame[0], &frame[4..])?;
     assert!(rt; read.same(message), "{read:?} is not {message:?}");
+    assert!(rt; message.copied(alloc)?.same(message));
     assert!(rt; message.fits());
     assert_eq!(rt; write(alloc, message)?.as_slice(), frame);
     Ok(())
@@ -320,6 +329,31 @@ fn faults_of_pages_are_named(rt: HostRuntime) -> Result<(), Fail> {
     body.truncate(111);
     let cut = MessageFault::Element(IeFault::Cut);
     assert_eq!(rt; fault_of(alloc, 1, &body), Some(cut));
+    // 16 pages, and a Number of Pages that says so
+    let mut body = write_replace_body(alloc)?;
+    assert!(rt; body.len() == 112);
+    body[25] = 16;
+    for _ in 1..16 {
+        body.extend_from_slice(&[0x01])?;
+        body.extend_from_slice(&[0; 83])?;
+    }
+    assert_eq!(rt; fault_of(alloc, 1, &body), Some(MessageFault::BadPages));
+    Ok(())
+}
+
+#[test]
+fn a_list_fits_up_to_65535_octets(rt: HostRuntime) -> Result<(), Fail> {
+    let alloc = rt.alloc();
+    // a discriminator, and two octets for each cell identity
+    for (count, fits) in [(32_767, true), (32_768, false)] {
+        let message = Message::Kill {
+            message_id: 4370,
+            serial: 0xc000,
+            cells: cell_identities(alloc, count)?,
+            channel: Some(0),
+        };
+        assert_eq!(rt; message.fits(), fits, "{count} cell identities");
+    }
     Ok(())
 }
 

@@ -1,8 +1,8 @@
 //! Writing a message.
 
-ghost use Rattle.std.specs.Prelude.{◌≡◌, ◌≤◌, ◌<◌, ◌++◌, IfOk, IfSome, OnOk, length, drop, map};
+ghost use Rattle.std.specs.Prelude.{◌≡◌, ◌≤◌, ◌<◌, ◌++◌, IfOk, IfSome, OnOk, length, drop, map, option_to_list};
 ghost use Rattle.std.specs.List.{AllByRecursion, flat_map};
-ghost use Rattle.cbsp_ie.specs.Written.{cells_octets, counts_octets, element_octets, failures_octets};
+ghost use Rattle.cbsp_ie.specs.Written.{FitsElement, cells_octets, counts_octets, element_octets, failures_octets};
 ghost use Rattle.cbsp_messages.specs.Lent.{PartsFit, parts_lent};
 ghost use Rattle.cbsp_messages.specs.Message.{type_of};
 ghost use Rattle.cbsp_messages.specs.MessageType.{code_of};
@@ -73,30 +73,27 @@ fn write_part(out: &mut Vec<u8>, parts: &MessageParts<'_>, id: ElementId) -> Res
             None => Ok(()),
             Some(pages) => write_pages(out, pages.as_slice()),
         },
-        ElementId::OldSerialNumber => match parts.old_serial {
-            None => Ok(()),
-            Some(value) => write_element(out, &Element::OldSerialNumber(value)),
-        },
-        ElementId::NewSerialNumber => match parts.new_serial {
-            None => Ok(()),
-            Some(value) => write_element(out, &Element::NewSerialNumber(value)),
-        },
+        ElementId::OldSerialNumber => write_if_there(
+            out,
+            parts.old_serial.map(|n| Element::OldSerialNumber(n)),
+        ),
+        ElementId::NewSerialNumber => write_if_there(
+            out,
+            parts.new_serial.map(|n| Element::NewSerialNumber(n)),
+        ),
         ElementId::CellList => match parts.cells {
             None => Ok(()),
             Some(cells) => write_cells(out, cells),
         },
-        ElementId::Category => match parts.category {
-            None => Ok(()),
-            Some(value) => write_element(out, &Element::Category(value)),
-        },
-        ElementId::RepetitionPeriod => match parts.period {
-            None => Ok(()),
-            Some(value) => write_element(out, &Element::RepetitionPeriod(value)),
-        },
-        ElementId::BroadcastsRequested => match parts.requested {
-            None => Ok(()),
-            Some(value) => write_element(out, &Element::BroadcastsRequested(value)),
-        },
+        ElementId::Category => write_if_there(out, parts.category.map(|n| Element::Category(n))),
+        ElementId::RepetitionPeriod => write_if_there(
+            out,
+            parts.period.map(|n| Element::RepetitionPeriod(n)),
+        ),
+        ElementId::BroadcastsRequested => write_if_there(
+            out,
+            parts.requested.map(|n| Element::BroadcastsRequested(n)),
+        ),
         ElementId::BroadcastsCompleted => match parts.counts {
             None => Ok(()),
             Some(counts) => write_counts(out, counts),
@@ -105,38 +102,46 @@ fn write_part(out: &mut Vec<u8>, parts: &MessageParts<'_>, id: ElementId) -> Res
             None => Ok(()),
             Some(failures) => write_failures(out, failures),
         },
-        ElementId::Cause => match parts.cause {
-            None => Ok(()),
-            Some(value) => write_element(out, &Element::Cause(value)),
-        },
-        ElementId::DataCodingScheme => match parts.dcs {
-            None => Ok(()),
-            Some(value) => write_element(out, &Element::DataCodingScheme(value)),
-        },
-        ElementId::RecoveryIndication => match parts.recovery {
-            None => Ok(()),
-            Some(value) => write_element(out, &Element::RecoveryIndication(value)),
-        },
-        ElementId::MessageIdentifier => match parts.message_id {
-            None => Ok(()),
-            Some(value) => write_element(out, &Element::MessageIdentifier(value)),
-        },
-        ElementId::ChannelIndicator => match parts.channel {
-            None => Ok(()),
-            Some(value) => write_element(out, &Element::ChannelIndicator(value)),
-        },
-        ElementId::NumberOfPages => match parts.page_count {
-            None => Ok(()),
-            Some(count) => write_element(out, &Element::NumberOfPages(count as u8)),
-        },
-        ElementId::BroadcastMessageType => match parts.kind {
-            None => Ok(()),
-            Some(value) => write_element(out, &Element::BroadcastMessageType(value)),
-        },
+        ElementId::Cause => write_if_there(out, parts.cause.map(|cause| Element::Cause(cause))),
+        ElementId::DataCodingScheme => write_if_there(
+            out,
+            parts.dcs.map(|n| Element::DataCodingScheme(n)),
+        ),
+        ElementId::RecoveryIndication => write_if_there(
+            out,
+            parts.recovery.map(|n| Element::RecoveryIndication(n)),
+        ),
+        ElementId::MessageIdentifier => write_if_there(
+            out,
+            parts.message_id.map(|n| Element::MessageIdentifier(n)),
+        ),
+        ElementId::ChannelIndicator => write_if_there(
+            out,
+            parts.channel.map(|n| Element::ChannelIndicator(n)),
+        ),
+        ElementId::NumberOfPages => write_if_there(
+            out,
+            parts.page_count.map(|n| Element::NumberOfPages(n as u8)),
+        ),
+        ElementId::BroadcastMessageType => write_if_there(
+            out,
+            parts.kind.map(|n| Element::BroadcastMessageType(n)),
+        ),
         ElementId::EmergencyIndicator
         | ElementId::WarningType
         | ElementId::WarningSecurity
         | ElementId::WarningPeriod => Ok(()),
+    }
+}
+
+/// Appends the element, if there is one.
+fn write_if_there(out: &mut Vec<u8>, element: Option<Element<'_>>) -> Result<(), AllocError>
+    requires { IfSome element FitsElement }
+    ensures { OnOk result (out.new.items ≡ out.old.items ++ flat_map element_octets (option_to_list element.entry)) }
+{
+    match element {
+        None => Ok(()),
+        Some(element) => write_element(out, &element),
     }
 }
 

@@ -1,6 +1,7 @@
-//! Reads frames that another implementation's encoder made, and says of each whether it is read as the values
-//! that this encoder was given, and written as the same octets again. Each is also damaged: cut at every octet, each
-//! of its elements repeated, each unknown identifier and discriminator put in; the fault has to be the damage's.
+//! Reads frames that another implementation's encoder made, and some that are made by hand, and says of each whether
+//! it is read as the values that stand beside it, and written as the same octets again or as those beside it. Each is
+//! also damaged: cut at every octet, each of its elements repeated, each unknown identifier and discriminator put in;
+//! the fault has to be the damage's.
 //!
 //! The file's name is the argument; `data/frames.txt` says how it is laid out.
 #![tactic(auto)]

@@ -1,5 +1,5 @@
 -- What the command line asks for, and the command lines that run no script.
-use Rattle.std.proofs.Common.{◌≡◌, ◌∙◌, ◌≤◌, inl, inr, subst, ℕ, Bool, true, false, List, [], Option, Some, None, Result, codes, refl, sym, ap, arith, option_map, cond}
+use Rattle.std.proofs.Common.{◌≡◌, ◌⊎◌, ◌∙◌, ◌≤◌, inl, inr, subst, ℕ, Bool, true, false, List, [], Option, Some, None, Result, codes, refl, sym, ap, arith, option_map, cond}
 use Rattle.std.specs.Prelude.{bytes_eq, option_and_then, Box}
 use Rattle.std.specs.Borrow.{Bor}
 use Rattle.std.specs.Box.{box_value}
@@ -10,13 +10,14 @@ use Rattle.clap.specs.ValueTests.{accepts}
 use Rattle.clap.proofs.ValueTestLemmas.{Accepts-accepts, accepts-Accepts}
 use Rattle.clap.proofs.OnLiterals.{clap_on_literals}
 use Rattle.clap.proofs.WalkLemmas.{first_value-rows, one_text-rows}
-use Rattle.clap.specs.Words.{App, HasKind, HasMatchesOf, Kinds, ReadsOne, Row, Text, fault_of, first_value, found_of, is_simple, is_simple_and_free, kind_of, one_text, rows_of, subcommand_name_of, subcommand_of, subcommand_rows, subcommand_rows_of, takes}
+use Rattle.clap.specs.Words.{App, HasKind, HasMatchesOf, IsAmong, Kinds, ReadsOne, Row, Text, fault_of, first_value, found_of, is_simple, is_simple_and_free, kind_of, one_text, rows_of, subcommand_name_of, subcommand_of, subcommand_rows, subcommand_rows_of, takes}
 use Rattle.clap.specs.declared.error.Error.{Error}
+use Rattle.clap.specs.declared.error.kind.ErrorKind.TheVariants as kind
 use Rattle.clap.specs.declared.error.kind.ErrorKind.TheVariants.{OutOfMemory}
 use Rattle.clap.specs.declared.parser.matches.ArgMatches.{ArgMatches}
 use Rattle.clap.specs.declared.parser.matches.ArgMatches.TheViews.{out-ArgMatches, out-SubCommand}
 use Rattle.clap.specs.declared.parser.matches.SubCommand.{SubCommand}
-use Rattle.console.specs.CommandLine.{command_line, entry_numbers, limit_in, limit_of, most_entries, network_in, network_of, replay_rows, AreTaken, HasNoFault, Refuses}
+use Rattle.console.specs.CommandLine.{command_line, entry_numbers, limit_in, limit_of, most_entries, network_in, network_of, replay_rows, AreTaken, AsksHelp, ComesTo, HasNoFault, Refuses}
 use Rattle.console.specs.declared.no_run.NoRun.{NoRun}
 use Rattle.console.specs.declared.no_run.NoRun.TheVariants.{Help, Refused, BadPlmn, Memory}
 
@@ -28,12 +29,29 @@ is_plain_and_free : is_simple_and_free command_line ≡ true
 unfolding clap_on_literals
 is_plain_and_free = refl
 
--- a command line that is taken is refused for want of memory alone
-pub refuses_untaken : (words : List Text) (e : NoRun) → (AreTaken words → e ≡ Memory) → (e ≡ BadPlmn → ⊥) → Refuses words e
-refuses_untaken words (Help text) h other = λ taken. cc (h taken)
-refuses_untaken words (Refused text) h other = λ taken. cc (h taken)
-refuses_untaken words BadPlmn h other = absurd (other refl)
-refuses_untaken words Memory h other = tt
+module _ (words : List Text) (e : Error) (taken : AreTaken words → kind_of e ≡ OutOfMemory) (kinds : HasKind (fault_of command_line words) e) where
+  -- an error that isn't for want of memory has one of the kinds that clap's rules give
+  among : (r : NoRun) → (kind_of e ≡ OutOfMemory → r ≡ Memory) → (r ≡ Memory → ⊥) → IsAmong (kind_of e) (fault_of command_line words)
+  among r memory other = elim kinds [ inl starved ↦ absurd (other (memory starved)) | inr found ↦ found ]
+
+  asks_help : IsAmong (kind_of e) (fault_of command_line words) → (kind_of e ≡ kind.DisplayHelp) ⊎ (kind_of e ≡ kind.DisplayVersion) → AsksHelp words
+  asks_help found (inl help) = inl (subst (λ k. IsAmong k (fault_of command_line words)) help found)
+  asks_help found (inr version) = inr (subst (λ k. IsAmong k (fault_of command_line words)) version found)
+
+  -- a command line that is taken is refused for want of memory alone, and another for a fault of its words
+  pub refuses_so : (r : NoRun) → (kind_of e ≡ OutOfMemory → r ≡ Memory) → ComesTo (kind_of e) r → Refuses words r
+  refuses_so (Help text) memory comes =
+      ((λ t. cc (memory (taken t))), asks_help (among (Help text) memory (λ same. cc same)) comes)
+  refuses_so (Refused text) memory comes =
+      ((λ t. cc (memory (taken t))), (kind_of e, among (Refused text) memory (λ same. cc same), comes.0, comes.1))
+  refuses_so BadPlmn memory comes = absurd comes
+  refuses_so Memory memory comes = tt
+
+-- the kinds that clap's rules give for the command line
+pub kinds_of_line : (a : App) (words : List Text) (e : Error) → a ≡ command_line → (is_simple_and_free a ≡ true → HasKind (fault_of a words) e)
+    → HasKind (fault_of command_line words) e
+kinds_of_line a words e same kinds =
+    subst (λ (ks : Kinds). HasKind ks e) (ap (λ (x : App). fault_of x words) same) (kinds (ap is_simple_and_free same ∙ is_plain_and_free))
 
 pub taken_wants_memory : (a : App) (words : List Text) (e : Error) → a ≡ command_line → (takes a words ≡ true → kind_of e ≡ OutOfMemory)
     → (is_simple_and_free a ≡ true → HasKind (fault_of a words) e) → AreTaken words → kind_of e ≡ OutOfMemory

@@ -2,12 +2,12 @@
 use Rattle.std.proofs.Common.{◌≡◌, ◌⊎◌, inl, inr, ℕ, ◌+◌, true, false, Option, Some, None, List, [], ◌∷◌, ◌++◌, refl, sym, ap, ◌∙◌, subst, append_assoc, append-nil, take, arith}
 use Rattle.std.specs.Bool.{MatchBool}
 use Rattle.std.proofs.KnownBytes.{Appends-trans, Consumes-nil, Consumes-trans}
-use Rattle.std.specs.Io.KnownBytes.{Appends, IsAtEnd}
+use Rattle.std.specs.Io.KnownBytes.{Appends, Consumes, IsAtEnd}
 use Rattle.framing.specs.Source.{counted}
 use Rattle.centre_core.specs.declared.refusal.Refusal.TheVariants as refusal
-use Rattle.console.specs.Consoles.{ConsoleState, EndsLine, BreaksInLine, BreaksLine, Stops, Reads, ReadsAndStops, Behind, IsWritten}
+use Rattle.console.specs.Consoles.{ConsoleState, EndsLine, BreaksInLine, BreaksLine, Stops, Reads, ReadsAndStops, IsWritten}
 use Rattle.console.specs.Grammar.{line_of}
-use Rattle.console.specs.Replays.{MeetsWant, Replays, BreaksOff}
+use Rattle.console.specs.Replays.{IsLeft, MeetsWant, Replays, BreaksOff}
 use Rattle.console.specs.Sessions.{SessionState, Says, Responds, RespondsOrStarves, IsStarved, Starves, is_comment, AnswersLine, AnswersWords, AnswersOrStarves}
 use Rattle.console.specs.Text.{lines_from, lines_of, without_return, IsText, IsTextOrStarves}
 use Rattle.console.specs.Texts.{response_text, refused_text}
@@ -61,6 +61,8 @@ text_or_want old (line ∷ lines) new text told =
               rest = want.rest;
               cut = ap (λ ls. line ∷ ls) want.cut;
               told = (told.0, told.1, want.answered, told.3, answered, want.told, refl);
+              short = want.short;
+              starved = want.starved;
               more = want.more;
               text_is = told.6 ∙ ap (λ t. response_text told.0 ++ t) want.text_is ∙ sym (append_assoc (response_text told.0) want.answered (refused_text refusal.Memory ++ want.rest));
             })
@@ -74,6 +76,10 @@ text_or_want old (line ∷ lines) new text told =
         rest = told.2;
         cut = refl;
         told = (refl, refl);
+        short = told.3;
+        starved =
+            subst (λ r. AnswersOrStarves old (without_return line) r old) starved.0
+            (subst (λ session. AnswersOrStarves old (without_return line) told.0 session) starved.1 told.4);
         more = subst (λ session. IsTextOrStarves session lines new told.2) starved.1 told.5;
         text_is = told.6 ∙ ap (λ r. response_text r ++ told.2) starved.0;
       })
@@ -116,18 +122,19 @@ module _ (a b : ConsoleState) (g h p q : Option (List ℕ)) (fresh : a.begun ≡
         written = Appends-trans p q r reads.goes.text (response_text ends.response) reads.goes.written ends.written;
       }
 
-  -- a fault before the line that has begun is answered
-  breaks_before : (r : Option (List ℕ)) (fault : ReplayFault) → r ≡ q → Behind fault (b.begun ∷ []) → IsWritten fault reads.goes.text reads.goes.text → BreaksOff a.session g h p r fault
-  breaks_before r fault same behind written = record {
+  -- a fault before the line that has begun is answered; no octets are read before it
+  breaks_before : (k r : Option (List ℕ)) (fault : ReplayFault) → Consumes h k [] → r ≡ q → IsLeft fault (b.begun ∷ []) → IsWritten fault reads.goes.text reads.goes.text
+      → BreaksOff a.session g k p r fault
+  breaks_before k r fault none same left written = record {
     octets = reads.octets;
     lines = reads.goes.lines;
     back = b.begun ∷ [];
     session = b.session;
     text = reads.goes.text;
     part = reads.goes.text;
-    consumed = reads.consumed;
+    consumed = subst (λ octets. Consumes g k octets) (append-nil reads.octets) (Consumes-trans g h k reads.octets [] reads.consumed none);
     cut = lines_end;
-    behind = behind;
+    behind = left;
     told = text_or_want a.session reads.goes.lines b.session reads.goes.text reads.goes.told;
     written = written;
     appended = subst (λ after. Appends p after reads.goes.text) (sym same) reads.goes.written;
@@ -135,10 +142,11 @@ module _ (a b : ConsoleState) (g h p q : Option (List ℕ)) (fresh : a.begun ≡
 
   -- so many reads came to no end
   pub breaks_unended : BreaksOff a.session g h p q ReadFault
-  breaks_unended = breaks_before q ReadFault refl tt refl
+  breaks_unended = breaks_before h q ReadFault (Consumes-nil h) refl refl refl
 
   -- a fault at the octets that are read next
   pub breaks_reading : (k r : Option (List ℕ)) (fault : ReplayFault) → ReadsAndStops b h k q r fault → BreaksOff a.session g k p r fault
+  breaks_reading k r ReadFault next = let none = next.unread refl in breaks_before k r ReadFault none.0 none.1 refl refl
   breaks_reading k r fault next =
       let stops : Stops a (reads.octets ++ next.octets) p r fault = goes_stops a b reads.octets next.octets p q r fault reads.goes next.stops in
       let back = stops.cut [] in
@@ -186,8 +194,8 @@ module _ (a b : ConsoleState) (g h p q : Option (List ℕ)) (fresh : a.begun ≡
   pub breaks_at_end : (r : Option (List ℕ)) (fault : ReplayFault) → BreaksLine b q r fault → BreaksOff a.session g h p r fault
   breaks_at_end r ReadFault breaks = absurd breaks
   breaks_at_end r WriteFault breaks = breaks_in_last r breaks
-  breaks_at_end r Memory breaks = breaks_before r Memory breaks tt refl
-  breaks_at_end r LongLine breaks = breaks_before r LongLine breaks.1 breaks.0 refl
+  breaks_at_end r Memory breaks = breaks_before h r Memory (Consumes-nil h) breaks tt refl
+  breaks_at_end r LongLine breaks = breaks_before h r LongLine (Consumes-nil h) breaks.1 breaks.0 refl
 
 -- one call more
 pub counted_more : (n k : ℕ) → counted (counted n k) 1 ≡ counted n (k + 1)

@@ -1,12 +1,14 @@
 -- The command line: `cbc replay [--plmn HEX] [--journal N]`.
-use Rattle.std.specs.Prelude.{◌≡◌, ◌⊎◌, true, false, ℕ, List, [], ◌∷◌, Option, Some, None, codes, bytes_eq, option_and_then, if◌then◌else◌}
+use Rattle.std.specs.Prelude.{◌≡◌, ◌≢◌, ◌⊎◌, true, false, ℕ, List, [], ◌∷◌, Option, Some, None, codes, bytes_eq, option_and_then, if◌then◌else◌}
 use Rattle.std.specs.Result.{result_ok}
 use Rattle.std.specs.Str.Parse.{digits_value, without_leading_plus}
 use Rattle.hex.specs.Hex.{decode_sized}
 use Rattle.clap.specs.ValueTests.{accepts}
-use Rattle.clap.specs.Words.{App, Row, Rule, Text, fault_of, first_of, new_app, new_rule, one_of, subcommand_of, takes, with_rule, with_subcommand}
+use Rattle.clap.specs.Words.{App, IsAmong, Row, Rule, Text, fault_of, first_of, new_app, new_rule, one_of, subcommand_of, takes, with_rule, with_subcommand}
 use Rattle.clap.specs.declared.builder.value_parser.ValueParser.{ValueParser}
 use Rattle.clap.specs.declared.builder.value_parser.ValueParser.TheVariants.{Unsigned}
+use Rattle.clap.specs.declared.error.kind.ErrorKind.{ErrorKind}
+use Rattle.clap.specs.declared.error.kind.ErrorKind.TheVariants as kind
 use Rattle.console.specs.declared.no_run.NoRun.{NoRun}
 use Rattle.console.specs.declared.no_run.NoRun.TheVariants.{Help, Refused, BadPlmn, Memory}
 
@@ -83,9 +85,24 @@ pub record Asks (words : List Text) (plmn : List ℕ) (limit : ℕ) : Type 0 whe
 abbrev pub AsksBadPlmn : List Text → Type 0
 AsksBadPlmn words = HasNoFault words × (asked_network words ≡ None)
 
--- what no script is run for: the command line isn't taken, the network is bad, or memory was wanting
+-- clap's rules answer the words by help, or by a version
+abbrev pub AsksHelp : List Text → Type 0
+AsksHelp words = IsAmong kind.DisplayHelp (fault_of command_line words) ⊎ IsAmong kind.DisplayVersion (fault_of command_line words)
+
+-- clap's rules find a mistake in the words
+abbrev pub IsMistaken : List Text → Type 0
+IsMistaken words = (k : ErrorKind) × IsAmong k (fault_of command_line words) × (k ≢ kind.DisplayHelp) × (k ≢ kind.DisplayVersion)
+
+-- what the parser's error of this kind comes to: help is not a mistake
+abbrev pub ComesTo : ErrorKind → NoRun → Type 0
+ComesTo k (Help text) = (k ≡ kind.DisplayHelp) ⊎ (k ≡ kind.DisplayVersion)
+ComesTo k (Refused text) = (k ≢ kind.DisplayHelp) × (k ≢ kind.DisplayVersion)
+ComesTo k BadPlmn = ⊥
+ComesTo k Memory = Unit {0}
+
+-- what no script is run for: help is asked for, the words have a mistake, the network is bad, or memory was wanting
 abbrev pub Refuses : List Text → NoRun → Type 0
-Refuses words (Help text) = AreTaken words → ⊥
-Refuses words (Refused text) = AreTaken words → ⊥
+Refuses words (Help text) = (AreTaken words → ⊥) × AsksHelp words
+Refuses words (Refused text) = (AreTaken words → ⊥) × IsMistaken words
 Refuses words BadPlmn = AsksBadPlmn words
 Refuses words Memory = Unit {0}

@@ -50,7 +50,7 @@ abbrev pub BeginsLong : List (List ℕ) → Type 0
 BeginsLong [] = ⊥
 BeginsLong (line ∷ lines) = longest_line < length (without_return line)
 
--- what a fault says of the lines that are not answered
+-- what a fault at some octets says of the lines that are not answered
 abbrev pub Behind : ReplayFault → List (List ℕ) → Type 0
 Behind LongLine lines = BeginsLong lines
 Behind other lines = Unit {0}
@@ -88,8 +88,9 @@ pub record Reads (old new : ConsoleState) (given left before after : Option (Lis
   pub consumed : Consumes given left octets
   pub goes : Goes old octets new before after
 
--- a reader gives octets, and a fault at them ends the run
+-- a reader gives octets, and a fault at them ends the run; a read that fails gives none, and nothing is written then
 pub record ReadsAndStops (old : ConsoleState) (given left before after : Option (List ℕ)) (fault : ReplayFault) : Type 0 where
   pub octets : List ℕ
   pub consumed : Consumes given left octets
   pub stops : Stops old octets before after fault
+  pub unread : fault ≡ ReadFault → Consumes given left [] × (after ≡ before)

@@ -1,18 +1,20 @@
 -- A whole run: what is written is the text of what was read.
-use Rattle.std.specs.Prelude.{◌≡◌, ◌⊎◌, ℕ, List, [], ◌∷◌, ◌++◌, Option}
+use Rattle.std.specs.Prelude.{◌≡◌, ◌⊎◌, ℕ, ◌≤◌, List, [], ◌∷◌, ◌++◌, length, Option}
 use Rattle.std.specs.Io.KnownBytes.{Appends, Consumes, IsAtEnd}
 use Rattle.centre_core.specs.declared.refusal.Refusal.TheVariants as refusal
-use Rattle.console.specs.Consoles.{Behind, IsWritten}
-use Rattle.console.specs.Sessions.{SessionState}
-use Rattle.console.specs.Text.{lines_of, IsText, IsTextOrStarves}
+use Rattle.console.specs.Consoles.{BeginsLong, IsWritten}
+use Rattle.console.specs.Sessions.{SessionState, AnswersOrStarves}
+use Rattle.console.specs.Text.{longest_line, without_return, lines_of, IsText, IsTextOrStarves}
 use Rattle.console.specs.Texts.{refused_text}
 use Rattle.console.specs.declared.fault.ReplayFault.{ReplayFault}
+use Rattle.console.specs.declared.fault.ReplayFault.TheVariants.{ReadFault, LongLine}
+use Rattle.console.specs.declared.response.Response.TheVariants as response
 
 -- a session in which nothing has happened
 abbrev pub new_session : List ℕ → ℕ → SessionState
 new_session plmn limit = record { centre = record { plmn = plmn; limit = limit; journal = [] }; kept = [] }
 
--- memory was wanting for an event or a question: the lines before it have their text, and nothing came of it
+-- memory was wanting for a line that is an event or a question: the lines before it have their text, and nothing came of it
 pub record MeetsWant (old : SessionState) (lines : List (List ℕ)) (new : SessionState) (text : List ℕ) : Type 0 where
   pub front : List (List ℕ)
   pub line : List ℕ
@@ -22,6 +24,8 @@ pub record MeetsWant (old : SessionState) (lines : List (List ℕ)) (new : Sessi
   pub rest : List ℕ
   pub cut : lines ≡ front ++ line ∷ back
   pub told : IsText old front session answered
+  pub short : length (without_return line) ≤ longest_line
+  pub starved : AnswersOrStarves session (without_return line) (response.Refused refusal.Memory) session
   pub more : IsTextOrStarves session back new rest
   pub text_is : text ≡ answered ++ (refused_text refusal.Memory ++ rest)
 
@@ -35,6 +39,12 @@ pub record Replays (start : SessionState) (given left before after : Option (Lis
   pub told : IsText start (lines_of octets) session text ⊎ MeetsWant start (lines_of octets) session text
   pub written : Appends before after text
 
+-- what a fault says of the lines that are not answered: a read failed before the last line ended, or the first is too long
+abbrev pub IsLeft : ReplayFault → List (List ℕ) → Type 0
+IsLeft ReadFault lines = length lines ≡ 1
+IsLeft LongLine lines = BeginsLong lines
+IsLeft other lines = Unit {0}
+
 -- a fault ended the run: some of the lines that were read are answered, and what is written is a front of their text
 pub record BreaksOff (start : SessionState) (given left before after : Option (List ℕ)) (fault : ReplayFault) : Type 0 where
   pub octets : List ℕ
@@ -45,7 +55,7 @@ pub record BreaksOff (start : SessionState) (given left before after : Option (L
   pub part : List ℕ
   pub consumed : Consumes given left octets
   pub cut : lines_of octets ≡ lines ++ back
-  pub behind : Behind fault back
+  pub behind : IsLeft fault back
   pub told : IsText start lines session text ⊎ MeetsWant start lines session text
   pub written : IsWritten fault text part
   pub appended : Appends before after part

@@ -3,8 +3,9 @@ use Rattle.std.specs.Prelude.{◌≡◌, ◌⊎◌, ℕ, Bool, true, ◌==◌, L
 use Rattle.std.specs.Bool.{MatchBool}
 use Rattle.std.specs.Io.KnownBytes.{Appends}
 use Rattle.framing.specs.Sink.{AppendsFront}
+use Rattle.framing.specs.Source.{counted}
 use Rattle.clap.specs.Words.{Text}
-use Rattle.console.specs.CommandLine.{AreTaken, Asks, AsksBadPlmn}
+use Rattle.console.specs.CommandLine.{AreTaken, Asks, AsksBadPlmn, AsksHelp, IsMistaken}
 use Rattle.console.specs.Replays.{new_session, Replays, BreaksOff}
 use Rattle.console.specs.Sessions.{SessionState}
 use Rattle.console.specs.Texts.{newline}
@@ -21,10 +22,14 @@ fault_words LongLine = codes "cbc: line too long" ++ newline
 abbrev pub bad_plmn : List ℕ
 bad_plmn = codes "cbc: bad plmn" ++ newline
 
--- what a run has yet to read, what it has written, what it has said, and whether saying it has failed
+-- what a run has yet to read, how often it has read, what it has written and what it has said; and whether reading,
+-- writing and saying have failed
 pub record Streams : Type 0 where
   pub input : Option (List ℕ)
+  pub reads : ℕ
+  pub read_failed : Bool
   pub output : Option (List ℕ)
+  pub write_failed : Bool
   pub errors : Option (List ℕ)
   pub is_mute : Bool
 
@@ -36,14 +41,21 @@ abbrev pub Tells : Streams → Streams → List ℕ → Type 0
 Tells old new text = IsTold old.errors new.errors new.is_mute text
 
 -- a script was run to its end
-abbrev pub RunsWhole : SessionState → Streams → Streams → Type 0
-RunsWhole start old new = Replays start old.input new.input old.output new.output × (new.errors ≡ old.errors)
+pub record RunsWhole (start : SessionState) (old new : Streams) : Type 0 where
+  pub all : Replays start old.input new.input old.output new.output
+  pub silent : new.errors ≡ old.errors
+  pub all_read : new.read_failed ≡ old.read_failed
+  pub all_written : new.write_failed ≡ old.write_failed
 
--- a fault ended it, and was said
+-- a fault ended it, and was said: where a read failed that, or so many reads came to no end, and where a write failed that
 pub record RunsInPart (start : SessionState) (old new : Streams) : Type 0 where
   pub fault : ReplayFault
   pub broke : BreaksOff start old.input new.input old.output new.output fault
   pub told : Tells old new (fault_words fault)
+  pub failed_read : new.read_failed ≡ true → (old.read_failed ≡ true) ⊎ (fault ≡ ReadFault)
+  pub failed_write : new.write_failed ≡ true → (old.write_failed ≡ true) ⊎ (fault ≡ WriteFault)
+  pub read_fault : fault ≡ ReadFault → (new.read_failed ≡ true) ⊎ (new.reads ≡ counted old.reads 1000000000000)
+  pub write_fault : fault ≡ WriteFault → new.write_failed ≡ true
 
 -- the status of a run of a script
 abbrev pub Runs : SessionState → Streams → Streams → ℕ → Type 0
@@ -53,11 +65,20 @@ Runs start old new status = MatchBool (status == 0) (RunsWhole start old new) ((
 abbrev pub IsCause : List Text → ℕ → List ℕ → Type 0
 IsCause words status said = ((status ≡ 1) × (said ≡ fault_words Memory)) ⊎ ((status ≡ 2) × (said ≡ bad_plmn) × AsksBadPlmn words)
 
+-- why a run without a script has status 1: memory was wanting, or help could not be written in full
+abbrev pub IsUnable : List Text → Streams → Streams → List ℕ → Type 0
+IsUnable words old new said =
+    ((said ≡ fault_words Memory) × (new.output ≡ old.output))
+    ⊎ ((said ≡ fault_words WriteFault) × AsksHelp words × (new.write_failed ≡ true) × ((text : List ℕ) × AppendsFront old.output new.output text))
+
 -- no script was run: help is written, or the fault is said that is the cause
 pub record RunsNone (words : List Text) (old new : Streams) (status : ℕ) : Type 0 where
   pub said : List ℕ
   pub cause : AreTaken words → IsCause words status said
-  pub unread : new.input ≡ old.input
+  pub helped : status ≡ 0 → AsksHelp words
+  pub unable : status ≡ 1 → IsUnable words old new said
+  pub refused : status ≡ 2 → (AsksBadPlmn words × (said ≡ bad_plmn)) ⊎ IsMistaken words
+  pub unread : (new.input ≡ old.input) × (new.reads ≡ old.reads) × (new.read_failed ≡ old.read_failed)
   pub answered : MatchBool (status == 0) (Appends old.output new.output said × (new.errors ≡ old.errors)) (Tells old new said)
   pub silent : status ≡ 2 → new.output ≡ old.output
   pub least : (status ≡ 0) ⊎ ((status ≡ 1) ⊎ (status ≡ 2))

@@ -1,10 +1,10 @@
 //! What the command line asks for.
 
-ghost use Rattle.std.specs.Prelude.{◌≡◌, ◌≢◌, ◌≤◌, false, map, string_bytes, IfOk, IfErr};
+ghost use Rattle.std.specs.Prelude.{◌≡◌, ◌≤◌, false, map, string_bytes, IfOk, IfErr};
 ghost use Rattle.clap.specs.Words.{app_of, kind_of, rule_of, subcommand_rows_of};
 ghost use Rattle.clap.specs.declared.builder.command.Command.TheViews.{out-Command as fields_of};
 ghost use Rattle.console.specs.CommandLine.{plmn_option, journal_option, replay_command, command_line, most_entries};
-ghost use Rattle.console.specs.CommandLine.{replay_rows, network_in, limit_in, Asks, Refuses};
+ghost use Rattle.console.specs.CommandLine.{replay_rows, network_in, limit_in, Asks, ComesTo, Refuses};
 
 use crate::no_run::NoRun;
 use clap::builder::ValueParser;
@@ -111,14 +111,17 @@ fn asked_journal(matches: &ArgMatches<'_>) -> u32
 /// Why the parser of command lines gave no matches.
 fn no_run(alloc: Global, error: &Error) -> NoRun
     ensures memory { kind_of error.now ≡ ErrorKind.OutOfMemory → result ≡ NoRun.Memory }
-    ensures network { result ≢ NoRun.BadPlmn }
+    ensures kind { ComesTo (kind_of error.now) result }
 {
     if error.kind() == ErrorKind::OutOfMemory {
         return NoRun::Memory;
     }
-    match format!(in alloc; "{error}") {
-        Ok(text) if error.use_stderr() => NoRun::Refused(text),
-        Ok(text) => NoRun::Help(text),
-        Err(_) => NoRun::Memory,
+    let Ok(text) = format!(in alloc; "{error}") else {
+        return NoRun::Memory;
+    };
+    if error.use_stderr() {
+        NoRun::Refused(text)
+    } else {
+        NoRun::Help(text)
     }
 }

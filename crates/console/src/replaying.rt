@@ -41,7 +41,8 @@ fn turn<R: Source, W: Sink>(
 /// `journal_limit` entries. The reads are at most 1,000,000,000,000.
 ///
 /// A line ends at 0A or at the end of the input; one 0D before that is dropped. Every bad line is answered and the
-/// run goes on. At an `Err` everything before the fault was answered.
+/// run goes on. At an `Err` what was written is a front of the text of lines that were read. At `ReadFault` every line
+/// that had ended is answered, at `LongLine` every line before the long one.
 pub fn replay<R: Source, W: Sink>(
     alloc: Global,
     reader: &mut R,
@@ -53,6 +54,7 @@ pub fn replay<R: Source, W: Sink>(
     ensures all { OnOk result (Replays (new_session plmn journal_limit) (R.remaining reader.old) (R.remaining reader.new) (W.written writer.old) (W.written writer.new)) }
     ensures part { IfErr result (BreaksOff (new_session plmn journal_limit) (R.remaining reader.old) (R.remaining reader.new) (W.written writer.old) (W.written writer.new)) }
     ensures read_fault { is_read_fault result ≡ true → (R.has_failed reader.new ≡ true) ⊎ (R.calls reader.new ≡ counted (R.calls reader.old) 1000000000000) }
+    ensures read_failed { is_read_fault result ≡ false → R.has_failed reader.new ≡ R.has_failed reader.old }
     ensures write_fault { W.has_failed writer.new ≡ (is_write_fault result || W.has_failed writer.old) }
 {
     let mut console = Console::new(alloc, plmn, journal_limit);

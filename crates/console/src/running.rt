@@ -24,8 +24,8 @@ pub fn run<R: Source, W: Sink, E: Sink>(
     errors: &mut E,
 ) -> u8
     ensures { Ends (map string_bytes words.now)
-        (record { input = R.remaining reader.old; output = W.written writer.old; errors = E.written errors.old; is_mute = E.has_failed errors.old })
-        (record { input = R.remaining reader.new; output = W.written writer.new; errors = E.written errors.new; is_mute = E.has_failed errors.new }) result }
+        (record { input = R.remaining reader.old; reads = R.calls reader.old; read_failed = R.has_failed reader.old; output = W.written writer.old; write_failed = W.has_failed writer.old; errors = E.written errors.old; is_mute = E.has_failed errors.old })
+        (record { input = R.remaining reader.new; reads = R.calls reader.new; read_failed = R.has_failed reader.new; output = W.written writer.new; write_failed = W.has_failed writer.new; errors = E.written errors.new; is_mute = E.has_failed errors.new }) result }
 {
     match read_options(alloc, words) {
         Ok(options) => run_script(alloc, &options, reader, writer, errors),
@@ -59,8 +59,8 @@ fn run_script<R: Source, W: Sink, E: Sink>(
     errors: &mut E,
 ) -> u8
     ensures { Runs (new_session options.now.plmn options.now.journal_limit)
-        (record { input = R.remaining reader.old; output = W.written writer.old; errors = E.written errors.old; is_mute = E.has_failed errors.old })
-        (record { input = R.remaining reader.new; output = W.written writer.new; errors = E.written errors.new; is_mute = E.has_failed errors.new }) result }
+        (record { input = R.remaining reader.old; reads = R.calls reader.old; read_failed = R.has_failed reader.old; output = W.written writer.old; write_failed = W.has_failed writer.old; errors = E.written errors.old; is_mute = E.has_failed errors.old })
+        (record { input = R.remaining reader.new; reads = R.calls reader.new; read_failed = R.has_failed reader.new; output = W.written writer.new; write_failed = W.has_failed writer.new; errors = E.written errors.new; is_mute = E.has_failed errors.new }) result }
 {
     match replay(alloc, reader, writer, options.plmn, options.journal_limit) {
         Ok(()) => 0,

@@ -2,7 +2,9 @@ mod bad_input;
 mod book;
 mod changes;
 mod command_line;
+mod covered;
 mod faults;
+mod orders;
 mod rows;
 
 use crate::{ReplayFault, replay};

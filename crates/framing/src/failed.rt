@@ -1,3 +1,5 @@
+//! A read or a write that came to nothing.
+
 use thiserror::Error;
 
 /// A read or a write came to nothing: it gave or took no octet.

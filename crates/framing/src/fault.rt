@@ -1,3 +1,5 @@
+//! The faults of a stream of frames.
+
 ghost use Rattle.std.specs.Prelude.{◌≡◌};
 ghost use Rattle.framing.specs.Fault.{number_of};
 
@@ -10,6 +12,7 @@ pub enum FrameFault {
     /// The next frame announces a body of so many octets, more than are read.
     #[error("a frame with a body of {length} octets is too long")]
     TooLong { length: u32 },
+    /// There was no memory for the piece or for its frames. The same piece can be given again.
     #[error("out of memory")]
     Memory,
 }

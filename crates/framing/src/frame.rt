@@ -1,3 +1,5 @@
+//! One frame of a stream.
+
 use cbsp_ie::Octets;
 
 /// One message as it stands in a stream: an octet that says its type, and the information elements.

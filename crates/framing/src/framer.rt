@@ -1,3 +1,5 @@
+//! Cutting a stream into frames.
+
 ghost use Rattle.std.specs.Prelude.{◌≡◌, ◌<◌, ◌≤◌, [], ◌++◌, length, take, IfSome, IfNone, IfOk, IfErr, OnOk, OnErr, Err, option_to_list};
 ghost use Rattle.framing.specs.Streams.{longest_body, framed, BeginsWithNoFrame, IsTooLong, announced};
 ghost use Rattle.framing.specs.Framers.{fresh, Takes, Refuses, IsCut};
@@ -37,6 +39,7 @@ impl Model for Framer {
 }
 
 impl Framer {
+    /// Memory is first asked for when a piece comes.
     pub fn new(alloc: Global) -> Self
         ensures { result ≡ fresh }
     {

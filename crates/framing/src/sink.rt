@@ -1,3 +1,5 @@
+//! The side of a stream that is written to.
+
 ghost use Rattle.std.specs.Prelude.{◌≡◌, ℕ, ◌≤◌, ◌||◌, Bool, false, List, Option, length, IfOk, OnOk, OnErr, is_err};
 ghost use Rattle.std.specs.Io.KnownBytes.{Appends, WriteAppends};
 ghost use Rattle.framing.specs.Source.{counted};
@@ -36,6 +38,7 @@ pub struct FromWrite<W: Write + Drop> {
 }
 
 impl<W: Write + Drop> FromWrite<W> {
+    /// Earlier writes to the writer don't count, nor do their failures.
     pub fn new(writer: W) -> Self
         ensures written { ⟦<FromWrite<W> as Sink>⟧.written result ≡ W.contents writer }
         ensures calls { ⟦<FromWrite<W> as Sink>⟧.calls result ≡ 0 }
@@ -48,6 +51,7 @@ impl<W: Write + Drop> FromWrite<W> {
         }
     }
 
+    /// The writer. If it holds octets back, its owner has to flush it.
     pub fn into_inner(self) -> W
         ensures { W.contents result ≡ ⟦<FromWrite<W> as Sink>⟧.written self }
     {

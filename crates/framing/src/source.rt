@@ -1,3 +1,5 @@
+//! The side of a stream that is read from.
+
 ghost use Rattle.std.specs.Prelude.{◌≡◌, ℕ, ◌≤◌, ◌||◌, Bool, false, List, Option, length, IfOk, is_err};
 ghost use Rattle.std.specs.Io.KnownBytes.{ReadConsumes};
 ghost use Rattle.framing.specs.Source.{counted};
@@ -36,6 +38,7 @@ pub struct FromRead<R: Read + Drop> {
 }
 
 impl<R: Read + Drop> FromRead<R> {
+    /// Earlier reads of the reader don't count, nor do their failures.
     pub fn new(reader: R) -> Self
         ensures remaining { ⟦<FromRead<R> as Source>⟧.remaining result ≡ R.remaining reader }
         ensures calls { ⟦<FromRead<R> as Source>⟧.calls result ≡ 0 }
@@ -48,6 +51,7 @@ impl<R: Read + Drop> FromRead<R> {
         }
     }
 
+    /// The reader. The source holds none of its octets back.
     pub fn into_inner(self) -> R
         ensures { R.remaining result ≡ ⟦<FromRead<R> as Source>⟧.remaining self }
     {

@@ -1,3 +1,6 @@
+//! What no clause says: the frames of one stream however it comes, streams that fail, end early or are
+//! interrupted, and that each call can succeed.
+
 use crate::faulty::{EndsAtRead, FailsAfter, FailsAtRead, InPieces};
 use crate::{Failed, FrameFault, Framer, FromRead, FromWrite, Sink, Source, write_all};
 use std::io;

@@ -1,4 +1,5 @@
-use super::{Row, agrees};
+use super::{Row, agrees, answered};
+use std::test::Fail;
 
 static ROWS: [Row; 8] = [
     Row {
@@ -126,6 +127,8 @@ static ROWS: [Row; 8] = [
              rx 1 02040001\n\
              rx 1 08000002aabb\n\
              rx 1 01000000\n\
+             rx 1 0800000200\n\
+             rx 0 zz\n\
              rx 1 020000060e111203c000\n",
         answers: "bad hex\n\
              bad hex\n\
@@ -135,6 +138,8 @@ static ROWS: [Row; 8] = [
              bad frame\n\
              skipped\n\
              skipped\n\
+             bad frame\n\
+             bad line\n\
              no 3 NoSuchBsc\n",
     },
     Row {
@@ -263,4 +268,23 @@ fn each_bad_line_has_its_answer(rt: HostRuntime) {
     for row in &CHANGES {
         agrees(&rt, rt.alloc(), row);
     }
+}
+
+/// A frame's length is at most 262,144.
+#[test]
+fn a_frame_may_be_long(rt: HostRuntime) -> Result<(), Fail> {
+    let alloc = rt.alloc();
+    for (header, octets, answer) in [
+        ("02040000", 262_144, "bad message 2 UnknownElement 00\n"),
+        ("02040001", 262_145, "bad frame\n"),
+    ] {
+        let mut script = format!(in alloc; "rx 1 {header}")?;
+        for _ in 0..octets {
+            script.push_str("00")?;
+        }
+        let (ended, wrote) = answered(alloc, script.as_bytes(), 4_000_000);
+        assert_eq!(rt; ended, Ok(()), "{octets} octets");
+        assert_eq!(rt; wrote.as_slice(), answer.as_bytes(), "{octets} octets");
+    }
+    Ok(())
 }

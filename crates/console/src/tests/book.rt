@@ -71,47 +71,6 @@ static CHANGED: [Row; 6] = [
     },
 ];
 
-/// The second version takes the place of the first one on air.
-static REPLACED: [Row; 2] = [
-    Row {
-        name: "a replace puts the new version on air",
-        script: "rx 1 020000100e111203c00004000501006400071200\n\
-             update 1 15 0 30 d4f29c0e\n\
-             send 1\n\
-             rx 1 020000130e111203c00102c00004000501006400071200\n\
-             board 1\n\
-             table 1\n",
-        answers: "ok 8 cells 1\n\
-             ok 9 serial C001\n\
-             ok 10 tx 010000730e111203c00102c00004000501006400071200050006001e07000013010c0f0104d4f29c0e000000000000000000000000000000000000000000000000000000000000000000000000000000000000000000000000000000000000000000000000000000000000000000000000000000000000\n\
-             ok 11 cells 1\n\
-             awaited 0 onair 1 failed 0 left 0 broadcasts 0\n\
-             100 7 4370 C001 onair\n\
-             keys 1\n",
-    },
-    Row {
-        name: "the link is lost while a replace is out",
-        script: "rx 1 020000100e111203c00004000501006400071200\n\
-             update 1 15 0 30 d4f29c0e\n\
-             send 1\n\
-             down 1\n\
-             table 1\n\
-             pending 1\n\
-             board 1\n",
-        answers: "ok 8 cells 1\n\
-             ok 9 serial C001\n\
-             ok 10 tx 010000730e111203c00102c00004000501006400071200050006001e07000013010c0f0104d4f29c0e000000000000000000000000000000000000000000000000000000000000000000000000000000000000000000000000000000000000000000000000000000000000000000000000000000000000\n\
-             ok 11\n\
-             100 7 4370 C000 unknown\n\
-             100 7 4370 C001 unknown\n\
-             keys 2\n\
-             write 4370 C001 cells 1\n\
-             kill 4370 C000 cells 1\n\
-             groups 2\n\
-             awaited 1 onair 0 failed 0 left 1 broadcasts 0\n",
-    },
-];
-
 /// What is refused, and when.
 static REFUSED: [Row; 2] = [
     Row {
@@ -199,9 +158,6 @@ static REFUSED: [Row; 2] = [
 #[test]
 fn changes_of_warnings_have_their_answers(rt: HostRuntime) -> Result<(), Fail> {
     for row in &CHANGED {
-        agrees_after_order(&rt, rt.alloc(), row.name, row.script, row.answers)?;
-    }
-    for row in &REPLACED {
         agrees_after_order(&rt, rt.alloc(), row.name, row.script, row.answers)?;
     }
     for row in &REFUSED {

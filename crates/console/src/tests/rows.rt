@@ -59,6 +59,34 @@ fn a_full_journal_refuses(rt: HostRuntime) {
     );
 }
 
+/// Questions and lines that enter nothing, on a journal of one entry.
+static FULL: Row = Row {
+    name: "questions on a full journal",
+    script: "bsc add 1\n\
+         pending 1\n\
+         table 1\n\
+         board 1\n\
+         gen 1 9\n\
+         send 1\n\
+         rx 1 02\n\
+         rx 1 020000060e111203c000\n",
+    answers: "ok 1\n\
+         groups 0\n\
+         keys 0\n\
+         no 16 NoSuchWarning\n\
+         set\n\
+         no 2 JournalFull\n\
+         bad frame\n\
+         no 2 JournalFull\n",
+};
+
+#[test]
+fn a_full_journal_answers_questions(rt: HostRuntime) {
+    let (ended, wrote) = answered(rt.alloc(), FULL.script.as_bytes(), 1);
+    assert_eq!(rt; ended, Ok(()));
+    assert_eq!(rt; wrote.as_slice(), FULL.answers.as_bytes());
+}
+
 #[test]
 fn a_257th_controller_is_refused(rt: HostRuntime) -> Result<(), Fail> {
     let alloc = rt.alloc();
@@ -118,7 +146,7 @@ static AFTER_CELLS: [Step; 11] = [
     },
     Step {
         script: "send 1\n",
-        answer: "ok 1009 tx 010000700e111203c00004000501",
+        answer: "ok 1009 tx 010000700e111203c0000400050100c803e9",
     },
     Step {
         script: "rx 1 020000060e111203c000\n",

@@ -1,3 +1,5 @@
+//! A source that ends early.
+
 ghost use Rattle.std.specs.Prelude.{◌≡◌, ℕ, None};
 
 use crate::{Failed, Source};

@@ -1,3 +1,5 @@
+//! A sink that fails once it is full.
+
 ghost use Rattle.std.specs.Prelude.{◌≡◌, ℕ};
 
 use crate::{Failed, Sink};

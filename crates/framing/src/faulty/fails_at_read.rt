@@ -1,3 +1,5 @@
+//! A source that fails at one read.
+
 ghost use Rattle.std.specs.Prelude.{◌≡◌, ℕ};
 
 use crate::{Failed, Source};

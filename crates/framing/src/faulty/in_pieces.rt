@@ -1,3 +1,5 @@
+//! A source or a sink that moves few octets at a time.
+
 ghost use Rattle.std.specs.Prelude.{◌≡◌, ℕ, ◌<◌};
 
 use crate::{Failed, Sink, Source};

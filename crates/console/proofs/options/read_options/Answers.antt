@@ -1,15 +1,16 @@
 use Rattle.std.proofs.Common.{map, string_bytes, ap, sym, ◌∙◌}
 use Rattle.console.specs.CommandLine.{limit_in, network_in, replay_rows}
-use Rattle.console.proofs.CommandLineLemmas.{refuses_untaken, taken_has_matches, taken_has_no_fault, taken_wants_memory}
+use Rattle.console.proofs.CommandLineLemmas.{kinds_of_line, refuses_so, taken_has_matches, taken_has_no_fault, taken_wants_memory}
 use Rattle.console.proofs.options.read_options.Goals as goal
 
--- the parser refuses a command line that it takes for want of memory alone
+-- the parser refuses a command line that it takes for want of memory alone, and another for a fault of its words
 pub returns-in-Err-clause-refused : goal.returns-in-Err-clause-refused
 returns-in-Err-clause-refused c =
     let words = map string_bytes c.args.words.now in
-    refuses_untaken words c.no_run.result
-    (λ taken. c.no_run.ensures.memory (taken_wants_memory _ words c.in-Err.error c.in_ok-command_line.ensures c.in-Err.ensures.passes c.in-Err.ensures.kinds taken))
-    c.no_run.ensures.network
+    let line = c.in_ok-command_line.ensures in
+    let refused = c.in-Err.ensures in
+    refuses_so words c.in-Err.error (taken_wants_memory _ words c.in-Err.error line refused.passes refused.kinds)
+    (kinds_of_line _ words c.in-Err.error line refused.kinds) c.no_run.result c.no_run.ensures.memory c.no_run.ensures.kind
 
 -- words that are taken and whose network isn't one
 pub returns-in_default-clause-refused : goal.returns-in_default-clause-refused

@@ -34,6 +34,7 @@ pub loop-turn-preserved : goal.loop-turn-preserved
 loop-turn-preserved g c = record {
   reads = reads_more _ _ _ _ _ _ _ _ _ c.loop-turn.invariant.reads c.in_ok-turn.ensures.ok;
   calls = c.turn.ensures.calls ∙ ap (λ n. counted n 1) c.loop-turn.invariant.calls ∙ counted_more _ _;
+  unfailed = c.in_ok-turn.ensures.read_failed ∙ c.loop-turn.invariant.unfailed;
   fine = c.in_ok-turn.ensures.write_failed ∙ c.loop-turn.invariant.fine;
 }
 
