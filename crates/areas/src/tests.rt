@@ -1,3 +1,5 @@
+//! What no clause says: that each call can succeed, and worked values from the rules.
+
 use crate::{Area, Areas, Limit, Refusal, Selector, Selectors};
 use cbsp_ie::{Cell, Name, Names};
 use std::alloc::{AllocError, Global};

@@ -1,3 +1,5 @@
+//! What no clause says: that each call can succeed, and worked events from the rules.
+
 mod corrections;
 
 use crate::answer::Answer;

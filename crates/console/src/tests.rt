@@ -1,3 +1,5 @@
+//! Worked scripts and command lines. Every answer is from the rules, and none from a run.
+
 mod bad_input;
 mod book;
 mod changes;

@@ -1,3 +1,5 @@
+//! Worked values from the standard.
+
 use crate::{Scope, Serial, least_free_code};
 use std::process::Abort;
 use std::test::Fail;

@@ -1,3 +1,5 @@
+//! What no clause says: that each call can succeed, and worked values from the rules.
+
 use crate::{Book, Content, ContentPages, Limit, Notice, Refusal, Version, WarningId};
 use cbsp_ie::{Name, Octets};
 use serials::{Scope, Serial};

@@ -1,3 +1,5 @@
+//! Lines that are refused before the centre is asked, and frames that can't be read.
+
 use super::{Row, agrees, answered};
 use std::test::Fail;
 

@@ -1,3 +1,5 @@
+//! Warnings that are corrected, widened, narrowed, stopped and forgotten.
+
 use super::{Row, agrees, agrees_after_order};
 use std::test::Fail;
 

@@ -1,3 +1,5 @@
+//! BSCs, cells and areas that change while a warning is on air, and generations of links.
+
 use super::{Row, agrees, agrees_after_order, answered};
 use std::test::Fail;
 

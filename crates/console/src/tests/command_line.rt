@@ -1,3 +1,5 @@
+//! Command lines: their statuses, and what is said.
+
 use crate::run;
 use framing::faulty::{FailsAfter, FailsAtRead};
 use framing::{FromRead, FromWrite};

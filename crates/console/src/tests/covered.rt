@@ -1,3 +1,5 @@
+//! Areas that overlap or have odd names, and warnings of one message identifier.
+
 use super::{Row, agrees};
 
 /// Warnings whose areas overlap, and areas of odd names.

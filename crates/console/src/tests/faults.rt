@@ -1,3 +1,5 @@
+//! Readers and writers that fail or end early.
+
 use super::{PLMN, answered};
 use crate::{ReplayFault, replay};
 use framing::faulty::{EndsAtRead, FailsAfter, FailsAtRead, InPieces};

@@ -1,3 +1,5 @@
+//! Orders that are out: their reports, and links that are lost beside them.
+
 use super::{Row, agrees_after_order};
 use std::test::Fail;
 

@@ -1,3 +1,5 @@
+//! The first warning, and limits.
+
 use super::{Row, agrees, answered};
 use std::test::Fail;
 use std::time::{Duration, Instant};
