@@ -17,6 +17,7 @@ use Rattle.warning_book.specs.Book.{versions, versions_if, versions_with, conten
 use Rattle.warning_book.specs.declared.content.Content.{Content}
 use Rattle.warning_book.specs.declared.version.Version.{Version}
 use Rattle.warning_book.specs.declared.warning.Warning.{Warning}
+use Rattle.centre_core.proofs.CountLemmas.{or_right}
 use Rattle.centre_core.specs.Actions.{needs, replaced, is_to_kill, fresh_kind, fresh, kills, actions, actions_in, actions_of, all_actions, action}
 use Rattle.centre_core.specs.InFlight.{is_kill}
 use Rattle.centre_core.specs.OrderMessage.{message_by, order_message}
@@ -56,10 +57,6 @@ same_number n = grind (arith, nat_tests, common_steps)
 is_version : (w : Warning) → list_any (λ v. nat_eq v.serial w.serial) (versions_if w.message_id w) ≡ true
 is_version w = rw (same_number w.message_id) (rw (same_number w.serial) refl)
 
-or_other : (a b : Bool) → b ≡ true → (a || b) ≡ true
-or_other true b h = refl
-or_other false b h = h
-
 -- the current version of each warning in the book
 each_has : (ws : List Warning) → list_all (λ w. has_content ws w.message_id w.serial) ws ≡ true
 each_has [] = refl
@@ -73,7 +70,7 @@ each_has (w ∷ ws) =
     still (v ∷ vs) h =
         let parts = and_parts (has_content ws v.message_id v.serial) (list_all (λ u. has_content ws u.message_id u.serial) vs) h in
         and_from (has_content (w ∷ ws) v.message_id v.serial) (list_all (λ u. has_content (w ∷ ws) u.message_id u.serial) vs)
-        (content_more v.message_id v.serial w ws ∙ or_other (list_any (λ u. nat_eq u.serial v.serial) (versions_if v.message_id w)) (has_content ws v.message_id v.serial) parts.0)
+        (content_more v.message_id v.serial w ws ∙ ap (λ t. list_any (λ u. nat_eq u.serial v.serial) (versions_if v.message_id w) || t) parts.0 ∙ or_right (list_any (λ u. nat_eq u.serial v.serial) (versions_if v.message_id w)))
         (still vs parts.1)
 
 -- an order that is no kill has a content
@@ -100,7 +97,7 @@ fresh_carry : (ws : List Warning) (past : List Entry) (b : ℕ) (w : Warning) (c
 fresh_carry ws past b w c h = step (needs past b w c)
   where
     step : (t : Bool) → list_all (action_carries ws) (if t then action w c (fresh_kind (replaced past b w c)) w.serial ∷ [] else []) ≡ true
-    step true = and_from (is_kill (fresh_kind (replaced past b w c)) || has_content ws w.message_id w.serial) true (or_other (is_kill (fresh_kind (replaced past b w c))) (has_content ws w.message_id w.serial) h) refl
+    step true = and_from (is_kill (fresh_kind (replaced past b w c)) || has_content ws w.message_id w.serial) true (ap (λ t. is_kill (fresh_kind (replaced past b w c)) || t) h ∙ or_right (is_kill (fresh_kind (replaced past b w c)))) refl
     step false = refl
 
 both : (p : Action → Bool) (xs ys : List Action) → list_all p xs ≡ true → list_all p ys ≡ true → list_all p (xs ++ ys) ≡ true

@@ -106,7 +106,7 @@ fn help_goes_to_standard_output(rt: HostRuntime) -> Result<(), Fail> {
 /// The program's own name is taken as it comes.
 #[test]
 fn the_first_word_is_any(rt: HostRuntime) -> Result<(), Fail> {
-    let (status, wrote, said) = ran(rt.alloc(), &["/usr/bin/x", "replay"], b"fly")?;
+    let (status, wrote, said) = ran(rt.alloc(), &["centre", "replay"], b"fly")?;
     assert_eq!(rt; status, 0);
     assert_eq!(rt; wrote.as_slice(), b"bad line\n".as_slice());
     assert_eq!(rt; said.as_slice(), b"".as_slice());
