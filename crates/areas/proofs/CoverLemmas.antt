@@ -2,11 +2,12 @@
 use Rattle.std.proofs.Common.{◌≡◌, ℕ, ◌+◌, ◌<◌, Bool, true, false, ◌||◌, cond, List, [], ◌∷◌, ◌++◌, length, get_or, take, refl, sym, ap, ◌∙◌}
 use Rattle.std.specs.Prelude.{bytes_eq}
 use Rattle.std.specs.List.{list_all, filter}
-use Rattle.std.proofs.lemmas.Bool.{and_parts}
+use Rattle.std.proofs.lemmas.Bool.{and_parts, or_right}
 use Rattle.std.proofs.lemmas.List.{take_more}
 use Rattle.std.proofs.lemmas.Slice.Eq.{bytes_eq-Decides}
 use Rattle.cbsp_ie.specs.declared.cell.Cell.{Cell}
-use Rattle.areas.specs.Areas.{has_area, selectors_of, selects, covers, names_of, areas_of, is_ascending}
+use Rattle.cbsp_ie.specs.Order.{is_ascending}
+use Rattle.areas.specs.Areas.{has_area, selectors_of, selects, covers, names_of, areas_of, named_lt}
 use Rattle.areas.specs.Laws.{has_area_after}
 use Rattle.areas.specs.Name.{octets_lt}
 use Rattle.areas.specs.declared.area.Area.{Area}
@@ -41,15 +42,15 @@ areas_of_more l i d c h =
     ap (λ m. selecting m c) (take_more l i d h) ∙ selecting-append (take i l) (get_or l i d ∷ []) c ∙ ap (λ ns. selecting (take i l) c ++ ns) (alone (get_or l i d) c)
 
 -- the names of a part of the list that pass, where the whole list has these selectors for each
-passing : (p : List ℕ → Bool) (c : Cell) (l : List Area) → ((x : Area) → has_area l x.name ≡ true → selectors_of l x.name ≡ x.selectors → p x.name ≡ selects x.selectors c) → is_ascending l ≡ true → filter p (names_of l) ≡ selecting l c
+passing : (p : List ℕ → Bool) (c : Cell) (l : List Area) → ((x : Area) → has_area l x.name ≡ true → selectors_of l x.name ≡ x.selectors → p x.name ≡ selects x.selectors c) → is_ascending named_lt l ≡ true → filter p (names_of l) ≡ selecting l c
 passing p c [] f o = refl
 passing p c (y ∷ l) f o = step (p y.name) (selects y.selectors c) (f y (here y.name) (first (bytes_eq y.name y.name) (same y.name))) (passing p c l (λ x h g. f x (later x h) (behind x h g)) parts.1)
   where
     same : (n : List ℕ) → bytes_eq n n ≡ true
     same n = (bytes_eq-Decides n n).1 refl
 
-    parts : (list_all (λ z. octets_lt y.name z.name) l ≡ true) × (is_ascending l ≡ true)
-    parts = and_parts (list_all (λ z. octets_lt y.name z.name) l) (is_ascending l) o
+    parts : (list_all (λ z. octets_lt y.name z.name) l ≡ true) × (is_ascending named_lt l ≡ true)
+    parts = and_parts (list_all (λ z. octets_lt y.name z.name) l) (is_ascending named_lt l) o
 
     here : (n : List ℕ) → (bytes_eq n n || has_area l n) ≡ true
     here n = rw (same n) refl
@@ -58,12 +59,8 @@ passing p c (y ∷ l) f o = step (p y.name) (selects y.selectors c) (f y (here y
     first true e = refl
     first false e = cc
 
-    or_true : (b : Bool) → (b || true) ≡ true
-    or_true true = refl
-    or_true false = refl
-
     later : (x : Area) → has_area l x.name ≡ true → has_area (y ∷ l) x.name ≡ true
-    later x h = rw h (or_true (bytes_eq y.name x.name))
+    later x h = or_right (bytes_eq y.name x.name) (has_area l x.name) h
 
     behind : (x : Area) → has_area l x.name ≡ true → selectors_of l x.name ≡ x.selectors → selectors_of (y ∷ l) x.name ≡ x.selectors
     behind x h g = go (bytes_eq y.name x.name) refl
@@ -79,5 +76,5 @@ passing p c (y ∷ l) f o = step (p y.name) (selects y.selectors c) (f y (here y
     step false true e rest = cc
 
 -- at the end these are the areas that cover the cell
-pub areas_of_all : (l : List Area) (c : Cell) → is_ascending l ≡ true → selecting l c ≡ areas_of l c
+pub areas_of_all : (l : List Area) (c : Cell) → is_ascending named_lt l ≡ true → selecting l c ≡ areas_of l c
 areas_of_all l c o = sym (passing (λ a. covers l a c) c l (λ x h g. ap (λ xs. selects xs c) g) o)

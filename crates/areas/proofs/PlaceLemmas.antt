@@ -5,7 +5,8 @@ use Rattle.std.specs.List.{position_or_len, list_all}
 use Rattle.std.proofs.lemmas.Bool.{and_parts}
 use Rattle.std.proofs.lemmas.List.Recursion.{is_position_or_len}
 use Rattle.std.proofs.lemmas.Slice.Eq.{bytes_eq-Decides}
-use Rattle.areas.specs.Areas.{is_named, has_area, changed_by, is_ascending}
+use Rattle.cbsp_ie.specs.Order.{is_ascending}
+use Rattle.areas.specs.Areas.{is_named, has_area, changed_by, named_lt}
 use Rattle.areas.specs.Laws.{has_area_after}
 use Rattle.areas.specs.Name.{octets_lt}
 use Rattle.areas.specs.declared.area.Area.{Area}
@@ -44,18 +45,18 @@ no_place a (y ∷ l) h = step (no_place a l) (bytes_eq y.name a) h
 abbrev pub with_selectors : (List Selector → List Selector) → Area → Area
 with_selectors f x = record { name = x.name; selectors = f x.selectors }
 
-changed_in : (a : List ℕ) (f : List Selector → List Selector) (l : List Area) (d : Area) → is_ascending l ≡ true → place_in a l < length l → set l (place_in a l) (with_selectors f (get_or l (place_in a l) d)) ≡ map (changed_by a f) l
+changed_in : (a : List ℕ) (f : List Selector → List Selector) (l : List Area) (d : Area) → is_ascending named_lt l ≡ true → place_in a l < length l → set l (place_in a l) (with_selectors f (get_or l (place_in a l) d)) ≡ map (changed_by a f) l
 changed_in a f [] d o h = absurd (omega arith)
-changed_in a f (y ∷ l) d o h = step (changed_in a f l d) (bytes_eq y.name a) refl (and_parts (list_all (λ z. octets_lt y.name z.name) l) (is_ascending l) o) h
+changed_in a f (y ∷ l) d o h = step (changed_in a f l d) (bytes_eq y.name a) refl (and_parts (list_all (λ z. octets_lt y.name z.name) l) (is_ascending named_lt l) o) h
   where
-    step : (is_ascending l ≡ true → place_in a l < length l → set l (place_in a l) (with_selectors f (get_or l (place_in a l) d)) ≡ map (changed_by a f) l) → (t : Bool) → bytes_eq y.name a ≡ t → (list_all (λ z. octets_lt y.name z.name) l ≡ true) × (is_ascending l ≡ true) → cond t 0 (suc (place_in a l)) < length (y ∷ l) → set (y ∷ l) (cond t 0 (suc (place_in a l))) (with_selectors f (get_or (y ∷ l) (cond t 0 (suc (place_in a l))) d)) ≡ cond t (with_selectors f y) y ∷ map (changed_by a f) l
+    step : (is_ascending named_lt l ≡ true → place_in a l < length l → set l (place_in a l) (with_selectors f (get_or l (place_in a l) d)) ≡ map (changed_by a f) l) → (t : Bool) → bytes_eq y.name a ≡ t → (list_all (λ z. octets_lt y.name z.name) l ≡ true) × (is_ascending named_lt l ≡ true) → cond t 0 (suc (place_in a l)) < length (y ∷ l) → set (y ∷ l) (cond t 0 (suc (place_in a l))) (with_selectors f (get_or (y ∷ l) (cond t 0 (suc (place_in a l))) d)) ≡ cond t (with_selectors f y) y ∷ map (changed_by a f) l
     step rest true e o h =
         let absent : has_area l a ≡ false = ap (has_area l) (sym ((bytes_eq-Decides y.name a).0 e)) ∙ has_area_after y.name l o.0 in
         ap (λ ys. with_selectors f y ∷ ys) (sym (unchanged_absent a f l absent))
     step rest false e o h = ap (λ ys. y ∷ ys) (rest o.1 (omega arith))
 
 -- the area x stands at the place, and xs are what f makes of its selectors
-pub changed_at_place : (a : List ℕ) (f : List Selector → List Selector) (l : List Area) (n : ℕ) (x : Area) (xs : List Selector) → is_ascending l ≡ true → n ≡ position_or_len (is_named a) l → n < length l → x ≡ get_or l n x → xs ≡ f x.selectors → set l n (record { name = x.name; selectors = xs }) ≡ map (changed_by a f) l
+pub changed_at_place : (a : List ℕ) (f : List Selector → List Selector) (l : List Area) (n : ℕ) (x : Area) (xs : List Selector) → is_ascending named_lt l ≡ true → n ≡ position_or_len (is_named a) l → n < length l → x ≡ get_or l n x → xs ≡ f x.selectors → set l n (record { name = x.name; selectors = xs }) ≡ map (changed_by a f) l
 changed_at_place a f l n x xs o e h g k =
     let place : n ≡ place_in a l = e ∙ sym (place_in-position a l) in
     let within : place_in a l < length l = omega arith in

@@ -1,6 +1,7 @@
 -- Areas as a list, in the order of the octets of their names: what it has, and what each edit makes of it.
-use Rattle.std.specs.Prelude.{ℕ, ◌≤◌, ◌≡◌, Bool, true, ◌&&◌, ◌||◌, not, List, [], ◌∷◌, ◌++◌, map, bytes_eq, length, if◌then◌else◌}
-use Rattle.std.specs.List.{list_any, list_all, filter}
+use Rattle.std.specs.Prelude.{ℕ, ◌≤◌, ◌≡◌, Bool, true, ◌||◌, not, List, [], ◌∷◌, ◌++◌, map, bytes_eq, length, if◌then◌else◌}
+use Rattle.std.specs.List.{list_any, filter}
+use Rattle.cbsp_ie.specs.Order.{inserted, is_ascending, each_once}
 use Rattle.cbsp_ie.specs.declared.cell.Cell.{Cell}
 use Rattle.areas.specs.Name.{octets_lt}
 use Rattle.areas.specs.Selector.{selector_eq}
@@ -45,10 +46,13 @@ areas_of l c = filter (λ a. covers l a c) (names_of l)
 abbrev pub empty_area : List ℕ → Area
 empty_area a = record { name = a; selectors = [] }
 
--- one more area, before the first whose name does not come before its name
+-- areas stand in the order of their names
+abbrev pub named_lt : Area → Area → Bool
+named_lt x y = octets_lt x.name y.name
+
+-- one more area
 abbrev pub with_area : List ℕ → List Area → List Area
-with_area a [] = empty_area a ∷ []
-with_area a (x ∷ l) = if octets_lt x.name a then x ∷ with_area a l else empty_area a ∷ x ∷ l
+with_area a l = inserted named_lt (empty_area a) l
 
 abbrev pub without_area : List ℕ → List Area → List Area
 without_area a l = filter (λ x. not (is_named a x)) l
@@ -67,19 +71,9 @@ without s xs = filter (λ t. not (selector_eq t s)) xs
 abbrev pub without_selector : List ℕ → Selector → List Area → List Area
 without_selector a s l = map (changed_by a (without s)) l
 
--- each name comes before those after it
-abbrev pub is_ascending : List Area → Bool
-is_ascending [] = true
-is_ascending (x ∷ l) = list_all (λ y. octets_lt x.name y.name) l && is_ascending l
-
--- no selector stands there again
-abbrev pub each_once : List Selector → Bool
-each_once [] = true
-each_once (s ∷ xs) = not (is_among s xs) && each_once xs
-
 -- what always holds of the areas
 pub record IsSound (l : List Area) : Type 0 where
-  pub ascending : is_ascending l ≡ true
+  pub ascending : is_ascending named_lt l ≡ true
   pub few : length l ≤ 4096
-  pub once : (a : List ℕ) → each_once (selectors_of l a) ≡ true
+  pub once : (a : List ℕ) → each_once selector_eq (selectors_of l a) ≡ true
   pub short : (a : List ℕ) → length (selectors_of l a) ≤ 4096

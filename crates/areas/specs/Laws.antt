@@ -1,27 +1,23 @@
 -- What each edit changes, for every list of areas: whether an area is there, whether it has a selector, how many there are.
-use Rattle.std.proofs.Common.{◌≡◌, ℕ, ◌+◌, Bool, true, false, ◌&&◌, ◌||◌, not, cond, List, [], ◌∷◌, ◌++◌, map, length, refl, sym, ap, ◌∙◌, arith, length-append}
+use Rattle.std.proofs.Common.{◌≡◌, ℕ, ◌+◌, Bool, true, false, ◌&&◌, ◌||◌, not, cond, List, [], ◌∷◌, ◌++◌, map, length, refl, sym, ap, ◌∙◌, length-append}
 use Rattle.std.specs.Prelude.{bytes_eq}
-use Rattle.std.proofs.lemmas.Bool.{and_parts, or_parts}
+use Rattle.std.proofs.lemmas.Bool.{and_parts, or_parts, false_from_ne_true}
 use Rattle.std.proofs.lemmas.List.{length-map}
 use Rattle.std.proofs.lemmas.List.Folds.{list_any-append}
 use Rattle.std.proofs.lemmas.Slice.Eq.{bytes_eq-Decides}
 use Rattle.std.specs.List.{list_any, list_all}
 use Rattle.cbsp_ie.specs.declared.cell.Cell.{Cell}
-use Rattle.cbsp_ie.specs.OrderLaws.{left_out, left_in}
-use Rattle.areas.specs.Areas.{is_named, has_area, selectors_of, is_among, has_selector, covers, names_of, areas_of, empty_area, with_area, without_area, changed_by, with_selector, without, without_selector, is_ascending, each_once}
+use Rattle.cbsp_ie.specs.OnceLaws.{apart_along, any_without_key, length_without_same, any_filter_same}
+use Rattle.cbsp_ie.specs.Order.{is_ascending, each_once}
+use Rattle.cbsp_ie.specs.OrderLaws.{any_inserted, length_inserted, length_without, left_out, left_in}
+use Rattle.areas.specs.Areas.{is_named, has_area, selectors_of, is_among, has_selector, covers, names_of, areas_of, empty_area, named_lt, with_area, without_area, changed_by, with_selector, without, without_selector}
 use Rattle.areas.specs.Equality.{selector_decides}
-use Rattle.areas.specs.Keys.{keys_once, other_key, has_key-without_key, length-without_key, has_key-filter}
 use Rattle.areas.specs.Name.{octets_lt}
 use Rattle.areas.specs.Order.{octets_lt-irreflexive}
 use Rattle.areas.specs.Selector.{selector_eq}
 use Rattle.areas.specs.declared.area.Area.{Area}
 use Rattle.areas.specs.declared.selector.Selector.{Selector}
 use Rattle.areas.specs.declared.selector.Selector.TheVariants as selector
-
-or_swap : (p q r : Bool) → (p || (q || r)) ≡ (q || (p || r))
-or_swap true true r = refl
-or_swap true false r = refl
-or_swap false q r = refl
 
 cond_same : {A : Type 0} (t : Bool) (x : A) → cond t x x ≡ x
 cond_same true x = refl
@@ -34,15 +30,10 @@ has_area_same l a x h = ap (has_area l) (sym ((bytes_eq-Decides a x).0 h))
 -- whether an area is there
 
 pub has_area_with_area : (a : List ℕ) (l : List Area) (x : List ℕ) → has_area (with_area a l) x ≡ (bytes_eq a x || has_area l x)
-has_area_with_area a [] x = refl
-has_area_with_area a (y ∷ l) x = step (has_area_with_area a l x) (octets_lt y.name a)
-  where
-    step : has_area (with_area a l) x ≡ (bytes_eq a x || has_area l x) → (t : Bool) → has_area (cond t (y ∷ with_area a l) (empty_area a ∷ y ∷ l)) x ≡ (bytes_eq a x || (bytes_eq y.name x || has_area l x))
-    step rest true = ap (λ t. bytes_eq y.name x || t) rest ∙ or_swap (bytes_eq y.name x) (bytes_eq a x) (has_area l x)
-    step rest false = refl
+has_area_with_area a l x = any_inserted named_lt (is_named x) (empty_area a) l
 
 pub has_area_without_area : (a : List ℕ) (l : List Area) (x : List ℕ) → has_area (without_area a l) x ≡ (not (bytes_eq a x) && has_area l x)
-has_area_without_area a l x = has_key-without_key bytes_eq bytes_eq-Decides (λ (y : Area). y.name) a x l
+has_area_without_area a l x = any_without_key bytes_eq bytes_eq-Decides (λ (y : Area). y.name) a x l
 
 has_area_changed : (a : List ℕ) (f : List Selector → List Selector) (l : List Area) (x : List ℕ) → has_area (map (changed_by a f) l) x ≡ has_area l x
 has_area_changed a f [] x = refl
@@ -90,7 +81,7 @@ selectors_of_without_area a (y ∷ l) x = step (selectors_of_without_area a l x)
   where
     step : selectors_of (without_area a l) x ≡ cond (bytes_eq a x) [] (selectors_of l x) → (t : Bool) → bytes_eq y.name a ≡ t → selectors_of (cond (not t) (y ∷ without_area a l) (without_area a l)) x ≡ cond (bytes_eq a x) [] (cond (bytes_eq y.name x) y.selectors (selectors_of l x))
     step rest true e = rest ∙ left_out (bytes_eq a x) (bytes_eq y.name x) [] y.selectors (selectors_of l x) (ap (λ n. bytes_eq n x) ((bytes_eq-Decides y.name a).0 e))
-    step rest false e = ap (λ xs. cond (bytes_eq y.name x) y.selectors xs) rest ∙ left_in (bytes_eq a x) (bytes_eq y.name x) [] y.selectors (selectors_of l x) (other_key bytes_eq bytes_eq-Decides y.name a x e)
+    step rest false e = ap (λ xs. cond (bytes_eq y.name x) y.selectors xs) rest ∙ left_in (bytes_eq a x) (bytes_eq y.name x) [] y.selectors (selectors_of l x) (apart_along bytes_eq bytes_eq-Decides y.name a x e)
 
 -- the area that has the name is the one that is changed
 here : {A : Type 0} (f : A → A) (p q h : Bool) (s r : A) → q ≡ p → cond q (f s) (cond (p && h) (f r) r) ≡ cond (p && (q || h)) (f (cond q s r)) (cond q s r)
@@ -118,7 +109,7 @@ selectors_of_changed a f (y ∷ l) x = step (selectors_of_changed a f l x) (byte
         ∙ here f (bytes_eq a x) (bytes_eq y.name x) (has_area l x) y.selectors (selectors_of l x) (ap (λ n. bytes_eq n x) ((bytes_eq-Decides y.name a).0 e))
     step rest false e =
         ap (λ xs. cond (bytes_eq y.name x) y.selectors xs) rest
-        ∙ elsewhere f (bytes_eq a x) (bytes_eq y.name x) (has_area l x) y.selectors (selectors_of l x) (other_key bytes_eq bytes_eq-Decides y.name a x e)
+        ∙ elsewhere f (bytes_eq a x) (bytes_eq y.name x) (has_area l x) y.selectors (selectors_of l x) (apart_along bytes_eq bytes_eq-Decides y.name a x e)
 
 -- an area that is there is changed
 changed_there : (a : List ℕ) (f : List Selector → List Selector) (l : List Area) (x : List ℕ) → has_area l a ≡ true → selectors_of (map (changed_by a f) l) x ≡ cond (bytes_eq a x) (f (selectors_of l x)) (selectors_of l x)
@@ -178,7 +169,7 @@ has_selector_with_selector a s l x t h = ap (is_among t) (selectors_of_with_sele
     step false = refl
 
 is_among_without : (s t : Selector) (xs : List Selector) → is_among t (without s xs) ≡ (not (selector_eq s t) && is_among t xs)
-is_among_without s t xs = has_key-without_key selector_eq selector_decides (λ (u : Selector). u) s t xs
+is_among_without s t xs = any_without_key selector_eq selector_decides (λ (u : Selector). u) s t xs
 
 pub has_selector_without_selector : (a : List ℕ) (s : Selector) (l : List Area) (x : List ℕ) (t : Selector) → has_selector (without_selector a s l) x t ≡ (not (bytes_eq a x && selector_eq s t) && has_selector l x t)
 has_selector_without_selector a s l x t = ap (is_among t) (selectors_of_without_selector a s l x) ∙ step (bytes_eq a x)
@@ -196,7 +187,7 @@ has_area_names (y ∷ l) a = ap (λ t. bytes_eq y.name a || t) (has_area_names l
 -- an area is among those that cover the cell just where it covers it
 pub among_areas_of : (l : List Area) (c : Cell) (a : List ℕ) → list_any (λ n. bytes_eq n a) (areas_of l c) ≡ covers l a c
 among_areas_of l c a =
-    has_key-filter bytes_eq bytes_eq-Decides (λ n. covers l n c) a (names_of l) ∙ ap (λ t. covers l a c && t) (has_area_names l a) ∙ step (has_area l a) refl
+    any_filter_same bytes_eq bytes_eq-Decides (λ n. covers l n c) a (names_of l) ∙ ap (λ t. covers l a c && t) (has_area_names l a) ∙ step (has_area l a) refl
   where
     all : (p : Bool) → (p && true) ≡ p
     all true = refl
@@ -213,12 +204,7 @@ among_areas_of l c a =
 -- how many there are
 
 pub length_with_area : (a : List ℕ) (l : List Area) → length (with_area a l) ≡ length l + 1
-length_with_area a [] = omega arith
-length_with_area a (y ∷ l) = step (length_with_area a l) (octets_lt y.name a)
-  where
-    step : length (with_area a l) ≡ length l + 1 → (t : Bool) → length (cond t (y ∷ with_area a l) (empty_area a ∷ y ∷ l)) ≡ length (y ∷ l) + 1
-    step rest true = omega arith
-    step rest false = omega arith
+length_with_area a l = length_inserted named_lt (empty_area a) l
 
 -- the names after a name in order are others
 pub has_area_after : (a : List ℕ) (l : List Area) → list_all (λ y. octets_lt a y.name) l ≡ true → has_area l a ≡ false
@@ -229,15 +215,13 @@ has_area_after a (y ∷ l) h = step (has_area_after a l) (bytes_eq y.name a) ref
     step rest true e parts = sym parts.0 ∙ ap (octets_lt a) ((bytes_eq-Decides y.name a).0 e) ∙ octets_lt-irreflexive a
     step rest false e parts = rest parts.1
 
--- names in order stand once
-pub names_once : (l : List Area) → is_ascending l ≡ true → keys_once bytes_eq (λ (y : Area). y.name) l ≡ true
-names_once [] h = refl
-names_once (y ∷ l) h =
-    let parts = and_parts (list_all (λ z. octets_lt y.name z.name) l) (is_ascending l) h in
-    rw (has_area_after y.name l parts.0) (names_once l parts.1)
+-- an area that comes after one of a name has another
+named_after : (a : List ℕ) (x y : Area) → is_named a x ≡ true → named_lt x y ≡ true → is_named a y ≡ false
+named_after a x y e h =
+    false_from_ne_true (is_named a y) (λ g. let no : true ≡ false = sym h ∙ ap (λ n. octets_lt n y.name) ((bytes_eq-Decides x.name a).0 e) ∙ ap (octets_lt a) ((bytes_eq-Decides y.name a).0 g) ∙ octets_lt-irreflexive a in cc)
 
-pub length_without_area : (a : List ℕ) (l : List Area) → has_area l a ≡ true → is_ascending l ≡ true → length l ≡ length (without_area a l) + 1
-length_without_area a l h o = length-without_key bytes_eq bytes_eq-Decides (λ (y : Area). y.name) a l h (names_once l o)
+pub length_without_area : (a : List ℕ) (l : List Area) → has_area l a ≡ true → is_ascending named_lt l ≡ true → length l ≡ length (without_area a l) + 1
+length_without_area a l h o = length_without named_lt (is_named a) (named_after a) l o h
 
 pub length_with_selector : (a : List ℕ) (s : Selector) (l : List Area) → length (with_selector a s l) ≡ length l
 length_with_selector a s l = length-map l (changed_by a (λ xs. xs ++ s ∷ []))
@@ -252,14 +236,14 @@ length_selectors_of_with_selector a s l x h = ap length (selectors_of_with_selec
     step true = length-append (selectors_of l x) (s ∷ [])
     step false = refl
 
-pub length_selectors_of_without_selector : (a : List ℕ) (s : Selector) (l : List Area) (x : List ℕ) → has_selector l a s ≡ true → each_once (selectors_of l a) ≡ true → length (selectors_of l x) ≡ cond (bytes_eq a x) (length (selectors_of (without_selector a s l) x) + 1) (length (selectors_of (without_selector a s l) x))
+pub length_selectors_of_without_selector : (a : List ℕ) (s : Selector) (l : List Area) (x : List ℕ) → has_selector l a s ≡ true → each_once selector_eq (selectors_of l a) ≡ true → length (selectors_of l x) ≡ cond (bytes_eq a x) (length (selectors_of (without_selector a s l) x) + 1) (length (selectors_of (without_selector a s l) x))
 length_selectors_of_without_selector a s l x h o = step (bytes_eq a x) refl (selectors_of_without_selector a s l x)
   where
-    fewer : (xs : List Selector) → is_among s xs ≡ true → each_once xs ≡ true → length xs ≡ length (without s xs) + 1
-    fewer xs = length-without_key selector_eq selector_decides (λ (u : Selector). u) s xs
+    fewer : (xs : List Selector) → is_among s xs ≡ true → each_once selector_eq xs ≡ true → length xs ≡ length (without s xs) + 1
+    fewer xs h o = length_without_same selector_eq selector_decides s xs o h
 
     step : (p : Bool) → bytes_eq a x ≡ p → selectors_of (without_selector a s l) x ≡ cond p (without s (selectors_of l x)) (selectors_of l x) → length (selectors_of l x) ≡ cond p (length (selectors_of (without_selector a s l) x) + 1) (length (selectors_of (without_selector a s l) x))
     step true e g =
         let same : a ≡ x = (bytes_eq-Decides a x).0 e in
-        fewer (selectors_of l x) (ap (λ n. has_selector l n s) (sym same) ∙ h) (ap (λ n. each_once (selectors_of l n)) (sym same) ∙ o) ∙ ap (λ xs. length xs + 1) (sym g)
+        fewer (selectors_of l x) (ap (λ n. has_selector l n s) (sym same) ∙ h) (ap (λ n. each_once selector_eq (selectors_of l n)) (sym same) ∙ o) ∙ ap (λ xs. length xs + 1) (sym g)
     step false e g = ap length (sym g)

@@ -4,5 +4,4 @@ pub mod Name
 pub mod Order
 pub mod Areas
 pub mod Checks
-pub mod Keys
 pub mod Laws

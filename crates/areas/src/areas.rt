@@ -31,8 +31,10 @@ impl Model for Areas {
 
 impl Areas {
     ghost use Rattle.std.specs.Prelude.{◌≡◌, ◌≤◌, ◌⊎◌, ℕ, List, [], None, Some, true, length, IfOk, IfErr, OnOk, OnErr};
-    ghost use Rattle.areas.specs.Areas.{has_area, selectors_of, has_selector, covers, areas_of, with_area, without_area, with_selector, without_selector, is_ascending, each_once};
+    ghost use Rattle.cbsp_ie.specs.Order.{is_ascending, each_once};
+    ghost use Rattle.areas.specs.Areas.{has_area, selectors_of, has_selector, covers, areas_of, named_lt, with_area, without_area, with_selector, without_selector};
     ghost use Rattle.cbsp_ie.specs.Checks.{first_refusal};
+    ghost use Rattle.areas.specs.Selector.{selector_eq};
     ghost use Rattle.areas.specs.Checks.{add_area_checks, drop_area_checks, put_checks, cut_checks};
     ghost use Rattle.areas.specs.declared.refusal.Refusal.TheVariants as refusal;
 
@@ -155,9 +157,9 @@ impl Areas {
 
     /// Tells what always holds of the areas.
     pub fn is_sound(&self)
-        ensures ascending { is_ascending self.now ≡ true }
+        ensures ascending { is_ascending named_lt self.now ≡ true }
         ensures few { length self.now ≤ 4096 }
-        ensures once { (a : List ℕ) → each_once (selectors_of self.now a) ≡ true }
+        ensures once { (a : List ℕ) → each_once selector_eq (selectors_of self.now a) ≡ true }
         ensures short { (a : List ℕ) → length (selectors_of self.now a) ≤ 4096 }
     {
         let _ = &self.alloc;

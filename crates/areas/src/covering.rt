@@ -1,7 +1,8 @@
 //! Which areas cover a cell.
 
 ghost use Rattle.std.specs.Prelude.{◌≡◌, ◌++◌, ◌∷◌, [], true, IfOk, OnOk, if◌then◌else◌};
-ghost use Rattle.areas.specs.Areas.{selects, areas_of, is_ascending};
+ghost use Rattle.cbsp_ie.specs.Order.{is_ascending};
+ghost use Rattle.areas.specs.Areas.{selects, areas_of, named_lt};
 
 use crate::area::Area;
 use crate::lookups::selects;
@@ -26,7 +27,7 @@ fn put_covering(
 /// The names of the areas that cover the cell, in order.
 #[tactic(auto, using(crate::proofs::CoverLemmas::areas_of_more))]
 pub(crate) fn areas_of(alloc: Global, areas: &[Area], c: Cell) -> Result<Names, AllocError>
-    requires { is_ascending areas.now ≡ true }
+    requires { is_ascending named_lt areas.now ≡ true }
     ensures { IfOk result (λ names. names ≡ areas_of areas.now c) }
 {
     let mut names = Vec::new(alloc);

@@ -1,7 +1,8 @@
 //! The edits of a list of areas that nothing forbids.
 
 ghost use Rattle.std.specs.Prelude.{◌≡◌, ◌≤◌, ◌++◌, ◌∷◌, length, take, drop, true, OnOk, OnErr};
-ghost use Rattle.areas.specs.Areas.{empty_area, with_area, without_area, with_selector, without_selector, is_ascending};
+ghost use Rattle.cbsp_ie.specs.Order.{is_ascending};
+ghost use Rattle.areas.specs.Areas.{empty_area, named_lt, with_area, without_area, with_selector, without_selector};
 
 use crate::area::Area;
 use crate::lookups::place_of;
@@ -47,7 +48,7 @@ pub(crate) fn drop_area(areas: &mut Vec<Area>, a: &Name)
 
 /// Puts the selector last in the area.
 pub(crate) fn put(areas: &mut Vec<Area>, a: &Name, s: Selector) -> Result<(), AllocError>
-    requires { is_ascending areas.old.items ≡ true }
+    requires { is_ascending named_lt areas.old.items ≡ true }
     ensures put { OnOk result (areas.new.items ≡ with_selector a.now s areas.old.items) }
     ensures unchanged { OnErr result (areas.new.items ≡ areas.old.items) }
 {
@@ -61,7 +62,7 @@ pub(crate) fn put(areas: &mut Vec<Area>, a: &Name, s: Selector) -> Result<(), Al
 
 /// Takes the selector out of the area.
 pub(crate) fn cut(areas: &mut Vec<Area>, a: &Name, s: Selector)
-    requires { is_ascending areas.old.items ≡ true }
+    requires { is_ascending named_lt areas.old.items ≡ true }
     ensures { areas.new.items ≡ without_selector a.now s areas.old.items }
 {
     let place = place_of(areas.as_slice(), a);

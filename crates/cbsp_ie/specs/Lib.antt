@@ -9,6 +9,7 @@ pub mod Equality
 pub mod FailureList
 pub mod Failures
 pub mod Form
+pub mod Frame
 pub mod Identifications
 pub mod IeFault
 pub mod Laws
@@ -18,3 +19,4 @@ pub mod Checks
 pub mod CheckLaws
 pub mod Order
 pub mod OrderLaws
+pub mod OnceLaws

@@ -1,5 +1,6 @@
 pub mod ElementsLemmas
 pub mod EqualityLemmas
+pub mod LengthLemmas
 pub mod MessageLemmas
 pub mod PartsLemmas
 pub mod ReadingLemmas

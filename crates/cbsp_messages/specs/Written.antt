@@ -1,9 +1,9 @@
 -- The octets that are written for a message, and the message that is read from them
 -- (TS 48.049, 8.1.3).
-use Rattle.std.specs.Prelude.{ℕ, ◌%◌, ◌<◌, ◌≤◌, List, ◌∷◌, ◌++◌, length, option_map, IfSome}
-use Rattle.std.specs.Int.{bytes_high_first}
+use Rattle.std.specs.Prelude.{ℕ, ◌%◌, ◌<◌, ◌≤◌, List, length, option_map, IfSome}
 use Rattle.std.specs.List.{AllByRecursion, flat_map}
 use Rattle.cbsp_ie.specs.declared.element_id.ElementId.{ElementId}
+use Rattle.cbsp_ie.specs.Frame.{framed}
 use Rattle.cbsp_ie.specs.Written.{cells_octets, counts_octets, element_octets, failures_octets, plain_counts}
 use Rattle.cbsp_messages.specs.declared.message.Message.{Message}
 use Rattle.cbsp_messages.specs.declared.message.Message.TheVariants as message
@@ -28,9 +28,9 @@ octets_at parts which = flat_map element_octets (values_at parts which)
 abbrev pub written : Message → List ℕ
 written m = flat_map (octets_at (parts_of m)) (written_of (type_of m))
 
--- the whole frame: the type, three octets of length, and the body
+-- the whole frame
 abbrev pub frame_of : Message → List ℕ
-frame_of m = code_of (type_of m) ∷ bytes_high_first 3 (length (written m)) ++ written m
+frame_of m = framed (code_of (type_of m)) (written m)
 
 -- no page uses more octets than it has
 abbrev pub HasShortPages : Message → Type 0

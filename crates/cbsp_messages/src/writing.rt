@@ -2,6 +2,7 @@
 
 ghost use Rattle.std.specs.Prelude.{◌≡◌, ◌≤◌, ◌<◌, ◌++◌, IfOk, IfSome, OnOk, length, drop, map, option_to_list};
 ghost use Rattle.std.specs.List.{AllByRecursion, flat_map};
+ghost use Rattle.cbsp_ie.specs.Frame.{longest_body};
 ghost use Rattle.cbsp_ie.specs.Written.{FitsElement, cells_octets, counts_octets, element_octets, failures_octets};
 ghost use Rattle.cbsp_messages.specs.Lent.{PartsFit, parts_lent};
 ghost use Rattle.cbsp_messages.specs.Message.{type_of};
@@ -23,6 +24,8 @@ use std::alloc::{AllocError, Global};
 pub fn write(alloc: Global, message: &Message) -> Result<Vec<u8>, AllocError>
     requires { Fits message.now }
     ensures frame { IfOk result (λ octets. octets.items ≡ frame_of message.now) }
+    // The body is short enough to be read, so that three octets can say its length.
+    ensures short { length (written message.now) ≤ longest_body }
     // What is written is read as the message without its spare bits, where no page uses more octets than it has.
     ensures spelled { HasShortPages message.now → IfOk result (λ octets. Spells (code_of (type_of message.now)) (drop 4 octets.items) (plain message.now)) }
 {

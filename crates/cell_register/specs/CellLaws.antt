@@ -1,10 +1,8 @@
 -- The order and the equality of numbers and of cells.
-use Rattle.std.proofs.Common.{◌≡◌, ℕ, true, false, ◌||◌, ltb, nat_eq, ap, arith}
-use Rattle.std.proofs.lemmas.Bool.{eqb-true}
+use Rattle.std.proofs.Common.{◌≡◌, ℕ, true, false, ◌||◌, ltb, nat_eq, arith}
 use Rattle.std.proofs.lemmas.Bool.Decides.{nat_tests}
 use Rattle.std.proofs.lemmas.Grind.{common_steps}
 use Rattle.cbsp_ie.specs.Cell.{cell_eq, cell_lt}
-use Rattle.cbsp_ie.specs.Equality.{cell_decides}
 use Rattle.cbsp_ie.specs.declared.cell.Cell.{Cell}
 
 pub cell_lt_follows : (x y z : Cell) → cell_lt x y ≡ true → cell_lt y z ≡ true → cell_lt x z ≡ true
@@ -26,19 +24,3 @@ ltb_other b x y e h = grind (arith, nat_tests, common_steps)
 
 pub cell_lt_other : (c x y : Cell) → cell_eq x c ≡ true → cell_lt x y ≡ true → cell_eq y c ≡ false
 cell_lt_other c x y e h = grind (arith, nat_tests, common_steps)
-
--- two that equal a third, and two of which one does
-pub nat_eq_along : (b d x : ℕ) → nat_eq x b ≡ true → nat_eq x d ≡ nat_eq b d
-nat_eq_along b d x e = ap (λ k. nat_eq k d) (eqb-true x b e)
-
-pub nat_eq_differs : (b d x : ℕ) → nat_eq x b ≡ false → nat_eq x d ≡ true → nat_eq b d ≡ false
-nat_eq_differs b d x e h = grind (arith, nat_tests, common_steps)
-
-pub cell_eq_along : (c d x : Cell) → cell_eq x c ≡ true → cell_eq x d ≡ cell_eq c d
-cell_eq_along c d x e = ap (λ k. cell_eq k d) ((cell_decides x c).0 e)
-
-pub cell_eq_differs : (c d x : Cell) → cell_eq x c ≡ false → cell_eq x d ≡ true → cell_eq c d ≡ false
-cell_eq_differs c d x e h = grind (arith, nat_tests, common_steps)
-
-pub nat_eq_turned : (a b : ℕ) → nat_eq a b ≡ nat_eq b a
-nat_eq_turned a b = grind (arith, nat_tests, common_steps)

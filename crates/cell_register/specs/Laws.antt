@@ -1,15 +1,17 @@
 -- What each event makes of each BSC and of each cell.
 use Rattle.std.proofs.Common.{◌≡◌, ℕ, ◌+◌, Bool, true, false, ◌&&◌, ◌||◌, not, List, [], ◌∷◌, Option, Some, None, nat_eq, ltb, length, filter, map, if◌then◌else◌, refl, sym, ◌∙◌, ap}
-use Rattle.std.proofs.lemmas.Bool.{and_parts, or_parts, eqb-true, eq-eqb, false_from_ne_true}
+use Rattle.std.proofs.lemmas.Bool.{and_parts, or_parts, or_right, and_right, eqb-true, eq-eqb, false_from_ne_true}
 use Rattle.std.proofs.lemmas.List.{length-map}
+use Rattle.std.specs.Cmp.{unsigned_Decides}
 use Rattle.std.specs.List.{list_any, list_all}
 use Rattle.std.specs.Option.{is_some}
 use Rattle.cbsp_ie.specs.Cell.{cell_eq, cell_lt}
 use Rattle.cbsp_ie.specs.Equality.{cell_decides}
 use Rattle.cbsp_ie.specs.declared.cell.Cell.{Cell}
-use Rattle.cell_register.specs.CellLaws.{cell_lt_other, ltb_other, nat_eq_along, nat_eq_differs, cell_eq_along, cell_eq_differs}
+use Rattle.cell_register.specs.CellLaws.{cell_lt_other, ltb_other}
+use Rattle.cbsp_ie.specs.OnceLaws.{along, differs, any_without_key}
 use Rattle.cbsp_ie.specs.Order.{inserted, is_ascending}
-use Rattle.cbsp_ie.specs.OrderLaws.{any_inserted, any_without, length_inserted, length_without, ascending_filter, ascending_map}
+use Rattle.cbsp_ie.specs.OrderLaws.{any_inserted, length_inserted, length_without, ascending_filter, ascending_map}
 use Rattle.cell_register.specs.Register.{State, has_bsc, place_among, place_in, has_cells, cell_of, cells_of, cells_in, placed_lt, new_placed, with_bsc, without_bsc, with_cell, placed_after_move, moved, without_cell, is_place}
 use Rattle.cell_register.specs.Sound.{IsRegister}
 use Rattle.cell_register.specs.declared.placed.Placed.{Placed}
@@ -21,7 +23,7 @@ has_bsc_with_bsc b d r = any_inserted ltb (λ x. nat_eq x d) b r.bscs
 
 pub has_bsc_without_bsc : (b d : ℕ) (r : State) → has_bsc (without_bsc b r) d ≡ (not (nat_eq b d) && has_bsc r d)
 has_bsc_without_bsc b d r =
-    any_without (λ x. nat_eq x d) (λ x. nat_eq x b) (nat_eq b d) (nat_eq_along b d) (nat_eq_differs b d) r.bscs
+    any_without_key nat_eq unsigned_Decides (λ x. x) b d r.bscs
 
 pub has_bsc_with_cell : (c : Cell) (b d : ℕ) (r : State) → has_bsc (with_cell c b r) d ≡ has_bsc r d
 has_bsc_with_cell c b d r = refl
@@ -83,7 +85,7 @@ either_way false o = refl
 place_among_without : (c d : Cell) (ps : List Placed) → place_among (filter (λ p. not (cell_eq p.cell c)) ps) d ≡ (if cell_eq c d then None else place_among ps d)
 place_among_without c d [] = either_way (cell_eq c d) None
 place_among_without c d (p ∷ ps) =
-    place_kept (cell_eq p.cell c) p (filter (λ q. not (cell_eq q.cell c)) ps) d ∙ without_place (cell_eq p.cell c) (cell_eq p.cell d) (cell_eq c d) (Some p.bsc) (place_among (filter (λ q. not (cell_eq q.cell c)) ps) d) (place_among ps d) (cell_eq_along c d p.cell) (cell_eq_differs c d p.cell) (place_among_without c d ps)
+    place_kept (cell_eq p.cell c) p (filter (λ q. not (cell_eq q.cell c)) ps) d ∙ without_place (cell_eq p.cell c) (cell_eq p.cell d) (cell_eq c d) (Some p.bsc) (place_among (filter (λ q. not (cell_eq q.cell c)) ps) d) (place_among ps d) (along cell_eq cell_decides c d p.cell) (differs cell_eq cell_decides c d p.cell) (place_among_without c d ps)
 
 pub place_in_without_cell : (c d : Cell) (r : State) → place_in (without_cell c r) d ≡ (if cell_eq c d then None else place_in r d)
 place_in_without_cell c d r = place_among_without c d r.cells
@@ -110,7 +112,7 @@ set_first false p b d k = refl
 place_among_set : (c : Cell) (b : ℕ) (d : Cell) (ps : List Placed) → place_among (map (placed_after_move c b) ps) d ≡ (if cell_eq c d then moved_place b (place_among ps d) else place_among ps d)
 place_among_set c b d [] = either_way (cell_eq c d) None
 place_among_set c b d (p ∷ ps) =
-    set_first (cell_eq p.cell c) p b d (place_among (map (placed_after_move c b) ps) d) ∙ moved_test (cell_eq p.cell c) (cell_eq p.cell d) (cell_eq c d) p.bsc b (place_among (map (placed_after_move c b) ps) d) (place_among ps d) (cell_eq_along c d p.cell) (cell_eq_differs c d p.cell) (place_among_set c b d ps)
+    set_first (cell_eq p.cell c) p b d (place_among (map (placed_after_move c b) ps) d) ∙ moved_test (cell_eq p.cell c) (cell_eq p.cell d) (cell_eq c d) p.bsc b (place_among (map (placed_after_move c b) ps) d) (place_among ps d) (along cell_eq cell_decides c d p.cell) (differs cell_eq cell_decides c d p.cell) (place_among_set c b d ps)
 
 pub place_in_moved : (c : Cell) (b : ℕ) (d : Cell) (r : State) → is_some (place_in r c) ≡ true → place_in (moved c b r) d ≡ (if cell_eq c d then Some b else place_in r d)
 place_in_moved c b d r there = place_among_set c b d r.cells ∙ step (cell_eq c d) refl
@@ -150,13 +152,9 @@ at_bsc : (ps : List Placed) (c : Cell) (b : ℕ) → place_among ps c ≡ Some b
 at_bsc [] c b h = cc
 at_bsc (p ∷ ps) c b h = step (cell_eq p.cell c) (at_bsc ps c b) h
   where
-    right : (a : Bool) → (a || true) ≡ true
-    right true = refl
-    right false = refl
-
     step : (t : Bool) → (place_among ps c ≡ Some b → list_any (λ q. nat_eq q.bsc b) ps ≡ true) → (if t then Some p.bsc else place_among ps c) ≡ Some b → (nat_eq p.bsc b || list_any (λ q. nat_eq q.bsc b) ps) ≡ true
     step true rest e = ap (λ t. t || list_any (λ q. nat_eq q.bsc b) ps) (eq-eqb p.bsc b (some_same p.bsc b e))
-    step false rest e = ap (λ t. nat_eq p.bsc b || t) (rest e) ∙ right (nat_eq p.bsc b)
+    step false rest e = or_right (nat_eq p.bsc b) (list_any (λ q. nat_eq q.bsc b) ps) (rest e)
 
 -- a BSC with a cell has cells
 pub has_cells_from_place : (r : State) (c : Cell) (b : ℕ) → place_in r c ≡ Some b → has_cells r b ≡ true
@@ -250,11 +248,7 @@ in_or_later : (t u v : Bool) (s : ℕ) (o : Option ℕ) (l : Bool) → (u ≡ tr
 in_or_later true true v s o l same rest = same refl
 in_or_later true false v s o l same rest = rest
 in_or_later false true true s o l same rest = let no : false ≡ true = same refl in cc
-in_or_later false true false s o l same rest = rest ∙ none (is_some o)
-  where
-    none : (t : Bool) → (t && false) ≡ false
-    none true = refl
-    none false = refl
+in_or_later false true false s o l same rest = rest ∙ and_right (is_some o) false refl
 in_or_later false false v s o l same rest = rest
 
 one_in_area : (ps : List Placed) (c : Cell) (lac : ℕ) → list_any (λ d. cell_eq d c) (map cell_of (filter (λ p. nat_eq p.cell.lac lac) ps)) ≡ (is_some (place_among ps c) && nat_eq c.lac lac)

@@ -1,13 +1,15 @@
 -- Each event that is not refused leaves a register.
 use Rattle.std.proofs.Common.{◌≡◌, ◌<◌, ℕ, Bool, true, false, ◌||◌, not, nat_eq, ltb, length, if◌then◌else◌, refl, sym, ◌∙◌, ap, arith}
-use Rattle.std.proofs.lemmas.Bool.{and_from}
+use Rattle.std.proofs.lemmas.Bool.{and_from, or_right}
+use Rattle.std.specs.Cmp.{unsigned_Decides}
 use Rattle.std.specs.List.{list_all}
 use Rattle.std.specs.Option.{is_some}
 use Rattle.cbsp_ie.specs.Cell.{cell_eq, cell_lt}
 use Rattle.cbsp_ie.specs.declared.cell.Cell.{Cell}
-use Rattle.cell_register.specs.CellLaws.{cell_lt_follows, cell_lt_apart, ltb_follows, ltb_apart, nat_eq_turned}
+use Rattle.cell_register.specs.CellLaws.{cell_lt_follows, cell_lt_apart, ltb_follows, ltb_apart}
+use Rattle.cbsp_ie.specs.OnceLaws.{turned}
 use Rattle.cell_register.specs.Laws.{has_bsc_with_bsc, has_bsc_without_bsc, length_with_bsc, length_with_cell, length_moved, is_some_place_among}
-use Rattle.cbsp_ie.specs.OrderLaws.{all_same, all_besides, all_from_none, all_map, all_filter, all_inserted, ascending_inserted, ascending_filter, ascending_map, length_filter_le}
+use Rattle.cbsp_ie.specs.OrderLaws.{all_same, all_besides, all_from_none, all_map, all_filter, all_inserted, ascending_inserted, ascending_filter, ascending_map, length_filter}
 use Rattle.cell_register.specs.Register.{State, empty, has_bsc, place_in, has_cells, placed_lt, new_placed, cell_of, with_bsc, without_bsc, with_cell, placed_after_move, moved, without_cell}
 use Rattle.cell_register.specs.Sound.{IsRegister}
 use Rattle.cell_register.specs.declared.placed.Placed.{Placed}
@@ -15,15 +17,11 @@ use Rattle.cell_register.specs.declared.placed.Placed.{Placed}
 pub empty_sound : IsRegister empty
 empty_sound = record { bscs_ascend = refl; cells_ascend = refl; placed = refl; few_bscs = omega arith; few_cells = omega arith }
 
-or_true : (a : Bool) → (a || true) ≡ true
-or_true true = refl
-or_true false = refl
-
 pub with_bsc_sound : (b : ℕ) (r : State) → IsRegister r → has_bsc r b ≡ false → length r.bscs < 256 → IsRegister (with_bsc b r)
 with_bsc_sound b r sound fresh room = record {
   bscs_ascend = ascending_inserted ltb ltb_follows b r.bscs (all_from_none (λ x. nat_eq x b) (λ x. ltb x b || ltb b x) (λ x. ltb_apart b x) r.bscs fresh) sound.bscs_ascend;
   cells_ascend = sound.cells_ascend;
-  placed = all_same (λ p. has_bsc r p.bsc) (λ p. has_bsc (with_bsc b r) p.bsc) (λ p h. has_bsc_with_bsc b p.bsc r ∙ (ap (λ t. nat_eq b p.bsc || t) h ∙ or_true (nat_eq b p.bsc))) r.cells sound.placed;
+  placed = all_same (λ p. has_bsc r p.bsc) (λ p. has_bsc (with_bsc b r) p.bsc) (λ p h. has_bsc_with_bsc b p.bsc r ∙ or_right (nat_eq b p.bsc) (has_bsc r p.bsc) h) r.cells sound.placed;
   few_bscs = omega (arith, length_with_bsc b r);
   few_cells = sound.few_cells;
 }
@@ -32,8 +30,8 @@ pub without_bsc_sound : (b : ℕ) (r : State) → IsRegister r → has_cells r b
 without_bsc_sound b r sound none = record {
   bscs_ascend = ascending_filter ltb (λ x. not (nat_eq x b)) r.bscs sound.bscs_ascend;
   cells_ascend = sound.cells_ascend;
-  placed = all_besides (λ p. has_bsc r p.bsc) (λ p. nat_eq p.bsc b) (λ p. has_bsc (without_bsc b r) p.bsc) (λ p h n. has_bsc_without_bsc b p.bsc r ∙ and_from (not (nat_eq b p.bsc)) (has_bsc r p.bsc) (ap not (nat_eq_turned b p.bsc ∙ n)) h) r.cells sound.placed none;
-  few_bscs = let few = sound.few_bscs in omega (arith, length_filter_le (λ x. not (nat_eq x b)) r.bscs);
+  placed = all_besides (λ p. has_bsc r p.bsc) (λ p. nat_eq p.bsc b) (λ p. has_bsc (without_bsc b r) p.bsc) (λ p h n. has_bsc_without_bsc b p.bsc r ∙ and_from (not (nat_eq b p.bsc)) (has_bsc r p.bsc) (ap not (turned nat_eq unsigned_Decides b p.bsc ∙ n)) h) r.cells sound.placed none;
+  few_bscs = let few = sound.few_bscs in omega (arith, length_filter (λ x. not (nat_eq x b)) r.bscs);
   few_cells = sound.few_cells;
 }
 
@@ -76,5 +74,5 @@ without_cell_sound c r sound = record {
   cells_ascend = ascending_filter placed_lt (λ p. not (cell_eq p.cell c)) r.cells sound.cells_ascend;
   placed = all_filter (λ p. has_bsc r p.bsc) (λ p. not (cell_eq p.cell c)) r.cells sound.placed;
   few_bscs = sound.few_bscs;
-  few_cells = let few = sound.few_cells in omega (arith, length_filter_le (λ p. not (cell_eq p.cell c)) r.cells);
+  few_cells = let few = sound.few_cells in omega (arith, length_filter (λ p. not (cell_eq p.cell c)) r.cells);
 }

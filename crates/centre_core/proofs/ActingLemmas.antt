@@ -1,6 +1,8 @@
 -- What the actions of a BSC touch, warning by warning.
 use Rattle.std.proofs.Common.{◌≡◌, ℕ, Bool, true, false, ◌&&◌, ◌||◌, not, nat_eq, List, [], ◌∷◌, Option, Some, None, refl, sym, ◌∙◌, ap, cond, eqb-true}
 use Rattle.std.specs.Prelude.{find}
+use Rattle.std.proofs.lemmas.Bool.{and_parts, or_right}
+use Rattle.std.proofs.lemmas.List.Folds.{list_any-append}
 use Rattle.std.specs.List.{list_any}
 use Rattle.std.specs.Option.{option_map}
 use Rattle.cbsp_ie.specs.Cell.{cell_eq}
@@ -22,7 +24,7 @@ use Rattle.centre_core.specs.declared.entry.Entry.{Entry}
 use Rattle.centre_core.specs.declared.order_maker.action.Action.{Action}
 use Rattle.centre_core.specs.declared.order_maker.order_kind.OrderKind.{OrderKind}
 use Rattle.centre_core.specs.declared.order_maker.order_kind.OrderKind.TheVariants.{Kill}
-use Rattle.centre_core.proofs.AnyLemmas.{or_none, and_none, and_over_or, any_append, any_same, any_never}
+use Rattle.centre_core.proofs.AnyLemmas.{or_none, and_none, and_over_or, any_same, any_never}
 use Rattle.centre_core.proofs.GroupingLemmas.{touches}
 
 -- what the actions for the warning and the cell do, by g
@@ -60,7 +62,7 @@ any_kills g c m past b w d (v ∷ vs) = step (any_kills g c m past b w d vs) (is
 
 any_actions : (g : OrderKind → ℕ → Bool) (c : Cell) (m : ℕ) (past : List Entry) (b : ℕ) (w : Warning) (d : Cell) → list_any (touches g c m) (actions past b w d) ≡ ((nat_eq w.message_id m && cell_eq c d) && does g past b w d)
 any_actions g c m past b w d =
-    any_append (touches g c m) (fresh past b w d) (kills past b w d (versions w))
+    list_any-append (touches g c m) (fresh past b w d) (kills past b w d (versions w))
     ∙ ap (λ t. t || list_any (touches g c m) (kills past b w d (versions w))) (any_fresh g c m past b w d)
     ∙ ap (λ t. ((nat_eq w.message_id m && cell_eq c d) && (needs past b w d && g (fresh_kind (replaced past b w d)) w.serial)) || t) (any_kills g c m past b w d (versions w))
     ∙ and_over_or (nat_eq w.message_id m && cell_eq c d) (needs past b w d && g (fresh_kind (replaced past b w d)) w.serial) (list_any (λ (v : Version). is_to_kill past b w d v.serial && g Kill v.serial) (versions w))
@@ -69,7 +71,7 @@ any_actions g c m past b w d =
 any_in : (g : OrderKind → ℕ → Bool) (c : Cell) (m : ℕ) (past : List Entry) (b : ℕ) (w : Warning) (cs : List Cell) → list_any (touches g c m) (actions_in past b w cs) ≡ (nat_eq w.message_id m && (is_among c cs && does g past b w c))
 any_in g c m past b w [] = sym (and_none (nat_eq w.message_id m))
 any_in g c m past b w (d ∷ ds) =
-    any_append (touches g c m) (actions past b w d) (actions_in past b w ds)
+    list_any-append (touches g c m) (actions past b w d) (actions_in past b w ds)
     ∙ ap (λ t. t || list_any (touches g c m) (actions_in past b w ds)) (any_actions g c m past b w d)
     ∙ ap (λ t. ((nat_eq w.message_id m && cell_eq c d) && does g past b w d) || t) (any_in g c m past b w ds)
     ∙ step (cell_eq c d) refl
@@ -99,7 +101,7 @@ any_in g c m past b w (d ∷ ds) =
 
 any_of : (p : Action → Bool) (past : List Entry) (b : ℕ) (cs : List Cell) (ws : List Warning) → list_any p (actions_of past b cs ws) ≡ list_any (λ w. list_any p (actions_in past b w cs)) ws
 any_of p past b cs [] = refl
-any_of p past b cs (w ∷ ws) = any_append p (actions_in past b w cs) (actions_of past b cs ws) ∙ ap (λ t. list_any p (actions_in past b w cs) || t) (any_of p past b cs ws)
+any_of p past b cs (w ∷ ws) = list_any-append p (actions_in past b w cs) (actions_of past b cs ws) ∙ ap (λ t. list_any p (actions_in past b w cs) || t) (any_of p past b cs ws)
 
 -- the actions of a BSC touch the cell where those of one warning do
 pub any_all : (g : OrderKind → ℕ → Bool) (c : Cell) (m : ℕ) (past : List Entry) (b : ℕ) → list_any (touches g c m) (all_actions past b) ≡ list_any (λ w. nat_eq w.message_id m && (is_among c (cells past) && does g past b w c)) (warnings_of past)
@@ -158,19 +160,11 @@ found_version : (p : Version → Bool) (q : ℕ → Bool) → ((v : Version) →
 found_version p q e s [] h = cc
 found_version p q e s (v ∷ vs) h = step (found_version p q e s vs) (p v) refl h
   where
-    table : (x : Bool) → (x || true) ≡ true
-    table true = refl
-    table false = refl
-
     step : (is_the (option_map (λ (u : Version). u.serial) (find p vs)) s ≡ true → (list_any (is_version s) vs ≡ true) × (q s ≡ true)) → (t : Bool) → p v ≡ t → is_the (option_map (λ (u : Version). u.serial) (cond t (Some v) (find p vs))) s ≡ true → ((nat_eq v.serial s || list_any (is_version s) vs) ≡ true) × (q s ≡ true)
     step known true f g = (ap (λ t. t || list_any (is_version s) vs) g, ap q (sym (eqb-true v.serial s g)) ∙ e v f)
     step known false f g =
         let rest = known g in
-        (ap (λ t. nat_eq v.serial s || t) rest.0 ∙ table (nat_eq v.serial s), rest.1)
-
-first_of : (x y : Bool) → (x && y) ≡ true → x ≡ true
-first_of true y h = refl
-first_of false y h = h
+        (or_right (nat_eq v.serial s) (list_any (is_version s) vs) rest.0, rest.1)
 
 -- what is replaced is another version, which is on air
 replaced_is : (past : List Entry) (b : ℕ) (w : Warning) (c : Cell) (s : ℕ) → is_the (replaced past b w c) s ≡ true → (list_any (is_version s) w.outdated ≡ true) × ((is_on_air (presence past b c w.message_id s) ≡ true) × (is_absent (presence past b c w.message_id w.serial) ≡ true))
@@ -178,7 +172,7 @@ replaced_is past b w c s h = step (is_absent (presence past b c w.message_id w.s
   where
     step : (t : Bool) → is_absent (presence past b c w.message_id w.serial) ≡ t → is_the (cond t (option_map (λ (v : Version). v.serial) (find (is_replaceable past b w c) w.outdated)) None) s ≡ true → (list_any (is_version s) w.outdated ≡ true) × ((is_on_air (presence past b c w.message_id s) ≡ true) × (is_absent (presence past b c w.message_id w.serial) ≡ true))
     step true e g =
-        let found = found_version (is_replaceable past b w c) (λ n. is_on_air (presence past b c w.message_id n)) (λ v f. first_of (is_on_air (presence past b c w.message_id v.serial)) true f) s w.outdated g in
+        let found = found_version (is_replaceable past b w c) (λ n. is_on_air (presence past b c w.message_id n)) (λ v f. (and_parts (is_on_air (presence past b c w.message_id v.serial)) true f).0) s w.outdated g in
         (found.0, (found.1, e))
     step false e g = cc
 
@@ -206,11 +200,7 @@ replaced_surplus past b w c s h =
     differ false e f g = e
 
 replaced_version : (past : List Entry) (b : ℕ) (w : Warning) (c : Cell) (s : ℕ) → is_the (replaced past b w c) s ≡ true → list_any (is_version s) (versions w) ≡ true
-replaced_version past b w c s h = ap (λ t. nat_eq w.serial s || t) (replaced_is past b w c s h).0 ∙ table (nat_eq w.serial s)
-  where
-    table : (x : Bool) → (x || true) ≡ true
-    table true = refl
-    table false = refl
+replaced_version past b w c s h = or_right (nat_eq w.serial s) (list_any (is_version s) w.outdated) (replaced_is past b w c s h).0
 
 -- the orders clear a version just where it is surplus, be it replaced or killed
 pub does_clearing : (past : List Entry) (b : ℕ) (w : Warning) (c : Cell) (s : ℕ) → does (clearing s) past b w c ≡ (list_any (is_version s) (versions w) && is_surplus past b w c s)

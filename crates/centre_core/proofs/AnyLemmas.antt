@@ -1,16 +1,7 @@
 -- Whether some element of a list passes a test.
-use Rattle.std.proofs.Common.{◌≡◌, Bool, true, false, ◌&&◌, ◌||◌, List, [], ◌∷◌, ◌++◌, refl, sym, ◌∙◌, ap}
+use Rattle.std.proofs.Common.{◌≡◌, Bool, true, false, ◌&&◌, ◌||◌, List, [], ◌∷◌, refl, ◌∙◌, ap}
+use Rattle.std.proofs.lemmas.Bool.{or_right}
 use Rattle.std.specs.List.{list_any}
-
-pub or_assoc : (a b c : Bool) → ((a || b) || c) ≡ (a || (b || c))
-or_assoc true b c = refl
-or_assoc false b c = refl
-
-pub or_swap : (a b c : Bool) → (a || (b || c)) ≡ (b || (a || c))
-or_swap true true c = refl
-or_swap true false c = refl
-or_swap false true c = refl
-or_swap false false c = refl
 
 pub or_none : (a : Bool) → (a || false) ≡ a
 or_none true = refl
@@ -24,10 +15,6 @@ and_none false = refl
 pub and_over_or : (x a b : Bool) → ((x && a) || (x && b)) ≡ (x && (a || b))
 and_over_or true a b = refl
 and_over_or false a b = refl
-
-pub any_append : {X : Type 0} (p : X → Bool) (xs ys : List X) → list_any p (xs ++ ys) ≡ (list_any p xs || list_any p ys)
-any_append p [] ys = refl
-any_append p (x ∷ xs) ys = ap (λ t. p x || t) (any_append p xs ys) ∙ sym (or_assoc (p x) (list_any p xs) (list_any p ys))
 
 -- tests that agree pass together
 pub any_same : {X : Type 0} (p q : X → Bool) → ((x : X) → p x ≡ q x) → (xs : List X) → list_any p xs ≡ list_any q xs
@@ -48,10 +35,6 @@ pub any_implies : {X : Type 0} (p q : X → Bool) → ((x : X) → p x ≡ true 
 any_implies p q e [] h = h
 any_implies p q e (x ∷ xs) h = step (any_implies p q e xs) (p x) refl h
   where
-    right : (a : Bool) → (a || true) ≡ true
-    right true = refl
-    right false = refl
-
     step : (list_any p xs ≡ true → list_any q xs ≡ true) → (t : Bool) → p x ≡ t → (t || list_any p xs) ≡ true → (q x || list_any q xs) ≡ true
     step rest true passes g = ap (λ u. u || list_any q xs) (e x passes)
-    step rest false fails g = ap (λ u. q x || u) (rest g) ∙ right (q x)
+    step rest false fails g = or_right (q x) (list_any q xs) (rest g)

@@ -1,16 +1,21 @@
 -- What the areas tell, count and refuse is what the entries say.
 use Rattle.std.proofs.Common.{◌≡◌, ◌⊎◌, subst, ℕ, Bool, true, false, ◌&&◌, ◌||◌, not, List, [], ◌∷◌, Some, None, Ok, Err, unwrap_or, length, map, refl, sym, ◌∙◌, ap, cond}
+use Rattle.std.proofs.lemmas.Bool.{not-false, false_from_ne_true}
 use Rattle.std.proofs.lemmas.List.{length-map}
 use Rattle.std.proofs.lemmas.Slice.Eq.{bytes_eq-Decides}
 use Rattle.std.specs.List.{list_any}
 use Rattle.std.specs.Prelude.{bytes_eq}
-use Rattle.areas.specs.Areas.{has_area, selectors_of, is_among, is_ascending, with_area, without_area, with_selector, without_selector}
+use Rattle.areas.specs.Areas.{has_area, selectors_of, named_lt, with_area, without_area, with_selector, without_selector}
 use Rattle.areas.specs.Areas as kept_areas
 use Rattle.cbsp_ie.specs.Checks.{first_refusal}
+use Rattle.cbsp_ie.specs.OnceLaws.{any_turned, ascending_once}
+use Rattle.cbsp_ie.specs.Order.{is_ascending, each_once}
+use Rattle.cbsp_ie.specs.OrderLaws.{ascending_map}
 use Rattle.areas.specs.Checks as checked
 use Rattle.areas.specs.Equality.{selector_decides}
-use Rattle.areas.specs.Keys.{has_key, keys_once}
-use Rattle.areas.specs.Laws.{has_area_same, has_area_with_area, has_area_without_area, has_area_with_selector, has_area_without_selector, has_selector_absent, has_selector_with_area, has_selector_without_area, has_selector_with_selector, has_selector_without_selector, names_once}
+use Rattle.areas.specs.Laws.{has_area_same, has_area_with_area, has_area_without_area, has_area_with_selector, has_area_without_selector, has_selector_absent, has_selector_with_area, has_selector_without_area, has_selector_with_selector, has_selector_without_selector}
+use Rattle.areas.specs.Name.{octets_lt}
+use Rattle.areas.specs.Order.{octets_lt-irreflexive}
 use Rattle.areas.specs.Selector.{selector_eq}
 use Rattle.areas.specs.declared.area.Area.{Area}
 use Rattle.areas.specs.declared.refusal.Refusal as areas_refusal
@@ -28,8 +33,8 @@ use Rattle.centre_core.specs.declared.event.Event.{Event}
 use Rattle.centre_core.specs.declared.event.Event.TheVariants.{AddArea, DropArea, Put, Cut}
 use Rattle.centre_core.proofs.AnyLemmas.{any_same}
 use Rattle.centre_core.proofs.CheckLemmas.{no_check, taken, refused, given}
-use Rattle.centre_core.proofs.CountLemmas.{each_once, same_count, named_once, any_turned, among_more, among_new, both_or_it}
-use Rattle.centre_core.proofs.RegisterLemmas.{not_not, said_or, unsaid_or}
+use Rattle.centre_core.proofs.CountLemmas.{same_count, named_once, among_more, among_new, both_or_it}
+use Rattle.centre_core.proofs.RegisterLemmas.{said_or, unsaid_or}
 
 -- One entry further.
 
@@ -52,7 +57,7 @@ selector_after past (AddArea x) given a s l v tied = has_selector_with_area x l 
 selector_after past (DropArea x) given a s l v tied = has_selector_without_area x l a s ∙ ap (λ t. not (bytes_eq x a) && t) (tied.selectors a s) ∙ sym (unsaid_or (bytes_eq x a) (has_selector past a s))
 selector_after past (Put x t) given a s l v tied =
     let none = no_check (put_checks past x t) (Ok answer.Done) given v in
-    let there : has_area l x ≡ true = tied.names x ∙ not_not (is_area past x) none.0 in
+    let there : has_area l x ≡ true = tied.names x ∙ not-false (is_area past x) none.0 in
     has_selector_with_selector x t l a s there ∙ ap (λ b. (bytes_eq x a && selector_eq t s) || b) (tied.selectors a s) ∙ sym (said_or (bytes_eq x a && selector_eq t s) (has_selector past a s))
 selector_after past (Cut x t) given a s l v tied = has_selector_without_selector x t l a s ∙ ap (λ b. not (bytes_eq x a && selector_eq t s) && b) (tied.selectors a s) ∙ sym (unsaid_or (bytes_eq x a && selector_eq t s) (has_selector past a s))
 selector_after past other given a s l v tied = tied.selectors a s
@@ -66,19 +71,9 @@ areas_with e before l v tied = record {
 
 -- How many there are.
 
-names_each : (l : List Area) → keys_once bytes_eq (λ (y : Area). y.name) l ≡ true → each_once bytes_eq (map (λ (y : Area). y.name) l) ≡ true
-names_each [] h = refl
-names_each (x ∷ l) h = step (has_key bytes_eq (λ (y : Area). y.name) x.name l) (keys_once bytes_eq (λ (y : Area). y.name) l) refl h (names_each l)
-  where
-    among : (ys : List Area) → list_any (λ n. bytes_eq n x.name) (map (λ (y : Area). y.name) ys) ≡ has_key bytes_eq (λ (y : Area). y.name) x.name ys
-    among [] = refl
-    among (y ∷ ys) = ap (λ t. bytes_eq y.name x.name || t) (among ys)
-
-    step : (t u : Bool) → has_key bytes_eq (λ (y : Area). y.name) x.name l ≡ t → (not t && u) ≡ true → (u ≡ true → each_once bytes_eq (map (λ (y : Area). y.name) l) ≡ true) → (not (list_any (bytes_eq x.name) (map (λ (y : Area). y.name) l)) && each_once bytes_eq (map (λ (y : Area). y.name) l)) ≡ true
-    step true u e g rest = cc
-    step false u e g rest =
-        let absent : list_any (bytes_eq x.name) (map (λ (y : Area). y.name) l) ≡ false = any_turned bytes_eq bytes_eq-Decides x.name (map (λ (y : Area). y.name) l) ∙ among l ∙ e in
-        ap (λ t. not t && each_once bytes_eq (map (λ (y : Area). y.name) l)) absent ∙ rest g
+name_apart : (x y : List ℕ) → octets_lt x y ≡ true → bytes_eq x y ≡ false
+name_apart x y h =
+    false_from_ne_true (bytes_eq x y) (λ e. let no : true ≡ false = sym h ∙ ap (octets_lt x) (sym ((bytes_eq-Decides x y).0 e)) ∙ octets_lt-irreflexive x in cc)
 
 area_named : (e : Event) (a : List ℕ) (names : List (List ℕ)) (before : Bool) → (before ≡ true → list_any (bytes_eq a) names ≡ true) → unwrap_or (area_mark a e) before ≡ true → list_any (bytes_eq a) (with_new bytes_eq (added_area e) names) ≡ true
 area_named (AddArea x) a names before known h = step (bytes_eq x a) refl h
@@ -98,8 +93,8 @@ known_area [] a h = cc
 known_area (e ∷ before) a h = area_named e.event a (areas before) (is_area before a) (known_area before a) h
 
 -- as many areas are kept
-pub areas_counted : (past : List Entry) (l : List Area) → is_ascending l ≡ true → AreAreasOf past l → length l ≡ area_count past
-areas_counted past l ascending tied = sym (length-map l (λ (y : Area). y.name)) ∙ sym (same_count bytes_eq bytes_eq-Decides (is_area past) (areas past) (map (λ (y : Area). y.name) l) (named_once bytes_eq added_area past) (names_each l (names_once l ascending)) members)
+pub areas_counted : (past : List Entry) (l : List Area) → is_ascending named_lt l ≡ true → AreAreasOf past l → length l ≡ area_count past
+areas_counted past l ascending tied = sym (length-map l (λ (y : Area). y.name)) ∙ sym (same_count bytes_eq bytes_eq-Decides (is_area past) (areas past) (map (λ (y : Area). y.name) l) (named_once bytes_eq added_area past) (ascending_once bytes_eq octets_lt name_apart (map (λ (y : Area). y.name) l) (ascending_map named_lt octets_lt (λ (y : Area). y.name) (λ x y h. h) l ascending)) members)
   where
     among : (a : List ℕ) (ys : List Area) → list_any (λ n. bytes_eq n a) (map (λ (y : Area). y.name) ys) ≡ has_area ys a
     among a [] = refl
@@ -139,39 +134,31 @@ known_selector : (past : List Entry) (a : List ℕ) (s : Selector) → has_selec
 known_selector [] a s h = cc
 known_selector (e ∷ before) a s h = selector_named e.event a s (selectors before a) (has_selector before a s) (known_selector before a s) h
 
-selectors_each : (xs : List Selector) → kept_areas.each_once xs ≡ true → each_once selector_eq xs ≡ true
-selectors_each [] h = refl
-selectors_each (s ∷ xs) h = step (is_among s xs) (kept_areas.each_once xs) refl h (selectors_each xs)
-  where
-    step : (t u : Bool) → is_among s xs ≡ t → (not t && u) ≡ true → (u ≡ true → each_once selector_eq xs ≡ true) → (not (list_any (selector_eq s) xs) && each_once selector_eq xs) ≡ true
-    step true u e g rest = cc
-    step false u e g rest = ap (λ t. not t && each_once selector_eq xs) (any_turned selector_eq selector_decides s xs ∙ e) ∙ rest g
-
 -- as many selectors of an area are kept
-pub selectors_counted : (past : List Entry) (l : List Area) (a : List ℕ) → ((x : List ℕ) → kept_areas.each_once (selectors_of l x) ≡ true) → AreAreasOf past l → length (selectors_of l a) ≡ selector_count past a
-selectors_counted past l a once tied = sym (same_count selector_eq selector_decides (has_selector past a) (selectors past a) (selectors_of l a) (named_once selector_eq (put_selector a) past) (selectors_each (selectors_of l a) (once a)) members)
+pub selectors_counted : (past : List Entry) (l : List Area) (a : List ℕ) → ((x : List ℕ) → each_once selector_eq (selectors_of l x) ≡ true) → AreAreasOf past l → length (selectors_of l a) ≡ selector_count past a
+selectors_counted past l a once tied = sym (same_count selector_eq selector_decides (has_selector past a) (selectors past a) (selectors_of l a) (named_once selector_eq (put_selector a) past) (once a) members)
   where
     members : (s : Selector) → list_any (selector_eq s) (selectors_of l a) ≡ (has_selector past a s && list_any (selector_eq s) (selectors past a))
     members s = any_turned selector_eq selector_decides s (selectors_of l a) ∙ tied.selectors a s ∙ both_or_it (has_selector past a s) (list_any (selector_eq s) (selectors past a)) (known_selector past a s)
 
 -- What is refused.
 
-add_area_same : (past : List Entry) (l : List Area) (a : List ℕ) → is_ascending l ≡ true → AreAreasOf past l → translated of_areas (checked.add_area_checks l a) ≡ add_area_checks past a
+add_area_same : (past : List Entry) (l : List Area) (a : List ℕ) → is_ascending named_lt l ≡ true → AreAreasOf past l → translated of_areas (checked.add_area_checks l a) ≡ add_area_checks past a
 add_area_same past l a ascending tied = rw (tied.names a, areas_counted past l ascending tied) refl
 
-pub add_area_taken : (past : List Entry) (l : List Area) (a : List ℕ) → is_ascending l ≡ true → AreAreasOf past l → first_refusal (checked.add_area_checks l a) ≡ None → add_area past a ≡ Ok answer.Done
+pub add_area_taken : (past : List Entry) (l : List Area) (a : List ℕ) → is_ascending named_lt l ≡ true → AreAreasOf past l → first_refusal (checked.add_area_checks l a) ≡ None → add_area past a ≡ Ok answer.Done
 add_area_taken past l a ascending tied h = ap (λ cs. unless cs (Ok answer.Done)) (sym (add_area_same past l a ascending tied)) ∙ taken of_areas (checked.add_area_checks l a) (Ok answer.Done) h
 
-pub add_area_refused : (past : List Entry) (l : List Area) (a : List ℕ) (e : areas_refusal.Refusal) → is_ascending l ≡ true → AreAreasOf past l → (first_refusal (checked.add_area_checks l a) ≡ Some e) ⊎ ((e ≡ areas_refusal_is.Memory) × (first_refusal (checked.add_area_checks l a) ≡ None)) → Gives (add_area past a) (Err (of_areas e))
+pub add_area_refused : (past : List Entry) (l : List Area) (a : List ℕ) (e : areas_refusal.Refusal) → is_ascending named_lt l ≡ true → AreAreasOf past l → (first_refusal (checked.add_area_checks l a) ≡ Some e) ⊎ ((e ≡ areas_refusal_is.Memory) × (first_refusal (checked.add_area_checks l a) ≡ None)) → Gives (add_area past a) (Err (of_areas e))
 add_area_refused past l a e ascending tied h = subst (λ cs. Gives (unless cs (Ok answer.Done)) (Err (of_areas e))) (add_area_same past l a ascending tied) (given of_areas areas_refusal_is.Memory refl (checked.add_area_checks l a) (Ok answer.Done) e h)
 
-put_same : (past : List Entry) (l : List Area) (a : List ℕ) (s : Selector) → ((x : List ℕ) → kept_areas.each_once (selectors_of l x) ≡ true) → AreAreasOf past l → translated of_areas (checked.put_checks l a s) ≡ put_checks past a s
+put_same : (past : List Entry) (l : List Area) (a : List ℕ) (s : Selector) → ((x : List ℕ) → each_once selector_eq (selectors_of l x) ≡ true) → AreAreasOf past l → translated of_areas (checked.put_checks l a s) ≡ put_checks past a s
 put_same past l a s once tied = rw (tied.names a, tied.selectors a s, selectors_counted past l a once tied) refl
 
-pub put_taken : (past : List Entry) (l : List Area) (a : List ℕ) (s : Selector) → ((x : List ℕ) → kept_areas.each_once (selectors_of l x) ≡ true) → AreAreasOf past l → first_refusal (checked.put_checks l a s) ≡ None → put past a s ≡ Ok answer.Done
+pub put_taken : (past : List Entry) (l : List Area) (a : List ℕ) (s : Selector) → ((x : List ℕ) → each_once selector_eq (selectors_of l x) ≡ true) → AreAreasOf past l → first_refusal (checked.put_checks l a s) ≡ None → put past a s ≡ Ok answer.Done
 put_taken past l a s once tied h = ap (λ cs. unless cs (Ok answer.Done)) (sym (put_same past l a s once tied)) ∙ taken of_areas (checked.put_checks l a s) (Ok answer.Done) h
 
-pub put_refused : (past : List Entry) (l : List Area) (a : List ℕ) (s : Selector) (e : areas_refusal.Refusal) → ((x : List ℕ) → kept_areas.each_once (selectors_of l x) ≡ true) → AreAreasOf past l → (first_refusal (checked.put_checks l a s) ≡ Some e) ⊎ ((e ≡ areas_refusal_is.Memory) × (first_refusal (checked.put_checks l a s) ≡ None)) → Gives (put past a s) (Err (of_areas e))
+pub put_refused : (past : List Entry) (l : List Area) (a : List ℕ) (s : Selector) (e : areas_refusal.Refusal) → ((x : List ℕ) → each_once selector_eq (selectors_of l x) ≡ true) → AreAreasOf past l → (first_refusal (checked.put_checks l a s) ≡ Some e) ⊎ ((e ≡ areas_refusal_is.Memory) × (first_refusal (checked.put_checks l a s) ≡ None)) → Gives (put past a s) (Err (of_areas e))
 put_refused past l a s e once tied h = subst (λ cs. Gives (unless cs (Ok answer.Done)) (Err (of_areas e))) (put_same past l a s once tied) (given of_areas areas_refusal_is.Memory refl (checked.put_checks l a s) (Ok answer.Done) e h)
 
 cut_same : (past : List Entry) (l : List Area) (a : List ℕ) (s : Selector) → AreAreasOf past l → translated of_areas (checked.cut_checks l a s) ≡ cut_checks past a s

@@ -1,26 +1,24 @@
 -- What carries an order: what is written, or replaces something, is the current version of a warning in the book, and
 -- so has its content.
-use Rattle.std.proofs.Common.{◌≡◌, ℕ, Bool, true, false, ◌&&◌, ◌||◌, nat_eq, List, [], ◌∷◌, ◌++◌, Option, Some, None, Result, Ok, cond, is_some, refl, sym, ◌∙◌, ap, arith}
-use Rattle.std.specs.Prelude.{find, take, if◌then◌else◌}
+use Rattle.std.proofs.Common.{◌≡◌, ℕ, Bool, true, false, ◌||◌, nat_eq, List, [], ◌∷◌, ◌++◌, Option, Some, None, cond, is_some, refl, sym, ◌∙◌, ap, arith}
+use Rattle.std.specs.Prelude.{find, if◌then◌else◌}
 use Rattle.std.specs.List.{list_any, list_all}
 use Rattle.std.specs.Option.{option_map}
-use Rattle.std.proofs.lemmas.Bool.{and_parts, and_from}
+use Rattle.std.proofs.lemmas.Bool.{and_parts, and_from, or_right}
 use Rattle.std.proofs.lemmas.Grind.{common_steps}
 use Rattle.std.proofs.lemmas.Bool.Decides.{nat_tests}
 use Rattle.std.proofs.lemmas.List.Folds.{list_any-append, list_all-append}
 use Rattle.cbsp_ie.specs.OrderLaws.{all_inserted}
 use Rattle.cbsp_ie.specs.declared.cell.Cell.{Cell}
 use Rattle.cbsp_messages.specs.Message.{type_of}
-use Rattle.cbsp_messages.specs.declared.message.Message.{Message}
 use Rattle.cbsp_messages.specs.declared.message_type.MessageType.TheVariants as type
 use Rattle.warning_book.specs.Book.{versions, versions_if, versions_with, content_of}
 use Rattle.warning_book.specs.declared.content.Content.{Content}
 use Rattle.warning_book.specs.declared.version.Version.{Version}
 use Rattle.warning_book.specs.declared.warning.Warning.{Warning}
-use Rattle.centre_core.proofs.CountLemmas.{or_right}
 use Rattle.centre_core.specs.Actions.{needs, replaced, is_to_kill, fresh_kind, fresh, kills, actions, actions_in, actions_of, all_actions, action}
 use Rattle.centre_core.specs.InFlight.{is_kill}
-use Rattle.centre_core.specs.OrderMessage.{message_by, order_message}
+use Rattle.centre_core.specs.OrderMessage.{message_by}
 use Rattle.centre_core.specs.Pending.{fits, joined, grouped, alone, in_order, action_lt, pending}
 use Rattle.centre_core.specs.Places.{cells}
 use Rattle.centre_core.specs.Sorting.{sorted_by}
@@ -70,7 +68,7 @@ each_has (w ∷ ws) =
     still (v ∷ vs) h =
         let parts = and_parts (has_content ws v.message_id v.serial) (list_all (λ u. has_content ws u.message_id u.serial) vs) h in
         and_from (has_content (w ∷ ws) v.message_id v.serial) (list_all (λ u. has_content (w ∷ ws) u.message_id u.serial) vs)
-        (content_more v.message_id v.serial w ws ∙ ap (λ t. list_any (λ u. nat_eq u.serial v.serial) (versions_if v.message_id w) || t) parts.0 ∙ or_right (list_any (λ u. nat_eq u.serial v.serial) (versions_if v.message_id w)))
+        (content_more v.message_id v.serial w ws ∙ or_right (list_any (λ u. nat_eq u.serial v.serial) (versions_if v.message_id w)) (has_content ws v.message_id v.serial) parts.0)
         (still vs parts.1)
 
 -- an order that is no kill has a content
@@ -97,7 +95,7 @@ fresh_carry : (ws : List Warning) (past : List Entry) (b : ℕ) (w : Warning) (c
 fresh_carry ws past b w c h = step (needs past b w c)
   where
     step : (t : Bool) → list_all (action_carries ws) (if t then action w c (fresh_kind (replaced past b w c)) w.serial ∷ [] else []) ≡ true
-    step true = and_from (is_kill (fresh_kind (replaced past b w c)) || has_content ws w.message_id w.serial) true (ap (λ t. is_kill (fresh_kind (replaced past b w c)) || t) h ∙ or_right (is_kill (fresh_kind (replaced past b w c)))) refl
+    step true = and_from (is_kill (fresh_kind (replaced past b w c)) || has_content ws w.message_id w.serial) true (or_right (is_kill (fresh_kind (replaced past b w c))) (has_content ws w.message_id w.serial) h) refl
     step false = refl
 
 both : (p : Action → Bool) (xs ys : List Action) → list_all p xs ≡ true → list_all p ys ≡ true → list_all p (xs ++ ys) ≡ true

@@ -1,5 +1,6 @@
 -- Sorting and grouping change no test of what the actions touch.
 use Rattle.std.proofs.Common.{◌≡◌, ℕ, Bool, true, false, ◌&&◌, ◌||◌, nat_eq, List, [], ◌∷◌, refl, ◌∙◌, ap, eqb-true}
+use Rattle.std.proofs.lemmas.Bool.{and_parts}
 use Rattle.std.specs.List.{list_any}
 use Rattle.cbsp_ie.specs.Cell.{cell_eq}
 use Rattle.cbsp_ie.specs.declared.cell.Cell.{Cell}
@@ -29,15 +30,6 @@ kind_same (Replace old) (Replace other) h = ap (λ s. Replace s) (eqb-true old o
 kind_same Kill Kill h = refl
 kind_same x y h = cc
 
-pub first_true : (a b : Bool) → (a && b) ≡ true → a ≡ true
-first_true true b h = refl
-first_true false b h = h
-
-pub second_true : (a b : Bool) → (a && b) ≡ true → b ≡ true
-second_true true b h = h
-second_true false b h = cc
-
--- an order with one more cell names that cell too
 one_more : (x y z g r : Bool) → (((x && (y || z)) && g) || r) ≡ (((x && (y || false)) && g) || (((x && z) && g) || r))
 one_more false y z g r = refl
 one_more true true z true r = refl
@@ -54,9 +46,9 @@ any_joined g c m a (order ∷ orders) = step (fits a order) refl
 
     step : (t : Bool) → fits a order ≡ t → list_any (tests g c m) (joined a (order ∷ orders)) ≡ (touches g c m a || list_any (tests g c m) (order ∷ orders))
     step true h =
-        rw h (at_same a.kind a.message_id a.serial (kind_same a.kind order.kind (first_true (kind_eq a.kind order.kind) (nat_eq a.message_id order.message_id && nat_eq a.serial order.serial) h))
-        (eqb-true a.message_id order.message_id (first_true (nat_eq a.message_id order.message_id) (nat_eq a.serial order.serial) (second_true (kind_eq a.kind order.kind) (nat_eq a.message_id order.message_id && nat_eq a.serial order.serial) h)))
-        (eqb-true a.serial order.serial (second_true (nat_eq a.message_id order.message_id) (nat_eq a.serial order.serial) (second_true (kind_eq a.kind order.kind) (nat_eq a.message_id order.message_id && nat_eq a.serial order.serial) h))))
+        let parts = and_parts (kind_eq a.kind order.kind) (nat_eq a.message_id order.message_id && nat_eq a.serial order.serial) h in
+        let ids = and_parts (nat_eq a.message_id order.message_id) (nat_eq a.serial order.serial) parts.1 in
+        rw h (at_same a.kind a.message_id a.serial (kind_same a.kind order.kind parts.0) (eqb-true a.message_id order.message_id ids.0) (eqb-true a.serial order.serial ids.1))
     step false h = rw h refl
 
 pub any_grouped : (g : OrderKind → ℕ → Bool) (c : Cell) (m : ℕ) (xs : List Action) → list_any (tests g c m) (grouped xs) ≡ list_any (touches g c m) xs

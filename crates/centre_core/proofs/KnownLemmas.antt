@@ -1,5 +1,6 @@
 -- A cell that has a place, stands in an order in flight, or has something on air was registered once.
 use Rattle.std.proofs.Common.{◌≡◌, ℕ, zero, suc, Bool, true, false, ◌&&◌, ◌||◌, nat_eq, List, [], ◌∷◌, Option, Some, None, Ok, unwrap_or, take, refl, sym, ◌∙◌, ap, cond, eq-eqb}
+use Rattle.std.proofs.lemmas.Bool.{and_parts}
 use Rattle.std.specs.List.{list_any}
 use Rattle.cbsp_ie.specs.Cell.{cell_eq}
 use Rattle.cbsp_ie.specs.Equality.{cell_decides}
@@ -30,7 +31,7 @@ use Rattle.centre_core.specs.declared.outcome.Outcome.{Outcome}
 use Rattle.centre_core.specs.declared.outcome.Outcome.TheVariants.{Silent}
 use Rattle.centre_core.proofs.CountLemmas.{among_more, among_new}
 use Rattle.centre_core.proofs.ActingLemmas.{does, any_all}
-use Rattle.centre_core.proofs.GroupingLemmas.{second_true, tests, any_pending}
+use Rattle.centre_core.proofs.GroupingLemmas.{tests, any_pending}
 use Rattle.centre_core.proofs.CheckLemmas.{unless_ok}
 use Rattle.centre_core.proofs.UniqueLemmas.{verdict_law}
 
@@ -144,7 +145,7 @@ flight_known k None o p c m s named known h = known h
 flight_known k (Some order) o p c m s named known h = step (nat_eq order.message_id m && is_among c order.cells) refl
   where
     step : (t : Bool) → (nat_eq order.message_id m && is_among c order.cells) ≡ t → k ≡ true
-    step true e = named (second_true (nat_eq order.message_id m) (is_among c order.cells) e)
+    step true e = named (and_parts (nat_eq order.message_id m) (is_among c order.cells) e).1
     step false e = let there : is_absent p ≡ false = rw e at h in known there
 
 presence_after : (limit : ℕ) (before : List Entry) → Legal limit before → (e : Event) (a : Answer) (b : ℕ) (c : Cell) (m s : ℕ) → (is_absent (presence before b c m s) ≡ false → is_among c (cells before) ≡ true) → is_absent (unwrap_or (presence_mark (effect b c m s e a (is_up before b) (in_flight before b))) (presence before b c m s)) ≡ false → is_among c (with_new cell_eq (added_cell e) (cells before)) ≡ true

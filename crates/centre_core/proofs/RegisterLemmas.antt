@@ -1,15 +1,16 @@
 -- What the register tells, counts and refuses is what the entries say.
 use Rattle.std.proofs.Common.{◌≡◌, ◌⊎◌, subst, ℕ, Bool, true, false, ◌&&◌, ◌||◌, not, nat_eq, ltb, List, [], ◌∷◌, Option, Some, None, Ok, Err, unwrap_or, length, map, refl, sym, ◌∙◌, ap, cond, eqb-true, eq-eqb}
+use Rattle.std.proofs.lemmas.Bool.{not-false, or_right}
 use Rattle.std.proofs.lemmas.List.{length-map}
 use Rattle.std.specs.Cmp.{unsigned_Decides}
-use Rattle.std.specs.List.{list_any, list_all}
+use Rattle.std.specs.List.{list_any}
 use Rattle.std.specs.Option.{is_some}
 use Rattle.cbsp_ie.specs.Cell.{cell_eq, cell_lt}
 use Rattle.cbsp_ie.specs.Equality.{cell_decides}
 use Rattle.cbsp_ie.specs.declared.cell.Cell.{Cell}
-use Rattle.cell_register.specs.CellLaws.{cell_lt_other, ltb_other, nat_eq_turned}
+use Rattle.cell_register.specs.CellLaws.{cell_lt_other, ltb_other}
 use Rattle.cell_register.specs.Laws.{has_bsc_with_bsc, has_bsc_without_bsc, place_in_with_cell, place_in_without_cell, place_in_moved, is_some_place_among, has_cells_from_place, place_from_has_cells}
-use Rattle.cbsp_ie.specs.Order.{is_ascending}
+use Rattle.cbsp_ie.specs.OnceLaws.{turned, any_turned, ascending_once}
 use Rattle.cbsp_ie.specs.OrderLaws.{ascending_map}
 use Rattle.cbsp_ie.specs.Checks.{first_refusal}
 use Rattle.cell_register.specs.Register.{State, has_bsc, place_in, place_among, cell_of, placed_lt, with_bsc, without_bsc, with_cell, moved, without_cell}
@@ -31,7 +32,7 @@ use Rattle.centre_core.specs.declared.entry.Entry.{Entry}
 use Rattle.centre_core.specs.declared.event.Event.{Event}
 use Rattle.centre_core.specs.declared.event.Event.TheVariants.{AddBsc, RemoveBsc, AddCell, MoveCell, RemoveCell}
 use Rattle.centre_core.proofs.CheckLemmas.{no_check, taken, refused, given}
-use Rattle.centre_core.proofs.CountLemmas.{each_once, same_count, named_once, turned, any_turned, among_more, among_new, both_or_it, or_right}
+use Rattle.centre_core.proofs.CountLemmas.{same_count, named_once, among_more, among_new, both_or_it}
 use Rattle.centre_core.proofs.KnownLemmas.{known_place}
 
 -- One entry further.
@@ -54,15 +55,11 @@ bsc_after (AddBsc d) b r before h = has_bsc_with_bsc d b r ∙ ap (λ t. nat_eq 
 bsc_after (RemoveBsc d) b r before h = has_bsc_without_bsc d b r ∙ ap (λ t. not (nat_eq d b) && t) h ∙ sym (unsaid_or (nat_eq d b) before)
 bsc_after other b r before h = h
 
-pub not_not : (t : Bool) → not t ≡ false → t ≡ true
-not_not true h = refl
-not_not false h = cc
-
 place_after : (past : List Entry) (e : Event) (a : Answer) (c : Cell) (r : State) → law past e ≡ Ok a → ((d : Cell) → place_in r d ≡ place past d) → place_in (register_after e r) c ≡ unwrap_or (place_mark c e) (place past c)
 place_after past (AddCell d b) a c r v h = place_in_with_cell d b c r ∙ ap (λ o. cond (cell_eq d c) (Some b) o) (h c) ∙ placed_or (cell_eq d c) (Some b) (place past c)
 place_after past (MoveCell d b) a c r v h =
     let none = no_check (move_cell_checks past d b) (Ok answer.Done) a v in
-    let there : is_some (place_in r d) ≡ true = ap is_some (h d) ∙ not_not (is_registered past d) none.1.0 in
+    let there : is_some (place_in r d) ≡ true = ap is_some (h d) ∙ not-false (is_registered past d) none.1.0 in
     place_in_moved d b c r there ∙ ap (λ o. cond (cell_eq d c) (Some b) o) (h c) ∙ placed_or (cell_eq d c) (Some b) (place past c)
 place_after past (RemoveCell d) a c r v h = place_in_without_cell d c r ∙ ap (λ o. cond (cell_eq d c) None o) (h c) ∙ placed_or (cell_eq d c) None (place past c)
 place_after past other a c r v h = h c
@@ -75,23 +72,6 @@ register_with e before r v kept = record {
 }
 
 -- How many there are.
-
--- what comes before what follows isn't the same
-ascending_once : {A : Type 0} (same before : A → A → Bool) → ((x y : A) → before x y ≡ true → same x y ≡ false) → (xs : List A) → is_ascending before xs ≡ true → each_once same xs ≡ true
-ascending_once same before apart [] h = refl
-ascending_once {A = A} same before apart (x ∷ xs) h = step (list_all (before x) xs) (is_ascending before xs) refl h (ascending_once same before apart xs)
-  where
-    absent : (ys : List A) → list_all (before x) ys ≡ true → list_any (same x) ys ≡ false
-    absent [] g = refl
-    absent (y ∷ ys) g = both (before x y) (list_all (before x) ys) refl g (absent ys)
-      where
-        both : (t u : Bool) → before x y ≡ t → (t && u) ≡ true → (u ≡ true → list_any (same x) ys ≡ false) → (same x y || list_any (same x) ys) ≡ false
-        both true u e k rest = ap (λ b. b || list_any (same x) ys) (apart x y e) ∙ rest k
-        both false u e k rest = cc
-
-    step : (t u : Bool) → list_all (before x) xs ≡ t → (t && u) ≡ true → (u ≡ true → each_once same xs ≡ true) → (not (list_any (same x) xs) && each_once same xs) ≡ true
-    step true u e k rest = ap (λ b. not b && each_once same xs) (absent xs e) ∙ rest k
-    step false u e k rest = cc
 
 bsc_named : (e : Event) (b : ℕ) (bs : List ℕ) (before : Bool) → (before ≡ true → list_any (nat_eq b) bs ≡ true) → unwrap_or (bsc_mark b e) before ≡ true → list_any (nat_eq b) (with_new nat_eq (added_bsc e) bs) ≡ true
 bsc_named (AddBsc d) b bs before known h = step (nat_eq d b) refl h
@@ -112,7 +92,7 @@ known_bsc [] b h = cc
 known_bsc (e ∷ before) b h = bsc_named e.event b (bscs before) (is_bsc before b) (known_bsc before b) h
 
 nat_apart : (x y : ℕ) → ltb x y ≡ true → nat_eq x y ≡ false
-nat_apart x y h = nat_eq_turned x y ∙ ltb_other x x y (eq-eqb x x refl) h
+nat_apart x y h = turned nat_eq unsigned_Decides x y ∙ ltb_other x x y (eq-eqb x x refl) h
 
 -- as many BSCs stand in the register
 pub bscs_counted : (past : List Entry) (r : State) → IsRegister r → IsRegisterOf past r → length r.bscs ≡ bsc_count past
@@ -151,7 +131,7 @@ any_here p c (d ∷ ds) h g = step (any_here p c ds h) (cell_eq c d) refl g
   where
     step : (list_any (cell_eq c) ds ≡ true → list_any p ds ≡ true) → (t : Bool) → cell_eq c d ≡ t → (t || list_any (cell_eq c) ds) ≡ true → (p d || list_any p ds) ≡ true
     step rest true e k = ap (λ t. t || list_any p ds) (ap p (sym ((cell_decides c d).0 e)) ∙ h)
-    step rest false e k = ap (λ t. p d || t) (rest k) ∙ or_right (p d)
+    step rest false e k = or_right (p d) (list_any p ds) (rest k)
 
 any_which : (p : Cell → Bool) (cs : List Cell) → list_any p cs ≡ true → (c : Cell) × (p c ≡ true)
 any_which p [] h = cc

@@ -1,10 +1,10 @@
 -- At most one warning of a legal past's book has a key.
 use Rattle.std.proofs.Common.{◌≡◌, ℕ, ◌+◌, ◌≤◌, Bool, true, false, ◌&&◌, ◌||◌, not, nat_eq, nat_le, ltb, List, [], ◌∷◌, Ok, refl, sym, ◌∙◌, ap, map, length, eqb-true, eq-eqb, arith}
 use Rattle.std.specs.List.{list_any, list_all}
-use Rattle.std.proofs.lemmas.Bool.{and_parts, and_from, or_parts}
+use Rattle.std.proofs.lemmas.Bool.{and_parts, and_from, or_parts, not-true}
 use Rattle.serials.specs.Serials.{code_of}
 use Rattle.warning_book.specs.Book.{State}
-use Rattle.warning_book.specs.Sound.{is_older, has_serials, key_of, is_same_key, shares_code, IsSound}
+use Rattle.warning_book.specs.Sound.{is_older, has_serials, key_of, is_same_key, have_own_codes, IsSound}
 use Rattle.warning_book.specs.declared.version.Version.{Version}
 use Rattle.warning_book.specs.declared.warning.Warning.{Warning}
 use Rattle.centre_core.specs.Past.{one, count_of}
@@ -83,12 +83,12 @@ no_other m s j (w ∷ ws) older h g =
     step true e whole differs rest = let meets : is_same_key j (key_of w) ≡ true = keys_meet j (key_of w) m (code_of s) h (key_code m s w whole e) in cc
     step false e whole differs rest = rest
 
-unique_in : (m s : ℕ) (ws : List Warning) → list_all has_serials ws ≡ true → shares_code ws ≡ false → count_of (has_key m s) ws ≤ 1
+unique_in : (m s : ℕ) (ws : List Warning) → list_all has_serials ws ≡ true → have_own_codes ws ≡ true → count_of (has_key m s) ws ≤ 1
 unique_in m s [] older codes = omega arith
 unique_in m s (w ∷ ws) older codes =
     let whole = and_parts (has_serials w) (list_all has_serials ws) older in
-    let parts = or_parts (list_any (is_same_key (key_of w)) (map key_of ws)) (shares_code ws) codes in
-    step (has_key m s w) refl whole.0 whole.1 parts.0 (unique_in m s ws whole.1 parts.1)
+    let parts = and_parts (not (list_any (is_same_key (key_of w)) (map key_of ws))) (have_own_codes ws) codes in
+    step (has_key m s w) refl whole.0 whole.1 (not-true (list_any (is_same_key (key_of w)) (map key_of ws)) parts.0) (unique_in m s ws whole.1 parts.1)
   where
     step : (t : Bool) → has_key m s w ≡ t → has_serials w ≡ true → list_all has_serials ws ≡ true → list_any (is_same_key (key_of w)) (map key_of ws) ≡ false → count_of (has_key m s) ws ≤ 1 → one t + count_of (has_key m s) ws ≤ 1
     step true e own rest alone bound =
@@ -128,7 +128,7 @@ one_other {X = X} h p e (x ∷ xs) bound = step (one_other h p e xs) (h x) refl 
     step rest true g bound_x =
         let none : list_any h xs ≡ false = any_none h xs (omega arith) in
         let none_p : list_any p xs ≡ false = both_none p e (list_any p xs) refl none in
-        let none_q : list_any (λ x. h x && not (p x)) xs ≡ false = both_none (λ x. h x && not (p x)) (λ y. first (h y) (not (p y))) (list_any (λ x. h x && not (p x)) xs) refl none in
+        let none_q : list_any (λ x. h x && not (p x)) xs ≡ false = both_none (λ x. h x && not (p x)) (λ y g. (and_parts (h y) (not (p y)) g).0) (list_any (λ x. h x && not (p x)) xs) refl none in
         rw (g, none_p, none_q) (table (p x))
     step rest false g bound_x =
         let other : p x ≡ false = not_implied p h e x g in

@@ -7,11 +7,11 @@ use Rattle.std.proofs.lemmas.Bool.{leb-true, or_parts, and_parts, and_from, not-
 use Rattle.std.proofs.lemmas.List.Elements.{All-nil, All-cons}
 use Rattle.std.proofs.lemmas.List.Folds.{list_all-append}
 use Rattle.cbsp_ie.specs.Checks.{first_refusal}
-use Rattle.warning_book.specs.Book.{State, empty, has_number, warning_is, warning_of, is_so, numbers, versions, versions_if, versions_with, content_of, new_serial, next_serial}
+use Rattle.cbsp_ie.specs.Order.{is_ascending}
+use Rattle.warning_book.specs.Book.{State, empty, has_number, number_lt, warning_is, warning_of, is_so, versions, versions_if, versions_with, content_of, new_serial, next_serial}
 use Rattle.warning_book.specs.Checks as book
 use Rattle.warning_book.specs.Content.{is_page, are_pages, is_period}
 use Rattle.warning_book.specs.Laws.{found_so}
-use Rattle.warning_book.specs.Once.{is_disordered}
 use Rattle.warning_book.specs.Sound.{IsSound, is_good, has_contents}
 use Rattle.warning_book.specs.SoundLaws.{sound_after_issue, sound_after_update, sound_after_widen, sound_after_narrow, sound_after_stop, sound_after_forget}
 use Rattle.warning_book.specs.declared.content.Content.{Content}
@@ -113,9 +113,9 @@ forget_missing past st n is h =
     let none : list_any (has_number n) (book_of past).warnings ≡ false = none_found n (book_of past).warnings (rw (← is) h) in
     rw none refl
 
-pub forget_found : (past : List Entry) (st : State) (n : ℕ) (w : Warning) → st ≡ book_of past → is_disordered (numbers st.warnings) ≡ false → warning_of st n ≡ Some w → forget past n ≡ unless (forget_found_checks past w) (Ok answer.Done)
+pub forget_found : (past : List Entry) (st : State) (n : ℕ) (w : Warning) → st ≡ book_of past → is_ascending number_lt st.warnings ≡ true → warning_of st n ≡ Some w → forget past n ≡ unless (forget_found_checks past w) (Ok answer.Done)
 forget_found past st n w is ordered h =
-    let order : is_disordered (numbers (book_of past).warnings) ≡ false = rw (← is) ordered in
+    let order : is_ascending number_lt (book_of past).warnings ≡ true = rw (← is) ordered in
     let found : find (has_number n) (book_of past).warnings ≡ Some w = rw (← is) h in
     let there : list_any (has_number n) (book_of past).warnings ≡ true = one_found n (book_of past).warnings w found in
     let active : is_so n (λ v. v.active) (book_of past).warnings ≡ w.active = found_so n (λ v. v.active) (book_of past).warnings w order found in
@@ -124,7 +124,7 @@ forget_found past st n w is ordered h =
     rw (there, active, reported, flying) refl
 
 -- the refusal of a warning that is there
-pub forget_checked : (past : List Entry) (st : State) (n : ℕ) (w : Warning) (e : Refusal) → st ≡ book_of past → is_disordered (numbers st.warnings) ≡ false → warning_of st n ≡ Some w → (e ≡ refusal.Memory) ⊎ (unless (forget_found_checks past w) (Ok answer.Done) ≡ Err e) → Gives (forget past n) (Err e)
+pub forget_checked : (past : List Entry) (st : State) (n : ℕ) (w : Warning) (e : Refusal) → st ≡ book_of past → is_ascending number_lt st.warnings ≡ true → warning_of st n ≡ Some w → (e ≡ refusal.Memory) ⊎ (unless (forget_found_checks past w) (Ok answer.Done) ≡ Err e) → Gives (forget past n) (Err e)
 forget_checked past st n w e is ordered h (inl memory) = inl memory
 forget_checked past st n w e is ordered h (inr first) = inr (forget_found past st n w is ordered h ∙ first)
 

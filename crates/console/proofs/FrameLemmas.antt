@@ -1,10 +1,12 @@
 -- A stream that is one frame, and its cutting.
-use Rattle.std.proofs.Common.{◌≡◌, ℕ, ◌<◌, List, [], ◌∷◌, ◌++◌, length, sym, ap, ◌∙◌, subst, arith, append-nil}
+use Rattle.std.proofs.Common.{◌≡◌, ℕ, ◌<◌, List, [], ◌∷◌, ◌++◌, length, refl, sym, ap, ◌∙◌, subst, arith, append-nil}
 use Rattle.framing.specs.Streams.{Cuts, frame_octets}
 use Rattle.framing.specs.Framers.{Framing, fresh, Takes, EndsTooLong}
 use Rattle.framing.specs.declared.frame.Frame.{Frame}
 use Rattle.framing.proofs.StreamLemmas.{one_cut, no_frame-nil}
+use Rattle.cbsp_messages.specs.Written.{frame_of}
 use Rattle.console.specs.Frames.{IsFrame, IsNoFrame}
+use Rattle.console.specs.Laws.{frame_with, WrittenIsCut}
 
 -- one frame is cut into itself
 frame_cut : (octets : List ℕ) (frame : Frame) → IsFrame octets frame → Cuts octets (frame ∷ []) []
@@ -31,3 +33,7 @@ no_frame_too_long octets old new n start ends =
 -- octets are one frame at most
 pub one_frame : (octets : List ℕ) (f g : Frame) → IsFrame octets f → IsFrame octets g → f ≡ g
 one_frame octets f g p q = cc (one_cut octets (f ∷ []) (g ∷ []) [] [] (frame_cut octets f p) (frame_cut octets g q)).0
+
+-- what is written of a message with a body that is short enough is cut as its frame
+pub written_is_cut : WrittenIsCut
+written_is_cut m h = frame_cut (frame_of m) (frame_with m) (record { whole = refl; readable = h })

@@ -1,6 +1,7 @@
 -- Octets that are exactly one frame.
 use Rattle.std.specs.Prelude.{◌≡◌, ℕ, ◌≤◌, List, length}
-use Rattle.framing.specs.Streams.{frame_octets, longest_body}
+use Rattle.cbsp_ie.specs.Frame.{longest_body}
+use Rattle.framing.specs.Streams.{frame_octets}
 use Rattle.framing.specs.declared.frame.Frame.{Frame}
 
 -- the octets are the frame, and its body is no longer than is read

@@ -1,5 +1,12 @@
--- That the text of lines is determined by them.
-use Rattle.std.specs.Prelude.{◌≡◌, ℕ, List}
+-- That the text of lines is determined by them, and that what is written of a message is one frame.
+use Rattle.std.specs.Prelude.{◌≡◌, ℕ, ◌≤◌, List, [], ◌∷◌, length}
+use Rattle.cbsp_ie.specs.Frame.{longest_body}
+use Rattle.cbsp_messages.specs.Message.{type_of}
+use Rattle.cbsp_messages.specs.MessageType.{code_of}
+use Rattle.cbsp_messages.specs.Written.{frame_of, written}
+use Rattle.cbsp_messages.specs.declared.message.Message.{Message}
+use Rattle.framing.specs.Streams.{Cuts}
+use Rattle.framing.specs.declared.frame.Frame.{Frame}
 use Rattle.console.specs.Sessions.{SessionState}
 use Rattle.console.specs.Text.{IsText}
 
@@ -7,3 +14,11 @@ use Rattle.console.specs.Text.{IsText}
 abbrev pub OneText : Type 0
 OneText = (old : SessionState) (lines : List (List ℕ)) (new last : SessionState) (text other : List ℕ) → IsText old lines new text → IsText old lines last other
     → (new ≡ last) × (text ≡ other)
+
+-- the frame of a message: the octet of its type, and its body
+abbrev pub frame_with : Message → Frame
+frame_with m = record { kind = code_of (type_of m); body = written m }
+
+-- where the body is short enough to be read, what is written of a message is cut as its frame, and nothing is left
+abbrev pub WrittenIsCut : Type 0
+WrittenIsCut = (m : Message) → length (written m) ≤ longest_body → Cuts (frame_of m) (frame_with m ∷ []) []

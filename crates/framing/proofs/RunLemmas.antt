@@ -3,7 +3,8 @@ use Rattle.std.proofs.Common.{◌≡◌, ℕ, ◌<◌, List, [], ◌∷◌, ◌+
 use Rattle.std.specs.Prelude.{option_to_list}
 use Rattle.std.proofs.lemmas.List.{length-take-le, take-append-drop}
 use Rattle.framing.specs.declared.frame.Frame.{Frame}
-use Rattle.framing.specs.Streams.{Cuts, IsTooLong, announced, longest_body}
+use Rattle.framing.specs.Streams.{Cuts, IsTooLong, announced}
+use Rattle.cbsp_ie.specs.Frame.{longest_body}
 use Rattle.framing.specs.Framers.{Framing, fresh}
 use Rattle.framing.specs.Runs.{Step, Fed, Asked, Runs, fed, given, AnyPieces, RefusedStream, TakenStream, StaysTooLong}
 use Rattle.framing.proofs.StreamLemmas.{one_cut, pieces_join, no_frame-nil, announced-append}

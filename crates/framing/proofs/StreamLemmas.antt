@@ -6,7 +6,8 @@ use Rattle.std.proofs.lemmas.Grind.{flat_map-append}
 use Rattle.byteorder.specs.Endian.{big_bytes, big_number}
 use Rattle.byteorder.specs.Numbers.{big_number-reads_back}
 use Rattle.framing.specs.declared.frame.Frame.{Frame}
-use Rattle.framing.specs.Streams.{Cuts, IsReadable, BeginsWithNoFrame, IsTooLong, announced, framed, frame_octets, longest_body, OneCut, PiecesJoin, FramesAreCut}
+use Rattle.cbsp_ie.specs.Frame.{framed, longest_body}
+use Rattle.framing.specs.Streams.{Cuts, IsReadable, BeginsWithNoFrame, IsTooLong, announced, frame_octets, OneCut, PiecesJoin, FramesAreCut}
 use Rattle.framing.specs.Framers.{Framing, EndsTooLong}
 
 -- the octets are frames, which stand behind the old ones, and the rest

@@ -1,18 +1,11 @@
 -- A stream of CBSP messages (3GPP TS 48.049, clause 8): frames, one after another.
 use Rattle.std.specs.Prelude.{◌≡◌, ◌≢◌, ℕ, ◌<◌, ◌≤◌, List, [], ◌∷◌, ◌++◌, length, drop}
 use Rattle.std.specs.List.{AllByRecursion, flat_map}
-use Rattle.byteorder.specs.Endian.{big_bytes, big_number}
+use Rattle.byteorder.specs.Endian.{big_number}
+use Rattle.cbsp_ie.specs.Frame.{framed, longest_body}
 use Rattle.framing.specs.declared.frame.Frame.{Frame}
 
--- the most octets that a body may have to be read
-abbrev pub longest_body : ℕ
-longest_body = 262144
-
--- the octets of a frame: the type, the body's length in three octets, most significant first, and the body
-abbrev pub framed : ℕ → List ℕ → List ℕ
-framed kind body = kind ∷ big_bytes 3 (length body) ++ body
-
--- the same of a frame as a whole
+-- the octets of a frame
 abbrev pub frame_octets : Frame → List ℕ
 frame_octets f = framed f.kind f.body
 

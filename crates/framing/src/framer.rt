@@ -1,7 +1,8 @@
 //! Cutting a stream into frames.
 
 ghost use Rattle.std.specs.Prelude.{◌≡◌, ◌<◌, ◌≤◌, [], ◌++◌, length, take, IfSome, IfNone, IfOk, IfErr, OnOk, OnErr, Err, option_to_list};
-ghost use Rattle.framing.specs.Streams.{longest_body, framed, BeginsWithNoFrame, IsTooLong, announced};
+ghost use Rattle.cbsp_ie.specs.Frame.{longest_body, framed};
+ghost use Rattle.framing.specs.Streams.{BeginsWithNoFrame, IsTooLong, announced};
 ghost use Rattle.framing.specs.Framers.{fresh, Takes, Refuses, IsCut};
 
 use crate::fault::FrameFault;

@@ -4,9 +4,10 @@ use Rattle.std.specs.Prelude.{find}
 use Rattle.std.specs.Cmp.{unsigned_Decides}
 use Rattle.std.specs.List.{list_any, filter, range_with_len}
 use Rattle.std.specs.Option.{is_some}
-use Rattle.std.proofs.lemmas.Bool.{not-false, not-true}
+use Rattle.std.proofs.lemmas.Bool.{not-false, not-true, or_left}
 use Rattle.std.proofs.lemmas.Bool.Decides.{nat_tests}
 use Rattle.std.proofs.lemmas.Grind.{common_steps}
+use Rattle.std.proofs.lemmas.List.Sums.{length-filter, count_by-le-length}
 use Rattle.serials.specs.Serials.{serial_of, code_of, update_of, every_code, least_free}
 
 -- the number that a search of a range finds is one of the range and passes the test
@@ -46,26 +47,17 @@ none_in_range p a (suc n) h k g l = step (none_in_range p (a + 1) n) (p a) refl 
 -- a list that has each of so many numbers is as long
 
 length-filter-le : (q : ℕ → Bool) (xs : List ℕ) → length (filter q xs) ≤ length xs
-length-filter-le q [] = omega arith
-length-filter-le q (x ∷ xs) = step (length-filter-le q xs) (q x)
-  where
-    step : length (filter q xs) ≤ length xs → (t : Bool) → length (cond t (x ∷ filter q xs) (filter q xs)) ≤ length (x ∷ xs)
-    step rest true = omega arith
-    step rest false = omega arith
+length-filter-le q xs = omega (arith, length-filter q xs, count_by-le-length q xs)
 
 among_others : (n k : ℕ) (xs : List ℕ) → nat_eq n k ≡ false → list_any (nat_eq k) xs ≡ true → list_any (nat_eq k) (filter (λ x. not (nat_eq n x)) xs) ≡ true
 among_others n k [] h g = cc
 among_others n k (x ∷ xs) h g = step (among_others n k xs h) (nat_eq n x) refl (nat_eq k x) refl g
   where
-    or_true : (b : Bool) → b ≡ true → (b || list_any (nat_eq k) (filter (λ y. not (nat_eq n y)) xs)) ≡ true
-    or_true true e = refl
-    or_true false e = cc
-
     step : (list_any (nat_eq k) xs ≡ true → list_any (nat_eq k) (filter (λ y. not (nat_eq n y)) xs) ≡ true) → (t : Bool) → nat_eq n x ≡ t → (u : Bool) → nat_eq k x ≡ u → (u || list_any (nat_eq k) xs) ≡ true → list_any (nat_eq k) (cond (not t) (x ∷ filter (λ y. not (nat_eq n y)) xs) (filter (λ y. not (nat_eq n y)) xs)) ≡ true
     step rest true e true d g =
         absurd (let no : true ≡ false = sym ((unsigned_Decides n k).1 ((unsigned_Decides n x).0 e ∙ sym ((unsigned_Decides k x).0 d))) ∙ h in cc)
     step rest true e false d g = rest g
-    step rest false e true d g = or_true (nat_eq k x) d
+    step rest false e true d g = or_left (nat_eq k x) (list_any (nat_eq k) (filter (λ y. not (nat_eq n y)) xs)) d
     step rest false e false d g = ap (λ b. b || list_any (nat_eq k) (filter (λ y. not (nat_eq n y)) xs)) d ∙ rest g
 
 fewer_others : (n : ℕ) (xs : List ℕ) → list_any (nat_eq n) xs ≡ true → length (filter (λ x. not (nat_eq n x)) xs) + 1 ≤ length xs

@@ -1,16 +1,16 @@
 -- A change at the place of a number is the change of the warning of that number.
-use Rattle.std.proofs.Common.{◌≡◌, ℕ, suc, ◌+◌, ◌<◌, ◌≤◌, Bool, true, false, ◌&&◌, ◌||◌, cond, List, [], ◌∷◌, Option, Some, None, nat_eq, nat_le, length, get_or, set, refl, sym, ap, ◌∙◌, arith}
+use Rattle.std.proofs.Common.{◌≡◌, ℕ, suc, ◌+◌, ◌<◌, ◌≤◌, Bool, true, false, ◌&&◌, ◌||◌, cond, List, [], ◌∷◌, Option, Some, None, nat_eq, length, get_or, set, refl, sym, ap, ◌∙◌, arith}
 use Rattle.std.specs.Prelude.{find, IsSome, IfSome, IfNone}
-use Rattle.std.specs.List.{position_or_len, list_any}
+use Rattle.std.specs.List.{position_or_len, list_any, list_all}
 use Rattle.std.specs.Option.{option_map}
-use Rattle.std.proofs.lemmas.Bool.{or_parts}
+use Rattle.std.proofs.lemmas.Bool.{and_parts, or_parts}
 use Rattle.std.proofs.lemmas.Bool.Decides.{nat_tests}
 use Rattle.std.proofs.lemmas.Grind.{common_steps}
 use Rattle.std.proofs.lemmas.List.Recursion.{is_position_or_len}
+use Rattle.cbsp_ie.specs.Order.{is_ascending}
 use Rattle.serials.specs.Serials.{update_of}
-use Rattle.warning_book.specs.Book.{has_number, is_exhausted, is_so, numbers, edited}
-use Rattle.warning_book.specs.Laws.{none_after, absent_so}
-use Rattle.warning_book.specs.Once.{is_disordered}
+use Rattle.warning_book.specs.Book.{has_number, number_lt, is_exhausted, is_so, edited}
+use Rattle.warning_book.specs.Laws.{none_after, or_alone, absent_so}
 use Rattle.warning_book.specs.declared.warning.Warning.{Warning}
 
 -- where there is no such warning none is changed
@@ -42,16 +42,16 @@ no_place n (w ∷ l) h = step (no_place n l) (has_number n w) h
     step rest true e = absurd (omega arith)
     step rest false e = rest (omega arith)
 
-changed_in : (n : ℕ) (f : Warning → Warning) (l : List Warning) (d : Warning) → is_disordered (numbers l) ≡ false → place_in n l < length l → set l (place_in n l) (f (get_or l (place_in n l) d)) ≡ edited n f l
+changed_in : (n : ℕ) (f : Warning → Warning) (l : List Warning) (d : Warning) → is_ascending number_lt l ≡ true → place_in n l < length l → set l (place_in n l) (f (get_or l (place_in n l) d)) ≡ edited n f l
 changed_in n f [] d o h = absurd (omega arith)
-changed_in n f (w ∷ l) d o h = step (changed_in n f l d) (has_number n w) refl (or_parts (list_any (λ k. nat_le k w.number) (numbers l)) (is_disordered (numbers l)) o) h
+changed_in n f (w ∷ l) d o h = step (changed_in n f l d) (has_number n w) refl (and_parts (list_all (number_lt w) l) (is_ascending number_lt l) o) h
   where
-    step : (is_disordered (numbers l) ≡ false → place_in n l < length l → set l (place_in n l) (f (get_or l (place_in n l) d)) ≡ edited n f l) → (t : Bool) → has_number n w ≡ t → (list_any (λ k. nat_le k w.number) (numbers l) ≡ false) × (is_disordered (numbers l) ≡ false) → cond t 0 (suc (place_in n l)) < length (w ∷ l) → set (w ∷ l) (cond t 0 (suc (place_in n l))) (f (get_or (w ∷ l) (cond t 0 (suc (place_in n l))) d)) ≡ cond t (f w) w ∷ edited n f l
+    step : (is_ascending number_lt l ≡ true → place_in n l < length l → set l (place_in n l) (f (get_or l (place_in n l) d)) ≡ edited n f l) → (t : Bool) → has_number n w ≡ t → (list_all (number_lt w) l ≡ true) × (is_ascending number_lt l ≡ true) → cond t 0 (suc (place_in n l)) < length (w ∷ l) → set (w ∷ l) (cond t 0 (suc (place_in n l))) (f (get_or (w ∷ l) (cond t 0 (suc (place_in n l))) d)) ≡ cond t (f w) w ∷ edited n f l
     step rest true e o h = ap (λ ws. f w ∷ ws) (sym (unchanged_absent n f l (none_after n w l e o.0)))
     step rest false e o h = ap (λ ws. w ∷ ws) (rest o.1 (omega arith))
 
 -- the warning w stands at the place, and v is what f makes of it
-pub changed_at_place : (n : ℕ) (f : Warning → Warning) (l : List Warning) (p : ℕ) (w v : Warning) → is_disordered (numbers l) ≡ false → p ≡ position_or_len (has_number n) l → p < length l → w ≡ get_or l p w → v ≡ f w → set l p v ≡ edited n f l
+pub changed_at_place : (n : ℕ) (f : Warning → Warning) (l : List Warning) (p : ℕ) (w v : Warning) → is_ascending number_lt l ≡ true → p ≡ position_or_len (has_number n) l → p < length l → w ≡ get_or l p w → v ≡ f w → set l p v ≡ edited n f l
 changed_at_place n f l p w v o e h g k =
     let place : p ≡ place_in n l = e ∙ sym (place_in-position n l) in
     let within : place_in n l < length l = omega arith in
@@ -97,18 +97,14 @@ not_so_at_place n f l p w e h g so =
         step rest false h so = rest (omega arith) so
 
 -- the last update of a warning is told by the serial number of its current version
-pub exhausted_current : (n : ℕ) (l : List Warning) (s : ℕ) → is_disordered (numbers l) ≡ false → option_map (λ w. w.serial) (find (has_number n) l) ≡ Some s → is_so n is_exhausted l ≡ nat_eq (update_of s) 15
+pub exhausted_current : (n : ℕ) (l : List Warning) (s : ℕ) → is_ascending number_lt l ≡ true → option_map (λ w. w.serial) (find (has_number n) l) ≡ Some s → is_so n is_exhausted l ≡ nat_eq (update_of s) 15
 exhausted_current n [] s o h = cc
-exhausted_current n (w ∷ l) s o h = step (exhausted_current n l s) (has_number n w) refl (or_parts (list_any (λ k. nat_le k w.number) (numbers l)) (is_disordered (numbers l)) o) h
+exhausted_current n (w ∷ l) s o h = step (exhausted_current n l s) (has_number n w) refl (and_parts (list_all (number_lt w) l) (is_ascending number_lt l) o) h
   where
-    alone : (a b : Bool) → b ≡ false → (a || b) ≡ a
-    alone true b e = refl
-    alone false b e = e
-
-    step : (is_disordered (numbers l) ≡ false → option_map (λ v. v.serial) (find (has_number n) l) ≡ Some s → is_so n is_exhausted l ≡ nat_eq (update_of s) 15) → (t : Bool) → has_number n w ≡ t → (list_any (λ k. nat_le k w.number) (numbers l) ≡ false) × (is_disordered (numbers l) ≡ false) → option_map (λ v. v.serial) (cond t (Some w) (find (has_number n) l)) ≡ Some s → ((t && is_exhausted w) || is_so n is_exhausted l) ≡ nat_eq (update_of s) 15
+    step : (is_ascending number_lt l ≡ true → option_map (λ v. v.serial) (find (has_number n) l) ≡ Some s → is_so n is_exhausted l ≡ nat_eq (update_of s) 15) → (t : Bool) → has_number n w ≡ t → (list_all (number_lt w) l ≡ true) × (is_ascending number_lt l ≡ true) → option_map (λ v. v.serial) (cond t (Some w) (find (has_number n) l)) ≡ Some s → ((t && is_exhausted w) || is_so n is_exhausted l) ≡ nat_eq (update_of s) 15
     step rest true e o h =
         let same : w.serial ≡ s = cc in
-        alone (is_exhausted w) (is_so n is_exhausted l) (absent_so n is_exhausted l (none_after n w l e o.0)) ∙ ap (λ k. nat_eq (update_of k) 15) same
+        or_alone (is_exhausted w) (is_so n is_exhausted l) (absent_so n is_exhausted l (none_after n w l e o.0)) ∙ ap (λ k. nat_eq (update_of k) 15) same
     step rest false e o h = rest o.1 h
 
 -- a warning without a current version is not there

@@ -1,5 +1,5 @@
 -- The book of warnings: what it tells, and what each edit makes of it.
-use Rattle.std.specs.Prelude.{ℕ, ◌+◌, Bool, true, false, ◌&&◌, not, List, [], ◌∷◌, ◌++◌, map, Option, nat_eq, nat_le, bytes_eq, find, length, if◌then◌else◌}
+use Rattle.std.specs.Prelude.{ℕ, ◌+◌, Bool, true, false, ◌&&◌, not, List, [], ◌∷◌, ◌++◌, map, Option, nat_eq, nat_le, ltb, bytes_eq, find, length, if◌then◌else◌}
 use Rattle.std.specs.List.{list_any, filter}
 use Rattle.std.specs.Option.{option_map}
 use Rattle.serials.specs.Serials.{scope_number, serial_of, code_of, update_of, least_free}
@@ -21,6 +21,10 @@ empty = record { issued = 0; warnings = [] }
 
 abbrev pub has_number : ℕ → Warning → Bool
 has_number n w = nat_eq w.number n
+
+-- warnings stand in the order of their numbers
+abbrev pub number_lt : Warning → Warning → Bool
+number_lt v w = ltb v.number w.number
 
 -- it names the area
 abbrev pub names : List ℕ → Warning → Bool

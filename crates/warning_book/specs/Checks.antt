@@ -1,8 +1,8 @@
 -- Why an edit is refused: the first cause that holds, in the order of the checks.
-use Rattle.std.specs.Prelude.{ℕ, Bool, true, false, not, List, [], ◌∷◌, nat_le, ltb, length}
+use Rattle.std.specs.Prelude.{ℕ, Bool, true, false, not, List, [], ◌∷◌, bytes_eq, nat_le, ltb, length}
+use Rattle.cbsp_ie.specs.Order.{each_once}
 use Rattle.warning_book.specs.Book.{State, names, is_full, has_one_area, is_exhausted, warning_is, is_there, is_active}
 use Rattle.warning_book.specs.Content.{are_pages, is_period}
-use Rattle.warning_book.specs.Once.{has_twice}
 use Rattle.warning_book.specs.declared.content.Content.{Content}
 use Rattle.warning_book.specs.declared.notice.Notice.{Notice}
 use Rattle.warning_book.specs.declared.refusal.Limit.TheVariants as limit
@@ -14,7 +14,7 @@ is_empty [] = true
 is_empty (a ∷ areas) = false
 
 abbrev pub issue_checks : State → Notice → List (List ℕ) → List (Bool × Refusal)
-issue_checks st notice areas = (is_empty areas, refusal.NoAreas) ∷ (has_twice areas, refusal.AreaThere) ∷ (not (are_pages notice.content.pages), refusal.BadPages) ∷ (not (is_period notice.content.period), refusal.BadPeriod) ∷ (nat_le 256 (length st.warnings), refusal.Limit limit.Warnings) ∷ (ltb 16 (length areas), refusal.Limit limit.WarningAreas) ∷ (nat_le 4294967295 st.issued, refusal.Limit limit.Ids) ∷ []
+issue_checks st notice areas = (is_empty areas, refusal.NoAreas) ∷ (not (each_once bytes_eq areas), refusal.AreaThere) ∷ (not (are_pages notice.content.pages), refusal.BadPages) ∷ (not (is_period notice.content.period), refusal.BadPeriod) ∷ (nat_le 256 (length st.warnings), refusal.Limit limit.Warnings) ∷ (ltb 16 (length areas), refusal.Limit limit.WarningAreas) ∷ (nat_le 4294967295 st.issued, refusal.Limit limit.Ids) ∷ []
 
 abbrev pub update_checks : State → ℕ → Content → List (Bool × Refusal)
 update_checks st n content = (not (is_there st n), refusal.NoSuchWarning) ∷ (not (is_active st n), refusal.NotActive) ∷ (not (are_pages content.pages), refusal.BadPages) ∷ (not (is_period content.period), refusal.BadPeriod) ∷ (warning_is st n is_exhausted, refusal.UpdatesExhausted) ∷ []

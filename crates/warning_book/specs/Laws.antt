@@ -1,29 +1,29 @@
 -- What each edit changes, for every list of warnings: which warning has a number, and what is true of it.
-use Rattle.std.proofs.Common.{◌≡◌, ℕ, Bool, true, false, ◌&&◌, ◌||◌, not, cond, List, [], ◌∷◌, ◌++◌, Option, Some, None, nat_eq, nat_le, refl, sym, ap, ◌∙◌, arith}
+use Rattle.std.proofs.Common.{◌≡◌, ℕ, Bool, true, false, ◌&&◌, ◌||◌, not, cond, List, [], ◌∷◌, ◌++◌, Option, Some, None, nat_eq, ltb, refl, sym, ap, ◌∙◌, arith}
 use Rattle.std.specs.Prelude.{find}
 use Rattle.std.specs.Cmp.{unsigned_Decides}
-use Rattle.std.specs.List.{list_any}
+use Rattle.std.specs.List.{list_any, list_all}
 use Rattle.std.specs.Option.{option_map, option_or}
-use Rattle.std.proofs.lemmas.Bool.{or_parts, or_from}
+use Rattle.std.proofs.lemmas.Bool.{and_parts, or_from}
 use Rattle.std.proofs.lemmas.Bool.Decides.{nat_tests}
 use Rattle.std.proofs.lemmas.Grind.{common_steps}
 use Rattle.std.proofs.lemmas.List.Folds.{find-append, list_any-append}
+use Rattle.cbsp_ie.specs.Order.{is_ascending}
 use Rattle.cbsp_ie.specs.OrderLaws.{left_out, left_in}
-use Rattle.warning_book.specs.Book.{has_number, is_so, numbers, changed_if, edited, without}
-use Rattle.warning_book.specs.Once.{is_disordered}
+use Rattle.warning_book.specs.Book.{has_number, number_lt, is_so, changed_if, edited, without}
 use Rattle.warning_book.specs.declared.warning.Warning.{Warning}
 
 -- the warning of a number, and what the book tells of it
 
 -- a greater number is another
-other : (k m n : ℕ) → nat_eq m n ≡ true → nat_le k m ≡ false → nat_eq k n ≡ false
+other : (k m n : ℕ) → nat_eq m n ≡ true → ltb m k ≡ true → nat_eq k n ≡ false
 other k m n e h = grind (arith, nat_tests, common_steps)
 
--- the numbers that follow a number in order are others
-pub none_after : (n : ℕ) (w : Warning) (l : List Warning) → has_number n w ≡ true → list_any (λ k. nat_le k w.number) (numbers l) ≡ false → list_any (has_number n) l ≡ false
+-- the warnings that follow one in order have other numbers
+pub none_after : (n : ℕ) (w : Warning) (l : List Warning) → has_number n w ≡ true → list_all (number_lt w) l ≡ true → list_any (has_number n) l ≡ false
 none_after n w [] e h = refl
 none_after n w (v ∷ l) e h =
-    let parts = or_parts (nat_le v.number w.number) (list_any (λ k. nat_le k w.number) (numbers l)) h in
+    let parts = and_parts (number_lt w v) (list_all (number_lt w) l) h in
     or_from (nat_eq v.number n) (list_any (has_number n) l) (other v.number w.number n e parts.0) (none_after n w l e parts.1)
 
 -- of a warning that is not there nothing is told
@@ -35,19 +35,19 @@ absent_so n f (w ∷ l) h = step (absent_so n f l) (has_number n w) h
     step rest true e = cc
     step rest false e = rest e
 
--- in order a number stands once, so that what is told of it is told of the warning that has it
-pub found_so : (n : ℕ) (f : Warning → Bool) (l : List Warning) (w : Warning) → is_disordered (numbers l) ≡ false → find (has_number n) l ≡ Some w → is_so n f l ≡ f w
-found_so n f [] w o h = cc
-found_so n f (v ∷ l) w o h = step (found_so n f l w) (has_number n v) refl (or_parts (list_any (λ k. nat_le k v.number) (numbers l)) (is_disordered (numbers l)) o) h
-  where
-    alone : (a b : Bool) → b ≡ false → (a || b) ≡ a
-    alone true b e = refl
-    alone false b e = e
+pub or_alone : (a b : Bool) → b ≡ false → (a || b) ≡ a
+or_alone true b e = refl
+or_alone false b e = e
 
-    step : (is_disordered (numbers l) ≡ false → find (has_number n) l ≡ Some w → is_so n f l ≡ f w) → (t : Bool) → has_number n v ≡ t → (list_any (λ k. nat_le k v.number) (numbers l) ≡ false) × (is_disordered (numbers l) ≡ false) → cond t (Some v) (find (has_number n) l) ≡ Some w → ((t && f v) || is_so n f l) ≡ f w
+-- in order a number stands once, so that what is told of it is told of the warning that has it
+pub found_so : (n : ℕ) (f : Warning → Bool) (l : List Warning) (w : Warning) → is_ascending number_lt l ≡ true → find (has_number n) l ≡ Some w → is_so n f l ≡ f w
+found_so n f [] w o h = cc
+found_so n f (v ∷ l) w o h = step (found_so n f l w) (has_number n v) refl (and_parts (list_all (number_lt v) l) (is_ascending number_lt l) o) h
+  where
+    step : (is_ascending number_lt l ≡ true → find (has_number n) l ≡ Some w → is_so n f l ≡ f w) → (t : Bool) → has_number n v ≡ t → (list_all (number_lt v) l ≡ true) × (is_ascending number_lt l ≡ true) → cond t (Some v) (find (has_number n) l) ≡ Some w → ((t && f v) || is_so n f l) ≡ f w
     step rest true e o h =
         let same : v ≡ w = cc in
-        alone (f v) (is_so n f l) (absent_so n f l (none_after n v l e o.0)) ∙ ap f same
+        or_alone (f v) (is_so n f l) (absent_so n f l (none_after n v l e o.0)) ∙ ap f same
     step rest false e o h = rest o.1 h
 
 -- edits of one warning
@@ -56,12 +56,15 @@ found_so n f (v ∷ l) w o h = step (found_so n f l w) (has_number n v) refl (or
 abbrev pub KeepsNumber : (Warning → Warning) → Type 0
 KeepsNumber f = (w : Warning) → (f w).number ≡ w.number
 
-number_kept : (n m : ℕ) (f : Warning → Warning) → KeepsNumber f → (w : Warning) → has_number m (changed_if n f w) ≡ has_number m w
-number_kept n m f keeps w = step (has_number n w)
+pub number-edited : (n : ℕ) (f : Warning → Warning) → KeepsNumber f → (w : Warning) → (changed_if n f w).number ≡ w.number
+number-edited n f keeps w = step (has_number n w)
   where
-    step : (t : Bool) → has_number m (cond t (f w) w) ≡ has_number m w
-    step true = ap (λ k. nat_eq k m) (keeps w)
+    step : (t : Bool) → (let v : Warning = cond t (f w) w in v.number) ≡ w.number
+    step true = keeps w
     step false = refl
+
+number_kept : (n m : ℕ) (f : Warning → Warning) → KeepsNumber f → (w : Warning) → has_number m (changed_if n f w) ≡ has_number m w
+number_kept n m f keeps w = ap (λ k. nat_eq k m) (number-edited n f keeps w)
 
 -- the warning of a number is the changed one where it is that number
 pub found_edited : (n m : ℕ) (f : Warning → Warning) → KeepsNumber f → (l : List Warning) → find (has_number m) (edited n f l) ≡ option_map (changed_if n f) (find (has_number m) l)
@@ -132,8 +135,4 @@ pub found_issued : (m : ℕ) (l : List Warning) (w : Warning) → find (has_numb
 found_issued m l w = find-append (has_number m) l (w ∷ [])
 
 pub so_issued : (m : ℕ) (g : Warning → Bool) (l : List Warning) (w : Warning) → is_so m g (l ++ w ∷ []) ≡ (is_so m g l || (has_number m w && g w))
-so_issued m g l w = list_any-append (λ v. has_number m v && g v) l (w ∷ []) ∙ ap (λ t. is_so m g l || t) (alone (has_number m w && g w))
-  where
-    alone : (b : Bool) → (b || false) ≡ b
-    alone true = refl
-    alone false = refl
+so_issued m g l w = list_any-append (λ v. has_number m v && g v) l (w ∷ []) ∙ ap (λ t. is_so m g l || t) (or_alone (has_number m w && g w) false refl)

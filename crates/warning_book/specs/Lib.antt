@@ -1,4 +1,3 @@
-pub mod Once
 pub mod Content
 pub mod Book
 pub mod Checks

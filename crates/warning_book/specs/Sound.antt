@@ -1,10 +1,10 @@
 -- What holds of every book.
-use Rattle.std.specs.Prelude.{◌≡◌, ◌≤◌, ℕ, Bool, true, false, ◌&&◌, not, List, map, nat_eq, nat_le, ltb, length}
+use Rattle.std.specs.Prelude.{◌≡◌, ◌≤◌, ℕ, Bool, true, ◌&&◌, List, map, bytes_eq, nat_eq, nat_le, ltb, length}
 use Rattle.std.specs.List.{list_all}
 use Rattle.serials.specs.Serials.{code_of, update_of}
-use Rattle.warning_book.specs.Book.{State, versions, numbers}
+use Rattle.cbsp_ie.specs.Order.{is_ascending, each_once}
+use Rattle.warning_book.specs.Book.{State, number_lt, versions}
 use Rattle.warning_book.specs.Content.{are_pages, is_period}
-use Rattle.warning_book.specs.Once.{some_pair, has_twice, is_disordered}
 use Rattle.warning_book.specs.declared.version.Version.{Version}
 use Rattle.warning_book.specs.declared.warning.Warning.{Warning}
 
@@ -14,7 +14,7 @@ was_issued issued w = nat_le 1 w.number && nat_le w.number issued
 
 -- it names 1 to 16 areas, each once
 abbrev pub has_areas : Warning → Bool
-has_areas w = (nat_le 1 (length w.areas) && nat_le (length w.areas) 16) && not (has_twice w.areas)
+has_areas w = (nat_le 1 (length w.areas) && nat_le (length w.areas) 16) && each_once bytes_eq w.areas
 
 abbrev pub is_good : Version → Bool
 is_good v = are_pages v.content.pages && is_period v.content.period
@@ -41,17 +41,17 @@ key_of w = (w.message_id, code_of w.serial)
 abbrev pub is_same_key : ℕ × ℕ → ℕ × ℕ → Bool
 is_same_key j k = nat_eq j.0 k.0 && nat_eq j.1 k.1
 
--- two warnings have the same message identifier and code
-abbrev pub shares_code : List Warning → Bool
-shares_code ws = some_pair is_same_key (map key_of ws)
+-- no two warnings have the same message identifier and code
+abbrev pub have_own_codes : List Warning → Bool
+have_own_codes ws = each_once is_same_key (map key_of ws)
 
 pub record IsSound (st : State) : Type 0 where
   -- each number is greater than those before it
-  pub ordered : is_disordered (numbers st.warnings) ≡ false
+  pub ordered : is_ascending number_lt st.warnings ≡ true
   pub given : list_all (was_issued st.issued) st.warnings ≡ true
   pub few : length st.warnings ≤ 256
   pub areas : list_all has_areas st.warnings ≡ true
   pub contents : list_all has_contents st.warnings ≡ true
   pub counted : list_all counts_updates st.warnings ≡ true
   pub older : list_all has_serials st.warnings ≡ true
-  pub codes : shares_code st.warnings ≡ false
+  pub codes : have_own_codes st.warnings ≡ true

@@ -3,21 +3,23 @@
 use Rattle.std.proofs.Common.{◌≡◌, ℕ, suc, ◌+◌, ◌<◌, ◌≤◌, Bool, true, false, ◌&&◌, ◌||◌, not, cond, List, [], ◌∷◌, ◌++◌, Some, None, map, nat_eq, nat_le, ltb, length, refl, sym, ap, ◌∙◌, arith, length-append}
 use Rattle.std.specs.Prelude.{bytes_eq}
 use Rattle.std.specs.List.{list_any, list_all, filter}
-use Rattle.std.proofs.lemmas.Bool.{and_parts, and_from, or_parts, or_from, not-false, not-true}
+use Rattle.std.proofs.lemmas.Bool.{and_parts, and_from, or_parts, or_from, not-false}
 use Rattle.std.proofs.lemmas.Bool.Decides.{nat_tests}
 use Rattle.std.proofs.lemmas.Grind.{common_steps}
 use Rattle.std.proofs.lemmas.List.{length-map, map-append}
-use Rattle.std.proofs.lemmas.List.Folds.{list_any-append, list_all-append}
+use Rattle.std.proofs.lemmas.List.Folds.{list_all-append}
 use Rattle.std.proofs.lemmas.Slice.Eq.{bytes_eq-Decides}
-use Rattle.cbsp_ie.specs.OrderLaws.{all_same, all_filter, length_filter}
+use Rattle.cbsp_ie.specs.OnceLaws.{once_last, once_filter, once_key, kept_whole, length_without_same}
+use Rattle.cbsp_ie.specs.Order.{each_once}
+use Rattle.cbsp_ie.specs.OrderLaws.{all_same, all_filter, ascending_filter, ascending_last, ascending_map, length_filter}
 use Rattle.serials.specs.Serials.{code_of, update_of}
-use Rattle.warning_book.specs.Book.{State, has_number, names, is_full, has_one_area, is_exhausted, is_so, as_version, versions, numbers, codes_of, new_serial, new_warning, updated, widened, narrowed, stopped, changed_if, edited, without, after_issue, after_update, after_widen, after_narrow, after_stop, after_forget}
+use Rattle.warning_book.specs.Book.{State, has_number, number_lt, names, is_full, has_one_area, is_exhausted, is_so, as_version, versions, codes_of, new_serial, new_warning, updated, widened, narrowed, stopped, changed_if, edited, without, after_issue, after_update, after_widen, after_narrow, after_stop, after_forget}
 use Rattle.cbsp_ie.specs.CheckLaws.{none_holds}
 use Rattle.cbsp_ie.specs.Checks.{first_refusal}
 use Rattle.warning_book.specs.Checks.{is_empty, issue_checks, update_checks, widen_checks, narrow_checks}
 use Rattle.warning_book.specs.Content.{are_pages, is_period}
 use Rattle.warning_book.specs.SerialLaws.{new_serial_parts}
-use Rattle.warning_book.specs.Once.{some_pair, has_twice, is_disordered}
+use Rattle.warning_book.specs.Laws.{KeepsNumber, number-edited}
 use Rattle.warning_book.specs.Sound.{was_issued, has_areas, is_good, has_contents, counts_updates, is_older, has_serials, key_of, is_same_key, IsSound}
 use Rattle.warning_book.specs.declared.content.Content.{Content}
 use Rattle.warning_book.specs.declared.notice.Notice.{Notice}
@@ -26,68 +28,16 @@ use Rattle.warning_book.specs.declared.warning.Warning.{Warning}
 
 -- lists
 
-any-last : {X : Type 0} (p : X → Bool) (x : X) (xs : List X) → list_any p xs ≡ false → p x ≡ false → list_any p (xs ++ x ∷ []) ≡ false
-any-last p x xs h e = list_any-append p xs (x ∷ []) ∙ or_from (list_any p xs) (p x || false) h (or_from (p x) false e refl)
-
 all-last : {X : Type 0} (p : X → Bool) (x : X) (xs : List X) → list_all p xs ≡ true → p x ≡ true → list_all p (xs ++ x ∷ []) ≡ true
 all-last p x xs h e = list_all-append p xs (x ∷ []) ∙ and_from (list_all p xs) (p x && true) h (and_from (p x) true e refl)
 
-pub some_pair-last : {X : Type 0} (r : X → X → Bool) (x : X) (xs : List X) → list_any (λ y. r y x) xs ≡ false → some_pair r xs ≡ false → some_pair r (xs ++ x ∷ []) ≡ false
-some_pair-last r x [] h o = refl
-some_pair-last r x (y ∷ xs) h o =
-    let other = or_parts (r y x) (list_any (λ z. r z x) xs) h in
-    let parts = or_parts (list_any (r y) xs) (some_pair r xs) o in
-    or_from (list_any (r y) (xs ++ x ∷ [])) (some_pair r (xs ++ x ∷ [])) (any-last (r y) x xs parts.0 other.0) (some_pair-last r x xs other.1 parts.1)
-
-any-filter : {X : Type 0} (p q : X → Bool) (xs : List X) → list_any p xs ≡ false → list_any p (filter q xs) ≡ false
-any-filter p q [] h = refl
-any-filter {X} p q (x ∷ xs) h = step (any-filter p q xs) (q x) (or_parts (p x) (list_any p xs) h)
-  where
-    step : (list_any p xs ≡ false → list_any p (filter q xs) ≡ false) → (t : Bool) → (p x ≡ false) × (list_any p xs ≡ false) → list_any p (cond t (x ∷ filter q xs) (filter q xs)) ≡ false
-    step rest true parts = or_from (p x) (list_any p (filter q xs)) parts.0 (rest parts.1)
-    step rest false parts = rest parts.1
-
-some_pair-filter : {X : Type 0} (r : X → X → Bool) (q : X → Bool) (xs : List X) → some_pair r xs ≡ false → some_pair r (filter q xs) ≡ false
-some_pair-filter r q [] h = refl
-some_pair-filter {X} r q (x ∷ xs) h = step (some_pair-filter r q xs) (q x) (or_parts (list_any (r x) xs) (some_pair r xs) h)
-  where
-    step : (some_pair r xs ≡ false → some_pair r (filter q xs) ≡ false) → (t : Bool) → (list_any (r x) xs ≡ false) × (some_pair r xs ≡ false) → some_pair r (cond t (x ∷ filter q xs) (filter q xs)) ≡ false
-    step rest true parts = or_from (list_any (r x) (filter q xs)) (some_pair r (filter q xs)) (any-filter (r x) q xs parts.0) (rest parts.1)
-    step rest false parts = rest parts.1
-
-any-map : {X K : Type 0} (p : K → Bool) (key : X → K) (xs : List X) → list_any p (map key xs) ≡ list_any (λ x. p (key x)) xs
-any-map p key [] = refl
-any-map p key (x ∷ xs) = ap (λ t. p (key x) || t) (any-map p key xs)
-
-some_pair-map : {X K : Type 0} (r : K → K → Bool) (key : X → K) (xs : List X) → some_pair r (map key xs) ≡ some_pair (λ x y. r (key x) (key y)) xs
-some_pair-map r key [] = refl
-some_pair-map r key (x ∷ xs) =
-    ap (λ t. t || some_pair r (map key xs)) (any-map (r (key x)) key xs) ∙ ap (λ t. list_any (λ y. r (key x) (key y)) xs || t) (some_pair-map r key xs)
-
-some_pair-filter-map : {X K : Type 0} (r : K → K → Bool) (key : X → K) (q : X → Bool) (xs : List X) → some_pair r (map key xs) ≡ false → some_pair r (map key (filter q xs)) ≡ false
-some_pair-filter-map r key q xs h =
-    some_pair-map r key (filter q xs) ∙ some_pair-filter (λ x y. r (key x) (key y)) q xs (sym (some_pair-map r key xs) ∙ h)
-
 -- names that are each there once: a name takes one with it at most
-kept_without : (a : List ℕ) (xs : List (List ℕ)) → list_any (bytes_eq a) xs ≡ false → length (filter (λ b. not (bytes_eq b a)) xs) ≡ length xs
-kept_without a [] h = refl
-kept_without a (x ∷ xs) h = step (kept_without a xs) (bytes_eq x a) refl (or_parts (bytes_eq a x) (list_any (bytes_eq a) xs) h)
+length-without : (a : List ℕ) (xs : List (List ℕ)) → each_once bytes_eq xs ≡ true → length xs ≤ length (filter (λ b. not (bytes_eq b a)) xs) + 1
+length-without a xs o = step (list_any (λ b. bytes_eq b a) xs) refl
   where
-    step : (list_any (bytes_eq a) xs ≡ false → length (filter (λ b. not (bytes_eq b a)) xs) ≡ length xs) → (t : Bool) → bytes_eq x a ≡ t → (bytes_eq a x ≡ false) × (list_any (bytes_eq a) xs ≡ false) → length (cond (not t) (x ∷ filter (λ b. not (bytes_eq b a)) xs) (filter (λ b. not (bytes_eq b a)) xs)) ≡ length (x ∷ xs)
-    step rest true e parts =
-        absurd (let no : true ≡ false = sym ((bytes_eq-Decides a x).1 (sym ((bytes_eq-Decides x a).0 e))) ∙ parts.0 in cc)
-    step rest false e parts = let same : length (filter (λ b. not (bytes_eq b a)) xs) ≡ length xs = rest parts.1 in omega arith
-
-length-without : (a : List ℕ) (xs : List (List ℕ)) → has_twice xs ≡ false → length xs ≤ length (filter (λ b. not (bytes_eq b a)) xs) + 1
-length-without a [] h = omega arith
-length-without a (x ∷ xs) h = step (length-without a xs) (bytes_eq x a) refl (or_parts (list_any (bytes_eq x) xs) (has_twice xs) h)
-  where
-    step : (has_twice xs ≡ false → length xs ≤ length (filter (λ b. not (bytes_eq b a)) xs) + 1) → (t : Bool) → bytes_eq x a ≡ t → (list_any (bytes_eq x) xs ≡ false) × (has_twice xs ≡ false) → length (x ∷ xs) ≤ length (cond (not t) (x ∷ filter (λ b. not (bytes_eq b a)) xs) (filter (λ b. not (bytes_eq b a)) xs)) + 1
-    step rest true e parts =
-        let none : list_any (bytes_eq a) xs ≡ false = ap (λ n. list_any (bytes_eq n) xs) (sym ((bytes_eq-Decides x a).0 e)) ∙ parts.0 in
-        let all : length (filter (λ b. not (bytes_eq b a)) xs) ≡ length xs = kept_without a xs none in
-        omega arith
-    step rest false e parts = let fewer : length xs ≤ length (filter (λ b. not (bytes_eq b a)) xs) + 1 = rest parts.1 in omega arith
+    step : (t : Bool) → list_any (λ b. bytes_eq b a) xs ≡ t → length xs ≤ length (filter (λ b. not (bytes_eq b a)) xs) + 1
+    step true e = omega (arith, length_without_same bytes_eq bytes_eq-Decides a xs o e)
+    step false e = omega (arith, ap length (kept_whole (λ b. bytes_eq b a) xs e))
 
 -- edits of one warning
 
@@ -131,9 +81,14 @@ map-edited {K} key n f g keeps (w ∷ l) so = step (map-edited key n f g keeps l
         ap (λ k. k ∷ map key (edited n f l)) (keeps w none.0) ∙ ap (λ ks. key w ∷ ks) (rest none.1)
     step rest false so = ap (λ ks. key w ∷ ks) (rest so)
 
+-- an edit that leaves the numbers leaves the order
+order-edited : (n : ℕ) (f : Warning → Warning) → KeepsNumber f → (v w : Warning) → number_lt v w ≡ true → number_lt (changed_if n f v) (changed_if n f w) ≡ true
+order-edited n f keeps v w h =
+    ap (λ k. ltb k (changed_if n f w).number) (number-edited n f keeps v) ∙ ap (ltb v.number) (number-edited n f keeps w) ∙ h
+
 -- f leaves sound what g does not forbid
 pub record Keeps (f : Warning → Warning) (g : Warning → Bool) : Type 0 where
-  pub number : (w : Warning) → (f w).number ≡ w.number
+  pub number : KeepsNumber f
   pub areas : (w : Warning) → g w ≡ false → has_areas w ≡ true → has_areas (f w) ≡ true
   pub contents : (w : Warning) → has_contents w ≡ true → has_contents (f w) ≡ true
   pub counted : (w : Warning) → g w ≡ false → counts_updates w ≡ true → counts_updates (f w) ≡ true
@@ -143,14 +98,14 @@ pub record Keeps (f : Warning → Warning) (g : Warning → Bool) : Type 0 where
 sound-edited : (n : ℕ) (f : Warning → Warning) (g : Warning → Bool) (i : ℕ) (l : List Warning) → Keeps f g → is_so n g l ≡ false → IsSound (record { issued = i; warnings = l }) → IsSound (record { issued = i; warnings = edited n f l })
 sound-edited n f g i l k so s =
     record {
-      ordered = ap is_disordered (map-edited (λ w. w.number) n f g (λ w h. k.number w) l so) ∙ s.ordered;
+      ordered = ascending_map number_lt number_lt (changed_if n f) (order-edited n f k.number) l s.ordered;
       given = all-edited n f g (was_issued i) (λ w h e. rw (k.number w) e) l so s.given;
       few = rw (length-map l (changed_if n f)) s.few;
       areas = all-edited n f g has_areas k.areas l so s.areas;
       contents = all-edited n f g has_contents (λ w h e. k.contents w e) l so s.contents;
       counted = all-edited n f g counts_updates k.counted l so s.counted;
       older = all-edited n f g has_serials k.older l so s.older;
-      codes = ap (some_pair is_same_key) (map-edited key_of n f g k.key l so) ∙ s.codes;
+      codes = ap (each_once is_same_key) (map-edited key_of n f g k.key l so) ∙ s.codes;
     }
 
 -- stop
@@ -173,12 +128,11 @@ sound-stopped n i l s = sound-edited n stopped (λ w. false) i l keeps-stopped (
 
 areas-narrowed : (a : List ℕ) (w : Warning) → has_one_area w ≡ false → has_areas w ≡ true → has_areas (narrowed a w) ≡ true
 areas-narrowed a w h e =
-    let parts = and_parts (nat_le 1 (length w.areas) && nat_le (length w.areas) 16) (not (has_twice w.areas)) e in
-    let once : has_twice w.areas ≡ false = not-true (has_twice w.areas) parts.1 in
-    let twice : has_twice (filter (λ b. not (bytes_eq b a)) w.areas) ≡ false = some_pair-filter bytes_eq (λ b. not (bytes_eq b a)) w.areas once in
-    bounds (length w.areas) (length (filter (λ b. not (bytes_eq b a)) w.areas)) (has_twice (filter (λ b. not (bytes_eq b a)) w.areas)) h parts.0 twice (length-without a w.areas once) (length_filter (λ b. not (bytes_eq b a)) w.areas)
+    let parts = and_parts (nat_le 1 (length w.areas) && nat_le (length w.areas) 16) (each_once bytes_eq w.areas) e in
+    let rest : each_once bytes_eq (filter (λ b. not (bytes_eq b a)) w.areas) ≡ true = once_filter bytes_eq (λ b. not (bytes_eq b a)) w.areas parts.1 in
+    bounds (length w.areas) (length (filter (λ b. not (bytes_eq b a)) w.areas)) (each_once bytes_eq (filter (λ b. not (bytes_eq b a)) w.areas)) h parts.0 rest (length-without a w.areas parts.1) (length_filter (λ b. not (bytes_eq b a)) w.areas)
   where
-    bounds : (n k : ℕ) (t : Bool) → nat_le n 1 ≡ false → (nat_le 1 n && nat_le n 16) ≡ true → t ≡ false → n ≤ k + 1 → k ≤ n → ((nat_le 1 k && nat_le k 16) && not t) ≡ true
+    bounds : (n k : ℕ) (t : Bool) → nat_le n 1 ≡ false → (nat_le 1 n && nat_le n 16) ≡ true → t ≡ true → n ≤ k + 1 → k ≤ n → ((nat_le 1 k && nat_le k 16) && t) ≡ true
     bounds n k t h e o f g = grind (arith, nat_tests, common_steps)
 
 keeps-narrowed : (a : List ℕ) → Keeps (narrowed a) has_one_area
@@ -200,11 +154,11 @@ sound-narrowed n a i l so s = sound-edited n (narrowed a) has_one_area i l (keep
 areas-widened : (a : List ℕ) (w : Warning) → (names a w || is_full w) ≡ false → has_areas w ≡ true → has_areas (widened a w) ≡ true
 areas-widened a w h e =
     let none = or_parts (names a w) (is_full w) h in
-    let parts = and_parts (nat_le 1 (length w.areas) && nat_le (length w.areas) 16) (not (has_twice w.areas)) e in
-    let once : has_twice (w.areas ++ a ∷ []) ≡ false = some_pair-last bytes_eq a w.areas none.0 (not-true (has_twice w.areas) parts.1) in
-    bounds (length w.areas) (length (w.areas ++ a ∷ [])) (has_twice (w.areas ++ a ∷ [])) none.1 once (length-append w.areas (a ∷ []))
+    let parts = and_parts (nat_le 1 (length w.areas) && nat_le (length w.areas) 16) (each_once bytes_eq w.areas) e in
+    let once : each_once bytes_eq (w.areas ++ a ∷ []) ≡ true = once_last bytes_eq a w.areas none.0 parts.1 in
+    bounds (length w.areas) (length (w.areas ++ a ∷ [])) (each_once bytes_eq (w.areas ++ a ∷ [])) none.1 once (length-append w.areas (a ∷ []))
   where
-    bounds : (n k : ℕ) (t : Bool) → nat_le 16 n ≡ false → t ≡ false → k ≡ n + 1 → ((nat_le 1 k && nat_le k 16) && not t) ≡ true
+    bounds : (n k : ℕ) (t : Bool) → nat_le 16 n ≡ false → t ≡ true → k ≡ n + 1 → ((nat_le 1 k && nat_le k 16) && t) ≡ true
     bounds n k t h o f = grind (arith, nat_tests, common_steps)
 
 keeps-widened : (a : List ℕ) → Keeps (widened a) (λ w. names a w || is_full w)
@@ -270,26 +224,24 @@ sound-updated n c i l good period so s = sound-edited n (updated c) is_exhausted
 pub sound-without : (n i : ℕ) (l : List Warning) → IsSound (record { issued = i; warnings = l }) → IsSound (record { issued = i; warnings = without n l })
 sound-without n i l s =
     record {
-      ordered = some_pair-filter-map (λ m k. nat_le k m) (λ (w : Warning). w.number) (λ w. not (has_number n w)) l s.ordered;
+      ordered = ascending_filter number_lt (λ w. not (has_number n w)) l s.ordered;
       given = all_filter (was_issued i) (λ w. not (has_number n w)) l s.given;
       few = let fewer = length_filter (λ (w : Warning). not (has_number n w)) l in let all = s.few in omega arith;
       areas = all_filter has_areas (λ w. not (has_number n w)) l s.areas;
       contents = all_filter has_contents (λ w. not (has_number n w)) l s.contents;
       counted = all_filter counts_updates (λ w. not (has_number n w)) l s.counted;
       older = all_filter has_serials (λ w. not (has_number n w)) l s.older;
-      codes = some_pair-filter-map is_same_key key_of (λ w. not (has_number n w)) l s.codes;
+      codes = once_key is_same_key key_of (without n l) ∙ once_filter (λ v w. is_same_key (key_of v) (key_of w)) (λ w. not (has_number n w)) l (sym (once_key is_same_key key_of l) ∙ s.codes);
     }
 
 -- issue
 
-no_later : (i : ℕ) (l : List Warning) → list_all (was_issued i) l ≡ true → list_any (λ k. nat_le (i + 1) k) (numbers l) ≡ false
-no_later i [] h = refl
-no_later i (w ∷ l) h =
-    let parts = and_parts (was_issued i w) (list_all (was_issued i) l) h in
-    or_from (nat_le (i + 1) w.number) (list_any (λ k. nat_le (i + 1) k) (numbers l)) (below w.number i parts.0) (no_later i l parts.1)
+-- each number that was given is less than the next
+all_earlier : (i : ℕ) (w : Warning) (l : List Warning) → w.number ≡ i + 1 → list_all (was_issued i) l ≡ true → list_all (λ v. number_lt v w) l ≡ true
+all_earlier i w l e h = all_same (was_issued i) (λ v. number_lt v w) (λ v g. below v.number w.number i e g) l h
   where
-    below : (k n : ℕ) → (nat_le 1 k && nat_le k n) ≡ true → nat_le (n + 1) k ≡ false
-    below k n h = grind (arith, nat_tests, common_steps)
+    below : (k m n : ℕ) → m ≡ n + 1 → (nat_le 1 k && nat_le k n) ≡ true → ltb k m ≡ true
+    below k m n e h = grind (arith, nat_tests, common_steps)
 
 -- a code that is free is no other warning's
 no_same_key : (m code : ℕ) (l : List Warning) → list_any (nat_eq code) (codes_of m l) ≡ false → list_any (λ k. is_same_key k (m, code)) (map key_of l) ≡ false
@@ -305,11 +257,11 @@ no_same_key m code (w ∷ l) h = step (no_same_key m code l) (nat_eq w.message_i
         or_from (nat_eq (code_of w.serial) code) (list_any (λ k. is_same_key k (m, code)) (map key_of l)) (turned code (code_of w.serial) parts.0) (rest parts.1)
     step rest false e = rest e
 
-new_areas : (areas : List (List ℕ)) → is_empty areas ≡ false → has_twice areas ≡ false → length areas ≤ 16 → ((nat_le 1 (length areas) && nat_le (length areas) 16) && not (has_twice areas)) ≡ true
+new_areas : (areas : List (List ℕ)) → is_empty areas ≡ false → each_once bytes_eq areas ≡ true → length areas ≤ 16 → ((nat_le 1 (length areas) && nat_le (length areas) 16) && each_once bytes_eq areas) ≡ true
 new_areas [] e h g = cc
-new_areas (a ∷ areas) e h g = bounds (length areas) (has_twice (a ∷ areas)) h g
+new_areas (a ∷ areas) e h g = bounds (length areas) (each_once bytes_eq (a ∷ areas)) h g
   where
-    bounds : (n : ℕ) (t : Bool) → t ≡ false → suc n ≤ 16 → ((nat_le 1 (suc n) && nat_le (suc n) 16) && not t) ≡ true
+    bounds : (n : ℕ) (t : Bool) → t ≡ true → suc n ≤ 16 → ((nat_le 1 (suc n) && nat_le (suc n) 16) && t) ≡ true
     bounds n t h g = grind (arith, nat_tests, common_steps)
 
 was_issued-more : (i : ℕ) (w : Warning) → was_issued i w ≡ true → was_issued (i + 1) w ≡ true
@@ -324,7 +276,7 @@ was_issued-new i = grind (arith, nat_tests, common_steps)
 -- what is asked of a new warning
 pub record IsNew (l : List Warning) (notice : Notice) (areas : List (List ℕ)) (serial : ℕ) : Type 0 where
   pub some : is_empty areas ≡ false
-  pub once : has_twice areas ≡ false
+  pub once : each_once bytes_eq areas ≡ true
   pub few : length areas ≤ 16
   pub pages : are_pages notice.content.pages ≡ true
   pub period : is_period notice.content.period ≡ true
@@ -336,14 +288,14 @@ pub sound-issue : (i : ℕ) (l : List Warning) (notice : Notice) (areas : List (
 sound-issue i l notice areas serial new s =
     let w : Warning = new_warning (i + 1) notice areas serial in
     record {
-      ordered = ap is_disordered (map-append (λ (v : Warning). v.number) l (w ∷ [])) ∙ some_pair-last (λ m k. nat_le k m) (i + 1) (numbers l) (no_later i l s.given) s.ordered;
+      ordered = ascending_last number_lt w l (all_earlier i w l refl s.given) s.ordered;
       given = all-last (was_issued (i + 1)) w l (all_same (was_issued i) (was_issued (i + 1)) (was_issued-more i) l s.given) (was_issued-new i);
       few = let room = new.room in omega (arith, length-append l (w ∷ []));
       areas = all-last has_areas w l s.areas (new_areas areas new.some new.once new.few);
       contents = all-last has_contents w l s.contents (and_from (are_pages notice.content.pages && is_period notice.content.period) true (and_from (are_pages notice.content.pages) (is_period notice.content.period) new.pages new.period) refl);
       counted = all-last counts_updates w l s.counted (ap (nat_eq 0) new.first);
       older = all-last has_serials w l s.older refl;
-      codes = ap (some_pair is_same_key) (map-append key_of l (w ∷ [])) ∙ some_pair-last is_same_key (notice.message_id, code_of serial) (map key_of l) (no_same_key notice.message_id (code_of serial) l new.free) s.codes;
+      codes = ap (each_once is_same_key) (map-append key_of l (w ∷ [])) ∙ once_last is_same_key (notice.message_id, code_of serial) (map key_of l) (no_same_key notice.message_id (code_of serial) l new.free) s.codes;
     }
 
 -- an edit none of whose checks holds
@@ -355,7 +307,7 @@ sound_after_issue st notice areas serial checked given sound =
     sound-issue st.issued st.warnings notice areas serial
     (record {
       some = none.0;
-      once = none.1.0;
+      once = not-false (each_once bytes_eq areas) none.1.0;
       few = few (length areas) none.1.1.1.1.1.0;
       pages = not-false (are_pages notice.content.pages) none.1.1.0;
       period = not-false (is_period notice.content.period) none.1.1.1.0;

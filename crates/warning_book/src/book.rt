@@ -1,6 +1,6 @@
 //! The book of warnings.
 
-use crate::checks::{are_pages, has_twice, is_period};
+use crate::checks::{are_pages, each_once, is_period};
 use crate::content::Content;
 use crate::lent_versions::LentVersions;
 use crate::notice::Notice;
@@ -36,11 +36,11 @@ impl Book {
     ghost use Rattle.std.specs.Prelude.{◌≡◌, ◌≤◌, ◌⊎◌, ◌+◌, None, Some, false, true, length, IfOk, IfErr, OnOk, OnErr};
     ghost use Rattle.std.specs.List.{list_any, list_all};
     ghost use Rattle.std.specs.Option.{option_map, option_copied};
-    ghost use Rattle.warning_book.specs.Book.{empty, names, is_active, warning_of, current, message_id, versions, lent, numbers, naming, areas_of, content_of, new_serial, next_serial, after_issue, after_update, after_widen, after_narrow, after_stop, after_forget};
+    ghost use Rattle.warning_book.specs.Book.{empty, number_lt, names, is_active, warning_of, current, message_id, versions, lent, numbers, naming, areas_of, content_of, new_serial, next_serial, after_issue, after_update, after_widen, after_narrow, after_stop, after_forget};
     ghost use Rattle.cbsp_ie.specs.Checks.{first_refusal};
+    ghost use Rattle.cbsp_ie.specs.Order.{is_ascending};
     ghost use Rattle.warning_book.specs.Checks.{issue_checks, update_checks, widen_checks, narrow_checks, stop_checks, forget_checks};
-    ghost use Rattle.warning_book.specs.Once.{is_disordered};
-    ghost use Rattle.warning_book.specs.Sound.{was_issued, has_areas, has_contents, counts_updates, has_serials, shares_code};
+    ghost use Rattle.warning_book.specs.Sound.{was_issued, has_areas, has_contents, counts_updates, has_serials, have_own_codes};
     ghost use Rattle.warning_book.specs.declared.refusal.Refusal.TheVariants as refusal;
 
     /// A book without warnings. What it will need is taken from the allocator.
@@ -81,7 +81,7 @@ impl Book {
         if areas.is_empty() {
             return Err(Refusal::NoAreas);
         }
-        if has_twice(areas) {
+        if !each_once(areas) {
             return Err(Refusal::AreaThere);
         }
         if !are_pages(notice.content.pages.as_slice()) {
@@ -336,14 +336,14 @@ impl Book {
 
     /// Tells what always holds of a book.
     pub fn is_sound(&self)
-        ensures ordered { is_disordered (numbers self.now.warnings) ≡ false }
+        ensures ordered { is_ascending number_lt self.now.warnings ≡ true }
         ensures given { list_all (was_issued self.now.issued) self.now.warnings ≡ true }
         ensures few { length self.now.warnings ≤ 256 }
         ensures areas { list_all has_areas self.now.warnings ≡ true }
         ensures contents { list_all has_contents self.now.warnings ≡ true }
         ensures counted { list_all counts_updates self.now.warnings ≡ true }
         ensures older { list_all has_serials self.now.warnings ≡ true }
-        ensures codes { shares_code self.now.warnings ≡ false }
+        ensures codes { have_own_codes self.now.warnings ≡ true }
     {
         let _ = &self.alloc;
     }

@@ -2,7 +2,7 @@
 
 ghost use Rattle.std.specs.Prelude.{◌≡◌, not, bytes_eq};
 ghost use Rattle.std.specs.List.{list_any};
-ghost use Rattle.warning_book.specs.Once.{has_twice};
+ghost use Rattle.cbsp_ie.specs.Order.{each_once};
 ghost use Rattle.warning_book.specs.Content.{is_page, are_pages, is_period};
 
 use cbsp_ie::{Name, Octets};
@@ -13,16 +13,16 @@ fn is_among(a: &Name, names: &[Name]) -> bool
     names.iter().any(|name| *a == *name)
 }
 
-/// Whether a name stands in the list a second time.
-pub(crate) fn has_twice(names: &[Name]) -> bool
-    ensures { result ≡ has_twice names.now }
+/// Whether no name stands in the list a second time.
+pub(crate) fn each_once(names: &[Name]) -> bool
+    ensures { result ≡ each_once bytes_eq names.now }
 {
     for (i, name) in names.iter().enumerate() {
         if is_among(name, &names[i + 1..]) {
-            return true;
+            return false;
         }
     }
-    false
+    true
 }
 
 fn is_page(page: &Octets) -> bool

@@ -1,10 +1,10 @@
 //! The edits of a list of warnings that nothing forbids.
 
-ghost use Rattle.std.specs.Prelude.{◌≡◌, ◌+◌, ◌++◌, ◌∷◌, [], Some, true, false, find, OnOk, OnErr};
+ghost use Rattle.std.specs.Prelude.{◌≡◌, ◌+◌, ◌++◌, ◌∷◌, [], Some, true, false, bytes_eq, find, OnOk, OnErr};
 ghost use Rattle.std.specs.List.{list_any};
 ghost use Rattle.std.specs.Option.{option_map};
-ghost use Rattle.warning_book.specs.Book.{has_number, names, is_so, numbers, new_warning, updated, widened, narrowed, stopped, edited, without};
-ghost use Rattle.warning_book.specs.Once.{has_twice, is_disordered};
+ghost use Rattle.warning_book.specs.Book.{has_number, names, number_lt, is_so, new_warning, updated, widened, narrowed, stopped, edited, without};
+ghost use Rattle.cbsp_ie.specs.Order.{each_once, is_ascending};
 
 use crate::content::Content;
 use crate::lookups::place_of;
@@ -27,7 +27,7 @@ pub(crate) fn issue(
     areas: &[Name],
     serial: Serial,
 ) -> Result<(), AllocError>
-    requires { has_twice areas.now ≡ false }
+    requires { each_once bytes_eq areas.now ≡ true }
     ensures issued { OnOk result (warnings.new.items ≡ warnings.old.items ++ new_warning number notice.now areas.now serial ∷ []) }
     ensures unchanged { OnErr result (warnings.new.items ≡ warnings.old.items) }
 {
@@ -74,7 +74,7 @@ pub(crate) fn update(
     content: &Content,
     next: Serial,
 ) -> Result<(), AllocError>
-    requires ordered { is_disordered (numbers warnings.old.items) ≡ false }
+    requires ordered { is_ascending number_lt warnings.old.items ≡ true }
     requires next { option_map (λ w. w.serial + 1) (find (has_number n) warnings.old.items) ≡ Some next }
     ensures updated { OnOk result (warnings.new.items ≡ edited n (updated content.now) warnings.old.items) }
     ensures unchanged { OnErr result (warnings.new.items ≡ warnings.old.items) }
@@ -103,7 +103,7 @@ pub(crate) fn widen(
     n: WarningId,
     a: &Name,
 ) -> Result<(), AllocError>
-    requires ordered { is_disordered (numbers warnings.old.items) ≡ false }
+    requires ordered { is_ascending number_lt warnings.old.items ≡ true }
     requires new { is_so n (names a.now) warnings.old.items ≡ false }
     ensures widened { OnOk result (warnings.new.items ≡ edited n (widened a.now) warnings.old.items) }
     ensures unchanged { OnErr result (warnings.new.items ≡ warnings.old.items) }
@@ -124,7 +124,7 @@ fn narrow_one(warning: &mut Warning, a: &Name)
 
 /// Takes the area out of those of the warning of that number; the rest keep their order.
 pub(crate) fn narrow(warnings: &mut Vec<Warning>, n: WarningId, a: &Name)
-    requires ordered { is_disordered (numbers warnings.old.items) ≡ false }
+    requires ordered { is_ascending number_lt warnings.old.items ≡ true }
     ensures { warnings.new.items ≡ edited n (narrowed a.now) warnings.old.items }
 {
     let place = place_of(warnings.as_slice(), n);
@@ -142,7 +142,7 @@ fn stop_one(warning: &mut Warning)
 
 /// Stops the warning of that number.
 pub(crate) fn stop(warnings: &mut Vec<Warning>, n: WarningId)
-    requires ordered { is_disordered (numbers warnings.old.items) ≡ false }
+    requires ordered { is_ascending number_lt warnings.old.items ≡ true }
     ensures { warnings.new.items ≡ edited n stopped warnings.old.items }
 {
     let place = place_of(warnings.as_slice(), n);

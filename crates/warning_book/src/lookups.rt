@@ -3,8 +3,8 @@
 ghost use Rattle.std.specs.Prelude.{◌≡◌, ◌+◌, true, false, find, Some, IfSome, IfNone};
 ghost use Rattle.std.specs.List.{list_any, position_or_len};
 ghost use Rattle.std.specs.Option.{option_map, option_copied};
-ghost use Rattle.warning_book.specs.Book.{has_number, names, is_full, has_one_area, is_exhausted, is_so, numbers, areas_of, versions, lent};
-ghost use Rattle.warning_book.specs.Once.{is_disordered};
+ghost use Rattle.warning_book.specs.Book.{has_number, names, is_full, has_one_area, is_exhausted, number_lt, is_so, areas_of, versions, lent};
+ghost use Rattle.cbsp_ie.specs.Order.{is_ascending};
 
 use crate::lent_versions::LentVersions;
 use crate::warning::Warning;
@@ -90,7 +90,7 @@ pub(crate) fn message_id(warnings: &[Warning], n: WarningId) -> Option<u16>
 
 /// The serial number of the warning's next version; `None` where it had its last update.
 pub(crate) fn next_serial(warnings: &[Warning], n: WarningId) -> Option<Serial>
-    requires ordered { is_disordered (numbers warnings.now) ≡ false }
+    requires ordered { is_ascending number_lt warnings.now ≡ true }
     requires there { list_any (has_number n) warnings.now ≡ true }
     ensures next { IfSome result (λ s. option_map (λ w. w.serial + 1) (find (has_number n) warnings.now) ≡ Some s) }
     ensures left { IfSome result (λ s. is_so n is_exhausted warnings.now ≡ false) }

@@ -1,8 +1,8 @@
 //! The areas of a warning.
 
-ghost use Rattle.std.specs.Prelude.{◌≡◌, ◌++◌, ◌∷◌, [], false, not, bytes_eq, length, OnOk, OnErr, IfOk};
+ghost use Rattle.std.specs.Prelude.{◌≡◌, ◌++◌, ◌∷◌, [], true, false, not, bytes_eq, length, OnOk, OnErr, IfOk};
 ghost use Rattle.std.specs.List.{filter, list_any};
-ghost use Rattle.warning_book.specs.Once.{has_twice};
+ghost use Rattle.cbsp_ie.specs.Order.{each_once};
 
 use cbsp_ie::Name;
 use indexmap::IndexSet;
@@ -26,7 +26,7 @@ impl Model for WarningAreas {
 impl WarningAreas {
     /// The areas named, in memory of their own.
     pub(crate) fn copied(alloc: Global, names: &[Name]) -> Result<WarningAreas, AllocError>
-        requires { has_twice names.now ≡ false }
+        requires { each_once bytes_eq names.now ≡ true }
         ensures { IfOk result (λ areas. areas ≡ names.now) }
     {
         let mut areas = WarningAreas {
