@@ -1,4 +1,4 @@
--- The order and the equality of numbers and of cells.
+-- The order of numbers and of cells.
 use Rattle.std.proofs.Common.{◌≡◌, ℕ, true, false, ◌||◌, ltb, nat_eq, arith}
 use Rattle.std.proofs.lemmas.Bool.Decides.{nat_tests}
 use Rattle.std.proofs.lemmas.Grind.{common_steps}
