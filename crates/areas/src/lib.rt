@@ -15,8 +15,6 @@ mod naming;
 mod refusal;
 mod selector;
 mod selectors;
-#[cfg(test)]
-mod tests;
 
 pub use area::Area;
 pub use areas::Areas;

@@ -32,8 +32,6 @@ mod octets;
 mod page_view;
 mod reading;
 mod security_view;
-#[cfg(test)]
-mod tests;
 mod writing;
 
 pub use cause::Cause;

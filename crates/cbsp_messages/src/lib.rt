@@ -27,6 +27,3 @@ pub use page::Page;
 pub use pages::Pages;
 pub use reading::read;
 pub use writing::write;
-
-#[cfg(test)]
-mod tests;

@@ -12,8 +12,6 @@ mod placed;
 mod places;
 mod refusal;
 mod register;
-#[cfg(test)]
-mod tests;
 
 pub use bsc_id::BscId;
 pub use placed::Placed;

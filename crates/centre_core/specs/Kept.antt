@@ -1,6 +1,6 @@
 -- What a centre keeps beside its journal, and how that is tied to the past: the register and the areas tell of each
 -- BSC, cell, area and selector what the entries say of it; the book of warnings is the one that the entries make.
-use Rattle.std.specs.Prelude.{◌≡◌, ◌⊎◌, ℕ, Bool, true, false, List, Result, Ok, Err}
+use Rattle.std.specs.Prelude.{◌≡◌, ◌⊎◌, ◌<◌, ◌≤◌, ℕ, Bool, true, false, List, Result, Ok, Err}
 use Rattle.areas.specs.Areas.{has_area, with_area, without_area, with_selector, without_selector}
 use Rattle.areas.specs.Areas as kept
 use Rattle.areas.specs.declared.area.Area.{Area}
@@ -16,7 +16,7 @@ use Rattle.centre_core.specs.declared.entry.Entry.{Entry}
 use Rattle.centre_core.specs.declared.event.Event.{Event}
 use Rattle.centre_core.specs.declared.event.Event.TheVariants.{AddBsc, RemoveBsc, AddCell, MoveCell, RemoveCell, AddArea, DropArea, Put, Cut, Issue, Update, Widen, Narrow, Stop, Forget}
 use Rattle.centre_core.specs.declared.refusal.Refusal.{Refusal}
-use Rattle.centre_core.specs.declared.refusal.Refusal.TheVariants.{Memory}
+use Rattle.centre_core.specs.declared.refusal.Refusal.TheVariants.{JournalFull, Memory}
 
 -- the register tells of each BSC and of each cell what the entries say
 pub record IsRegisterOf (past : List Entry) (register : State) : Type 0 where
@@ -74,3 +74,7 @@ is_plain other = true
 abbrev pub Gives : Result Answer Refusal → Result Answer Refusal → Type 0
 Gives verdict (Ok answer) = verdict ≡ Ok answer
 Gives verdict (Err refusal) = (refusal ≡ Memory) ⊎ (verdict ≡ Err refusal)
+
+-- why there is no room for one more of so many entries: the journal is full, or memory is short
+abbrev pub NoRoom : ℕ → ℕ → Refusal → Type 0
+NoRoom limit entries refusal = ((refusal ≡ JournalFull) × (limit ≤ entries)) ⊎ ((refusal ≡ Memory) × (entries < limit))

@@ -2,7 +2,7 @@
 
 ghost use Rattle.std.specs.Prelude.{◌≡◌, ◌<◌, length, reverse, true, IfOk, IfErr, OnOk, OnErr};
 ghost use Rattle.std.specs.Vec.{vec_len, vec_capacity};
-ghost use Rattle.centre_core.specs.Kept.{IsRegisterOf, AreAreasOf, register_after, areas_after, is_edit, is_plain, Gives};
+ghost use Rattle.centre_core.specs.Kept.{IsRegisterOf, AreAreasOf, register_after, areas_after, is_edit, is_plain, Gives, NoRoom};
 ghost use Rattle.centre_core.specs.Verdict.{verdict, law};
 ghost use Rattle.centre_core.specs.Warnings.{book_of, book_after};
 
@@ -34,6 +34,20 @@ pub struct Centre {
     book: Book,
 }
 
+/// Makes room for one more entry in a journal that holds so many at most.
+fn make_room(limit: u32, journal: &mut Vec<Entry>) -> Result<(), Refusal>
+    ensures entries { journal.new.items ≡ journal.old.items }
+    ensures room { OnOk result (vec_len journal.new < vec_capacity journal.new) }
+    ensures few { OnOk result (length journal.old.items < limit) }
+    ensures refusal { IfErr result (NoRoom limit (length journal.old.items)) }
+{
+    if journal.len() >= limit as usize {
+        return Err(Refusal::JournalFull);
+    }
+    journal.try_reserve(1)?;
+    Ok(())
+}
+
 /// What the event is answered after the entries of the journal, which holds so many at most; room for one more entry
 /// is made first.
 fn answer_to(
@@ -62,10 +76,7 @@ fn answer_to(
     ensures book_stays { OnErr result (book.new ≡ book.old) }
     ensures edits { IfOk result (λ a. is_edit event.now ≡ true → is_plain a ≡ true) }
 {
-    if journal.len() >= limit as usize {
-        return Err(Refusal::JournalFull);
-    }
-    journal.try_reserve(1)?;
+    make_room(limit, journal)?;
     law(alloc, journal.as_slice(), register, areas, book, event)
 }
 

@@ -21,8 +21,6 @@ pub mod refusal;
 pub mod replies;
 pub mod reply;
 mod sorting;
-#[cfg(test)]
-mod tests;
 
 pub use areas::Selector;
 pub use cell_register::BscId;

@@ -83,8 +83,12 @@ fn message_lines(alloc: Global, message: &Message, octets: &[u8]) -> Result<Vec<
     Ok(lines)
 }
 
-/// The line on what the message is written as, which has to be read as the same message.
+/// The line on what the message is written as, which has to be read as the same message. So has its copy.
 fn written_line(alloc: Global, message: &Message, octets: &[u8]) -> Result<String> {
+    ensure!(
+        message.copied(alloc)?.same(message),
+        "the copy is another message"
+    );
     ensure!(message.fits(), "the message can't be written");
     let written = write(alloc, message)?;
     ensure!(

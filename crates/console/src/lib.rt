@@ -33,6 +33,3 @@ pub use fault::ReplayFault;
 pub use laws::one_text;
 pub use replaying::replay;
 pub use running::run;
-
-#[cfg(test)]
-mod tests;

@@ -2,15 +2,18 @@
 //! written from the rules.
 #![tactic(auto)]
 
-use console::{ReplayFault, replay};
-use framing::{FromRead, FromWrite};
-use std::alloc::Global;
+mod comparing;
+mod rows;
+
+use anyhow::Result;
+use comparing::difference;
+use rows::{Row, read_rows};
+use std::fs;
 use std::process::ExitCode;
 use std::rt::Files;
-use std::{fs, io};
 
-/// The scripts: NAME.txt, with its answers in NAME.answers.
-const NAMES: [&str; 6] = [
+/// Scripts as an operator writes them: NAME.txt, with its answers in NAME.answers.
+const SCRIPTS: [&str; 6] = [
     "first-warning",
     "flood-two-controllers",
     "link-lost",
@@ -19,46 +22,20 @@ const NAMES: [&str; 6] = [
     "wrong-input",
 ];
 
-/// The network of the scripts.
-const PLMN: [u8; 3] = [0x00, 0xf1, 0x10];
-
-/// What the console answers to the script.
-fn answers_to(alloc: Global, script: &[u8]) -> Result<Vec<u8>, ReplayFault> {
-    let mut reader = FromRead::new(script);
-    let mut writer = FromWrite::new(Vec::new(alloc));
-    replay(alloc, &mut reader, &mut writer, PLMN, 4_000_000)?;
-    Ok(writer.into_inner())
-}
-
-/// The number of the first answer that is not the wanted one.
-fn first_difference(given: &str, wanted: &str) -> Option<u64> {
-    let mut wanted_lines = wanted.lines();
-    let mut number = 0u64;
-    for line in given.lines() {
-        number = number.saturating_add(1);
-        if wanted_lines.next() != Some(line) {
-            return Some(number);
-        }
-    }
-    match wanted_lines.next() {
-        Some(_) => Some(number.saturating_add(1)),
-        None => None,
-    }
-}
+/// Files of rows. A row may begin with one of an earlier file.
+const ROWS: [&str; 5] = [
+    "first-warning.rows",
+    "bad-lines.rows",
+    "changes.rows",
+    "orders.rows",
+    "warnings.rows",
+];
 
 /// Runs one script, prints whether its answers agree, and tells it.
-fn agrees<R: Files + Print + AllocGlobal>(rt: &R, name: &str) -> io::Result<bool> {
+fn script_agrees<R: Files + Print + AllocGlobal>(rt: &R, name: &str) -> Result<bool> {
     let script = fs::read_to_string(rt, format!(in rt.alloc(); "{name}.txt")?)?;
     let wanted = fs::read_to_string(rt, format!(in rt.alloc(); "{name}.answers")?)?;
-    let Ok(answers) = answers_to(rt.alloc(), script.as_bytes()) else {
-        println!(rt; "{name} was not read to its end")?;
-        return Ok(false);
-    };
-    let Ok(answers) = String::from_utf8(answers) else {
-        println!(rt; "{name} is answered by other octets than text")?;
-        return Ok(false);
-    };
-    match first_difference(answers.as_str(), wanted.as_str()) {
+    match difference(rt.alloc(), script.as_str(), wanted.as_str(), 4_000_000)? {
         None => {
             println!(rt; "{name} agrees")?;
             Ok(true)
@@ -70,10 +47,36 @@ fn agrees<R: Files + Print + AllocGlobal>(rt: &R, name: &str) -> io::Result<bool
     }
 }
 
-fn main(rt: HostRuntime) -> io::Result<ExitCode> {
-    for name in NAMES {
-        if !agrees(&rt, name)? {
+/// Runs the rows, prints how many agree or which one does not, and tells it.
+fn rows_agree<R: Print + AllocGlobal>(rt: &R, file: &str, rows: &[Row]) -> Result<bool> {
+    for row in rows {
+        let (script, answers) = (row.script.as_str(), row.answers.as_str());
+        if let Some(number) = difference(rt.alloc(), script, answers, row.journal)? {
+            let name = row.name.as_str();
+            println!(rt; "{file}: '{name}' differs at answer {number}")?;
+            return Ok(false);
+        }
+    }
+    let count = rows.len();
+    println!(rt; "{file}: {count} rows agree")?;
+    Ok(true)
+}
+
+fn main(rt: HostRuntime) -> Result<ExitCode> {
+    for name in SCRIPTS {
+        if !script_agrees(&rt, name)? {
             return Ok(ExitCode::FAILURE);
+        }
+    }
+    let mut before = Vec::new(rt.alloc());
+    for file in ROWS {
+        let text = fs::read_to_string(&rt, file)?;
+        let rows = read_rows(rt.alloc(), text.as_str(), before.as_slice())?;
+        if !rows_agree(&rt, file, rows.as_slice())? {
+            return Ok(ExitCode::FAILURE);
+        }
+        for row in rows {
+            before.push(row)?;
         }
     }
     Ok(ExitCode::SUCCESS)

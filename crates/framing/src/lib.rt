@@ -13,8 +13,6 @@ mod interrupted;
 pub mod laws;
 mod sink;
 mod source;
-#[cfg(test)]
-mod tests;
 
 pub use failed::Failed;
 pub use fault::FrameFault;

@@ -8,8 +8,6 @@
 mod codes;
 mod scope;
 mod serial;
-#[cfg(test)]
-mod tests;
 
 pub use codes::least_free_code;
 pub use scope::Scope;

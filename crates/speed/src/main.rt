@@ -1,12 +1,13 @@
-//! How fast messages are read and written, and how fast a stream is cut into frames.
+//! How fast messages are read and written, how fast a stream is cut into frames, and how fast a warning is ordered.
 //!
-//! With no argument it makes one small round of each and prints `ok`. `codec long` and `framing long` make long
-//! ones and print their figures, which depend on the machine and on what else it does.
+//! With no argument it makes one small round of each and prints `ok`. `codec long` and `framing long` make long ones
+//! and print their figures, which depend on the machine and on what else it does; so does `orders`.
 #![tactic(auto)]
 
 mod codec;
 mod codec_frames;
 mod cutting;
+mod orders;
 mod stopwatch;
 
 use anyhow::{Result, bail};
@@ -19,6 +20,7 @@ fn main(rt: HostRuntime) -> Result<()> {
         [] => {
             codec::rounds(&rt, 0)?;
             cutting::rounds(&rt, 3_000, 2_000)?;
+            orders::round(&rt, 20)?;
             println!(rt; "ok")?;
         }
         ["codec", "long"] => {
@@ -31,7 +33,11 @@ fn main(rt: HostRuntime) -> Result<()> {
                 println!(rt; "{figure}")?;
             }
         }
-        _ => bail!("the arguments are none, `codec long` or `framing long`"),
+        ["orders"] => {
+            let figure = orders::round(&rt, 1_001)?;
+            println!(rt; "{figure}")?;
+        }
+        _ => bail!("the arguments are none, `codec long`, `framing long` or `orders`"),
     }
     Ok(())
 }

@@ -16,8 +16,6 @@ mod lookups;
 mod notice;
 mod questions;
 mod refusal;
-#[cfg(test)]
-mod tests;
 mod version;
 mod versions;
 mod warning;

@@ -1,0 +1,237 @@
+//! What no clause says: that each call can succeed, and worked values from the rules.
+
+use cbsp_ie::{Name, Octets};
+use serials::{Scope, Serial};
+use std::alloc::{AllocError, Global};
+use std::process::Abort;
+use std::test::Fail;
+use warning_book::{Book, Content, ContentPages, Limit, Notice, Refusal, Version, WarningId};
+
+/// The number of the first warning that a book issues.
+fn first_id() -> WarningId {
+    WarningId::new(1)
+}
+
+fn name(alloc: Global, octets: &[u8]) -> Result<Name, AllocError> {
+    Ok(Name::from_vec(Vec::from_slice(alloc, octets)?))
+}
+
+/// A content of one page, which has this octet so often.
+fn content(alloc: Global, octet: u8, length: usize) -> Result<Content, AllocError> {
+    let mut octets = Vec::new(alloc);
+    for _ in 0..length {
+        octets.push(octet)?;
+    }
+    let mut pages = Vec::new(alloc);
+    pages.push(Octets::from_vec(octets))?;
+    Ok(Content {
+        dcs: 0x0f,
+        category: 0,
+        period: 10,
+        pages: ContentPages::from_vec(pages),
+    })
+}
+
+fn notice(alloc: Global, message_id: u16, scope: Scope) -> Result<Notice, AllocError> {
+    Ok(Notice {
+        message_id,
+        scope,
+        content: content(alloc, 0x41, 1)?,
+    })
+}
+
+fn names(alloc: Global, all: &[&[u8]]) -> Result<Vec<Name>, AllocError> {
+    let mut found = Vec::new(alloc);
+    for octets in all {
+        found.push(name(alloc, octets)?)?;
+    }
+    Ok(found)
+}
+
+/// Issues a warning for one area, and answers its number and its serial number.
+fn issued(
+    alloc: Global,
+    book: &mut Book,
+    message_id: u16,
+    scope: Scope,
+) -> Result<(u32, u16), Refusal> {
+    let areas = names(alloc, &[b"coast"])?;
+    let notice = notice(alloc, message_id, scope)?;
+    let (number, serial) = book.issue(&notice, areas.as_slice())?;
+    Ok((number.number(), serial.to_u16()))
+}
+
+#[test]
+fn every_call_answers(rt: HostRuntime) -> Result<(), Fail> {
+    let alloc = rt.alloc();
+    let mut book = Book::new(alloc);
+    let coast = name(alloc, b"coast")?;
+    let hills = name(alloc, b"hills")?;
+    let first = notice(alloc, 4370, Scope::Cell)?;
+    assert!(rt; first.copied(alloc)?.same(&first));
+    assert!(rt;
+        first
+            .content
+            .pages
+            .copied(alloc)?
+            .same(&first.content.pages)
+    );
+    assert_eq!(rt; issued(alloc, &mut book, 4370, Scope::Cell)?, (1, 0xc000));
+    let second = content(alloc, 0x42, 2)?;
+    let serial = book.update(first_id(), &second)?;
+    assert_eq!(rt; serial.to_u16(), 0xc001);
+    book.widen(first_id(), &hills)?;
+    assert_eq!(rt; book.warnings()?.as_slice(), [first_id()].as_slice());
+    assert_eq!(rt; book.naming(&hills)?.as_slice(), [first_id()].as_slice());
+    assert!(rt; book.names_area(&coast));
+    assert_eq!(rt; book.message_id(first_id()), Some(4370));
+    book.narrow(first_id(), &coast)?;
+    assert!(rt; !book.names_area(&coast));
+    assert!(rt; book.is_active(first_id()));
+    book.stop(first_id())?;
+    assert!(rt; !book.is_active(first_id()));
+    book.forget(first_id())?;
+    assert_eq!(rt; book.len(), 0);
+    assert_eq!(rt; book.issued(), 1);
+    Ok(())
+}
+
+/// The serial number of the first warning after so many updates.
+fn updated(updates: u16) -> Serial {
+    Serial::from_u16(0xc000u16.saturating_add(updates))
+}
+
+/// The content after so many updates, which has one octet more after each.
+fn longer(alloc: Global, updates: u16) -> Result<Content, AllocError> {
+    content(alloc, 0x41, usize::from(updates).saturating_add(1))
+}
+
+/// Updates the first warning for the nth time.
+fn updates(rt: &impl Abort, alloc: Global, book: &mut Book, n: u16) -> Result<(), Refusal> {
+    let serial = book.update(first_id(), &longer(alloc, n)?)?;
+    assert!(rt; serial == updated(n), "{n}");
+    assert!(rt; book.current(first_id()) == Some(serial), "{n}");
+    Ok(())
+}
+
+/// Whether the nth serial number still stands for the content that it was given to.
+fn keeps(alloc: Global, book: &Book, n: u16) -> Result<bool, AllocError> {
+    let want = longer(alloc, n)?;
+    Ok(match book.content_of(4370, updated(n)) {
+        Some(found) => found.same(&want),
+        None => false,
+    })
+}
+
+#[test]
+fn fifteen_updates_count_in_the_serial_number(rt: HostRuntime) -> Result<(), Fail> {
+    let alloc = rt.alloc();
+    let mut book = Book::new(alloc);
+    issued(alloc, &mut book, 4370, Scope::Cell)?;
+    for n in 1..16u16 {
+        updates(&rt, alloc, &mut book, n)?;
+    }
+    for n in 0..16u16 {
+        assert!(rt; keeps(alloc, &book, n)?, "{n}");
+    }
+    assert!(rt; book.content_of(4371, Serial::from_u16(0xc000)).is_none());
+    assert!(rt; book.content_of(4370, Serial::from_u16(0xc010)).is_none());
+    Ok(())
+}
+
+#[test]
+fn versions_are_lent_newest_first(rt: HostRuntime) -> Result<(), Fail> {
+    let alloc = rt.alloc();
+    let mut book = Book::new(alloc);
+    issued(alloc, &mut book, 4370, Scope::Plmn)?;
+    book.update(first_id(), &content(alloc, 0x42, 1)?)?;
+    book.update(first_id(), &content(alloc, 0x43, 1)?)?;
+    let current = content(alloc, 0x43, 1)?;
+    let outdated = [
+        Version {
+            serial: Serial::from_u16(0x4001),
+            content: content(alloc, 0x42, 1)?,
+        },
+        Version {
+            serial: Serial::from_u16(0x4000),
+            content: content(alloc, 0x41, 1)?,
+        },
+    ];
+    match book.versions(first_id()) {
+        Some(versions) => {
+            assert_eq!(rt; versions.serial.to_u16(), 0x4002);
+            assert!(rt; versions.content.same(&current));
+            assert!(rt; versions.outdated == outdated.as_slice());
+        }
+        None => assert!(rt; false),
+    }
+    assert!(rt; book.versions(WarningId::new(2)).is_none());
+    Ok(())
+}
+
+#[test]
+fn narrow_keeps_the_order_of_the_rest(rt: HostRuntime) -> Result<(), Fail> {
+    let alloc = rt.alloc();
+    let mut book = Book::new(alloc);
+    let areas = names(alloc, &[b"d", b"a", b"c", b"b"])?;
+    book.issue(&notice(alloc, 4370, Scope::Cell)?, areas.as_slice())?;
+    book.narrow(first_id(), &name(alloc, b"a")?)?;
+    book.widen(first_id(), &name(alloc, b"aa")?)?;
+    let want = names(alloc, &[b"d", b"c", b"b", b"aa"])?;
+    assert!(rt; book.areas_of(first_id()) == want.as_slice());
+    book.stop(first_id())?;
+    assert!(rt; book.areas_of(first_id()) == want.as_slice());
+    assert!(rt; book.names_area(&name(alloc, b"aa")?));
+    book.forget(first_id())?;
+    assert!(rt; book.areas_of(first_id()).is_empty());
+    assert!(rt; !book.names_area(&name(alloc, b"aa")?));
+    Ok(())
+}
+
+#[test]
+fn there_are_256_warnings_at_most(rt: HostRuntime) -> Result<(), Fail> {
+    let alloc = rt.alloc();
+    let mut book = Book::new(alloc);
+    for code in 0..256u16 {
+        let want = (code as u32 + 1, 0xc000 + code * 16);
+        assert_eq!(rt; issued(alloc, &mut book, 4370, Scope::Cell)?, want);
+    }
+    let full = Refusal::Limit {
+        which: Limit::Warnings,
+    };
+    assert!(rt; issued(alloc, &mut book, 4371, Scope::Cell) == Err(full));
+    book.stop(first_id())?;
+    assert!(rt; issued(alloc, &mut book, 4371, Scope::Cell) == Err(full));
+    book.forget(first_id())?;
+    assert_eq!(rt; issued(alloc, &mut book, 4371, Scope::Cell)?, (257, 0xc000));
+    Ok(())
+}
+
+#[test]
+fn refusals_have_texts(rt: HostRuntime) -> Result<(), Fail> {
+    let alloc = rt.alloc();
+    let full = Refusal::Limit { which: Limit::Ids };
+    for (refusal, want) in [
+        (Refusal::NoSuchWarning, "no such warning"),
+        (Refusal::NotActive, "the warning was stopped"),
+        (Refusal::StillActive, "the warning is still active"),
+        (Refusal::NoAreas, "a warning needs an area"),
+        (Refusal::AreaThere, "the warning names this area already"),
+        (Refusal::AreaNotThere, "the warning does not name this area"),
+        (Refusal::LastArea, "the warning names no other area"),
+        (
+            Refusal::BadPages,
+            "a content has 1 to 15 pages of 1 to 82 octets",
+        ),
+        (Refusal::BadPeriod, "a repetition period is 1 to 1,024"),
+        (
+            Refusal::UpdatesExhausted,
+            "the warning was updated fifteen times",
+        ),
+        (full, "a limit would be passed: Ids"),
+        (Refusal::Memory, "out of memory"),
+    ] {
+        assert_eq!(rt; format!(in alloc; "{refusal}")?.as_str(), want);
+    }
+    Ok(())
+}

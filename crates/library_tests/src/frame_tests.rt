@@ -1,0 +1,194 @@
+//! What no clause says: the frames of one stream however it comes, streams that fail, end early or are
+//! interrupted, and that each call can succeed.
+
+use framing::faulty::{EndsAtRead, FailsAfter, FailsAtRead, InPieces};
+use framing::{Failed, FrameFault, Framer, FromRead, FromWrite, Sink, Source, write_all};
+use std::io;
+use std::io::{ErrorKind, Read, Write};
+use std::process::Abort;
+use std::test::Fail;
+
+/// A WRITE-REPLACE COMPLETE, a type that is not in use, and a RESTART, one after another.
+const STREAM: [u8; 38] = [
+    0x02, 0x00, 0x00, 0x10, 0x0e, 0x11, 0x12, 0x03, 0xc0, 0x00, 0x04, 0x00, 0x05, 0x01, 0x00, 0x64,
+    0x00, 0x07, 0x12, 0x00, 0x08, 0x00, 0x00, 0x02, 0xaa, 0xbb, 0x13, 0x00, 0x00, 0x08, 0x04, 0x00,
+    0x01, 0x06, 0x16, 0x00, 0x0d, 0x01,
+];
+
+/// The type of each of its frames, and where its body begins and ends.
+const FRAMES: [(u8, usize, usize); 3] = [(0x02, 4, 20), (0x08, 24, 26), (0x13, 30, 38)];
+
+/// Feeds the piece, once more if memory was refused.
+fn fed(framer: &mut Framer, piece: &[u8]) -> Result<(), FrameFault> {
+    match framer.feed(piece) {
+        Err(FrameFault::Memory) => framer.feed(piece),
+        answer => answer,
+    }
+}
+
+/// The frames of the stream in their order, and then none.
+fn gives_the_stream(rt: &impl Abort, framer: &mut Framer, cuts: &[usize]) {
+    for (kind, begin, end) in &FRAMES {
+        let frame = framer.next().expect(rt, "a frame");
+        assert_eq!(rt; frame.kind, *kind, "cut at {cuts:?}");
+        assert_eq!(rt;
+            Some(frame.body.as_slice()),
+            STREAM.get(*begin..*end),
+            "cut at {cuts:?}"
+        );
+    }
+    assert!(rt; framer.next().is_none(), "cut at {cuts:?}");
+    assert_eq!(rt; framer.rest(), 0, "cut at {cuts:?}");
+}
+
+#[test]
+fn the_frames_are_the_same_however_the_stream_is_cut(rt: HostRuntime) -> Result<(), Fail> {
+    for first in 0..=STREAM.len() {
+        for second in first..=STREAM.len() {
+            let mut framer = Framer::new(rt.alloc());
+            fed(&mut framer, &STREAM[..first])?;
+            fed(&mut framer, &STREAM[first..second])?;
+            fed(&mut framer, &STREAM[second..])?;
+            gives_the_stream(&rt, &mut framer, &[first, second]);
+        }
+    }
+    let mut framer = Framer::new(rt.alloc());
+    for octet in &STREAM {
+        fed(&mut framer, &[*octet])?;
+    }
+    gives_the_stream(&rt, &mut framer, &[]);
+    Ok(())
+}
+
+#[test]
+fn a_body_is_read_up_to_262144_octets(rt: HostRuntime) -> Result<(), Fail> {
+    let too_long = Err(FrameFault::TooLong { length: 262_145 });
+    let mut framer = Framer::new(rt.alloc());
+    fed(&mut framer, &STREAM[..20])?;
+    assert_eq!(rt; fed(&mut framer, &[0x02, 0x04, 0x00]), Ok(()));
+    assert_eq!(rt; fed(&mut framer, &[0x01, 0x0e]), too_long);
+    assert_eq!(rt; framer.rest(), 4);
+    assert_eq!(rt; fed(&mut framer, &STREAM), too_long);
+    assert_eq!(rt; framer.next().expect(&rt, "the frame before").kind, 0x02);
+    assert!(rt; framer.next().is_none());
+    assert_eq!(rt; fed(&mut framer, &[]), too_long);
+    assert_eq!(rt; framer.rest(), 4);
+
+    let mut framer = Framer::new(rt.alloc());
+    assert_eq!(rt; fed(&mut framer, &[0x02, 0x04, 0x00, 0x00]), Ok(()));
+    assert_eq!(rt; framer.rest(), 4);
+    let piece = [0x55; 4096];
+    for _ in 0..64 {
+        assert!(rt; framer.next().is_none());
+        fed(&mut framer, &piece)?;
+    }
+    let frame = framer.next().expect(&rt, "the longest frame");
+    assert_eq!(rt; frame.body.as_slice().len(), 262_144);
+    assert_eq!(rt; framer.rest(), 0);
+    Ok(())
+}
+
+/// Reads to the end, or to a failure.
+fn read_octets(source: &mut impl Source, gave: &mut Vec<u8>) -> Result<(), Failed> {
+    let mut buffer = [0u8; 16];
+    for _ in 0..100 {
+        let count = source.read(&mut buffer)?;
+        if count == 0 {
+            return Ok(());
+        }
+        for octet in &buffer[..count] {
+            let _ = gave.push(*octet);
+        }
+    }
+    Ok(())
+}
+
+#[test]
+fn sources_of_a_test_fail_and_end_where_they_are_told(rt: HostRuntime) -> Result<(), Fail> {
+    let octets = [1, 2, 3, 4, 5];
+    let mut source = FailsAtRead::new(InPieces::new(FromRead::new(octets.as_slice()), 2), 2);
+    let mut gave = Vec::new(rt.alloc());
+    assert_eq!(rt; read_octets(&mut source, &mut gave), Err(Failed));
+    assert_eq!(rt; gave.as_slice(), [1, 2].as_slice());
+    assert_eq!(rt; read_octets(&mut source, &mut gave), Ok(()));
+    assert_eq!(rt; gave.as_slice(), octets.as_slice());
+
+    let mut source = EndsAtRead::new(InPieces::new(FromRead::new(octets.as_slice()), 1), 4);
+    let mut gave = Vec::new(rt.alloc());
+    assert_eq!(rt; read_octets(&mut source, &mut gave), Ok(()));
+    assert_eq!(rt; gave.as_slice(), [1, 2, 3].as_slice());
+    assert_eq!(rt; read_octets(&mut source, &mut gave), Ok(()));
+    assert_eq!(rt; gave.as_slice(), [1, 2, 3].as_slice());
+    Ok(())
+}
+
+#[test]
+fn a_front_is_written_where_a_write_fails(rt: HostRuntime) -> Result<(), Fail> {
+    let mut room = Vec::with_capacity(rt.alloc(), STREAM.len())?;
+    let mut sink = FailsAfter::new(InPieces::new(FromWrite::new(room), 3), 10);
+    assert_eq!(rt; write_all(&mut sink, &STREAM[..4]), Ok(()));
+    assert_eq!(rt; write_all(&mut sink, &STREAM[4..]), Err(Failed));
+    assert_eq!(rt; sink.write(&[1]), Err(Failed));
+    room = sink.into_inner().into_inner().into_inner();
+    assert_eq!(rt; room.as_slice(), &STREAM[..10]);
+    Ok(())
+}
+
+/// A stream whose first calls fail, all for one cause.
+#[derive(Drop)]
+struct Disturbed {
+    calls_left: u8,
+    cause: ErrorKind,
+}
+
+impl Disturbed {
+    fn call(&mut self) -> io::Result<()> {
+        if self.calls_left == 0 {
+            return Ok(());
+        }
+        self.calls_left -= 1;
+        Err(self.cause.into())
+    }
+}
+
+impl Read for Disturbed {
+    fn read(&mut self, buf: &mut [u8]) -> io::Result<usize> {
+        self.call()?;
+        Ok(buf.len())
+    }
+}
+
+impl Write for Disturbed {
+    fn write(&mut self, buf: &[u8]) -> io::Result<usize> {
+        self.call()?;
+        Ok(buf.len())
+    }
+
+    fn flush(&mut self) -> io::Result<()> {
+        Ok(())
+    }
+}
+
+#[test]
+fn an_interrupted_call_is_made_again(rt: HostRuntime) {
+    for (calls_left, cause, want) in [
+        (3, ErrorKind::Interrupted, Ok(1)),
+        (1, ErrorKind::ConnectionReset, Err(Failed)),
+    ] {
+        let mut source = FromRead::new(Disturbed { calls_left, cause });
+        assert_eq!(rt; source.read(&mut [0]), want);
+        let mut sink = FromWrite::new(Disturbed { calls_left, cause });
+        assert_eq!(rt; sink.write(&[0]), want);
+    }
+}
+
+#[test]
+fn every_call_answers(rt: HostRuntime) -> Result<(), Fail> {
+    let mut framer = Framer::new(rt.alloc());
+    assert_eq!(rt; framer.feed(&STREAM), Ok(()));
+    let mut sink = FromWrite::new(Vec::new(rt.alloc()));
+    assert_eq!(rt; write_all(&mut sink, &STREAM), Ok(()));
+    let mut source = FromRead::new(STREAM.as_slice());
+    assert_eq!(rt; source.read(&mut [0; 40]), Ok(38));
+    Ok(())
+}

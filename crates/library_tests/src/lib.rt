@@ -1,0 +1,24 @@
+//! Tests of all libraries: what their contracts don't say. A crate with tests is proved twice, so the libraries have
+//! none of their own. What a script or a frame can show stands in the data of `examples` and `codec_vectors`.
+#![tactic(auto)]
+
+#[cfg(test)]
+mod area_tests;
+#[cfg(test)]
+mod book_tests;
+#[cfg(test)]
+mod centre_tests;
+#[cfg(test)]
+mod command_line_tests;
+#[cfg(test)]
+mod element_tests;
+#[cfg(test)]
+mod frame_tests;
+#[cfg(test)]
+mod message_tests;
+#[cfg(test)]
+mod register_tests;
+#[cfg(test)]
+mod replay_tests;
+#[cfg(test)]
+mod serial_tests;

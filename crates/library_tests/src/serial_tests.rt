@@ -1,0 +1,69 @@
+//! Worked values from the standard.
+
+use serials::{Scope, Serial, least_free_code};
+use std::process::Abort;
+use std::test::Fail;
+
+#[test]
+fn serials_have_their_numbers(rt: HostRuntime) -> Result<(), Fail> {
+    for (scope, code, update, want) in [
+        (Scope::CellImmediate, 0, 0, Some(0x0000)),
+        (Scope::Plmn, 1, 2, Some(0x4012)),
+        (Scope::LocationArea, 0, 15, Some(0x800f)),
+        (Scope::Cell, 0, 0, Some(0xc000)),
+        (Scope::Cell, 1023, 15, Some(0xffff)),
+        (Scope::Cell, 1024, 0, None),
+        (Scope::Cell, 0, 16, None),
+    ] {
+        let serial = Serial::new(scope, code, update);
+        assert_eq!(rt; serial.map(|s| s.to_u16()), want, "{code} {update}");
+    }
+    Ok(())
+}
+
+#[test]
+fn a_serial_has_its_parts(rt: HostRuntime) -> Result<(), Fail> {
+    let serial = Serial::from_u16(0x4012);
+    assert_eq!(rt; serial.scope(), Scope::Plmn);
+    assert_eq!(rt; serial.code(), 1);
+    assert_eq!(rt; serial.update(), 2);
+    for (number, scope) in [
+        (0, Some(Scope::CellImmediate)),
+        (1, Some(Scope::Plmn)),
+        (2, Some(Scope::LocationArea)),
+        (3, Some(Scope::Cell)),
+        (4, None),
+    ] {
+        assert_eq!(rt; Scope::from_number(number), scope, "{number}");
+    }
+    Ok(())
+}
+
+#[test]
+fn updates_count_to_fifteen(rt: HostRuntime) -> Result<(), Fail> {
+    for (serial, want) in [
+        (0xc000, Some(0xc001)),
+        (0x401e, Some(0x401f)),
+        (0x401f, None),
+        (0xffff, None),
+    ] {
+        let next = Serial::from_u16(serial).next();
+        assert_eq!(rt; next.map(|s| s.to_u16()), want, "{serial}");
+    }
+    Ok(())
+}
+
+#[test]
+fn the_least_code_is_free(rt: HostRuntime) -> Result<(), Fail> {
+    assert_eq!(rt; least_free_code(&[]), Some(0));
+    assert_eq!(rt; least_free_code(&[0, 1, 3]), Some(2));
+    assert_eq!(rt; least_free_code(&[3, 0, 1, 0]), Some(2));
+    let mut used = Vec::new(rt.alloc());
+    for code in 0..1023u16 {
+        used.push(code)?;
+    }
+    assert_eq!(rt; least_free_code(used.as_slice()), Some(1023));
+    used.push(1023)?;
+    assert_eq!(rt; least_free_code(used.as_slice()), None);
+    Ok(())
+}
