@@ -57,11 +57,11 @@ fn every_call_answers(rt: HostRuntime) -> Result<(), Fail> {
 #[test]
 fn the_areas_of_a_cell_are_in_order_of_octets(rt: HostRuntime) -> Result<(), Fail> {
     let alloc = rt.alloc();
-    let mut areas = named(alloc, &[b"b", b"a-1", b"B", b"a", b"9", b"other", b"ab"])?;
-    for octets in &[b"ab".as_slice(), b"9", b"a", b"B", b"a-1", b"b"] {
+    let mut areas = named(alloc, &[b"b", b"a-1", b"B", b"a", b"9", b"other"])?;
+    for octets in &[b"9".as_slice(), b"a", b"B", b"a-1", b"b"] {
         areas.put(&name(alloc, octets)?, Selector::Lac(100))?;
     }
-    let want = list(alloc, &[b"9", b"B", b"a", b"a-1", b"ab", b"b"])?;
+    let want = list(alloc, &[b"9", b"B", b"a", b"a-1", b"b"])?;
     assert!(rt; areas.areas_of(CELL)?.same(&want));
     assert!(rt; areas.areas_of(FAR)?.as_slice().is_empty());
     Ok(())

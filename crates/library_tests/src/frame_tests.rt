@@ -18,14 +18,6 @@ const STREAM: [u8; 38] = [
 /// The type of each of its frames, and where its body begins and ends.
 const FRAMES: [(u8, usize, usize); 3] = [(0x02, 4, 20), (0x08, 24, 26), (0x13, 30, 38)];
 
-/// Feeds the piece, once more if memory was refused.
-fn fed(framer: &mut Framer, piece: &[u8]) -> Result<(), FrameFault> {
-    match framer.feed(piece) {
-        Err(FrameFault::Memory) => framer.feed(piece),
-        answer => answer,
-    }
-}
-
 /// The frames of the stream in their order, and then none.
 fn gives_the_stream(rt: &impl Abort, framer: &mut Framer, cuts: &[usize]) {
     for (kind, begin, end) in &FRAMES {
@@ -46,15 +38,15 @@ fn the_frames_are_the_same_however_the_stream_is_cut(rt: HostRuntime) -> Result<
     for first in 0..=STREAM.len() {
         for second in first..=STREAM.len() {
             let mut framer = Framer::new(rt.alloc());
-            fed(&mut framer, &STREAM[..first])?;
-            fed(&mut framer, &STREAM[first..second])?;
-            fed(&mut framer, &STREAM[second..])?;
+            framer.feed(&STREAM[..first])?;
+            framer.feed(&STREAM[first..second])?;
+            framer.feed(&STREAM[second..])?;
             gives_the_stream(&rt, &mut framer, &[first, second]);
         }
     }
     let mut framer = Framer::new(rt.alloc());
     for octet in &STREAM {
-        fed(&mut framer, &[*octet])?;
+        framer.feed(&[*octet])?;
     }
     gives_the_stream(&rt, &mut framer, &[]);
     Ok(())
@@ -64,23 +56,23 @@ fn the_frames_are_the_same_however_the_stream_is_cut(rt: HostRuntime) -> Result<
 fn a_body_is_read_up_to_262144_octets(rt: HostRuntime) -> Result<(), Fail> {
     let too_long = Err(FrameFault::TooLong { length: 262_145 });
     let mut framer = Framer::new(rt.alloc());
-    fed(&mut framer, &STREAM[..20])?;
-    assert_eq!(rt; fed(&mut framer, &[0x02, 0x04, 0x00]), Ok(()));
-    assert_eq!(rt; fed(&mut framer, &[0x01, 0x0e]), too_long);
+    framer.feed(&STREAM[..20])?;
+    assert_eq!(rt; framer.feed(&[0x02, 0x04, 0x00]), Ok(()));
+    assert_eq!(rt; framer.feed(&[0x01, 0x0e]), too_long);
     assert_eq!(rt; framer.rest(), 4);
-    assert_eq!(rt; fed(&mut framer, &STREAM), too_long);
+    assert_eq!(rt; framer.feed(&STREAM), too_long);
     assert_eq!(rt; framer.next().expect(&rt, "the frame before").kind, 0x02);
     assert!(rt; framer.next().is_none());
-    assert_eq!(rt; fed(&mut framer, &[]), too_long);
+    assert_eq!(rt; framer.feed(&[]), too_long);
     assert_eq!(rt; framer.rest(), 4);
 
     let mut framer = Framer::new(rt.alloc());
-    assert_eq!(rt; fed(&mut framer, &[0x02, 0x04, 0x00, 0x00]), Ok(()));
+    assert_eq!(rt; framer.feed(&[0x02, 0x04, 0x00, 0x00]), Ok(()));
     assert_eq!(rt; framer.rest(), 4);
     let piece = [0x55; 4096];
     for _ in 0..64 {
         assert!(rt; framer.next().is_none());
-        fed(&mut framer, &piece)?;
+        framer.feed(&piece)?;
     }
     let frame = framer.next().expect(&rt, "the longest frame");
     assert_eq!(rt; frame.body.as_slice().len(), 262_144);

@@ -35,13 +35,16 @@ fn has_cells_of(
     want: &[Cell],
 ) -> Result<(), Fail> {
     let cells = register.cells_of(bsc(number)?)?;
-    assert_eq!(rt; cells.as_slice(), want, "the cells of BSC {number}");
+    assert!(rt; cells.as_slice() == want, "the cells of BSC {number}");
     Ok(())
 }
 
 fn has_cells_in(rt: &impl Abort, register: &Register, lac: u16, want: &[Cell]) -> Result<(), Fail> {
     let cells = register.cells_in(lac)?;
-    assert_eq!(rt; cells.as_slice(), want, "the cells of location area {lac}");
+    assert!(rt;
+        cells.as_slice() == want,
+        "the cells of location area {lac}"
+    );
     Ok(())
 }
 

@@ -4,7 +4,7 @@
 use console::{ReplayFault, replay};
 use framing::faulty::{EndsAtRead, FailsAfter, FailsAtRead, InPieces};
 use framing::{FromRead, FromWrite, Sink};
-use std::alloc::Global;
+use std::alloc::{AllocError, Global};
 use std::test::Fail;
 
 /// The network code 001-01.
@@ -187,17 +187,28 @@ static AFTER_CELLS: [Step; 11] = [
     },
 ];
 
-/// An order has 1,000 cells at most; the last cell goes out in a second one.
-#[test]
-fn many_cells_are_ordered_in_turn(rt: HostRuntime) -> Result<(), Fail> {
-    let alloc = rt.alloc();
+fn add_cell(alloc: Global, script: &mut String, ci: u32) -> Result<(), AllocError> {
+    let line = format!(in alloc; "cell add 200 {ci} 1\n")?;
+    script.push_str(line.as_str())
+}
+
+/// A BSC with 1,001 cells, and the steps after them.
+fn many_cells(alloc: Global) -> Result<String, AllocError> {
     let mut script = String::from_str(alloc, "bsc add 1\n")?;
     for ci in 1..1002u32 {
-        script.push_str(format!(in alloc; "cell add 200 {ci} 1\n")?.as_str())?;
+        add_cell(alloc, &mut script, ci)?;
     }
     for line in &AFTER_CELLS {
         script.push_str(line.script)?;
     }
+    Ok(script)
+}
+
+/// An order has 1,000 cells at most; the last cell goes out in a second one.
+#[test]
+fn many_cells_are_ordered_in_turn(rt: HostRuntime) -> Result<(), Fail> {
+    let alloc = rt.alloc();
+    let script = many_cells(alloc)?;
     let (ended, wrote) = answered(alloc, script.as_bytes());
     assert_eq!(rt; ended, Ok(()));
     let mut answers = wrote.as_slice().split(|octet| *octet == b'\n').skip(1002);

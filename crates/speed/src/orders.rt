@@ -10,18 +10,29 @@ use std::rt::Clock;
 /// The network of the script.
 const PLMN: [u8; 3] = [0x00, 0xf1, 0x10];
 
-/// The cells are registered at one BSC, a warning covers them, and two orders bring it on air.
+/// What follows the cells: a warning that covers them, and two orders that bring it on air.
+const WARNING: &str = "area add Wide\n\
+     area put Wide 200\n\
+     issue 4370 3 15 0 30 d4f29c0e Wide\n\
+     up 1\n\
+     send 1\n\
+     rx 1 020000060e111203c000\n\
+     send 1\n\
+     rx 1 020000060e111203c000\n\
+     board 1\n";
+
+fn add_cell(alloc: Global, script: &mut String, ci: u32) -> Result<(), AllocError> {
+    let line = format!(in alloc; "cell add 200 {ci} 1\n")?;
+    script.push_str(line.as_str())
+}
+
+/// The script with so many cells at one BSC.
 fn script(alloc: Global, cells: u32) -> Result<String, AllocError> {
     let mut script = String::from_str(alloc, "bsc add 1\n")?;
     for ci in 1..=cells {
-        script.push_str(format!(in alloc; "cell add 200 {ci} 1\n")?.as_str())?;
+        add_cell(alloc, &mut script, ci)?;
     }
-    script.push_str("area add Wide\narea put Wide 200\n")?;
-    script.push_str("issue 4370 3 15 0 30 d4f29c0e Wide\nup 1\n")?;
-    for _ in 0..2 {
-        script.push_str("send 1\nrx 1 020000060e111203c000\n")?;
-    }
-    script.push_str("board 1\n")?;
+    script.push_str(WARNING)?;
     Ok(script)
 }
 
