@@ -43,13 +43,18 @@ fn every_call_answers(rt: HostRuntime) -> Result<(), Fail> {
     assert!(rt; areas.areas_of(CELL)?.same(&list(alloc, &[b"Coast"])?));
     areas.cut(&coast, Selector::Cell(CELL))?;
     areas.drop_area(&coast)?;
+    Ok(())
+}
+
+#[test]
+fn selectors_are_copied(rt: HostRuntime) -> Result<(), Fail> {
+    let alloc = rt.alloc();
     let selectors = Selectors::from_vec(Vec::from_slice(alloc, &[Selector::Lac(100)])?);
     assert!(rt; selectors.copied(alloc)?.same(&selectors));
     let area = Area {
-        name: coast,
+        name: name(alloc, b"Coast")?,
         selectors,
     };
-    assert_eq!(rt; area.selectors.as_slice(), [Selector::Lac(100)].as_slice());
     assert_eq!(rt; area.selectors.into_vec().len(), 1);
     Ok(())
 }

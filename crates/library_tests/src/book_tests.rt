@@ -61,38 +61,54 @@ fn issued(
     Ok((number.number(), serial.to_u16()))
 }
 
+/// A book whose first warning names these areas.
+fn issued_for(alloc: Global, areas: &[&[u8]]) -> Result<Book, Refusal> {
+    let mut book = Book::new(alloc);
+    let areas = names(alloc, areas)?;
+    book.issue(&notice(alloc, 4370, Scope::Cell)?, areas.as_slice())?;
+    Ok(book)
+}
+
+fn notices_are_copied(rt: &impl Abort, alloc: Global) -> Result<(), AllocError> {
+    let first = notice(alloc, 4370, Scope::Cell)?;
+    let copy = first.copied(alloc)?;
+    assert!(rt; copy.same(&first));
+    let pages = copy.content.pages.copied(alloc)?;
+    assert!(rt; pages.same(&first.content.pages));
+    Ok(())
+}
+
+/// The first warning is corrected, and moved from the coast to the hills.
+fn is_changed(alloc: Global, book: &mut Book) -> Result<(), Refusal> {
+    book.update(first_id(), &content(alloc, 0x42, 2)?)?;
+    book.widen(first_id(), &name(alloc, b"hills")?)?;
+    book.narrow(first_id(), &name(alloc, b"coast")?)
+}
+
+fn is_found(rt: &impl Abort, alloc: Global, book: &Book) -> Result<(), Refusal> {
+    let warnings = book.warnings()?;
+    assert!(rt; warnings.as_slice() == [first_id()].as_slice());
+    let naming = book.naming(&name(alloc, b"hills")?)?;
+    assert!(rt; naming.as_slice() == [first_id()].as_slice());
+    Ok(())
+}
+
+fn is_ended(book: &mut Book) -> Result<(), Refusal> {
+    book.stop(first_id())?;
+    book.forget(first_id())
+}
+
 #[test]
 fn every_call_answers(rt: HostRuntime) -> Result<(), Fail> {
     let alloc = rt.alloc();
-    let mut book = Book::new(alloc);
-    let coast = name(alloc, b"coast")?;
-    let hills = name(alloc, b"hills")?;
-    let first = notice(alloc, 4370, Scope::Cell)?;
-    assert!(rt; first.copied(alloc)?.same(&first));
-    assert!(rt;
-        first
-            .content
-            .pages
-            .copied(alloc)?
-            .same(&first.content.pages)
-    );
-    assert_eq!(rt; issued(alloc, &mut book, 4370, Scope::Cell)?, (1, 0xc000));
-    let second = content(alloc, 0x42, 2)?;
-    let serial = book.update(first_id(), &second)?;
-    assert_eq!(rt; serial.to_u16(), 0xc001);
-    book.widen(first_id(), &hills)?;
-    assert_eq!(rt; book.warnings()?.as_slice(), [first_id()].as_slice());
-    assert_eq!(rt; book.naming(&hills)?.as_slice(), [first_id()].as_slice());
-    assert!(rt; book.names_area(&coast));
+    notices_are_copied(&rt, alloc)?;
+    let mut book = issued_for(alloc, &[b"coast"])?;
+    is_changed(alloc, &mut book)?;
+    is_found(&rt, alloc, &book)?;
     assert_eq!(rt; book.message_id(first_id()), Some(4370));
-    book.narrow(first_id(), &coast)?;
-    assert!(rt; !book.names_area(&coast));
     assert!(rt; book.is_active(first_id()));
-    book.stop(first_id())?;
-    assert!(rt; !book.is_active(first_id()));
-    book.forget(first_id())?;
-    assert_eq!(rt; book.len(), 0);
-    assert_eq!(rt; book.issued(), 1);
+    is_ended(&mut book)?;
+    assert_eq!(rt; (book.len(), book.issued()), (0, 1));
     Ok(())
 }
 
@@ -172,19 +188,25 @@ fn versions_are_lent_newest_first(rt: HostRuntime) -> Result<(), Fail> {
 #[test]
 fn narrow_keeps_the_order_of_the_rest(rt: HostRuntime) -> Result<(), Fail> {
     let alloc = rt.alloc();
-    let mut book = Book::new(alloc);
-    let areas = names(alloc, &[b"d", b"a", b"c", b"b"])?;
-    book.issue(&notice(alloc, 4370, Scope::Cell)?, areas.as_slice())?;
+    let mut book = issued_for(alloc, &[b"d", b"a", b"c", b"b"])?;
     book.narrow(first_id(), &name(alloc, b"a")?)?;
     book.widen(first_id(), &name(alloc, b"aa")?)?;
     let want = names(alloc, &[b"d", b"c", b"b", b"aa"])?;
     assert!(rt; book.areas_of(first_id()) == want.as_slice());
+    Ok(())
+}
+
+#[test]
+fn a_stopped_warning_keeps_its_areas_until_it_is_forgotten(rt: HostRuntime) -> Result<(), Fail> {
+    let alloc = rt.alloc();
+    let mut book = issued_for(alloc, &[b"coast"])?;
+    let coast = name(alloc, b"coast")?;
     book.stop(first_id())?;
-    assert!(rt; book.areas_of(first_id()) == want.as_slice());
-    assert!(rt; book.names_area(&name(alloc, b"aa")?));
+    assert!(rt; book.names_area(&coast));
+    assert_eq!(rt; book.areas_of(first_id()).len(), 1);
     book.forget(first_id())?;
+    assert!(rt; !book.names_area(&coast));
     assert!(rt; book.areas_of(first_id()).is_empty());
-    assert!(rt; !book.names_area(&name(alloc, b"aa")?));
     Ok(())
 }
 

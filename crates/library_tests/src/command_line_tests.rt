@@ -160,36 +160,40 @@ fn options_reach_the_run(rt: HostRuntime) -> Result<(), Fail> {
     Ok(())
 }
 
-#[test]
-fn faults_are_said(rt: HostRuntime) -> Result<(), Fail> {
-    let alloc = rt.alloc();
+fn replay_words(alloc: Global) -> Result<Vec<String>, AllocError> {
     let mut words = Vec::new(alloc);
     words.push(String::from_str(alloc, "cbc")?)?;
     words.push(String::from_str(alloc, "replay")?)?;
+    Ok(words)
+}
 
+#[test]
+fn a_read_fault_is_said(rt: HostRuntime) -> Result<(), Fail> {
+    let alloc = rt.alloc();
+    let words = replay_words(alloc)?;
     let mut reader = FailsAtRead::new(FromRead::new(b"bsc add 1\n".as_slice()), 2);
     let mut writer = FromWrite::new(Vec::new(alloc));
     let mut errors = FromWrite::new(Vec::new(alloc));
     let status = run(alloc, &words, &mut reader, &mut writer, &mut errors);
     assert_eq!(rt; status, 1);
     assert_eq!(rt; writer.into_inner().as_slice(), b"ok 1\n".as_slice());
-    assert_eq!(rt;
-        errors.into_inner().as_slice(),
-        b"cbc: read fault\n".as_slice()
-    );
+    let said = errors.into_inner();
+    assert_eq!(rt; said.as_slice(), b"cbc: read fault\n".as_slice());
+    Ok(())
+}
 
+#[test]
+fn a_write_fault_is_said(rt: HostRuntime) -> Result<(), Fail> {
+    let alloc = rt.alloc();
+    let words = replay_words(alloc)?;
     let mut reader = FromRead::new(b"bsc add 1\n".as_slice());
     let mut writer = FailsAfter::new(FromWrite::new(Vec::new(alloc)), 2);
     let mut errors = FromWrite::new(Vec::new(alloc));
     let status = run(alloc, &words, &mut reader, &mut writer, &mut errors);
     assert_eq!(rt; status, 1);
-    assert_eq!(rt;
-        writer.into_inner().into_inner().as_slice(),
-        b"ok".as_slice()
-    );
-    assert_eq!(rt;
-        errors.into_inner().as_slice(),
-        b"cbc: write fault\n".as_slice()
-    );
+    let wrote = writer.into_inner().into_inner();
+    assert_eq!(rt; wrote.as_slice(), b"ok".as_slice());
+    let said = errors.into_inner();
+    assert_eq!(rt; said.as_slice(), b"cbc: write fault\n".as_slice());
     Ok(())
 }

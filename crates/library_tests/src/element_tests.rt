@@ -7,7 +7,7 @@ use cbsp_ie::{
     Cause, Cell, CellId, CellIds, Cells, CountEntry, Counts, Element, FailEntry, Failures, Form,
     Name, Names, Octets, read_element, write_cells, write_counts, write_element, write_failures,
 };
-use std::alloc::Global;
+use std::alloc::{AllocError, Global};
 use std::process::Abort;
 use std::test::Fail;
 
@@ -97,10 +97,7 @@ fn lent_elements_are_spelled(rt: &impl Abort, alloc: Global) -> Result<(), Fail>
     Ok(())
 }
 
-// Each call that can answer that memory is short, with ample memory.
-#[test]
-fn every_call_answers(rt: HostRuntime) -> Result<(), Fail> {
-    let alloc = rt.alloc();
+fn values_are_copied(rt: &impl Abort, alloc: Global) -> Result<(), AllocError> {
     let octets = Octets::from_vec(Vec::from_slice(alloc, &[1, 2])?);
     assert!(rt; octets.copied(alloc)?.same(&octets));
     let name = Name::from_vec(Vec::from_slice(alloc, b"Coast")?);
@@ -109,10 +106,22 @@ fn every_call_answers(rt: HostRuntime) -> Result<(), Fail> {
     names.push(name)?;
     let names = Names::from_vec(names);
     assert!(rt; names.copied(alloc)?.same(&names));
+    Ok(())
+}
+
+fn cells_are_written(rt: &impl Abort, alloc: Global) -> Result<(), AllocError> {
     let cells = Cells::from_vec(Vec::from_slice(alloc, &[Cell { lac: 100, ci: 7 }])?);
     assert!(rt; cells.copied(alloc)?.same(&cells));
     let ids = CellIds::of_cells(alloc, cells.as_slice())?;
     assert!(rt; ids.copied(alloc)?.same(&ids));
+    assert!(rt; ids.octets_len() < 65536);
+    let mut out = Vec::new(alloc);
+    write_cells(&mut out, &ids)?;
+    assert_eq!(rt; out.len(), 8);
+    Ok(())
+}
+
+fn counts_are_written(rt: &impl Abort, alloc: Global) -> Result<(), AllocError> {
     let mut counts = Counts::with_capacity(alloc, Form::All, 1)?;
     counts.push(CountEntry {
         id: CellId::All,
@@ -120,25 +129,45 @@ fn every_call_answers(rt: HostRuntime) -> Result<(), Fail> {
         info: 0,
     })?;
     assert!(rt; counts.copied(alloc)?.same(&counts));
+    assert!(rt; counts.octets_len() < 65536);
+    let mut out = Vec::new(alloc);
+    write_counts(&mut out, &counts)?;
+    assert_eq!(rt; out.len(), 7);
+    Ok(())
+}
+
+fn failures_are_written(rt: &impl Abort, alloc: Global) -> Result<(), AllocError> {
     let mut failures = Failures::with_capacity(alloc, 1)?;
     failures.push(FailEntry {
         id: CellId::All,
         cause: Cause::UNSPECIFIED_ERROR,
     })?;
     assert!(rt; failures.copied(alloc)?.same(&failures));
-
-    let mut out = Vec::new(alloc);
-    write_element(&mut out, &Element::MessageIdentifier(4370))?;
-    assert_eq!(rt; out.as_slice(), [0x0e, 0x11, 0x12].as_slice());
-    assert!(rt; ids.octets_len() < 65536);
-    write_cells(&mut out, &ids)?;
-    assert!(rt; counts.octets_len() < 65536);
-    write_counts(&mut out, &counts)?;
     assert!(rt; failures.octets_len() < 65536);
+    let mut out = Vec::new(alloc);
     write_failures(&mut out, &failures)?;
+    assert_eq!(rt; out.len(), 5);
+    Ok(())
+}
+
+fn every_cell_is_written(rt: &impl Abort, alloc: Global) -> Result<(), AllocError> {
     let every = CellIds::all(alloc)?;
     assert!(rt; every.octets_len() < 65536);
+    let mut out = Vec::new(alloc);
     write_cells(&mut out, &every)?;
-    assert_eq!(rt; out.len(), 3 + 8 + 7 + 5 + 4);
+    write_element(&mut out, &Element::MessageIdentifier(4370))?;
+    assert_eq!(rt; out.len(), 4 + 3);
+    Ok(())
+}
+
+// Each call that can answer that memory is short, with ample memory.
+#[test]
+fn every_call_answers(rt: HostRuntime) -> Result<(), Fail> {
+    let alloc = rt.alloc();
+    values_are_copied(&rt, alloc)?;
+    cells_are_written(&rt, alloc)?;
+    counts_are_written(&rt, alloc)?;
+    failures_are_written(&rt, alloc)?;
+    every_cell_is_written(&rt, alloc)?;
     lent_elements_are_spelled(&rt, alloc)
 }
