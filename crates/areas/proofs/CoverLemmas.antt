@@ -5,8 +5,8 @@ use Rattle.std.specs.List.{list_all, filter}
 use Rattle.std.proofs.lemmas.Bool.{and_parts, or_right}
 use Rattle.std.proofs.lemmas.List.{take_more}
 use Rattle.std.proofs.lemmas.Slice.Eq.{bytes_eq-Decides}
-use Rattle.cbsp_ie.specs.declared.cell.Cell.{Cell}
-use Rattle.cbsp_ie.specs.Order.{is_ascending}
+use Rattle.common.specs.declared.cell.Cell.{Cell}
+use Rattle.common.specs.Order.{is_ascending}
 use Rattle.areas.specs.Areas.{has_area, selectors_of, selects, covers, names_of, areas_of, named_lt}
 use Rattle.areas.specs.Laws.{has_area_after}
 use Rattle.areas.specs.Name.{octets_lt}

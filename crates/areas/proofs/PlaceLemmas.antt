@@ -5,7 +5,7 @@ use Rattle.std.specs.List.{position_or_len, list_all}
 use Rattle.std.proofs.lemmas.Bool.{and_parts}
 use Rattle.std.proofs.lemmas.List.Recursion.{is_position_or_len}
 use Rattle.std.proofs.lemmas.Slice.Eq.{bytes_eq-Decides}
-use Rattle.cbsp_ie.specs.Order.{is_ascending}
+use Rattle.common.specs.Order.{is_ascending}
 use Rattle.areas.specs.Areas.{is_named, has_area, changed_by, named_lt}
 use Rattle.areas.specs.Laws.{has_area_after}
 use Rattle.areas.specs.Name.{octets_lt}

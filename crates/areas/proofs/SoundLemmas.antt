@@ -2,9 +2,9 @@
 use Rattle.std.proofs.Common.{◌≡◌, ℕ, ◌<◌, ◌≤◌, Bool, true, false, ◌||◌, not, cond, List, [], ◌∷◌, ◌++◌, map, length, refl, sym, ap, ◌∙◌, arith, lit≤, length-append}
 use Rattle.std.specs.Prelude.{bytes_eq}
 use Rattle.std.proofs.lemmas.Slice.Eq.{bytes_eq-Decides}
-use Rattle.cbsp_ie.specs.OnceLaws.{once_last, once_filter}
-use Rattle.cbsp_ie.specs.Order.{is_ascending, each_once}
-use Rattle.cbsp_ie.specs.OrderLaws.{all_from_none, ascending_inserted, ascending_filter, ascending_map, length_filter}
+use Rattle.common.specs.OnceLaws.{once_last, once_filter}
+use Rattle.common.specs.Order.{is_ascending, each_once}
+use Rattle.common.specs.OrderLaws.{all_from_none, ascending_inserted, ascending_filter, ascending_map, length_filter}
 use Rattle.areas.specs.Areas.{is_named, has_area, selectors_of, has_selector, empty_area, named_lt, with_area, without_area, changed_by, with_selector, without, without_selector, IsSound}
 use Rattle.areas.specs.Laws.{length_with_area, length_with_selector, length_without_selector, selectors_of_with_area, selectors_of_without_area, selectors_of_with_selector, selectors_of_without_selector}
 use Rattle.areas.specs.Name.{octets_lt}

@@ -1,8 +1,8 @@
 -- Areas as a list, in the order of the octets of their names: what it has, and what each edit makes of it.
 use Rattle.std.specs.Prelude.{ℕ, ◌≤◌, ◌≡◌, Bool, true, ◌||◌, not, List, [], ◌∷◌, ◌++◌, map, bytes_eq, length, if◌then◌else◌}
 use Rattle.std.specs.List.{list_any, filter}
-use Rattle.cbsp_ie.specs.Order.{inserted, is_ascending, each_once}
-use Rattle.cbsp_ie.specs.declared.cell.Cell.{Cell}
+use Rattle.common.specs.Order.{inserted, is_ascending, each_once}
+use Rattle.common.specs.declared.cell.Cell.{Cell}
 use Rattle.areas.specs.Name.{octets_lt}
 use Rattle.areas.specs.Selector.{selector_eq}
 use Rattle.areas.specs.declared.area.Area.{Area}

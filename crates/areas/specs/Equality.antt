@@ -3,7 +3,7 @@ use Rattle.std.specs.Prelude.{◌≡◌, List}
 use Rattle.std.specs.Bool.{Decides}
 use Rattle.std.specs.Cmp.{unsigned_Decides}
 use Rattle.std.specs.Cmp.Lexicographic.{pointwise, pointwise_decides}
-use Rattle.cbsp_ie.specs.Equality.{amounts, cell_decides}
+use Rattle.common.specs.Equality.{amounts, cell_decides}
 use Rattle.areas.specs.Selector.{selector_eq}
 use Rattle.areas.specs.declared.selector.Selector.{Selector}
 use Rattle.areas.specs.declared.selector.Selector.TheVariants.{Cell, Lac}

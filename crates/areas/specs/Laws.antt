@@ -6,10 +6,10 @@ use Rattle.std.proofs.lemmas.List.{length-map}
 use Rattle.std.proofs.lemmas.List.Folds.{list_any-append}
 use Rattle.std.proofs.lemmas.Slice.Eq.{bytes_eq-Decides}
 use Rattle.std.specs.List.{list_any, list_all}
-use Rattle.cbsp_ie.specs.declared.cell.Cell.{Cell}
-use Rattle.cbsp_ie.specs.OnceLaws.{apart_along, any_without_key, length_without_same, any_filter_same}
-use Rattle.cbsp_ie.specs.Order.{is_ascending, each_once}
-use Rattle.cbsp_ie.specs.OrderLaws.{any_inserted, length_inserted, length_without, left_out, left_in}
+use Rattle.common.specs.declared.cell.Cell.{Cell}
+use Rattle.common.specs.OnceLaws.{apart_along, any_without_key, length_without_same, any_filter_same}
+use Rattle.common.specs.Order.{is_ascending, each_once}
+use Rattle.common.specs.OrderLaws.{any_inserted, length_inserted, length_without, left_out, left_in}
 use Rattle.areas.specs.Areas.{is_named, has_area, selectors_of, is_among, has_selector, covers, names_of, areas_of, empty_area, named_lt, with_area, without_area, changed_by, with_selector, without, without_selector}
 use Rattle.areas.specs.Equality.{selector_decides}
 use Rattle.areas.specs.Name.{octets_lt}

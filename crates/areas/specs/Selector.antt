@@ -1,6 +1,6 @@
 -- When two selectors select the same.
 use Rattle.std.specs.Prelude.{Bool, false, nat_eq}
-use Rattle.cbsp_ie.specs.Cell.{cell_eq}
+use Rattle.common.specs.Cell.{cell_eq}
 use Rattle.areas.specs.declared.selector.Selector.{Selector}
 use Rattle.areas.specs.declared.selector.Selector.TheVariants.{Cell, Lac}
 

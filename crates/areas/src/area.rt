@@ -1,7 +1,7 @@
 //! A named area.
 
 use crate::selectors::Selectors;
-use cbsp_ie::Name;
+use common::Name;
 
 /// An area: its name, and what it selects.
 #[derive(Debug, PartialEq, Eq, Drop)]

@@ -5,7 +5,7 @@ use crate::naming::is_name;
 use crate::refusal::{Limit, Refusal};
 use crate::selector::Selector;
 use crate::{covering, edits, lookups};
-use cbsp_ie::{Cell, Name, Names};
+use common::{Cell, Name, Names};
 use std::alloc::{AllocError, Global};
 use std::marker::Model;
 
@@ -31,9 +31,9 @@ impl Model for Areas {
 
 impl Areas {
     ghost use Rattle.std.specs.Prelude.{◌≡◌, ◌≤◌, ◌⊎◌, ℕ, List, [], None, Some, true, length, IfOk, IfErr, OnOk, OnErr};
-    ghost use Rattle.cbsp_ie.specs.Order.{is_ascending, each_once};
+    ghost use Rattle.common.specs.Order.{is_ascending, each_once};
     ghost use Rattle.areas.specs.Areas.{has_area, selectors_of, has_selector, covers, areas_of, named_lt, with_area, without_area, with_selector, without_selector};
-    ghost use Rattle.cbsp_ie.specs.Checks.{first_refusal};
+    ghost use Rattle.common.specs.Checks.{first_refusal};
     ghost use Rattle.areas.specs.Selector.{selector_eq};
     ghost use Rattle.areas.specs.Checks.{add_area_checks, drop_area_checks, put_checks, cut_checks};
     ghost use Rattle.areas.specs.declared.refusal.Refusal.TheVariants as refusal;

@@ -1,12 +1,12 @@
 //! Which areas cover a cell.
 
 ghost use Rattle.std.specs.Prelude.{◌≡◌, ◌++◌, ◌∷◌, [], true, IfOk, OnOk, if◌then◌else◌};
-ghost use Rattle.cbsp_ie.specs.Order.{is_ascending};
+ghost use Rattle.common.specs.Order.{is_ascending};
 ghost use Rattle.areas.specs.Areas.{selects, areas_of, named_lt};
 
 use crate::area::Area;
 use crate::lookups::selects;
-use cbsp_ie::{Cell, Name, Names};
+use common::{Cell, Name, Names};
 use std::alloc::{AllocError, Global};
 
 /// Puts the name last if the area covers the cell.

@@ -1,7 +1,7 @@
 //! The edits of a list of areas that nothing forbids.
 
 ghost use Rattle.std.specs.Prelude.{◌≡◌, ◌≤◌, ◌++◌, ◌∷◌, length, take, drop, true, OnOk, OnErr};
-ghost use Rattle.cbsp_ie.specs.Order.{is_ascending};
+ghost use Rattle.common.specs.Order.{is_ascending};
 ghost use Rattle.areas.specs.Areas.{empty_area, named_lt, with_area, without_area, with_selector, without_selector};
 
 use crate::area::Area;
@@ -9,7 +9,7 @@ use crate::lookups::place_of;
 use crate::naming::is_before;
 use crate::selector::Selector;
 use crate::selectors::Selectors;
-use cbsp_ie::Name;
+use common::Name;
 use std::alloc::{AllocError, Global};
 
 /// Where an area of that name belongs.

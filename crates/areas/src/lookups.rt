@@ -6,7 +6,7 @@ ghost use Rattle.areas.specs.Areas.{is_named, has_area, selectors_of, has_select
 
 use crate::area::Area;
 use crate::selector::Selector;
-use cbsp_ie::{Cell, Name};
+use common::{Cell, Name};
 
 /// Whether the area is there.
 pub(crate) fn has_area(areas: &[Area], a: &Name) -> bool

@@ -4,7 +4,7 @@ ghost use Rattle.std.specs.Prelude.{◌≡◌, not, length};
 ghost use Rattle.std.specs.List.{list_any};
 ghost use Rattle.areas.specs.Name.{is_name_octet, is_name, octets_lt};
 
-use cbsp_ie::Name;
+use common::Name;
 
 /// An ASCII letter, a digit or a hyphen.
 fn is_name_octet(octet: u8) -> bool

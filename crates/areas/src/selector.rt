@@ -1,6 +1,6 @@
 //! What an area selects.
 
-use cbsp_ie::Cell;
+use common::Cell;
 
 /// One cell, or all cells of a location area. It may name cells that are not registered.
 #[derive(Clone, Copy, Debug, PartialEq, Eq)]

@@ -28,7 +28,7 @@ use Rattle.cbsp_ie.specs.FailureList.{AreFailures, IsBadFailureList, entries_aft
 use Rattle.cbsp_ie.specs.Form.{form_with, size_of}
 use Rattle.cbsp_ie.specs.Identifications.{HasForm, Identifications}
 use Rattle.cbsp_ie.specs.Laws.{NoFault, OneFault, OneReading}
-use Rattle.cbsp_ie.specs.OrderLaws.{find_passes}
+use Rattle.common.specs.OrderLaws.{find_passes}
 use Rattle.cbsp_ie.proofs.CellListLemmas.{ids_at-all, ids_at-flat_map, length-flat_map-ids}
 use Rattle.cbsp_ie.proofs.CountListLemmas.{counts_at-AreCounts, length-AreCounts}
 use Rattle.cbsp_ie.proofs.FailureListLemmas.{entries_after-AreFailures, not_bad_list, one_bad_list}

@@ -2,7 +2,7 @@
 use Rattle.std.specs.Prelude.{◌≡◌, Bool, ◌&&◌, List, [], ◌∷◌}
 use Rattle.std.specs.Cmp.Lexicographic.{pointwise}
 use Rattle.std.specs.List.{AllByRecursion}
-use Rattle.cbsp_ie.specs.declared.cell.Cell.{Cell}
+use Rattle.common.specs.declared.cell.Cell.{Cell}
 use Rattle.cbsp_ie.specs.declared.cell_id.CellId.{CellId}
 use Rattle.cbsp_ie.specs.declared.cell_id.CellId.TheVariants as id
 use Rattle.cbsp_ie.specs.declared.form.Form.{Form}

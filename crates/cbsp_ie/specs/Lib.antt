@@ -1,4 +1,3 @@
-pub mod Cell
 pub mod CellId
 pub mod CellList
 pub mod CountList
@@ -15,8 +14,3 @@ pub mod IeFault
 pub mod Laws
 pub mod Page
 pub mod Written
-pub mod Checks
-pub mod CheckLaws
-pub mod Order
-pub mod OrderLaws
-pub mod OnceLaws

@@ -6,9 +6,9 @@ ghost use Rattle.cbsp_ie.specs.CellId.{IsCellId, IsPlmn, Names, form_of, id_at, 
 ghost use Rattle.cbsp_ie.specs.Equality.{id_decides};
 ghost use Rattle.cbsp_ie.specs.Form.{size_of};
 
-use crate::cell::Cell;
 use crate::form::Form;
 use byteorder::{BigEndian, ByteOrder};
+use common::Cell;
 use std::alloc::AllocError;
 
 /// An identification, in one of the six forms. A PLMN is its three octets as they are sent

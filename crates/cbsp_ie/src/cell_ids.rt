@@ -7,9 +7,9 @@ ghost use Rattle.cbsp_ie.specs.Equality.{identifications_decide};
 ghost use Rattle.cbsp_ie.specs.Identifications.{HasForm, id_of_cell, identifications_eq};
 ghost use Rattle.cbsp_ie.specs.Written.{cells_octets};
 
-use crate::cell::Cell;
 use crate::cell_id::CellId;
 use crate::form::Form;
+use common::Cell;
 use std::alloc::{AllocError, Global};
 use std::marker::Model;
 

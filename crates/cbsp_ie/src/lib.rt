@@ -6,11 +6,9 @@
 #![tactic(auto)]
 
 mod cause;
-mod cell;
 mod cell_id;
 mod cell_ids;
 mod cell_list;
-mod cells;
 mod count_entry;
 mod count_list;
 mod counts;
@@ -26,20 +24,16 @@ mod ie_fault;
 mod laws;
 mod lent_writing;
 mod list_writing;
-mod name;
-mod names;
-mod octets;
 mod page_view;
 mod reading;
 mod security_view;
 mod writing;
 
 pub use cause::Cause;
-pub use cell::Cell;
 pub use cell_id::CellId;
 pub use cell_ids::CellIds;
 pub use cell_list::CellList;
-pub use cells::Cells;
+pub use common::Cell;
 pub use count_entry::CountEntry;
 pub use count_list::CountList;
 pub use counts::Counts;
@@ -53,9 +47,6 @@ pub use form::Form;
 pub use ie_fault::IeFault;
 pub use laws::{no_fault, one_fault, one_reading, written_is_read};
 pub use list_writing::{write_cells, write_counts, write_failures};
-pub use name::Name;
-pub use names::Names;
-pub use octets::Octets;
 pub use page_view::PageView;
 pub use reading::read_element;
 pub use security_view::SecurityView;

@@ -4,7 +4,8 @@ use Rattle.std.specs.Bool.{Decides}
 use Rattle.std.specs.Cmp.{unsigned_Decides}
 use Rattle.std.specs.Option.{option_eq}
 use Rattle.cbsp_ie.specs.declared.cause.Cause.{Cause}
-use Rattle.cbsp_ie.specs.Equality.{both, amounts, identifications_decide, numbers_decide, failures_decide}
+use Rattle.common.specs.Equality.{both, amounts}
+use Rattle.cbsp_ie.specs.Equality.{identifications_decide, numbers_decide, failures_decide}
 use Rattle.cbsp_messages.specs.PageText.{pages_decide}
 use Rattle.cbsp_messages.specs.declared.message.Message.{Message}
 use Rattle.cbsp_messages.specs.declared.message.Message.TheVariants as message

@@ -9,7 +9,7 @@ use Rattle.cbsp_ie.specs.declared.element_id.ElementId.{ElementId}
 use Rattle.cbsp_ie.specs.declared.element_id.ElementId.TheVariants as id
 use Rattle.cbsp_ie.specs.declared.ie_fault.IeFault.{IeFault}
 use Rattle.cbsp_ie.specs.Element.{IsElement, IsElementFault, element_id_of}
-use Rattle.cbsp_ie.specs.OrderLaws.{find_passes}
+use Rattle.common.specs.OrderLaws.{find_passes}
 use Rattle.cbsp_messages.specs.declared.fault.MessageFault.{MessageFault}
 use Rattle.cbsp_messages.specs.declared.fault.MessageFault.TheVariants as fault
 use Rattle.cbsp_messages.specs.declared.message.Message.{Message}

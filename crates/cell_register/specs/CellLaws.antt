@@ -2,8 +2,8 @@
 use Rattle.std.proofs.Common.{◌≡◌, ℕ, true, false, ◌||◌, ltb, nat_eq, arith}
 use Rattle.std.proofs.lemmas.Bool.Decides.{nat_tests}
 use Rattle.std.proofs.lemmas.Grind.{common_steps}
-use Rattle.cbsp_ie.specs.Cell.{cell_eq, cell_lt}
-use Rattle.cbsp_ie.specs.declared.cell.Cell.{Cell}
+use Rattle.common.specs.Cell.{cell_eq, cell_lt}
+use Rattle.common.specs.declared.cell.Cell.{Cell}
 
 pub cell_lt_follows : (x y z : Cell) → cell_lt x y ≡ true → cell_lt y z ≡ true → cell_lt x z ≡ true
 cell_lt_follows x y z a b = grind (arith, nat_tests, common_steps)

@@ -5,13 +5,13 @@ use Rattle.std.proofs.lemmas.List.{length-map}
 use Rattle.std.specs.Cmp.{unsigned_Decides}
 use Rattle.std.specs.List.{list_any, list_all}
 use Rattle.std.specs.Option.{is_some}
-use Rattle.cbsp_ie.specs.Cell.{cell_eq, cell_lt}
-use Rattle.cbsp_ie.specs.Equality.{cell_decides}
-use Rattle.cbsp_ie.specs.declared.cell.Cell.{Cell}
+use Rattle.common.specs.Cell.{cell_eq, cell_lt}
+use Rattle.common.specs.Equality.{cell_decides}
+use Rattle.common.specs.declared.cell.Cell.{Cell}
 use Rattle.cell_register.specs.CellLaws.{cell_lt_other, ltb_other}
-use Rattle.cbsp_ie.specs.OnceLaws.{along, differs, any_without_key}
-use Rattle.cbsp_ie.specs.Order.{inserted, is_ascending}
-use Rattle.cbsp_ie.specs.OrderLaws.{any_inserted, length_inserted, length_without, ascending_filter, ascending_map}
+use Rattle.common.specs.OnceLaws.{along, differs, any_without_key}
+use Rattle.common.specs.Order.{inserted, is_ascending}
+use Rattle.common.specs.OrderLaws.{any_inserted, length_inserted, length_without, ascending_filter, ascending_map}
 use Rattle.cell_register.specs.Register.{State, has_bsc, place_among, place_in, has_cells, cell_of, cells_of, cells_in, placed_lt, new_placed, with_bsc, without_bsc, with_cell, placed_after_move, moved, without_cell, is_place}
 use Rattle.cell_register.specs.Sound.{IsRegister}
 use Rattle.cell_register.specs.declared.placed.Placed.{Placed}

@@ -2,9 +2,9 @@
 use Rattle.std.specs.Prelude.{ℕ, Bool, false, not, List, [], ◌∷◌, Option, Some, None, nat_eq, nat_le, ltb, length, filter, map, if◌then◌else◌}
 use Rattle.std.specs.List.{list_any}
 use Rattle.std.specs.Option.{is_some}
-use Rattle.cbsp_ie.specs.Cell.{cell_eq, cell_lt}
-use Rattle.cbsp_ie.specs.declared.cell.Cell.{Cell}
-use Rattle.cbsp_ie.specs.Order.{inserted}
+use Rattle.common.specs.Cell.{cell_eq, cell_lt}
+use Rattle.common.specs.declared.cell.Cell.{Cell}
+use Rattle.common.specs.Order.{inserted}
 use Rattle.cell_register.specs.declared.placed.Placed.{Placed}
 use Rattle.cell_register.specs.declared.refusal.Limit.TheVariants as limit
 use Rattle.cell_register.specs.declared.refusal.Refusal.{Refusal}

@@ -1,7 +1,7 @@
 -- What holds of every register.
 use Rattle.std.specs.Prelude.{◌≡◌, ◌≤◌, true, ltb, length}
 use Rattle.std.specs.List.{list_all}
-use Rattle.cbsp_ie.specs.Order.{is_ascending}
+use Rattle.common.specs.Order.{is_ascending}
 use Rattle.cell_register.specs.Register.{State, has_bsc, placed_lt}
 
 pub record IsRegister (r : State) : Type 0 where

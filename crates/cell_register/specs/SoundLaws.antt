@@ -4,12 +4,12 @@ use Rattle.std.proofs.lemmas.Bool.{and_from, or_right}
 use Rattle.std.specs.Cmp.{unsigned_Decides}
 use Rattle.std.specs.List.{list_all}
 use Rattle.std.specs.Option.{is_some}
-use Rattle.cbsp_ie.specs.Cell.{cell_eq, cell_lt}
-use Rattle.cbsp_ie.specs.declared.cell.Cell.{Cell}
+use Rattle.common.specs.Cell.{cell_eq, cell_lt}
+use Rattle.common.specs.declared.cell.Cell.{Cell}
 use Rattle.cell_register.specs.CellLaws.{cell_lt_follows, cell_lt_apart, ltb_follows, ltb_apart}
-use Rattle.cbsp_ie.specs.OnceLaws.{turned}
+use Rattle.common.specs.OnceLaws.{turned}
 use Rattle.cell_register.specs.Laws.{has_bsc_with_bsc, has_bsc_without_bsc, length_with_bsc, length_with_cell, length_moved, is_some_place_among}
-use Rattle.cbsp_ie.specs.OrderLaws.{all_same, all_besides, all_from_none, all_map, all_filter, all_inserted, ascending_inserted, ascending_filter, ascending_map, length_filter}
+use Rattle.common.specs.OrderLaws.{all_same, all_besides, all_from_none, all_map, all_filter, all_inserted, ascending_inserted, ascending_filter, ascending_map, length_filter}
 use Rattle.cell_register.specs.Register.{State, empty, has_bsc, place_in, has_cells, placed_lt, new_placed, cell_of, with_bsc, without_bsc, with_cell, placed_after_move, moved, without_cell}
 use Rattle.cell_register.specs.Sound.{IsRegister}
 use Rattle.cell_register.specs.declared.placed.Placed.{Placed}

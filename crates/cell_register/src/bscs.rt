@@ -2,7 +2,7 @@
 
 ghost use Rattle.std.specs.Prelude.{◌≡◌, ◌≤◌, ◌++◌, ◌∷◌, Bool, length, take, drop, filter, ltb, nat_eq, not, OnOk, OnErr};
 ghost use Rattle.std.specs.List.{list_any};
-ghost use Rattle.cbsp_ie.specs.Order.{inserted};
+ghost use Rattle.common.specs.Order.{inserted};
 
 use crate::bsc_id::BscId;
 use std::alloc::AllocError;

@@ -1,7 +1,7 @@
 //! A registered cell.
 
 use crate::bsc_id::BscId;
-use cbsp_ie::Cell;
+use common::Cell;
 
 /// A cell, and the BSC at which it is registered.
 #[derive(Clone, Copy, Debug, PartialEq, Eq)]

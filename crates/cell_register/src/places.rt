@@ -2,13 +2,13 @@
 
 ghost use Rattle.std.specs.Prelude.{◌≡◌, ◌≤◌, [], ◌++◌, ◌∷◌, Bool, length, take, drop, filter, map, nat_eq, not, if◌then◌else◌, IfOk, OnOk, OnErr};
 ghost use Rattle.std.specs.List.{list_any};
-ghost use Rattle.cbsp_ie.specs.Cell.{cell_eq};
-ghost use Rattle.cbsp_ie.specs.Order.{inserted};
+ghost use Rattle.common.specs.Cell.{cell_eq};
+ghost use Rattle.common.specs.Order.{inserted};
 ghost use Rattle.cell_register.specs.Register.{cell_of, place_among, placed_lt, placed_after_move};
 
 use crate::bsc_id::BscId;
 use crate::placed::Placed;
-use cbsp_ie::{Cell, Cells};
+use common::{Cell, Cells};
 use std::alloc::{AllocError, Global};
 
 /// The BSC at which the cell is registered.

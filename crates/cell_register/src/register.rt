@@ -1,7 +1,7 @@
 //! The register.
 
 ghost use Rattle.std.specs.Prelude.{◌≡◌, ◌⊎◌, None, Some, OnOk, OnErr, IfOk, IfErr};
-ghost use Rattle.cbsp_ie.specs.Checks.{first_refusal};
+ghost use Rattle.common.specs.Checks.{first_refusal};
 ghost use Rattle.cell_register.specs.Register.{empty, has_bsc, has_cells, place_in, cells_of, cells_in, with_bsc, without_bsc, with_cell, moved, without_cell, add_bsc_checks, remove_bsc_checks, add_cell_checks, move_cell_checks, remove_cell_checks};
 ghost use Rattle.cell_register.specs.Sound.{IsRegister};
 
@@ -9,7 +9,7 @@ use crate::bsc_id::BscId;
 use crate::placed::Placed;
 use crate::refusal::{Limit, Refusal};
 use crate::{bscs, places};
-use cbsp_ie::{Cell, Cells};
+use common::{Cell, Cells};
 use std::alloc::{AllocError, Global};
 use std::marker::Model;
 

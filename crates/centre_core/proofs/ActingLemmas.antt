@@ -5,9 +5,9 @@ use Rattle.std.proofs.lemmas.Bool.{and_parts, or_right}
 use Rattle.std.proofs.lemmas.List.Folds.{list_any-append}
 use Rattle.std.specs.List.{list_any}
 use Rattle.std.specs.Option.{option_map}
-use Rattle.cbsp_ie.specs.Cell.{cell_eq}
-use Rattle.cbsp_ie.specs.Equality.{cell_decides}
-use Rattle.cbsp_ie.specs.declared.cell.Cell.{Cell}
+use Rattle.common.specs.Cell.{cell_eq}
+use Rattle.common.specs.Equality.{cell_decides}
+use Rattle.common.specs.declared.cell.Cell.{Cell}
 use Rattle.warning_book.specs.Book.{versions}
 use Rattle.warning_book.specs.declared.version.Version.{Version}
 use Rattle.warning_book.specs.declared.warning.Warning.{Warning}

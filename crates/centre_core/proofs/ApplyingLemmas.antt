@@ -2,7 +2,7 @@
 use Rattle.std.proofs.Common.{◌≡◌, ℕ, Bool, true, false, ◌||◌, List, [], ◌∷◌, refl, ◌∙◌, cond}
 use Rattle.std.proofs.lemmas.Bool.{or_parts}
 use Rattle.std.specs.List.{list_any}
-use Rattle.cbsp_ie.specs.declared.cell.Cell.{Cell}
+use Rattle.common.specs.declared.cell.Cell.{Cell}
 use Rattle.centre_core.specs.Headline.{applied, applied_one, airs, clears}
 use Rattle.centre_core.specs.declared.mirror.presence.Presence.{Presence}
 use Rattle.centre_core.specs.declared.mirror.presence.Presence.TheVariants.{Absent, OnAir}

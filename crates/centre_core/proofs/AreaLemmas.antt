@@ -7,10 +7,10 @@ use Rattle.std.specs.List.{list_any}
 use Rattle.std.specs.Prelude.{bytes_eq}
 use Rattle.areas.specs.Areas.{has_area, selectors_of, named_lt, with_area, without_area, with_selector, without_selector}
 use Rattle.areas.specs.Areas as kept_areas
-use Rattle.cbsp_ie.specs.Checks.{first_refusal}
-use Rattle.cbsp_ie.specs.OnceLaws.{any_turned, ascending_once}
-use Rattle.cbsp_ie.specs.Order.{is_ascending, each_once}
-use Rattle.cbsp_ie.specs.OrderLaws.{ascending_map}
+use Rattle.common.specs.Checks.{first_refusal}
+use Rattle.common.specs.OnceLaws.{any_turned, ascending_once}
+use Rattle.common.specs.Order.{is_ascending, each_once}
+use Rattle.common.specs.OrderLaws.{ascending_map}
 use Rattle.areas.specs.Checks as checked
 use Rattle.areas.specs.Equality.{selector_decides}
 use Rattle.areas.specs.Laws.{has_area_same, has_area_with_area, has_area_without_area, has_area_with_selector, has_area_without_selector, has_selector_absent, has_selector_with_area, has_selector_without_area, has_selector_with_selector, has_selector_without_selector}

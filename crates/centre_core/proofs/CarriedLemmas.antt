@@ -8,8 +8,8 @@ use Rattle.std.proofs.lemmas.Bool.{and_parts, and_from, or_right}
 use Rattle.std.proofs.lemmas.Grind.{common_steps}
 use Rattle.std.proofs.lemmas.Bool.Decides.{nat_tests}
 use Rattle.std.proofs.lemmas.List.Folds.{list_any-append, list_all-append}
-use Rattle.cbsp_ie.specs.OrderLaws.{all_inserted}
-use Rattle.cbsp_ie.specs.declared.cell.Cell.{Cell}
+use Rattle.common.specs.SortingLaws.{all_sorted}
+use Rattle.common.specs.declared.cell.Cell.{Cell}
 use Rattle.cbsp_messages.specs.Message.{type_of}
 use Rattle.cbsp_messages.specs.declared.message_type.MessageType.TheVariants as type
 use Rattle.warning_book.specs.Book.{versions, versions_if, versions_with, content_of}
@@ -21,7 +21,6 @@ use Rattle.centre_core.specs.InFlight.{is_kill}
 use Rattle.centre_core.specs.OrderMessage.{message_by}
 use Rattle.centre_core.specs.Pending.{fits, joined, grouped, alone, in_order, action_lt, pending}
 use Rattle.centre_core.specs.Places.{cells}
-use Rattle.centre_core.specs.Sorting.{sorted_by}
 use Rattle.centre_core.specs.Warnings.{warnings_of}
 use Rattle.centre_core.specs.declared.entry.Entry.{Entry}
 use Rattle.centre_core.specs.declared.order_maker.action.Action.{Action}
@@ -115,12 +114,6 @@ of_carry ws past b cs (w ∷ vs) h =
     both (action_carries ws) (actions_in past b w cs) (actions_of past b cs vs) (in_carry ws past b w cs parts.0) (of_carry ws past b cs vs parts.1)
 
 -- orders
-
-all_sorted : {A : Type 0} (before : A → A → Bool) (p : A → Bool) (xs : List A) → list_all p xs ≡ true → list_all p (sorted_by before xs) ≡ true
-all_sorted before p [] h = refl
-all_sorted before p (x ∷ xs) h =
-    let parts = and_parts (p x) (list_all p xs) h in
-    all_inserted before p x (sorted_by before xs) ∙ and_from (p x) (list_all p (sorted_by before xs)) parts.0 (all_sorted before p xs parts.1)
 
 joined_carry : (ws : List Warning) (a : Action) (orders : List Order) → action_carries ws a ≡ true → list_all (order_carries ws) orders ≡ true → list_all (order_carries ws) (joined a orders) ≡ true
 joined_carry ws a [] h g = and_from (carries ws a.kind a.message_id a.serial) true h refl

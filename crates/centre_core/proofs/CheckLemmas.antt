@@ -1,7 +1,7 @@
 -- Checks, and the answer after them.
 use Rattle.std.proofs.Common.{◌≡◌, ◌⊎◌, inl, inr, Bool, true, false, List, [], ◌∷◌, ◌++◌, Some, None, Result, Ok, Err, cond, refl, ◌∙◌, ap}
-use Rattle.cbsp_ie.specs.CheckLaws.{NoneHolds}
-use Rattle.cbsp_ie.specs.Checks.{first_refusal}
+use Rattle.common.specs.CheckLaws.{NoneHolds}
+use Rattle.common.specs.Checks.{first_refusal}
 use Rattle.centre_core.specs.Kept.{Gives}
 use Rattle.centre_core.specs.Verdict.{unless, translated}
 use Rattle.centre_core.specs.declared.answer.Answer.{Answer}

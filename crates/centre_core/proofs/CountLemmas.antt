@@ -2,9 +2,10 @@
 use Rattle.std.proofs.Common.{◌≡◌, ◌+◌, Bool, true, false, ◌&&◌, ◌||◌, not, List, [], ◌∷◌, Option, Some, None, length, filter, refl, sym, ◌∙◌, ap, arith}
 use Rattle.std.proofs.lemmas.Bool.{and_parts, not-true, or_right}
 use Rattle.std.specs.List.{list_any}
-use Rattle.cbsp_ie.specs.OnceLaws.{DecidesAll, turned, any_turned, any_without_key, once_filter, length_without_same}
-use Rattle.cbsp_ie.specs.Order.{each_once}
-use Rattle.centre_core.specs.Past.{with_new, named, one, count_of}
+use Rattle.common.specs.OnceLaws.{DecidesAll, turned, any_turned, any_without_key, once_filter, length_without_same}
+use Rattle.common.specs.Order.{each_once}
+use Rattle.centre_core.specs.Past.{with_new, named}
+use Rattle.common.specs.Sums.{one, count_of}
 use Rattle.centre_core.specs.declared.entry.Entry.{Entry}
 use Rattle.centre_core.specs.declared.event.Event.{Event}
 

@@ -8,7 +8,7 @@ use Rattle.std.proofs.lemmas.List.{length-take, length-map}
 use Rattle.cbsp_ie.specs.CellId.{id_octets}
 use Rattle.cbsp_ie.specs.Identifications.{id_of_cell}
 use Rattle.cbsp_ie.specs.Written.{cells_octets}
-use Rattle.cbsp_ie.specs.declared.cell.Cell.{Cell}
+use Rattle.common.specs.declared.cell.Cell.{Cell}
 use Rattle.cbsp_messages.specs.Message.{type_of}
 use Rattle.cbsp_messages.specs.PageText.{page_with}
 use Rattle.cbsp_messages.specs.Written.{Fits}

@@ -2,14 +2,13 @@
 use Rattle.std.proofs.Common.{◌≡◌, ℕ, Bool, true, false, ◌&&◌, ◌||◌, nat_eq, List, [], ◌∷◌, refl, ◌∙◌, ap, eqb-true}
 use Rattle.std.proofs.lemmas.Bool.{and_parts}
 use Rattle.std.specs.List.{list_any}
-use Rattle.cbsp_ie.specs.Cell.{cell_eq}
-use Rattle.cbsp_ie.specs.declared.cell.Cell.{Cell}
+use Rattle.common.specs.Cell.{cell_eq}
+use Rattle.common.specs.declared.cell.Cell.{Cell}
 use Rattle.centre_core.specs.Actions.{all_actions}
 use Rattle.centre_core.specs.Headline.{names_cell}
 use Rattle.centre_core.specs.Pending.{kind_eq, action_lt, in_order, alone, fits, joined, grouped, pending}
 use Rattle.centre_core.specs.Presence.{is_among}
-use Rattle.cbsp_ie.specs.OrderLaws.{any_inserted}
-use Rattle.centre_core.specs.Sorting.{sorted_by}
+use Rattle.common.specs.SortingLaws.{any_sorted}
 use Rattle.centre_core.specs.declared.entry.Entry.{Entry}
 use Rattle.centre_core.specs.declared.order_maker.action.Action.{Action}
 use Rattle.centre_core.specs.declared.order_maker.order.Order.{Order}
@@ -54,10 +53,6 @@ any_joined g c m a (order ∷ orders) = step (fits a order) refl
 pub any_grouped : (g : OrderKind → ℕ → Bool) (c : Cell) (m : ℕ) (xs : List Action) → list_any (tests g c m) (grouped xs) ≡ list_any (touches g c m) xs
 any_grouped g c m [] = refl
 any_grouped g c m (a ∷ xs) = any_joined g c m a (grouped xs) ∙ ap (λ t. touches g c m a || t) (any_grouped g c m xs)
-
-any_sorted : {A : Type 0} (before : A → A → Bool) (p : A → Bool) (xs : List A) → list_any p (sorted_by before xs) ≡ list_any p xs
-any_sorted before p [] = refl
-any_sorted before p (x ∷ xs) = any_inserted before p x (sorted_by before xs) ∙ ap (λ t. p x || t) (any_sorted before p xs)
 
 -- what the pending orders touch is what the actions touch
 pub any_pending : (g : OrderKind → ℕ → Bool) (c : Cell) (m : ℕ) (past : List Entry) (b : ℕ) → list_any (tests g c m) (pending past b) ≡ list_any (touches g c m) (all_actions past b)

@@ -1,7 +1,7 @@
 -- Worked instances of the words of the headline: what orders make of a key, and when that agrees with the plan.
 use Rattle.std.specs.Prelude.{◌≡◌, true, false, [], ◌∷◌}
 use Rattle.std.proofs.Common.{refl}
-use Rattle.cbsp_ie.specs.declared.cell.Cell.{Cell}
+use Rattle.common.specs.declared.cell.Cell.{Cell}
 use Rattle.centre_core.specs.Headline.{applied, Agrees}
 use Rattle.centre_core.specs.declared.mirror.presence.Presence.TheVariants.{Absent, OnAir, Unknown}
 use Rattle.centre_core.specs.declared.order_maker.order.Order.{Order}

@@ -2,9 +2,9 @@
 use Rattle.std.proofs.Common.{◌≡◌, ℕ, zero, suc, Bool, true, false, ◌&&◌, ◌||◌, nat_eq, List, [], ◌∷◌, Option, Some, None, Ok, unwrap_or, take, refl, sym, ◌∙◌, ap, cond, eq-eqb}
 use Rattle.std.proofs.lemmas.Bool.{and_parts}
 use Rattle.std.specs.List.{list_any}
-use Rattle.cbsp_ie.specs.Cell.{cell_eq}
-use Rattle.cbsp_ie.specs.Equality.{cell_decides}
-use Rattle.cbsp_ie.specs.declared.cell.Cell.{Cell}
+use Rattle.common.specs.Cell.{cell_eq}
+use Rattle.common.specs.Equality.{cell_decides}
+use Rattle.common.specs.declared.cell.Cell.{Cell}
 use Rattle.warning_book.specs.Book.{content_of}
 use Rattle.warning_book.specs.declared.warning.Warning.{Warning}
 use Rattle.centre_core.specs.Past.{with_new}

@@ -2,12 +2,13 @@
 use Rattle.std.proofs.Common.{◌≡◌, ℕ, ◌+◌, Bool, true, false, ◌||◌, ◌&&◌, not, List, ◌∷◌, Option, Some, None, nat_eq, if◌then◌else◌, refl, ap, sym, ◌∙◌, subst, arith}
 use Rattle.std.specs.List.{list_any}
 use Rattle.std.specs.Cmp.{unsigned_Decides}
-use Rattle.cbsp_ie.specs.Cell.{cell_eq}
-use Rattle.cbsp_ie.specs.Equality.{cell_decides}
-use Rattle.cbsp_ie.specs.declared.cell.Cell.{Cell}
+use Rattle.common.specs.Cell.{cell_eq}
+use Rattle.common.specs.Equality.{cell_decides}
+use Rattle.common.specs.declared.cell.Cell.{Cell}
 use Rattle.centre_core.specs.Counted.{names_it, is_counted, added_to}
 use Rattle.centre_core.specs.Links.{bscs, added_bsc}
-use Rattle.centre_core.specs.Past.{with_new, one, sum_of, count_of}
+use Rattle.centre_core.specs.Past.{with_new}
+use Rattle.common.specs.Sums.{one, sum_of, count_of}
 use Rattle.centre_core.specs.Places.{cells, added_cell}
 use Rattle.centre_core.specs.declared.entry.Entry.{Entry}
 

@@ -5,14 +5,14 @@ use Rattle.std.proofs.lemmas.List.{length-map}
 use Rattle.std.specs.Cmp.{unsigned_Decides}
 use Rattle.std.specs.List.{list_any}
 use Rattle.std.specs.Option.{is_some}
-use Rattle.cbsp_ie.specs.Cell.{cell_eq, cell_lt}
-use Rattle.cbsp_ie.specs.Equality.{cell_decides}
-use Rattle.cbsp_ie.specs.declared.cell.Cell.{Cell}
+use Rattle.common.specs.Cell.{cell_eq, cell_lt}
+use Rattle.common.specs.Equality.{cell_decides}
+use Rattle.common.specs.declared.cell.Cell.{Cell}
 use Rattle.cell_register.specs.CellLaws.{cell_lt_other, ltb_other}
 use Rattle.cell_register.specs.Laws.{has_bsc_with_bsc, has_bsc_without_bsc, place_in_with_cell, place_in_without_cell, place_in_moved, is_some_place_among, has_cells_from_place, place_from_has_cells}
-use Rattle.cbsp_ie.specs.OnceLaws.{turned, any_turned, ascending_once}
-use Rattle.cbsp_ie.specs.OrderLaws.{ascending_map}
-use Rattle.cbsp_ie.specs.Checks.{first_refusal}
+use Rattle.common.specs.OnceLaws.{turned, any_turned, ascending_once}
+use Rattle.common.specs.OrderLaws.{ascending_map}
+use Rattle.common.specs.Checks.{first_refusal}
 use Rattle.cell_register.specs.Register.{State, has_bsc, place_in, place_among, cell_of, placed_lt, with_bsc, without_bsc, with_cell, moved, without_cell}
 use Rattle.cell_register.specs.Register as register
 use Rattle.cell_register.specs.Sound.{IsRegister}

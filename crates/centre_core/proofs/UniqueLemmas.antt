@@ -7,7 +7,7 @@ use Rattle.warning_book.specs.Book.{State}
 use Rattle.warning_book.specs.Sound.{is_older, has_serials, key_of, is_same_key, have_own_codes, IsSound}
 use Rattle.warning_book.specs.declared.version.Version.{Version}
 use Rattle.warning_book.specs.declared.warning.Warning.{Warning}
-use Rattle.centre_core.specs.Past.{one, count_of}
+use Rattle.common.specs.Sums.{one, count_of}
 use Rattle.centre_core.specs.Verdict.{verdict, law}
 use Rattle.centre_core.specs.Warnings.{has_key, is_version}
 use Rattle.centre_core.specs.declared.answer.Answer.{Answer}

@@ -6,8 +6,8 @@ use Rattle.std.specs.Option.{option_map, option_copied}
 use Rattle.std.proofs.lemmas.Bool.{leb-true, or_parts, and_parts, and_from, not-false, not-true}
 use Rattle.std.proofs.lemmas.List.Elements.{All-nil, All-cons}
 use Rattle.std.proofs.lemmas.List.Folds.{list_all-append}
-use Rattle.cbsp_ie.specs.Checks.{first_refusal}
-use Rattle.cbsp_ie.specs.Order.{is_ascending}
+use Rattle.common.specs.Checks.{first_refusal}
+use Rattle.common.specs.Order.{is_ascending}
 use Rattle.warning_book.specs.Book.{State, empty, has_number, number_lt, warning_is, warning_of, is_so, versions, versions_if, versions_with, content_of, new_serial, next_serial}
 use Rattle.warning_book.specs.Checks as book
 use Rattle.warning_book.specs.Content.{is_page, are_pages, is_period}

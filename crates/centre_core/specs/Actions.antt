@@ -3,7 +3,7 @@
 -- wanted nor replaced.
 use Rattle.std.specs.Prelude.{ℕ, Bool, true, false, ◌&&◌, not, List, [], ◌∷◌, ◌++◌, Option, Some, None, nat_eq, find, if◌then◌else◌}
 use Rattle.std.specs.Option.{option_map}
-use Rattle.cbsp_ie.specs.declared.cell.Cell.{Cell}
+use Rattle.common.specs.declared.cell.Cell.{Cell}
 use Rattle.warning_book.specs.Book.{versions}
 use Rattle.warning_book.specs.declared.version.Version.{Version}
 use Rattle.warning_book.specs.declared.warning.Warning.{Warning}

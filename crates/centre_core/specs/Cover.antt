@@ -1,8 +1,9 @@
 -- Areas, their selectors, and the cells that they cover.
 use Rattle.std.specs.Prelude.{ℕ, Bool, true, false, ◌&&◌, ◌||◌, List, Option, Some, None, bytes_eq, if◌then◌else◌}
 use Rattle.std.specs.List.{list_any}
-use Rattle.cbsp_ie.specs.declared.cell.Cell.{Cell}
-use Rattle.centre_core.specs.Past.{latest, named, count_of}
+use Rattle.common.specs.declared.cell.Cell.{Cell}
+use Rattle.centre_core.specs.Past.{latest, named}
+use Rattle.common.specs.Sums.{count_of}
 use Rattle.areas.specs.Selector.{selector_eq}
 use Rattle.areas.specs.declared.selector.Selector.{Selector}
 use Rattle.areas.specs.declared.selector.Selector.TheVariants as selector

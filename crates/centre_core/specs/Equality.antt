@@ -5,8 +5,8 @@ use Rattle.std.specs.Bool.{Decides}
 use Rattle.std.specs.Cmp.{unsigned_Decides}
 use Rattle.std.specs.Cmp.Lexicographic.{pointwise, pointwise_decides}
 use Rattle.std.specs.Option.{option_eq}
-use Rattle.cbsp_ie.specs.Cell.{cell_eq}
-use Rattle.cbsp_ie.specs.Equality.{both, amounts, cell_decides}
+use Rattle.common.specs.Cell.{cell_eq}
+use Rattle.common.specs.Equality.{both, amounts, cell_decides}
 use Rattle.centre_core.specs.Replies.{outcome_eq, reply_eq}
 use Rattle.centre_core.specs.declared.outcome.Outcome.{Outcome}
 use Rattle.centre_core.specs.declared.outcome.Outcome.TheVariants.{Done, Silent}

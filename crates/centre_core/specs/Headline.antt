@@ -1,6 +1,6 @@
 -- The headline: the pending orders of each BSC, applied to what it has reported, give its part of the plan.
 use Rattle.std.specs.Prelude.{◌≡◌, ℕ, Bool, true, false, ◌&&◌, not, List, [], ◌∷◌, nat_eq, if◌then◌else◌}
-use Rattle.cbsp_ie.specs.declared.cell.Cell.{Cell}
+use Rattle.common.specs.declared.cell.Cell.{Cell}
 use Rattle.centre_core.specs.InFlight.{is_kill}
 use Rattle.centre_core.specs.Pending.{pending}
 use Rattle.centre_core.specs.Plan.{planned}

@@ -1,6 +1,6 @@
 -- The order in flight to a BSC, and the replies that match it.
 use Rattle.std.specs.Prelude.{ℕ, Bool, true, false, ◌&&◌, not, List, Option, Some, None, nat_eq, map, if◌then◌else◌}
-use Rattle.cbsp_ie.specs.declared.cell.Cell.{Cell}
+use Rattle.common.specs.declared.cell.Cell.{Cell}
 use Rattle.cbsp_messages.specs.declared.message.Message.{Message}
 use Rattle.cbsp_messages.specs.declared.message.Message.TheVariants.{WriteComplete, KillComplete}
 use Rattle.centre_core.specs.Past.{latest}

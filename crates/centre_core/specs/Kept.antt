@@ -5,7 +5,7 @@ use Rattle.areas.specs.Areas.{has_area, with_area, without_area, with_selector, 
 use Rattle.areas.specs.Areas as kept
 use Rattle.areas.specs.declared.area.Area.{Area}
 use Rattle.areas.specs.declared.selector.Selector.{Selector}
-use Rattle.cbsp_ie.specs.declared.cell.Cell.{Cell}
+use Rattle.common.specs.declared.cell.Cell.{Cell}
 use Rattle.cell_register.specs.Register.{State, has_bsc, place_in, with_bsc, without_bsc, with_cell, moved, without_cell}
 use Rattle.centre_core.specs.Cover.{is_area, has_selector}
 use Rattle.centre_core.specs.Links.{is_bsc}

@@ -11,7 +11,6 @@ pub mod InFlight
 pub mod Presence
 pub mod Plan
 pub mod Actions
-pub mod Sorting
 pub mod Pending
 pub mod OrderMessage
 pub mod Table

@@ -1,6 +1,7 @@
 -- BSCs, and whether their links are up.
 use Rattle.std.specs.Prelude.{ℕ, ◌+◌, Bool, true, false, List, Option, Some, None, nat_eq, length, if◌then◌else◌}
-use Rattle.centre_core.specs.Past.{latest, named, count_of}
+use Rattle.centre_core.specs.Past.{latest, named}
+use Rattle.common.specs.Sums.{count_of}
 use Rattle.centre_core.specs.declared.entry.Entry.{Entry}
 use Rattle.centre_core.specs.declared.event.Event.{Event}
 use Rattle.centre_core.specs.declared.event.Event.TheVariants.{AddBsc, RemoveBsc, LinkUp, LinkDown}

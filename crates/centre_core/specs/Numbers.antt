@@ -2,12 +2,12 @@
 use Rattle.std.specs.Prelude.{ℕ, Bool, true, false, ◌&&◌, not, List, Option, Some, None, nat_eq, if◌then◌else◌}
 use Rattle.std.specs.Option.{option_map}
 use Rattle.std.specs.List.{list_any}
-use Rattle.cbsp_ie.specs.declared.cell.Cell.{Cell}
+use Rattle.common.specs.declared.cell.Cell.{Cell}
 use Rattle.warning_book.specs.Book.{versions, warning_of}
 use Rattle.warning_book.specs.declared.warning.Warning.{Warning}
 use Rattle.centre_core.specs.Cover.{is_covered}
 use Rattle.centre_core.specs.Links.{bscs}
-use Rattle.centre_core.specs.Past.{sum_of, count_of}
+use Rattle.common.specs.Sums.{sum_of, count_of}
 use Rattle.centre_core.specs.Places.{cells, place}
 use Rattle.centre_core.specs.Plan.{wanted}
 use Rattle.centre_core.specs.Presence.{presence, is_absent, is_on_air}

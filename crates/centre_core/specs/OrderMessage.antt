@@ -1,7 +1,7 @@
 -- The message that carries an order (TS 48.049, 8.1.3.1 and 8.1.3.4).
 use Rattle.std.specs.Prelude.{ℕ, List, Option, Some, None, map}
 use Rattle.cbsp_ie.specs.Identifications.{Identifications, id_of_cell}
-use Rattle.cbsp_ie.specs.declared.cell.Cell.{Cell}
+use Rattle.common.specs.declared.cell.Cell.{Cell}
 use Rattle.cbsp_ie.specs.declared.form.Form.TheVariants as form
 use Rattle.cbsp_messages.specs.PageText.{page_with}
 use Rattle.cbsp_messages.specs.declared.message.Message.{Message}

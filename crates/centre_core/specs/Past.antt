@@ -1,6 +1,6 @@
 -- A past is the journal, newest entry first. What a past says of a thing is what the last entry that decides it
 -- says; a list of things has each of them once.
-use Rattle.std.specs.Prelude.{ℕ, ◌+◌, Bool, List, [], ◌∷◌, Option, Some, None, unwrap_or, if◌then◌else◌}
+use Rattle.std.specs.Prelude.{Bool, List, [], ◌∷◌, Option, Some, None, unwrap_or, if◌then◌else◌}
 use Rattle.std.specs.List.{list_any}
 use Rattle.centre_core.specs.declared.entry.Entry.{Entry}
 use Rattle.centre_core.specs.declared.event.Event.{Event}
@@ -19,15 +19,3 @@ with_new same (Some x) xs = if list_any (same x) xs then xs else x ∷ xs
 abbrev pub named : {A : Type 0} → (A → A → Bool) → (Event → Option A) → List Entry → List A
 named same f [] = []
 named same f (e ∷ before) = with_new same (f e.event) (named same f before)
-
-abbrev pub one : Bool → ℕ
-one b = if b then 1 else 0
-
--- the sum of f over a list
-abbrev pub sum_of : {A : Type 0} → (A → ℕ) → List A → ℕ
-sum_of f [] = 0
-sum_of f (x ∷ xs) = f x + sum_of f xs
-
--- how many of a list pass the test
-abbrev pub count_of : {A : Type 0} → (A → Bool) → List A → ℕ
-count_of p xs = sum_of (λ x. one (p x)) xs

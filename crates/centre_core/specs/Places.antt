@@ -1,9 +1,10 @@
 -- Where cells are registered.
 use Rattle.std.specs.Prelude.{ℕ, Bool, List, Option, Some, None, if◌then◌else◌}
 use Rattle.std.specs.Option.{is_some}
-use Rattle.cbsp_ie.specs.Cell.{cell_eq}
-use Rattle.cbsp_ie.specs.declared.cell.Cell.{Cell}
-use Rattle.centre_core.specs.Past.{latest, named, count_of}
+use Rattle.common.specs.Cell.{cell_eq}
+use Rattle.common.specs.declared.cell.Cell.{Cell}
+use Rattle.centre_core.specs.Past.{latest, named}
+use Rattle.common.specs.Sums.{count_of}
 use Rattle.centre_core.specs.declared.entry.Entry.{Entry}
 use Rattle.centre_core.specs.declared.event.Event.{Event}
 use Rattle.centre_core.specs.declared.event.Event.TheVariants.{AddCell, MoveCell, RemoveCell}

@@ -2,8 +2,8 @@
 -- and a serial number.
 use Rattle.std.specs.Prelude.{ℕ, Bool, true, false, ◌&&◌, List, Option, Some, None, nat_eq, if◌then◌else◌}
 use Rattle.std.specs.List.{list_any}
-use Rattle.cbsp_ie.specs.Cell.{cell_eq}
-use Rattle.cbsp_ie.specs.declared.cell.Cell.{Cell}
+use Rattle.common.specs.Cell.{cell_eq}
+use Rattle.common.specs.declared.cell.Cell.{Cell}
 use Rattle.centre_core.specs.Past.{latest}
 use Rattle.centre_core.specs.Links.{is_up}
 use Rattle.centre_core.specs.InFlight.{in_flight, outcome, is_replied}

@@ -1,7 +1,7 @@
 -- When two replies are the same.
 use Rattle.std.specs.Prelude.{Bool, true, false, ◌&&◌, nat_eq}
 use Rattle.std.specs.Option.{option_eq}
-use Rattle.cbsp_ie.specs.Cell.{cell_eq}
+use Rattle.common.specs.Cell.{cell_eq}
 use Rattle.centre_core.specs.declared.outcome.Outcome.{Outcome}
 use Rattle.centre_core.specs.declared.outcome.Outcome.TheVariants.{Done, Silent}
 use Rattle.centre_core.specs.declared.reply.Reply.{Reply}

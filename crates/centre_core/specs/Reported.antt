@@ -1,7 +1,7 @@
 -- What keeps a stopped warning in the book: a key of it that a BSC has reported, or an order in flight.
 use Rattle.std.specs.Prelude.{ℕ, Bool, false, ◌&&◌, ◌||◌, not, List, Option, Some, None, nat_eq}
 use Rattle.std.specs.List.{list_any}
-use Rattle.cbsp_ie.specs.declared.cell.Cell.{Cell}
+use Rattle.common.specs.declared.cell.Cell.{Cell}
 use Rattle.warning_book.specs.Book.{versions}
 use Rattle.warning_book.specs.declared.warning.Warning.{Warning}
 use Rattle.centre_core.specs.InFlight.{in_flight}

@@ -1,14 +1,14 @@
 -- What a BSC has reported: each of its keys that is on air, or may be, by cell, message identifier and serial number.
 use Rattle.std.specs.Prelude.{ℕ, Bool, ◌&&◌, ◌||◌, List, [], ◌∷◌, ltb, if◌then◌else◌}
 use Rattle.std.specs.List.{flat_map}
-use Rattle.cbsp_ie.specs.Cell.{cell_eq, cell_lt}
-use Rattle.cbsp_ie.specs.declared.cell.Cell.{Cell}
+use Rattle.common.specs.Cell.{cell_eq, cell_lt}
+use Rattle.common.specs.declared.cell.Cell.{Cell}
 use Rattle.warning_book.specs.Book.{versions}
 use Rattle.warning_book.specs.declared.version.Version.{Version}
 use Rattle.warning_book.specs.declared.warning.Warning.{Warning}
 use Rattle.centre_core.specs.Places.{cells}
 use Rattle.centre_core.specs.Presence.{presence, is_absent}
-use Rattle.centre_core.specs.Sorting.{comes_before, sorted_by}
+use Rattle.common.specs.Sorting.{comes_before, sorted_by}
 use Rattle.centre_core.specs.Warnings.{warnings_of}
 use Rattle.centre_core.specs.declared.entry.Entry.{Entry}
 use Rattle.centre_core.specs.declared.mirror.presence.Presence.{Presence}

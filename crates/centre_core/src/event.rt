@@ -3,9 +3,9 @@
 ghost use Rattle.std.specs.Prelude.{◌≡◌, ◌↔◌, IsTrue, IfOk};
 
 use areas::Selector;
-use cbsp_ie::{Cell, Name, Names};
 use cbsp_messages::Message;
 use cell_register::BscId;
+use common::{Cell, Name, Names};
 use std::alloc::{AllocError, Global};
 use warning_book::{Content, Notice, WarningId};
 

@@ -20,7 +20,6 @@ pub mod outcome;
 pub mod refusal;
 pub mod replies;
 pub mod reply;
-mod sorting;
 
 pub use areas::Selector;
 pub use cell_register::BscId;

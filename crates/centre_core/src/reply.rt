@@ -1,7 +1,7 @@
 //! What a reply says of one cell.
 
 use crate::outcome::Outcome;
-use cbsp_ie::Cell;
+use common::Cell;
 
 /// What a reply says of one cell of its order.
 #[derive(Clone, Copy, Debug, PartialEq, Eq)]

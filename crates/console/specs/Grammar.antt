@@ -1,7 +1,7 @@
 -- The lines that an operator may write, by their words.
 use Rattle.std.specs.Prelude.{ℕ, ◌&&◌, ◌==◌, List, [], ◌∷◌, Option, Some, None, bytes_eq, codes, if◌then◌else◌}
 use Rattle.std.specs.Option.{option_map}
-use Rattle.cbsp_ie.specs.declared.cell.Cell.{Cell}
+use Rattle.common.specs.declared.cell.Cell.{Cell}
 use Rattle.areas.specs.declared.selector.Selector.TheVariants as selector
 use Rattle.serials.specs.declared.scope.Scope.{Scope}
 use Rattle.serials.specs.declared.scope.Scope.TheVariants as scope

@@ -5,7 +5,7 @@ ghost use Rattle.console.specs.HexText.{octets_of, pages_of, all_octets_of};
 
 use crate::parts::split_parts;
 use crate::words::is_word;
-use cbsp_ie::Octets;
+use common::Octets;
 use hex::FromHexError;
 use std::alloc::{AllocError, Global};
 use warning_book::ContentPages;

@@ -3,8 +3,8 @@
 use crate::content_heading::ContentHeading;
 use crate::heading::Heading;
 use areas::Selector;
-use cbsp_ie::{Cell, Name, Names, Octets};
 use cell_register::BscId;
+use common::{Cell, Name, Names, Octets};
 use warning_book::WarningId;
 
 /// A line of the console whose words are known and whose numbers are in their ranges. Octets that the

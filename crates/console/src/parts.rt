@@ -3,7 +3,7 @@
 ghost use Rattle.std.specs.Prelude.{◌≡◌, IfOk};
 ghost use Rattle.console.specs.Parts.{parts_of};
 
-use cbsp_ie::Octets;
+use common::Octets;
 use std::alloc::{AllocError, Global};
 
 /// What stands between the separators, empty parts too.

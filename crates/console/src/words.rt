@@ -3,7 +3,7 @@
 ghost use Rattle.std.specs.Prelude.{◌≡◌, ◌++◌, ◌∷◌, [], IfOk, OnOk, bytes_eq};
 ghost use Rattle.console.specs.Words.{words_of, non_empty};
 
-use cbsp_ie::Octets;
+use common::Octets;
 use std::alloc::{AllocError, Global};
 
 /// The longest runs of octets other than the space, in their order.

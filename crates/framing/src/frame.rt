@@ -1,6 +1,6 @@
 //! One frame of a stream.
 
-use cbsp_ie::Octets;
+use common::Octets;
 
 /// One message as it stands in a stream: an octet that says its type, and the information elements.
 ///

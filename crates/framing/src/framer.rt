@@ -8,7 +8,7 @@ ghost use Rattle.framing.specs.Framers.{fresh, Takes, Refuses, IsCut};
 use crate::fault::FrameFault;
 use crate::frame::Frame;
 use byteorder::{BigEndian, ByteOrder};
-use cbsp_ie::Octets;
+use common::Octets;
 use std::alloc::{AllocError, Global};
 use std::collections::VecDeque;
 use std::marker::Model;

@@ -1,7 +1,7 @@
 //! What no clause says: that each call can succeed, and worked values from the rules.
 
 use areas::{Area, Areas, Limit, Refusal, Selector, Selectors};
-use cbsp_ie::{Cell, Name, Names};
+use common::{Cell, Name, Names};
 use std::alloc::{AllocError, Global};
 use std::process::Abort;
 use std::test::Fail;

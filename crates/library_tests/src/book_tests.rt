@@ -1,6 +1,6 @@
 //! What no clause says: that each call can succeed, and worked values from the rules.
 
-use cbsp_ie::{Name, Octets};
+use common::{Name, Octets};
 use serials::{Scope, Serial};
 use std::alloc::{AllocError, Global};
 use std::process::Abort;

@@ -2,7 +2,6 @@
 //! `examples` show.
 
 use areas::Selector;
-use cbsp_ie::{Cell, Cells, Name, Names, Octets};
 use cbsp_messages::read;
 use cell_register::BscId;
 use centre_core::answer::Answer;
@@ -15,6 +14,7 @@ use centre_core::refusal::Refusal;
 use centre_core::replies::Replies;
 use centre_core::reply::Reply;
 use centre_core::{Content, ContentPages, Notice, Scope, Serial, WarningId};
+use common::{Cell, Cells, Name, Names, Octets};
 use std::alloc::{AllocError, Global};
 use std::process::Abort;
 use std::test::Fail;

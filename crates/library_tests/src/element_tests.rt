@@ -4,9 +4,10 @@ ghost use Rattle.std.specs.Prelude.{IsTrue};
 ghost use Rattle.cbsp_ie.specs.Written.{FitsElement};
 
 use cbsp_ie::{
-    Cause, Cell, CellId, CellIds, Cells, CountEntry, Counts, Element, FailEntry, Failures, Form,
-    Name, Names, Octets, read_element, write_cells, write_counts, write_element, write_failures,
+    Cause, CellId, CellIds, CountEntry, Counts, Element, FailEntry, Failures, Form, read_element,
+    write_cells, write_counts, write_element, write_failures,
 };
+use common::{Cell, Cells, Name, Names, Octets};
 use std::alloc::{AllocError, Global};
 use std::process::Abort;
 use std::test::Fail;

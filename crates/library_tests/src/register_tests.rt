@@ -1,7 +1,7 @@
 //! What no clause says: that each call can succeed, and worked values from the rules.
 
-use cbsp_ie::Cell;
 use cell_register::{BscId, Register};
+use common::Cell;
 use std::alloc::Global;
 use std::process::Abort;
 use std::test::Fail;

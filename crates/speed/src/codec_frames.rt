@@ -1,7 +1,8 @@
 //! The messages that are read and written.
 
-use cbsp_ie::{Cell, CellIds};
+use cbsp_ie::CellIds;
 use cbsp_messages::{Message, Page, Pages};
+use common::Cell;
 use std::alloc::{AllocError, Global};
 
 /// A WRITE-REPLACE COMPLETE that lists 15,000 cells in 60,000 octets.

@@ -5,8 +5,8 @@ use Rattle.std.specs.List.{list_any}
 use Rattle.std.proofs.lemmas.Bool.{and_parts, or_parts, or_from, not-true}
 use Rattle.std.proofs.lemmas.Slice.Eq.{bytes_eq-Decides}
 use Rattle.indexmap.specs.IndexSet.{insert_key}
-use Rattle.cbsp_ie.specs.OnceLaws.{any_turned}
-use Rattle.cbsp_ie.specs.Order.{each_once}
+use Rattle.common.specs.OnceLaws.{any_turned}
+use Rattle.common.specs.Order.{each_once}
 
 -- a name that is not among them goes last
 pub new_last : (a : List ℕ) (xs : List (List ℕ)) → list_any (λ b. bytes_eq b a) xs ≡ false → insert_key bytes_eq xs a ≡ xs ++ a ∷ []

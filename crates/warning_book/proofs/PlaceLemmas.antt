@@ -7,7 +7,7 @@ use Rattle.std.proofs.lemmas.Bool.{and_parts, or_parts}
 use Rattle.std.proofs.lemmas.Bool.Decides.{nat_tests}
 use Rattle.std.proofs.lemmas.Grind.{common_steps}
 use Rattle.std.proofs.lemmas.List.Recursion.{is_position_or_len}
-use Rattle.cbsp_ie.specs.Order.{is_ascending}
+use Rattle.common.specs.Order.{is_ascending}
 use Rattle.serials.specs.Serials.{update_of}
 use Rattle.warning_book.specs.Book.{has_number, number_lt, is_exhausted, is_so, edited}
 use Rattle.warning_book.specs.Laws.{none_after, or_alone, absent_so}

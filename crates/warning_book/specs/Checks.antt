@@ -1,6 +1,6 @@
 -- Why an edit is refused: the first cause that holds, in the order of the checks.
 use Rattle.std.specs.Prelude.{ℕ, Bool, true, false, not, List, [], ◌∷◌, bytes_eq, nat_le, ltb, length}
-use Rattle.cbsp_ie.specs.Order.{each_once}
+use Rattle.common.specs.Order.{each_once}
 use Rattle.warning_book.specs.Book.{State, names, is_full, has_one_area, is_exhausted, warning_is, is_there, is_active}
 use Rattle.warning_book.specs.Content.{are_pages, is_period}
 use Rattle.warning_book.specs.declared.content.Content.{Content}

@@ -8,8 +8,8 @@ use Rattle.std.proofs.lemmas.Bool.{and_parts, or_from}
 use Rattle.std.proofs.lemmas.Bool.Decides.{nat_tests}
 use Rattle.std.proofs.lemmas.Grind.{common_steps}
 use Rattle.std.proofs.lemmas.List.Folds.{find-append, list_any-append}
-use Rattle.cbsp_ie.specs.Order.{is_ascending}
-use Rattle.cbsp_ie.specs.OrderLaws.{left_out, left_in}
+use Rattle.common.specs.Order.{is_ascending}
+use Rattle.common.specs.OrderLaws.{left_out, left_in}
 use Rattle.warning_book.specs.Book.{has_number, number_lt, is_so, changed_if, edited, without}
 use Rattle.warning_book.specs.declared.warning.Warning.{Warning}
 

@@ -2,7 +2,7 @@
 use Rattle.std.specs.Prelude.{◌≡◌, ◌≤◌, ℕ, Bool, true, ◌&&◌, List, map, bytes_eq, nat_eq, nat_le, ltb, length}
 use Rattle.std.specs.List.{list_all}
 use Rattle.serials.specs.Serials.{code_of, update_of}
-use Rattle.cbsp_ie.specs.Order.{is_ascending, each_once}
+use Rattle.common.specs.Order.{is_ascending, each_once}
 use Rattle.warning_book.specs.Book.{State, number_lt, versions}
 use Rattle.warning_book.specs.Content.{are_pages, is_period}
 use Rattle.warning_book.specs.declared.version.Version.{Version}

@@ -9,13 +9,13 @@ use Rattle.std.proofs.lemmas.Grind.{common_steps}
 use Rattle.std.proofs.lemmas.List.{length-map, map-append}
 use Rattle.std.proofs.lemmas.List.Folds.{list_all-append}
 use Rattle.std.proofs.lemmas.Slice.Eq.{bytes_eq-Decides}
-use Rattle.cbsp_ie.specs.OnceLaws.{once_last, once_filter, once_key, kept_whole, length_without_same}
-use Rattle.cbsp_ie.specs.Order.{each_once}
-use Rattle.cbsp_ie.specs.OrderLaws.{all_same, all_filter, ascending_filter, ascending_last, ascending_map, length_filter}
+use Rattle.common.specs.OnceLaws.{once_last, once_filter, once_key, kept_whole, length_without_same}
+use Rattle.common.specs.Order.{each_once}
+use Rattle.common.specs.OrderLaws.{all_same, all_filter, ascending_filter, ascending_last, ascending_map, length_filter}
 use Rattle.serials.specs.Serials.{code_of, update_of}
 use Rattle.warning_book.specs.Book.{State, has_number, number_lt, names, is_full, has_one_area, is_exhausted, is_so, as_version, versions, codes_of, new_serial, new_warning, updated, widened, narrowed, stopped, changed_if, edited, without, after_issue, after_update, after_widen, after_narrow, after_stop, after_forget}
-use Rattle.cbsp_ie.specs.CheckLaws.{none_holds}
-use Rattle.cbsp_ie.specs.Checks.{first_refusal}
+use Rattle.common.specs.CheckLaws.{none_holds}
+use Rattle.common.specs.Checks.{first_refusal}
 use Rattle.warning_book.specs.Checks.{is_empty, issue_checks, update_checks, widen_checks, narrow_checks}
 use Rattle.warning_book.specs.Content.{are_pages, is_period}
 use Rattle.warning_book.specs.SerialLaws.{new_serial_parts}

@@ -2,10 +2,10 @@
 
 ghost use Rattle.std.specs.Prelude.{◌≡◌, not, bytes_eq};
 ghost use Rattle.std.specs.List.{list_any};
-ghost use Rattle.cbsp_ie.specs.Order.{each_once};
+ghost use Rattle.common.specs.Order.{each_once};
 ghost use Rattle.warning_book.specs.Content.{is_page, are_pages, is_period};
 
-use cbsp_ie::{Name, Octets};
+use common::{Name, Octets};
 
 fn is_among(a: &Name, names: &[Name]) -> bool
     ensures { result ≡ list_any (bytes_eq a.now) names.now }

@@ -4,7 +4,7 @@ ghost use Rattle.std.specs.Prelude.{◌≡◌, ◌+◌, ◌++◌, ◌∷◌, [],
 ghost use Rattle.std.specs.List.{list_any};
 ghost use Rattle.std.specs.Option.{option_map};
 ghost use Rattle.warning_book.specs.Book.{has_number, names, number_lt, is_so, new_warning, updated, widened, narrowed, stopped, edited, without};
-ghost use Rattle.cbsp_ie.specs.Order.{each_once, is_ascending};
+ghost use Rattle.common.specs.Order.{each_once, is_ascending};
 
 use crate::content::Content;
 use crate::lookups::place_of;
@@ -14,7 +14,7 @@ use crate::versions::Versions;
 use crate::warning::Warning;
 use crate::warning_areas::WarningAreas;
 use crate::warning_id::WarningId;
-use cbsp_ie::Name;
+use common::Name;
 use serials::Serial;
 use std::alloc::{AllocError, Global};
 

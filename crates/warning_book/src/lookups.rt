@@ -4,12 +4,12 @@ ghost use Rattle.std.specs.Prelude.{◌≡◌, ◌+◌, true, false, find, Some,
 ghost use Rattle.std.specs.List.{list_any, position_or_len};
 ghost use Rattle.std.specs.Option.{option_map, option_copied};
 ghost use Rattle.warning_book.specs.Book.{has_number, names, is_full, has_one_area, is_exhausted, number_lt, is_so, areas_of, versions, lent};
-ghost use Rattle.cbsp_ie.specs.Order.{is_ascending};
+ghost use Rattle.common.specs.Order.{is_ascending};
 
 use crate::lent_versions::LentVersions;
 use crate::warning::Warning;
 use crate::warning_id::WarningId;
-use cbsp_ie::Name;
+use common::Name;
 use serials::Serial;
 
 /// Whether the warning is there.

@@ -10,7 +10,7 @@ use crate::content::Content;
 use crate::version::Version;
 use crate::warning::Warning;
 use crate::warning_id::WarningId;
-use cbsp_ie::Name;
+use common::Name;
 use serials::Serial;
 use std::alloc::{AllocError, Global};
 

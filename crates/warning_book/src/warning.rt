@@ -5,7 +5,7 @@ use crate::version::Version;
 use crate::versions::Versions;
 use crate::warning_areas::WarningAreas;
 use crate::warning_id::WarningId;
-use cbsp_ie::Name;
+use common::Name;
 use serials::Serial;
 
 /// A warning: its current version, those before it, and its areas. It is active until it is stopped.

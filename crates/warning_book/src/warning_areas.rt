@@ -2,9 +2,9 @@
 
 ghost use Rattle.std.specs.Prelude.{◌≡◌, ◌++◌, ◌∷◌, [], true, false, not, bytes_eq, length, OnOk, OnErr, IfOk};
 ghost use Rattle.std.specs.List.{filter, list_any};
-ghost use Rattle.cbsp_ie.specs.Order.{each_once};
+ghost use Rattle.common.specs.Order.{each_once};
 
-use cbsp_ie::Name;
+use common::Name;
 use indexmap::IndexSet;
 use std::alloc::{AllocError, Global};
 use std::marker::Model;

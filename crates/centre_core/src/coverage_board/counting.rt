@@ -1,10 +1,10 @@
 //! How many cells stand in each way.
 
 ghost use Rattle.std.specs.Prelude.{◌≡◌, ◌≤◌, length, reverse};
-ghost use Rattle.cbsp_ie.specs.Cell.{cell_eq};
+ghost use Rattle.common.specs.Cell.{cell_eq};
 ghost use Rattle.centre_core.specs.Counted.{is_counted};
 ghost use Rattle.centre_core.specs.Numbers.{standing, standing_at, stands};
-ghost use Rattle.centre_core.specs.Past.{count_of};
+ghost use Rattle.common.specs.Sums.{count_of};
 ghost use Rattle.centre_core.specs.Places.{added_cell, cells};
 
 use crate::coverage_board::standing::Standing;
@@ -12,7 +12,7 @@ use crate::entry::Entry;
 use crate::event::Event;
 use crate::history::{added_cell, is_covered, place, presence, was_cell};
 use crate::mirror::Presence;
-use cbsp_ie::Cell;
+use common::Cell;
 use warning_book::Warning;
 
 /// How the cell stands, if it is registered and the warning covers it.

@@ -2,11 +2,11 @@
 
 ghost use Rattle.std.specs.Prelude.{◌≡◌, ◌≤◌, length, nat_eq, reverse};
 ghost use Rattle.std.specs.List.{list_any};
-ghost use Rattle.cbsp_ie.specs.Cell.{cell_eq};
+ghost use Rattle.common.specs.Cell.{cell_eq};
 ghost use Rattle.centre_core.specs.Counted.{is_counted, added_to};
 ghost use Rattle.centre_core.specs.Links.{added_bsc, bscs};
 ghost use Rattle.centre_core.specs.Numbers.{is_unwanted, is_left};
-ghost use Rattle.centre_core.specs.Past.{sum_of, count_of};
+ghost use Rattle.common.specs.Sums.{sum_of, count_of};
 ghost use Rattle.centre_core.specs.Places.{added_cell, cells};
 
 use crate::entry::Entry;
@@ -14,8 +14,8 @@ use crate::event::Event;
 use crate::history::{added_bsc, added_cell, presence, was_bsc, was_cell};
 use crate::mirror::Presence;
 use crate::order_maker::wanted;
-use cbsp_ie::Cell;
 use cell_register::BscId;
+use common::Cell;
 use serials::Serial;
 use warning_book::{Version, Warning};
 

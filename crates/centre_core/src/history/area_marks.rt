@@ -6,7 +6,7 @@ ghost use Rattle.centre_core.specs.Cover.{selector_mark, has_selector, covers, i
 use crate::entry::Entry;
 use crate::event::Event;
 use areas::Selector;
-use cbsp_ie::{Cell, Name};
+use common::{Cell, Name};
 
 fn selector_mark(a: &Name, s: Selector, event: &Event) -> Option<bool>
     ensures { result ≡ selector_mark a.now s event.now }

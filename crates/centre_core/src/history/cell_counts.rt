@@ -2,13 +2,13 @@
 
 ghost use Rattle.std.specs.Prelude.{◌≡◌, reverse};
 ghost use Rattle.std.specs.List.{list_any};
-ghost use Rattle.cbsp_ie.specs.Cell.{cell_eq};
+ghost use Rattle.common.specs.Cell.{cell_eq};
 ghost use Rattle.centre_core.specs.Counted.{names_it};
 ghost use Rattle.centre_core.specs.Places.{added_cell, cells};
 
 use crate::entry::Entry;
 use crate::event::Event;
-use cbsp_ie::Cell;
+use common::Cell;
 
 /// The cell that the event registers at a BSC.
 pub(crate) fn added_cell(event: &Event) -> Option<Cell>

@@ -1,7 +1,7 @@
 //! The cells that were ever registered.
 
 ghost use Rattle.std.specs.Prelude.{◌≡◌, reverse, IfOk, OnOk};
-ghost use Rattle.cbsp_ie.specs.Cell.{cell_eq};
+ghost use Rattle.common.specs.Cell.{cell_eq};
 ghost use Rattle.centre_core.specs.Past.{with_new};
 ghost use Rattle.centre_core.specs.Places.{added_cell, cells};
 
@@ -9,7 +9,7 @@ use crate::entry::Entry;
 use crate::event::Event;
 use crate::history::cell_counts::added_cell;
 use crate::history::presences::is_among;
-use cbsp_ie::Cell;
+use common::Cell;
 use std::alloc::{AllocError, Global};
 
 /// Puts a cell that is new before the others.

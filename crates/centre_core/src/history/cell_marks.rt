@@ -5,8 +5,8 @@ ghost use Rattle.centre_core.specs.Places.{place_mark, place};
 
 use crate::entry::Entry;
 use crate::event::Event;
-use cbsp_ie::Cell;
 use cell_register::BscId;
+use common::Cell;
 
 fn place_mark(c: Cell, event: &Event) -> Option<Option<BscId>>
     ensures { result ≡ place_mark c event.now }

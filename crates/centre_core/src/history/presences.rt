@@ -12,9 +12,9 @@ use crate::history::flights::{flight_after, is_replied};
 use crate::mirror::Presence;
 use crate::order_maker::{Order, OrderKind};
 use crate::outcome::Outcome;
-use cbsp_ie::Cell;
 use cbsp_messages::Message;
 use cell_register::BscId;
+use common::Cell;
 use serials::Serial;
 
 /// Whether the cell is one of the list.

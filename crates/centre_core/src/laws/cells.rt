@@ -8,8 +8,8 @@ ghost use Rattle.centre_core.specs.declared.entry.Entry.{Entry};
 
 use crate::answer::Answer;
 use crate::refusal::Refusal;
-use cbsp_ie::Cell;
 use cell_register::{BscId, Register};
+use common::Cell;
 
 /// AddCell: registers a cell that is not there at a BSC.
 #[tactic(auto, using(crate::proofs::RegisterLemmas::add_cell_taken, crate::proofs::RegisterLemmas::add_cell_refused))]

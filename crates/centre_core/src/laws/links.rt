@@ -1,7 +1,7 @@
 //! Events of links.
 
 ghost use Rattle.std.specs.Prelude.{◌≡◌, reverse, Some, None, OnOk, IfErr};
-ghost use Rattle.cbsp_ie.specs.Checks.{first_refusal};
+ghost use Rattle.common.specs.Checks.{first_refusal};
 ghost use Rattle.centre_core.specs.Kept.{IsRegisterOf};
 ghost use Rattle.centre_core.specs.Verdict.{link_up, link_checks, link_down};
 

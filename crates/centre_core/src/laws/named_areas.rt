@@ -10,7 +10,7 @@ ghost use Rattle.centre_core.specs.declared.entry.Entry.{Entry};
 use crate::answer::Answer;
 use crate::refusal::Refusal;
 use areas::{Areas, Selector};
-use cbsp_ie::Name;
+use common::Name;
 use warning_book::Book;
 
 /// AddArea: makes an area that is not there, without selectors.

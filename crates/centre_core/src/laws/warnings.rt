@@ -12,7 +12,7 @@ ghost use Rattle.centre_core.specs.declared.entry.Entry.{Entry};
 use crate::answer::Answer;
 use crate::refusal::Refusal;
 use areas::Areas;
-use cbsp_ie::Name;
+use common::Name;
 use warning_book::{Book, Content, Notice, WarningId};
 
 /// Whether one of the names is no area.

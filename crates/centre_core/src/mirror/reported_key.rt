@@ -3,8 +3,7 @@
 ghost use Rattle.std.specs.Prelude.{◌≡◌, Bool};
 
 use crate::mirror::presence::Presence;
-use crate::sorting::{Ordered, comes_before};
-use cbsp_ie::Cell;
+use common::{Cell, Ordered, comes_before};
 use serials::Serial;
 
 /// A message that is on air in a cell at a BSC, or may be.

@@ -1,7 +1,7 @@
 //! One thing to order in one cell.
 
 use crate::order_maker::order_kind::OrderKind;
-use cbsp_ie::Cell;
+use common::Cell;
 use serials::Serial;
 
 /// What is to be ordered in one cell, for one message.

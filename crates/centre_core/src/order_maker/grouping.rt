@@ -5,7 +5,7 @@ ghost use Rattle.centre_core.specs.Pending.{alone, fits, joined, grouped};
 
 use crate::order_maker::action::Action;
 use crate::order_maker::order::Order;
-use cbsp_ie::{Cell, Cells};
+use common::{Cell, Cells};
 use std::alloc::{AllocError, Global};
 
 /// The order of one action alone.

@@ -3,7 +3,7 @@
 ghost use Rattle.std.specs.Prelude.{◌≡◌, ◌↔◌, IsTrue, IfOk};
 
 use crate::order_maker::order_kind::OrderKind;
-use cbsp_ie::Cells;
+use common::Cells;
 use serials::Serial;
 use std::alloc::{AllocError, Global};
 

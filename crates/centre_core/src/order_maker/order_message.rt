@@ -7,8 +7,9 @@ ghost use Rattle.centre_core.specs.OrderMessage.{order_message, write_message, k
 
 use crate::order_maker::order::Order;
 use crate::order_maker::order_kind::OrderKind;
-use cbsp_ie::{CellIds, Octets};
+use cbsp_ie::CellIds;
 use cbsp_messages::{Message, Page, Pages};
+use common::Octets;
 use std::alloc::{AllocError, Global};
 use warning_book::Content;
 

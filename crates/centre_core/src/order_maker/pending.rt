@@ -9,9 +9,8 @@ use crate::order_maker::actions::all_actions;
 use crate::order_maker::grouping::grouped;
 use crate::order_maker::order::Order;
 use crate::order_maker::orders::Orders;
-use crate::sorting::in_order;
-use cbsp_ie::{Cell, Cells};
 use cell_register::BscId;
+use common::{Cell, Cells, in_order};
 use std::alloc::{AllocError, Global};
 use warning_book::Warning;
 

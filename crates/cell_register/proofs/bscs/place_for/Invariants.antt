@@ -1,5 +1,5 @@
 use Rattle.std.proofs.Common.{◌≡◌, ◌++◌, take, drop, ltb}
-use Rattle.cbsp_ie.specs.Order.{inserted}
+use Rattle.common.specs.Order.{inserted}
 use Rattle.cell_register.proofs.bscs.place_for.Given as goal
 
 -- the BSC belongs after those passed

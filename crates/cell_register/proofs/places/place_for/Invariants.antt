@@ -1,5 +1,5 @@
 use Rattle.std.proofs.Common.{◌≡◌, ◌++◌, take, drop}
-use Rattle.cbsp_ie.specs.Order.{inserted}
+use Rattle.common.specs.Order.{inserted}
 use Rattle.cell_register.specs.Register.{placed_lt}
 use Rattle.cell_register.proofs.places.place_for.Given as goal
 

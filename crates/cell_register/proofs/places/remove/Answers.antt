@@ -1,6 +1,6 @@
 use Rattle.std.proofs.Common.{rules, not}
 use Rattle.std.proofs.lemmas.Fn.{filter_same}
-use Rattle.cbsp_ie.specs.Cell.{cell_eq}
+use Rattle.common.specs.Cell.{cell_eq}
 use Rattle.cell_register.proofs.places.remove.Goals as goal
 
 pub returns : goal.returns

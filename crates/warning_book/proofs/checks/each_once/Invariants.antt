@@ -1,6 +1,6 @@
 use Rattle.std.proofs.Common.{◌≡◌, drop}
 use Rattle.std.specs.Prelude.{bytes_eq}
-use Rattle.cbsp_ie.specs.Order.{each_once}
+use Rattle.common.specs.Order.{each_once}
 use Rattle.warning_book.proofs.checks.each_once.Given as goal
 
 -- none of the names passed stands there again

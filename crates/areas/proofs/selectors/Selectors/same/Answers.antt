@@ -1,4 +1,4 @@
-use Rattle.cbsp_ie.specs.Equality.{answered}
+use Rattle.common.specs.Equality.{answered}
 use Rattle.areas.specs.Equality.{selectors_decide}
 use Rattle.areas.proofs.selectors.Selectors.same.Goals as goal
 

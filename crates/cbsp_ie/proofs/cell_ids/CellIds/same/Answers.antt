@@ -1,4 +1,5 @@
-use Rattle.cbsp_ie.specs.Equality.{answered, identifications_decide}
+use Rattle.common.specs.Equality.{answered}
+use Rattle.cbsp_ie.specs.Equality.{identifications_decide}
 use Rattle.cbsp_ie.proofs.cell_ids.CellIds.same.Goals as goal
 
 pub returns : goal.returns

@@ -1,4 +1,5 @@
-use Rattle.cbsp_ie.specs.Equality.{answered, numbers_decide}
+use Rattle.common.specs.Equality.{answered}
+use Rattle.cbsp_ie.specs.Equality.{numbers_decide}
 use Rattle.cbsp_ie.proofs.counts.Counts.same.Goals as goal
 
 pub returns : goal.returns

@@ -1,4 +1,5 @@
-use Rattle.cbsp_ie.specs.Equality.{answered, failures_decide}
+use Rattle.common.specs.Equality.{answered}
+use Rattle.cbsp_ie.specs.Equality.{failures_decide}
 use Rattle.cbsp_ie.proofs.failures.Failures.same.Goals as goal
 
 pub returns : goal.returns

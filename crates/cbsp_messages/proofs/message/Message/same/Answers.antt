@@ -1,4 +1,4 @@
-use Rattle.cbsp_ie.specs.Equality.{answered}
+use Rattle.common.specs.Equality.{answered}
 use Rattle.cbsp_messages.proofs.EqualityLemmas.{message_decides}
 use Rattle.cbsp_messages.proofs.message.Message.same.Goals as goal
 

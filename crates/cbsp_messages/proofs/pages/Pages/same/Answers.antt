@@ -1,4 +1,4 @@
-use Rattle.cbsp_ie.specs.Equality.{answered}
+use Rattle.common.specs.Equality.{answered}
 use Rattle.cbsp_messages.specs.PageText.{pages_decide}
 use Rattle.cbsp_messages.proofs.pages.Pages.same.Goals as goal
 

@@ -1,5 +1,5 @@
 use Rattle.std.proofs.Common.{◌≡◌, ◌≤◌, take, reverse}
-use Rattle.centre_core.specs.Past.{count_of}
+use Rattle.common.specs.Sums.{count_of}
 use Rattle.centre_core.specs.Places.{cells}
 use Rattle.centre_core.specs.Numbers.{stands, standing}
 use Rattle.centre_core.proofs.coverage_board.counting.count_of.Given as goal

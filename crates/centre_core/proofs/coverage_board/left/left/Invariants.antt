@@ -1,7 +1,7 @@
 use Rattle.std.proofs.Common.{◌≡◌, ◌≤◌, ◌*◌, take, reverse}
 use Rattle.centre_core.specs.Links.{bscs}
 use Rattle.centre_core.specs.Numbers.{is_left}
-use Rattle.centre_core.specs.Past.{sum_of, count_of}
+use Rattle.common.specs.Sums.{sum_of, count_of}
 use Rattle.centre_core.specs.Places.{cells}
 use Rattle.centre_core.proofs.coverage_board.left.left.Given as goal
 

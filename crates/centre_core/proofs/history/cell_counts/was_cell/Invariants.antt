@@ -1,6 +1,6 @@
 use Rattle.std.proofs.Common.{◌≡◌, take, reverse}
 use Rattle.std.specs.List.{list_any}
-use Rattle.cbsp_ie.specs.Cell.{cell_eq}
+use Rattle.common.specs.Cell.{cell_eq}
 use Rattle.centre_core.specs.Places.{cells}
 use Rattle.centre_core.proofs.history.cell_counts.was_cell.Given as goal
 

@@ -1,4 +1,4 @@
-use Rattle.cbsp_ie.specs.Equality.{answered}
+use Rattle.common.specs.Equality.{answered}
 use Rattle.centre_core.specs.Equality.{replies_decide}
 use Rattle.centre_core.proofs.replies.Replies.same.Goals as goal
 

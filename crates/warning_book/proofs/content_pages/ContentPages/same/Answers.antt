@@ -1,6 +1,6 @@
 use Rattle.std.specs.Cmp.Lexicographic.{pointwise_decides}
 use Rattle.std.proofs.lemmas.Slice.Eq.{bytes_eq-Decides}
-use Rattle.cbsp_ie.specs.Equality.{answered}
+use Rattle.common.specs.Equality.{answered}
 use Rattle.warning_book.proofs.content_pages.ContentPages.same.Goals as goal
 
 pub returns : goal.returns

@@ -1,5 +1,5 @@
 use Rattle.std.proofs.Common.{◌≡◌, take}
-use Rattle.cbsp_ie.proofs.names.Names.copied.Given as goal
+use Rattle.common.proofs.names.Names.copied.Given as goal
 
 -- the names that the walk has passed are copied
 abbrev pub invariant-loop-name : goal.invariant-loop-name

@@ -3,8 +3,8 @@
 ghost use Rattle.std.specs.Prelude.{◌≡◌, ◌↔◌, IsTrue, IfOk};
 ghost use Rattle.std.specs.Cmp.{decided, partial_equiv_from_equiv};
 ghost use Rattle.std.specs.Cmp.Lexicographic.{pointwise};
-ghost use Rattle.cbsp_ie.specs.Cell.{cell_eq};
-ghost use Rattle.cbsp_ie.specs.Equality.{cells_decide};
+ghost use Rattle.common.specs.Cell.{cell_eq};
+ghost use Rattle.common.specs.Equality.{cells_decide};
 
 use crate::cell::Cell;
 use std::alloc::{AllocError, Global};
@@ -18,7 +18,7 @@ pub struct Cells {
 
 impl Model for Cells {
     ghost use Rattle.std.specs.Prelude.{List};
-    ghost use Rattle.cbsp_ie.specs.declared.cell.Cell.{Cell};
+    ghost use Rattle.common.specs.declared.cell.Cell.{Cell};
 
     ghost Value = { List Cell };
 

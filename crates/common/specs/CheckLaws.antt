@@ -1,6 +1,6 @@
 -- What follows where none of an edit's checks holds.
 use Rattle.std.proofs.Common.{◌≡◌, Bool, true, false, List, [], ◌∷◌, None, refl}
-use Rattle.cbsp_ie.specs.Checks.{first_refusal}
+use Rattle.common.specs.Checks.{first_refusal}
 
 -- each of the checks fails to hold
 abbrev pub NoneHolds : {E : Type 0} → List (Bool × E) → Type 0

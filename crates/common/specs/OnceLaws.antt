@@ -4,8 +4,8 @@ use Rattle.std.proofs.lemmas.Bool.{and_parts, and_from, and_right, or_parts, or_
 use Rattle.std.proofs.lemmas.List.Folds.{list_any-append}
 use Rattle.std.specs.Bool.{Decides}
 use Rattle.std.specs.List.{list_any, list_all}
-use Rattle.cbsp_ie.specs.Order.{is_ascending, each_once}
-use Rattle.cbsp_ie.specs.OrderLaws.{any_without, filter_all, all_from_none}
+use Rattle.common.specs.Order.{is_ascending, each_once}
+use Rattle.common.specs.OrderLaws.{any_without, filter_all, all_from_none}
 
 -- the test is true of equal things and of no others
 abbrev pub DecidesAll : {A : Type 0} → (A → A → Bool) → Type 0

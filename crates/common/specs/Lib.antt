@@ -1,0 +1,11 @@
+pub mod Cell
+pub mod Equality
+pub mod Checks
+pub mod CheckLaws
+pub mod Order
+pub mod OrderLaws
+pub mod OnceLaws
+pub mod Sorting
+pub mod SortingLaws
+pub mod Sums
+pub mod SumLaws
