@@ -1,7 +1,9 @@
 -- Whether some element of a list passes a test.
-use Rattle.std.proofs.Common.{◌≡◌, Bool, true, false, ◌&&◌, ◌||◌, List, [], ◌∷◌, refl, ◌∙◌, ap}
+use Rattle.std.proofs.Common.{◌≡◌, Bool, true, false, ◌&&◌, ◌||◌, List, [], ◌∷◌, ◌++◌, reverse, refl, sym, ◌∙◌, ap}
 use Rattle.std.proofs.lemmas.Bool.{or_right}
-use Rattle.std.specs.List.{list_any}
+use Rattle.std.proofs.lemmas.List.Folds.{list_any-append}
+use Rattle.std.proofs.lemmas.List.Sorted.{list_any-IsPermutation, IsPermutation-reverse}
+use Rattle.std.specs.List.{list_any, flat_map}
 
 pub or_none : (a : Bool) → (a || false) ≡ a
 or_none true = refl
@@ -38,3 +40,12 @@ any_implies p q e (x ∷ xs) h = step (any_implies p q e xs) (p x) refl h
     step : (list_any p xs ≡ true → list_any q xs ≡ true) → (t : Bool) → p x ≡ t → (t || list_any p xs) ≡ true → (q x || list_any q xs) ≡ true
     step rest true passes g = ap (λ u. u || list_any q xs) (e x passes)
     step rest false fails g = or_right (q x) (list_any q xs) (rest g)
+
+-- a part of some element passes where one in a list of all parts does
+pub any_flat : {X Y : Type 0} (p : Y → Bool) (f : X → List Y) (xs : List X) → list_any p (flat_map f xs) ≡ list_any (λ x. list_any p (f x)) xs
+any_flat p f [] = refl
+any_flat p f (x ∷ xs) = list_any-append p (f x) (flat_map f xs) ∙ ap (λ t. list_any p (f x) || t) (any_flat p f xs)
+
+-- the order does not matter
+pub any_reverse : {X : Type 0} (p : X → Bool) (xs : List X) → list_any p (reverse xs) ≡ list_any p xs
+any_reverse p xs = sym (list_any-IsPermutation p xs (reverse xs) (IsPermutation-reverse xs))

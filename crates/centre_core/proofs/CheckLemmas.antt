@@ -1,5 +1,6 @@
 -- Checks, and the answer after them.
-use Rattle.std.proofs.Common.{◌≡◌, ◌⊎◌, inl, inr, Bool, true, false, List, [], ◌∷◌, ◌++◌, Some, None, Result, Ok, Err, cond, refl, ◌∙◌, ap}
+use Rattle.std.proofs.Common.{◌≡◌, ◌⊎◌, inl, inr, Bool, true, false, List, [], ◌∷◌, ◌++◌, Some, None, Result, Ok, Err, cond, refl, sym, ◌∙◌, ap, subst}
+use Rattle.std.specs.Prelude.{IsOk}
 use Rattle.common.specs.CheckLaws.{NoneHolds}
 use Rattle.common.specs.Checks.{first_refusal}
 use Rattle.centre_core.specs.Kept.{Gives}
@@ -42,10 +43,20 @@ refused f [] r e h = cc
 refused f ((true, x) ∷ checks) r e h = let same : x ≡ e = cc in ap (λ k. Err (f k)) same
 refused f ((false, x) ∷ checks) r e h = refused f checks r e h
 
--- what a lower crate refuses is the verdict, or want of memory
-pub given : {E : Type 0} (f : E → Refusal) (memory : E) → f memory ≡ Memory → (checks : List (Bool × E)) (r : Result Answer Refusal) (e : E) → (first_refusal checks ≡ Some e) ⊎ ((e ≡ memory) × (first_refusal checks ≡ None)) → Gives (unless (translated f checks) r) (Err (f e))
-given f memory is checks r e (inl h) = inr (refused f checks r e h)
-given f memory is checks r e (inr h) = inl (ap f h.0 ∙ is)
+-- what is answered after checks none of which holds
+pub ok_after : {E : Type 0} (f : E → Refusal) (checks : List (Bool × E)) (r : Result Answer Refusal) → first_refusal checks ≡ None → IsOk r → IsOk (unless (translated f checks) r)
+ok_after f checks r h o = subst IsOk (sym (taken f checks r h)) o
+
+-- what a lower crate refuses is the verdict, or that memory is wanting where none of its checks holds
+pub given : {E : Type 0} (f : E → Refusal) (memory : E) → f memory ≡ Memory → (checks : List (Bool × E)) (r : Result Answer Refusal) (e : E) → (first_refusal checks ≡ None → IsOk r) → (first_refusal checks ≡ Some e) ⊎ ((e ≡ memory) × (first_refusal checks ≡ None)) → Gives (unless (translated f checks) r) (Err (f e))
+given f memory is checks r e o (inl h) = inr (refused f checks r e h)
+given f memory is checks r e o (inr h) = inl (ap f h.0 ∙ is, inr (ok_after f checks r h.1 (o h.1)))
+
+-- an answer that is no refusal is what the checks leave
+pub ok_is : (checks : List (Bool × Refusal)) (r : Result Answer Refusal) → IsOk (unless checks r) → unless checks r ≡ r
+ok_is [] r h = refl
+ok_is ((true, e) ∷ checks) r h = absurd h
+ok_is ((false, e) ∷ checks) r h = ok_is checks r h
 
 -- none of them held where the answer stands
 pub none_held : {E : Type 0} (f : E → Refusal) (checks : List (Bool × E)) (r : Result Answer Refusal) (a : Answer) → unless (translated f checks) r ≡ Ok a → first_refusal checks ≡ None
@@ -66,3 +77,24 @@ past_given false e v r h g = g
 pub checked_after : (t : Bool) (e : Refusal) (v : Result Answer Refusal) (a : Answer) → cond t (Err e) v ≡ Ok a → v ≡ Ok a
 checked_after true e v a h = cc
 checked_after false e v a h = h
+
+pub past_ok : (t : Bool) (e : Refusal) (v : Result Answer Refusal) → t ≡ false → IsOk v → IsOk (cond t (Err e) v)
+past_ok true e v h o = cc
+past_ok false e v h o = o
+
+-- where none of a lower crate's checks holds, those that follow decide
+pub passed : {E : Type 0} (f : E → Refusal) (checks : List (Bool × E)) (rest : List (Bool × Refusal)) (r : Result Answer Refusal) → first_refusal checks ≡ None → unless (translated f checks ++ rest) r ≡ unless rest r
+passed f [] rest r h = refl
+passed f ((true, e) ∷ checks) rest r h = cc
+passed f ((false, e) ∷ checks) rest r h = passed f checks rest r h
+
+-- the centre's own checks: where none holds, and the first that does
+pub none_left : (checks : List (Bool × Refusal)) (r : Result Answer Refusal) → first_refusal checks ≡ None → unless checks r ≡ r
+none_left [] r h = refl
+none_left ((true, e) ∷ checks) r h = cc
+none_left ((false, e) ∷ checks) r h = none_left checks r h
+
+pub one_left : (checks : List (Bool × Refusal)) (r : Result Answer Refusal) (e : Refusal) → first_refusal checks ≡ Some e → unless checks r ≡ Err e
+one_left [] r e h = cc
+one_left ((true, x) ∷ checks) r e h = let same : x ≡ e = cc in ap Err same
+one_left ((false, x) ∷ checks) r e h = one_left checks r e h

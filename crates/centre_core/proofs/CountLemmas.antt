@@ -4,10 +4,10 @@ use Rattle.std.proofs.lemmas.Bool.{and_parts, not-true, or_right}
 use Rattle.std.specs.List.{list_any}
 use Rattle.common.specs.OnceLaws.{DecidesAll, turned, any_turned, any_without_key, once_filter, length_without_same}
 use Rattle.common.specs.Order.{each_once}
-use Rattle.centre_core.specs.Past.{with_new, named}
+use Rattle.centre_core.specs.Base.{Base, empty_base}
+use Rattle.centre_core.specs.Past.{Past, From, After, IsUnfolded, by_edit, with_new, named}
 use Rattle.common.specs.Sums.{one, count_of}
-use Rattle.centre_core.specs.declared.entry.Entry.{Entry}
-use Rattle.centre_core.specs.declared.event.Event.{Event}
+use Rattle.centre_core.specs.declared.coverage_plan.edit.Edit.{Edit}
 
 -- what is among those that are not x
 among_rest : {A : Type 0} (same : A → A → Bool) → DecidesAll same → (x z : A) (ys : List A) → list_any (same z) (filter (λ y. not (same y x)) ys) ≡ (not (same x z) && list_any (same z) ys)
@@ -75,10 +75,10 @@ once_with same (Some x) xs h = step (list_any (same x) xs) refl
     step true e = rw e h
     step false e = rw (e, e) h
 
--- the things that a past names stand there once
-pub named_once : {A : Type 0} (same : A → A → Bool) (f : Event → Option A) (past : List Entry) → each_once same (named same f past) ≡ true
-named_once same f [] = refl
-named_once same f (e ∷ before) = once_with same (f e.event) (named same f before) (named_once same f before)
+-- the things that a past names stand there once, where nothing was folded into its base
+pub named_once : {A : Type 0} (same : A → A → Bool) (f : Edit → Option A) (first : Base → List A) → first empty_base ≡ [] → (past : Past) → IsUnfolded past → each_once same (named same f first past) ≡ true
+named_once same f first none (From base) unfolded = rw (unfolded, none) refl
+named_once same f first none (After e before) unfolded = once_with same (by_edit f e.event) (named same f first before) (named_once same f first none before unfolded)
 
 -- what was there stays
 pub among_more : {A : Type 0} (same : A → A → Bool) (z : A) (o : Option A) (xs : List A) → list_any (same z) xs ≡ true → list_any (same z) (with_new same o xs) ≡ true

@@ -4,12 +4,12 @@ use Rattle.std.proofs.lemmas.Bool.{and_parts}
 use Rattle.std.specs.List.{list_any}
 use Rattle.common.specs.Cell.{cell_eq}
 use Rattle.common.specs.declared.cell.Cell.{Cell}
-use Rattle.centre_core.specs.Actions.{all_actions}
 use Rattle.centre_core.specs.Headline.{names_cell}
-use Rattle.centre_core.specs.Pending.{kind_eq, action_lt, in_order, alone, fits, joined, grouped, pending}
-use Rattle.centre_core.specs.Presence.{is_among}
+use Rattle.centre_core.specs.Grouping.{kind_eq, action_lt, in_order, alone, fits, joined, grouped}
+use Rattle.centre_core.specs.Past.{Past}
+use Rattle.centre_core.specs.Pending.{all_actions, pending}
+use Rattle.centre_core.specs.Effects.{is_among}
 use Rattle.common.specs.SortingLaws.{any_sorted}
-use Rattle.centre_core.specs.declared.entry.Entry.{Entry}
 use Rattle.centre_core.specs.declared.order_maker.action.Action.{Action}
 use Rattle.centre_core.specs.declared.order_maker.order.Order.{Order}
 use Rattle.centre_core.specs.declared.order_maker.order_kind.OrderKind.{OrderKind}
@@ -55,5 +55,5 @@ any_grouped g c m [] = refl
 any_grouped g c m (a ∷ xs) = any_joined g c m a (grouped xs) ∙ ap (λ t. touches g c m a || t) (any_grouped g c m xs)
 
 -- what the pending orders touch is what the actions touch
-pub any_pending : (g : OrderKind → ℕ → Bool) (c : Cell) (m : ℕ) (past : List Entry) (b : ℕ) → list_any (tests g c m) (pending past b) ≡ list_any (touches g c m) (all_actions past b)
+pub any_pending : (g : OrderKind → ℕ → Bool) (c : Cell) (m : ℕ) (past : Past) (b : ℕ) → list_any (tests g c m) (pending past b) ≡ list_any (touches g c m) (all_actions past b)
 any_pending g c m past b = any_grouped g c m (in_order (all_actions past b)) ∙ any_sorted action_lt (touches g c m) (all_actions past b)

@@ -1,69 +1,72 @@
 -- The pending orders, applied to what was reported, give the plan.
-use Rattle.std.proofs.Common.{◌≡◌, ℕ, Bool, true, false, ◌&&◌, ◌||◌, not, nat_eq, List, [], ◌∷◌, Result, Ok, Err, refl, sym, ◌∙◌, ap, cond, eqb-true}
+use Rattle.std.proofs.Common.{◌≡◌, ℕ, Bool, true, false, ◌&&◌, ◌||◌, not, nat_eq, List, [], ◌∷◌, Option, Some, None, Result, Ok, Err, refl, sym, ◌∙◌, ap, cond, eqb-true}
+use Rattle.std.specs.Prelude.{if◌then◌else◌}
+use Rattle.std.proofs.lemmas.Bool.{and_parts, and_from}
 use Rattle.std.specs.List.{list_any}
+use Rattle.cell_register.specs.Register.{is_place}
 use Rattle.common.specs.declared.cell.Cell.{Cell}
-use Rattle.warning_book.specs.Book.{versions}
+use Rattle.warning_book.specs.Book.{current_of}
+use Rattle.warning_book.specs.VersionLaws.{current_among}
+use Rattle.warning_book.specs.declared.version.Version.{Version}
 use Rattle.warning_book.specs.declared.warning.Warning.{Warning}
-use Rattle.centre_core.specs.Actions.{needs}
+use Rattle.centre_core.specs.Base.{empty_base}
 use Rattle.centre_core.specs.Cover.{is_covered}
+use Rattle.centre_core.specs.Effects.{is_among}
 use Rattle.centre_core.specs.Headline.{airs, clears, applied, Agrees, PendingGivesPlan}
 use Rattle.centre_core.specs.Legal.{Legal, Call, with_verdict, after_calls}
-use Rattle.centre_core.specs.Verdict.{verdict}
-use Rattle.centre_core.specs.declared.answer.Answer.{Answer}
-use Rattle.centre_core.specs.declared.event.Event.{Event}
-use Rattle.centre_core.specs.declared.refusal.Refusal.{Refusal}
+use Rattle.centre_core.specs.Lines.{seen}
+use Rattle.centre_core.specs.Past.{Past, From, IsUnfolded}
 use Rattle.centre_core.specs.Pending.{pending}
 use Rattle.centre_core.specs.Places.{place, cells}
-use Rattle.cell_register.specs.Register.{is_place}
-use Rattle.centre_core.specs.Plan.{wanted, planned}
-use Rattle.centre_core.specs.Presence.{is_among, presence, is_absent, is_on_air}
+use Rattle.centre_core.specs.Plan.{wants, wanted, planned}
+use Rattle.centre_core.specs.Presence.{presence}
+use Rattle.centre_core.specs.Seen.{is_absent, is_on_air, is_the}
+use Rattle.centre_core.specs.Settings.{Settings}
+use Rattle.centre_core.specs.Verdict.{verdict}
 use Rattle.centre_core.specs.Warnings.{book_of, warnings_of, is_version, has_key, is_key}
-use Rattle.centre_core.specs.declared.entry.Entry.{Entry}
+use Rattle.centre_core.specs.declared.answer.Answer.{Answer}
+use Rattle.centre_core.specs.declared.event.Event.{Event}
 use Rattle.centre_core.specs.declared.mirror.presence.Presence.{Presence}
 use Rattle.centre_core.specs.declared.mirror.presence.Presence.TheVariants.{Absent, OnAir, Unknown}
+use Rattle.centre_core.specs.declared.refusal.Refusal.{Refusal}
 use Rattle.centre_core.proofs.AnyLemmas.{and_none, any_same, any_pulled}
 use Rattle.centre_core.proofs.ApplyingLemmas.{applied_airs, applied_clears}
 use Rattle.centre_core.proofs.ActingLemmas.{does, any_all, airing, clearing, is_surplus, does_airing, does_clearing}
 use Rattle.centre_core.proofs.GroupingLemmas.{any_pending}
-use Rattle.centre_core.proofs.KnownLemmas.{known_place, known_presence}
+use Rattle.centre_core.proofs.KnownLemmas.{legal_unfolded, known_place, known_presence}
+use Rattle.centre_core.proofs.PastLemmas.{any_image}
 use Rattle.centre_core.proofs.UniqueLemmas.{unique, one_other}
 use Rattle.centre_core.proofs.WarningLemmas.{legal_sound}
 
 -- the warning plans the key
-abbrev plans : List Entry → ℕ → Cell → ℕ → ℕ → Warning → Bool
-plans past b c m s w = nat_eq w.message_id m && (nat_eq w.serial s && wanted past b w c)
+abbrev plans : Past → ℕ → Cell → ℕ → ℕ → Warning → Bool
+plans past b c m s w = nat_eq w.message_id m && is_the (wanted past b w c) s
 
-airs_at : (past : List Entry) (b : ℕ) (c : Cell) (m s : ℕ) (w : Warning) → (nat_eq w.message_id m && (is_among c (cells past) && does (airing s) past b w c)) ≡ ((is_among c (cells past) && not (is_on_air (presence past b c m s))) && plans past b c m s w)
+airs_at : (past : Past) (b : ℕ) (c : Cell) (m s : ℕ) (w : Warning) → (nat_eq w.message_id m && (is_among c (cells past) && does (airing s) (seen past b w c))) ≡ ((is_among c (cells past) && not (is_on_air (presence past b c m s))) && plans past b c m s w)
 airs_at past b c m s w =
-    ap (λ t. nat_eq w.message_id m && (is_among c (cells past) && t)) (does_airing past b w c s)
-    ∙ step (nat_eq w.message_id m) refl (nat_eq w.serial s) refl
+    ap (λ t. nat_eq w.message_id m && (is_among c (cells past) && t)) (does_airing (seen past b w c) s)
+    ∙ step (nat_eq w.message_id m) refl
   where
-    table : (k wd on : Bool) → (k && ((wd && not on) && true)) ≡ ((k && not on) && wd)
+    table : (k wd on : Bool) → (k && (wd && not on)) ≡ ((k && not on) && wd)
     table true true true = refl
     table true true false = refl
     table true false true = refl
     table true false false = refl
     table false wd on = refl
 
-    no_serial : (k n : Bool) → (k && (n && false)) ≡ false
-    no_serial true n = and_none n
-    no_serial false n = refl
-
-    step : (t : Bool) → nat_eq w.message_id m ≡ t → (u : Bool) → nat_eq w.serial s ≡ u → (nat_eq w.message_id m && (is_among c (cells past) && (needs past b w c && nat_eq w.serial s))) ≡ ((is_among c (cells past) && not (is_on_air (presence past b c m s))) && plans past b c m s w)
-    step true e true f =
+    step : (t : Bool) → nat_eq w.message_id m ≡ t → (nat_eq w.message_id m && (is_among c (cells past) && (is_the (wanted past b w c) s && not (is_on_air (presence past b c w.message_id s))))) ≡ ((is_among c (cells past) && not (is_on_air (presence past b c m s))) && plans past b c m s w)
+    step true e =
         let at_m : w.message_id ≡ m = eqb-true w.message_id m e in
-        let at_s : w.serial ≡ s = eqb-true w.serial s f in
-        let here : (is_among c (cells past) && ((wanted past b w c && not (is_on_air (presence past b c w.message_id w.serial))) && true)) ≡ ((is_among c (cells past) && not (is_on_air (presence past b c m s))) && wanted past b w c) =
-        ap (λ (n : ℕ). is_among c (cells past) && ((wanted past b w c && not (is_on_air (presence past b c n w.serial))) && true)) at_m
-        ∙ ap (λ (n : ℕ). is_among c (cells past) && ((wanted past b w c && not (is_on_air (presence past b c m n))) && true)) at_s
-        ∙ table (is_among c (cells past)) (wanted past b w c) (is_on_air (presence past b c m s)) in
-        rw (e, f) here
-    step true e false f = rw (e, f) (no_serial (is_among c (cells past)) (needs past b w c) ∙ sym (and_none (is_among c (cells past) && not (is_on_air (presence past b c m s)))))
-    step false e u f = rw e (sym (and_none (is_among c (cells past) && not (is_on_air (presence past b c m s)))))
+        let here : (is_among c (cells past) && (is_the (wanted past b w c) s && not (is_on_air (presence past b c w.message_id s)))) ≡ ((is_among c (cells past) && not (is_on_air (presence past b c m s))) && is_the (wanted past b w c) s) =
+        ap (λ (n : ℕ). is_among c (cells past) && (is_the (wanted past b w c) s && not (is_on_air (presence past b c n s)))) at_m
+        ∙ table (is_among c (cells past)) (is_the (wanted past b w c) s) (is_on_air (presence past b c m s)) in
+        rw e here
+    step false e = rw e (sym (and_none (is_among c (cells past) && not (is_on_air (presence past b c m s)))))
 
-clears_at : (past : List Entry) (b : ℕ) (c : Cell) (m s : ℕ) (w : Warning) → (nat_eq w.message_id m && (is_among c (cells past) && does (clearing s) past b w c)) ≡ ((is_among c (cells past) && not (is_absent (presence past b c m s))) && (has_key m s w && not (plans past b c m s w)))
+clears_at : (past : Past) (b : ℕ) (c : Cell) (m s : ℕ) (w : Warning) → (nat_eq w.message_id m && (is_among c (cells past) && does (clearing s) (seen past b w c))) ≡ ((is_among c (cells past) && not (is_absent (presence past b c m s))) && (has_key m s w && not (plans past b c m s w)))
 clears_at past b c m s w =
-    ap (λ t. nat_eq w.message_id m && (is_among c (cells past) && t)) (does_clearing past b w c s)
+    ap (λ t. nat_eq w.message_id m && (is_among c (cells past) && t)) (does_clearing (seen past b w c) s)
+    ∙ ap (λ t. nat_eq w.message_id m && (is_among c (cells past) && (t && is_surplus (seen past b w c) s))) (any_image (λ n. nat_eq n s) (λ (v : Version). v.serial) w.versions)
     ∙ step (nat_eq w.message_id m) refl
   where
     table : (k v p a : Bool) → (k && (v && (not p && not a))) ≡ ((k && not a) && (v && not p))
@@ -75,52 +78,57 @@ clears_at past b c m s w =
     table true false p false = refl
     table false v p a = refl
 
-    step : (t : Bool) → nat_eq w.message_id m ≡ t → (nat_eq w.message_id m && (is_among c (cells past) && (list_any (is_version s) (versions w) && is_surplus past b w c s))) ≡ ((is_among c (cells past) && not (is_absent (presence past b c m s))) && (has_key m s w && not (plans past b c m s w)))
+    step : (t : Bool) → nat_eq w.message_id m ≡ t → (nat_eq w.message_id m && (is_among c (cells past) && (list_any (is_version s) w.versions && (not (is_the (wanted past b w c) s) && not (is_absent (presence past b c w.message_id s)))))) ≡ ((is_among c (cells past) && not (is_absent (presence past b c m s))) && (has_key m s w && not (plans past b c m s w)))
     step true e =
         let at_m : w.message_id ≡ m = eqb-true w.message_id m e in
-        let here : (is_among c (cells past) && (list_any (is_version s) (versions w) && (not (nat_eq w.serial s && wanted past b w c) && not (is_absent (presence past b c w.message_id s))))) ≡ ((is_among c (cells past) && not (is_absent (presence past b c m s))) && (list_any (is_version s) (versions w) && not (nat_eq w.serial s && wanted past b w c))) =
-        ap (λ (n : ℕ). is_among c (cells past) && (list_any (is_version s) (versions w) && (not (nat_eq w.serial s && wanted past b w c) && not (is_absent (presence past b c n s))))) at_m
-        ∙ table (is_among c (cells past)) (list_any (is_version s) (versions w)) (nat_eq w.serial s && wanted past b w c) (is_absent (presence past b c m s)) in
+        let here : (is_among c (cells past) && (list_any (is_version s) w.versions && (not (is_the (wanted past b w c) s) && not (is_absent (presence past b c w.message_id s))))) ≡ ((is_among c (cells past) && not (is_absent (presence past b c m s))) && (list_any (is_version s) w.versions && not (is_the (wanted past b w c) s))) =
+        ap (λ (n : ℕ). is_among c (cells past) && (list_any (is_version s) w.versions && (not (is_the (wanted past b w c) s) && not (is_absent (presence past b c n s))))) at_m
+        ∙ table (is_among c (cells past)) (list_any (is_version s) w.versions) (is_the (wanted past b w c) s) (is_absent (presence past b c m s)) in
         rw e here
     step false e = rw e (sym (and_none (is_among c (cells past) && not (is_absent (presence past b c m s)))))
 
 -- the pending orders put the key on air just where it is planned and not on air
-airs_pending : (past : List Entry) (b : ℕ) (c : Cell) (m s : ℕ) → list_any (airs c m s) (pending past b) ≡ ((is_among c (cells past) && not (is_on_air (presence past b c m s))) && planned past b c m s)
+airs_pending : (past : Past) (b : ℕ) (c : Cell) (m s : ℕ) → list_any (airs c m s) (pending past b) ≡ ((is_among c (cells past) && not (is_on_air (presence past b c m s))) && planned past b c m s)
 airs_pending past b c m s =
     any_pending (airing s) c m past b
     ∙ any_all (airing s) c m past b
-    ∙ any_same (λ w. nat_eq w.message_id m && (is_among c (cells past) && does (airing s) past b w c)) (λ w. (is_among c (cells past) && not (is_on_air (presence past b c m s))) && plans past b c m s w) (airs_at past b c m s) (warnings_of past)
+    ∙ any_same (λ w. nat_eq w.message_id m && (is_among c (cells past) && does (airing s) (seen past b w c))) (λ w. (is_among c (cells past) && not (is_on_air (presence past b c m s))) && plans past b c m s w) (airs_at past b c m s) (warnings_of past)
     ∙ any_pulled (is_among c (cells past) && not (is_on_air (presence past b c m s))) (plans past b c m s) (warnings_of past)
 
-key_of_plan : (past : List Entry) (b : ℕ) (c : Cell) (m s : ℕ) (w : Warning) → plans past b c m s w ≡ true → has_key m s w ≡ true
-key_of_plan past b c m s w h = step (nat_eq w.message_id m) (nat_eq w.serial s) h
+-- what is the serial number is there
+the_some : (o : Option ℕ) (s : ℕ) → is_the o s ≡ true → o ≡ Some s
+the_some None s h = cc
+the_some (Some t) s h = ap (λ n. Some n) (eqb-true t s h)
+
+key_of_plan : (past : Past) (b : ℕ) (c : Cell) (m s : ℕ) (w : Warning) → plans past b c m s w ≡ true → has_key m s w ≡ true
+key_of_plan past b c m s w h =
+    let parts = and_parts (nat_eq w.message_id m) (is_the (wanted past b w c) s) h in
+    and_from (nat_eq w.message_id m) (list_any (is_version s) w.versions) parts.0 (step (wants past b w c) parts.1)
   where
-    step : (t u : Bool) → (t && (u && wanted past b w c)) ≡ true → (t && (u || list_any (is_version s) w.outdated)) ≡ true
-    step true true g = refl
-    step true false g = cc
-    step false u g = g
+    step : (t : Bool) → is_the (if t then current_of w else None) s ≡ true → list_any (is_version s) w.versions ≡ true
+    step true g = current_among w s (the_some (current_of w) s g)
+    step false g = cc
 
 -- and take it off just where it is a key of a warning that isn't planned and not absent
-clears_pending : (limit : ℕ) (past : List Entry) → Legal limit past → (b : ℕ) (c : Cell) (m s : ℕ) → is_key past m s ≡ true → list_any (clears c m s) (pending past b) ≡ ((is_among c (cells past) && not (is_absent (presence past b c m s))) && not (planned past b c m s))
-clears_pending limit past legal b c m s key =
+clears_pending : (settings : Settings) (past : Past) → Legal settings past → (b : ℕ) (c : Cell) (m s : ℕ) → is_key past m s ≡ true → list_any (clears c m s) (pending past b) ≡ ((is_among c (cells past) && not (is_absent (presence past b c m s))) && not (planned past b c m s))
+clears_pending settings past legal b c m s key =
     any_pending (clearing s) c m past b
     ∙ any_all (clearing s) c m past b
-    ∙ any_same (λ w. nat_eq w.message_id m && (is_among c (cells past) && does (clearing s) past b w c)) (λ w. (is_among c (cells past) && not (is_absent (presence past b c m s))) && (has_key m s w && not (plans past b c m s w))) (clears_at past b c m s) (warnings_of past)
+    ∙ any_same (λ w. nat_eq w.message_id m && (is_among c (cells past) && does (clearing s) (seen past b w c))) (λ w. (is_among c (cells past) && not (is_absent (presence past b c m s))) && (has_key m s w && not (plans past b c m s w))) (clears_at past b c m s) (warnings_of past)
     ∙ any_pulled (is_among c (cells past) && not (is_absent (presence past b c m s))) (λ w. has_key m s w && not (plans past b c m s w)) (warnings_of past)
-    ∙ ap (λ t. (is_among c (cells past) && not (is_absent (presence past b c m s))) && t) (one_other (has_key m s) (plans past b c m s) (key_of_plan past b c m s) (warnings_of past) (unique (book_of past) (legal_sound limit past legal) m s))
+    ∙ ap (λ t. (is_among c (cells past) && not (is_absent (presence past b c m s))) && t) (one_other (has_key m s) (plans past b c m s) (key_of_plan past b c m s) (warnings_of past) (unique (book_of past) (legal_sound settings past legal) m s))
     ∙ ap (λ t. (is_among c (cells past) && not (is_absent (presence past b c m s))) && (t && not (planned past b c m s))) key
 
 -- a planned cell was registered
-planned_known : (past : List Entry) (b : ℕ) (c : Cell) (m s : ℕ) (ws : List Warning) → list_any (plans past b c m s) ws ≡ true → is_among c (cells past) ≡ true
-planned_known past b c m s [] h = cc
-planned_known past b c m s (w ∷ ws) h = step (planned_known past b c m s ws) (nat_eq w.message_id m) (nat_eq w.serial s) w.active (is_place (place past c) b) refl h
+planned_known : (past : Past) → IsUnfolded past → (b : ℕ) (c : Cell) (m s : ℕ) (ws : List Warning) → list_any (plans past b c m s) ws ≡ true → is_among c (cells past) ≡ true
+planned_known past unfolded b c m s [] h = cc
+planned_known past unfolded b c m s (w ∷ ws) h = step (planned_known past unfolded b c m s ws) (nat_eq w.message_id m) w.active (is_place (place past c) b) refl (is_covered past w.areas c) h
   where
-    step : (list_any (plans past b c m s) ws ≡ true → is_among c (cells past) ≡ true) → (t u a p : Bool) → is_place (place past c) b ≡ p → ((t && (u && (a && (p && is_covered past w.areas c)))) || list_any (plans past b c m s) ws) ≡ true → is_among c (cells past) ≡ true
-    step rest true true true true e g = known_place past b c e
-    step rest true true true false e g = rest g
-    step rest true true false p e g = rest g
-    step rest true false a p e g = rest g
-    step rest false u a p e g = rest g
+    step : (list_any (plans past b c m s) ws ≡ true → is_among c (cells past) ≡ true) → (t a p : Bool) → is_place (place past c) b ≡ p → (k : Bool) → ((t && is_the (if a && (p && k) then current_of w else None) s) || list_any (plans past b c m s) ws) ≡ true → is_among c (cells past) ≡ true
+    step rest true true true e k g = known_place past unfolded b c e
+    step rest true true false e k g = rest g
+    step rest true false p e k g = rest g
+    step rest false a p e k g = rest g
 
 -- what the orders make of a key, by what was reported and whether it is planned
 decided : (k : Bool) (p : Presence) (x y q : Bool) (after : Presence) → x ≡ ((k && not (is_on_air p)) && q) → y ≡ ((k && not (is_absent p)) && not q) → (q ≡ true → k ≡ true) → (is_absent p ≡ false → k ≡ true) → (y ≡ false → after ≡ cond x OnAir p) → (x ≡ false → after ≡ cond y Absent p) → Agrees after q
@@ -142,26 +150,26 @@ decided k p x y false after ex ey kq kp airs_it clears_it = off p x y ex ey kp c
     off OnAir u v e f known g = g (e ∙ and_none (k && false)) ∙ ap (λ t. cond t Absent OnAir) (f ∙ ap (λ t. (t && true) && true) (known refl))
     off Unknown u v e f known g = g (e ∙ and_none (k && true)) ∙ ap (λ t. cond t Absent Unknown) (f ∙ ap (λ t. (t && true) && true) (known refl))
 
-pub pending_gives_plan : (limit : ℕ) (past : List Entry) → Legal limit past → PendingGivesPlan past
-pending_gives_plan limit past legal = record {
+pub pending_gives_plan : (settings : Settings) (past : Past) → Legal settings past → PendingGivesPlan past
+pending_gives_plan settings past legal = record {
   each = λ b c m s key.
       decided (is_among c (cells past)) (presence past b c m s) (list_any (airs c m s) (pending past b)) (list_any (clears c m s) (pending past b)) (planned past b c m s) (applied (pending past b) c m s (presence past b c m s))
-      (airs_pending past b c m s) (clears_pending limit past legal b c m s key)
-      (planned_known past b c m s (warnings_of past)) (known_presence limit past legal b c m s)
+      (airs_pending past b c m s) (clears_pending settings past legal b c m s key)
+      (planned_known past (legal_unfolded settings past legal) b c m s (warnings_of past)) (known_presence settings past legal b c m s)
       (applied_airs (pending past b) c m s (presence past b c m s)) (applied_clears (pending past b) c m s (presence past b c m s));
 }
 
 -- an accepted call keeps a past legal, and a refused one leaves it
-legal_with : (limit desk : ℕ) (e : Event) (before : List Entry) → Legal limit before → Legal limit (with_verdict desk e (verdict limit before e) before)
-legal_with limit desk e before legal = step (verdict limit before e) refl
+legal_with : (settings : Settings) (desk : ℕ) (e : Event) (before : Past) → Legal settings before → Legal settings (with_verdict desk e (verdict settings before e) before)
+legal_with settings desk e before legal = step (verdict settings before e) refl
   where
-    step : (r : Result Answer Refusal) → verdict limit before e ≡ r → Legal limit (with_verdict desk e r before)
+    step : (r : Result Answer Refusal) → verdict settings before e ≡ r → Legal settings (with_verdict desk e r before)
     step (Ok a) h = (h, legal)
     step (Err r) h = legal
 
-pub legal_after : (limit : ℕ) (calls : List Call) (before : List Entry) → Legal limit before → Legal limit (after_calls limit calls before)
-legal_after limit [] before legal = legal
-legal_after limit (call ∷ calls) before legal = legal_after limit calls (with_verdict call.desk call.event (verdict limit before call.event) before) (legal_with limit call.desk call.event before legal)
+pub legal_after : (settings : Settings) (calls : List Call) (before : Past) → Legal settings before → Legal settings (after_calls settings calls before)
+legal_after settings [] before legal = legal
+legal_after settings (call ∷ calls) before legal = legal_after settings calls (with_verdict call.desk call.event (verdict settings before call.event) before) (legal_with settings call.desk call.event before legal)
 
-pub plan_after_calls : (limit : ℕ) (calls : List Call) → PendingGivesPlan (after_calls limit calls [])
-plan_after_calls limit calls = pending_gives_plan limit (after_calls limit calls []) (legal_after limit calls [] tt)
+pub plan_after_calls : (settings : Settings) (calls : List Call) → PendingGivesPlan (after_calls settings calls (From empty_base))
+plan_after_calls settings calls = pending_gives_plan settings (after_calls settings calls (From empty_base)) (legal_after settings calls (From empty_base) refl)

@@ -7,7 +7,7 @@ use Rattle.common.specs.Equality.{cell_decides}
 use Rattle.common.specs.declared.cell.Cell.{Cell}
 use Rattle.centre_core.specs.Counted.{names_it, is_counted, added_to}
 use Rattle.centre_core.specs.Links.{bscs, added_bsc}
-use Rattle.centre_core.specs.Past.{with_new}
+use Rattle.centre_core.specs.Past.{Past, After, by_edit, with_new}
 use Rattle.common.specs.Sums.{one, sum_of, count_of}
 use Rattle.centre_core.specs.Places.{cells, added_cell}
 use Rattle.centre_core.specs.declared.entry.Entry.{Entry}
@@ -48,14 +48,14 @@ counted_is same p (Some x) xs = counted_at (list_any (same x) xs) (p x)
 pub count_with_new : {A : Type 0} (same : A → A → Bool) (p : A → Bool) (o : Option A) (xs : List A) → count_of p (with_new same o xs) ≡ one (is_counted same p o xs) + count_of p xs
 count_with_new same p o xs = sum_with_new same (λ x. one (p x)) o xs ∙ ap (λ n. n + count_of p xs) (counted_is same p o xs)
 
-pub bsc_among : (b : ℕ) (e : Entry) (before : List Entry) → list_any (nat_eq b) (bscs (e ∷ before)) ≡ (names_it nat_eq b (added_bsc e.event) || list_any (nat_eq b) (bscs before))
-bsc_among b e before = any_with_new nat_eq (λ x y. (unsigned_Decides x y).0) b (added_bsc e.event) (bscs before)
+pub bsc_among : (b : ℕ) (e : Entry) (before : Past) → list_any (nat_eq b) (bscs (After e before)) ≡ (names_it nat_eq b (by_edit added_bsc e.event) || list_any (nat_eq b) (bscs before))
+bsc_among b e before = any_with_new nat_eq (λ x y. (unsigned_Decides x y).0) b (by_edit added_bsc e.event) (bscs before)
 
-pub cell_among : (c : Cell) (e : Entry) (before : List Entry) → list_any (cell_eq c) (cells (e ∷ before)) ≡ (names_it cell_eq c (added_cell e.event) || list_any (cell_eq c) (cells before))
-cell_among c e before = any_with_new cell_eq (λ x y. (cell_decides x y).0) c (added_cell e.event) (cells before)
+pub cell_among : (c : Cell) (e : Entry) (before : Past) → list_any (cell_eq c) (cells (After e before)) ≡ (names_it cell_eq c (by_edit added_cell e.event) || list_any (cell_eq c) (cells before))
+cell_among c e before = any_with_new cell_eq (λ x y. (cell_decides x y).0) c (by_edit added_cell e.event) (cells before)
 
-pub cell_counted : (p : Cell → Bool) (e : Entry) (before : List Entry) → count_of p (cells (e ∷ before)) ≡ one (is_counted cell_eq p (added_cell e.event) (cells before)) + count_of p (cells before)
-cell_counted p e before = count_with_new cell_eq p (added_cell e.event) (cells before)
+pub cell_counted : (p : Cell → Bool) (e : Entry) (before : Past) → count_of p (cells (After e before)) ≡ one (is_counted cell_eq p (by_edit added_cell e.event) (cells before)) + count_of p (cells before)
+cell_counted p e before = count_with_new cell_eq p (by_edit added_cell e.event) (cells before)
 
-pub bsc_summed : (f : ℕ → ℕ) (e : Entry) (before : List Entry) → sum_of f (bscs (e ∷ before)) ≡ added_to nat_eq f (added_bsc e.event) (bscs before) + sum_of f (bscs before)
-bsc_summed f e before = sum_with_new nat_eq f (added_bsc e.event) (bscs before)
+pub bsc_summed : (f : ℕ → ℕ) (e : Entry) (before : Past) → sum_of f (bscs (After e before)) ≡ added_to nat_eq f (by_edit added_bsc e.event) (bscs before) + sum_of f (bscs before)
+bsc_summed f e before = sum_with_new nat_eq f (by_edit added_bsc e.event) (bscs before)

@@ -1,6 +1,6 @@
 -- How actions are joined to orders.
 use Rattle.std.proofs.Common.{◌≡◌, List, [], ◌∷◌, ◌++◌, refl, ap}
-use Rattle.centre_core.specs.Pending.{joined, grouped}
+use Rattle.centre_core.specs.Grouping.{joined, grouped}
 use Rattle.centre_core.specs.declared.order_maker.action.Action.{Action}
 use Rattle.centre_core.specs.declared.order_maker.order.Order.{Order}
 

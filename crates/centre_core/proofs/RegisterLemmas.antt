@@ -1,5 +1,6 @@
 -- What the register tells, counts and refuses is what the entries say.
 use Rattle.std.proofs.Common.{◌≡◌, ◌⊎◌, subst, ℕ, Bool, true, false, ◌&&◌, ◌||◌, not, nat_eq, ltb, List, [], ◌∷◌, Option, Some, None, Ok, Err, unwrap_or, length, map, refl, sym, ◌∙◌, ap, cond, eqb-true, eq-eqb}
+use Rattle.std.specs.Prelude.{IsOk}
 use Rattle.std.proofs.lemmas.Bool.{not-false, or_right}
 use Rattle.std.proofs.lemmas.List.{length-map}
 use Rattle.std.specs.Cmp.{unsigned_Decides}
@@ -19,18 +20,21 @@ use Rattle.cell_register.specs.Sound.{IsRegister}
 use Rattle.cell_register.specs.declared.placed.Placed.{Placed}
 use Rattle.cell_register.specs.declared.refusal.Refusal as register_refusal
 use Rattle.cell_register.specs.declared.refusal.Refusal.TheVariants as register_refusal_is
-use Rattle.centre_core.specs.Kept.{IsRegisterOf, Gives, register_after}
+use Rattle.centre_core.specs.Base.{Base, empty_base}
+use Rattle.centre_core.specs.Kept.{IsRegisterOf, Gives, register_after, register_then}
 use Rattle.centre_core.specs.Links.{bsc_mark, bscs, is_bsc, bsc_count, added_bsc}
-use Rattle.centre_core.specs.Past.{with_new}
+use Rattle.centre_core.specs.Past.{Past, From, After, IsUnfolded, by_edit, with_new}
 use Rattle.centre_core.specs.Places.{place_mark, place, cells, is_registered, cell_count, added_cell}
 use Rattle.cell_register.specs.Register.{is_place}
 use Rattle.centre_core.specs.Refusals.{of_register}
-use Rattle.centre_core.specs.Verdict.{translated, law, unless, has_cells, add_bsc, add_bsc_checks, add_cell, add_cell_checks, move_cell, move_cell_checks, remove_cell, remove_cell_checks}
+use Rattle.centre_core.specs.Verdict.{translated, answered, edit_answered, unless, has_cells, remove_bsc, remove_bsc_checks, add_bsc, add_bsc_checks, add_cell, add_cell_checks, move_cell, move_cell_checks, remove_cell, remove_cell_checks}
 use Rattle.centre_core.specs.declared.answer.Answer.{Answer}
 use Rattle.centre_core.specs.declared.answer.Answer.TheVariants as answer
+use Rattle.centre_core.specs.declared.coverage_plan.edit.Edit.{Edit}
+use Rattle.centre_core.specs.declared.coverage_plan.edit.Edit.TheVariants as edit
 use Rattle.centre_core.specs.declared.entry.Entry.{Entry}
 use Rattle.centre_core.specs.declared.event.Event.{Event}
-use Rattle.centre_core.specs.declared.event.Event.TheVariants.{AddBsc, RemoveBsc, AddCell, MoveCell, RemoveCell}
+use Rattle.centre_core.specs.declared.event.Event.TheVariants as event
 use Rattle.centre_core.proofs.CheckLemmas.{no_check, taken, refused, given}
 use Rattle.centre_core.proofs.CountLemmas.{same_count, named_once, among_more, among_new, both_or_it}
 use Rattle.centre_core.proofs.KnownLemmas.{known_place}
@@ -50,56 +54,72 @@ placed_or : {A : Type 0} (t : Bool) (now before : A) → cond t now before ≡ u
 placed_or true now before = refl
 placed_or false now before = refl
 
-bsc_after : (e : Event) (b : ℕ) (r : State) (before : Bool) → has_bsc r b ≡ before → has_bsc (register_after e r) b ≡ unwrap_or (bsc_mark b e) before
-bsc_after (AddBsc d) b r before h = has_bsc_with_bsc d b r ∙ ap (λ t. nat_eq d b || t) h ∙ sym (said_or (nat_eq d b) before)
-bsc_after (RemoveBsc d) b r before h = has_bsc_without_bsc d b r ∙ ap (λ t. not (nat_eq d b) && t) h ∙ sym (unsaid_or (nat_eq d b) before)
+bsc_after : (e : Edit) (b : ℕ) (r : State) (before : Bool) → has_bsc r b ≡ before → has_bsc (register_after e r) b ≡ unwrap_or (bsc_mark b e) before
+bsc_after (edit.AddBsc d) b r before h = has_bsc_with_bsc d b r ∙ ap (λ t. nat_eq d b || t) h ∙ sym (said_or (nat_eq d b) before)
+bsc_after (edit.RemoveBsc d) b r before h = has_bsc_without_bsc d b r ∙ ap (λ t. not (nat_eq d b) && t) h ∙ sym (unsaid_or (nat_eq d b) before)
 bsc_after other b r before h = h
 
-place_after : (past : List Entry) (e : Event) (a : Answer) (c : Cell) (r : State) → law past e ≡ Ok a → ((d : Cell) → place_in r d ≡ place past d) → place_in (register_after e r) c ≡ unwrap_or (place_mark c e) (place past c)
-place_after past (AddCell d b) a c r v h = place_in_with_cell d b c r ∙ ap (λ o. cond (cell_eq d c) (Some b) o) (h c) ∙ placed_or (cell_eq d c) (Some b) (place past c)
-place_after past (MoveCell d b) a c r v h =
+place_after : (past : Past) (e : Edit) (a : Answer) (c : Cell) (r : State) → edit_answered past e ≡ Ok a → ((d : Cell) → place_in r d ≡ place past d) → place_in (register_after e r) c ≡ unwrap_or (place_mark c e) (place past c)
+place_after past (edit.AddCell d b) a c r v h = place_in_with_cell d b c r ∙ ap (λ o. cond (cell_eq d c) (Some b) o) (h c) ∙ placed_or (cell_eq d c) (Some b) (place past c)
+place_after past (edit.MoveCell d b) a c r v h =
     let none = no_check (move_cell_checks past d b) (Ok answer.Done) a v in
     let there : is_some (place_in r d) ≡ true = ap is_some (h d) ∙ not-false (is_registered past d) none.1.0 in
     place_in_moved d b c r there ∙ ap (λ o. cond (cell_eq d c) (Some b) o) (h c) ∙ placed_or (cell_eq d c) (Some b) (place past c)
-place_after past (RemoveCell d) a c r v h = place_in_without_cell d c r ∙ ap (λ o. cond (cell_eq d c) None o) (h c) ∙ placed_or (cell_eq d c) None (place past c)
+place_after past (edit.RemoveCell d) a c r v h = place_in_without_cell d c r ∙ ap (λ o. cond (cell_eq d c) None o) (h c) ∙ placed_or (cell_eq d c) None (place past c)
 place_after past other a c r v h = h c
 
+bsc_then : (e : Event) (b : ℕ) (r : State) (before : Bool) → has_bsc r b ≡ before → has_bsc (register_then e r) b ≡ unwrap_or (by_edit (bsc_mark b) e) before
+bsc_then (event.Edit e) b r before h = bsc_after e b r before h
+bsc_then other b r before h = h
+
+place_then : (past : Past) (e : Event) (a : Answer) (c : Cell) (r : State) → answered past e ≡ Ok a → ((d : Cell) → place_in r d ≡ place past d) → place_in (register_then e r) c ≡ unwrap_or (by_edit (place_mark c) e) (place past c)
+place_then past (event.Edit e) a c r v h = place_after past e a c r v h
+place_then past other a c r v h = h c
+
 -- the register stays tied to the past, one entry further
-pub register_with : (e : Entry) (before : List Entry) (r : State) → law before e.event ≡ Ok e.answer → IsRegisterOf before r → IsRegisterOf (e ∷ before) (register_after e.event r)
+pub register_with : (e : Entry) (before : Past) (r : State) → answered before e.event ≡ Ok e.answer → IsRegisterOf before r → IsRegisterOf (After e before) (register_then e.event r)
 register_with e before r v kept = record {
-  bscs = λ b. bsc_after e.event b r (is_bsc before b) (kept.bscs b);
-  places = λ c. place_after before e.event e.answer c r v kept.places;
+  unfolded = kept.unfolded;
+  bscs = λ b. bsc_then e.event b r (is_bsc before b) (kept.bscs b);
+  places = λ c. place_then before e.event e.answer c r v kept.places;
 }
 
 -- How many there are.
 
-bsc_named : (e : Event) (b : ℕ) (bs : List ℕ) (before : Bool) → (before ≡ true → list_any (nat_eq b) bs ≡ true) → unwrap_or (bsc_mark b e) before ≡ true → list_any (nat_eq b) (with_new nat_eq (added_bsc e) bs) ≡ true
-bsc_named (AddBsc d) b bs before known h = step (nat_eq d b) refl h
+bsc_named : (e : Edit) (b : ℕ) (bs : List ℕ) (before : Bool) → (before ≡ true → list_any (nat_eq b) bs ≡ true) → unwrap_or (bsc_mark b e) before ≡ true → list_any (nat_eq b) (with_new nat_eq (added_bsc e) bs) ≡ true
+bsc_named (edit.AddBsc d) b bs before known h = step (nat_eq d b) refl h
   where
     step : (t : Bool) → nat_eq d b ≡ t → unwrap_or (cond t (Some true) None) before ≡ true → list_any (nat_eq b) (with_new nat_eq (Some d) bs) ≡ true
     step true e g = among_new nat_eq unsigned_Decides b d bs e
     step false e g = among_more nat_eq b (Some d) bs (known g)
-bsc_named (RemoveBsc d) b bs before known h = step (nat_eq d b) h
+bsc_named (edit.RemoveBsc d) b bs before known h = step (nat_eq d b) h
   where
     step : (t : Bool) → unwrap_or (cond t (Some false) None) before ≡ true → list_any (nat_eq b) bs ≡ true
     step true g = cc
     step false g = known g
 bsc_named other b bs before known h = known h
 
+bsc_named_then : (e : Event) (b : ℕ) (bs : List ℕ) (before : Bool) → (before ≡ true → list_any (nat_eq b) bs ≡ true) → unwrap_or (by_edit (bsc_mark b) e) before ≡ true → list_any (nat_eq b) (with_new nat_eq (by_edit added_bsc e) bs) ≡ true
+bsc_named_then (event.Edit e) b bs before known h = bsc_named e b bs before known h
+bsc_named_then other b bs before known h = known h
+
+no_bsc : (base : Base) (b : ℕ) → base ≡ empty_base → base.is_bsc b ≡ true → list_any (nat_eq b) base.bscs ≡ true
+no_bsc base b e h = let no : empty_base.is_bsc b ≡ true = ap (λ (k : Base). k.is_bsc b) (sym e) ∙ h in cc
+
 -- a BSC that is registered is one of those that ever were
-known_bsc : (past : List Entry) (b : ℕ) → is_bsc past b ≡ true → list_any (nat_eq b) (bscs past) ≡ true
-known_bsc [] b h = cc
-known_bsc (e ∷ before) b h = bsc_named e.event b (bscs before) (is_bsc before b) (known_bsc before b) h
+known_bsc : (past : Past) → IsUnfolded past → (b : ℕ) → is_bsc past b ≡ true → list_any (nat_eq b) (bscs past) ≡ true
+known_bsc (From base) unfolded b h = no_bsc base b unfolded h
+known_bsc (After e before) unfolded b h = bsc_named_then e.event b (bscs before) (is_bsc before b) (known_bsc before unfolded b) h
 
 nat_apart : (x y : ℕ) → ltb x y ≡ true → nat_eq x y ≡ false
 nat_apart x y h = turned nat_eq unsigned_Decides x y ∙ ltb_other x x y (eq-eqb x x refl) h
 
 -- as many BSCs stand in the register
-pub bscs_counted : (past : List Entry) (r : State) → IsRegister r → IsRegisterOf past r → length r.bscs ≡ bsc_count past
-bscs_counted past r sound kept = sym (same_count nat_eq unsigned_Decides (is_bsc past) (bscs past) r.bscs (named_once nat_eq added_bsc past) (ascending_once nat_eq ltb nat_apart r.bscs sound.bscs_ascend) members)
+pub bscs_counted : (past : Past) (r : State) → IsRegister r → IsRegisterOf past r → length r.bscs ≡ bsc_count past
+bscs_counted past r sound kept = sym (same_count nat_eq unsigned_Decides (is_bsc past) (bscs past) r.bscs (named_once nat_eq added_bsc (λ base. base.bscs) refl past kept.unfolded) (ascending_once nat_eq ltb nat_apart r.bscs sound.bscs_ascend) members)
   where
     members : (b : ℕ) → list_any (nat_eq b) r.bscs ≡ (is_bsc past b && list_any (nat_eq b) (bscs past))
-    members b = any_turned nat_eq unsigned_Decides b r.bscs ∙ kept.bscs b ∙ both_or_it (is_bsc past b) (list_any (nat_eq b) (bscs past)) (known_bsc past b)
+    members b = any_turned nat_eq unsigned_Decides b r.bscs ∙ kept.bscs b ∙ both_or_it (is_bsc past b) (list_any (nat_eq b) (bscs past)) (known_bsc past kept.unfolded b)
 
 cell_apart : (x y : Cell) → cell_lt x y ≡ true → cell_eq x y ≡ false
 cell_apart x y h = turned cell_eq cell_decides x y ∙ cell_lt_other x x y ((cell_decides x x).1 refl) h
@@ -112,16 +132,16 @@ place_is : (o : Option ℕ) → is_some o ≡ true → (b : ℕ) × (is_place o 
 place_is None h = cc
 place_is (Some b) h = (b, eq-eqb b b refl)
 
-known_cell : (past : List Entry) (c : Cell) → is_registered past c ≡ true → list_any (cell_eq c) (cells past) ≡ true
-known_cell past c h = let there = place_is (place past c) h in known_place past there.0 c there.1
+known_cell : (past : Past) → IsUnfolded past → (c : Cell) → is_registered past c ≡ true → list_any (cell_eq c) (cells past) ≡ true
+known_cell past unfolded c h = let there = place_is (place past c) h in known_place past unfolded there.0 c there.1
 
 -- as many cells stand in the register
-pub cells_counted : (past : List Entry) (r : State) → IsRegister r → IsRegisterOf past r → length r.cells ≡ cell_count past
-cells_counted past r sound kept = sym (length-map r.cells cell_of) ∙ sym (same_count cell_eq cell_decides (is_registered past) (cells past) (map cell_of r.cells) (named_once cell_eq added_cell past) (ascending_once cell_eq cell_lt cell_apart (map cell_of r.cells) (ascending_map placed_lt cell_lt cell_of (λ x y h. h) r.cells sound.cells_ascend)) members)
+pub cells_counted : (past : Past) (r : State) → IsRegister r → IsRegisterOf past r → length r.cells ≡ cell_count past
+cells_counted past r sound kept = sym (length-map r.cells cell_of) ∙ sym (same_count cell_eq cell_decides (is_registered past) (cells past) (map cell_of r.cells) (named_once cell_eq added_cell (λ base. base.cells) refl past kept.unfolded) (ascending_once cell_eq cell_lt cell_apart (map cell_of r.cells) (ascending_map placed_lt cell_lt cell_of (λ x y h. h) r.cells sound.cells_ascend)) members)
   where
     members : (c : Cell) → list_any (cell_eq c) (map cell_of r.cells) ≡ (is_registered past c && list_any (cell_eq c) (cells past))
     members c =
-        any_turned cell_eq cell_decides c (map cell_of r.cells) ∙ cell_among c r.cells ∙ sym (is_some_place_among c r.cells) ∙ ap is_some (kept.places c) ∙ both_or_it (is_registered past c) (list_any (cell_eq c) (cells past)) (known_cell past c)
+        any_turned cell_eq cell_decides c (map cell_of r.cells) ∙ cell_among c r.cells ∙ sym (is_some_place_among c r.cells) ∙ ap is_some (kept.places c) ∙ both_or_it (is_registered past c) (list_any (cell_eq c) (cells past)) (known_cell past kept.unfolded c)
 
 -- Whether a BSC has cells.
 
@@ -145,13 +165,13 @@ place_some : (o : Option ℕ) (b : ℕ) → is_place o b ≡ true → o ≡ Some
 place_some None b h = cc
 place_some (Some d) b h = ap (λ k. Some k) (eqb-true d b h)
 
-pub cells_there : (past : List Entry) (r : State) (b : ℕ) → IsRegister r → IsRegisterOf past r → register.has_cells r b ≡ has_cells past b
+pub cells_there : (past : Past) (r : State) (b : ℕ) → IsRegister r → IsRegisterOf past r → register.has_cells r b ≡ has_cells past b
 cells_there past r b sound kept = step (register.has_cells r b) refl (has_cells past b) refl
   where
     at_place : (c : Cell) → place_in r c ≡ Some b → has_cells past b ≡ true
     at_place c e =
         let there : is_place (place past c) b ≡ true = ap (λ o. is_place o b) (sym (kept.places c) ∙ e) ∙ eq-eqb b b refl in
-        any_here (λ d. is_place (place past d) b) c (cells past) there (known_place past b c there)
+        any_here (λ d. is_place (place past d) b) c (cells past) there (known_place past kept.unfolded b c there)
 
     step : (t : Bool) → register.has_cells r b ≡ t → (u : Bool) → has_cells past b ≡ u → t ≡ u
     step true e true f = refl
@@ -167,42 +187,75 @@ cells_there past r b sound kept = step (register.has_cells r b) refl (has_cells 
 
 -- What is refused.
 
-add_bsc_same : (past : List Entry) (r : State) (b : ℕ) → IsRegister r → IsRegisterOf past r → translated of_register (register.add_bsc_checks r b) ≡ add_bsc_checks past b
+add_bsc_same : (past : Past) (r : State) (b : ℕ) → IsRegister r → IsRegisterOf past r → translated of_register (register.add_bsc_checks r b) ≡ add_bsc_checks past b
 add_bsc_same past r b sound kept = rw (kept.bscs b, bscs_counted past r sound kept) refl
 
-pub add_bsc_taken : (past : List Entry) (r : State) (b : ℕ) → IsRegister r → IsRegisterOf past r → first_refusal (register.add_bsc_checks r b) ≡ None → add_bsc past b ≡ Ok answer.Done
+pub add_bsc_taken : (past : Past) (r : State) (b : ℕ) → IsRegister r → IsRegisterOf past r → first_refusal (register.add_bsc_checks r b) ≡ None → add_bsc past b ≡ Ok answer.Done
 add_bsc_taken past r b sound kept h = ap (λ cs. unless cs (Ok answer.Done)) (sym (add_bsc_same past r b sound kept)) ∙ taken of_register (register.add_bsc_checks r b) (Ok answer.Done) h
 
-pub add_bsc_refused : (past : List Entry) (r : State) (b : ℕ) (e : register_refusal.Refusal) → IsRegister r → IsRegisterOf past r → (first_refusal (register.add_bsc_checks r b) ≡ Some e) ⊎ ((e ≡ register_refusal_is.Memory) × (first_refusal (register.add_bsc_checks r b) ≡ None)) → Gives (add_bsc past b) (Err (of_register e))
-add_bsc_refused past r b e sound kept h = subst (λ cs. Gives (unless cs (Ok answer.Done)) (Err (of_register e))) (add_bsc_same past r b sound kept) (given of_register register_refusal_is.Memory refl (register.add_bsc_checks r b) (Ok answer.Done) e h)
+pub add_bsc_refused : (past : Past) (r : State) (b : ℕ) (e : register_refusal.Refusal) → IsRegister r → IsRegisterOf past r → (first_refusal (register.add_bsc_checks r b) ≡ Some e) ⊎ ((e ≡ register_refusal_is.Memory) × (first_refusal (register.add_bsc_checks r b) ≡ None)) → Gives (add_bsc past b) (Err (of_register e))
+add_bsc_refused past r b e sound kept h = subst (λ cs. Gives (unless cs (Ok answer.Done)) (Err (of_register e))) (add_bsc_same past r b sound kept) (given of_register register_refusal_is.Memory refl (register.add_bsc_checks r b) (Ok answer.Done) e (λ n. tt) h)
 
-add_cell_same : (past : List Entry) (r : State) (c : Cell) (b : ℕ) → IsRegister r → IsRegisterOf past r → translated of_register (register.add_cell_checks r c b) ≡ add_cell_checks past c b
+add_cell_same : (past : Past) (r : State) (c : Cell) (b : ℕ) → IsRegister r → IsRegisterOf past r → translated of_register (register.add_cell_checks r c b) ≡ add_cell_checks past c b
 add_cell_same past r c b sound kept = rw (kept.bscs b, kept.places c, cells_counted past r sound kept) refl
 
-pub add_cell_taken : (past : List Entry) (r : State) (c : Cell) (b : ℕ) → IsRegister r → IsRegisterOf past r → first_refusal (register.add_cell_checks r c b) ≡ None → add_cell past c b ≡ Ok answer.Done
+pub add_cell_taken : (past : Past) (r : State) (c : Cell) (b : ℕ) → IsRegister r → IsRegisterOf past r → first_refusal (register.add_cell_checks r c b) ≡ None → add_cell past c b ≡ Ok answer.Done
 add_cell_taken past r c b sound kept h = ap (λ cs. unless cs (Ok answer.Done)) (sym (add_cell_same past r c b sound kept)) ∙ taken of_register (register.add_cell_checks r c b) (Ok answer.Done) h
 
-pub add_cell_refused : (past : List Entry) (r : State) (c : Cell) (b : ℕ) (e : register_refusal.Refusal) → IsRegister r → IsRegisterOf past r → (first_refusal (register.add_cell_checks r c b) ≡ Some e) ⊎ ((e ≡ register_refusal_is.Memory) × (first_refusal (register.add_cell_checks r c b) ≡ None)) → Gives (add_cell past c b) (Err (of_register e))
-add_cell_refused past r c b e sound kept h = subst (λ cs. Gives (unless cs (Ok answer.Done)) (Err (of_register e))) (add_cell_same past r c b sound kept) (given of_register register_refusal_is.Memory refl (register.add_cell_checks r c b) (Ok answer.Done) e h)
+pub add_cell_refused : (past : Past) (r : State) (c : Cell) (b : ℕ) (e : register_refusal.Refusal) → IsRegister r → IsRegisterOf past r → (first_refusal (register.add_cell_checks r c b) ≡ Some e) ⊎ ((e ≡ register_refusal_is.Memory) × (first_refusal (register.add_cell_checks r c b) ≡ None)) → Gives (add_cell past c b) (Err (of_register e))
+add_cell_refused past r c b e sound kept h = subst (λ cs. Gives (unless cs (Ok answer.Done)) (Err (of_register e))) (add_cell_same past r c b sound kept) (given of_register register_refusal_is.Memory refl (register.add_cell_checks r c b) (Ok answer.Done) e (λ n. tt) h)
 
 same_place : (o : Option ℕ) (b : ℕ) → register.is_place o b ≡ is_place o b
 same_place None b = refl
 same_place (Some d) b = refl
 
-move_cell_same : (past : List Entry) (r : State) (c : Cell) (b : ℕ) → IsRegisterOf past r → translated of_register (register.move_cell_checks r c b) ≡ move_cell_checks past c b
+move_cell_same : (past : Past) (r : State) (c : Cell) (b : ℕ) → IsRegisterOf past r → translated of_register (register.move_cell_checks r c b) ≡ move_cell_checks past c b
 move_cell_same past r c b kept = rw (kept.bscs b, kept.places c, same_place (place past c) b) refl
 
-pub move_cell_taken : (past : List Entry) (r : State) (c : Cell) (b : ℕ) → IsRegisterOf past r → first_refusal (register.move_cell_checks r c b) ≡ None → move_cell past c b ≡ Ok answer.Done
+pub move_cell_taken : (past : Past) (r : State) (c : Cell) (b : ℕ) → IsRegisterOf past r → first_refusal (register.move_cell_checks r c b) ≡ None → move_cell past c b ≡ Ok answer.Done
 move_cell_taken past r c b kept h = ap (λ cs. unless cs (Ok answer.Done)) (sym (move_cell_same past r c b kept)) ∙ taken of_register (register.move_cell_checks r c b) (Ok answer.Done) h
 
-pub move_cell_refused : (past : List Entry) (r : State) (c : Cell) (b : ℕ) (e : register_refusal.Refusal) → IsRegisterOf past r → first_refusal (register.move_cell_checks r c b) ≡ Some e → move_cell past c b ≡ Err (of_register e)
+pub move_cell_refused : (past : Past) (r : State) (c : Cell) (b : ℕ) (e : register_refusal.Refusal) → IsRegisterOf past r → first_refusal (register.move_cell_checks r c b) ≡ Some e → move_cell past c b ≡ Err (of_register e)
 move_cell_refused past r c b e kept h = ap (λ cs. unless cs (Ok answer.Done)) (sym (move_cell_same past r c b kept)) ∙ refused of_register (register.move_cell_checks r c b) (Ok answer.Done) e h
 
-remove_cell_same : (past : List Entry) (r : State) (c : Cell) → IsRegisterOf past r → translated of_register (register.remove_cell_checks r c) ≡ remove_cell_checks past c
+remove_cell_same : (past : Past) (r : State) (c : Cell) → IsRegisterOf past r → translated of_register (register.remove_cell_checks r c) ≡ remove_cell_checks past c
 remove_cell_same past r c kept = rw (kept.places c) refl
 
-pub remove_cell_taken : (past : List Entry) (r : State) (c : Cell) → IsRegisterOf past r → first_refusal (register.remove_cell_checks r c) ≡ None → remove_cell past c ≡ Ok answer.Done
+pub remove_cell_taken : (past : Past) (r : State) (c : Cell) → IsRegisterOf past r → first_refusal (register.remove_cell_checks r c) ≡ None → remove_cell past c ≡ Ok answer.Done
 remove_cell_taken past r c kept h = ap (λ cs. unless cs (Ok answer.Done)) (sym (remove_cell_same past r c kept)) ∙ taken of_register (register.remove_cell_checks r c) (Ok answer.Done) h
 
-pub remove_cell_refused : (past : List Entry) (r : State) (c : Cell) (e : register_refusal.Refusal) → IsRegisterOf past r → first_refusal (register.remove_cell_checks r c) ≡ Some e → remove_cell past c ≡ Err (of_register e)
+pub remove_cell_refused : (past : Past) (r : State) (c : Cell) (e : register_refusal.Refusal) → IsRegisterOf past r → first_refusal (register.remove_cell_checks r c) ≡ Some e → remove_cell past c ≡ Err (of_register e)
 remove_cell_refused past r c e kept h = ap (λ cs. unless cs (Ok answer.Done)) (sym (remove_cell_same past r c kept)) ∙ refused of_register (register.remove_cell_checks r c) (Ok answer.Done) e h
+
+pub add_bsc_free : (past : Past) (r : State) (b : ℕ) → IsRegister r → IsRegisterOf past r → first_refusal (register.add_bsc_checks r b) ≡ None → IsOk (add_bsc past b)
+add_bsc_free past r b sound kept h = subst IsOk (sym (add_bsc_taken past r b sound kept h)) tt
+
+pub add_bsc_first : (past : Past) (r : State) (b : ℕ) (e : register_refusal.Refusal) → IsRegister r → IsRegisterOf past r → first_refusal (register.add_bsc_checks r b) ≡ Some e → add_bsc past b ≡ Err (of_register e)
+add_bsc_first past r b e sound kept h = ap (λ cs. unless cs (Ok answer.Done)) (sym (add_bsc_same past r b sound kept)) ∙ refused of_register (register.add_bsc_checks r b) (Ok answer.Done) e h
+
+pub add_cell_free : (past : Past) (r : State) (c : Cell) (b : ℕ) → IsRegister r → IsRegisterOf past r → first_refusal (register.add_cell_checks r c b) ≡ None → IsOk (add_cell past c b)
+add_cell_free past r c b sound kept h = subst IsOk (sym (add_cell_taken past r c b sound kept h)) tt
+
+pub add_cell_first : (past : Past) (r : State) (c : Cell) (b : ℕ) (e : register_refusal.Refusal) → IsRegister r → IsRegisterOf past r → first_refusal (register.add_cell_checks r c b) ≡ Some e → add_cell past c b ≡ Err (of_register e)
+add_cell_first past r c b e sound kept h = ap (λ cs. unless cs (Ok answer.Done)) (sym (add_cell_same past r c b sound kept)) ∙ refused of_register (register.add_cell_checks r c b) (Ok answer.Done) e h
+
+pub move_cell_free : (past : Past) (r : State) (c : Cell) (b : ℕ) → IsRegisterOf past r → first_refusal (register.move_cell_checks r c b) ≡ None → IsOk (move_cell past c b)
+move_cell_free past r c b kept h = subst IsOk (sym (move_cell_taken past r c b kept h)) tt
+
+pub move_cell_first : (past : Past) (r : State) (c : Cell) (b : ℕ) (e : register_refusal.Refusal) → IsRegisterOf past r → first_refusal (register.move_cell_checks r c b) ≡ Some e → move_cell past c b ≡ Err (of_register e)
+move_cell_first past r c b e kept h = ap (λ cs. unless cs (Ok answer.Done)) (sym (move_cell_same past r c b kept)) ∙ refused of_register (register.move_cell_checks r c b) (Ok answer.Done) e h
+
+pub remove_cell_free : (past : Past) (r : State) (c : Cell) → IsRegisterOf past r → first_refusal (register.remove_cell_checks r c) ≡ None → IsOk (remove_cell past c)
+remove_cell_free past r c kept h = subst IsOk (sym (remove_cell_taken past r c kept h)) tt
+
+pub remove_cell_first : (past : Past) (r : State) (c : Cell) (e : register_refusal.Refusal) → IsRegisterOf past r → first_refusal (register.remove_cell_checks r c) ≡ Some e → remove_cell past c ≡ Err (of_register e)
+remove_cell_first past r c e kept h = ap (λ cs. unless cs (Ok answer.Done)) (sym (remove_cell_same past r c kept)) ∙ refused of_register (register.remove_cell_checks r c) (Ok answer.Done) e h
+
+-- a BSC that can go: the register refuses nothing then
+pub remove_bsc_refused : (past : Past) (r : State) (b : ℕ) (e : register_refusal.Refusal) → IsRegister r → IsRegisterOf past r → remove_bsc past b ≡ Ok answer.Done → first_refusal (register.remove_bsc_checks r b) ≡ Some e → Gives (remove_bsc past b) (Err (of_register e))
+remove_bsc_refused past r b e sound kept free h =
+    let none = no_check (remove_bsc_checks past b) (Ok answer.Done) answer.Done free in
+    let there : not (has_bsc r b) ≡ false = ap not (kept.bscs b) ∙ none.0 in
+    let empty : register.has_cells r b ≡ false = cells_there past r b sound kept ∙ none.1.0 in
+    let no : first_refusal (register.remove_bsc_checks r b) ≡ None = rw (there, empty) refl in
+    absurd (let bad : None ≡ Some e = sym no ∙ h in cc)

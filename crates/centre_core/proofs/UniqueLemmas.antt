@@ -1,25 +1,27 @@
 -- At most one warning of a legal past's book has a key.
-use Rattle.std.proofs.Common.{◌≡◌, ℕ, ◌+◌, ◌≤◌, Bool, true, false, ◌&&◌, ◌||◌, not, nat_eq, nat_le, ltb, List, [], ◌∷◌, Ok, refl, sym, ◌∙◌, ap, map, length, eqb-true, eq-eqb, arith}
+use Rattle.std.proofs.Common.{◌≡◌, ℕ, ◌+◌, ◌≤◌, Bool, true, false, ◌&&◌, ◌||◌, not, nat_eq, nat_le, List, [], ◌∷◌, Option, Some, None, Ok, refl, sym, ◌∙◌, ap, map, length, eqb-true, eq-eqb, arith}
 use Rattle.std.specs.List.{list_any, list_all}
 use Rattle.std.proofs.lemmas.Bool.{and_parts, and_from, or_parts, not-true}
-use Rattle.serials.specs.Serials.{code_of}
-use Rattle.warning_book.specs.Book.{State}
-use Rattle.warning_book.specs.Sound.{is_older, has_serials, key_of, is_same_key, have_own_codes, IsSound}
+use Rattle.std.specs.Option.{option_map}
+use Rattle.serials.specs.Serials.{scope_part, code_of}
+use Rattle.warning_book.specs.Book.{State, current_of, code_in}
+use Rattle.warning_book.specs.Sound.{shares_code, has_one_code, key_of, is_same_code, is_same_key, have_own_codes, IsSound}
 use Rattle.warning_book.specs.declared.version.Version.{Version}
 use Rattle.warning_book.specs.declared.warning.Warning.{Warning}
 use Rattle.common.specs.Sums.{one, count_of}
-use Rattle.centre_core.specs.Verdict.{verdict, law}
+use Rattle.centre_core.specs.Past.{Past, entry_count}
+use Rattle.centre_core.specs.Settings.{Settings}
+use Rattle.centre_core.specs.Verdict.{verdict, answered}
 use Rattle.centre_core.specs.Warnings.{has_key, is_version}
 use Rattle.centre_core.specs.declared.answer.Answer.{Answer}
-use Rattle.centre_core.specs.declared.entry.Entry.{Entry}
 use Rattle.centre_core.specs.declared.event.Event.{Event}
 use Rattle.centre_core.specs.declared.refusal.Refusal.TheVariants as refusal
 use Rattle.centre_core.proofs.AnyLemmas.{any_implies}
 use Rattle.centre_core.proofs.CheckLemmas.{unless_ok}
 
 -- what is accepted was not refused because the journal is full
-pub verdict_law : (limit : ℕ) (past : List Entry) (e : Event) (a : Answer) → verdict limit past e ≡ Ok a → law past e ≡ Ok a
-verdict_law limit past e a h = unless_ok ((nat_le limit (length past), refusal.JournalFull) ∷ []) (law past e) a h
+pub verdict_answered : (settings : Settings) (past : Past) (e : Event) (a : Answer) → verdict settings past e ≡ Ok a → answered past e ≡ Ok a
+verdict_answered settings past e a h = unless_ok ((nat_le settings.limit (entry_count past), refusal.JournalFull) ∷ []) (answered past e) a h
 
 -- the count of what no element passes
 count_none : {X : Type 0} (p : X → Bool) (xs : List X) → list_any p xs ≡ false → count_of p xs ≡ 0
@@ -39,58 +41,60 @@ any_none p (x ∷ xs) h = step (any_none p xs) (p x) refl h
     step rest true e g = absurd (omega arith)
     step rest false e g = rw e (rest (omega arith))
 
--- the versions of a warning have its code
-version_code : (k s : ℕ) (vs : List Version) → list_all (is_older k) vs ≡ true → list_any (is_version s) vs ≡ true → nat_eq (code_of k) (code_of s) ≡ true
-version_code k s [] h g = cc
-version_code k s (v ∷ vs) h g = step (version_code k s vs) (and_parts (is_older k v) (list_all (is_older k) vs) h) (nat_eq v.serial s) refl g
+-- a version of the serial number has the code that all versions share
+version_code : (o : Option ℕ) (s : ℕ) (vs : List Version) → list_all (shares_code o) vs ≡ true → list_any (is_version s) vs ≡ true → is_same_code (option_map code_of o) (Some (code_of s)) ≡ true
+version_code o s [] h g = cc
+version_code o s (v ∷ vs) h g = step (version_code o s vs) (and_parts (shares_code o v) (list_all (shares_code o) vs) h) (nat_eq v.serial s) refl g
   where
-    step : (list_all (is_older k) vs ≡ true → list_any (is_version s) vs ≡ true → nat_eq (code_of k) (code_of s) ≡ true) → (is_older k v ≡ true) × (list_all (is_older k) vs ≡ true) → (t : Bool) → nat_eq v.serial s ≡ t → (t || list_any (is_version s) vs) ≡ true → nat_eq (code_of k) (code_of s) ≡ true
-    step rest parts true e f =
-        let same : v.serial ≡ s = eqb-true v.serial s e in
-        let code : code_of v.serial ≡ code_of k = eqb-true (code_of v.serial) (code_of k) (and_parts (ltb v.serial k) (nat_eq (code_of v.serial) (code_of k)) parts.0).1 in
-        eq-eqb (code_of k) (code_of s) (sym code ∙ ap code_of same)
+    shared : (k : Option ℕ) → shares_code k v ≡ true → v.serial ≡ s → is_same_code (option_map code_of k) (Some (code_of s)) ≡ true
+    shared None e f = cc
+    shared (Some k) e f =
+        let parts = and_parts (nat_eq (scope_part v.serial) (scope_part k)) (nat_eq (code_of v.serial) (code_of k)) e in
+        eq-eqb (code_of k) (code_of s) (sym (eqb-true (code_of v.serial) (code_of k) parts.1) ∙ ap code_of f)
+
+    step : (list_all (shares_code o) vs ≡ true → list_any (is_version s) vs ≡ true → is_same_code (option_map code_of o) (Some (code_of s)) ≡ true) → (shares_code o v ≡ true) × (list_all (shares_code o) vs ≡ true) → (t : Bool) → nat_eq v.serial s ≡ t → (t || list_any (is_version s) vs) ≡ true → is_same_code (option_map code_of o) (Some (code_of s)) ≡ true
+    step rest parts true e f = shared o parts.0 (eqb-true v.serial s e)
     step rest parts false e f = rest parts.1 f
 
-own_code : (w : Warning) (s : ℕ) → has_serials w ≡ true → (nat_eq w.serial s || list_any (is_version s) w.outdated) ≡ true → nat_eq (code_of w.serial) (code_of s) ≡ true
-own_code w s older h = step (nat_eq w.serial s) refl h
-  where
-    step : (t : Bool) → nat_eq w.serial s ≡ t → (t || list_any (is_version s) w.outdated) ≡ true → nat_eq (code_of w.serial) (code_of s) ≡ true
-    step true e g = eq-eqb (code_of w.serial) (code_of s) (ap code_of (eqb-true w.serial s e))
-    step false e g = version_code w.serial s w.outdated older g
-
 -- a warning with the key has the key's code
-key_code : (m s : ℕ) (w : Warning) → has_serials w ≡ true → has_key m s w ≡ true → is_same_key (key_of w) (m, code_of s) ≡ true
-key_code m s w older h =
-    let parts = and_parts (nat_eq w.message_id m) (nat_eq w.serial s || list_any (is_version s) w.outdated) h in
-    and_from (nat_eq w.message_id m) (nat_eq (code_of w.serial) (code_of s)) parts.0 (own_code w s older parts.1)
+key_code : (m s : ℕ) (w : Warning) → has_one_code w ≡ true → has_key m s w ≡ true → is_same_key (key_of w) (m, Some (code_of s)) ≡ true
+key_code m s w shared h =
+    let parts = and_parts (nat_eq w.message_id m) (list_any (is_version s) w.versions) h in
+    and_from (nat_eq w.message_id m) (is_same_code (code_in w) (Some (code_of s))) parts.0 (version_code (current_of w) s w.versions shared parts.1)
+
+same_code : (o : Option ℕ) (c : ℕ) → is_same_code o (Some c) ≡ true → o ≡ Some c
+same_code None c h = cc
+same_code (Some d) c h = ap (λ n. Some n) (eqb-true d c h)
 
 -- two with one key are one
-keys_meet : (j k : ℕ × ℕ) (m c : ℕ) → is_same_key j (m, c) ≡ true → is_same_key k (m, c) ≡ true → is_same_key j k ≡ true
+keys_meet : (j k : ℕ × Option ℕ) (m c : ℕ) → is_same_key j (m, Some c) ≡ true → is_same_key k (m, Some c) ≡ true → is_same_key j k ≡ true
 keys_meet j k m c h g =
-    let first = and_parts (nat_eq j.0 m) (nat_eq j.1 c) h in
-    let second = and_parts (nat_eq k.0 m) (nat_eq k.1 c) g in
-    and_from (nat_eq j.0 k.0) (nat_eq j.1 k.1) (eq-eqb j.0 k.0 (eqb-true j.0 m first.0 ∙ sym (eqb-true k.0 m second.0))) (eq-eqb j.1 k.1 (eqb-true j.1 c first.1 ∙ sym (eqb-true k.1 c second.1)))
+    let first = and_parts (nat_eq j.0 m) (is_same_code j.1 (Some c)) h in
+    let second = and_parts (nat_eq k.0 m) (is_same_code k.1 (Some c)) g in
+    let one_id : nat_eq j.0 k.0 ≡ true = eq-eqb j.0 k.0 (eqb-true j.0 m first.0 ∙ sym (eqb-true k.0 m second.0)) in
+    let one_code : is_same_code j.1 k.1 ≡ true = rw (same_code j.1 c first.1, same_code k.1 c second.1) (eq-eqb c c refl) in
+    and_from (nat_eq j.0 k.0) (is_same_code j.1 k.1) one_id one_code
 
 -- where no other warning has the code, none has the key
-no_other : (m s : ℕ) (j : ℕ × ℕ) (ws : List Warning) → list_all has_serials ws ≡ true → is_same_key j (m, code_of s) ≡ true → list_any (is_same_key j) (map key_of ws) ≡ false → list_any (has_key m s) ws ≡ false
-no_other m s j [] older h g = refl
-no_other m s j (w ∷ ws) older h g =
-    let whole = and_parts (has_serials w) (list_all has_serials ws) older in
+no_other : (m s : ℕ) (j : ℕ × Option ℕ) (ws : List Warning) → list_all has_one_code ws ≡ true → is_same_key j (m, Some (code_of s)) ≡ true → list_any (is_same_key j) (map key_of ws) ≡ false → list_any (has_key m s) ws ≡ false
+no_other m s j [] shared h g = refl
+no_other m s j (w ∷ ws) shared h g =
+    let whole = and_parts (has_one_code w) (list_all has_one_code ws) shared in
     let parts = or_parts (is_same_key j (key_of w)) (list_any (is_same_key j) (map key_of ws)) g in
     step (has_key m s w) refl whole.0 parts.0 (no_other m s j ws whole.1 h parts.1)
   where
-    step : (t : Bool) → has_key m s w ≡ t → has_serials w ≡ true → is_same_key j (key_of w) ≡ false → list_any (has_key m s) ws ≡ false → (t || list_any (has_key m s) ws) ≡ false
+    step : (t : Bool) → has_key m s w ≡ t → has_one_code w ≡ true → is_same_key j (key_of w) ≡ false → list_any (has_key m s) ws ≡ false → (t || list_any (has_key m s) ws) ≡ false
     step true e whole differs rest = let meets : is_same_key j (key_of w) ≡ true = keys_meet j (key_of w) m (code_of s) h (key_code m s w whole e) in cc
     step false e whole differs rest = rest
 
-unique_in : (m s : ℕ) (ws : List Warning) → list_all has_serials ws ≡ true → have_own_codes ws ≡ true → count_of (has_key m s) ws ≤ 1
-unique_in m s [] older codes = omega arith
-unique_in m s (w ∷ ws) older codes =
-    let whole = and_parts (has_serials w) (list_all has_serials ws) older in
+unique_in : (m s : ℕ) (ws : List Warning) → list_all has_one_code ws ≡ true → have_own_codes ws ≡ true → count_of (has_key m s) ws ≤ 1
+unique_in m s [] shared codes = omega arith
+unique_in m s (w ∷ ws) shared codes =
+    let whole = and_parts (has_one_code w) (list_all has_one_code ws) shared in
     let parts = and_parts (not (list_any (is_same_key (key_of w)) (map key_of ws))) (have_own_codes ws) codes in
     step (has_key m s w) refl whole.0 whole.1 (not-true (list_any (is_same_key (key_of w)) (map key_of ws)) parts.0) (unique_in m s ws whole.1 parts.1)
   where
-    step : (t : Bool) → has_key m s w ≡ t → has_serials w ≡ true → list_all has_serials ws ≡ true → list_any (is_same_key (key_of w)) (map key_of ws) ≡ false → count_of (has_key m s) ws ≤ 1 → one t + count_of (has_key m s) ws ≤ 1
+    step : (t : Bool) → has_key m s w ≡ t → has_one_code w ≡ true → list_all has_one_code ws ≡ true → list_any (is_same_key (key_of w)) (map key_of ws) ≡ false → count_of (has_key m s) ws ≤ 1 → one t + count_of (has_key m s) ws ≤ 1
     step true e own rest alone bound =
         let none : count_of (has_key m s) ws ≡ 0 = count_none (has_key m s) ws (no_other m s (key_of w) ws rest (key_code m s w own e) alone) in
         omega arith
@@ -98,7 +102,7 @@ unique_in m s (w ∷ ws) older codes =
 
 -- at most one warning of a sound book has a key
 pub unique : (st : State) → IsSound st → (m s : ℕ) → count_of (has_key m s) st.warnings ≤ 1
-unique st sound m s = unique_in m s st.warnings sound.older sound.codes
+unique st sound m s = unique_in m s st.warnings sound.codes sound.own_codes
 
 not_implied : {X : Type 0} (p q : X → Bool) → ((x : X) → p x ≡ true → q x ≡ true) → (x : X) → q x ≡ false → p x ≡ false
 not_implied p q e x h = step (p x) refl

@@ -1,174 +1,249 @@
 -- The book of a legal past is sound, and what the book refuses is what an event is refused.
-use Rattle.std.proofs.Common.{◌≡◌, ◌⊎◌, inl, inr, ℕ, ◌+◌, ◌≤◌, Bool, true, false, ◌&&◌, ◌||◌, not, List, [], ◌∷◌, Option, Some, None, Ok, Err, Bor, nat_eq, nat_le, length, cond, refl, ◌∙◌, ap, arith}
-use Rattle.std.specs.Prelude.{All, IfSome, find}
+use Rattle.std.proofs.Common.{◌≡◌, ◌⊎◌, inl, inr, ℕ, ◌+◌, ◌<◌, Bool, true, false, ◌&&◌, ◌||◌, not, List, [], ◌∷◌, Option, Some, None, Ok, Err, nat_eq, length, cond, refl, sym, ◌∙◌, ap, subst}
+use Rattle.std.specs.Prelude.{IfSome, IsOk, find}
 use Rattle.std.specs.List.{list_any, list_all}
-use Rattle.std.specs.Option.{option_map, option_copied}
-use Rattle.std.proofs.lemmas.Bool.{leb-true, or_parts, and_parts, and_from, not-false, not-true}
-use Rattle.std.proofs.lemmas.List.Elements.{All-nil, All-cons}
+use Rattle.std.specs.Option.{option_map, option_and_then}
+use Rattle.std.proofs.lemmas.Bool.{leb-false, and_parts, and_from, or_parts, not-false}
 use Rattle.std.proofs.lemmas.List.Folds.{list_all-append}
+use Rattle.serials.specs.Serials.{next_of}
+use Rattle.common.specs.CheckLaws.{NoneHolds, none_holds}
 use Rattle.common.specs.Checks.{first_refusal}
 use Rattle.common.specs.Order.{is_ascending}
-use Rattle.warning_book.specs.Book.{State, empty, has_number, number_lt, warning_is, warning_of, is_so, versions, versions_if, versions_with, content_of, new_serial, next_serial}
+use Rattle.warning_book.specs.Book.{State, has_number, number_lt, warning_is, warning_of, is_so, versions_if, versions_with, content_of, new_serial, next_serial, current_of, is_exhausted, ends_updates}
 use Rattle.warning_book.specs.Checks as book
-use Rattle.warning_book.specs.Content.{is_page, are_pages, is_period}
+use Rattle.warning_book.specs.Content.{are_pages, is_period}
 use Rattle.warning_book.specs.Laws.{found_so}
+use Rattle.warning_book.specs.SerialLaws.{serial_is_there}
 use Rattle.warning_book.specs.Sound.{IsSound, is_good, has_contents}
-use Rattle.warning_book.specs.SoundLaws.{sound_after_issue, sound_after_update, sound_after_widen, sound_after_narrow, sound_after_stop, sound_after_forget}
+use Rattle.warning_book.specs.SoundLaws.{sound_empty, sound_after_issue, sound_after_update, sound_after_widen, sound_after_narrow, sound_after_stop, sound_after_forget}
 use Rattle.warning_book.specs.declared.content.Content.{Content}
 use Rattle.warning_book.specs.declared.notice.Notice.{Notice}
 use Rattle.warning_book.specs.declared.refusal.Refusal as book_refusal
 use Rattle.warning_book.specs.declared.refusal.Refusal.TheVariants as book_refusal_is
 use Rattle.warning_book.specs.declared.version.Version.{Version}
 use Rattle.warning_book.specs.declared.warning.Warning.{Warning}
+use Rattle.centre_core.specs.Base.{Base}
 use Rattle.centre_core.specs.Cover.{is_area}
 use Rattle.centre_core.specs.Kept.{Gives}
 use Rattle.centre_core.specs.Legal.{Legal}
+use Rattle.centre_core.specs.Past.{Past, From, After}
 use Rattle.centre_core.specs.Refusals.{of_book}
 use Rattle.centre_core.specs.Reported.{is_reported, is_in_flight}
-use Rattle.centre_core.specs.Verdict.{unless, law, by_book, issue, issue_answer, update, update_answer, widen, narrow, stop, forget, forget_found_checks}
-use Rattle.centre_core.specs.Warnings.{book_of, book_after, book_with}
+use Rattle.centre_core.specs.Settings.{Settings}
+use Rattle.centre_core.specs.Verdict.{unless, answered, edit_answered, by_book, issue, issue_answer, update, update_answer, widen, narrow, stop, forget, idle_checks}
+use Rattle.centre_core.specs.Warnings.{book_of, book_after, book_then, with_issue}
 use Rattle.centre_core.specs.declared.answer.Answer.{Answer}
 use Rattle.centre_core.specs.declared.answer.Answer.TheVariants as answer
-use Rattle.centre_core.specs.declared.entry.Entry.{Entry}
+use Rattle.centre_core.specs.declared.coverage_plan.edit.Edit.{Edit}
+use Rattle.centre_core.specs.declared.coverage_plan.edit.Edit.TheVariants as edit
 use Rattle.centre_core.specs.declared.event.Event.{Event}
-use Rattle.centre_core.specs.declared.event.Event.TheVariants.{Issue, Update, Widen, Narrow, Stop, Forget}
+use Rattle.centre_core.specs.declared.event.Event.TheVariants as event
 use Rattle.centre_core.specs.declared.refusal.Refusal.{Refusal}
 use Rattle.centre_core.specs.declared.refusal.Refusal.TheVariants as refusal
-use Rattle.centre_core.proofs.CheckLemmas.{unless_ok, taken, refused, refused_first, given, none_held, past_check, past_given, checked_after}
-use Rattle.centre_core.proofs.UniqueLemmas.{verdict_law}
+use Rattle.centre_core.proofs.CheckLemmas.{taken, refused, refused_first, passed, none_left, one_left, given, ok_after, none_held, past_check, past_given, past_ok, checked_after}
+use Rattle.centre_core.proofs.UniqueLemmas.{verdict_answered}
 
 -- What the book refuses.
 
+-- no warning has the number where none is found
+n-- what is issued has a serial number, since a code is free
+issue_ok : (past : Past) (notice : Notice) (areas : List (List ℕ)) → first_refusal (book.issue_checks (book_of past) notice areas) ≡ None → IsOk (issue_answer ((book_of past).issued + 1) (new_serial (book_of past) notice))
+issue_ok past notice areas h = step (new_serial (book_of past) notice) refl
+  where
+    none : NoneHolds (book.issue_checks (book_of past) notice areas)
+    none = none_holds (book.issue_checks (book_of past) notice areas) h
+
+    few : length (book_of past).warnings < 256
+    few = leb-false 256 (length (book_of past).warnings) none.1.1.1.1.0
+
+    step : (o : Option ℕ) → new_serial (book_of past) notice ≡ o → IsOk (issue_answer ((book_of past).issued + 1) o)
+    step None e = serial_is_there (book_of past).issued (book_of past).warnings notice few e
+    step (Some s) e = tt
+
+-- what is so of no warning of the number is not so of the one that is found
+found_not : (n : ℕ) (f : Warning → Bool) (ws : List Warning) (w : Warning) → find (has_number n) ws ≡ Some w → is_so n f ws ≡ false → f w ≡ false
+found_not n f [] w h g = cc
+found_not n f (v ∷ ws) w h g = step (found_not n f ws w) (has_number n v) h g
+  where
+    step : (find (has_number n) ws ≡ Some w → is_so n f ws ≡ false → f w ≡ false) → (t : Bool) → cond t (Some v) (find (has_number n) ws) ≡ Some w → ((t && f v) || is_so n f ws) ≡ false → f w ≡ false
+    step rest true e k = let same : v ≡ w = cc in ap f (sym same) ∙ (or_parts (f v) (is_so n f ws) k).0
+    step rest false e k = rest e k
+
+-- what is updated has a next serial number
+update_ok : (past : Past) (n : ℕ) (content : Content) → first_refusal (book.update_checks (book_of past) n content) ≡ None → IsOk (update_answer (next_serial (book_of past) n))
+update_ok past n content h = step (warning_of (book_of past) n) refl
+  where
+    none : NoneHolds (book.update_checks (book_of past) n content)
+    none = none_holds (book.update_checks (book_of past) n content) h
+
+    there : list_any (has_number n) (book_of past).warnings ≡ true
+    there = not-false (list_any (has_number n) (book_of past).warnings) none.0
+
+    next : (o : Option ℕ) → ends_updates o ≡ false → IsOk (update_answer (option_map next_of o))
+    next None e = absurd (let no : true ≡ false = e in cc)
+    next (Some s) e = tt
+
+    step : (o : Option Warning) → warning_of (book_of past) n ≡ o → IsOk (update_answer (option_map next_of (option_and_then current_of o)))
+    step None e = absurd (let no : true ≡ false = sym there ∙ none_found n (book_of past).warnings e in cc)
+    step (Some w) e = next (current_of w) (found_not n is_exhausted (book_of past).warnings w e none.1.1.1.1.0)
+
 -- an area that is not there
-pub issue_elsewhere : (past : List Entry) (notice : Notice) (areas : List (List ℕ)) → list_any (λ a. not (is_area past a)) areas ≡ true → issue past notice areas ≡ Err refusal.NoSuchArea
+pub issue_elsewhere : (past : Past) (notice : Notice) (areas : List (List ℕ)) → list_any (λ a. not (is_area past a)) areas ≡ true → issue past notice areas ≡ Err refusal.NoSuchArea
 issue_elsewhere past notice areas missing = rw missing refl
 
-pub issue_taken : (past : List Entry) (st : State) (notice : Notice) (areas : List (List ℕ)) (n s : ℕ) → st ≡ book_of past → list_any (λ a. not (is_area past a)) areas ≡ false → first_refusal (book.issue_checks st notice areas) ≡ None → n ≡ st.issued + 1 → new_serial st notice ≡ Some s → issue past notice areas ≡ Ok (answer.Issued n s)
+pub issue_taken : (past : Past) (st : State) (notice : Notice) (areas : List (List ℕ)) (n s : ℕ) → st ≡ book_of past → list_any (λ a. not (is_area past a)) areas ≡ false → first_refusal (book.issue_checks st notice areas) ≡ None → n ≡ st.issued + 1 → new_serial st notice ≡ Some s → issue past notice areas ≡ Ok (answer.Issued n s)
 issue_taken past st notice areas n s is there checked number serial =
     past_check (list_any (λ a. not (is_area past a)) areas) refusal.NoSuchArea (unless (by_book (book.issue_checks (book_of past) notice areas)) (issue_answer ((book_of past).issued + 1) (new_serial (book_of past) notice))) (Ok (answer.Issued n s)) there
     (taken of_book (book.issue_checks (book_of past) notice areas) (issue_answer ((book_of past).issued + 1) (new_serial (book_of past) notice)) (rw (← is) checked)
     ∙ (rw (← is, serial, ← number) refl))
 
-pub issue_refused : (past : List Entry) (st : State) (notice : Notice) (areas : List (List ℕ)) (e : book_refusal.Refusal) → st ≡ book_of past → list_any (λ a. not (is_area past a)) areas ≡ false → (first_refusal (book.issue_checks st notice areas) ≡ Some e) ⊎ ((e ≡ book_refusal_is.Memory) × (first_refusal (book.issue_checks st notice areas) ≡ None)) → Gives (issue past notice areas) (Err (of_book e))
+pub issue_refused : (past : Past) (st : State) (notice : Notice) (areas : List (List ℕ)) (e : book_refusal.Refusal) → st ≡ book_of past → list_any (λ a. not (is_area past a)) areas ≡ false → (first_refusal (book.issue_checks st notice areas) ≡ Some e) ⊎ ((e ≡ book_refusal_is.Memory) × (first_refusal (book.issue_checks st notice areas) ≡ None)) → Gives (issue past notice areas) (Err (of_book e))
 issue_refused past st notice areas e is there h =
     past_given (list_any (λ a. not (is_area past a)) areas) refusal.NoSuchArea (unless (by_book (book.issue_checks (book_of past) notice areas)) (issue_answer ((book_of past).issued + 1) (new_serial (book_of past) notice))) (Err (of_book e)) there
-    (given of_book book_refusal_is.Memory refl (book.issue_checks (book_of past) notice areas) (issue_answer ((book_of past).issued + 1) (new_serial (book_of past) notice)) e (rw (← is) h))
+    (given of_book book_refusal_is.Memory refl (book.issue_checks (book_of past) notice areas) (issue_answer ((book_of past).issued + 1) (new_serial (book_of past) notice)) e (issue_ok past notice areas) (rw (← is) h))
 
-pub update_taken : (past : List Entry) (st : State) (n : ℕ) (content : Content) (s : ℕ) → st ≡ book_of past → first_refusal (book.update_checks st n content) ≡ None → next_serial st n ≡ Some s → update past n content ≡ Ok (answer.Updated s)
+pub update_taken : (past : Past) (st : State) (n : ℕ) (content : Content) (s : ℕ) → st ≡ book_of past → first_refusal (book.update_checks st n content) ≡ None → next_serial st n ≡ Some s → update past n content ≡ Ok (answer.Updated s)
 update_taken past st n content s is checked serial =
     taken of_book (book.update_checks (book_of past) n content) (update_answer (next_serial (book_of past) n)) (rw (← is) checked) ∙ (rw (← is, serial) refl)
 
-pub update_refused : (past : List Entry) (st : State) (n : ℕ) (content : Content) (e : book_refusal.Refusal) → st ≡ book_of past → (first_refusal (book.update_checks st n content) ≡ Some e) ⊎ ((e ≡ book_refusal_is.Memory) × (first_refusal (book.update_checks st n content) ≡ None)) → Gives (update past n content) (Err (of_book e))
-update_refused past st n content e is h = given of_book book_refusal_is.Memory refl (book.update_checks (book_of past) n content) (update_answer (next_serial (book_of past) n)) e (rw (← is) h)
+pub update_refused : (past : Past) (st : State) (n : ℕ) (content : Content) (e : book_refusal.Refusal) → st ≡ book_of past → (first_refusal (book.update_checks st n content) ≡ Some e) ⊎ ((e ≡ book_refusal_is.Memory) × (first_refusal (book.update_checks st n content) ≡ None)) → Gives (update past n content) (Err (of_book e))
+update_refused past st n content e is h = given of_book book_refusal_is.Memory refl (book.update_checks (book_of past) n content) (update_answer (next_serial (book_of past) n)) e (update_ok past n content) (rw (← is) h)
 
-pub widen_taken : (past : List Entry) (st : State) (n : ℕ) (a : List ℕ) → st ≡ book_of past → is_area past a ≡ true → first_refusal (book.widen_checks st n a) ≡ None → widen past n a ≡ Ok answer.Done
+pub widen_taken : (past : Past) (st : State) (n : ℕ) (a : List ℕ) → st ≡ book_of past → is_area past a ≡ true → first_refusal (book.widen_checks st n a) ≡ None → widen past n a ≡ Ok answer.Done
 widen_taken past st n a is there checked =
     past_check (not (is_area past a)) refusal.NoSuchArea (unless (by_book (book.widen_checks (book_of past) n a)) (Ok answer.Done)) (Ok answer.Done) (ap not there)
     (taken of_book (book.widen_checks (book_of past) n a) (Ok answer.Done) (rw (← is) checked))
 
-pub widen_refused : (past : List Entry) (st : State) (n : ℕ) (a : List ℕ) (e : book_refusal.Refusal) → st ≡ book_of past → is_area past a ≡ true → (first_refusal (book.widen_checks st n a) ≡ Some e) ⊎ ((e ≡ book_refusal_is.Memory) × (first_refusal (book.widen_checks st n a) ≡ None)) → Gives (widen past n a) (Err (of_book e))
+pub widen_refused : (past : Past) (st : State) (n : ℕ) (a : List ℕ) (e : book_refusal.Refusal) → st ≡ book_of past → is_area past a ≡ true → (first_refusal (book.widen_checks st n a) ≡ Some e) ⊎ ((e ≡ book_refusal_is.Memory) × (first_refusal (book.widen_checks st n a) ≡ None)) → Gives (widen past n a) (Err (of_book e))
 widen_refused past st n a e is there h =
     past_given (not (is_area past a)) refusal.NoSuchArea (unless (by_book (book.widen_checks (book_of past) n a)) (Ok answer.Done)) (Err (of_book e)) (ap not there)
-    (given of_book book_refusal_is.Memory refl (book.widen_checks (book_of past) n a) (Ok answer.Done) e (rw (← is) h))
+    (given of_book book_refusal_is.Memory refl (book.widen_checks (book_of past) n a) (Ok answer.Done) e (λ none. tt) (rw (← is) h))
 
-pub narrow_taken : (past : List Entry) (st : State) (n : ℕ) (a : List ℕ) → st ≡ book_of past → is_area past a ≡ true → first_refusal (book.narrow_checks st n a) ≡ None → narrow past n a ≡ Ok answer.Done
+pub narrow_taken : (past : Past) (st : State) (n : ℕ) (a : List ℕ) → st ≡ book_of past → is_area past a ≡ true → first_refusal (book.narrow_checks st n a) ≡ None → narrow past n a ≡ Ok answer.Done
 narrow_taken past st n a is there checked =
     past_check (not (is_area past a)) refusal.NoSuchArea (unless (by_book (book.narrow_checks (book_of past) n a)) (Ok answer.Done)) (Ok answer.Done) (ap not there)
     (taken of_book (book.narrow_checks (book_of past) n a) (Ok answer.Done) (rw (← is) checked))
 
-pub narrow_refused : (past : List Entry) (st : State) (n : ℕ) (a : List ℕ) (e : book_refusal.Refusal) → st ≡ book_of past → is_area past a ≡ true → first_refusal (book.narrow_checks st n a) ≡ Some e → narrow past n a ≡ Err (of_book e)
+pub narrow_refused : (past : Past) (st : State) (n : ℕ) (a : List ℕ) (e : book_refusal.Refusal) → st ≡ book_of past → is_area past a ≡ true → first_refusal (book.narrow_checks st n a) ≡ Some e → narrow past n a ≡ Err (of_book e)
 narrow_refused past st n a e is there h =
     past_check (not (is_area past a)) refusal.NoSuchArea (unless (by_book (book.narrow_checks (book_of past) n a)) (Ok answer.Done)) (Err (of_book e)) (ap not there)
     (refused of_book (book.narrow_checks (book_of past) n a) (Ok answer.Done) e (rw (← is) h))
 
-pub stop_taken : (past : List Entry) (st : State) (n : ℕ) → st ≡ book_of past → first_refusal (book.stop_checks st n) ≡ None → stop past n ≡ Ok answer.Done
+pub stop_taken : (past : Past) (st : State) (n : ℕ) → st ≡ book_of past → first_refusal (book.stop_checks st n) ≡ None → stop past n ≡ Ok answer.Done
 stop_taken past st n is checked = taken of_book (book.stop_checks (book_of past) n) (Ok answer.Done) (rw (← is) checked)
 
-pub stop_refused : (past : List Entry) (st : State) (n : ℕ) (e : book_refusal.Refusal) → st ≡ book_of past → first_refusal (book.stop_checks st n) ≡ Some e → stop past n ≡ Err (of_book e)
+pub stop_refused : (past : Past) (st : State) (n : ℕ) (e : book_refusal.Refusal) → st ≡ book_of past → first_refusal (book.stop_checks st n) ≡ Some e → stop past n ≡ Err (of_book e)
 stop_refused past st n e is h = refused of_book (book.stop_checks (book_of past) n) (Ok answer.Done) e (rw (← is) h)
 
-pub forget_refused : (past : List Entry) (st : State) (n : ℕ) (e : book_refusal.Refusal) → st ≡ book_of past → first_refusal (book.forget_checks st n) ≡ Some e → forget past n ≡ Err (of_book e)
+
+pub issue_free : (past : Past) (st : State) (notice : Notice) (areas : List (List ℕ)) → st ≡ book_of past → list_any (λ a. not (is_area past a)) areas ≡ false → first_refusal (book.issue_checks st notice areas) ≡ None → IsOk (issue past notice areas)
+issue_free past st notice areas is there checked =
+    past_ok (list_any (λ a. not (is_area past a)) areas) refusal.NoSuchArea (unless (by_book (book.issue_checks (book_of past) notice areas)) (issue_answer ((book_of past).issued + 1) (new_serial (book_of past) notice))) there
+    (ok_after of_book (book.issue_checks (book_of past) notice areas) (issue_answer ((book_of past).issued + 1) (new_serial (book_of past) notice)) (rw (← is) checked) (issue_ok past notice areas (rw (← is) checked)))
+
+pub issue_first : (past : Past) (st : State) (notice : Notice) (areas : List (List ℕ)) (e : book_refusal.Refusal) → st ≡ book_of past → list_any (λ a. not (is_area past a)) areas ≡ false → first_refusal (book.issue_checks st notice areas) ≡ Some e → issue past notice areas ≡ Err (of_book e)
+issue_first past st notice areas e is there h =
+    past_check (list_any (λ a. not (is_area past a)) areas) refusal.NoSuchArea (unless (by_book (book.issue_checks (book_of past) notice areas)) (issue_answer ((book_of past).issued + 1) (new_serial (book_of past) notice))) (Err (of_book e)) there
+    (refused of_book (book.issue_checks (book_of past) notice areas) (issue_answer ((book_of past).issued + 1) (new_serial (book_of past) notice)) e (rw (← is) h))
+
+pub update_free : (past : Past) (st : State) (n : ℕ) (content : Content) → st ≡ book_of past → first_refusal (book.update_checks st n content) ≡ None → IsOk (update past n content)
+update_free past st n content is checked =
+    ok_after of_book (book.update_checks (book_of past) n content) (update_answer (next_serial (book_of past) n)) (rw (← is) checked) (update_ok past n content (rw (← is) checked))
+
+pub update_first : (past : Past) (st : State) (n : ℕ) (content : Content) (e : book_refusal.Refusal) → st ≡ book_of past → first_refusal (book.update_checks st n content) ≡ Some e → update past n content ≡ Err (of_book e)
+update_first past st n content e is h = refused of_book (book.update_checks (book_of past) n content) (update_answer (next_serial (book_of past) n)) e (rw (← is) h)
+
+pub widen_free : (past : Past) (st : State) (n : ℕ) (a : List ℕ) → st ≡ book_of past → is_area past a ≡ true → first_refusal (book.widen_checks st n a) ≡ None → IsOk (widen past n a)
+widen_free past st n a is there checked = subst IsOk (sym (widen_taken past st n a is there checked)) tt
+
+pub widen_first : (past : Past) (st : State) (n : ℕ) (a : List ℕ) (e : book_refusal.Refusal) → st ≡ book_of past → is_area past a ≡ true → first_refusal (book.widen_checks st n a) ≡ Some e → widen past n a ≡ Err (of_book e)
+widen_first past st n a e is there h =
+    past_check (not (is_area past a)) refusal.NoSuchArea (unless (by_book (book.widen_checks (book_of past) n a)) (Ok answer.Done)) (Err (of_book e)) (ap not there)
+    (refused of_book (book.widen_checks (book_of past) n a) (Ok answer.Done) e (rw (← is) h))
+
+pub narrow_free : (past : Past) (st : State) (n : ℕ) (a : List ℕ) → st ≡ book_of past → is_area past a ≡ true → first_refusal (book.narrow_checks st n a) ≡ None → IsOk (narrow past n a)
+narrow_free past st n a is there checked = subst IsOk (sym (narrow_taken past st n a is there checked)) tt
+
+pub narrow_first : (past : Past) (st : State) (n : ℕ) (a : List ℕ) (e : book_refusal.Refusal) → st ≡ book_of past → is_area past a ≡ true → first_refusal (book.narrow_checks st n a) ≡ Some e → narrow past n a ≡ Err (of_book e)
+narrow_first past st n a e is there h = narrow_refused past st n a e is there h
+
+pub stop_free : (past : Past) (st : State) (n : ℕ) → st ≡ book_of past → first_refusal (book.stop_checks st n) ≡ None → IsOk (stop past n)
+stop_free past st n is checked = subst IsOk (sym (stop_taken past st n is checked)) tt
+
+pub stop_first : (past : Past) (st : State) (n : ℕ) (e : book_refusal.Refusal) → st ≡ book_of past → first_refusal (book.stop_checks st n) ≡ Some e → stop past n ≡ Err (of_book e)
+stop_first past st n e is h = stop_refused past st n e is h
+
+-- what follows the book's checks of a Forget
+abbrev kept_checks : Past → ℕ → List (Bool × Refusal)
+kept_checks past n = (warning_is (book_of past) n (is_reported past), refusal.StillReported) ∷ (warning_is (book_of past) n (is_in_flight past), refusal.StillInFlight) ∷ []
+
+pub forget_refused : (past : Past) (st : State) (n : ℕ) (e : book_refusal.Refusal) → st ≡ book_of past → first_refusal (book.forget_checks st n) ≡ Some e → forget past n ≡ Err (of_book e)
 forget_refused past st n e is h =
-    refused_first of_book (book.forget_checks (book_of past) n) ((warning_is (book_of past) n (is_reported past), refusal.StillReported) ∷ (warning_is (book_of past) n (is_in_flight past), refusal.StillInFlight) ∷ []) (Ok answer.Done) e (rw (← is) h)
+    refused_first of_book (book.forget_checks (book_of past) n) (kept_checks past n) (Ok answer.Done) e (rw (← is) h)
 
--- no warning has the number where none is found
-none_found : (n : ℕ) (ws : List Warning) → find (has_number n) ws ≡ None → list_any (has_number n) ws ≡ false
-none_found n [] h = refl
-none_found n (w ∷ ws) h = step (none_found n ws) (has_number n w) h
-  where
-    step : (find (has_number n) ws ≡ None → list_any (has_number n) ws ≡ false) → (t : Bool) → cond t (Some w) (find (has_number n) ws) ≡ None → (t || list_any (has_number n) ws) ≡ false
-    step rest true g = cc
-    step rest false g = rest g
-
-one_found : (n : ℕ) (ws : List Warning) (w : Warning) → find (has_number n) ws ≡ Some w → list_any (has_number n) ws ≡ true
-one_found n [] w h = cc
-one_found n (v ∷ ws) w h = step (one_found n ws w) (has_number n v) h
-  where
-    step : (find (has_number n) ws ≡ Some w → list_any (has_number n) ws ≡ true) → (t : Bool) → cond t (Some v) (find (has_number n) ws) ≡ Some w → (t || list_any (has_number n) ws) ≡ true
-    step rest true g = refl
-    step rest false g = rest g
-
-pub forget_missing : (past : List Entry) (st : State) (n : ℕ) → st ≡ book_of past → warning_of st n ≡ None → forget past n ≡ Err refusal.NoSuchWarning
+pub forget_missing : (past : Past) (st : State) (n : ℕ) → st ≡ book_of past → warning_of st n ≡ None → forget past n ≡ Err refusal.NoSuchWarning
 forget_missing past st n is h =
     let none : list_any (has_number n) (book_of past).warnings ≡ false = none_found n (book_of past).warnings (rw (← is) h) in
     rw none refl
 
-pub forget_found : (past : List Entry) (st : State) (n : ℕ) (w : Warning) → st ≡ book_of past → is_ascending number_lt st.warnings ≡ true → warning_of st n ≡ Some w → forget past n ≡ unless (forget_found_checks past w) (Ok answer.Done)
-forget_found past st n w is ordered h =
+-- what the book does not refuse is refused by what is kept of the warning
+forget_found : (past : Past) (st : State) (n : ℕ) (w : Warning) → st ≡ book_of past → is_ascending number_lt st.warnings ≡ true → warning_of st n ≡ Some w → first_refusal (book.forget_checks st n) ≡ None → forget past n ≡ unless (idle_checks past w) (Ok answer.Done)
+forget_found past st n w is ordered h checked =
     let order : is_ascending number_lt (book_of past).warnings ≡ true = rw (← is) ordered in
     let found : find (has_number n) (book_of past).warnings ≡ Some w = rw (← is) h in
-    let there : list_any (has_number n) (book_of past).warnings ≡ true = one_found n (book_of past).warnings w found in
-    let active : is_so n (λ v. v.active) (book_of past).warnings ≡ w.active = found_so n (λ v. v.active) (book_of past).warnings w order found in
     let reported : is_so n (is_reported past) (book_of past).warnings ≡ is_reported past w = found_so n (is_reported past) (book_of past).warnings w order found in
     let flying : is_so n (is_in_flight past) (book_of past).warnings ≡ is_in_flight past w = found_so n (is_in_flight past) (book_of past).warnings w order found in
-    rw (there, active, reported, flying) refl
+    passed of_book (book.forget_checks (book_of past) n) (kept_checks past n) (Ok answer.Done) (rw (← is) checked) ∙ (rw (reported, flying) refl)
+
+pub forget_free : (past : Past) (st : State) (n : ℕ) (w : Warning) → st ≡ book_of past → is_ascending number_lt st.warnings ≡ true → warning_of st n ≡ Some w → first_refusal (book.forget_checks st n) ≡ None → first_refusal (idle_checks past w) ≡ None → IsOk (forget past n)
+forget_free past st n w is ordered h checked idle =
+    subst IsOk (sym (forget_found past st n w is ordered h checked ∙ none_left (idle_checks past w) (Ok answer.Done) idle)) tt
 
 -- the refusal of a warning that is there
-pub forget_checked : (past : List Entry) (st : State) (n : ℕ) (w : Warning) (e : Refusal) → st ≡ book_of past → is_ascending number_lt st.warnings ≡ true → warning_of st n ≡ Some w → (e ≡ refusal.Memory) ⊎ (unless (forget_found_checks past w) (Ok answer.Done) ≡ Err e) → Gives (forget past n) (Err e)
-forget_checked past st n w e is ordered h (inl memory) = inl memory
-forget_checked past st n w e is ordered h (inr first) = inr (forget_found past st n w is ordered h ∙ first)
+pub forget_first : (past : Past) (st : State) (n : ℕ) (w : Warning) (e : Refusal) → st ≡ book_of past → is_ascending number_lt st.warnings ≡ true → warning_of st n ≡ Some w → first_refusal (book.forget_checks st n) ≡ None → (e ≡ refusal.Memory) ⊎ (first_refusal (idle_checks past w) ≡ Some e) → ((e ≡ refusal.Memory) × (first_refusal (book.forget_checks (book_of past) n) ≡ None)) ⊎ (forget past n ≡ Err e)
+forget_first past st n w e is ordered h checked (inl memory) = inl (memory, rw (← is) checked)
+forget_first past st n w e is ordered h checked (inr first) = inr (forget_found past st n w is ordered h checked ∙ one_left (idle_checks past w) (Ok answer.Done) e first)
 
 -- What holds of the book of a legal past.
 
-issued_sound : (past : List Entry) (notice : Notice) (areas : List (List ℕ)) (a : Answer) → issue past notice areas ≡ Ok a → IsSound (book_of past) → IsSound (book_with notice areas a (book_of past))
-issued_sound past notice areas (answer.Issued n s) h sound =
-    sound_after_issue (book_of past) notice areas s
-    (none_held of_book (book.issue_checks (book_of past) notice areas) (issue_answer ((book_of past).issued + 1) (new_serial (book_of past) notice)) (answer.Issued n s) after)
-    (serial (new_serial (book_of past) notice) (unless_ok (by_book (book.issue_checks (book_of past) notice areas)) (issue_answer ((book_of past).issued + 1) (new_serial (book_of past) notice)) (answer.Issued n s) after))
-    sound
+issued_sound : (past : Past) (notice : Notice) (areas : List (List ℕ)) (a : Answer) → issue past notice areas ≡ Ok a → IsSound (book_of past) → IsSound (with_issue notice areas (new_serial (book_of past) notice) (book_of past))
+issued_sound past notice areas a h sound = step (new_serial (book_of past) notice) refl
   where
-    serial : (o : Option ℕ) → issue_answer ((book_of past).issued + 1) o ≡ Ok (answer.Issued n s) → o ≡ Some s
-    serial None g = cc
-    serial (Some t) g = let same : t ≡ s = cc in ap (λ k. Some k) same
+    after : unless (by_book (book.issue_checks (book_of past) notice areas)) (issue_answer ((book_of past).issued + 1) (new_serial (book_of past) notice)) ≡ Ok a
+    after = checked_after (list_any (λ a. not (is_area past a)) areas) refusal.NoSuchArea (unless (by_book (book.issue_checks (book_of past) notice areas)) (issue_answer ((book_of past).issued + 1) (new_serial (book_of past) notice))) a h
 
-    after : unless (by_book (book.issue_checks (book_of past) notice areas)) (issue_answer ((book_of past).issued + 1) (new_serial (book_of past) notice)) ≡ Ok (answer.Issued n s)
-    after = checked_after (list_any (λ a. not (is_area past a)) areas) refusal.NoSuchArea (unless (by_book (book.issue_checks (book_of past) notice areas)) (issue_answer ((book_of past).issued + 1) (new_serial (book_of past) notice))) (answer.Issued n s) h
-issued_sound past notice areas other h sound = sound
+    step : (o : Option ℕ) → new_serial (book_of past) notice ≡ o → IsSound (with_issue notice areas o (book_of past))
+    step None e = sound
+    step (Some s) e =
+        sound_after_issue (book_of past) notice areas s
+        (none_held of_book (book.issue_checks (book_of past) notice areas) (issue_answer ((book_of past).issued + 1) (new_serial (book_of past) notice)) a after) e sound
 
-sound_after : (past : List Entry) (e : Event) (a : Answer) → law past e ≡ Ok a → IsSound (book_of past) → IsSound (book_after e a (book_of past))
-sound_after past (Issue notice areas) a h sound = issued_sound past notice areas a h sound
-sound_after past (Update n content) a h sound = sound_after_update (book_of past) n content (none_held of_book (book.update_checks (book_of past) n content) (update_answer (next_serial (book_of past) n)) a h) sound
-sound_after past (Widen n x) a h sound =
+sound_after : (past : Past) (e : Edit) (a : Answer) → edit_answered past e ≡ Ok a → IsSound (book_of past) → IsSound (book_after e (book_of past))
+sound_after past (edit.Issue notice areas) a h sound = issued_sound past notice areas a h sound
+sound_after past (edit.Update n content) a h sound = sound_after_update (book_of past) n content (none_held of_book (book.update_checks (book_of past) n content) (update_answer (next_serial (book_of past) n)) a h) sound
+sound_after past (edit.Widen n x) a h sound =
     sound_after_widen (book_of past) n x (none_held of_book (book.widen_checks (book_of past) n x) (Ok answer.Done) a (checked_after (not (is_area past x)) refusal.NoSuchArea (unless (by_book (book.widen_checks (book_of past) n x)) (Ok answer.Done)) a h)) sound
-sound_after past (Narrow n x) a h sound =
+sound_after past (edit.Narrow n x) a h sound =
     sound_after_narrow (book_of past) n x (none_held of_book (book.narrow_checks (book_of past) n x) (Ok answer.Done) a (checked_after (not (is_area past x)) refusal.NoSuchArea (unless (by_book (book.narrow_checks (book_of past) n x)) (Ok answer.Done)) a h)) sound
-sound_after past (Stop n) a h sound = sound_after_stop (book_of past) n sound
-sound_after past (Forget n) a h sound = sound_after_forget (book_of past) n sound
+sound_after past (edit.Stop n) a h sound = sound_after_stop (book_of past) n sound
+sound_after past (edit.Forget n) a h sound = sound_after_forget (book_of past) n sound
 sound_after past other a h sound = sound
 
-sound_empty : IsSound empty
-sound_empty = record { ordered = refl; given = refl; few = omega arith; areas = refl; contents = refl; counted = refl; older = refl; codes = refl }
+sound_then : (past : Past) (e : Event) (a : Answer) → answered past e ≡ Ok a → IsSound (book_of past) → IsSound (book_then e (book_of past))
+sound_then past (event.Edit e) a h sound = sound_after past e a h sound
+sound_then past other a h sound = sound
 
-pub legal_sound : (limit : ℕ) (past : List Entry) → Legal limit past → IsSound (book_of past)
-legal_sound limit [] legal = sound_empty
-legal_sound limit (e ∷ before) legal = sound_after before e.event e.answer (verdict_law limit before e.event e.answer legal.0) (legal_sound limit before legal.1)
+-- the book of a legal past is sound
+pub legal_sound : (settings : Settings) (past : Past) → Legal settings past → IsSound (book_of past)
+legal_sound settings (From base) legal = subst (λ (k : Base). IsSound k.book) (sym legal) sound_empty
+legal_sound settings (After e before) legal = sound_then before e.event e.answer (verdict_answered settings before e.event e.answer legal.0) (legal_sound settings before legal.1)
 
 -- The pages of what the book holds.
 
 good_if : (m : ℕ) (w : Warning) → has_contents w ≡ true → list_all is_good (versions_if m w) ≡ true
 good_if m w h = step (nat_eq w.message_id m)
   where
-    step : (t : Bool) → list_all is_good (cond t (versions w) []) ≡ true
+    step : (t : Bool) → list_all is_good (cond t w.versions []) ≡ true
     step true = h
     step false = refl
 
@@ -189,24 +264,3 @@ found_good s (v ∷ vs) h = step (found_good s vs) (nat_eq v.serial s) (and_part
 -- a content of the book has good pages
 pub content_has_pages : (m s : ℕ) (ws : List Warning) → list_all has_contents ws ≡ true → IfSome (content_of m s ws) (λ c. are_pages c.pages ≡ true)
 content_has_pages m s ws h = found_good s (versions_with m ws) (good_with m ws h)
-
-fits_page : (page : List ℕ) → is_page page ≡ true → length page ≤ 82
-fits_page page h = leb-true (length page) 82 (and_parts (nat_le 1 (length page)) (nat_le (length page) 82) h).1
-
-fit_each : (pages : List (List ℕ)) → list_any (λ page. not (is_page page)) pages ≡ false → All (λ (p : List ℕ). length p ≤ 82) pages
-fit_each [] h = All-nil (λ (p : List ℕ). length p ≤ 82)
-fit_each (page ∷ pages) h =
-    let parts = or_parts (not (is_page page)) (list_any (λ p. not (is_page p)) pages) h in
-    All-cons (λ (p : List ℕ). length p ≤ 82) page pages (fits_page page (not-false (is_page page) parts.0)) (fit_each pages parts.1)
-
--- good pages have at most 82 octets each
-fit_pages : (pages : List (List ℕ)) → are_pages pages ≡ true → All (λ (p : List ℕ). length p ≤ 82) pages
-fit_pages pages h =
-    let parts = and_parts (nat_le 1 (length pages) && nat_le (length pages) 15) (not (list_any (λ page. not (is_page page)) pages)) h in
-    fit_each pages (not-true (list_any (λ page. not (is_page page)) pages) parts.1)
-
--- the same of a content that is lent
-pub lent_fits : (content : Option (Bor Content)) (o : Option Content) → option_copied content ≡ o → IfSome o (λ c. are_pages c.pages ≡ true) → IfSome content (λ c. All (λ (p : List ℕ). length p ≤ 82) c.now.pages)
-lent_fits None o e h = tt
-lent_fits (Some c) (Some d) e h = let same : c.now ≡ d = cc in fit_pages c.now.pages (ap (λ x. are_pages x.pages) same ∙ h)
-lent_fits (Some c) None e h = absurd (let no : Some c.now ≡ None = e in cc)

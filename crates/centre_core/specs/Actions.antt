@@ -1,74 +1,62 @@
--- What is to be ordered in a cell for a warning: a write where its current version is wanted and not on air, which
--- replaces the newest other version that is on air; and a kill of each version that is on air, or may be, and neither
--- wanted nor replaced.
-use Rattle.std.specs.Prelude.{ℕ, Bool, true, false, ◌&&◌, not, List, [], ◌∷◌, ◌++◌, Option, Some, None, nat_eq, find, if◌then◌else◌}
-use Rattle.std.specs.Option.{option_map}
+-- What is to be ordered on one line: a write where the wanted version is not on air, which replaces the newest other
+-- version that is on air; and a KILL of each version that is on air, or may be, and neither wanted nor replaced. A cell
+-- that is down is ordered nothing, and so is a key that is held.
+use Rattle.std.specs.Prelude.{ℕ, Bool, ◌&&◌, not, List, [], ◌∷◌, ◌++◌, Option, Some, None, nat_eq, find, reverse, if◌then◌else◌}
 use Rattle.common.specs.declared.cell.Cell.{Cell}
-use Rattle.warning_book.specs.Book.{versions}
-use Rattle.warning_book.specs.declared.version.Version.{Version}
-use Rattle.warning_book.specs.declared.warning.Warning.{Warning}
-use Rattle.centre_core.specs.Places.{cells}
-use Rattle.centre_core.specs.Plan.{wanted}
-use Rattle.centre_core.specs.Presence.{presence, is_absent, is_on_air}
-use Rattle.centre_core.specs.Warnings.{warnings_of}
-use Rattle.centre_core.specs.declared.entry.Entry.{Entry}
+use Rattle.centre_core.specs.Seen.{Seen, is_absent, is_on_air, is_the}
 use Rattle.centre_core.specs.declared.order_maker.action.Action.{Action}
+use Rattle.centre_core.specs.declared.order_maker.deed.Deed.{Deed}
 use Rattle.centre_core.specs.declared.order_maker.order_kind.OrderKind.{OrderKind}
 use Rattle.centre_core.specs.declared.order_maker.order_kind.OrderKind.TheVariants.{Write, Replace, Kill}
 
-abbrev pub action : Warning → Cell → OrderKind → ℕ → Action
-action w c kind s = record { kind = kind; message_id = w.message_id; serial = s; cell = c }
+-- the wanted version is to be written: the cell is up, and its key neither held nor on air
+abbrev pub needs : Seen → ℕ → Bool
+needs v s = not v.down && (not (v.is_held s) && not (is_on_air (v.presence s)))
 
--- nothing keeps the key from being ordered: so far nothing does
-abbrev pub is_free : List Entry → ℕ → Cell → ℕ → ℕ → Bool
-is_free past b c m s = true
+-- another version can be replaced: it is on air and not held
+abbrev pub is_replaceable : Seen → ℕ → ℕ → Bool
+is_replaceable v s t = not (nat_eq t s) && (is_on_air (v.presence t) && not (v.is_held t))
 
--- the current version is wanted in the cell and not on air
-abbrev pub needs : List Entry → ℕ → Warning → Cell → Bool
-needs past b w c = wanted past b w c && (is_free past b c w.message_id w.serial && not (is_on_air (presence past b c w.message_id w.serial)))
+-- the newest of the versions that passes the test
+abbrev pub newest : (ℕ → Bool) → List ℕ → Option ℕ
+newest p versions = find p (reverse versions)
 
--- the version is on air there
-abbrev pub is_replaceable : List Entry → ℕ → Warning → Cell → Version → Bool
-is_replaceable past b w c v = is_on_air (presence past b c w.message_id v.serial) && is_free past b c w.message_id v.serial
+-- the version that a write replaces: the newest that can be, where the wanted one is absent
+abbrev pub replaced : Seen → ℕ → Option ℕ
+replaced v s = if is_absent (v.presence s) then newest (is_replaceable v s) v.versions else None
 
--- the serial number of the version that the current one replaces: the newest that is on air, where the current one is
--- absent
-abbrev pub replaced : List Entry → ℕ → Warning → Cell → Option ℕ
-replaced past b w c = if is_absent (presence past b c w.message_id w.serial) then option_map (λ v. v.serial) (find (is_replaceable past b w c) w.outdated) else None
-
+-- the kind of a write
 abbrev pub fresh_kind : Option ℕ → OrderKind
 fresh_kind None = Write
 fresh_kind (Some old) = Replace old
 
-abbrev pub fresh : List Entry → ℕ → Warning → Cell → List Action
-fresh past b w c = if needs past b w c then action w c (fresh_kind (replaced past b w c)) w.serial ∷ [] else []
+-- what is done with the version of a serial number
+abbrev pub deed : Seen → OrderKind → ℕ → Deed
+deed v kind s = record { kind = kind; message_id = v.message_id; serial = s }
 
--- the serial number is that one
-abbrev pub is_the : Option ℕ → ℕ → Bool
-is_the None s = false
-is_the (Some t) s = nat_eq t s
+-- the write of the wanted version
+abbrev pub fresh : Seen → Option ℕ → List Deed
+fresh v None = []
+fresh v (Some s) = if needs v s then deed v (fresh_kind (replaced v s)) s ∷ [] else []
 
--- the version of that serial number is on air, or may be, and neither wanted nor replaced there
-abbrev pub is_to_kill : List Entry → ℕ → Warning → Cell → ℕ → Bool
-is_to_kill past b w c s = not (nat_eq w.serial s && wanted past b w c) && ((is_free past b c w.message_id s && not (is_absent (presence past b c w.message_id s))) && not (needs past b w c && is_the (replaced past b w c) s))
+-- the version that the write replaces, where there is a write
+abbrev pub replaced_for : Seen → Option ℕ → Option ℕ
+replaced_for v None = None
+replaced_for v (Some s) = if needs v s then replaced v s else None
 
-abbrev pub kills : List Entry → ℕ → Warning → Cell → List Version → List Action
-kills past b w c [] = []
-kills past b w c (v ∷ vs) = (if is_to_kill past b w c v.serial then action w c Kill v.serial ∷ [] else []) ++ kills past b w c vs
+-- the version is on air, or may be, the cell up and its key free, and it is neither wanted nor replaced there
+abbrev pub is_to_kill : Seen → ℕ → Bool
+is_to_kill v t = not v.down && (not (is_the v.wanted t) && (not (v.is_held t) && (not (is_absent (v.presence t)) && not (is_the (replaced_for v v.wanted) t))))
 
--- the actions for a BSC, a warning and a cell
-abbrev pub actions : List Entry → ℕ → Warning → Cell → List Action
-actions past b w c = fresh past b w c ++ kills past b w c (versions w)
+-- the KILLs of the versions
+abbrev pub kills : Seen → List ℕ → List Deed
+kills v [] = []
+kills v (t ∷ ts) = (if is_to_kill v t then deed v Kill t ∷ [] else []) ++ kills v ts
 
-abbrev pub actions_in : List Entry → ℕ → Warning → List Cell → List Action
-actions_in past b w [] = []
-actions_in past b w (c ∷ cs) = actions past b w c ++ actions_in past b w cs
+-- what is to be ordered on the line
+abbrev pub deeds : Seen → List Deed
+deeds v = fresh v v.wanted ++ kills v v.versions
 
--- the actions for a BSC, of warnings one after another and all cells
-abbrev pub actions_of : List Entry → ℕ → List Cell → List Warning → List Action
-actions_of past b cs [] = []
-actions_of past b cs (w ∷ ws) = actions_in past b w cs ++ actions_of past b cs ws
-
--- the actions for a BSC, of all warnings in the book and all cells
-abbrev pub all_actions : List Entry → ℕ → List Action
-all_actions past b = actions_of past b (cells past) (warnings_of past)
+-- that, in the line's cell
+abbrev pub in_cell : Cell → Deed → Action
+in_cell c d = record { kind = d.kind; message_id = d.message_id; serial = d.serial; cell = c }

@@ -9,7 +9,7 @@ use Rattle.common.specs.Cell.{cell_eq}
 use Rattle.common.specs.Equality.{both, amounts, cell_decides}
 use Rattle.centre_core.specs.Replies.{outcome_eq, reply_eq}
 use Rattle.centre_core.specs.declared.outcome.Outcome.{Outcome}
-use Rattle.centre_core.specs.declared.outcome.Outcome.TheVariants.{Done, Silent}
+use Rattle.centre_core.specs.declared.outcome.Outcome.TheVariants.{Done, Refused, Silent}
 use Rattle.centre_core.specs.declared.reply.Reply.{Reply}
 
 pub option_decides : {A : Type 0} {E : A → A → Bool} → ((x y : A) → Decides (E x y) (x ≡ y)) → (x y : Option A) → Decides (option_eq E x y) (x ≡ y)
@@ -20,6 +20,7 @@ option_decides d (Some x) (Some y) = amounts (d x y) (λ e. ap (λ z. Some z) e)
 
 pub outcome_decides : (x y : Outcome) → Decides (outcome_eq x y) (x ≡ y)
 outcome_decides Done Done = (λ h. refl, λ e. refl)
+outcome_decides (Refused c) (Refused d) = amounts (unsigned_Decides c.0 d.0) (λ e. λ i. Refused (record { 0 = e i })) (λ e. cc)
 outcome_decides Silent Silent = (λ h. refl, λ e. refl)
 outcome_decides x y = (λ h. cc, λ e. cc)
 

@@ -1,18 +1,20 @@
 -- The headline: the pending orders of each BSC, applied to what it has reported, give its part of the plan.
 use Rattle.std.specs.Prelude.{◌≡◌, ℕ, Bool, true, false, ◌&&◌, not, List, [], ◌∷◌, nat_eq, if◌then◌else◌}
 use Rattle.common.specs.declared.cell.Cell.{Cell}
+use Rattle.centre_core.specs.Effects.{is_among}
 use Rattle.centre_core.specs.InFlight.{is_kill}
+use Rattle.centre_core.specs.Past.{Past}
 use Rattle.centre_core.specs.Pending.{pending}
 use Rattle.centre_core.specs.Plan.{planned}
-use Rattle.centre_core.specs.Presence.{presence, is_among}
+use Rattle.centre_core.specs.Presence.{presence}
 use Rattle.centre_core.specs.Warnings.{is_key}
-use Rattle.centre_core.specs.declared.entry.Entry.{Entry}
 use Rattle.centre_core.specs.declared.mirror.presence.Presence.{Presence}
 use Rattle.centre_core.specs.declared.mirror.presence.Presence.TheVariants.{Absent, OnAir}
 use Rattle.centre_core.specs.declared.order_maker.order.Order.{Order}
 use Rattle.centre_core.specs.declared.order_maker.order_kind.OrderKind.{OrderKind}
 use Rattle.centre_core.specs.declared.order_maker.order_kind.OrderKind.TheVariants.{Write, Replace, Kill}
 
+-- the order is of that message identifier and names the cell
 abbrev pub names_cell : Order → Cell → ℕ → Bool
 names_cell order c m = nat_eq order.message_id m && is_among c order.cells
 
@@ -44,5 +46,6 @@ abbrev pub Agrees : Presence → Bool → Type 0
 Agrees p true = p ≡ OnAir
 Agrees p false = p ≡ Absent
 
-pub record PendingGivesPlan (past : List Entry) : Type 0 where
+-- the pending orders of each BSC, applied to what it has reported, give its part of the plan at each key of the book
+pub record PendingGivesPlan (past : Past) : Type 0 where
   pub each : (b : ℕ) (c : Cell) (m s : ℕ) → is_key past m s ≡ true → Agrees (applied (pending past b) c m s (presence past b c m s)) (planned past b c m s)

@@ -1,49 +1,32 @@
--- The numbers of a warning.
-use Rattle.std.specs.Prelude.{ℕ, Bool, true, false, ◌&&◌, not, List, Option, Some, None, nat_eq, if◌then◌else◌}
+-- The numbers of a warning: sums over the lines of each BSC and each cell.
+use Rattle.std.specs.Prelude.{ℕ, Option}
 use Rattle.std.specs.Option.{option_map}
-use Rattle.std.specs.List.{list_any}
-use Rattle.common.specs.declared.cell.Cell.{Cell}
-use Rattle.warning_book.specs.Book.{versions, warning_of}
-use Rattle.warning_book.specs.declared.warning.Warning.{Warning}
-use Rattle.centre_core.specs.Cover.{is_covered}
-use Rattle.centre_core.specs.Links.{bscs}
 use Rattle.common.specs.Sums.{sum_of, count_of}
-use Rattle.centre_core.specs.Places.{cells, place}
-use Rattle.centre_core.specs.Plan.{wanted}
-use Rattle.centre_core.specs.Presence.{presence, is_absent, is_on_air}
+use Rattle.common.specs.declared.cell.Cell.{Cell}
+use Rattle.warning_book.specs.Book.{warning_of}
+use Rattle.warning_book.specs.declared.warning.Warning.{Warning}
+use Rattle.centre_core.specs.Lines.{stand}
+use Rattle.centre_core.specs.Links.{bscs}
+use Rattle.centre_core.specs.Past.{Past}
+use Rattle.centre_core.specs.Places.{cells}
+use Rattle.centre_core.specs.Standings.{stands}
 use Rattle.centre_core.specs.Warnings.{book_of}
 use Rattle.centre_core.specs.declared.coverage_board.numbers.Numbers.{Numbers}
-use Rattle.centre_core.specs.declared.coverage_board.standing.Standing.{Standing}
-use Rattle.centre_core.specs.declared.coverage_board.standing.Standing.TheVariants.{Awaited, OnAir}
-use Rattle.centre_core.specs.declared.entry.Entry.{Entry}
+use Rattle.centre_core.specs.declared.coverage_board.way.Way.{Way}
+use Rattle.centre_core.specs.declared.coverage_board.way.Way.TheVariants.{Awaited, OnAir, Failed, Left}
 
--- how a registered covered cell of an active warning stands
-abbrev pub standing_at : List Entry → Warning → Cell → Option ℕ → Option Standing
-standing_at past w c None = None
-standing_at past w c (Some b) = if is_on_air (presence past b c w.message_id w.serial) then Some OnAir else Some Awaited
+-- how many of the cells at the BSC are counted in that way
+abbrev pub number_at : Past → Warning → Way → List Cell → ℕ → ℕ
+number_at past w way cs b = count_of (λ c. stands way (stand past b w c)) cs
 
-abbrev pub standing : List Entry → Warning → Cell → Option Standing
-standing past w c = if w.active && is_covered past w.areas c then standing_at past w c (place past c) else None
+-- how many lines of the warning are counted in that way
+abbrev pub number : Past → Warning → Way → ℕ
+number past w way = sum_of (number_at past w way (cells past)) (bscs past)
 
--- a cell that stands in one way, if it counts at all, stands in that way
-abbrev pub stands : Standing → Option Standing → Bool
-stands way None = false
-stands Awaited (Some Awaited) = true
-stands OnAir (Some OnAir) = true
-stands way (Some other) = false
-
--- the version of that serial number is on air there, or may be, and not wanted
-abbrev pub is_unwanted : List Entry → Warning → ℕ → Cell → ℕ → Bool
-is_unwanted past w b c s = not (nat_eq s w.serial && wanted past b w c) && not (is_absent (presence past b c w.message_id s))
-
--- a version of the warning that isn't wanted there is on air, or may be
-abbrev pub is_left : List Entry → Warning → ℕ → Cell → Bool
-is_left past w b c = list_any (λ v. is_unwanted past w b c v.serial) (versions w)
-
--- over the cells, each once; what is left, over the pairs of a BSC and a cell
-abbrev pub total : List Entry → Warning → Numbers
-total past w = record { awaited = count_of (λ c. stands Awaited (standing past w c)) (cells past); on_air = count_of (λ c. stands OnAir (standing past w c)) (cells past); failed = 0; left = sum_of (λ b. count_of (is_left past w b) (cells past)) (bscs past); broadcasts = 0 }
+-- the numbers of the warning; no broadcast is reported so far
+abbrev pub total : Past → Warning → Numbers
+total past w = record { awaited = number past w Awaited; on_air = number past w OnAir; failed = number past w Failed; left = number past w Left; broadcasts = 0 }
 
 -- the numbers of the warning of that number, if it is in the book
-abbrev pub board : List Entry → ℕ → Option Numbers
+abbrev pub board : Past → ℕ → Option Numbers
 board past n = option_map (total past) (warning_of (book_of past) n)

@@ -1,15 +1,17 @@
 -- The message that carries an order (TS 48.049, 8.1.3.1 and 8.1.3.4).
-use Rattle.std.specs.Prelude.{ℕ, List, Option, Some, None, map}
+use Rattle.std.specs.Prelude.{ℕ, List, [], Option, Some, None, IsSome, map}
 use Rattle.cbsp_ie.specs.Identifications.{Identifications, id_of_cell}
 use Rattle.common.specs.declared.cell.Cell.{Cell}
 use Rattle.cbsp_ie.specs.declared.form.Form.TheVariants as form
 use Rattle.cbsp_messages.specs.PageText.{page_with}
 use Rattle.cbsp_messages.specs.declared.message.Message.{Message}
 use Rattle.cbsp_messages.specs.declared.message.Message.TheVariants as message
+use Rattle.warning_book.specs.Content.{category_number}
+use Rattle.warning_book.specs.declared.category.Category.TheVariants.{Normal}
 use Rattle.warning_book.specs.declared.content.Content.{Content}
 use Rattle.centre_core.specs.declared.order_maker.order.Order.{Order}
 use Rattle.centre_core.specs.declared.order_maker.order_kind.OrderKind.{OrderKind}
-use Rattle.centre_core.specs.declared.order_maker.order_kind.OrderKind.TheVariants.{Write, Replace}
+use Rattle.centre_core.specs.declared.order_maker.order_kind.OrderKind.TheVariants.{Write, Replace, Kill}
 
 -- cells by location area and cell identity
 abbrev pub listed : List Cell → Identifications
@@ -17,16 +19,33 @@ listed cells = record { form = form.LacCi; ids = map id_of_cell cells }
 
 -- a write, which may replace a version: until killed, on the basic channel
 abbrev pub write_message : Order → Option ℕ → Content → Message
-write_message order old content = message.WriteReplace order.message_id order.serial old (listed order.cells) (Some 0) content.category content.period 0 (map page_with content.pages) content.dcs
+write_message order old content = message.WriteReplace order.message_id order.serial old (listed order.cells) (Some 0) (category_number content.category) content.period 0 (map page_with content.pages) content.dcs
 
+-- a KILL, on the basic channel
 abbrev pub kill_message : Order → Message
 kill_message order = message.Kill order.message_id order.serial (listed order.cells) (Some 0)
 
--- the message of an order; a write or a replace has its content
-abbrev pub message_by : Order → OrderKind → Option Content → Message
-message_by order Write (Some content) = write_message order None content
-message_by order (Replace old) (Some content) = write_message order (Some old) content
-message_by order kind content = kill_message order
+-- the content of an order where there is none: no pages
+abbrev pub no_content : Content
+no_content = record { dcs = 0; category = Normal; period = 1; pages = [] }
 
+-- the content that is given
+abbrev pub given_content : Option Content → Content
+given_content None = no_content
+given_content (Some content) = content
+
+-- an order of the kind can be carried: a KILL, or a write or a replace whose content is there
+abbrev pub IsCarriable : OrderKind → Option Content → Type 0
+IsCarriable Kill content = Unit {0}
+IsCarriable Write content = IsSome content
+IsCarriable (Replace old) content = IsSome content
+
+-- the message of an order of the kind: a KILL, or a WRITE-REPLACE with its content
+abbrev pub message_by : Order → OrderKind → Option Content → Message
+message_by order Write content = write_message order None (given_content content)
+message_by order (Replace old) content = write_message order (Some old) (given_content content)
+message_by order Kill content = kill_message order
+
+-- the message of the order
 abbrev pub order_message : Order → Option Content → Message
 order_message order content = message_by order order.kind content

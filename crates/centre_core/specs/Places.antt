@@ -2,37 +2,37 @@
 use Rattle.std.specs.Prelude.{ℕ, Bool, List, Option, Some, None, if◌then◌else◌}
 use Rattle.std.specs.Option.{is_some}
 use Rattle.common.specs.Cell.{cell_eq}
-use Rattle.common.specs.declared.cell.Cell.{Cell}
-use Rattle.centre_core.specs.Past.{latest, named}
 use Rattle.common.specs.Sums.{count_of}
-use Rattle.centre_core.specs.declared.entry.Entry.{Entry}
-use Rattle.centre_core.specs.declared.event.Event.{Event}
-use Rattle.centre_core.specs.declared.event.Event.TheVariants.{AddCell, MoveCell, RemoveCell}
+use Rattle.common.specs.declared.cell.Cell.{Cell}
+use Rattle.centre_core.specs.Past.{Past, latest, by_edit, named}
+use Rattle.centre_core.specs.declared.coverage_plan.edit.Edit.{Edit}
+use Rattle.centre_core.specs.declared.coverage_plan.edit.Edit.TheVariants.{AddCell, MoveCell, RemoveCell}
 
--- where the event puts the cell: at a BSC, or nowhere
-abbrev pub place_mark : Cell → Event → Option (Option ℕ)
+-- where the edit puts the cell: at a BSC, or nowhere
+abbrev pub place_mark : Cell → Edit → Option (Option ℕ)
 place_mark c (AddCell d b) = if cell_eq d c then Some (Some b) else None
 place_mark c (MoveCell d b) = if cell_eq d c then Some (Some b) else None
 place_mark c (RemoveCell d) = if cell_eq d c then Some None else None
 place_mark c other = None
 
 -- the BSC at which the cell is registered
-abbrev pub place : List Entry → Cell → Option ℕ
-place past c = latest (λ e before. place_mark c e.event) None past
+abbrev pub place : Past → Cell → Option ℕ
+place past c = latest (λ e before. by_edit (place_mark c) e.event) (λ base. base.place c) past
 
-abbrev pub is_registered : List Entry → Cell → Bool
+-- the cell is registered
+abbrev pub is_registered : Past → Cell → Bool
 is_registered past c = is_some (place past c)
 
--- the cell that the event registers at a BSC
-abbrev pub added_cell : Event → Option Cell
+-- the cell that the edit registers at a BSC
+abbrev pub added_cell : Edit → Option Cell
 added_cell (AddCell d b) = Some d
 added_cell (MoveCell d b) = Some d
 added_cell other = None
 
 -- every cell that was ever registered, each once
-abbrev pub cells : List Entry → List Cell
-cells past = named cell_eq added_cell past
+abbrev pub cells : Past → List Cell
+cells past = named cell_eq added_cell (λ base. base.cells) past
 
 -- how many cells are registered
-abbrev pub cell_count : List Entry → ℕ
+abbrev pub cell_count : Past → ℕ
 cell_count past = count_of (is_registered past) (cells past)

@@ -1,86 +1,45 @@
 -- What the BSCs have reported: whether a message is on air in a cell. A key is a BSC, a cell, a message identifier
 -- and a serial number.
-use Rattle.std.specs.Prelude.{ℕ, Bool, true, false, ◌&&◌, List, Option, Some, None, nat_eq, if◌then◌else◌}
+use Rattle.std.specs.Prelude.{ℕ, Bool, ◌&&◌, List, Option, nat_eq, if◌then◌else◌}
 use Rattle.std.specs.List.{list_any}
-use Rattle.common.specs.Cell.{cell_eq}
 use Rattle.common.specs.declared.cell.Cell.{Cell}
-use Rattle.centre_core.specs.Past.{latest}
+use Rattle.warning_book.specs.Book.{has_number}
+use Rattle.warning_book.specs.declared.warning.Warning.{Warning}
+use Rattle.centre_core.specs.Effects.{Effect, Sets, Frees, Leaves, flight_effect, reply_effect, presence_mark}
+use Rattle.centre_core.specs.InFlight.{in_flight}
 use Rattle.centre_core.specs.Links.{is_up}
-use Rattle.centre_core.specs.InFlight.{in_flight, outcome, is_replied}
+use Rattle.centre_core.specs.Past.{Past, latest}
+use Rattle.centre_core.specs.Warnings.{warnings_of, has_key}
 use Rattle.centre_core.specs.declared.answer.Answer.{Answer}
+use Rattle.centre_core.specs.declared.coverage_plan.edit.Edit.{Edit}
+use Rattle.centre_core.specs.declared.coverage_plan.edit.Edit.TheVariants.{RemoveBsc, Forget}
 use Rattle.centre_core.specs.declared.entry.Entry.{Entry}
 use Rattle.centre_core.specs.declared.event.Event.{Event}
-use Rattle.centre_core.specs.declared.event.Event.TheVariants.{RemoveBsc, LinkUp, LinkDown, Report}
+use Rattle.centre_core.specs.declared.event.Event.TheVariants as event
 use Rattle.centre_core.specs.declared.mirror.presence.Presence.{Presence}
-use Rattle.centre_core.specs.declared.mirror.presence.Presence.TheVariants.{Absent, OnAir, Unknown}
-use Rattle.centre_core.specs.declared.order_maker.order.Order.{Order}
-use Rattle.centre_core.specs.declared.order_maker.order_kind.OrderKind.{OrderKind}
-use Rattle.centre_core.specs.declared.order_maker.order_kind.OrderKind.TheVariants.{Write, Replace, Kill}
-use Rattle.centre_core.specs.declared.outcome.Outcome.{Outcome}
-use Rattle.centre_core.specs.declared.outcome.Outcome.TheVariants.{Done, Silent}
+use Rattle.centre_core.specs.declared.mirror.presence.Presence.TheVariants.{Absent}
+use Rattle.centre_core.specs.declared.order_maker.in_flight.InFlight.{InFlight}
+use Rattle.centre_core.specs.declared.outcome.Outcome.TheVariants.{Silent}
 
--- the cell is one of the list
-abbrev pub is_among : Cell → List Cell → Bool
-is_among c cs = list_any (cell_eq c) cs
+-- of a BSC that is removed nothing is on air; a warning that is forgotten holds nothing
+abbrev pub edit_effect : ℕ → ℕ → ℕ → Edit → List Warning → Effect
+edit_effect b m s (RemoveBsc other) warnings = if nat_eq other b then Sets Absent else Leaves
+edit_effect b m s (Forget n) warnings = if list_any (λ w. has_number n w && has_key m s w) warnings then Frees else Leaves
+edit_effect b m s other warnings = Leaves
 
--- what an entry does to a key: it sets its presence, or leaves it
-pub data Effect : Type 0 where
-  Sets : Presence → Effect
-  Leaves : Effect
+-- what the event does to the key, by its answer, whether the link was up, what was in flight, and the warnings in the
+-- book before it: a matched reply tells the outcome in each cell, the loss of the link leaves it silent in all
+abbrev pub effect : ℕ → Cell → ℕ → ℕ → Event → Answer → Bool → Option InFlight → List Warning → Effect
+effect b c m s (event.Edit edit) answer up flight warnings = edit_effect b m s edit warnings
+effect b c m s (event.Report other generation message) answer up flight warnings = if nat_eq other b then reply_effect answer flight c m s else Leaves
+effect b c m s (event.LinkUp other) answer up flight warnings = if nat_eq other b && up then flight_effect flight Silent c m s else Leaves
+effect b c m s (event.LinkDown other generation) answer up flight warnings = if nat_eq other b then flight_effect flight Silent c m s else Leaves
+effect b c m s other answer up flight warnings = Leaves
 
--- an order of each kind at the key of its serial number, by what became of it
-abbrev pub new_effect : OrderKind → Outcome → Effect
-new_effect Write Done = Sets OnAir
-new_effect (Replace old) Done = Sets OnAir
-new_effect Kill Done = Sets Absent
-new_effect kind Silent = Sets Unknown
+-- what the entry does to the key after the past before it
+abbrev pub effect_at : ℕ → Cell → ℕ → ℕ → Entry → Past → Effect
+effect_at b c m s e before = effect b c m s e.event e.answer (is_up before b) (in_flight before b) (warnings_of before)
 
--- a replace at the key that it takes off the air
-abbrev pub old_effect : Outcome → Effect
-old_effect Done = Sets Absent
-old_effect Silent = Sets Unknown
-
--- the order replaces the version of that serial number
-abbrev pub replaces : OrderKind → ℕ → Bool
-replaces Write s = false
-replaces (Replace old) s = nat_eq old s
-replaces Kill s = false
-
-abbrev pub key_effect : Order → Outcome → ℕ → Effect
-key_effect order o s = if nat_eq order.serial s then new_effect order.kind o else (if replaces order.kind s then old_effect o else Leaves)
-
-abbrev pub order_effect : Order → Outcome → Cell → ℕ → ℕ → Effect
-order_effect order o c m s = if nat_eq order.message_id m && is_among c order.cells then key_effect order o s else Leaves
-
-abbrev pub flight_effect : Option Order → Outcome → Cell → ℕ → ℕ → Effect
-flight_effect None o c m s = Leaves
-flight_effect (Some order) o c m s = order_effect order o c m s
-
--- a matched reply tells the outcome in each cell of the order in flight; the loss of the link leaves it silent in
--- all; of a BSC that is removed nothing is on air
-abbrev pub effect : ℕ → Cell → ℕ → ℕ → Event → Answer → Bool → Option Order → Effect
-effect b c m s (Report other generation message) answer up flight = if nat_eq other b && is_replied answer then flight_effect flight (outcome message c) c m s else Leaves
-effect b c m s (LinkUp other) answer up flight = if nat_eq other b && up then flight_effect flight Silent c m s else Leaves
-effect b c m s (LinkDown other generation) answer up flight = if nat_eq other b then flight_effect flight Silent c m s else Leaves
-effect b c m s (RemoveBsc other) answer up flight = if nat_eq other b then Sets Absent else Leaves
-effect b c m s other answer up flight = Leaves
-
-abbrev pub presence_mark : Effect → Option Presence
-presence_mark (Sets p) = Some p
-presence_mark Leaves = None
-
-abbrev pub effect_at : ℕ → Cell → ℕ → ℕ → Entry → List Entry → Effect
-effect_at b c m s e before = effect b c m s e.event e.answer (is_up before b) (in_flight before b)
-
-abbrev pub presence : List Entry → ℕ → Cell → ℕ → ℕ → Presence
-presence past b c m s = latest (λ e before. presence_mark (effect_at b c m s e before)) Absent past
-
-abbrev pub is_absent : Presence → Bool
-is_absent Absent = true
-is_absent OnAir = false
-is_absent Unknown = false
-
-abbrev pub is_on_air : Presence → Bool
-is_on_air Absent = false
-is_on_air OnAir = true
-is_on_air Unknown = false
+-- whether the message is on air in the cell at the BSC
+abbrev pub presence : Past → ℕ → Cell → ℕ → ℕ → Presence
+presence past b c m s = latest (λ e before. presence_mark (effect_at b c m s e before)) (λ base. base.presence b c m s) past

@@ -1,11 +1,10 @@
 //! The numbers of a warning.
 
-mod counting;
-mod left;
+mod number;
 mod numbers;
-mod standing;
 mod total;
+mod way;
 
 pub use numbers::Numbers;
-pub use standing::Standing;
 pub(crate) use total::total;
+pub use way::Way;

@@ -18,4 +18,4 @@ pub(crate) use cell_counts::{added_cell, was_cell};
 pub(crate) use cell_list::cells;
 pub(crate) use cell_marks::place;
 pub(crate) use flights::in_flight;
-pub(crate) use presences::{is_among, outcome, presence};
+pub(crate) use presences::{is_among, presence};

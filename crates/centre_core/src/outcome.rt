@@ -1,10 +1,14 @@
 //! What became of an order in a cell.
 
-/// What became of an order in one of its cells.
+use cbsp_ie::Cause;
+
+/// What became of an order in one of its cells, as its reply says.
 #[derive(Clone, Copy, Debug, PartialEq, Eq)]
 pub enum Outcome {
     /// It was carried out.
     Done,
+    /// It was refused, with this cause. So far no reply that says so is taken.
+    Refused(Cause),
     /// Nothing was said of it, or the link was lost first.
     Silent,
 }

@@ -1,9 +1,9 @@
 //! The BSCs that were ever registered, as a list.
 
-ghost use Rattle.std.specs.Prelude.{◌≡◌, nat_eq, reverse, IfOk, OnOk};
+ghost use Rattle.std.specs.Prelude.{◌≡◌, nat_eq, IfOk, OnOk};
 ghost use Rattle.std.specs.List.{list_any};
 ghost use Rattle.centre_core.specs.Links.{added_bsc, bscs};
-ghost use Rattle.centre_core.specs.Past.{with_new};
+ghost use Rattle.centre_core.specs.Past.{by_edit, past_of, with_new};
 
 use crate::entry::Entry;
 use crate::event::Event;
@@ -20,7 +20,7 @@ fn is_listed(b: BscId, bscs: &[BscId]) -> bool
 
 /// Puts a BSC that is new before the others.
 fn put_new(out: &mut Vec<BscId>, event: &Event) -> Result<(), AllocError>
-    ensures { OnOk result (out.new.items ≡ with_new nat_eq (added_bsc event.now) out.old.items) }
+    ensures { OnOk result (out.new.items ≡ with_new nat_eq (by_edit added_bsc event.now) out.old.items) }
 {
     match added_bsc(event) {
         Some(b) if !is_listed(b, out.as_slice()) => {
@@ -34,7 +34,7 @@ fn put_new(out: &mut Vec<BscId>, event: &Event) -> Result<(), AllocError>
 /// Every BSC that was ever registered, each once, the newest first.
 #[tactic(auto, using(crate::proofs::PastLemmas::past_more))]
 pub(crate) fn bscs(alloc: Global, journal: &[Entry]) -> Result<Vec<BscId>, AllocError>
-    ensures { IfOk result (λ v. v.items ≡ bscs (reverse journal.now)) }
+    ensures { IfOk result (λ v. v.items ≡ bscs (past_of journal.now)) }
 {
     let mut found = Vec::new(alloc);
     for entry in journal {

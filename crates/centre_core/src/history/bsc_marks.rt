@@ -1,8 +1,10 @@
 //! Whether the links of the BSCs are up.
 
-ghost use Rattle.std.specs.Prelude.{◌≡◌, ◌+◌, reverse, unwrap_or};
+ghost use Rattle.std.specs.Prelude.{◌≡◌, ◌+◌, unwrap_or};
 ghost use Rattle.centre_core.specs.Links.{up_mark, is_up, generation_mark, last_link};
+ghost use Rattle.centre_core.specs.Past.{past_of};
 
+use crate::coverage_plan::Edit;
 use crate::entry::Entry;
 use crate::event::Event;
 use cell_register::BscId;
@@ -11,7 +13,7 @@ fn up_mark(b: BscId, event: &Event) -> Option<bool>
     ensures { result ≡ up_mark b event.now }
 {
     match event {
-        Event::AddBsc(other) if *other == b => Some(false),
+        Event::Edit(Edit::AddBsc(other)) if *other == b => Some(false),
         Event::LinkUp(other) if *other == b => Some(true),
         Event::LinkDown(other, _) if *other == b => Some(false),
         _ => None,
@@ -28,7 +30,7 @@ pub(crate) fn up_after(b: BscId, event: &Event, up: bool) -> bool
 /// Whether the link of the BSC is up.
 #[tactic(auto, using(crate::proofs::PastLemmas::past_more))]
 pub(crate) fn is_up(journal: &[Entry], b: BscId) -> bool
-    ensures { result ≡ is_up (reverse journal.now) b }
+    ensures { result ≡ is_up (past_of journal.now) b }
 {
     let mut up = false;
     for entry in journal {
@@ -41,16 +43,16 @@ fn generation_mark(b: BscId, event: &Event, place: u64) -> Option<u64>
     ensures { result ≡ generation_mark b event.now place }
 {
     match event {
-        Event::AddBsc(other) if *other == b => Some(0),
+        Event::Edit(Edit::AddBsc(other)) if *other == b => Some(0),
         Event::LinkUp(other) if *other == b => Some(place),
         _ => None,
     }
 }
 
 /// The generation of the latest link of the BSC, 0 where there was none.
-#[tactic(auto, using(crate::proofs::PastLemmas::past_more, crate::proofs::PastLemmas::length_past))]
+#[tactic(auto, using(crate::proofs::PastLemmas::past_more, crate::proofs::PastLemmas::position_past))]
 pub(crate) fn last_link(journal: &[Entry], b: BscId) -> u64
-    ensures { result ≡ last_link (reverse journal.now) b }
+    ensures { result ≡ last_link (past_of journal.now) b }
 {
     let mut last = 0;
     for (i, entry) in journal.iter().enumerate() {

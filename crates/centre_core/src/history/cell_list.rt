@@ -1,8 +1,8 @@
 //! The cells that were ever registered.
 
-ghost use Rattle.std.specs.Prelude.{◌≡◌, reverse, IfOk, OnOk};
+ghost use Rattle.std.specs.Prelude.{◌≡◌, IfOk, OnOk};
 ghost use Rattle.common.specs.Cell.{cell_eq};
-ghost use Rattle.centre_core.specs.Past.{with_new};
+ghost use Rattle.centre_core.specs.Past.{by_edit, past_of, with_new};
 ghost use Rattle.centre_core.specs.Places.{added_cell, cells};
 
 use crate::entry::Entry;
@@ -14,7 +14,7 @@ use std::alloc::{AllocError, Global};
 
 /// Puts a cell that is new before the others.
 fn put_new(out: &mut Vec<Cell>, event: &Event) -> Result<(), AllocError>
-    ensures { OnOk result (out.new.items ≡ with_new cell_eq (added_cell event.now) out.old.items) }
+    ensures { OnOk result (out.new.items ≡ with_new cell_eq (by_edit added_cell event.now) out.old.items) }
 {
     match added_cell(event) {
         Some(c) if !is_among(c, out.as_slice()) => {
@@ -28,7 +28,7 @@ fn put_new(out: &mut Vec<Cell>, event: &Event) -> Result<(), AllocError>
 /// Every cell that was ever registered, each once, the newest first.
 #[tactic(auto, using(crate::proofs::PastLemmas::past_more))]
 pub(crate) fn cells(alloc: Global, journal: &[Entry]) -> Result<Vec<Cell>, AllocError>
-    ensures { IfOk result (λ v. v.items ≡ cells (reverse journal.now)) }
+    ensures { IfOk result (λ v. v.items ≡ cells (past_of journal.now)) }
 {
     let mut found = Vec::new(alloc);
     for entry in journal {

@@ -1,18 +1,24 @@
 //! What the BSCs have reported.
 
-ghost use Rattle.std.specs.Prelude.{◌≡◌, reverse, unwrap_or};
-ghost use Rattle.std.specs.Option.{option_copied};
-ghost use Rattle.centre_core.specs.InFlight.{outcome};
-ghost use Rattle.centre_core.specs.Presence.{is_among, effect, flight_effect, new_effect, old_effect, key_effect, presence_mark, presence};
+ghost use Rattle.std.specs.Prelude.{◌≡◌, ℕ, List, unwrap_or};
+ghost use Rattle.std.specs.Option.{option_copied, option_map};
+ghost use Rattle.warning_book.specs.declared.warning.Warning.{Warning};
+ghost use Rattle.centre_core.specs.Effects.{is_among, new_effect, old_effect, write_refused, replace_refused, kill_refused, old_refused, key_effect, flight_effect, outcome_in, said_effect, reply_effect, presence_mark};
+ghost use Rattle.centre_core.specs.Past.{past_of};
+ghost use Rattle.centre_core.specs.Presence.{edit_effect, effect, presence};
+ghost use Rattle.centre_core.specs.declared.order_maker.in_flight.InFlight.TheVariants as flight;
 
+use crate::answer::Answer;
+use crate::coverage_plan::Edit;
 use crate::entry::Entry;
 use crate::event::Event;
 use crate::history::bsc_marks::up_after;
-use crate::history::flights::{flight_after, is_replied};
+use crate::history::flights::flight_after;
 use crate::mirror::Presence;
 use crate::order_maker::{Order, OrderKind};
 use crate::outcome::Outcome;
-use cbsp_messages::Message;
+use crate::reply::Reply;
+use cbsp_ie::Cause;
 use cell_register::BscId;
 use common::Cell;
 use serials::Serial;
@@ -24,31 +30,37 @@ pub(crate) fn is_among(c: Cell, cells: &[Cell]) -> bool
     cells.iter().any(|d| c == *d)
 }
 
-/// What a reply says of a cell of its order: a COMPLETE says that it was done.
-pub(crate) fn outcome(_message: &Message, _c: Cell) -> Outcome
-    ensures { result ≡ outcome _message.now _c }
+/// The presence at the key of its serial number after an order of the kind was refused with the cause.
+fn refused_presence(kind: OrderKind, cause: Cause) -> Option<Presence>
+    ensures { result ≡ presence_mark (new_effect kind (Outcome.Refused cause)) }
 {
-    Outcome::Done
+    match (kind, cause.0) {
+        (OrderKind::Write | OrderKind::Replace { old: _ }, 13) => Some(Presence::OnAir),
+        (OrderKind::Kill, 2 | 3) => Some(Presence::Absent),
+        _ => None,
+    }
 }
 
 /// The presence at the key of its serial number after an order of the kind with that outcome.
-fn new_presence(kind: OrderKind, outcome: Outcome) -> Presence
-    ensures { Some result ≡ presence_mark (new_effect kind outcome) }
+fn new_presence(kind: OrderKind, outcome: Outcome) -> Option<Presence>
+    ensures { result ≡ presence_mark (new_effect kind outcome) }
 {
     match (kind, outcome) {
-        (OrderKind::Write | OrderKind::Replace { old: _ }, Outcome::Done) => Presence::OnAir,
-        (OrderKind::Kill, Outcome::Done) => Presence::Absent,
-        (_, Outcome::Silent) => Presence::Unknown,
+        (OrderKind::Write | OrderKind::Replace { old: _ }, Outcome::Done) => Some(Presence::OnAir),
+        (OrderKind::Kill, Outcome::Done) => Some(Presence::Absent),
+        (_, Outcome::Silent) => Some(Presence::Unknown),
+        (_, Outcome::Refused(cause)) => refused_presence(kind, cause),
     }
 }
 
 /// The presence of what was to be replaced after a replace with that outcome.
-fn old_presence(outcome: Outcome) -> Presence
-    ensures { Some result ≡ presence_mark (old_effect outcome) }
+fn old_presence(outcome: Outcome) -> Option<Presence>
+    ensures { result ≡ presence_mark (old_effect outcome) }
 {
     match outcome {
-        Outcome::Done => Presence::Absent,
-        Outcome::Silent => Presence::Unknown,
+        Outcome::Done | Outcome::Refused(Cause(2)) => Some(Presence::Absent),
+        Outcome::Silent | Outcome::Refused(Cause(13)) => Some(Presence::Unknown),
+        Outcome::Refused(_) => None,
     }
 }
 
@@ -57,10 +69,10 @@ fn key_presence(order: &Order, outcome: Outcome, serial: Serial) -> Option<Prese
     ensures { result ≡ presence_mark (key_effect order.now outcome serial) }
 {
     if order.serial == serial {
-        return Some(new_presence(order.kind, outcome));
+        return new_presence(order.kind, outcome);
     }
     match order.kind {
-        OrderKind::Replace { old } if old == serial => Some(old_presence(outcome)),
+        OrderKind::Replace { old } if old == serial => old_presence(outcome),
         _ => None,
     }
 }
@@ -73,12 +85,52 @@ fn flight_presence(
     message_id: u16,
     serial: Serial,
 ) -> Option<Presence>
-    ensures { result ≡ presence_mark (flight_effect (option_copied flight.entry) outcome c message_id serial) }
+    ensures { result ≡ presence_mark (flight_effect (option_map flight.Order (option_copied flight.entry)) outcome c message_id serial) }
 {
     match flight {
         Some(order) if order.message_id == message_id && is_among(c, order.cells.as_slice()) => {
             key_presence(order, outcome, serial)
         }
+        _ => None,
+    }
+}
+
+/// What the replies say of the cell.
+fn outcome_in(c: Cell, replies: &[Reply]) -> Option<Outcome>
+    ensures { result ≡ outcome_in c replies.now }
+{
+    replies
+        .iter()
+        .find(|reply| c == reply.cell)
+        .map(|reply| reply.outcome)
+}
+
+/// The presence that a report leaves at the key, by its answer.
+fn reply_presence(
+    answer: &Answer,
+    flight: Option<&Order>,
+    c: Cell,
+    message_id: u16,
+    serial: Serial,
+) -> Option<Presence>
+    ensures { result ≡ presence_mark (reply_effect answer.now (option_map flight.Order (option_copied flight.entry)) c message_id serial) }
+{
+    let Answer::Replied(replies) = answer else {
+        return None;
+    };
+    match outcome_in(c, replies.as_slice()) {
+        Some(outcome) => flight_presence(flight, outcome, c, message_id, serial),
+        None => None,
+    }
+}
+
+/// The presence that an edit leaves at a key of the BSC.
+#[tactic(auto, using(crate::proofs::PastLemmas::freed))]
+fn edit_presence(b: BscId, edit: &Edit) -> Option<Presence>
+    ensures { (m s : ℕ) (warnings : List Warning) → result ≡ presence_mark (edit_effect b m s edit.now warnings) }
+{
+    match edit {
+        Edit::RemoveBsc(other) if *other == b => Some(Presence::Absent),
         _ => None,
     }
 }
@@ -93,11 +145,11 @@ fn presence_mark(
     up: bool,
     flight: Option<&Order>,
 ) -> Option<Presence>
-    ensures { result ≡ presence_mark (effect b c message_id serial entry.now.event entry.now.answer up (option_copied flight.entry)) }
+    ensures { (warnings : List Warning) → result ≡ presence_mark (effect b c message_id serial entry.now.event entry.now.answer up (option_map flight.Order (option_copied flight.entry)) warnings) }
 {
     match &entry.event {
-        Event::Report(other, _, message) if *other == b && is_replied(&entry.answer) => {
-            flight_presence(flight, outcome(message, c), c, message_id, serial)
+        Event::Report(other, _, _) if *other == b => {
+            reply_presence(&entry.answer, flight, c, message_id, serial)
         }
         Event::LinkUp(other) if *other == b && up => {
             flight_presence(flight, Outcome::Silent, c, message_id, serial)
@@ -105,7 +157,7 @@ fn presence_mark(
         Event::LinkDown(other, _) if *other == b => {
             flight_presence(flight, Outcome::Silent, c, message_id, serial)
         }
-        Event::RemoveBsc(other) if *other == b => Some(Presence::Absent),
+        Event::Edit(edit) => edit_presence(b, edit),
         _ => None,
     }
 }
@@ -119,7 +171,7 @@ pub(crate) fn presence(
     message_id: u16,
     serial: Serial,
 ) -> Presence
-    ensures { result ≡ presence (reverse journal.now) b c message_id serial }
+    ensures { result ≡ presence (past_of journal.now) b c message_id serial }
 {
     let mut up = false;
     let mut flight = None;

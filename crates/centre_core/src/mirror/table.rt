@@ -1,9 +1,10 @@
 //! What a BSC has reported.
 
-ghost use Rattle.std.specs.Prelude.{◌≡◌, ◌++◌, reverse, IfOk, OnOk};
+ghost use Rattle.std.specs.Prelude.{◌≡◌, ◌++◌, IfOk, OnOk};
 ghost use Rattle.std.specs.List.{flat_map};
+ghost use Rattle.centre_core.specs.Past.{past_of};
 ghost use Rattle.centre_core.specs.Presence.{presence};
-ghost use Rattle.centre_core.specs.Table.{key_if, key_of, keys_in, keys_of, table};
+ghost use Rattle.centre_core.specs.Table.{key_if, key_of, keys_in, keys_of, keys_over, table};
 ghost use Rattle.centre_core.specs.Warnings.{warnings_of};
 
 use crate::entry::Entry;
@@ -36,7 +37,7 @@ fn add_key(
     c: Cell,
     serial: Serial,
 ) -> Result<(), AllocError>
-    ensures { OnOk result (out.new.items ≡ out.old.items ++ key_of (reverse journal.now) b w.now c serial) }
+    ensures { OnOk result (out.new.items ≡ out.old.items ++ key_of (past_of journal.now) b w.now c serial) }
 {
     let message_id = w.message_id();
     let presence = presence(journal, b, c, message_id, serial);
@@ -51,8 +52,8 @@ fn add_key(
     )
 }
 
-/// Adds what is reported in the cell of the versions.
-fn add_keys(
+/// Adds what is reported of the warning in the cell, of each of its versions.
+fn add_keys_in(
     out: &mut Vec<ReportedKey>,
     journal: &[Entry],
     b: BscId,
@@ -60,26 +61,12 @@ fn add_keys(
     c: Cell,
     versions: &[Version],
 ) -> Result<(), AllocError>
-    ensures { OnOk result (out.new.items ≡ out.old.items ++ flat_map (λ v. key_of (reverse journal.now) b w.now c v.serial) versions.now) }
+    ensures { OnOk result (out.new.items ≡ out.old.items ++ flat_map (λ v. key_of (past_of journal.now) b w.now c v.serial) versions.now) }
 {
     for version in versions {
         add_key(out, journal, b, w, c, version.serial)?;
     }
     Ok(())
-}
-
-/// Adds what is reported of the warning in the cell.
-fn add_keys_in(
-    out: &mut Vec<ReportedKey>,
-    journal: &[Entry],
-    b: BscId,
-    w: &Warning,
-    c: Cell,
-) -> Result<(), AllocError>
-    ensures { OnOk result (out.new.items ≡ out.old.items ++ keys_in (reverse journal.now) b w.now c) }
-{
-    add_key(out, journal, b, w, c, w.serial())?;
-    add_keys(out, journal, b, w, c, w.outdated())
 }
 
 /// Adds what is reported of the warning in the cells.
@@ -90,10 +77,10 @@ fn add_keys_of(
     w: &Warning,
     cells: &[Cell],
 ) -> Result<(), AllocError>
-    ensures { OnOk result (out.new.items ≡ out.old.items ++ flat_map (keys_in (reverse journal.now) b w.now) cells.now) }
+    ensures { OnOk result (out.new.items ≡ out.old.items ++ keys_of (past_of journal.now) b cells.now w.now) }
 {
     for cell in cells {
-        add_keys_in(out, journal, b, w, *cell)?;
+        add_keys_in(out, journal, b, w, *cell, w.versions())?;
     }
     Ok(())
 }
@@ -106,7 +93,7 @@ fn keys_among(
     cells: &[Cell],
     warnings: &[Warning],
 ) -> Result<Vec<ReportedKey>, AllocError>
-    ensures { IfOk result (λ v. v.items ≡ flat_map (λ w. flat_map (keys_in (reverse journal.now) b w) cells.now) warnings.now) }
+    ensures { IfOk result (λ v. v.items ≡ flat_map (keys_of (past_of journal.now) b cells.now) warnings.now) }
 {
     let mut out = Vec::new(alloc);
     for warning in warnings {
@@ -122,8 +109,8 @@ pub(crate) fn table(
     warnings: &[Warning],
     b: BscId,
 ) -> Result<ReportedKeys, AllocError>
-    requires { warnings.now ≡ warnings_of (reverse journal.now) }
-    ensures { IfOk result (λ keys. keys ≡ table (reverse journal.now) b) }
+    requires { warnings.now ≡ warnings_of (past_of journal.now) }
+    ensures { IfOk result (λ keys. keys ≡ table (past_of journal.now) b) }
 {
     let cells = cells(alloc, journal)?;
     let keys = keys_among(alloc, journal, b, cells.as_slice(), warnings)?;

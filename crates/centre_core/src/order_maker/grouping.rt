@@ -1,7 +1,7 @@
 //! Actions that agree in all but the cell, joined to one order.
 
 ghost use Rattle.std.specs.Prelude.{◌≡◌, ◌∷◌, IfOk, OnOk};
-ghost use Rattle.centre_core.specs.Pending.{alone, fits, joined, grouped};
+ghost use Rattle.centre_core.specs.Grouping.{alone, fits, joined, grouped};
 
 use crate::order_maker::action::Action;
 use crate::order_maker::order::Order;

@@ -1,9 +1,9 @@
 //! The message that carries an order.
 
-ghost use Rattle.std.specs.Prelude.{◌≡◌, ◌≤◌, length, map, IfOk, IfSome, All};
+ghost use Rattle.std.specs.Prelude.{◌≡◌, map, IfOk};
 ghost use Rattle.std.specs.Option.{option_copied};
 ghost use Rattle.cbsp_messages.specs.PageText.{page_with};
-ghost use Rattle.centre_core.specs.OrderMessage.{order_message, write_message, kill_message};
+ghost use Rattle.centre_core.specs.OrderMessage.{IsCarriable, order_message, write_message, kill_message};
 
 use crate::order_maker::order::Order;
 use crate::order_maker::order_kind::OrderKind;
@@ -15,7 +15,6 @@ use warning_book::Content;
 
 /// The pages as they are sent, each with zeros up to 82 octets.
 fn pages_of(alloc: Global, contents: &[Octets]) -> Result<Pages, AllocError>
-    requires { All (λ p. length p ≤ 82) contents.now }
     ensures { IfOk result (λ pages. pages ≡ map page_with contents.now) }
 {
     let mut pages = Pages::new(alloc);
@@ -31,7 +30,6 @@ fn write_message(
     old: Option<u16>,
     content: &Content,
 ) -> Result<Message, AllocError>
-    requires { All (λ p. length p ≤ 82) content.now.pages }
     ensures { IfOk result (λ m. m ≡ write_message order.now old content.now) }
 {
     Ok(Message::WriteReplace {
@@ -40,7 +38,7 @@ fn write_message(
         old,
         cells: CellIds::of_cells(alloc, order.cells.as_slice())?,
         channel: Some(0),
-        category: content.category,
+        category: content.category.to_u8(),
         period: content.period,
         requested: 0,
         pages: pages_of(alloc, content.pages.as_slice())?,
@@ -61,21 +59,21 @@ fn kill_message(alloc: Global, order: &Order) -> Result<Message, AllocError>
 
 /// The message that carries the order (TS 48.049, 8.1.3.1 and 8.1.3.4): a WRITE-REPLACE on the basic channel that is
 /// broadcast until it is killed, with the Old Serial Number where it replaces a message, or a KILL. A write or a replace
-/// has its content.
+/// needs its content.
 pub fn message_of(
     alloc: Global,
     order: &Order,
     content: Option<&Content>,
 ) -> Result<Message, AllocError>
-    requires { IfSome content (λ c. All (λ p. length p ≤ 82) c.now.pages) }
+    requires { IsCarriable order.now.kind (option_copied content.entry) }
     ensures { IfOk result (λ m. m ≡ order_message order.now (option_copied content.entry)) }
 {
-    let Some(content) = content else {
-        return kill_message(alloc, order);
-    };
-    match order.kind {
-        OrderKind::Write => write_message(alloc, order, None, content),
-        OrderKind::Replace { old } => { write_message(alloc, order, Some(old.to_u16()), content) }
-        OrderKind::Kill => kill_message(alloc, order),
+    match (order.kind, content) {
+        (OrderKind::Kill, _) => kill_message(alloc, order),
+        (OrderKind::Write, Some(content)) => write_message(alloc, order, None, content),
+        (OrderKind::Replace { old }, Some(content)) => {
+            write_message(alloc, order, Some(old.to_u16()), content)
+        }
+        (OrderKind::Write | OrderKind::Replace { old: _ }, None) => unreachable!(),
     }
 }

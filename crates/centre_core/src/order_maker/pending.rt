@@ -1,7 +1,9 @@
 //! The pending orders of a BSC.
 
-ghost use Rattle.std.specs.Prelude.{◌≡◌, take, reverse, IfOk};
-ghost use Rattle.centre_core.specs.Pending.{pending, shortened, most_cells, first};
+ghost use Rattle.std.specs.Prelude.{◌≡◌, take, IfOk};
+ghost use Rattle.centre_core.specs.Grouping.{shortened, most_cells, first};
+ghost use Rattle.centre_core.specs.Past.{past_of};
+ghost use Rattle.centre_core.specs.Pending.{pending};
 ghost use Rattle.centre_core.specs.Warnings.{warnings_of};
 
 use crate::entry::Entry;
@@ -21,8 +23,8 @@ pub(crate) fn pending(
     warnings: &[Warning],
     b: BscId,
 ) -> Result<Orders, AllocError>
-    requires { warnings.now ≡ warnings_of (reverse journal.now) }
-    ensures { IfOk result (λ orders. orders ≡ pending (reverse journal.now) b) }
+    requires { warnings.now ≡ warnings_of (past_of journal.now) }
+    ensures { IfOk result (λ orders. orders ≡ pending (past_of journal.now) b) }
 {
     let actions = all_actions(alloc, journal, warnings, b)?;
     let ordered = in_order(alloc, actions)?;

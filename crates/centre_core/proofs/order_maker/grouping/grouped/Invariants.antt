@@ -1,6 +1,6 @@
 use Rattle.std.proofs.Common.{◌≡◌, vec_len}
 use Rattle.centre_core.proofs.OrderLemmas.{joined_onto}
-use Rattle.centre_core.specs.Pending.{grouped}
+use Rattle.centre_core.specs.Grouping.{grouped}
 use Rattle.centre_core.proofs.order_maker.grouping.grouped.Given as goal
 
 -- the actions left, onto what is made

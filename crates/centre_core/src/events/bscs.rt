@@ -1,0 +1,76 @@
+//! Edits of BSCs.
+
+ghost use Rattle.std.specs.Prelude.{◌≡◌, OnOk, OnErr};
+ghost use Rattle.cell_register.specs.Register.{with_bsc, without_bsc};
+ghost use Rattle.centre_core.specs.Kept.{IsRegisterOf, Gives, IsChecked};
+ghost use Rattle.centre_core.specs.Past.{Past, past_of};
+ghost use Rattle.centre_core.specs.Verdict.{add_bsc, remove_bsc};
+
+use crate::answer::Answer;
+use crate::entry::Entry;
+use crate::history::is_up;
+use crate::refusal::Refusal;
+use cell_register::{BscId, Register};
+
+/// Whether an AddBsc is accepted: the BSC is not there.
+#[tactic(auto, using(crate::proofs::RegisterLemmas::add_bsc_free, crate::proofs::RegisterLemmas::add_bsc_first))]
+pub(crate) fn check_add_bsc(register: &Register, b: BscId) -> Result<(), Refusal>
+    ensures { (past : Past) → IsRegisterOf past register.now → IsChecked (add_bsc past b) result }
+{
+    register.tell_soundness();
+    register.check_add_bsc(b)?;
+    Ok(())
+}
+
+/// AddBsc: registers a BSC that is not there.
+#[tactic(auto, using(crate::proofs::RegisterLemmas::add_bsc_taken, crate::proofs::RegisterLemmas::add_bsc_refused))]
+pub(crate) fn add_bsc(register: &mut Register, b: BscId) -> Result<Answer, Refusal>
+    ensures verdict { (past : Past) → IsRegisterOf past register.old → Gives (add_bsc past b) result }
+    ensures changed { OnOk result (register.new ≡ with_bsc b register.old) }
+    ensures unchanged { OnErr result (register.new ≡ register.old) }
+{
+    register.tell_soundness();
+    register.add_bsc(b)?;
+    Ok(Answer::Done)
+}
+
+/// Whether a RemoveBsc is accepted: the BSC has no cells and no link.
+#[tactic(auto, using(crate::proofs::RegisterLemmas::cells_there))]
+pub(crate) fn check_remove_bsc(
+    journal: &[Entry],
+    register: &Register,
+    b: BscId,
+) -> Result<(), Refusal>
+    requires { IsRegisterOf (past_of journal.now) register.now }
+    ensures { IsChecked (remove_bsc (past_of journal.now) b) result }
+{
+    register.tell_soundness();
+    if !register.has_bsc(b) {
+        return Err(Refusal::NoSuchBsc);
+    }
+    if register.has_cells(b) {
+        return Err(Refusal::BscHasCells);
+    }
+    if is_up(journal, b) {
+        return Err(Refusal::LinkIsUp);
+    }
+    Ok(())
+}
+
+/// RemoveBsc: takes a BSC out that has no cells and no link.
+#[tactic(auto, using(crate::proofs::RegisterLemmas::remove_bsc_taken, crate::proofs::RegisterLemmas::remove_bsc_refused))]
+pub(crate) fn remove_bsc(
+    journal: &[Entry],
+    register: &mut Register,
+    b: BscId,
+) -> Result<Answer, Refusal>
+    requires registered { IsRegisterOf (past_of journal.now) register.old }
+    requires free { remove_bsc (past_of journal.now) b ≡ Ok Answer.Done }
+    ensures verdict { Gives (remove_bsc (past_of journal.now) b) result }
+    ensures changed { OnOk result (register.new ≡ without_bsc b register.old) }
+    ensures unchanged { OnErr result (register.new ≡ register.old) }
+{
+    register.tell_soundness();
+    register.remove_bsc(b)?;
+    Ok(Answer::Done)
+}

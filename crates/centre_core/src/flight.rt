@@ -1,0 +1,11 @@
+//! What is in flight to one BSC.
+
+use crate::order_maker::InFlight;
+use cell_register::BscId;
+
+/// What is in flight to the BSC.
+#[derive(Drop)]
+pub(crate) struct Flight {
+    pub(crate) bsc: BscId,
+    pub(crate) in_flight: InFlight,
+}

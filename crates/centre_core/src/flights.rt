@@ -1,0 +1,90 @@
+//! What is in flight to each BSC, kept beside the journal.
+
+ghost use Rattle.std.specs.Prelude.{◌≡◌, ◌∷◌, ◌++◌, [], true, find, OnOk, OnErr, IsOk};
+ghost use Rattle.std.specs.Option.{option_copied, option_map};
+ghost use Rattle.centre_core.specs.Flights.{with_flight, flights_after};
+ghost use Rattle.centre_core.specs.InFlight.{sent_flight, is_replied};
+ghost use Rattle.centre_core.specs.Kept.{is_of, is_edit, flight_in, without_flight};
+
+use crate::answer::Answer;
+use crate::event::Event;
+use crate::flight::Flight;
+use crate::order_maker::InFlight;
+use cell_register::BscId;
+use std::alloc::{AllocError, Global};
+
+/// What is in flight to the BSC.
+pub(crate) fn flight_in(flights: &[Flight], b: BscId) -> Option<&InFlight>
+    ensures { option_copied result ≡ flight_in flights.now b }
+{
+    flights
+        .iter()
+        .find(|flight| flight.bsc == b)
+        .map(|flight| &flight.in_flight)
+}
+
+/// Takes out what is in flight to the BSC.
+fn take_out(flights: &mut Vec<Flight>, b: BscId)
+    ensures { flights.new.items ≡ without_flight b flights.old.items }
+{
+    flights.retain(|flight| flight.bsc != b);
+}
+
+/// Whether the answer is a reply's.
+fn is_replied(answer: &Answer) -> bool
+    ensures { result ≡ is_replied answer.now }
+{
+    matches!(answer, Answer::Replied(_))
+}
+
+/// Puts what a Send was answered in flight to the BSC, in the place of what was.
+fn begin(
+    alloc: Global,
+    flights: &mut Vec<Flight>,
+    b: BscId,
+    answer: &Answer,
+) -> Result<(), AllocError>
+    ensures begun { OnOk result (flights.new.items ≡ with_flight b (sent_flight answer.now) flights.old.items) }
+    ensures unchanged { OnErr result (flights.new.items ≡ flights.old.items) }
+{
+    let Answer::Sent { order, message: _ } = answer else {
+        take_out(flights, b);
+        return Ok(());
+    };
+    let in_flight = InFlight::Order(order.copied(alloc)?);
+    flights.try_reserve(1)?;
+    take_out(flights, b);
+    flights.push(Flight { bsc: b, in_flight })?;
+    Ok(())
+}
+
+/// The flights after the event with that answer, where the link of its BSC was up or not. An edit changes none and takes
+/// no memory.
+pub(crate) fn follow(
+    alloc: Global,
+    flights: &mut Vec<Flight>,
+    event: &Event,
+    answer: &Answer,
+    up: bool,
+) -> Result<(), AllocError>
+    ensures followed { OnOk result (flights.new.items ≡ flights_after event.now answer.now up flights.old.items) }
+    ensures unchanged { OnErr result (flights.new.items ≡ flights.old.items) }
+    ensures edits { is_edit event.now ≡ true → IsOk result }
+{
+    match event {
+        Event::Send(b, _) => begin(alloc, flights, *b, answer),
+        Event::Report(b, _, _) if is_replied(answer) => {
+            take_out(flights, *b);
+            Ok(())
+        }
+        Event::LinkUp(b) if up => {
+            take_out(flights, *b);
+            Ok(())
+        }
+        Event::LinkDown(b, _) => {
+            take_out(flights, *b);
+            Ok(())
+        }
+        _ => Ok(()),
+    }
+}
