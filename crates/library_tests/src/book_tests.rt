@@ -5,7 +5,7 @@ use serials::{Scope, Serial};
 use std::alloc::{AllocError, Global};
 use std::process::Abort;
 use std::test::Fail;
-use warning_book::{Book, Content, ContentPages, Limit, Notice, Refusal, Version, WarningId};
+use warning_book::{Book, Category, Content, ContentPages, Limit, Notice, Refusal, Version, WarningId};
 
 /// The number of the first warning that a book issues.
 fn first_id() -> WarningId {
@@ -26,7 +26,7 @@ fn content(alloc: Global, octet: u8, length: usize) -> Result<Content, AllocErro
     pages.push(Octets::from_vec(octets))?;
     Ok(Content {
         dcs: 0x0f,
-        category: 0,
+        category: Category::HighPriority,
         period: 10,
         pages: ContentPages::from_vec(pages),
     })
@@ -156,32 +156,60 @@ fn fifteen_updates_count_in_the_serial_number(rt: HostRuntime) -> Result<(), Fai
 }
 
 #[test]
-fn versions_are_lent_newest_first(rt: HostRuntime) -> Result<(), Fail> {
+fn versions_stand_in_the_order_of_issue(rt: HostRuntime) -> Result<(), Fail> {
     let alloc = rt.alloc();
     let mut book = Book::new(alloc);
     issued(alloc, &mut book, 4370, Scope::Plmn)?;
     book.update(first_id(), &content(alloc, 0x42, 1)?)?;
     book.update(first_id(), &content(alloc, 0x43, 1)?)?;
-    let current = content(alloc, 0x43, 1)?;
-    let outdated = [
+    let versions = [
+        Version {
+            serial: Serial::from_u16(0x4000),
+            content: content(alloc, 0x41, 1)?,
+        },
         Version {
             serial: Serial::from_u16(0x4001),
             content: content(alloc, 0x42, 1)?,
         },
         Version {
-            serial: Serial::from_u16(0x4000),
-            content: content(alloc, 0x41, 1)?,
+            serial: Serial::from_u16(0x4002),
+            content: content(alloc, 0x43, 1)?,
         },
     ];
-    match book.versions(first_id()) {
-        Some(versions) => {
-            assert_eq!(rt; versions.serial.to_u16(), 0x4002);
-            assert!(rt; versions.content.same(&current));
-            assert!(rt; versions.outdated == outdated.as_slice());
-        }
-        None => assert!(rt; false),
+    assert!(rt; book.versions(first_id()) == versions.as_slice());
+    assert!(rt; book.versions(WarningId::new(2)).is_empty());
+    Ok(())
+}
+
+#[test]
+fn categories_have_numbers(rt: HostRuntime) -> Result<(), Fail> {
+    for (number, want) in [
+        (0, Category::HighPriority),
+        (1, Category::Background),
+        (2, Category::Normal),
+    ] {
+        assert!(rt; Category::of_number(number) == Some(want), "{number}");
+        assert_eq!(rt; want.to_u8(), number);
     }
-    assert!(rt; book.versions(WarningId::new(2)).is_none());
+    assert!(rt; Category::of_number(3).is_none());
+    Ok(())
+}
+
+#[test]
+fn checks_leave_the_book_to_the_edits(rt: HostRuntime) -> Result<(), Fail> {
+    let alloc = rt.alloc();
+    let mut book = issued_for(alloc, &[b"coast"])?;
+    let hills = name(alloc, b"hills")?;
+    assert!(rt; book.check_widen(first_id(), &hills) == Ok(()));
+    assert!(rt; book.check_narrow(first_id(), &hills) == Err(Refusal::AreaNotThere));
+    assert!(rt; book.check_update(first_id(), &content(alloc, 0x42, 83)?) == Err(Refusal::BadPages));
+    assert!(rt; book.check_forget(first_id()) == Err(Refusal::StillActive));
+    assert!(rt; book.check_stop(first_id()) == Ok(()));
+    book.stop(first_id())?;
+    assert!(rt; book.check_stop(first_id()) == Err(Refusal::NotActive));
+    assert!(rt; book.check_forget(first_id()) == Ok(()));
+    let notice = notice(alloc, 4370, Scope::Cell)?;
+    assert!(rt; book.check_issue(&notice, &[]) == Err(Refusal::NoAreas));
     Ok(())
 }
 

@@ -1,5 +1,5 @@
 -- Serial numbers and message codes (TS 23.041, 9.4.1.2.1).
-use Rattle.std.specs.Prelude.{ℕ, ◌+◌, ◌*◌, ◌/◌, ◌%◌, not, nat_eq, List, Option, find}
+use Rattle.std.specs.Prelude.{ℕ, Bool, ◌+◌, ◌*◌, ◌/◌, ◌%◌, not, nat_eq, List, Option, find}
 use Rattle.std.specs.List.{range_with_len}
 use Rattle.std.specs.List.{list_any}
 use Rattle.serials.specs.declared.scope.Scope.{Scope}
@@ -16,15 +16,25 @@ scope_number Cell = 3
 abbrev pub serial_of : ℕ → ℕ → ℕ → ℕ
 serial_of scope code update = scope * 16384 + code * 16 + update
 
--- its three parts
+-- the geographical scope of a serial number, its two highest bits
 abbrev pub scope_part : ℕ → ℕ
 scope_part serial = serial / 16384
 
+-- the message code of a serial number, 0 to 1,023
 abbrev pub code_of : ℕ → ℕ
 code_of serial = serial / 16 % 1024
 
+-- the update number of a serial number, 0 to 15
 abbrev pub update_of : ℕ → ℕ
 update_of serial = serial % 16
+
+-- the serial number of the version that follows one with this serial number
+abbrev pub next_of : ℕ → ℕ
+next_of serial = serial + 1
+
+-- no update number is left for a version that would follow one with this serial number
+abbrev pub is_last : ℕ → Bool
+is_last serial = nat_eq (update_of serial) 15
 
 -- the codes there are, in order
 unfoldable pub every_code : List ℕ

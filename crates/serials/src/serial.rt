@@ -1,7 +1,7 @@
 //! A serial number: scope, message code and update number in 16 bits.
 
 ghost use Rattle.std.specs.Prelude.{◌≡◌, ◌+◌, ℕ, ◌<◌, ◌↔◌, IsSome, IfSome};
-ghost use Rattle.serials.specs.Serials.{scope_number, serial_of, scope_part, code_of, update_of};
+ghost use Rattle.serials.specs.Serials.{scope_number, serial_of, scope_part, code_of, update_of, next_of};
 
 use crate::scope::Scope;
 use std::marker::Model;
@@ -80,7 +80,7 @@ impl Serial {
     /// The serial number of the next update; `None` where the update number is 15.
     pub fn next(self) -> Option<Serial>
         ensures last { IsSome result ↔ (update_of self < 15) }
-        ensures value { IfSome result (λ s. s ≡ self + 1) }
+        ensures value { IfSome result (λ s. s ≡ next_of self) }
         ensures scope { IfSome result (λ s. scope_part s ≡ scope_part self) }
         ensures code { IfSome result (λ s. code_of s ≡ code_of self) }
         ensures update { IfSome result (λ s. update_of s ≡ update_of self + 1) }

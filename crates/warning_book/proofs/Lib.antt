@@ -1,3 +1,5 @@
 pub mod QuestionLemmas
+pub mod VersionLemmas
 pub mod AreaLemmas
 pub mod PlaceLemmas
+pub mod CheckLemmas

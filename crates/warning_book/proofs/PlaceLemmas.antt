@@ -1,16 +1,12 @@
 -- A change at the place of a number is the change of the warning of that number.
-use Rattle.std.proofs.Common.{◌≡◌, ℕ, suc, ◌+◌, ◌<◌, ◌≤◌, Bool, true, false, ◌&&◌, ◌||◌, cond, List, [], ◌∷◌, Option, Some, None, nat_eq, length, get_or, set, refl, sym, ap, ◌∙◌, arith}
-use Rattle.std.specs.Prelude.{find, IsSome, IfSome, IfNone}
+use Rattle.std.proofs.Common.{◌≡◌, ℕ, suc, ◌+◌, ◌<◌, ◌≤◌, Bool, true, false, ◌&&◌, ◌||◌, cond, List, [], ◌∷◌, Some, length, get_or, set, refl, sym, ap, ◌∙◌, arith}
+use Rattle.std.specs.Prelude.{find}
 use Rattle.std.specs.List.{position_or_len, list_any, list_all}
-use Rattle.std.specs.Option.{option_map}
 use Rattle.std.proofs.lemmas.Bool.{and_parts, or_parts}
-use Rattle.std.proofs.lemmas.Bool.Decides.{nat_tests}
-use Rattle.std.proofs.lemmas.Grind.{common_steps}
 use Rattle.std.proofs.lemmas.List.Recursion.{is_position_or_len}
 use Rattle.common.specs.Order.{is_ascending}
-use Rattle.serials.specs.Serials.{update_of}
-use Rattle.warning_book.specs.Book.{has_number, number_lt, is_exhausted, is_so, edited}
-use Rattle.warning_book.specs.Laws.{none_after, or_alone, absent_so}
+use Rattle.warning_book.specs.Book.{has_number, number_lt, is_so, edited}
+use Rattle.warning_book.specs.Laws.{none_after}
 use Rattle.warning_book.specs.declared.warning.Warning.{Warning}
 
 -- where there is no such warning none is changed
@@ -96,41 +92,9 @@ not_so_at_place n f l p w e h g so =
         step rest true h so = (or_parts (f v) (is_so n f m) so).0
         step rest false h so = rest (omega arith) so
 
--- the last update of a warning is told by the serial number of its current version
-pub exhausted_current : (n : ℕ) (l : List Warning) (s : ℕ) → is_ascending number_lt l ≡ true → option_map (λ w. w.serial) (find (has_number n) l) ≡ Some s → is_so n is_exhausted l ≡ nat_eq (update_of s) 15
-exhausted_current n [] s o h = cc
-exhausted_current n (w ∷ l) s o h = step (exhausted_current n l s) (has_number n w) refl (and_parts (list_all (number_lt w) l) (is_ascending number_lt l) o) h
-  where
-    step : (is_ascending number_lt l ≡ true → option_map (λ v. v.serial) (find (has_number n) l) ≡ Some s → is_so n is_exhausted l ≡ nat_eq (update_of s) 15) → (t : Bool) → has_number n w ≡ t → (list_all (number_lt w) l ≡ true) × (is_ascending number_lt l ≡ true) → option_map (λ v. v.serial) (cond t (Some w) (find (has_number n) l)) ≡ Some s → ((t && is_exhausted w) || is_so n is_exhausted l) ≡ nat_eq (update_of s) 15
-    step rest true e o h =
-        let same : w.serial ≡ s = cc in
-        or_alone (is_exhausted w) (is_so n is_exhausted l) (absent_so n is_exhausted l (none_after n w l e o.0)) ∙ ap (λ k. nat_eq (update_of k) 15) same
-    step rest false e o h = rest o.1 h
-
--- a warning without a current version is not there
-pub absent_current : (n : ℕ) (l : List Warning) → option_map (λ w. w.serial) (find (has_number n) l) ≡ None → list_any (has_number n) l ≡ false
-absent_current n [] h = refl
-absent_current n (w ∷ l) h = step (absent_current n l) (has_number n w) h
-  where
-    step : (option_map (λ v. v.serial) (find (has_number n) l) ≡ None → list_any (has_number n) l ≡ false) → (t : Bool) → option_map (λ v. v.serial) (cond t (Some w) (find (has_number n) l)) ≡ None → (t || list_any (has_number n) l) ≡ false
-    step rest true e = cc
-    step rest false e = rest e
-
--- a next serial number is there just where the last update was not made
-pub next_left : (o : Option ℕ) (u : ℕ) (b : Bool) → b ≡ nat_eq u 15 → (IsSome o → u < 15) → IfSome o (λ s. b ≡ false)
-next_left None u b e f = tt
-next_left (Some s) u b e f = e ∙ below u (f refl)
-  where
-    below : (k : ℕ) → k < 15 → nat_eq k 15 ≡ false
-    below k h = grind (arith, nat_tests, common_steps)
-
-pub next_none : (o : Option ℕ) (u : ℕ) (b : Bool) → b ≡ nat_eq u 15 → u < 16 → (u < 15 → IsSome o) → IfNone o (b ≡ true)
-next_none (Some s) u b e h f = tt
-next_none None u b e h f = e ∙ last (nat_eq u 15) refl
-  where
-    below : (k : ℕ) → k < 16 → nat_eq k 15 ≡ false → k < 15
-    below k h g = grind (arith, nat_tests, common_steps)
-
-    last : (t : Bool) → nat_eq u 15 ≡ t → t ≡ true
-    last true g = refl
-    last false g = absurd (let no : false ≡ true = f (below u h g) in cc)
+-- where a warning of that number is, the place is one of the list
+pub has_place : {P : Type 0} (n : ℕ) (l : List Warning) (p : ℕ) → p ≡ position_or_len (has_number n) l → length l ≤ p → list_any (has_number n) l ≡ true → P
+has_place n l p e h there =
+    let place : p ≡ place_in n l = e ∙ sym (place_in-position n l) in
+    let none : list_any (has_number n) l ≡ false = no_place n l (omega arith) in
+    absurd (let no : true ≡ false = sym there ∙ none in cc)

@@ -4,9 +4,8 @@ use Rattle.std.specs.Prelude.{nat_eq, find}
 use Rattle.std.specs.Option.{option_map, option_or}
 use Rattle.std.proofs.lemmas.List.Folds.{find-append}
 use Rattle.std.specs.List.{filter}
-use Rattle.std.proofs.lemmas.List.{take_more, drop_more}
-use Rattle.serials.specs.Serials.{code_of}
-use Rattle.warning_book.specs.Book.{names, numbers, naming, versions_if, versions_with, content_of, codes_of}
+use Rattle.std.proofs.lemmas.List.{append_assoc, append-nil, take_more, drop_more}
+use Rattle.warning_book.specs.Book.{names, numbers, naming, versions_if, versions_with, content_of, codes_if, codes_of}
 use Rattle.warning_book.specs.declared.content.Content.{Content}
 use Rattle.warning_book.specs.declared.version.Version.{Version}
 use Rattle.warning_book.specs.declared.warning.Warning.{Warning}
@@ -32,14 +31,14 @@ naming_more a ws i d h =
 
 codes-append : (m : ℕ) (xs ys : List Warning) → codes_of m (xs ++ ys) ≡ codes_of m xs ++ codes_of m ys
 codes-append m [] ys = refl
-codes-append m (x ∷ xs) ys = step (codes-append m xs ys) (nat_eq x.message_id m)
-  where
-    step : codes_of m (xs ++ ys) ≡ codes_of m xs ++ codes_of m ys → (t : Bool) → cond t (code_of x.serial ∷ codes_of m (xs ++ ys)) (codes_of m (xs ++ ys)) ≡ cond t (code_of x.serial ∷ codes_of m xs) (codes_of m xs) ++ codes_of m ys
-    step rest true = ap (λ ns. code_of x.serial ∷ ns) rest
-    step rest false = rest
+codes-append m (x ∷ xs) ys = ap (λ ns. codes_if m x ++ ns) (codes-append m xs ys) ∙ sym (append_assoc (codes_if m x) (codes_of m xs) (codes_of m ys))
 
-pub codes_more : (m : ℕ) (ws : List Warning) (i : ℕ) (d : Warning) → i < length ws → codes_of m (take (i + 1) ws) ≡ codes_of m (take i ws) ++ cond (nat_eq (get_or ws i d).message_id m) (code_of (get_or ws i d).serial ∷ []) []
-codes_more m ws i d h = ap (codes_of m) (take_more ws i d h) ∙ codes-append m (take i ws) (get_or ws i d ∷ [])
+codes-alone : (m : ℕ) (w : Warning) → codes_of m (w ∷ []) ≡ codes_if m w
+codes-alone m w = append-nil (codes_if m w)
+
+pub codes_more : (m : ℕ) (ws : List Warning) (i : ℕ) (d : Warning) → i < length ws → codes_of m (take (i + 1) ws) ≡ codes_of m (take i ws) ++ codes_if m (get_or ws i d)
+codes_more m ws i d h =
+    ap (codes_of m) (take_more ws i d h) ∙ codes-append m (take i ws) (get_or ws i d ∷ []) ∙ ap (λ ns. codes_of m (take i ws) ++ ns) (codes-alone m (get_or ws i d))
 
 -- the content of the version with the serial number
 abbrev pub content_with : ℕ → List Version → Option Content

@@ -1,10 +1,9 @@
 -- The book of warnings: what it tells, and what each edit makes of it.
-use Rattle.std.specs.Prelude.{ℕ, ◌+◌, Bool, true, false, ◌&&◌, not, List, [], ◌∷◌, ◌++◌, map, Option, nat_eq, nat_le, ltb, bytes_eq, find, length, if◌then◌else◌}
-use Rattle.std.specs.List.{list_any, filter}
-use Rattle.std.specs.Option.{option_map}
-use Rattle.serials.specs.Serials.{scope_number, serial_of, code_of, update_of, least_free}
+use Rattle.std.specs.Prelude.{ℕ, ◌+◌, Bool, true, false, ◌&&◌, not, List, [], ◌∷◌, ◌++◌, map, Option, Some, None, nat_eq, nat_le, ltb, bytes_eq, find, length, if◌then◌else◌}
+use Rattle.std.specs.List.{list_any, filter, last_or}
+use Rattle.std.specs.Option.{option_map, option_and_then, option_to_list}
+use Rattle.serials.specs.Serials.{scope_number, serial_of, code_of, next_of, is_last, least_free}
 use Rattle.warning_book.specs.declared.content.Content.{Content}
-use Rattle.warning_book.specs.declared.lent_versions.LentVersions.{LentVersions}
 use Rattle.warning_book.specs.declared.notice.Notice.{Notice}
 use Rattle.warning_book.specs.declared.version.Version.{Version}
 use Rattle.warning_book.specs.declared.warning.Warning.{Warning}
@@ -14,11 +13,32 @@ pub record State : Type 0 where
   pub issued : ℕ
   pub warnings : List Warning
 
+-- a book before the first warning is issued
 abbrev pub empty : State
 empty = record { issued = 0; warnings = [] }
 
+-- the versions of a warning, in the order in which they were issued
+
+-- the serial number of the last of the versions
+abbrev pub last_serial : List Version → Option ℕ
+last_serial versions = option_map (λ v. v.serial) (last_or None versions)
+
+-- the serial number of the current version of a warning
+abbrev pub current_of : Warning → Option ℕ
+current_of w = last_serial w.versions
+
+-- the code of a warning: that of its current version
+abbrev pub code_in : Warning → Option ℕ
+code_in w = option_map code_of (current_of w)
+
+-- no version can follow one with this serial number
+abbrev pub ends_updates : Option ℕ → Bool
+ends_updates None = true
+ends_updates (Some serial) = is_last serial
+
 -- tests of a warning
 
+-- it is the warning of that number
 abbrev pub has_number : ℕ → Warning → Bool
 has_number n w = nat_eq w.number n
 
@@ -40,45 +60,39 @@ has_one_area w = nat_le (length w.areas) 1
 
 -- it had its last update
 abbrev pub is_exhausted : Warning → Bool
-is_exhausted w = nat_eq (update_of w.serial) 15
+is_exhausted w = ends_updates (current_of w)
 
 -- the book has the warning, and it is as the test says
 abbrev pub is_so : ℕ → (Warning → Bool) → List Warning → Bool
 is_so n f ws = list_any (λ w. has_number n w && f w) ws
 
+-- the same of the book's state
 abbrev pub warning_is : State → ℕ → (Warning → Bool) → Bool
 warning_is st n f = is_so n f st.warnings
 
+-- the book has a warning of that number
 abbrev pub is_there : State → ℕ → Bool
 is_there st n = list_any (has_number n) st.warnings
 
+-- that warning was issued and neither stopped nor forgotten
 abbrev pub is_active : State → ℕ → Bool
 is_active st n = warning_is st n (λ w. w.active)
 
 -- what the book tells
 
+-- the warning of that number
 abbrev pub warning_of : State → ℕ → Option Warning
 warning_of st n = find (has_number n) st.warnings
 
--- the serial number of the current version
+-- the serial number of the current version of the warning of that number
 abbrev pub current : State → ℕ → Option ℕ
-current st n = option_map (λ w. w.serial) (warning_of st n)
+current st n = option_and_then current_of (warning_of st n)
 
+-- the message identifier of the warning of that number
 abbrev pub message_id : State → ℕ → Option ℕ
 message_id st n = option_map (λ w. w.message_id) (warning_of st n)
 
--- the current version of a warning
-abbrev pub as_version : Warning → Version
-as_version w = record { serial = w.serial; content = w.content }
-
--- the versions of a warning, the newest first
-abbrev pub versions : Warning → List Version
-versions w = as_version w ∷ w.outdated
-
--- the versions that are lent, the newest first
-abbrev pub lent : LentVersions → List Version
-lent v = record { serial = v.serial; content = v.content.now } ∷ v.outdated.now
-
+-- the numbers of the warnings, in their order
 abbrev pub numbers : List Warning → List ℕ
 numbers ws = map (λ w. w.number) ws
 
@@ -91,9 +105,14 @@ abbrev pub areas_of : ℕ → List Warning → List (List ℕ)
 areas_of n [] = []
 areas_of n (w ∷ ws) = if has_number n w then w.areas else areas_of n ws
 
+-- the versions of the warning of that number; none where there is no such warning
+abbrev pub versions_of : ℕ → List Warning → List Version
+versions_of n [] = []
+versions_of n (w ∷ ws) = if has_number n w then w.versions else versions_of n ws
+
 -- the versions of a warning with this message identifier, and none of another
 abbrev pub versions_if : ℕ → Warning → List Version
-versions_if m w = if nat_eq w.message_id m then versions w else []
+versions_if m w = if nat_eq w.message_id m then w.versions else []
 
 -- the versions of the warnings with this message identifier
 abbrev pub versions_with : ℕ → List Warning → List Version
@@ -104,10 +123,14 @@ versions_with m (w ∷ ws) = versions_if m w ++ versions_with m ws
 abbrev pub content_of : ℕ → ℕ → List Warning → Option Content
 content_of m s ws = option_map (λ v. v.content) (find (λ v. nat_eq v.serial s) (versions_with m ws))
 
--- the codes of the warnings with this message identifier
+-- the code of a warning with this message identifier, and none of another
+abbrev pub codes_if : ℕ → Warning → List ℕ
+codes_if m w = if nat_eq w.message_id m then option_to_list (code_in w) else []
+
+-- the codes of the warnings with this message identifier, one a warning
 abbrev pub codes_of : ℕ → List Warning → List ℕ
 codes_of m [] = []
-codes_of m (w ∷ ws) = if nat_eq w.message_id m then code_of w.serial ∷ codes_of m ws else codes_of m ws
+codes_of m (w ∷ ws) = codes_if m w ++ codes_of m ws
 
 -- the serial number of a new warning: its scope, the least code that is free, update number 0
 abbrev pub new_serial : State → Notice → Option ℕ
@@ -115,23 +138,35 @@ new_serial st notice = option_map (λ code. serial_of (scope_number notice.scope
 
 -- the serial number of the next version of a warning
 abbrev pub next_serial : State → ℕ → Option ℕ
-next_serial st n = option_map (λ w. w.serial + 1) (warning_of st n)
+next_serial st n = option_map next_of (current st n)
 
 -- what each edit makes of a warning
 
+-- a new warning, which has one version
 abbrev pub new_warning : ℕ → Notice → List (List ℕ) → ℕ → Warning
-new_warning n notice areas serial = record { number = n; message_id = notice.message_id; serial = serial; content = notice.content; outdated = []; areas = areas; active = true }
+new_warning n notice areas serial = record { number = n; message_id = notice.message_id; versions = record { serial = serial; content = notice.content } ∷ []; areas = areas; active = true }
 
--- the next version, with that content
+-- the version with that content that follows one with this serial number
+abbrev pub version_after : Content → ℕ → Version
+version_after content serial = record { serial = next_of serial; content = content }
+
+-- one more version, last
+abbrev pub with_next : Content → List Version → List Version
+with_next content versions = versions ++ option_to_list (option_map (version_after content) (last_serial versions))
+
+-- that content is the current version
 abbrev pub updated : Content → Warning → Warning
-updated content w = record w { serial = w.serial + 1; content = content; outdated = as_version w ∷ w.outdated }
+updated content w = record w { versions = with_next content w.versions }
 
+-- one more area, last
 abbrev pub widened : List ℕ → Warning → Warning
 widened a w = record w { areas = w.areas ++ a ∷ [] }
 
+-- without the area, the others in their order
 abbrev pub narrowed : List ℕ → Warning → Warning
 narrowed a w = record w { areas = filter (λ b. not (bytes_eq b a)) w.areas }
 
+-- not active, and otherwise as it was
 abbrev pub stopped : Warning → Warning
 stopped w = record w { active = false }
 
@@ -139,9 +174,11 @@ stopped w = record w { active = false }
 abbrev pub changed_if : ℕ → (Warning → Warning) → Warning → Warning
 changed_if n f w = if has_number n w then f w else w
 
+-- the warnings, that of the number changed
 abbrev pub edited : ℕ → (Warning → Warning) → List Warning → List Warning
 edited n f ws = map (changed_if n f) ws
 
+-- the warnings but that of the number
 abbrev pub without : ℕ → List Warning → List Warning
 without n ws = filter (λ w. not (has_number n w)) ws
 
@@ -151,17 +188,22 @@ without n ws = filter (λ w. not (has_number n w)) ws
 abbrev pub after_issue : Notice → List (List ℕ) → ℕ → State → State
 after_issue notice areas serial st = record { issued = st.issued + 1; warnings = st.warnings ++ new_warning (st.issued + 1) notice areas serial ∷ [] }
 
+-- one more version of the warning of that number
 abbrev pub after_update : ℕ → Content → State → State
 after_update n content st = record st { warnings = edited n (updated content) st.warnings }
 
+-- one more area of that warning
 abbrev pub after_widen : ℕ → List ℕ → State → State
 after_widen n a st = record st { warnings = edited n (widened a) st.warnings }
 
+-- one area less of that warning
 abbrev pub after_narrow : ℕ → List ℕ → State → State
 after_narrow n a st = record st { warnings = edited n (narrowed a) st.warnings }
 
+-- that warning is stopped
 abbrev pub after_stop : ℕ → State → State
 after_stop n st = record st { warnings = edited n stopped st.warnings }
 
+-- that warning is taken out
 abbrev pub after_forget : ℕ → State → State
 after_forget n st = record st { warnings = without n st.warnings }

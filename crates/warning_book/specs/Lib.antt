@@ -4,4 +4,5 @@ pub mod Checks
 pub mod Sound
 pub mod Laws
 pub mod SerialLaws
+pub mod VersionLaws
 pub mod SoundLaws

@@ -1,21 +1,30 @@
 -- The serial number of a new warning.
-use Rattle.std.proofs.Common.{◌≡◌, ℕ, ◌<◌, ◌≤◌, Bool, true, false, cond, List, [], ◌∷◌, Option, Some, None, nat_eq, length, refl, sym, ap, ◌∙◌, arith}
+use Rattle.std.proofs.Common.{◌≡◌, ℕ, suc, ◌+◌, ◌<◌, ◌≤◌, Bool, true, false, cond, List, [], ◌∷◌, ◌++◌, Option, Some, None, nat_eq, length, refl, sym, ap, ◌∙◌, arith, length-append}
 use Rattle.std.specs.List.{list_any}
-use Rattle.std.specs.Option.{option_map, is_some}
+use Rattle.std.specs.Option.{option_map, option_to_list, is_some}
 use Rattle.serials.specs.Laws.{free_code, some_free, code_of_serial, update_of_serial}
 use Rattle.serials.specs.Serials.{scope_number, serial_of, code_of, update_of, least_free}
-use Rattle.warning_book.specs.Book.{codes_of, new_serial}
+use Rattle.warning_book.specs.Book.{code_in, codes_if, codes_of, new_serial}
 use Rattle.warning_book.specs.declared.notice.Notice.{Notice}
 use Rattle.warning_book.specs.declared.warning.Warning.{Warning}
 
--- each warning has one code
+-- each warning has one code at most
+code_fits : (m : ℕ) (w : Warning) → length (codes_if m w) ≤ 1
+code_fits m w = step (nat_eq w.message_id m) (code_in w)
+  where
+    step : (t : Bool) (o : Option ℕ) → length (cond t (option_to_list o) []) ≤ 1
+    step true None = omega arith
+    step true (Some code) = omega arith
+    step false o = omega arith
+
 codes_fit : (m : ℕ) (l : List Warning) → length (codes_of m l) ≤ length l
 codes_fit m [] = omega arith
-codes_fit m (w ∷ l) = step (codes_fit m l) (nat_eq w.message_id m)
+codes_fit m (w ∷ l) =
+    let both : length (codes_if m w ++ codes_of m l) ≡ length (codes_if m w) + length (codes_of m l) = length-append (codes_if m w) (codes_of m l) in
+    added (length (codes_if m w ++ codes_of m l)) (length (codes_if m w)) (length (codes_of m l)) (length l) both (code_fits m w) (codes_fit m l)
   where
-    step : length (codes_of m l) ≤ length l → (t : Bool) → length (cond t (code_of w.serial ∷ codes_of m l) (codes_of m l)) ≤ length (w ∷ l)
-    step rest true = omega arith
-    step rest false = omega arith
+    added : (k a b n : ℕ) → k ≡ a + b → a ≤ 1 → b ≤ n → k ≤ suc n
+    added k a b n e f g = omega arith
 
 -- with fewer than 256 warnings a code is free
 pub serial_is_there : {P : Type 0} (i : ℕ) (l : List Warning) (notice : Notice) → length l < 256 → new_serial (record { issued = i; warnings = l }) notice ≡ None → P

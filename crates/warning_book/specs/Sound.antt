@@ -1,9 +1,9 @@
 -- What holds of every book.
-use Rattle.std.specs.Prelude.{◌≡◌, ◌≤◌, ℕ, Bool, true, ◌&&◌, List, map, bytes_eq, nat_eq, nat_le, ltb, length}
+use Rattle.std.specs.Prelude.{◌≡◌, ◌≤◌, ℕ, ◌+◌, Bool, true, false, ◌&&◌, List, [], ◌∷◌, Option, Some, None, map, bytes_eq, nat_eq, nat_le, length}
 use Rattle.std.specs.List.{list_all}
-use Rattle.serials.specs.Serials.{code_of, update_of}
+use Rattle.serials.specs.Serials.{scope_part, code_of, update_of}
 use Rattle.common.specs.Order.{is_ascending, each_once}
-use Rattle.warning_book.specs.Book.{State, number_lt, versions}
+use Rattle.warning_book.specs.Book.{State, number_lt, last_serial, code_in}
 use Rattle.warning_book.specs.Content.{are_pages, is_period}
 use Rattle.warning_book.specs.declared.version.Version.{Version}
 use Rattle.warning_book.specs.declared.warning.Warning.{Warning}
@@ -16,35 +16,61 @@ was_issued issued w = nat_le 1 w.number && nat_le w.number issued
 abbrev pub has_areas : Warning → Bool
 has_areas w = (nat_le 1 (length w.areas) && nat_le (length w.areas) 16) && each_once bytes_eq w.areas
 
+-- its content can be broadcast
 abbrev pub is_good : Version → Bool
 is_good v = are_pages v.content.pages && is_period v.content.period
 
 -- each of its versions can be broadcast
 abbrev pub has_contents : Warning → Bool
-has_contents w = list_all is_good (versions w)
+has_contents w = list_all is_good w.versions
 
--- the update number counts the versions before the current one, so that there are at most 16
-abbrev pub counts_updates : Warning → Bool
-counts_updates w = nat_eq (length w.outdated) (update_of w.serial)
+-- there are 1 to 16 versions
+abbrev pub are_few : List Version → Bool
+are_few versions = nat_le 1 (length versions) && nat_le (length versions) 16
 
--- a version before the current one has a smaller serial number, with the same code
-abbrev pub is_older : ℕ → Version → Bool
-is_older serial v = ltb v.serial serial && nat_eq (code_of v.serial) (code_of serial)
+-- no two of the versions have the same serial number
+abbrev pub stand_once : List Version → Bool
+stand_once versions = each_once nat_eq (map (λ v. v.serial) versions)
 
+-- the version has the scope and the code of that serial number
+abbrev pub shares_code : Option ℕ → Version → Bool
+shares_code None v = false
+shares_code (Some serial) v = nat_eq (scope_part v.serial) (scope_part serial) && nat_eq (code_of v.serial) (code_of serial)
+
+-- each of the versions has the scope and the code of the last
+abbrev pub share_code : List Version → Bool
+share_code versions = list_all (shares_code (last_serial versions)) versions
+
+-- it has 1 to 16 versions
+abbrev pub has_versions : Warning → Bool
+has_versions w = are_few w.versions
+
+-- the serial numbers of its versions stand each once
 abbrev pub has_serials : Warning → Bool
-has_serials w = list_all (is_older w.serial) w.outdated
+has_serials w = stand_once w.versions
+
+-- all of its versions have the scope and the code of its current version
+abbrev pub has_one_code : Warning → Bool
+has_one_code w = share_code w.versions
 
 -- the message identifier and the code of a warning
-abbrev pub key_of : Warning → ℕ × ℕ
-key_of w = (w.message_id, code_of w.serial)
+abbrev pub key_of : Warning → ℕ × Option ℕ
+key_of w = (w.message_id, code_in w)
 
-abbrev pub is_same_key : ℕ × ℕ → ℕ × ℕ → Bool
-is_same_key j k = nat_eq j.0 k.0 && nat_eq j.1 k.1
+-- the codes are one
+abbrev pub is_same_code : Option ℕ → Option ℕ → Bool
+is_same_code (Some c) (Some d) = nat_eq c d
+is_same_code c d = false
+
+-- the message identifiers are one, and the codes
+abbrev pub is_same_key : ℕ × Option ℕ → ℕ × Option ℕ → Bool
+is_same_key j k = nat_eq j.0 k.0 && is_same_code j.1 k.1
 
 -- no two warnings have the same message identifier and code
 abbrev pub have_own_codes : List Warning → Bool
 have_own_codes ws = each_once is_same_key (map key_of ws)
 
+-- what a book promises
 pub record IsSound (st : State) : Type 0 where
   -- each number is greater than those before it
   pub ordered : is_ascending number_lt st.warnings ≡ true
@@ -52,6 +78,21 @@ pub record IsSound (st : State) : Type 0 where
   pub few : length st.warnings ≤ 256
   pub areas : list_all has_areas st.warnings ≡ true
   pub contents : list_all has_contents st.warnings ≡ true
+  pub versions : list_all has_versions st.warnings ≡ true
+  pub serials : list_all has_serials st.warnings ≡ true
+  pub codes : list_all has_one_code st.warnings ≡ true
+  pub own_codes : have_own_codes st.warnings ≡ true
+
+-- the versions have the update numbers from this one on, in their order
+abbrev pub are_counted : ℕ → List Version → Bool
+are_counted update [] = true
+are_counted update (v ∷ versions) = nat_eq (update_of v.serial) update && are_counted (update + 1) versions
+
+-- its versions have the update numbers 0, 1, 2 and so on
+abbrev pub counts_updates : Warning → Bool
+counts_updates w = are_counted 0 w.versions
+
+-- a book as its edits keep it: sound, and no update number is used again. No call promises the second.
+pub record IsCounted (st : State) : Type 0 where
+  pub sound : IsSound st
   pub counted : list_all counts_updates st.warnings ≡ true
-  pub older : list_all has_serials st.warnings ≡ true
-  pub codes : have_own_codes st.warnings ≡ true

@@ -1,35 +1,32 @@
 -- Each edit that nothing forbids leaves the book sound. Crates that recompute the book from their own record of edits
 -- cite the last section.
-use Rattle.std.proofs.Common.{◌≡◌, ℕ, suc, ◌+◌, ◌<◌, ◌≤◌, Bool, true, false, ◌&&◌, ◌||◌, not, cond, List, [], ◌∷◌, ◌++◌, Some, None, map, nat_eq, nat_le, ltb, length, refl, sym, ap, ◌∙◌, arith, length-append}
+use Rattle.std.proofs.Common.{◌≡◌, ℕ, suc, ◌+◌, ◌<◌, ◌≤◌, Bool, true, false, ◌&&◌, ◌||◌, not, cond, List, [], ◌∷◌, ◌++◌, Option, Some, None, map, nat_eq, nat_le, ltb, length, refl, sym, ap, ◌∙◌, arith, length-append}
 use Rattle.std.specs.Prelude.{bytes_eq}
 use Rattle.std.specs.List.{list_any, list_all, filter}
+use Rattle.std.specs.Option.{option_to_list}
 use Rattle.std.proofs.lemmas.Bool.{and_parts, and_from, or_parts, or_from, not-false}
 use Rattle.std.proofs.lemmas.Bool.Decides.{nat_tests}
 use Rattle.std.proofs.lemmas.Grind.{common_steps}
 use Rattle.std.proofs.lemmas.List.{length-map, map-append}
-use Rattle.std.proofs.lemmas.List.Folds.{list_all-append}
 use Rattle.std.proofs.lemmas.Slice.Eq.{bytes_eq-Decides}
 use Rattle.common.specs.OnceLaws.{once_last, once_filter, once_key, kept_whole, length_without_same}
 use Rattle.common.specs.Order.{each_once}
 use Rattle.common.specs.OrderLaws.{all_same, all_filter, ascending_filter, ascending_last, ascending_map, length_filter}
-use Rattle.serials.specs.Serials.{code_of, update_of}
-use Rattle.warning_book.specs.Book.{State, has_number, number_lt, names, is_full, has_one_area, is_exhausted, is_so, as_version, versions, codes_of, new_serial, new_warning, updated, widened, narrowed, stopped, changed_if, edited, without, after_issue, after_update, after_widen, after_narrow, after_stop, after_forget}
+use Rattle.serials.specs.Serials.{scope_part, code_of, update_of}
+use Rattle.warning_book.specs.Book.{State, has_number, number_lt, names, is_full, has_one_area, is_exhausted, is_so, code_in, codes_of, new_serial, new_warning, updated, widened, narrowed, stopped, changed_if, edited, without, after_issue, after_update, after_widen, after_narrow, after_stop, after_forget}
 use Rattle.common.specs.CheckLaws.{none_holds}
 use Rattle.common.specs.Checks.{first_refusal}
 use Rattle.warning_book.specs.Checks.{is_empty, issue_checks, update_checks, widen_checks, narrow_checks}
 use Rattle.warning_book.specs.Content.{are_pages, is_period}
 use Rattle.warning_book.specs.SerialLaws.{new_serial_parts}
 use Rattle.warning_book.specs.Laws.{KeepsNumber, number-edited}
-use Rattle.warning_book.specs.Sound.{was_issued, has_areas, is_good, has_contents, counts_updates, is_older, has_serials, key_of, is_same_key, IsSound}
+use Rattle.warning_book.specs.Sound.{was_issued, has_areas, is_good, has_contents, has_versions, has_serials, has_one_code, key_of, is_same_code, is_same_key, counts_updates, IsCounted}
+use Rattle.warning_book.specs.VersionLaws.{all-last, has_own_code, few_next, once_next, code_next, counted_next, all_next, code_kept}
 use Rattle.warning_book.specs.declared.content.Content.{Content}
 use Rattle.warning_book.specs.declared.notice.Notice.{Notice}
-use Rattle.warning_book.specs.declared.version.Version.{Version}
 use Rattle.warning_book.specs.declared.warning.Warning.{Warning}
 
 -- lists
-
-all-last : {X : Type 0} (p : X → Bool) (x : X) (xs : List X) → list_all p xs ≡ true → p x ≡ true → list_all p (xs ++ x ∷ []) ≡ true
-all-last p x xs h e = list_all-append p xs (x ∷ []) ∙ and_from (list_all p xs) (p x && true) h (and_from (p x) true e refl)
 
 -- names that are each there once: a name takes one with it at most
 length-without : (a : List ℕ) (xs : List (List ℕ)) → each_once bytes_eq xs ≡ true → length xs ≤ length (filter (λ b. not (bytes_eq b a)) xs) + 1
@@ -61,15 +58,16 @@ so_either n f g (w ∷ l) h k = step (so_either n f g l) (has_number n w) h k
         or_from (f w || g w) (is_so n (λ v. f v || g v) l) (or_from (f w) (g w) first.0 second.0) (rest first.1 second.1)
     step rest false h k = rest h k
 
-all-edited : (n : ℕ) (f : Warning → Warning) (g p : Warning → Bool) → ((w : Warning) → g w ≡ false → p w ≡ true → p (f w) ≡ true) → (l : List Warning) → is_so n g l ≡ false → list_all p l ≡ true → list_all p (edited n f l) ≡ true
-all-edited n f g p keeps [] so h = refl
-all-edited n f g p keeps (w ∷ l) so h = step (all-edited n f g p keeps l) (has_number n w) so (and_parts (p w) (list_all p l) h)
+-- where the warnings pass r and none is as g, an edit that then keeps p keeps it in the list
+all-edited : (n : ℕ) (f : Warning → Warning) (g r p : Warning → Bool) → ((w : Warning) → g w ≡ false → r w ≡ true → p w ≡ true → p (f w) ≡ true) → (l : List Warning) → is_so n g l ≡ false → list_all r l ≡ true → list_all p l ≡ true → list_all p (edited n f l) ≡ true
+all-edited n f g r p keeps [] so c h = refl
+all-edited n f g r p keeps (w ∷ l) so c h = step (all-edited n f g r p keeps l) (has_number n w) so (and_parts (r w) (list_all r l) c) (and_parts (p w) (list_all p l) h)
   where
-    step : (is_so n g l ≡ false → list_all p l ≡ true → list_all p (edited n f l) ≡ true) → (t : Bool) → ((t && g w) || is_so n g l) ≡ false → (p w ≡ true) × (list_all p l ≡ true) → list_all p (cond t (f w) w ∷ edited n f l) ≡ true
-    step rest true so parts =
+    step : (is_so n g l ≡ false → list_all r l ≡ true → list_all p l ≡ true → list_all p (edited n f l) ≡ true) → (t : Bool) → ((t && g w) || is_so n g l) ≡ false → (r w ≡ true) × (list_all r l ≡ true) → (p w ≡ true) × (list_all p l ≡ true) → list_all p (cond t (f w) w ∷ edited n f l) ≡ true
+    step rest true so beside parts =
         let none = or_parts (g w) (is_so n g l) so in
-        and_from (p (f w)) (list_all p (edited n f l)) (keeps w none.0 parts.0) (rest none.1 parts.1)
-    step rest false so parts = and_from (p w) (list_all p (edited n f l)) parts.0 (rest so parts.1)
+        and_from (p (f w)) (list_all p (edited n f l)) (keeps w none.0 beside.0 parts.0) (rest none.1 beside.1 parts.1)
+    step rest false so beside parts = and_from (p w) (list_all p (edited n f l)) parts.0 (rest so beside.1 parts.1)
 
 map-edited : {K : Type 0} (key : Warning → K) (n : ℕ) (f : Warning → Warning) (g : Warning → Bool) → ((w : Warning) → g w ≡ false → key (f w) ≡ key w) → (l : List Warning) → is_so n g l ≡ false → map key (edited n f l) ≡ map key l
 map-edited key n f g keeps [] so = refl
@@ -90,22 +88,28 @@ order-edited n f keeps v w h =
 pub record Keeps (f : Warning → Warning) (g : Warning → Bool) : Type 0 where
   pub number : KeepsNumber f
   pub areas : (w : Warning) → g w ≡ false → has_areas w ≡ true → has_areas (f w) ≡ true
-  pub contents : (w : Warning) → has_contents w ≡ true → has_contents (f w) ≡ true
-  pub counted : (w : Warning) → g w ≡ false → counts_updates w ≡ true → counts_updates (f w) ≡ true
-  pub older : (w : Warning) → g w ≡ false → has_serials w ≡ true → has_serials (f w) ≡ true
+  pub contents : (w : Warning) → g w ≡ false → has_contents w ≡ true → has_contents (f w) ≡ true
+  pub versions : (w : Warning) → g w ≡ false → counts_updates w ≡ true → has_versions w ≡ true → has_versions (f w) ≡ true
+  pub serials : (w : Warning) → g w ≡ false → counts_updates w ≡ true → has_serials w ≡ true → has_serials (f w) ≡ true
+  pub codes : (w : Warning) → g w ≡ false → has_one_code w ≡ true → has_one_code (f w) ≡ true
   pub key : (w : Warning) → g w ≡ false → key_of (f w) ≡ key_of w
+  pub counted : (w : Warning) → g w ≡ false → counts_updates w ≡ true → counts_updates (f w) ≡ true
 
-sound-edited : (n : ℕ) (f : Warning → Warning) (g : Warning → Bool) (i : ℕ) (l : List Warning) → Keeps f g → is_so n g l ≡ false → IsSound (record { issued = i; warnings = l }) → IsSound (record { issued = i; warnings = edited n f l })
+sound-edited : (n : ℕ) (f : Warning → Warning) (g : Warning → Bool) (i : ℕ) (l : List Warning) → Keeps f g → is_so n g l ≡ false → IsCounted (record { issued = i; warnings = l }) → IsCounted (record { issued = i; warnings = edited n f l })
 sound-edited n f g i l k so s =
     record {
-      ordered = ascending_map number_lt number_lt (changed_if n f) (order-edited n f k.number) l s.ordered;
-      given = all-edited n f g (was_issued i) (λ w h e. rw (k.number w) e) l so s.given;
-      few = rw (length-map l (changed_if n f)) s.few;
-      areas = all-edited n f g has_areas k.areas l so s.areas;
-      contents = all-edited n f g has_contents (λ w h e. k.contents w e) l so s.contents;
-      counted = all-edited n f g counts_updates k.counted l so s.counted;
-      older = all-edited n f g has_serials k.older l so s.older;
-      codes = ap (each_once is_same_key) (map-edited key_of n f g k.key l so) ∙ s.codes;
+      sound = record {
+        ordered = ascending_map number_lt number_lt (changed_if n f) (order-edited n f k.number) l s.sound.ordered;
+        given = all-edited n f g counts_updates (was_issued i) (λ w h c e. rw (k.number w) e) l so s.counted s.sound.given;
+        few = rw (length-map l (changed_if n f)) s.sound.few;
+        areas = all-edited n f g counts_updates has_areas (λ w h c e. k.areas w h e) l so s.counted s.sound.areas;
+        contents = all-edited n f g counts_updates has_contents (λ w h c e. k.contents w h e) l so s.counted s.sound.contents;
+        versions = all-edited n f g counts_updates has_versions k.versions l so s.counted s.sound.versions;
+        serials = all-edited n f g counts_updates has_serials k.serials l so s.counted s.sound.serials;
+        codes = all-edited n f g counts_updates has_one_code (λ w h c e. k.codes w h e) l so s.counted s.sound.codes;
+        own_codes = ap (each_once is_same_key) (map-edited key_of n f g k.key l so) ∙ s.sound.own_codes;
+      };
+      counted = all-edited n f g counts_updates counts_updates (λ w h c e. k.counted w h e) l so s.counted s.counted;
     }
 
 -- stop
@@ -115,13 +119,15 @@ keeps-stopped =
     record {
       number = λ w. refl;
       areas = λ w h e. e;
-      contents = λ w e. e;
-      counted = λ w h e. e;
-      older = λ w h e. e;
+      contents = λ w h e. e;
+      versions = λ w h c e. e;
+      serials = λ w h c e. e;
+      codes = λ w h e. e;
       key = λ w h. refl;
+      counted = λ w h e. e;
     }
 
-pub sound-stopped : (n i : ℕ) (l : List Warning) → IsSound (record { issued = i; warnings = l }) → IsSound (record { issued = i; warnings = edited n stopped l })
+pub sound-stopped : (n i : ℕ) (l : List Warning) → IsCounted (record { issued = i; warnings = l }) → IsCounted (record { issued = i; warnings = edited n stopped l })
 sound-stopped n i l s = sound-edited n stopped (λ w. false) i l keeps-stopped (never_so n l) s
 
 -- narrow
@@ -140,13 +146,15 @@ keeps-narrowed a =
     record {
       number = λ w. refl;
       areas = areas-narrowed a;
-      contents = λ w e. e;
-      counted = λ w h e. e;
-      older = λ w h e. e;
+      contents = λ w h e. e;
+      versions = λ w h c e. e;
+      serials = λ w h c e. e;
+      codes = λ w h e. e;
       key = λ w h. refl;
+      counted = λ w h e. e;
     }
 
-pub sound-narrowed : (n : ℕ) (a : List ℕ) (i : ℕ) (l : List Warning) → is_so n has_one_area l ≡ false → IsSound (record { issued = i; warnings = l }) → IsSound (record { issued = i; warnings = edited n (narrowed a) l })
+pub sound-narrowed : (n : ℕ) (a : List ℕ) (i : ℕ) (l : List Warning) → is_so n has_one_area l ≡ false → IsCounted (record { issued = i; warnings = l }) → IsCounted (record { issued = i; warnings = edited n (narrowed a) l })
 sound-narrowed n a i l so s = sound-edited n (narrowed a) has_one_area i l (keeps-narrowed a) so s
 
 -- widen
@@ -166,72 +174,53 @@ keeps-widened a =
     record {
       number = λ w. refl;
       areas = areas-widened a;
-      contents = λ w e. e;
-      counted = λ w h e. e;
-      older = λ w h e. e;
+      contents = λ w h e. e;
+      versions = λ w h c e. e;
+      serials = λ w h c e. e;
+      codes = λ w h e. e;
       key = λ w h. refl;
+      counted = λ w h e. e;
     }
 
-pub sound-widened : (n : ℕ) (a : List ℕ) (i : ℕ) (l : List Warning) → is_so n (names a) l ≡ false → is_so n is_full l ≡ false → IsSound (record { issued = i; warnings = l }) → IsSound (record { issued = i; warnings = edited n (widened a) l })
+pub sound-widened : (n : ℕ) (a : List ℕ) (i : ℕ) (l : List Warning) → is_so n (names a) l ≡ false → is_so n is_full l ≡ false → IsCounted (record { issued = i; warnings = l }) → IsCounted (record { issued = i; warnings = edited n (widened a) l })
 sound-widened n a i l so full s =
     sound-edited n (widened a) (λ w. names a w || is_full w) i l (keeps-widened a) (so_either n (names a) is_full l so full) s
 
 -- update
-
-same_code : (s : ℕ) → nat_eq (update_of s) 15 ≡ false → code_of (s + 1) ≡ code_of s
-same_code s h = let some : update_of s < 15 = below (update_of s) h (omega arith) in omega arith
-  where
-    below : (u : ℕ) → nat_eq u 15 ≡ false → u < 16 → u < 15
-    below u h g = grind (arith, nat_tests, common_steps)
-
-next_update : (s : ℕ) → nat_eq (update_of s) 15 ≡ false → update_of (s + 1) ≡ update_of s + 1
-next_update s h = let some : update_of s < 15 = below (update_of s) h (omega arith) in omega arith
-  where
-    below : (u : ℕ) → nat_eq u 15 ≡ false → u < 16 → u < 15
-    below u h g = grind (arith, nat_tests, common_steps)
-
-older_still : (s : ℕ) (v : Version) → code_of (s + 1) ≡ code_of s → is_older s v ≡ true → is_older (s + 1) v ≡ true
-older_still s v e h = later v.serial (code_of v.serial) s (code_of s) (code_of (s + 1)) e h
-  where
-    later : (k c n d f : ℕ) → f ≡ d → (ltb k n && nat_eq c d) ≡ true → (ltb k (n + 1) && nat_eq c f) ≡ true
-    later k c n d f e h = grind (arith, nat_tests, common_steps)
-
-older_now : (s : ℕ) (c : Content) → code_of (s + 1) ≡ code_of s → is_older (s + 1) (record { serial = s; content = c }) ≡ true
-older_now s c e = later s (code_of s) (code_of (s + 1)) e
-  where
-    later : (n d f : ℕ) → f ≡ d → (ltb n (n + 1) && nat_eq d f) ≡ true
-    later n d f e = grind (arith, nat_tests, common_steps)
 
 keeps-updated : (c : Content) → are_pages c.pages ≡ true → is_period c.period ≡ true → Keeps (updated c) is_exhausted
 keeps-updated c good period =
     record {
       number = λ w. refl;
       areas = λ w h e. e;
-      contents = λ w e. and_from (are_pages c.pages && is_period c.period) (list_all is_good (versions w)) (and_from (are_pages c.pages) (is_period c.period) good period) e;
-      counted = λ w h e. counts (length w.outdated) (update_of w.serial) (update_of (w.serial + 1)) (next_update w.serial h) e;
-      older = λ w h e. and_from (is_older (w.serial + 1) (as_version w)) (list_all (is_older (w.serial + 1)) w.outdated) (older_now w.serial w.content (same_code w.serial h)) (all_same (is_older w.serial) (is_older (w.serial + 1)) (λ v g. older_still w.serial v (same_code w.serial h) g) w.outdated e);
-      key = λ w h. ap (λ (k : ℕ). (w.message_id, k)) (same_code w.serial h);
+      contents = λ w h e. all_next is_good c w.versions (λ s. and_from (are_pages c.pages) (is_period c.period) good period) h e;
+      versions = λ w h counted e. few_next c w.versions h counted e;
+      serials = λ w h counted e. once_next c w.versions h counted e;
+      codes = λ w h e. code_next c w.versions h e;
+      key = λ w h. ap (λ (k : Option ℕ). (w.message_id, k)) (code_kept c w.versions h);
+      counted = λ w h e. counted_next c w.versions h e;
     }
-  where
-    counts : (n u v : ℕ) → v ≡ u + 1 → nat_eq n u ≡ true → nat_eq (suc n) v ≡ true
-    counts n u v e h = grind (arith, nat_tests, common_steps)
 
-pub sound-updated : (n : ℕ) (c : Content) (i : ℕ) (l : List Warning) → are_pages c.pages ≡ true → is_period c.period ≡ true → is_so n is_exhausted l ≡ false → IsSound (record { issued = i; warnings = l }) → IsSound (record { issued = i; warnings = edited n (updated c) l })
+pub sound-updated : (n : ℕ) (c : Content) (i : ℕ) (l : List Warning) → are_pages c.pages ≡ true → is_period c.period ≡ true → is_so n is_exhausted l ≡ false → IsCounted (record { issued = i; warnings = l }) → IsCounted (record { issued = i; warnings = edited n (updated c) l })
 sound-updated n c i l good period so s = sound-edited n (updated c) is_exhausted i l (keeps-updated c good period) so s
 
 -- forget
 
-pub sound-without : (n i : ℕ) (l : List Warning) → IsSound (record { issued = i; warnings = l }) → IsSound (record { issued = i; warnings = without n l })
+pub sound-without : (n i : ℕ) (l : List Warning) → IsCounted (record { issued = i; warnings = l }) → IsCounted (record { issued = i; warnings = without n l })
 sound-without n i l s =
     record {
-      ordered = ascending_filter number_lt (λ w. not (has_number n w)) l s.ordered;
-      given = all_filter (was_issued i) (λ w. not (has_number n w)) l s.given;
-      few = let fewer = length_filter (λ (w : Warning). not (has_number n w)) l in let all = s.few in omega arith;
-      areas = all_filter has_areas (λ w. not (has_number n w)) l s.areas;
-      contents = all_filter has_contents (λ w. not (has_number n w)) l s.contents;
+      sound = record {
+        ordered = ascending_filter number_lt (λ w. not (has_number n w)) l s.sound.ordered;
+        given = all_filter (was_issued i) (λ w. not (has_number n w)) l s.sound.given;
+        few = let fewer = length_filter (λ (w : Warning). not (has_number n w)) l in let all = s.sound.few in omega arith;
+        areas = all_filter has_areas (λ w. not (has_number n w)) l s.sound.areas;
+        contents = all_filter has_contents (λ w. not (has_number n w)) l s.sound.contents;
+        versions = all_filter has_versions (λ w. not (has_number n w)) l s.sound.versions;
+        serials = all_filter has_serials (λ w. not (has_number n w)) l s.sound.serials;
+        codes = all_filter has_one_code (λ w. not (has_number n w)) l s.sound.codes;
+        own_codes = once_key is_same_key key_of (without n l) ∙ once_filter (λ v w. is_same_key (key_of v) (key_of w)) (λ w. not (has_number n w)) l (sym (once_key is_same_key key_of l) ∙ s.sound.own_codes);
+      };
       counted = all_filter counts_updates (λ w. not (has_number n w)) l s.counted;
-      older = all_filter has_serials (λ w. not (has_number n w)) l s.older;
-      codes = once_key is_same_key key_of (without n l) ∙ once_filter (λ v w. is_same_key (key_of v) (key_of w)) (λ w. not (has_number n w)) l (sym (once_key is_same_key key_of l) ∙ s.codes);
     }
 
 -- issue
@@ -244,18 +233,19 @@ all_earlier i w l e h = all_same (was_issued i) (λ v. number_lt v w) (λ v g. b
     below k m n e h = grind (arith, nat_tests, common_steps)
 
 -- a code that is free is no other warning's
-no_same_key : (m code : ℕ) (l : List Warning) → list_any (nat_eq code) (codes_of m l) ≡ false → list_any (λ k. is_same_key k (m, code)) (map key_of l) ≡ false
+no_same_key : (m code : ℕ) (l : List Warning) → list_any (nat_eq code) (codes_of m l) ≡ false → list_any (λ k. is_same_key k (m, Some code)) (map key_of l) ≡ false
 no_same_key m code [] h = refl
-no_same_key m code (w ∷ l) h = step (no_same_key m code l) (nat_eq w.message_id m) h
+no_same_key m code (w ∷ l) h = step (no_same_key m code l) (nat_eq w.message_id m) (code_in w) h
   where
     turned : (j k : ℕ) → nat_eq j k ≡ false → nat_eq k j ≡ false
     turned j k h = grind (arith, nat_tests, common_steps)
 
-    step : (list_any (nat_eq code) (codes_of m l) ≡ false → list_any (λ k. is_same_key k (m, code)) (map key_of l) ≡ false) → (t : Bool) → list_any (nat_eq code) (cond t (code_of w.serial ∷ codes_of m l) (codes_of m l)) ≡ false → ((t && nat_eq (code_of w.serial) code) || list_any (λ k. is_same_key k (m, code)) (map key_of l)) ≡ false
-    step rest true e =
-        let parts = or_parts (nat_eq code (code_of w.serial)) (list_any (nat_eq code) (codes_of m l)) e in
-        or_from (nat_eq (code_of w.serial) code) (list_any (λ k. is_same_key k (m, code)) (map key_of l)) (turned code (code_of w.serial) parts.0) (rest parts.1)
-    step rest false e = rest e
+    step : (list_any (nat_eq code) (codes_of m l) ≡ false → list_any (λ k. is_same_key k (m, Some code)) (map key_of l) ≡ false) → (t : Bool) (o : Option ℕ) → list_any (nat_eq code) (cond t (option_to_list o) [] ++ codes_of m l) ≡ false → ((t && is_same_code o (Some code)) || list_any (λ k. is_same_key k (m, Some code)) (map key_of l)) ≡ false
+    step rest true (Some c) e =
+        let parts = or_parts (nat_eq code c) (list_any (nat_eq code) (codes_of m l)) e in
+        or_from (nat_eq c code) (list_any (λ k. is_same_key k (m, Some code)) (map key_of l)) (turned code c parts.0) (rest parts.1)
+    step rest true None e = rest e
+    step rest false o e = rest e
 
 new_areas : (areas : List (List ℕ)) → is_empty areas ≡ false → each_once bytes_eq areas ≡ true → length areas ≤ 16 → ((nat_le 1 (length areas) && nat_le (length areas) 16) && each_once bytes_eq areas) ≡ true
 new_areas [] e h g = cc
@@ -284,23 +274,27 @@ pub record IsNew (l : List Warning) (notice : Notice) (areas : List (List ℕ)) 
   pub first : update_of serial ≡ 0
   pub free : list_any (nat_eq (code_of serial)) (codes_of notice.message_id l) ≡ false
 
-pub sound-issue : (i : ℕ) (l : List Warning) (notice : Notice) (areas : List (List ℕ)) (serial : ℕ) → IsNew l notice areas serial → IsSound (record { issued = i; warnings = l }) → IsSound (record { issued = i + 1; warnings = l ++ new_warning (i + 1) notice areas serial ∷ [] })
+pub sound-issue : (i : ℕ) (l : List Warning) (notice : Notice) (areas : List (List ℕ)) (serial : ℕ) → IsNew l notice areas serial → IsCounted (record { issued = i; warnings = l }) → IsCounted (record { issued = i + 1; warnings = l ++ new_warning (i + 1) notice areas serial ∷ [] })
 sound-issue i l notice areas serial new s =
     let w : Warning = new_warning (i + 1) notice areas serial in
     record {
-      ordered = ascending_last number_lt w l (all_earlier i w l refl s.given) s.ordered;
-      given = all-last (was_issued (i + 1)) w l (all_same (was_issued i) (was_issued (i + 1)) (was_issued-more i) l s.given) (was_issued-new i);
-      few = let room = new.room in omega (arith, length-append l (w ∷ []));
-      areas = all-last has_areas w l s.areas (new_areas areas new.some new.once new.few);
-      contents = all-last has_contents w l s.contents (and_from (are_pages notice.content.pages && is_period notice.content.period) true (and_from (are_pages notice.content.pages) (is_period notice.content.period) new.pages new.period) refl);
-      counted = all-last counts_updates w l s.counted (ap (nat_eq 0) new.first);
-      older = all-last has_serials w l s.older refl;
-      codes = ap (each_once is_same_key) (map-append key_of l (w ∷ [])) ∙ once_last is_same_key (notice.message_id, code_of serial) (map key_of l) (no_same_key notice.message_id (code_of serial) l new.free) s.codes;
+      sound = record {
+        ordered = ascending_last number_lt w l (all_earlier i w l refl s.sound.given) s.sound.ordered;
+        given = all-last (was_issued (i + 1)) w l (all_same (was_issued i) (was_issued (i + 1)) (was_issued-more i) l s.sound.given) (was_issued-new i);
+        few = let room = new.room in omega (arith, length-append l (w ∷ []));
+        areas = all-last has_areas w l s.sound.areas (new_areas areas new.some new.once new.few);
+        contents = all-last has_contents w l s.sound.contents (and_from (are_pages notice.content.pages && is_period notice.content.period) true (and_from (are_pages notice.content.pages) (is_period notice.content.period) new.pages new.period) refl);
+        versions = all-last has_versions w l s.sound.versions refl;
+        serials = all-last has_serials w l s.sound.serials refl;
+        codes = all-last has_one_code w l s.sound.codes (and_from (nat_eq (scope_part serial) (scope_part serial) && nat_eq (code_of serial) (code_of serial)) true (has_own_code serial) refl);
+        own_codes = ap (each_once is_same_key) (map-append key_of l (w ∷ [])) ∙ once_last is_same_key (notice.message_id, Some (code_of serial)) (map key_of l) (no_same_key notice.message_id (code_of serial) l new.free) s.sound.own_codes;
+      };
+      counted = all-last counts_updates w l s.counted (and_from (nat_eq (update_of serial) 0) true (ap (λ (u : ℕ). nat_eq u 0) new.first) refl);
     }
 
 -- an edit none of whose checks holds
 
-pub sound_after_issue : (st : State) (notice : Notice) (areas : List (List ℕ)) (serial : ℕ) → first_refusal (issue_checks st notice areas) ≡ None → new_serial st notice ≡ Some serial → IsSound st → IsSound (after_issue notice areas serial st)
+pub sound_after_issue : (st : State) (notice : Notice) (areas : List (List ℕ)) (serial : ℕ) → first_refusal (issue_checks st notice areas) ≡ None → new_serial st notice ≡ Some serial → IsCounted st → IsCounted (after_issue notice areas serial st)
 sound_after_issue st notice areas serial checked given sound =
     let none = none_holds (issue_checks st notice areas) checked in
     let parts = new_serial_parts st.issued st.warnings notice serial given in
@@ -323,23 +317,23 @@ sound_after_issue st notice areas serial checked given sound =
     room : (n : ℕ) → nat_le 256 n ≡ false → n < 256
     room n h = grind (arith, nat_tests, common_steps)
 
-pub sound_after_update : (st : State) (n : ℕ) (content : Content) → first_refusal (update_checks st n content) ≡ None → IsSound st → IsSound (after_update n content st)
+pub sound_after_update : (st : State) (n : ℕ) (content : Content) → first_refusal (update_checks st n content) ≡ None → IsCounted st → IsCounted (after_update n content st)
 sound_after_update st n content checked sound =
     let none = none_holds (update_checks st n content) checked in
     sound-updated n content st.issued st.warnings (not-false (are_pages content.pages) none.1.1.0) (not-false (is_period content.period) none.1.1.1.0) none.1.1.1.1.0 sound
 
-pub sound_after_widen : (st : State) (n : ℕ) (a : List ℕ) → first_refusal (widen_checks st n a) ≡ None → IsSound st → IsSound (after_widen n a st)
+pub sound_after_widen : (st : State) (n : ℕ) (a : List ℕ) → first_refusal (widen_checks st n a) ≡ None → IsCounted st → IsCounted (after_widen n a st)
 sound_after_widen st n a checked sound =
     let none = none_holds (widen_checks st n a) checked in
     sound-widened n a st.issued st.warnings none.1.1.0 none.1.1.1.0 sound
 
-pub sound_after_narrow : (st : State) (n : ℕ) (a : List ℕ) → first_refusal (narrow_checks st n a) ≡ None → IsSound st → IsSound (after_narrow n a st)
+pub sound_after_narrow : (st : State) (n : ℕ) (a : List ℕ) → first_refusal (narrow_checks st n a) ≡ None → IsCounted st → IsCounted (after_narrow n a st)
 sound_after_narrow st n a checked sound =
     let none = none_holds (narrow_checks st n a) checked in
     sound-narrowed n a st.issued st.warnings none.1.1.1.0 sound
 
-pub sound_after_stop : (st : State) (n : ℕ) → IsSound st → IsSound (after_stop n st)
+pub sound_after_stop : (st : State) (n : ℕ) → IsCounted st → IsCounted (after_stop n st)
 sound_after_stop st n sound = sound-stopped n st.issued st.warnings sound
 
-pub sound_after_forget : (st : State) (n : ℕ) → IsSound st → IsSound (after_forget n st)
+pub sound_after_forget : (st : State) (n : ℕ) → IsCounted st → IsCounted (after_forget n st)
 sound_after_forget st n sound = sound-without n st.issued st.warnings sound

@@ -2,12 +2,12 @@
 
 use crate::checks::{are_pages, each_once, is_period};
 use crate::content::Content;
-use crate::lent_versions::LentVersions;
 use crate::notice::Notice;
 use crate::refusal::{Limit, Refusal};
+use crate::version::Version;
 use crate::warning::Warning;
 use crate::warning_id::WarningId;
-use crate::{edits, lookups, questions};
+use crate::{edits, lookups, questions, warning_checks};
 use common::Name;
 use serials::{Serial, least_free_code};
 use std::alloc::{AllocError, Global};
@@ -23,24 +23,24 @@ pub struct Book {
 
 impl Model for Book {
     ghost use Rattle.warning_book.specs.Book.{State};
-    ghost use Rattle.warning_book.specs.Sound.{IsSound};
+    ghost use Rattle.warning_book.specs.Sound.{IsCounted};
 
     ghost Value = { State };
 
     ghost view = { λ b. record { issued = b.issued; warnings = b.warnings.items } };
 
-    ghost invariant = { λ b. IsSound (record { issued = b.issued; warnings = b.warnings.items }) };
+    ghost invariant = { λ b. IsCounted (record { issued = b.issued; warnings = b.warnings.items }) };
 }
 
 impl Book {
-    ghost use Rattle.std.specs.Prelude.{◌≡◌, ◌≤◌, ◌⊎◌, ◌+◌, None, Some, false, true, length, IfOk, IfErr, OnOk, OnErr};
+    ghost use Rattle.std.specs.Prelude.{◌≡◌, ◌≤◌, ◌⊎◌, ◌+◌, None, Some, true, length, IfOk, IfErr, OnOk, OnErr};
     ghost use Rattle.std.specs.List.{list_any, list_all};
-    ghost use Rattle.std.specs.Option.{option_map, option_copied};
-    ghost use Rattle.warning_book.specs.Book.{empty, number_lt, names, is_active, warning_of, current, message_id, versions, lent, numbers, naming, areas_of, content_of, new_serial, next_serial, after_issue, after_update, after_widen, after_narrow, after_stop, after_forget};
+    ghost use Rattle.std.specs.Option.{option_copied};
+    ghost use Rattle.warning_book.specs.Book.{empty, number_lt, names, is_active, warning_of, current, message_id, versions_of, numbers, naming, areas_of, content_of, new_serial, next_serial, after_issue, after_update, after_widen, after_narrow, after_stop, after_forget};
     ghost use Rattle.common.specs.Checks.{first_refusal};
     ghost use Rattle.common.specs.Order.{is_ascending};
     ghost use Rattle.warning_book.specs.Checks.{issue_checks, update_checks, widen_checks, narrow_checks, stop_checks, forget_checks};
-    ghost use Rattle.warning_book.specs.Sound.{was_issued, has_areas, has_contents, counts_updates, has_serials, have_own_codes};
+    ghost use Rattle.warning_book.specs.Sound.{was_issued, has_areas, has_contents, has_versions, has_serials, has_one_code, have_own_codes};
     ghost use Rattle.warning_book.specs.declared.refusal.Refusal.TheVariants as refusal;
 
     /// A book without warnings. What it will need is taken from the allocator.
@@ -65,18 +65,10 @@ impl Book {
         }
     }
 
-    /// Puts a new warning into the book, and answers its number and its serial number.
-    ///
-    /// Refused as `NoAreas`, `AreaThere` where an area is named twice, `BadPages`, `BadPeriod`, or `Limit` of warnings,
-    /// areas or numbers, the first that holds, else as `Memory` where memory is wanting; an `Err` leaves the book as it
-    /// was.
-    pub fn issue(&mut self, notice: &Notice, areas: &[Name]) -> Result<(WarningId, Serial), Refusal>
-        ensures accepted { OnOk result (first_refusal (issue_checks self.old notice.now areas.now) ≡ None) }
-        ensures number { IfOk result (λ issued. issued.0 ≡ self.old.issued + 1) }
-        ensures serial { IfOk result (λ issued. new_serial self.old notice.now ≡ Some issued.1) }
-        ensures changed { IfOk result (λ issued. self.new ≡ after_issue notice.now areas.now issued.1 self.old) }
-        ensures refused { IfErr result (λ e. (first_refusal (issue_checks self.old notice.now areas.now) ≡ Some e) ⊎ ((e ≡ refusal.Memory) × (first_refusal (issue_checks self.old notice.now areas.now) ≡ None))) }
-        ensures unchanged { OnErr result (self.new ≡ self.old) }
+    /// Whether `issue` takes the warning, memory aside.
+    pub fn check_issue(&self, notice: &Notice, areas: &[Name]) -> Result<(), Refusal>
+        ensures accepted { OnOk result (first_refusal (issue_checks self.now notice.now areas.now) ≡ None) }
+        ensures refused { IfErr result (λ e. first_refusal (issue_checks self.now notice.now areas.now) ≡ Some e) }
     {
         if areas.is_empty() {
             return Err(Refusal::NoAreas);
@@ -103,6 +95,23 @@ impl Book {
         if self.issued >= 4294967295 {
             return Err(Refusal::Limit { which: Limit::Ids });
         }
+        Ok(())
+    }
+
+    /// Puts a new warning into the book, and answers its number and its serial number.
+    ///
+    /// Refused as `NoAreas`, `AreaThere` where an area is named twice, `BadPages`, `BadPeriod`, or `Limit` of warnings,
+    /// areas or numbers, the first that holds, else as `Memory` where it is out of memory; an `Err` leaves the book as
+    /// it was.
+    pub fn issue(&mut self, notice: &Notice, areas: &[Name]) -> Result<(WarningId, Serial), Refusal>
+        ensures accepted { OnOk result (first_refusal (issue_checks self.old notice.now areas.now) ≡ None) }
+        ensures number { IfOk result (λ issued. issued.0 ≡ self.old.issued + 1) }
+        ensures serial { IfOk result (λ issued. new_serial self.old notice.now ≡ Some issued.1) }
+        ensures changed { IfOk result (λ issued. self.new ≡ after_issue notice.now areas.now issued.1 self.old) }
+        ensures refused { IfErr result (λ e. (first_refusal (issue_checks self.old notice.now areas.now) ≡ Some e) ⊎ ((e ≡ refusal.Memory) × (first_refusal (issue_checks self.old notice.now areas.now) ≡ None))) }
+        ensures unchanged { OnErr result (self.new ≡ self.old) }
+    {
+        self.check_issue(notice, areas)?;
         let Some(serial) = self.new_serial(notice)? else {
             return Err(Refusal::Limit {
                 which: Limit::Warnings,
@@ -121,125 +130,132 @@ impl Book {
         Ok((number, serial))
     }
 
+    /// Whether `update` takes the content, memory aside.
+    pub fn check_update(&self, number: WarningId, content: &Content) -> Result<(), Refusal>
+        ensures accepted { OnOk result (first_refusal (update_checks self.now number content.now) ≡ None) }
+        ensures refused { IfErr result (λ e. first_refusal (update_checks self.now number content.now) ≡ Some e) }
+    {
+        match lookups::find(self.warnings.as_slice(), number) {
+            Some(warning) => warning_checks::check_update(warning, content),
+            None => Err(Refusal::NoSuchWarning),
+        }
+    }
+
     /// Gives a warning a new version, and answers its serial number.
     ///
     /// Refused as `NoSuchWarning`, `NotActive`, `BadPages`, `BadPeriod` or `UpdatesExhausted`, the first that holds,
-    /// else as `Memory` where memory is wanting; an `Err` leaves the book as it was.
-    pub fn update(&mut self, w: WarningId, content: &Content) -> Result<Serial, Refusal>
-        ensures accepted { OnOk result (first_refusal (update_checks self.old w content.now) ≡ None) }
-        ensures serial { IfOk result (λ s. next_serial self.old w ≡ Some s) }
-        ensures changed { OnOk result (self.new ≡ after_update w content.now self.old) }
-        ensures refused { IfErr result (λ e. (first_refusal (update_checks self.old w content.now) ≡ Some e) ⊎ ((e ≡ refusal.Memory) × (first_refusal (update_checks self.old w content.now) ≡ None))) }
+    /// else as `Memory` where it is out of memory; an `Err` leaves the book as it was.
+    pub fn update(&mut self, number: WarningId, content: &Content) -> Result<Serial, Refusal>
+        ensures accepted { OnOk result (first_refusal (update_checks self.old number content.now) ≡ None) }
+        ensures serial { IfOk result (λ s. next_serial self.old number ≡ Some s) }
+        ensures changed { OnOk result (self.new ≡ after_update number content.now self.old) }
+        ensures refused { IfErr result (λ e. (first_refusal (update_checks self.old number content.now) ≡ Some e) ⊎ ((e ≡ refusal.Memory) × (first_refusal (update_checks self.old number content.now) ≡ None))) }
         ensures unchanged { OnErr result (self.new ≡ self.old) }
     {
-        if !lookups::is_there(self.warnings.as_slice(), w) {
-            return Err(Refusal::NoSuchWarning);
+        self.check_update(number, content)?;
+        let serial = edits::update(self.alloc, &mut self.warnings, number, content)?;
+        Ok(serial)
+    }
+
+    /// Whether `widen` takes the area, memory aside.
+    pub fn check_widen(&self, number: WarningId, a: &Name) -> Result<(), Refusal>
+        ensures accepted { OnOk result (first_refusal (widen_checks self.now number a.now) ≡ None) }
+        ensures refused { IfErr result (λ e. first_refusal (widen_checks self.now number a.now) ≡ Some e) }
+    {
+        match lookups::find(self.warnings.as_slice(), number) {
+            Some(warning) => warning_checks::check_widen(warning, a),
+            None => Err(Refusal::NoSuchWarning),
         }
-        if !lookups::is_active(self.warnings.as_slice(), w) {
-            return Err(Refusal::NotActive);
-        }
-        if !are_pages(content.pages.as_slice()) {
-            return Err(Refusal::BadPages);
-        }
-        if !is_period(content.period) {
-            return Err(Refusal::BadPeriod);
-        }
-        let Some(next) = lookups::next_serial(self.warnings.as_slice(), w) else {
-            return Err(Refusal::UpdatesExhausted);
-        };
-        edits::update(self.alloc, &mut self.warnings, w, content, next)?;
-        Ok(next)
     }
 
     /// Puts an area last among those of a warning.
     ///
-    /// Refused as `NoSuchWarning`, `NotActive`, `AreaThere` or `Limit`, the first that holds, else as `Memory` where
-    /// memory is wanting; an `Err` leaves the book as it was.
-    pub fn widen(&mut self, w: WarningId, a: &Name) -> Result<(), Refusal>
-        ensures accepted { OnOk result (first_refusal (widen_checks self.old w a.now) ≡ None) }
-        ensures changed { OnOk result (self.new ≡ after_widen w a.now self.old) }
-        ensures refused { IfErr result (λ e. (first_refusal (widen_checks self.old w a.now) ≡ Some e) ⊎ ((e ≡ refusal.Memory) × (first_refusal (widen_checks self.old w a.now) ≡ None))) }
+    /// Refused as `NoSuchWarning`, `NotActive`, `AreaThere` or `Limit`, the first that holds, else as `Memory` where it
+    /// is out of memory; an `Err` leaves the book as it was.
+    pub fn widen(&mut self, number: WarningId, a: &Name) -> Result<(), Refusal>
+        ensures accepted { OnOk result (first_refusal (widen_checks self.old number a.now) ≡ None) }
+        ensures changed { OnOk result (self.new ≡ after_widen number a.now self.old) }
+        ensures refused { IfErr result (λ e. (first_refusal (widen_checks self.old number a.now) ≡ Some e) ⊎ ((e ≡ refusal.Memory) × (first_refusal (widen_checks self.old number a.now) ≡ None))) }
         ensures unchanged { OnErr result (self.new ≡ self.old) }
     {
-        if !lookups::is_there(self.warnings.as_slice(), w) {
-            return Err(Refusal::NoSuchWarning);
-        }
-        if !lookups::is_active(self.warnings.as_slice(), w) {
-            return Err(Refusal::NotActive);
-        }
-        if lookups::names(self.warnings.as_slice(), w, a) {
-            return Err(Refusal::AreaThere);
-        }
-        if lookups::is_full(self.warnings.as_slice(), w) {
-            return Err(Refusal::Limit {
-                which: Limit::WarningAreas,
-            });
-        }
-        edits::widen(self.alloc, &mut self.warnings, w, a)?;
+        self.check_widen(number, a)?;
+        edits::widen(self.alloc, &mut self.warnings, number, a)?;
         Ok(())
+    }
+
+    /// Whether `narrow` takes the area.
+    pub fn check_narrow(&self, number: WarningId, a: &Name) -> Result<(), Refusal>
+        ensures accepted { OnOk result (first_refusal (narrow_checks self.now number a.now) ≡ None) }
+        ensures refused { IfErr result (λ e. first_refusal (narrow_checks self.now number a.now) ≡ Some e) }
+    {
+        match lookups::find(self.warnings.as_slice(), number) {
+            Some(warning) => warning_checks::check_narrow(warning, a),
+            None => Err(Refusal::NoSuchWarning),
+        }
     }
 
     /// Takes an area out of those of a warning, whose others keep their order.
     ///
     /// Refused as `NoSuchWarning`, `NotActive`, `AreaNotThere` or `LastArea`, the first that holds, which leaves the
     /// book as it was.
-    pub fn narrow(&mut self, w: WarningId, a: &Name) -> Result<(), Refusal>
-        ensures accepted { OnOk result (first_refusal (narrow_checks self.old w a.now) ≡ None) }
-        ensures changed { OnOk result (self.new ≡ after_narrow w a.now self.old) }
-        ensures refused { IfErr result (λ e. first_refusal (narrow_checks self.old w a.now) ≡ Some e) }
+    pub fn narrow(&mut self, number: WarningId, a: &Name) -> Result<(), Refusal>
+        ensures accepted { OnOk result (first_refusal (narrow_checks self.old number a.now) ≡ None) }
+        ensures changed { OnOk result (self.new ≡ after_narrow number a.now self.old) }
+        ensures refused { IfErr result (λ e. first_refusal (narrow_checks self.old number a.now) ≡ Some e) }
         ensures unchanged { OnErr result (self.new ≡ self.old) }
     {
-        if !lookups::is_there(self.warnings.as_slice(), w) {
-            return Err(Refusal::NoSuchWarning);
-        }
-        if !lookups::is_active(self.warnings.as_slice(), w) {
-            return Err(Refusal::NotActive);
-        }
-        if !lookups::names(self.warnings.as_slice(), w, a) {
-            return Err(Refusal::AreaNotThere);
-        }
-        if lookups::has_one_area(self.warnings.as_slice(), w) {
-            return Err(Refusal::LastArea);
-        }
-        edits::narrow(&mut self.warnings, w, a);
+        self.check_narrow(number, a)?;
+        edits::narrow(&mut self.warnings, number, a);
         Ok(())
+    }
+
+    /// Whether `stop` takes the warning.
+    pub fn check_stop(&self, number: WarningId) -> Result<(), Refusal>
+        ensures accepted { OnOk result (first_refusal (stop_checks self.now number) ≡ None) }
+        ensures refused { IfErr result (λ e. first_refusal (stop_checks self.now number) ≡ Some e) }
+    {
+        match lookups::find(self.warnings.as_slice(), number) {
+            Some(warning) => warning_checks::check_stop(warning),
+            None => Err(Refusal::NoSuchWarning),
+        }
     }
 
     /// Stops a warning, which stays in the book, and takes no memory.
     ///
     /// Refused as `NoSuchWarning` or `NotActive`, the first that holds, which leaves the book as it was.
-    pub fn stop(&mut self, w: WarningId) -> Result<(), Refusal>
-        ensures accepted { OnOk result (first_refusal (stop_checks self.old w) ≡ None) }
-        ensures changed { OnOk result (self.new ≡ after_stop w self.old) }
-        ensures refused { IfErr result (λ e. first_refusal (stop_checks self.old w) ≡ Some e) }
+    pub fn stop(&mut self, number: WarningId) -> Result<(), Refusal>
+        ensures accepted { OnOk result (first_refusal (stop_checks self.old number) ≡ None) }
+        ensures changed { OnOk result (self.new ≡ after_stop number self.old) }
+        ensures refused { IfErr result (λ e. first_refusal (stop_checks self.old number) ≡ Some e) }
         ensures unchanged { OnErr result (self.new ≡ self.old) }
     {
-        if !lookups::is_there(self.warnings.as_slice(), w) {
-            return Err(Refusal::NoSuchWarning);
-        }
-        if !lookups::is_active(self.warnings.as_slice(), w) {
-            return Err(Refusal::NotActive);
-        }
-        edits::stop(&mut self.warnings, w);
+        self.check_stop(number)?;
+        edits::stop(&mut self.warnings, number);
         Ok(())
+    }
+
+    /// Whether `forget` takes the warning.
+    pub fn check_forget(&self, number: WarningId) -> Result<(), Refusal>
+        ensures accepted { OnOk result (first_refusal (forget_checks self.now number) ≡ None) }
+        ensures refused { IfErr result (λ e. first_refusal (forget_checks self.now number) ≡ Some e) }
+    {
+        match lookups::find(self.warnings.as_slice(), number) {
+            Some(warning) => warning_checks::check_forget(warning),
+            None => Err(Refusal::NoSuchWarning),
+        }
     }
 
     /// Takes a stopped warning out of the book, with its versions and its areas, and takes no memory.
     ///
     /// Refused as `NoSuchWarning` or `StillActive`, the first that holds, which leaves the book as it was.
-    pub fn forget(&mut self, w: WarningId) -> Result<(), Refusal>
-        ensures accepted { OnOk result (first_refusal (forget_checks self.old w) ≡ None) }
-        ensures changed { OnOk result (self.new ≡ after_forget w self.old) }
-        ensures refused { IfErr result (λ e. first_refusal (forget_checks self.old w) ≡ Some e) }
+    pub fn forget(&mut self, number: WarningId) -> Result<(), Refusal>
+        ensures accepted { OnOk result (first_refusal (forget_checks self.old number) ≡ None) }
+        ensures changed { OnOk result (self.new ≡ after_forget number self.old) }
+        ensures refused { IfErr result (λ e. first_refusal (forget_checks self.old number) ≡ Some e) }
         ensures unchanged { OnErr result (self.new ≡ self.old) }
     {
-        if !lookups::is_there(self.warnings.as_slice(), w) {
-            return Err(Refusal::NoSuchWarning);
-        }
-        if lookups::is_active(self.warnings.as_slice(), w) {
-            return Err(Refusal::StillActive);
-        }
-        edits::forget(&mut self.warnings, w);
+        self.check_forget(number)?;
+        edits::forget(&mut self.warnings, number);
         Ok(())
     }
 
@@ -251,45 +267,45 @@ impl Book {
     }
 
     /// The warning of that number; `None` where there is no such warning.
-    pub fn find(&self, w: WarningId) -> Option<&Warning>
-        ensures { option_copied result ≡ warning_of self.now w }
+    pub fn find(&self, number: WarningId) -> Option<&Warning>
+        ensures { option_copied result ≡ warning_of self.now number }
     {
-        lookups::find(self.warnings.as_slice(), w)
+        lookups::find(self.warnings.as_slice(), number)
     }
 
     /// The serial number of the warning's current version; `None` where there is no such warning.
-    pub fn current(&self, w: WarningId) -> Option<Serial>
-        ensures { result ≡ current self.now w }
+    pub fn current(&self, number: WarningId) -> Option<Serial>
+        ensures { result ≡ current self.now number }
     {
-        lookups::current(self.warnings.as_slice(), w)
+        lookups::current(self.warnings.as_slice(), number)
     }
 
     /// The warning's message identifier; `None` where there is no such warning.
-    pub fn message_id(&self, w: WarningId) -> Option<u16>
-        ensures { result ≡ message_id self.now w }
+    pub fn message_id(&self, number: WarningId) -> Option<u16>
+        ensures { result ≡ message_id self.now number }
     {
-        lookups::message_id(self.warnings.as_slice(), w)
+        lookups::message_id(self.warnings.as_slice(), number)
     }
 
     /// Whether the warning was issued and neither stopped nor forgotten.
-    pub fn is_active(&self, w: WarningId) -> bool
-        ensures { result ≡ is_active self.now w }
+    pub fn is_active(&self, number: WarningId) -> bool
+        ensures { result ≡ is_active self.now number }
     {
-        lookups::is_active(self.warnings.as_slice(), w)
+        lookups::is_active(self.warnings.as_slice(), number)
     }
 
-    /// The versions of the warning, the newest first; `None` where there is no such warning.
-    pub fn versions(&self, w: WarningId) -> Option<LentVersions<'_>>
-        ensures { option_map lent result ≡ option_map versions (warning_of self.now w) }
+    /// The versions of the warning in the order of issue, the current one last; none where there is no such warning.
+    pub fn versions(&self, number: WarningId) -> &[Version]
+        ensures { result.now ≡ versions_of number self.now.warnings }
     {
-        lookups::versions(self.warnings.as_slice(), w)
+        lookups::versions_of(self.warnings.as_slice(), number)
     }
 
     /// The areas of the warning, in the order in which they were named; none where there is no such warning.
-    pub fn areas_of(&self, w: WarningId) -> &[Name]
-        ensures { result.now ≡ areas_of w self.now.warnings }
+    pub fn areas_of(&self, number: WarningId) -> &[Name]
+        ensures { result.now ≡ areas_of number self.now.warnings }
     {
-        lookups::areas_of(self.warnings.as_slice(), w)
+        lookups::areas_of(self.warnings.as_slice(), number)
     }
 
     /// The numbers of the warnings in the book, in order.
@@ -334,16 +350,17 @@ impl Book {
         self.warnings.len()
     }
 
-    /// Tells what always holds of a book.
-    pub fn is_sound(&self)
+    /// Lemma: what holds of every book, for the proofs of callers. It does nothing.
+    pub fn tell_soundness(&self)
         ensures ordered { is_ascending number_lt self.now.warnings ≡ true }
         ensures given { list_all (was_issued self.now.issued) self.now.warnings ≡ true }
         ensures few { length self.now.warnings ≤ 256 }
         ensures areas { list_all has_areas self.now.warnings ≡ true }
         ensures contents { list_all has_contents self.now.warnings ≡ true }
-        ensures counted { list_all counts_updates self.now.warnings ≡ true }
-        ensures older { list_all has_serials self.now.warnings ≡ true }
-        ensures codes { have_own_codes self.now.warnings ≡ true }
+        ensures versions { list_all has_versions self.now.warnings ≡ true }
+        ensures serials { list_all has_serials self.now.warnings ≡ true }
+        ensures codes { list_all has_one_code self.now.warnings ≡ true }
+        ensures own_codes { have_own_codes self.now.warnings ≡ true }
     {
         let _ = &self.alloc;
     }

@@ -2,6 +2,7 @@
 
 ghost use Rattle.std.specs.Prelude.{◌≡◌, ◌↔◌, IsTrue, IfOk};
 
+use crate::category::Category;
 use crate::content_pages::ContentPages;
 use std::alloc::{AllocError, Global};
 
@@ -10,8 +11,7 @@ use std::alloc::{AllocError, Global};
 pub struct Content {
     /// The data coding scheme, as coded by TS 23.038.
     pub dcs: u8,
-    /// 0 high priority, 1 background, 2 normal.
-    pub category: u8,
+    pub category: Category,
     /// The repetition period, in units of 1.883 s: 1 to 1,024.
     pub period: u16,
     /// 1 to 15 pages of 1 to 82 octets.

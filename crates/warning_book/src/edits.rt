@@ -1,14 +1,17 @@
 //! The edits of a list of warnings that nothing forbids.
 
-ghost use Rattle.std.specs.Prelude.{◌≡◌, ◌+◌, ◌++◌, ◌∷◌, [], Some, true, false, bytes_eq, find, OnOk, OnErr};
+ghost use Rattle.std.specs.Prelude.{◌≡◌, ◌++◌, ◌∷◌, [], Some, true, false, bytes_eq, find, IfOk, IfErr, OnOk, OnErr};
 ghost use Rattle.std.specs.List.{list_any};
-ghost use Rattle.std.specs.Option.{option_map};
-ghost use Rattle.warning_book.specs.Book.{has_number, names, number_lt, is_so, new_warning, updated, widened, narrowed, stopped, edited, without};
+ghost use Rattle.std.specs.Option.{option_map, option_and_then};
 ghost use Rattle.common.specs.Order.{each_once, is_ascending};
+ghost use Rattle.serials.specs.Serials.{next_of};
+ghost use Rattle.warning_book.specs.Book.{has_number, names, number_lt, current_of, is_exhausted, is_so, new_warning, updated, widened, narrowed, stopped, edited, without};
+ghost use Rattle.warning_book.specs.declared.refusal.Refusal.TheVariants as refusal;
 
 use crate::content::Content;
 use crate::lookups::place_of;
 use crate::notice::Notice;
+use crate::refusal::Refusal;
 use crate::version::Version;
 use crate::versions::Versions;
 use crate::warning::Warning;
@@ -31,12 +34,13 @@ pub(crate) fn issue(
     ensures issued { OnOk result (warnings.new.items ≡ warnings.old.items ++ new_warning number notice.now areas.now serial ∷ []) }
     ensures unchanged { OnErr result (warnings.new.items ≡ warnings.old.items) }
 {
+    let content = notice.content.copied(alloc)?;
+    let mut versions = Versions::new(alloc);
+    versions.push(Version { serial, content })?;
     let warning = Warning {
         number,
         message_id: notice.message_id,
-        serial,
-        content: notice.content.copied(alloc)?,
-        outdated: Versions::new(alloc),
+        versions,
         areas: WarningAreas::copied(alloc, areas)?,
         active: true,
     };
@@ -44,47 +48,44 @@ pub(crate) fn issue(
     Ok(())
 }
 
-/// Makes the content the warning's current version, which has the next serial number.
-fn update_one(
-    alloc: Global,
-    warning: &mut Warning,
-    content: &Content,
-    next: Serial,
-) -> Result<(), AllocError>
-    requires { next ≡ warning.old.serial + 1 }
+/// Makes the content the warning's current version, and answers its serial number.
+fn update_one(alloc: Global, warning: &mut Warning, content: &Content) -> Result<Serial, Refusal>
+    requires { is_exhausted warning.old ≡ false }
+    ensures serial { IfOk result (λ s. option_map next_of (current_of warning.old) ≡ Some s) }
     ensures updated { OnOk result (warning.new ≡ updated content.now warning.old) }
+    ensures memory { IfErr result (λ e. e ≡ refusal.Memory) }
     ensures unchanged { OnErr result (warning.new ≡ warning.old) }
 {
-    let content = content.copied(alloc)?;
-    let version = Version {
-        serial: warning.serial,
-        content: warning.content.copied(alloc)?,
+    let Some(serial) = warning.next_serial() else {
+        return Err(Refusal::UpdatesExhausted);
     };
-    warning.outdated.put_first(version)?;
-    warning.serial = next;
-    warning.content = content;
-    Ok(())
+    let content = content.copied(alloc)?;
+    warning.versions.push(Version { serial, content })?;
+    Ok(serial)
 }
 
-/// Makes the content the current version of the warning of that number, which has the next serial number.
+/// Makes the content the current version of the warning of that number, and answers its serial number.
 pub(crate) fn update(
     alloc: Global,
     warnings: &mut Vec<Warning>,
-    n: WarningId,
+    number: WarningId,
     content: &Content,
-    next: Serial,
-) -> Result<(), AllocError>
+) -> Result<Serial, Refusal>
     requires ordered { is_ascending number_lt warnings.old.items ≡ true }
-    requires next { option_map (λ w. w.serial + 1) (find (has_number n) warnings.old.items) ≡ Some next }
-    ensures updated { OnOk result (warnings.new.items ≡ edited n (updated content.now) warnings.old.items) }
+    requires there { list_any (has_number number) warnings.old.items ≡ true }
+    requires left { is_so number is_exhausted warnings.old.items ≡ false }
+    ensures serial { IfOk result (λ s. option_map next_of (option_and_then current_of (find (has_number number) warnings.old.items)) ≡ Some s) }
+    ensures updated { OnOk result (warnings.new.items ≡ edited number (updated content.now) warnings.old.items) }
+    ensures memory { IfErr result (λ e. e ≡ refusal.Memory) }
     ensures unchanged { OnErr result (warnings.new.items ≡ warnings.old.items) }
 {
-    let place = place_of(warnings.as_slice(), n);
-    if place < warnings.len() {
-        let warning = &mut warnings[place];
-        update_one(alloc, warning, content, next)?;
+    let place = place_of(warnings.as_slice(), number);
+    if place >= warnings.len() {
+        return Err(Refusal::NoSuchWarning);
     }
-    Ok(())
+    let warning = &mut warnings[place];
+    let serial = update_one(alloc, warning, content)?;
+    Ok(serial)
 }
 
 fn widen_one(alloc: Global, warning: &mut Warning, a: &Name) -> Result<(), AllocError>
@@ -100,15 +101,15 @@ fn widen_one(alloc: Global, warning: &mut Warning, a: &Name) -> Result<(), Alloc
 pub(crate) fn widen(
     alloc: Global,
     warnings: &mut Vec<Warning>,
-    n: WarningId,
+    number: WarningId,
     a: &Name,
 ) -> Result<(), AllocError>
     requires ordered { is_ascending number_lt warnings.old.items ≡ true }
-    requires new { is_so n (names a.now) warnings.old.items ≡ false }
-    ensures widened { OnOk result (warnings.new.items ≡ edited n (widened a.now) warnings.old.items) }
+    requires new { is_so number (names a.now) warnings.old.items ≡ false }
+    ensures widened { OnOk result (warnings.new.items ≡ edited number (widened a.now) warnings.old.items) }
     ensures unchanged { OnErr result (warnings.new.items ≡ warnings.old.items) }
 {
-    let place = place_of(warnings.as_slice(), n);
+    let place = place_of(warnings.as_slice(), number);
     if place < warnings.len() {
         let warning = &mut warnings[place];
         widen_one(alloc, warning, a)?;
@@ -123,11 +124,11 @@ fn narrow_one(warning: &mut Warning, a: &Name)
 }
 
 /// Takes the area out of those of the warning of that number; the rest keep their order.
-pub(crate) fn narrow(warnings: &mut Vec<Warning>, n: WarningId, a: &Name)
+pub(crate) fn narrow(warnings: &mut Vec<Warning>, number: WarningId, a: &Name)
     requires ordered { is_ascending number_lt warnings.old.items ≡ true }
-    ensures { warnings.new.items ≡ edited n (narrowed a.now) warnings.old.items }
+    ensures { warnings.new.items ≡ edited number (narrowed a.now) warnings.old.items }
 {
-    let place = place_of(warnings.as_slice(), n);
+    let place = place_of(warnings.as_slice(), number);
     if place < warnings.len() {
         let warning = &mut warnings[place];
         narrow_one(warning, a);
@@ -141,11 +142,11 @@ fn stop_one(warning: &mut Warning)
 }
 
 /// Stops the warning of that number.
-pub(crate) fn stop(warnings: &mut Vec<Warning>, n: WarningId)
+pub(crate) fn stop(warnings: &mut Vec<Warning>, number: WarningId)
     requires ordered { is_ascending number_lt warnings.old.items ≡ true }
-    ensures { warnings.new.items ≡ edited n stopped warnings.old.items }
+    ensures { warnings.new.items ≡ edited number stopped warnings.old.items }
 {
-    let place = place_of(warnings.as_slice(), n);
+    let place = place_of(warnings.as_slice(), number);
     if place < warnings.len() {
         let warning = &mut warnings[place];
         stop_one(warning);
@@ -153,8 +154,8 @@ pub(crate) fn stop(warnings: &mut Vec<Warning>, n: WarningId)
 }
 
 /// Takes the warning of that number out.
-pub(crate) fn forget(warnings: &mut Vec<Warning>, n: WarningId)
-    ensures { warnings.new.items ≡ without n warnings.old.items }
+pub(crate) fn forget(warnings: &mut Vec<Warning>, number: WarningId)
+    ensures { warnings.new.items ≡ without number warnings.old.items }
 {
-    warnings.retain(|warning| warning.number != n);
+    warnings.retain(|warning| warning.number != number);
 }

@@ -1,17 +1,17 @@
 //! The warnings that an operator of a cell broadcast centre has issued, each with its versions and its areas.
 //!
-//! A version has a content and a serial number (3GPP TS 23.041, 9.4.1.2.1): the code of a warning stays, and the update
-//! number counts its versions. A stopped warning stays in the book, with its code and its areas, until it is forgotten.
+//! A version has a content and a serial number (3GPP TS 23.041, 9.4.1.2.1). The versions of a warning stand in one list,
+//! the current one last; their scope and code are the same, and their update numbers differ. A stopped warning stays in the book, with its code and its areas, until it is forgotten.
 //! Begin with `book`; the words of its contracts stand in `specs/Book`, the checks of each edit in `specs/Checks`, and
 //! what holds of every book in `specs/Sound`.
 #![tactic(auto)]
 
 mod book;
+mod category;
 mod checks;
 mod content;
 mod content_pages;
 mod edits;
-mod lent_versions;
 mod lookups;
 mod notice;
 mod questions;
@@ -20,12 +20,13 @@ mod version;
 mod versions;
 mod warning;
 mod warning_areas;
+mod warning_checks;
 mod warning_id;
 
 pub use book::Book;
+pub use category::Category;
 pub use content::Content;
 pub use content_pages::ContentPages;
-pub use lent_versions::LentVersions;
 pub use notice::Notice;
 pub use refusal::{Limit, Refusal};
 pub use version::Version;

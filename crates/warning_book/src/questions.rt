@@ -3,8 +3,7 @@
 ghost use Rattle.std.specs.Prelude.{◌≡◌, ◌++◌, ◌∷◌, [], find, nat_eq, IfOk, OnOk, if◌then◌else◌};
 ghost use Rattle.std.specs.List.{list_any};
 ghost use Rattle.std.specs.Option.{option_map, option_copied};
-ghost use Rattle.serials.specs.Serials.{code_of};
-ghost use Rattle.warning_book.specs.Book.{names, numbers, naming, versions_if, content_of, codes_of};
+ghost use Rattle.warning_book.specs.Book.{names, numbers, naming, versions_if, content_of, codes_if, codes_of};
 
 use crate::content::Content;
 use crate::version::Version;
@@ -58,12 +57,14 @@ pub(crate) fn naming(
     Ok(found)
 }
 
-/// Puts the code last if the warning has the message identifier.
+/// Puts the code of the warning last if it has the message identifier.
 fn put_code(codes: &mut Vec<u16>, warning: &Warning, message_id: u16) -> Result<(), AllocError>
-    ensures { OnOk result (codes.new.items ≡ codes.old.items ++ (if nat_eq warning.now.message_id message_id then code_of warning.now.serial ∷ [] else [])) }
+    ensures { OnOk result (codes.new.items ≡ codes.old.items ++ codes_if message_id warning.now) }
 {
     if warning.message_id == message_id {
-        codes.push(warning.serial.code())?;
+        if let Some(serial) = warning.serial() {
+            codes.push(serial.code())?;
+        }
     }
     Ok(())
 }
@@ -101,10 +102,7 @@ fn content_in(warning: &Warning, message_id: u16, serial: Serial) -> Option<&Con
     if warning.message_id != message_id {
         return None;
     }
-    if warning.serial == serial {
-        return Some(&warning.content);
-    }
-    content_among(warning.outdated.as_slice(), serial)
+    content_among(warning.versions.as_slice(), serial)
 }
 
 /// The content that a message identifier and a serial number stand for.

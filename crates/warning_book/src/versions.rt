@@ -1,12 +1,12 @@
 //! A list of versions.
 
-ghost use Rattle.std.specs.Prelude.{◌≡◌, ◌∷◌, [], OnOk, OnErr};
+ghost use Rattle.std.specs.Prelude.{◌≡◌, ◌++◌, ◌∷◌, [], OnOk, OnErr};
 
 use crate::version::Version;
 use std::alloc::{AllocError, Global};
 use std::marker::Model;
 
-/// Versions of a warning, the newest first.
+/// Versions of a warning in the order in which they were issued, the current one last.
 #[derive(Drop)]
 pub struct Versions {
     versions: Vec<Version>,
@@ -37,12 +37,12 @@ impl Versions {
         &self.versions
     }
 
-    /// Puts a version before the others.
-    pub(crate) fn put_first(&mut self, version: Version) -> Result<(), AllocError>
-        ensures put { OnOk result (self.new ≡ version ∷ self.old) }
+    /// Puts a version last, which makes it the current one.
+    pub(crate) fn push(&mut self, version: Version) -> Result<(), AllocError>
+        ensures put { OnOk result (self.new ≡ self.old ++ version ∷ []) }
         ensures unchanged { OnErr result (self.new ≡ self.old) }
     {
-        self.versions.insert(0, version)?;
+        self.versions.push(version)?;
         Ok(())
     }
 }

@@ -1,6 +1,5 @@
 //! A warning in the book.
 
-use crate::content::Content;
 use crate::version::Version;
 use crate::versions::Versions;
 use crate::warning_areas::WarningAreas;
@@ -8,20 +7,21 @@ use crate::warning_id::WarningId;
 use common::Name;
 use serials::Serial;
 
-/// A warning: its current version, those before it, and its areas. It is active until it is stopped.
+/// A warning: its versions and its areas. It is active until it is stopped.
 #[derive(Drop)]
 pub struct Warning {
     pub(crate) number: WarningId,
     pub(crate) message_id: u16,
-    pub(crate) serial: Serial,
-    pub(crate) content: Content,
-    pub(crate) outdated: Versions,
+    pub(crate) versions: Versions,
     pub(crate) areas: WarningAreas,
     pub(crate) active: bool,
 }
 
 impl Warning {
-    ghost use Rattle.std.specs.Prelude.{◌≡◌};
+    ghost use Rattle.std.specs.Prelude.{◌≡◌, Some, true, IfSome, IfNone};
+    ghost use Rattle.std.specs.Option.{option_map};
+    ghost use Rattle.serials.specs.Serials.{next_of};
+    ghost use Rattle.warning_book.specs.Book.{current_of, is_exhausted};
 
     pub fn number(&self) -> WarningId
         ensures { result ≡ self.now.number }
@@ -36,18 +36,43 @@ impl Warning {
         self.message_id
     }
 
-    /// The serial number of the current version.
-    pub fn serial(&self) -> Serial
-        ensures { result ≡ self.now.serial }
+    /// The versions in the order in which they were issued, the current one last.
+    pub fn versions(&self) -> &[Version]
+        ensures { result.now ≡ self.now.versions }
     {
-        self.serial
+        self.versions.as_slice()
     }
 
-    /// The versions before the current one, the newest first.
-    pub fn outdated(&self) -> &[Version]
-        ensures { result.now ≡ self.now.outdated }
+    /// The serial number of the current version.
+    #[tactic(auto, using(crate::proofs::VersionLemmas::last_at))]
+    pub fn serial(&self) -> Option<Serial>
+        ensures { result ≡ current_of self.now }
     {
-        self.outdated.as_slice()
+        self.versions
+            .as_slice()
+            .last()
+            .map(|version| version.serial)
+    }
+
+    /// The serial number of the next version; `None` where no update number is left.
+    pub(crate) fn next_serial(&self) -> Option<Serial>
+        ensures next { IfSome result (λ s. option_map next_of (current_of self.now) ≡ Some s) }
+        ensures none { IfNone result (is_exhausted self.now ≡ true) }
+    {
+        match self.serial() {
+            Some(serial) => serial.next(),
+            None => None,
+        }
+    }
+
+    /// Whether no update number is left for a next version.
+    pub(crate) fn is_exhausted(&self) -> bool
+        ensures { result ≡ is_exhausted self.now }
+    {
+        match self.serial() {
+            Some(serial) => serial.update() == 15,
+            None => true,
+        }
     }
 
     /// The areas, in the order in which they were named.

@@ -15,7 +15,7 @@ impl Model for WarningId {
 
     ghost Value = { ℕ };
 
-    ghost view = { λ w. w.number };
+    ghost view = { λ id. id.number };
 
     ghost inverse = { λ n. record { number = n } };
 }

@@ -5,4 +5,4 @@ use Rattle.warning_book.proofs.edits.forget.Goals as goal
 
 pub returns : goal.returns
 returns c =
-    filter_same _ (λ w. not (has_number c.args.n w)) _ (λ w b f' k. search rules) _ _ c.retain.ensures.filtered
+    filter_same _ (λ w. not (has_number c.args.number w)) _ (λ w b f' k. search rules) _ _ c.retain.ensures.filtered

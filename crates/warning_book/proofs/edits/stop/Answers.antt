@@ -6,12 +6,12 @@ use Rattle.warning_book.proofs.edits.stop.Goals as goal
 
 pub returns-then-place-len : goal.returns-then-place-len
 returns-then-place-len c =
-    let place : c.place_of-place.result ≡ position_or_len (has_number c.args.n) c.args.warnings.now.items = search rules in
+    let place : c.place_of-place.result ≡ position_or_len (has_number c.args.number) c.args.warnings.now.items = search rules in
     let within : c.place_of-place.result < length c.args.warnings.now.items = search rules in
-    changed_at_place c.args.n stopped c.args.warnings.now.items c.place_of-place.result c.index_mut-warning.result.now c.stop_one.new.warning c.requires.ordered place within (search rules) c.stop_one.ensures
+    changed_at_place c.args.number stopped c.args.warnings.now.items c.place_of-place.result c.index_mut-warning.result.now c.stop_one.new.warning c.requires.ordered place within (search rules) c.stop_one.ensures
 
 pub returns-else-place-len : goal.returns-else-place-len
 returns-else-place-len c =
-    let place : c.place_of-place.result ≡ position_or_len (has_number c.args.n) c.args.warnings.now.items = search rules in
+    let place : c.place_of-place.result ≡ position_or_len (has_number c.args.number) c.args.warnings.now.items = search rules in
     let past : length c.args.warnings.now.items ≤ c.place_of-place.result = search rules in
-    unchanged_past c.args.n stopped c.args.warnings.now.items c.place_of-place.result place past
+    unchanged_past c.args.number stopped c.args.warnings.now.items c.place_of-place.result place past

@@ -1,27 +1,33 @@
-use Rattle.std.proofs.Common.{◌≡◌, ◌+◌, ◌<◌, ◌≤◌, ◌∙◌, Some, ap, sym, length, rules}
+use Rattle.std.proofs.Common.{◌≡◌, ◌<◌, ◌≤◌, Option, ap, length, rules}
 use Rattle.std.specs.List.{position_or_len}
-use Rattle.std.specs.Option.{option_map}
-use Rattle.warning_book.proofs.PlaceLemmas.{changed_at_place, unchanged_past, found_at_place}
-use Rattle.warning_book.specs.Book.{has_number, updated}
+use Rattle.std.specs.Option.{option_map, option_and_then}
+use Rattle.serials.specs.Serials.{next_of}
+use Rattle.warning_book.proofs.PlaceLemmas.{changed_at_place, found_at_place, not_so_at_place, has_place}
+use Rattle.warning_book.specs.Book.{has_number, current_of, is_exhausted, updated}
 use Rattle.warning_book.specs.declared.warning.Warning.{Warning}
 use Rattle.warning_book.proofs.edits.update.Goals as goal
 
+pub returns-then-place-len-clause-memory : goal.returns-then-place-len-clause-memory
+returns-then-place-len-clause-memory c =
+    let place : c.place_of-place.result ≡ position_or_len (has_number c.args.number) c.args.warnings.now.items = search rules in
+    let past : length c.args.warnings.now.items ≤ c.place_of-place.result = search rules in
+    has_place c.args.number c.args.warnings.now.items c.place_of-place.result place past c.requires.there
+
 pub update_one-requires : goal.update_one-requires
 update_one-requires c =
-    let place : c.place_of-place.result ≡ position_or_len (has_number c.args.n) c.args.warnings.now.items = search rules in
+    let place : c.place_of-place.result ≡ position_or_len (has_number c.args.number) c.args.warnings.now.items = search rules in
     let within : c.place_of-place.result < length c.args.warnings.now.items = search rules in
-    let found = found_at_place c.args.n c.args.warnings.now.items c.place_of-place.result c.index_mut-warning.result.now place within (search rules) in
-    let next : Some c.args.next ≡ Some (c.index_mut-warning.result.now.serial + 1) = sym c.requires.next ∙ ap (option_map (λ (w : Warning). w.serial + 1)) found in
-    cc
+    not_so_at_place c.args.number is_exhausted c.args.warnings.now.items c.place_of-place.result c.index_mut-warning.result.now place within (search rules) c.requires.left
 
-pub returns-in_ok-update_one-clause-updated : goal.returns-in_ok-update_one-clause-updated
-returns-in_ok-update_one-clause-updated c =
-    let place : c.place_of-place.result ≡ position_or_len (has_number c.args.n) c.args.warnings.now.items = search rules in
+pub returns-clause-serial : goal.returns-clause-serial
+returns-clause-serial c =
+    let place : c.place_of-place.result ≡ position_or_len (has_number c.args.number) c.args.warnings.now.items = search rules in
     let within : c.place_of-place.result < length c.args.warnings.now.items = search rules in
-    changed_at_place c.args.n (updated c.args.content.now) c.args.warnings.now.items c.place_of-place.result c.index_mut-warning.result.now c.update_one.new.warning c.requires.ordered place within (search rules) c.in_ok-update_one.ensures.updated
+    let found = found_at_place c.args.number c.args.warnings.now.items c.place_of-place.result c.index_mut-warning.result.now place within (search rules) in
+    rw (ap (λ (o : Option Warning). option_map next_of (option_and_then current_of o)) found) c.in_ok-serial.ensures.serial
 
-pub returns-else-place-len-clause-updated : goal.returns-else-place-len-clause-updated
-returns-else-place-len-clause-updated c =
-    let place : c.place_of-place.result ≡ position_or_len (has_number c.args.n) c.args.warnings.now.items = search rules in
-    let past : length c.args.warnings.now.items ≤ c.place_of-place.result = search rules in
-    unchanged_past c.args.n (updated c.args.content.now) c.args.warnings.now.items c.place_of-place.result place past
+pub returns-clause-updated : goal.returns-clause-updated
+returns-clause-updated c =
+    let place : c.place_of-place.result ≡ position_or_len (has_number c.args.number) c.args.warnings.now.items = search rules in
+    let within : c.place_of-place.result < length c.args.warnings.now.items = search rules in
+    changed_at_place c.args.number (updated c.args.content.now) c.args.warnings.now.items c.place_of-place.result c.index_mut-warning.result.now c.update_one.new.warning c.requires.ordered place within (search rules) c.in_ok-serial.ensures.updated

@@ -8,5 +8,5 @@ pub invariant_of-self-2 : goal.invariant_of-self-2
 invariant_of-self-2 c =
     let pages : are_pages c.args.content.now.pages ≡ true = search rules in
     let period : is_period c.args.content.now.period ≡ true = search rules in
-    let left : is_so c.args.w is_exhausted c.self.inside.warnings.items ≡ false = search rules in
-    rw c.in_ok-update.ensures.updated (sound-updated c.args.w c.args.content.now _ _ pages period left c.self.invariant)
+    let left : is_so c.args.number is_exhausted c.self.inside.warnings.items ≡ false = search rules in
+    rw c.in_ok-serial.ensures.updated (sound-updated c.args.number c.args.content.now _ _ pages period left c.self.invariant)

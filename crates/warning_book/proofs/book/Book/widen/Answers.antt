@@ -5,6 +5,6 @@ use Rattle.warning_book.proofs.book.Book.widen.Goals as goal
 
 pub invariant_of-self-2 : goal.invariant_of-self-2
 invariant_of-self-2 c =
-    let new : is_so c.args.w (names c.args.a.now) c.self.inside.warnings.items ≡ false = search rules in
-    let room : is_so c.args.w is_full c.self.inside.warnings.items ≡ false = search rules in
-    rw c.in_ok-widen.ensures.widened (sound-widened c.args.w c.args.a.now _ _ new room c.self.invariant)
+    let new : is_so c.args.number (names c.args.a.now) c.self.inside.warnings.items ≡ false = search rules in
+    let room : is_so c.args.number is_full c.self.inside.warnings.items ≡ false = search rules in
+    rw c.in_ok-widen.ensures.widened (sound-widened c.args.number c.args.a.now _ _ new room c.self.invariant)
