@@ -41,8 +41,13 @@ fn every_call_answers(rt: HostRuntime) -> Result<(), Fail> {
     areas.add_area(&coast)?;
     areas.put(&coast, Selector::Cell(CELL))?;
     assert!(rt; areas.areas_of(CELL)?.same(&list(alloc, &[b"Coast"])?));
+    areas.check_put(&coast, Selector::Lac(100))?;
+    areas.check_cut(&coast, Selector::Cell(CELL))?;
     areas.cut(&coast, Selector::Cell(CELL))?;
+    areas.check_drop_area(&coast)?;
     areas.drop_area(&coast)?;
+    areas.check_add_area(&coast)?;
+    areas.tell_soundness();
     Ok(())
 }
 
