@@ -34,7 +34,7 @@ impl Areas {
     ghost use Rattle.common.specs.Order.{is_ascending, each_once};
     ghost use Rattle.areas.specs.Areas.{has_area, selectors_of, has_selector, covers, areas_of, named_lt, with_area, without_area, with_selector, without_selector};
     ghost use Rattle.common.specs.Checks.{first_refusal};
-    ghost use Rattle.areas.specs.Selector.{selector_eq};
+    ghost use Rattle.areas.specs.Selector.{selector_eq, selector_lt};
     ghost use Rattle.areas.specs.Checks.{add_area_checks, drop_area_checks, put_checks, cut_checks};
     ghost use Rattle.areas.specs.declared.refusal.Refusal.TheVariants as refusal;
 
@@ -140,7 +140,7 @@ impl Areas {
         Ok(())
     }
 
-    /// Puts a selector into an area, behind those that are there. Refused as `NoSuchArea`, `SelectorThere` or `Limit`,
+    /// Puts a selector into an area, in its place by location area. Refused as `NoSuchArea`, `SelectorThere` or `Limit`,
     /// the first that holds, else as `Memory` where memory is wanting; an `Err` leaves the areas as they were.
     pub fn put(&mut self, a: &Name, s: Selector) -> Result<(), Refusal>
         ensures accepted { OnOk result (first_refusal (put_checks self.old a.now s) ≡ None) }
@@ -195,9 +195,11 @@ impl Areas {
     }
 
     /// A lemma, not a test: it returns nothing, and its clauses say what holds of all areas.
+    #[tactic(auto, using(crate::specs::SelectorLaws::ordered_once))]
     pub fn tell_soundness(&self)
         ensures ascending { is_ascending named_lt self.now ≡ true }
         ensures few { length self.now ≤ 4096 }
+        ensures ordered { (a : List ℕ) → is_ascending selector_lt (selectors_of self.now a) ≡ true }
         ensures once { (a : List ℕ) → each_once selector_eq (selectors_of self.now a) ≡ true }
         ensures short { (a : List ℕ) → length (selectors_of self.now a) ≤ 4096 }
     {

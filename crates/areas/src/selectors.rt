@@ -1,17 +1,18 @@
 //! A list of selectors.
 
-ghost use Rattle.std.specs.Prelude.{◌≡◌, ◌≢◌, ◌↔◌, ◌++◌, ◌∷◌, [], not, IsTrue, IfOk, OnOk, OnErr};
+ghost use Rattle.std.specs.Prelude.{◌≡◌, ◌↔◌, IsTrue, IfOk, OnOk, OnErr};
 ghost use Rattle.std.specs.Cmp.{decided, partial_equiv_from_equiv};
 ghost use Rattle.std.specs.Cmp.Lexicographic.{pointwise};
-ghost use Rattle.std.specs.List.{filter};
+ghost use Rattle.areas.specs.Areas.{with_one, without};
 ghost use Rattle.areas.specs.Equality.{selectors_decide};
 ghost use Rattle.areas.specs.Selector.{selector_eq};
 
 use crate::selector::Selector;
+use common::insert_in_order;
 use std::alloc::{AllocError, Global};
 use std::marker::Model;
 
-/// The selectors of an area, in the order in which they were put.
+/// Selectors. An area's are kept in their order, by location area, each once.
 #[derive(Debug, Drop)]
 pub struct Selectors {
     selectors: Vec<Selector>,
@@ -62,18 +63,18 @@ impl Selectors {
         *self == *other
     }
 
-    /// Puts the selector last.
-    pub(crate) fn push(&mut self, s: Selector) -> Result<(), AllocError>
-        ensures put { OnOk result (self.new ≡ self.old ++ s ∷ []) }
+    /// Puts the selector in its place.
+    pub(crate) fn insert(&mut self, s: Selector) -> Result<(), AllocError>
+        ensures put { OnOk result (self.new ≡ with_one s self.old) }
         ensures unchanged { OnErr result (self.new ≡ self.old) }
     {
-        self.selectors.push(s)?;
+        insert_in_order(s, &mut self.selectors)?;
         Ok(())
     }
 
     /// Takes the selector out.
     pub(crate) fn cut(&mut self, s: Selector)
-        ensures { self.new ≡ filter (λ t. not (selector_eq t s)) self.old }
+        ensures { self.new ≡ without s self.old }
     {
         self.selectors.retain(|t| *t != s);
     }

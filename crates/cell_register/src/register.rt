@@ -9,7 +9,7 @@ use crate::bsc_id::BscId;
 use crate::placed::Placed;
 use crate::refusal::{Limit, Refusal};
 use crate::{bscs, places};
-use common::{Cell, Cells};
+use common::{Cell, Cells, insert_in_order};
 use std::alloc::{AllocError, Global};
 use std::marker::Model;
 
@@ -179,7 +179,7 @@ impl Register {
         ensures unchanged { OnErr result (self.new ≡ self.old) }
     {
         self.check_add_bsc(b)?;
-        bscs::insert(b, &mut self.bscs)?;
+        insert_in_order(b, &mut self.bscs)?;
         Ok(())
     }
 
@@ -208,7 +208,7 @@ impl Register {
         ensures unchanged { OnErr result (self.new ≡ self.old) }
     {
         self.check_add_cell(c, at)?;
-        places::insert(Placed { cell: c, bsc: at }, &mut self.cells)?;
+        insert_in_order(Placed { cell: c, bsc: at }, &mut self.cells)?;
         Ok(())
     }
 

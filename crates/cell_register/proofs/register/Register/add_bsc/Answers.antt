@@ -12,4 +12,4 @@ invariant_of-self-2 c =
     let none : first_refusal (add_bsc_checks r c.args.b) ≡ None = search rules in
     let holds = none_holds (add_bsc_checks r c.args.b) none in
     let room : length r.bscs < 256 = leb-false 256 (length r.bscs) holds.1.0 in
-    rw c.in_ok-insert.ensures.ok (with_bsc_sound c.args.b r c.self.invariant holds.0 room)
+    rw c.in_ok-insert_in_order.ensures.inserted (with_bsc_sound c.args.b r c.self.invariant holds.0 room)
