@@ -59,6 +59,7 @@ besides_there same d a f (x ∷ xs) once h = step (besides_there same d a f xs (
         let here : besides same a f x ≡ f x = ap (λ t. if t then 0 else f x) e in
         omega (arith, more g)
 
+-- over two lists, each element once, outside which the function is 0, the sums are equal
 pub sums_agree : {A : Type 0} (same : A → A → Bool) → DecidesAll same → (xs ys : List A) → each_once same xs ≡ true → each_once same ys ≡ true → (f : A → ℕ) → ((x : A) → list_any (same x) xs ≡ false → f x ≡ 0) → ((x : A) → list_any (same x) ys ≡ false → f x ≡ 0) → sum_of f xs ≡ sum_of f ys
 sums_agree same d [] ys once also f out off = sym (sum_none f (λ x. out x refl) ys)
 sums_agree {A} same d (x ∷ xs) ys once also f out off =
