@@ -5,7 +5,7 @@ use crate::selectors::Selectors;
 use common::{Name, Ordered};
 
 /// An area: its name, and what it selects.
-#[derive(Debug, PartialEq, Eq, Drop)]
+#[derive(Clone, Debug, PartialEq, Eq, Drop)]
 pub struct Area {
     pub name: Name,
     pub selectors: Selectors,

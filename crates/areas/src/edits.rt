@@ -17,7 +17,7 @@ pub(crate) fn add_area(alloc: Global, areas: &mut Vec<Area>, a: &Name) -> Result
     ensures unchanged { OnErr result (areas.new.items ≡ areas.old.items) }
 {
     let area = Area {
-        name: a.copied(alloc)?,
+        name: a.clone()?,
         selectors: Selectors::from_vec(Vec::new(alloc)),
     };
     insert_in_order(area, areas)?;

@@ -55,7 +55,7 @@ fn every_call_answers(rt: HostRuntime) -> Result<(), Fail> {
 fn selectors_are_copied(rt: HostRuntime) -> Result<(), Fail> {
     let alloc = rt.alloc();
     let selectors = Selectors::from_vec(Vec::from_slice(alloc, &[Selector::Lac(100)])?);
-    assert!(rt; selectors.copied(alloc)?.same(&selectors));
+    assert!(rt; selectors.clone()? == selectors);
     let area = Area {
         name: name(alloc, b"Coast")?,
         selectors,
