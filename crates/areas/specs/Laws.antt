@@ -1,20 +1,19 @@
 -- What each edit changes, for every list of areas: whether an area is there, whether it has a selector, how many there are.
-use Rattle.std.proofs.Common.{◌≡◌, ℕ, ◌+◌, Bool, true, false, ◌&&◌, ◌||◌, not, cond, List, [], ◌∷◌, ◌++◌, map, length, refl, sym, ap, ◌∙◌, length-append}
+use Rattle.std.proofs.Common.{◌≡◌, ℕ, ◌+◌, Bool, true, false, ◌&&◌, ◌||◌, not, cond, List, [], ◌∷◌, map, length, refl, sym, ap, ◌∙◌}
 use Rattle.std.specs.Prelude.{bytes_eq}
 use Rattle.std.proofs.lemmas.Bool.{and_parts, or_parts, false_from_ne_true}
 use Rattle.std.proofs.lemmas.List.{length-map}
-use Rattle.std.proofs.lemmas.List.Folds.{list_any-append}
 use Rattle.std.proofs.lemmas.Slice.Eq.{bytes_eq-Decides}
 use Rattle.std.specs.List.{list_any, list_all}
 use Rattle.common.specs.declared.cell.Cell.{Cell}
 use Rattle.common.specs.OnceLaws.{apart_along, any_without_key, length_without_same, any_filter_same}
 use Rattle.common.specs.Order.{is_ascending, each_once}
 use Rattle.common.specs.OrderLaws.{any_inserted, length_inserted, length_without, left_out, left_in}
-use Rattle.areas.specs.Areas.{is_named, has_area, selectors_of, is_among, has_selector, covers, names_of, areas_of, empty_area, named_lt, with_area, without_area, changed_by, with_selector, without, without_selector}
+use Rattle.areas.specs.Areas.{is_named, has_area, selectors_of, is_among, has_selector, covers, names_of, areas_of, empty_area, named_lt, with_area, without_area, changed_by, with_one, with_selector, without, without_selector}
 use Rattle.areas.specs.Equality.{selector_decides}
 use Rattle.areas.specs.Name.{octets_lt}
 use Rattle.areas.specs.Order.{octets_lt-irreflexive}
-use Rattle.areas.specs.Selector.{selector_eq}
+use Rattle.areas.specs.Selector.{selector_eq, selector_lt}
 use Rattle.areas.specs.declared.area.Area.{Area}
 use Rattle.areas.specs.declared.selector.Selector.{Selector}
 use Rattle.areas.specs.declared.selector.Selector.TheVariants as selector
@@ -44,7 +43,7 @@ has_area_changed a f (y ∷ l) x = step (has_area_changed a f l x) (is_named a y
     step rest false = ap (λ t. bytes_eq y.name x || t) rest
 
 pub has_area_with_selector : (a : List ℕ) (s : Selector) (l : List Area) (x : List ℕ) → has_area (with_selector a s l) x ≡ has_area l x
-has_area_with_selector a s l x = has_area_changed a (λ xs. xs ++ s ∷ []) l x
+has_area_with_selector a s l x = has_area_changed a (with_one s) l x
 
 pub has_area_without_selector : (a : List ℕ) (s : Selector) (l : List Area) (x : List ℕ) → has_area (without_selector a s l) x ≡ has_area l x
 has_area_without_selector a s l x = has_area_changed a (without s) l x
@@ -119,8 +118,8 @@ changed_there a f l x h = selectors_of_changed a f l x ∙ step (bytes_eq a x) r
     step true e = ap (λ t. cond t (f (selectors_of l x)) (selectors_of l x)) (has_area_same l a x e ∙ h)
     step false e = refl
 
-pub selectors_of_with_selector : (a : List ℕ) (s : Selector) (l : List Area) (x : List ℕ) → has_area l a ≡ true → selectors_of (with_selector a s l) x ≡ cond (bytes_eq a x) (selectors_of l x ++ s ∷ []) (selectors_of l x)
-selectors_of_with_selector a s l x h = changed_there a (λ xs. xs ++ s ∷ []) l x h
+pub selectors_of_with_selector : (a : List ℕ) (s : Selector) (l : List Area) (x : List ℕ) → has_area l a ≡ true → selectors_of (with_selector a s l) x ≡ cond (bytes_eq a x) (with_one s (selectors_of l x)) (selectors_of l x)
+selectors_of_with_selector a s l x h = changed_there a (with_one s) l x h
 
 pub selectors_of_without_selector : (a : List ℕ) (s : Selector) (l : List Area) (x : List ℕ) → selectors_of (without_selector a s l) x ≡ cond (bytes_eq a x) (without s (selectors_of l x)) (selectors_of l x)
 selectors_of_without_selector a s l x = selectors_of_changed a (without s) l x ∙ step (has_area l x) refl
@@ -152,20 +151,11 @@ has_selector_without_area a l x s = ap (is_among s) (selectors_of_without_area a
     step true = refl
     step false = refl
 
-is_among_last : (s t : Selector) (xs : List Selector) → is_among t (xs ++ s ∷ []) ≡ (selector_eq s t || is_among t xs)
-is_among_last s t xs = list_any-append (λ u. selector_eq u t) xs (s ∷ []) ∙ swap (is_among t xs) (selector_eq s t)
-  where
-    swap : (p q : Bool) → (p || (q || false)) ≡ (q || p)
-    swap true true = refl
-    swap true false = refl
-    swap false true = refl
-    swap false false = refl
-
 pub has_selector_with_selector : (a : List ℕ) (s : Selector) (l : List Area) (x : List ℕ) (t : Selector) → has_area l a ≡ true → has_selector (with_selector a s l) x t ≡ ((bytes_eq a x && selector_eq s t) || has_selector l x t)
 has_selector_with_selector a s l x t h = ap (is_among t) (selectors_of_with_selector a s l x h) ∙ step (bytes_eq a x)
   where
-    step : (p : Bool) → is_among t (cond p (selectors_of l x ++ s ∷ []) (selectors_of l x)) ≡ ((p && selector_eq s t) || has_selector l x t)
-    step true = is_among_last s t (selectors_of l x)
+    step : (p : Bool) → is_among t (cond p (with_one s (selectors_of l x)) (selectors_of l x)) ≡ ((p && selector_eq s t) || has_selector l x t)
+    step true = any_inserted selector_lt (λ u. selector_eq u t) s (selectors_of l x)
     step false = refl
 
 is_among_without : (s t : Selector) (xs : List Selector) → is_among t (without s xs) ≡ (not (selector_eq s t) && is_among t xs)
@@ -224,7 +214,7 @@ pub length_without_area : (a : List ℕ) (l : List Area) → has_area l a ≡ tr
 length_without_area a l h o = length_without named_lt (is_named a) (named_after a) l o h
 
 pub length_with_selector : (a : List ℕ) (s : Selector) (l : List Area) → length (with_selector a s l) ≡ length l
-length_with_selector a s l = length-map l (changed_by a (λ xs. xs ++ s ∷ []))
+length_with_selector a s l = length-map l (changed_by a (with_one s))
 
 pub length_without_selector : (a : List ℕ) (s : Selector) (l : List Area) → length (without_selector a s l) ≡ length l
 length_without_selector a s l = length-map l (changed_by a (without s))
@@ -232,8 +222,8 @@ length_without_selector a s l = length-map l (changed_by a (without s))
 pub length_selectors_of_with_selector : (a : List ℕ) (s : Selector) (l : List Area) (x : List ℕ) → has_area l a ≡ true → length (selectors_of (with_selector a s l) x) ≡ cond (bytes_eq a x) (length (selectors_of l x) + 1) (length (selectors_of l x))
 length_selectors_of_with_selector a s l x h = ap length (selectors_of_with_selector a s l x h) ∙ step (bytes_eq a x)
   where
-    step : (p : Bool) → length (cond p (selectors_of l x ++ s ∷ []) (selectors_of l x)) ≡ cond p (length (selectors_of l x) + 1) (length (selectors_of l x))
-    step true = length-append (selectors_of l x) (s ∷ [])
+    step : (p : Bool) → length (cond p (with_one s (selectors_of l x)) (selectors_of l x)) ≡ cond p (length (selectors_of l x) + 1) (length (selectors_of l x))
+    step true = length_inserted selector_lt s (selectors_of l x)
     step false = refl
 
 pub length_selectors_of_without_selector : (a : List ℕ) (s : Selector) (l : List Area) (x : List ℕ) → has_selector l a s ≡ true → each_once selector_eq (selectors_of l a) ≡ true → length (selectors_of l x) ≡ cond (bytes_eq a x) (length (selectors_of (without_selector a s l) x) + 1) (length (selectors_of (without_selector a s l) x))

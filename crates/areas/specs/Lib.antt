@@ -1,4 +1,5 @@
 pub mod Selector
+pub mod SelectorLaws
 pub mod Equality
 pub mod Name
 pub mod Order

@@ -6,6 +6,7 @@ use Rattle.std.proofs.lemmas.Bool.Decides.{nat_tests}
 use Rattle.std.proofs.lemmas.Grind.{common_steps}
 use Rattle.areas.specs.Name.{octets_lt}
 
+-- no name comes before itself
 pub octets_lt-irreflexive : (a : List ℕ) → octets_lt a a ≡ false
 octets_lt-irreflexive [] = refl
 octets_lt-irreflexive (x ∷ xs) =
@@ -24,6 +25,7 @@ octets_lt-total (x ∷ xs) (y ∷ ys) g h = either_first x y (octets_lt xs ys) (
 before_both : (x y z : ℕ) (p q r : Bool) → (p ≡ true → q ≡ true → r ≡ true) → (ltb x y || (nat_eq x y && p)) ≡ true → (ltb y z || (nat_eq y z && q)) ≡ true → (ltb x z || (nat_eq x z && r)) ≡ true
 before_both x y z p q r f g h = grind (arith, nat_tests, common_steps)
 
+-- what comes before a name comes before all that the name comes before
 pub octets_lt-transitive : (a b c : List ℕ) → octets_lt a b ≡ true → octets_lt b c ≡ true → octets_lt a c ≡ true
 octets_lt-transitive a [] c g h = cc
 octets_lt-transitive a (y ∷ ys) [] g h = cc

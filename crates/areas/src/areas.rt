@@ -34,7 +34,7 @@ impl Areas {
     ghost use Rattle.common.specs.Order.{is_ascending, each_once};
     ghost use Rattle.areas.specs.Areas.{has_area, selectors_of, has_selector, covers, areas_of, named_lt, with_area, without_area, with_selector, without_selector};
     ghost use Rattle.common.specs.Checks.{first_refusal};
-    ghost use Rattle.areas.specs.Selector.{selector_eq};
+    ghost use Rattle.areas.specs.Selector.{selector_eq, selector_lt};
     ghost use Rattle.areas.specs.Checks.{add_area_checks, drop_area_checks, put_checks, cut_checks};
     ghost use Rattle.areas.specs.declared.refusal.Refusal.TheVariants as refusal;
 
@@ -48,13 +48,11 @@ impl Areas {
         }
     }
 
-    /// Makes an area without selectors. Refused as `BadName`, `AreaExists` or `Limit`, the first that holds, else as
-    /// `Memory` where memory is wanting; an `Err` leaves the areas as they were.
-    pub fn add_area(&mut self, a: &Name) -> Result<(), Refusal>
-        ensures accepted { OnOk result (first_refusal (add_area_checks self.old a.now) ≡ None) }
-        ensures changed { OnOk result (self.new ≡ with_area a.now self.old) }
-        ensures refused { IfErr result (λ e. (first_refusal (add_area_checks self.old a.now) ≡ Some e) ⊎ ((e ≡ refusal.Memory) × (first_refusal (add_area_checks self.old a.now) ≡ None))) }
-        ensures unchanged { OnErr result (self.new ≡ self.old) }
+    /// Whether an area of that name can be made now, and what refuses it: `BadName`, `AreaExists` or `Limit`, the first
+    /// that holds. It changes nothing and takes no memory.
+    pub fn check_add_area(&self, a: &Name) -> Result<(), Refusal>
+        ensures accepted { OnOk result (first_refusal (add_area_checks self.now a.now) ≡ None) }
+        ensures refused { IfErr result (λ e. first_refusal (add_area_checks self.now a.now) ≡ Some e) }
     {
         if !is_name(a) {
             return Err(Refusal::BadName);
@@ -67,32 +65,25 @@ impl Areas {
                 which: Limit::Areas,
             });
         }
-        edits::add_area(self.alloc, &mut self.list, a)?;
         Ok(())
     }
 
-    /// Takes an area away with its selectors, and takes no memory. Refused as `NoSuchArea`, which leaves the areas as
-    /// they were.
-    pub fn drop_area(&mut self, a: &Name) -> Result<(), Refusal>
-        ensures accepted { OnOk result (first_refusal (drop_area_checks self.old a.now) ≡ None) }
-        ensures changed { OnOk result (self.new ≡ without_area a.now self.old) }
-        ensures refused { IfErr result (λ e. first_refusal (drop_area_checks self.old a.now) ≡ Some e) }
-        ensures unchanged { OnErr result (self.new ≡ self.old) }
+    /// Whether the area can be taken away now, and what refuses it: `NoSuchArea`. It changes nothing and takes no memory.
+    pub fn check_drop_area(&self, a: &Name) -> Result<(), Refusal>
+        ensures accepted { OnOk result (first_refusal (drop_area_checks self.now a.now) ≡ None) }
+        ensures refused { IfErr result (λ e. first_refusal (drop_area_checks self.now a.now) ≡ Some e) }
     {
         if !lookups::has_area(self.list.as_slice(), a) {
             return Err(Refusal::NoSuchArea);
         }
-        edits::drop_area(&mut self.list, a);
         Ok(())
     }
 
-    /// Puts a selector into an area, behind those that are there. Refused as `NoSuchArea`, `SelectorThere` or `Limit`,
-    /// the first that holds, else as `Memory` where memory is wanting; an `Err` leaves the areas as they were.
-    pub fn put(&mut self, a: &Name, s: Selector) -> Result<(), Refusal>
-        ensures accepted { OnOk result (first_refusal (put_checks self.old a.now s) ≡ None) }
-        ensures changed { OnOk result (self.new ≡ with_selector a.now s self.old) }
-        ensures refused { IfErr result (λ e. (first_refusal (put_checks self.old a.now s) ≡ Some e) ⊎ ((e ≡ refusal.Memory) × (first_refusal (put_checks self.old a.now s) ≡ None))) }
-        ensures unchanged { OnErr result (self.new ≡ self.old) }
+    /// Whether the selector can be put into the area now, and what refuses it: `NoSuchArea`, `SelectorThere` or `Limit`,
+    /// the first that holds. It changes nothing and takes no memory.
+    pub fn check_put(&self, a: &Name, s: Selector) -> Result<(), Refusal>
+        ensures accepted { OnOk result (first_refusal (put_checks self.now a.now s) ≡ None) }
+        ensures refused { IfErr result (λ e. first_refusal (put_checks self.now a.now s) ≡ Some e) }
     {
         if !lookups::has_area(self.list.as_slice(), a) {
             return Err(Refusal::NoSuchArea);
@@ -105,6 +96,59 @@ impl Areas {
                 which: Limit::Selectors,
             });
         }
+        Ok(())
+    }
+
+    /// Whether the selector can be taken out of the area now, and what refuses it: `NoSuchArea` or `SelectorNotThere`, the
+    /// first that holds. It changes nothing and takes no memory.
+    pub fn check_cut(&self, a: &Name, s: Selector) -> Result<(), Refusal>
+        ensures accepted { OnOk result (first_refusal (cut_checks self.now a.now s) ≡ None) }
+        ensures refused { IfErr result (λ e. first_refusal (cut_checks self.now a.now s) ≡ Some e) }
+    {
+        if !lookups::has_area(self.list.as_slice(), a) {
+            return Err(Refusal::NoSuchArea);
+        }
+        if !lookups::has_selector(self.list.as_slice(), a, s) {
+            return Err(Refusal::SelectorNotThere);
+        }
+        Ok(())
+    }
+
+    /// Makes an area without selectors. Refused as `BadName`, `AreaExists` or `Limit`, the first that holds, else as
+    /// `Memory` where memory is wanting; an `Err` leaves the areas as they were.
+    pub fn add_area(&mut self, a: &Name) -> Result<(), Refusal>
+        ensures accepted { OnOk result (first_refusal (add_area_checks self.old a.now) ≡ None) }
+        ensures changed { OnOk result (self.new ≡ with_area a.now self.old) }
+        ensures refused { IfErr result (λ e. (first_refusal (add_area_checks self.old a.now) ≡ Some e) ⊎ ((e ≡ refusal.Memory) × (first_refusal (add_area_checks self.old a.now) ≡ None))) }
+        ensures unchanged { OnErr result (self.new ≡ self.old) }
+    {
+        self.check_add_area(a)?;
+        edits::add_area(self.alloc, &mut self.list, a)?;
+        Ok(())
+    }
+
+    /// Takes an area away with its selectors, and takes no memory. Refused as `NoSuchArea`, which leaves the areas as
+    /// they were.
+    pub fn drop_area(&mut self, a: &Name) -> Result<(), Refusal>
+        ensures accepted { OnOk result (first_refusal (drop_area_checks self.old a.now) ≡ None) }
+        ensures changed { OnOk result (self.new ≡ without_area a.now self.old) }
+        ensures refused { IfErr result (λ e. first_refusal (drop_area_checks self.old a.now) ≡ Some e) }
+        ensures unchanged { OnErr result (self.new ≡ self.old) }
+    {
+        self.check_drop_area(a)?;
+        edits::drop_area(&mut self.list, a);
+        Ok(())
+    }
+
+    /// Puts a selector into an area, in its place by location area. Refused as `NoSuchArea`, `SelectorThere` or `Limit`,
+    /// the first that holds, else as `Memory` where memory is wanting; an `Err` leaves the areas as they were.
+    pub fn put(&mut self, a: &Name, s: Selector) -> Result<(), Refusal>
+        ensures accepted { OnOk result (first_refusal (put_checks self.old a.now s) ≡ None) }
+        ensures changed { OnOk result (self.new ≡ with_selector a.now s self.old) }
+        ensures refused { IfErr result (λ e. (first_refusal (put_checks self.old a.now s) ≡ Some e) ⊎ ((e ≡ refusal.Memory) × (first_refusal (put_checks self.old a.now s) ≡ None))) }
+        ensures unchanged { OnErr result (self.new ≡ self.old) }
+    {
+        self.check_put(a, s)?;
         edits::put(&mut self.list, a, s)?;
         Ok(())
     }
@@ -117,12 +161,7 @@ impl Areas {
         ensures refused { IfErr result (λ e. first_refusal (cut_checks self.old a.now s) ≡ Some e) }
         ensures unchanged { OnErr result (self.new ≡ self.old) }
     {
-        if !lookups::has_area(self.list.as_slice(), a) {
-            return Err(Refusal::NoSuchArea);
-        }
-        if !lookups::has_selector(self.list.as_slice(), a, s) {
-            return Err(Refusal::SelectorNotThere);
-        }
+        self.check_cut(a, s)?;
         edits::cut(&mut self.list, a, s);
         Ok(())
     }
@@ -155,10 +194,12 @@ impl Areas {
         covering::areas_of(self.alloc, self.list.as_slice(), c)
     }
 
-    /// Tells what always holds of the areas.
-    pub fn is_sound(&self)
+    /// A lemma, not a test: it returns nothing, and its clauses say what holds of all areas.
+    #[tactic(auto, using(crate::specs::SelectorLaws::ordered_once))]
+    pub fn tell_soundness(&self)
         ensures ascending { is_ascending named_lt self.now ≡ true }
         ensures few { length self.now ≤ 4096 }
+        ensures ordered { (a : List ℕ) → is_ascending selector_lt (selectors_of self.now a) ≡ true }
         ensures once { (a : List ℕ) → each_once selector_eq (selectors_of self.now a) ≡ true }
         ensures short { (a : List ℕ) → length (selectors_of self.now a) ≤ 4096 }
     {

@@ -10,16 +10,11 @@ use common::{Cell, Name, Names};
 use std::alloc::{AllocError, Global};
 
 /// Puts the name last if the area covers the cell.
-fn put_covering(
-    alloc: Global,
-    names: &mut Vec<Name>,
-    area: &Area,
-    c: Cell,
-) -> Result<(), AllocError>
+fn put_covering(names: &mut Vec<Name>, area: &Area, c: Cell) -> Result<(), AllocError>
     ensures { OnOk result (names.new.items ≡ names.old.items ++ (if selects area.now.selectors c then area.now.name ∷ [] else [])) }
 {
     if selects(area.selectors.as_slice(), c) {
-        names.push(area.name.copied(alloc)?)?;
+        names.push(area.name.clone()?)?;
     }
     Ok(())
 }
@@ -32,7 +27,7 @@ pub(crate) fn areas_of(alloc: Global, areas: &[Area], c: Cell) -> Result<Names, 
 {
     let mut names = Vec::new(alloc);
     for area in areas {
-        put_covering(alloc, &mut names, area, c)?;
+        put_covering(&mut names, area, c)?;
     }
     Ok(Names::from_vec(names))
 }

@@ -1,29 +1,15 @@
 //! The edits of a list of areas that nothing forbids.
 
-ghost use Rattle.std.specs.Prelude.{◌≡◌, ◌≤◌, ◌++◌, ◌∷◌, length, take, drop, true, OnOk, OnErr};
+ghost use Rattle.std.specs.Prelude.{◌≡◌, true, OnOk, OnErr};
 ghost use Rattle.common.specs.Order.{is_ascending};
-ghost use Rattle.areas.specs.Areas.{empty_area, named_lt, with_area, without_area, with_selector, without_selector};
+ghost use Rattle.areas.specs.Areas.{named_lt, with_area, without_area, with_selector, without_selector};
 
 use crate::area::Area;
 use crate::lookups::place_of;
-use crate::naming::is_before;
 use crate::selector::Selector;
 use crate::selectors::Selectors;
-use common::Name;
+use common::{Name, insert_in_order};
 use std::alloc::{AllocError, Global};
-
-/// Where an area of that name belongs.
-fn place_for(areas: &[Area], a: &Name) -> usize
-    ensures place { take result areas.now ++ empty_area a.now ∷ drop result areas.now ≡ with_area a.now areas.now }
-    ensures bound { result ≤ length areas.now }
-{
-    for (i, area) in areas.iter().enumerate() {
-        if !is_before(&area.name, a) {
-            return i;
-        }
-    }
-    areas.len()
-}
 
 /// Adds an area without selectors, in order.
 pub(crate) fn add_area(alloc: Global, areas: &mut Vec<Area>, a: &Name) -> Result<(), AllocError>
@@ -31,11 +17,10 @@ pub(crate) fn add_area(alloc: Global, areas: &mut Vec<Area>, a: &Name) -> Result
     ensures unchanged { OnErr result (areas.new.items ≡ areas.old.items) }
 {
     let area = Area {
-        name: a.copied(alloc)?,
+        name: a.clone()?,
         selectors: Selectors::from_vec(Vec::new(alloc)),
     };
-    let place = place_for(areas.as_slice(), a);
-    areas.insert(place, area)?;
+    insert_in_order(area, areas)?;
     Ok(())
 }
 
@@ -46,7 +31,7 @@ pub(crate) fn drop_area(areas: &mut Vec<Area>, a: &Name)
     areas.retain(|area| area.name != *a);
 }
 
-/// Puts the selector last in the area.
+/// Puts the selector into the area.
 pub(crate) fn put(areas: &mut Vec<Area>, a: &Name, s: Selector) -> Result<(), AllocError>
     requires { is_ascending named_lt areas.old.items ≡ true }
     ensures put { OnOk result (areas.new.items ≡ with_selector a.now s areas.old.items) }
@@ -55,7 +40,7 @@ pub(crate) fn put(areas: &mut Vec<Area>, a: &Name, s: Selector) -> Result<(), Al
     let place = place_of(areas.as_slice(), a);
     if place < areas.len() {
         let area = &mut areas[place];
-        area.selectors.push(s)?;
+        area.selectors.insert(s)?;
     }
     Ok(())
 }

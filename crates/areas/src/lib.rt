@@ -2,6 +2,7 @@
 //!
 //! A selector is one cell or one location area (3GPP TS 23.003, clause 4). An area covers a cell when one of its
 //! selectors is that cell or its location area; whether the cell is registered does not matter here.
+//! An area's selectors are kept by location area, a whole location area before the cells in it (`specs/Selector`).
 //! Begin with `areas`; the words of its contracts stand in `specs/Areas`, the checks of each edit in `specs/Checks`,
 //! and what the edits change, for every list of areas, in `specs/Laws`.
 #![tactic(auto)]

@@ -1,18 +1,19 @@
 //! A list of selectors.
 
-ghost use Rattle.std.specs.Prelude.{◌≡◌, ◌≢◌, ◌↔◌, ◌++◌, ◌∷◌, [], not, IsTrue, IfOk, OnOk, OnErr};
+ghost use Rattle.std.specs.Prelude.{◌≡◌, ◌↔◌, IsTrue, OnOk, OnErr};
 ghost use Rattle.std.specs.Cmp.{decided, partial_equiv_from_equiv};
 ghost use Rattle.std.specs.Cmp.Lexicographic.{pointwise};
-ghost use Rattle.std.specs.List.{filter};
+ghost use Rattle.areas.specs.Areas.{with_one, without};
 ghost use Rattle.areas.specs.Equality.{selectors_decide};
 ghost use Rattle.areas.specs.Selector.{selector_eq};
 
 use crate::selector::Selector;
-use std::alloc::{AllocError, Global};
+use common::insert_in_order;
+use std::alloc::AllocError;
 use std::marker::Model;
 
-/// The selectors of an area, in the order in which they were put.
-#[derive(Debug, Drop)]
+/// Selectors. An area's are kept in their order, by location area, each once.
+#[derive(Clone, Debug, Drop)]
 pub struct Selectors {
     selectors: Vec<Selector>,
 }
@@ -48,32 +49,18 @@ impl Selectors {
         selectors
     }
 
-    /// The same selectors in memory of their own.
-    pub fn copied(&self, alloc: Global) -> Result<Selectors, AllocError>
-        ensures { IfOk result (λ copy. copy ≡ self.now) }
-    {
-        let selectors = Vec::from_slice(alloc, self.as_slice())?;
-        Ok(Selectors::from_vec(selectors))
-    }
-
-    pub fn same(&self, other: &Selectors) -> bool
-        ensures { IsTrue result ↔ (self.now ≡ other.now) }
-    {
-        *self == *other
-    }
-
-    /// Puts the selector last.
-    pub(crate) fn push(&mut self, s: Selector) -> Result<(), AllocError>
-        ensures put { OnOk result (self.new ≡ self.old ++ s ∷ []) }
+    /// Puts the selector in its place.
+    pub(crate) fn insert(&mut self, s: Selector) -> Result<(), AllocError>
+        ensures put { OnOk result (self.new ≡ with_one s self.old) }
         ensures unchanged { OnErr result (self.new ≡ self.old) }
     {
-        self.selectors.push(s)?;
+        insert_in_order(s, &mut self.selectors)?;
         Ok(())
     }
 
     /// Takes the selector out.
     pub(crate) fn cut(&mut self, s: Selector)
-        ensures { self.new ≡ filter (λ t. not (selector_eq t s)) self.old }
+        ensures { self.new ≡ without s self.old }
     {
         self.selectors.retain(|t| *t != s);
     }
@@ -84,7 +71,10 @@ impl PartialEq for Selectors {
 
     ghost laws = { partial_equiv_from_equiv (decided (pointwise selector_eq) selectors_decide) };
 
-    fn eq(&self, other: &Selectors) -> bool {
+    fn eq(&self, other: &Selectors) -> bool
+        ensures test { result ≡ pointwise selector_eq self.now other.now }
+        ensures same { IsTrue result ↔ (self.now ≡ other.now) }
+    {
         self.as_slice() == other.as_slice()
     }
 }

@@ -52,6 +52,7 @@ set_order : (c : Cell) (b : ℕ) (p q : Placed) → placed_lt p q ≡ true → p
 set_order c b p q h =
     ap (λ k. cell_lt k (placed_after_move c b q).cell) (set_cell (cell_eq p.cell c) b p) ∙ (ap (λ k. cell_lt p.cell k) (set_cell (cell_eq q.cell c) b q) ∙ h)
 
+-- the BSC of the cell passes the test
 abbrev bsc_passes : (ℕ → Bool) → Placed → Bool
 bsc_passes test p = test p.bsc
 

@@ -2,6 +2,7 @@
 
 ghost use Rattle.std.specs.Prelude.{◌≡◌, ◌<◌, ◌≤◌, ◌↔◌, IsSome, IfSome, IfNone};
 
+use common::Ordered;
 use std::marker::Model;
 
 /// The number by which the operator knows a base station controller: 1 to 65,535.
@@ -41,5 +42,15 @@ impl BscId {
         ensures some { 0 < result }
     {
         self.number
+    }
+}
+
+impl Ordered for BscId {
+    ghost use Rattle.std.specs.Prelude.{ltb};
+
+    ghost before = { ltb };
+
+    fn is_before(&self, other: &BscId) -> bool {
+        self.number() < other.number()
     }
 }

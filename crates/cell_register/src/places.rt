@@ -1,10 +1,9 @@
 //! Registered cells, in ascending order.
 
-ghost use Rattle.std.specs.Prelude.{◌≡◌, ◌≤◌, [], ◌++◌, ◌∷◌, Bool, length, take, drop, filter, map, nat_eq, not, if◌then◌else◌, IfOk, OnOk, OnErr};
+ghost use Rattle.std.specs.Prelude.{◌≡◌, [], ◌++◌, ◌∷◌, filter, map, nat_eq, not, if◌then◌else◌, IfOk, OnOk};
 ghost use Rattle.std.specs.List.{list_any};
 ghost use Rattle.common.specs.Cell.{cell_eq};
-ghost use Rattle.common.specs.Order.{inserted};
-ghost use Rattle.cell_register.specs.Register.{cell_of, place_among, placed_lt, placed_after_move};
+ghost use Rattle.cell_register.specs.Register.{cell_of, place_among, placed_after_move};
 
 use crate::bsc_id::BscId;
 use crate::placed::Placed;
@@ -28,28 +27,6 @@ pub(crate) fn has_cells(b: BscId, cells: &[Placed]) -> bool
     ensures { result ≡ list_any (λ p. nat_eq p.bsc b) cells.now }
 {
     cells.iter().any(|placed| placed.bsc == b)
-}
-
-/// Where the cell belongs among them.
-fn place_for(new: &Placed, cells: &[Placed]) -> usize
-    ensures place { take result cells.now ++ new.now ∷ drop result cells.now ≡ inserted placed_lt new.now cells.now }
-    ensures bound { result ≤ length cells.now }
-{
-    for (i, placed) in cells.iter().enumerate() {
-        if !placed.cell.is_before(&new.cell) {
-            return i;
-        }
-    }
-    cells.len()
-}
-
-pub(crate) fn insert(new: Placed, cells: &mut Vec<Placed>) -> Result<(), AllocError>
-    ensures ok { OnOk result (cells.new.items ≡ inserted placed_lt new cells.old.items) }
-    ensures err { OnErr result (cells.new.items ≡ cells.old.items) }
-{
-    let place = place_for(&new, cells.as_slice());
-    cells.insert(place, new)?;
-    Ok(())
 }
 
 fn placed_after_move(c: Cell, b: BscId, placed: Placed) -> Placed

@@ -9,7 +9,7 @@ use crate::bsc_id::BscId;
 use crate::placed::Placed;
 use crate::refusal::{Limit, Refusal};
 use crate::{bscs, places};
-use common::{Cell, Cells};
+use common::{Cell, Cells, insert_in_order};
 use std::alloc::{AllocError, Global};
 use std::marker::Model;
 
@@ -44,8 +44,8 @@ impl Register {
         }
     }
 
-    /// Tells what always holds of a register.
-    pub fn is_sound(&self)
+    /// A lemma, not a test: it returns nothing, and its clause says what holds of each register.
+    pub fn tell_soundness(&self)
         ensures { IsRegister self.now }
     {
         let _ = &self.bscs;
@@ -86,6 +86,89 @@ impl Register {
         places::cells_in(self.alloc, lac, self.cells.as_slice())
     }
 
+    /// Whether a BSC can be registered now, and what refuses it. It changes nothing and takes no memory.
+    ///
+    /// `BscExists`, then `Limit` where there are 256 BSCs.
+    pub fn check_add_bsc(&self, b: BscId) -> Result<(), Refusal>
+        ensures accepted { OnOk result (first_refusal (add_bsc_checks self.now b) ≡ None) }
+        ensures refused { IfErr result (λ e. first_refusal (add_bsc_checks self.now b) ≡ Some e) }
+    {
+        if bscs::is_among(b, self.bscs.as_slice()) {
+            return Err(Refusal::BscExists);
+        }
+        if self.bscs.len() >= 256 {
+            return Err(Refusal::Limit { which: Limit::Bscs });
+        }
+        Ok(())
+    }
+
+    /// Whether a BSC can be taken out now, and what refuses it. It changes nothing and takes no memory.
+    ///
+    /// `NoSuchBsc`, then `BscHasCells`.
+    pub fn check_remove_bsc(&self, b: BscId) -> Result<(), Refusal>
+        ensures accepted { OnOk result (first_refusal (remove_bsc_checks self.now b) ≡ None) }
+        ensures refused { IfErr result (λ e. first_refusal (remove_bsc_checks self.now b) ≡ Some e) }
+    {
+        if !bscs::is_among(b, self.bscs.as_slice()) {
+            return Err(Refusal::NoSuchBsc);
+        }
+        if places::has_cells(b, self.cells.as_slice()) {
+            return Err(Refusal::BscHasCells);
+        }
+        Ok(())
+    }
+
+    /// Whether a cell can be registered now at the BSC, and what refuses it. It changes nothing and takes no memory.
+    ///
+    /// `NoSuchBsc`, `CellExists`, then `Limit` where there are 65,536 cells.
+    pub fn check_add_cell(&self, c: Cell, at: BscId) -> Result<(), Refusal>
+        ensures accepted { OnOk result (first_refusal (add_cell_checks self.now c at) ≡ None) }
+        ensures refused { IfErr result (λ e. first_refusal (add_cell_checks self.now c at) ≡ Some e) }
+    {
+        if !bscs::is_among(at, self.bscs.as_slice()) {
+            return Err(Refusal::NoSuchBsc);
+        }
+        if places::place_among(c, self.cells.as_slice()).is_some() {
+            return Err(Refusal::CellExists);
+        }
+        if self.cells.len() >= 65536 {
+            return Err(Refusal::Limit {
+                which: Limit::Cells,
+            });
+        }
+        Ok(())
+    }
+
+    /// Whether a cell can be moved now to the BSC, and what refuses it. It changes nothing and takes no memory.
+    ///
+    /// `NoSuchBsc`, `NoSuchCell`, then `SameBsc` where it is registered at this BSC.
+    pub fn check_move_cell(&self, c: Cell, to: BscId) -> Result<(), Refusal>
+        ensures accepted { OnOk result (first_refusal (move_cell_checks self.now c to) ≡ None) }
+        ensures refused { IfErr result (λ e. first_refusal (move_cell_checks self.now c to) ≡ Some e) }
+    {
+        if !bscs::is_among(to, self.bscs.as_slice()) {
+            return Err(Refusal::NoSuchBsc);
+        }
+        match places::place_among(c, self.cells.as_slice()) {
+            None => Err(Refusal::NoSuchCell),
+            Some(old) if old == to => Err(Refusal::SameBsc),
+            Some(_) => Ok(()),
+        }
+    }
+
+    /// Whether a cell can be taken out now, and what refuses it. It changes nothing and takes no memory.
+    ///
+    /// `NoSuchCell`.
+    pub fn check_remove_cell(&self, c: Cell) -> Result<(), Refusal>
+        ensures accepted { OnOk result (first_refusal (remove_cell_checks self.now c) ≡ None) }
+        ensures refused { IfErr result (λ e. first_refusal (remove_cell_checks self.now c) ≡ Some e) }
+    {
+        if places::place_among(c, self.cells.as_slice()).is_none() {
+            return Err(Refusal::NoSuchCell);
+        }
+        Ok(())
+    }
+
     /// Registers a BSC that isn't there.
     ///
     /// `BscExists`, then `Limit` where there are 256 BSCs, then `Memory` where room for one more was refused.
@@ -95,13 +178,8 @@ impl Register {
         ensures refused { IfErr result (λ e. (first_refusal (add_bsc_checks self.old b) ≡ Some e) ⊎ ((e ≡ Refusal.Memory) × (first_refusal (add_bsc_checks self.old b) ≡ None))) }
         ensures unchanged { OnErr result (self.new ≡ self.old) }
     {
-        if bscs::is_among(b, self.bscs.as_slice()) {
-            return Err(Refusal::BscExists);
-        }
-        if self.bscs.len() >= 256 {
-            return Err(Refusal::Limit { which: Limit::Bscs });
-        }
-        bscs::insert(b, &mut self.bscs)?;
+        self.check_add_bsc(b)?;
+        insert_in_order(b, &mut self.bscs)?;
         Ok(())
     }
 
@@ -114,12 +192,7 @@ impl Register {
         ensures refused { IfErr result (λ e. first_refusal (remove_bsc_checks self.old b) ≡ Some e) }
         ensures unchanged { OnErr result (self.new ≡ self.old) }
     {
-        if !bscs::is_among(b, self.bscs.as_slice()) {
-            return Err(Refusal::NoSuchBsc);
-        }
-        if places::has_cells(b, self.cells.as_slice()) {
-            return Err(Refusal::BscHasCells);
-        }
+        self.check_remove_bsc(b)?;
         bscs::remove(b, &mut self.bscs);
         Ok(())
     }
@@ -134,18 +207,8 @@ impl Register {
         ensures refused { IfErr result (λ e. (first_refusal (add_cell_checks self.old c at) ≡ Some e) ⊎ ((e ≡ Refusal.Memory) × (first_refusal (add_cell_checks self.old c at) ≡ None))) }
         ensures unchanged { OnErr result (self.new ≡ self.old) }
     {
-        if !bscs::is_among(at, self.bscs.as_slice()) {
-            return Err(Refusal::NoSuchBsc);
-        }
-        if places::place_among(c, self.cells.as_slice()).is_some() {
-            return Err(Refusal::CellExists);
-        }
-        if self.cells.len() >= 65536 {
-            return Err(Refusal::Limit {
-                which: Limit::Cells,
-            });
-        }
-        places::insert(Placed { cell: c, bsc: at }, &mut self.cells)?;
+        self.check_add_cell(c, at)?;
+        insert_in_order(Placed { cell: c, bsc: at }, &mut self.cells)?;
         Ok(())
     }
 
@@ -158,14 +221,7 @@ impl Register {
         ensures refused { IfErr result (λ e. first_refusal (move_cell_checks self.old c to) ≡ Some e) }
         ensures unchanged { OnErr result (self.new ≡ self.old) }
     {
-        if !bscs::is_among(to, self.bscs.as_slice()) {
-            return Err(Refusal::NoSuchBsc);
-        }
-        match places::place_among(c, self.cells.as_slice()) {
-            None => return Err(Refusal::NoSuchCell),
-            Some(old) if old == to => return Err(Refusal::SameBsc),
-            Some(_) => (),
-        }
+        self.check_move_cell(c, to)?;
         places::set_place(c, to, &mut self.cells);
         Ok(())
     }
@@ -179,9 +235,7 @@ impl Register {
         ensures refused { IfErr result (λ e. first_refusal (remove_cell_checks self.old c) ≡ Some e) }
         ensures unchanged { OnErr result (self.new ≡ self.old) }
     {
-        if places::place_among(c, self.cells.as_slice()).is_none() {
-            return Err(Refusal::NoSuchCell);
-        }
+        self.check_remove_cell(c)?;
         places::remove(c, &mut self.cells);
         Ok(())
     }

@@ -7,6 +7,7 @@ abbrev pub NoneHolds : {E : Type 0} → List (Bool × E) → Type 0
 NoneHolds [] = Unit {0}
 NoneHolds (check ∷ checks) = (check.0 ≡ false) × NoneHolds checks
 
+-- an edit that nothing refuses passes each of its checks
 pub none_holds : {E : Type 0} (checks : List (Bool × E)) → first_refusal checks ≡ None → NoneHolds checks
 none_holds [] h = tt
 none_holds ((true, refusal) ∷ checks) h = cc

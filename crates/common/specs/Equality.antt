@@ -20,10 +20,12 @@ amounts d there back = (λ h. there (d.0 h), λ q. d.1 (back q))
 pub answered : {r b : Bool} {P : Type 0} → r ≡ b → Decides b P → Decides r P
 answered e d = rw e d
 
+-- the test of two cells is true where they are one cell, and nowhere else
 pub cell_decides : (a b : Cell) → Decides (cell_eq a b) (a ≡ b)
 cell_decides a b =
     amounts (both (nat_eq a.lac b.lac) (nat_eq a.ci b.ci) (unsigned_Decides a.lac b.lac) (unsigned_Decides a.ci b.ci))
     (λ e. λ i. record { lac = e.0 i; ci = e.1 i }) (λ e. (λ i. (e i).lac, λ i. (e i).ci))
 
+-- the test of two lists of cells is true where they are one list, and nowhere else
 pub cells_decide : (a b : List Cell) → Decides (pointwise cell_eq a b) (a ≡ b)
 cells_decide = pointwise_decides cell_decides

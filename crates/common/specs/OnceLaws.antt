@@ -21,6 +21,7 @@ turned same d x y = step (same x y) refl (same y x) refl
     step false e true f = let there : same x y ≡ true = (d x y).1 (sym ((d y x).0 f)) in cc
     step false e false f = refl
 
+-- it does not matter which of the two stands first in the test
 pub any_turned : {A : Type 0} (same : A → A → Bool) → DecidesAll same → (z : A) (xs : List A) → list_any (same z) xs ≡ list_any (λ x. same x z) xs
 any_turned same d z [] = refl
 any_turned same d z (x ∷ xs) = ap (λ t. t || list_any (same z) xs) (turned same d z x) ∙ ap (λ t. same x z || t) (any_turned same d z xs)
@@ -73,6 +74,7 @@ none_filter {A} p q (x ∷ xs) h = step (none_filter p q xs) (q x) (or_parts (p 
     step rest true parts = or_from (p x) (list_any p (filter q xs)) parts.0 (rest parts.1)
     step rest false parts = rest parts.1
 
+-- in a part of a list nothing stands twice where nothing does in the list
 pub once_filter : {A : Type 0} (same : A → A → Bool) (q : A → Bool) (xs : List A) → each_once same xs ≡ true → each_once same (filter q xs) ≡ true
 once_filter same q [] o = refl
 once_filter {A} same q (x ∷ xs) o = step (once_filter same q xs) (q x) (and_parts (not (list_any (same x) xs)) (each_once same xs) o)

@@ -1,10 +1,10 @@
 -- What holds of sums. A sum is the same over any two lists, each element once, outside which the function is 0.
-use Rattle.std.proofs.Common.{◌≡◌, ℕ, ◌+◌, Bool, true, false, cond, ◌&&◌, ◌||◌, not, List, [], ◌∷◌, if◌then◌else◌, refl, sym, ◌∙◌, ap, arith}
+use Rattle.std.proofs.Common.{◌≡◌, ℕ, ◌+◌, Bool, true, false, ◌||◌, not, List, [], ◌∷◌, ◌++◌, if◌then◌else◌, refl, sym, ◌∙◌, ap, arith}
 use Rattle.std.proofs.lemmas.Bool.{and_parts, or_parts, not-true}
-use Rattle.std.specs.List.{list_any}
+use Rattle.std.specs.List.{list_any, flat_map}
 use Rattle.common.specs.OnceLaws.{DecidesAll, turned}
 use Rattle.common.specs.Order.{each_once}
-use Rattle.common.specs.Sums.{sum_of}
+use Rattle.common.specs.Sums.{one, sum_of, count_of}
 
 -- equal functions have equal sums
 pub sum_same : {A : Type 0} (f g : A → ℕ) → ((x : A) → f x ≡ g x) → (xs : List A) → sum_of f xs ≡ sum_of g xs
@@ -15,6 +15,20 @@ sum_same f g e (x ∷ xs) = rw (e x, sum_same f g e xs) refl
 pub sum_none : {A : Type 0} (f : A → ℕ) → ((x : A) → f x ≡ 0) → (xs : List A) → sum_of f xs ≡ 0
 sum_none f e [] = refl
 sum_none f e (x ∷ xs) = let rest = sum_none f e xs in let here = e x in omega arith
+
+-- the sum over one list behind another
+pub sum_append : {A : Type 0} (f : A → ℕ) (xs ys : List A) → sum_of f (xs ++ ys) ≡ sum_of f xs + sum_of f ys
+sum_append f [] ys = omega arith
+sum_append f (x ∷ xs) ys = omega (arith, sum_append f xs ys)
+
+-- the count over one list behind another
+pub count_append : {A : Type 0} (p : A → Bool) (xs ys : List A) → count_of p (xs ++ ys) ≡ count_of p xs + count_of p ys
+count_append p xs ys = sum_append (λ x. one (p x)) xs ys
+
+-- the count over what the parts come to is the sum of the counts over each part
+pub count_flat_map : {A B : Type 0} (p : B → Bool) (f : A → List B) (xs : List A) → count_of p (flat_map f xs) ≡ sum_of (λ x. count_of p (f x)) xs
+count_flat_map p f [] = refl
+count_flat_map p f (x ∷ xs) = count_append p (f x) (flat_map f xs) ∙ ap (λ n. count_of p (f x) + n) (count_flat_map p f xs)
 
 -- the function, but 0 at one element
 abbrev pub besides : {A : Type 0} → (A → A → Bool) → A → (A → ℕ) → A → ℕ
@@ -45,6 +59,7 @@ besides_there same d a f (x ∷ xs) once h = step (besides_there same d a f xs (
         let here : besides same a f x ≡ f x = ap (λ t. if t then 0 else f x) e in
         omega (arith, more g)
 
+-- over two lists, each element once, outside which the function is 0, the sums are equal
 pub sums_agree : {A : Type 0} (same : A → A → Bool) → DecidesAll same → (xs ys : List A) → each_once same xs ≡ true → each_once same ys ≡ true → (f : A → ℕ) → ((x : A) → list_any (same x) xs ≡ false → f x ≡ 0) → ((x : A) → list_any (same x) ys ≡ false → f x ≡ 0) → sum_of f xs ≡ sum_of f ys
 sums_agree same d [] ys once also f out off = sym (sum_none f (λ x. out x refl) ys)
 sums_agree {A} same d (x ∷ xs) ys once also f out off =

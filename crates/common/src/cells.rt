@@ -11,7 +11,7 @@ use std::alloc::{AllocError, Global};
 use std::marker::Model;
 
 /// Cells in the order in which they are named.
-#[derive(Debug, Drop)]
+#[derive(Clone, Debug, Drop)]
 pub struct Cells {
     cells: Vec<Cell>,
 }
@@ -67,7 +67,10 @@ impl PartialEq for Cells {
 
     ghost laws = { partial_equiv_from_equiv (decided (pointwise cell_eq) cells_decide) };
 
-    fn eq(&self, other: &Cells) -> bool {
+    fn eq(&self, other: &Cells) -> bool
+        ensures test { result ≡ pointwise cell_eq self.now other.now }
+        ensures same { IsTrue result ↔ (self.now ≡ other.now) }
+    {
         self.as_slice() == other.as_slice()
     }
 }

@@ -16,4 +16,4 @@ pub use cells::Cells;
 pub use name::Name;
 pub use names::Names;
 pub use octets::Octets;
-pub use sorting::{Ordered, comes_before, in_order};
+pub use sorting::{Ordered, comes_before, in_order, insert_in_order};

@@ -10,7 +10,7 @@ use std::alloc::{AllocError, Global};
 use std::marker::Model;
 
 /// Names in their order.
-#[derive(Debug, Drop)]
+#[derive(Clone, Debug, Drop)]
 pub struct Names {
     names: Vec<Name>,
 }
@@ -69,7 +69,10 @@ impl PartialEq for Names {
 
     ghost laws = { Prim.search (comparing, rules) };
 
-    fn eq(&self, other: &Names) -> bool {
+    fn eq(&self, other: &Names) -> bool
+        ensures test { result ≡ pointwise (pointwise nat_eq) self.now other.now }
+        ensures same { IsTrue result ↔ (self.now ≡ other.now) }
+    {
         self.as_slice() == other.as_slice()
     }
 }

@@ -8,7 +8,7 @@ use std::alloc::{AllocError, Global};
 use std::marker::Model;
 
 /// Octets in their order.
-#[derive(Debug, Drop)]
+#[derive(Clone, Debug, Drop)]
 pub struct Octets {
     octets: Vec<u8>,
 }
@@ -63,7 +63,10 @@ impl PartialEq for Octets {
 
     ghost laws = { partial_equiv_from_equiv nat_list_eq_equiv };
 
-    fn eq(&self, other: &Octets) -> bool {
+    fn eq(&self, other: &Octets) -> bool
+        ensures test { result ≡ pointwise nat_eq self.now other.now }
+        ensures same { IsTrue result ↔ (self.now ≡ other.now) }
+    {
         self.as_slice() == other.as_slice()
     }
 }

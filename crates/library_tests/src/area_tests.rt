@@ -41,8 +41,13 @@ fn every_call_answers(rt: HostRuntime) -> Result<(), Fail> {
     areas.add_area(&coast)?;
     areas.put(&coast, Selector::Cell(CELL))?;
     assert!(rt; areas.areas_of(CELL)?.same(&list(alloc, &[b"Coast"])?));
+    areas.check_put(&coast, Selector::Lac(100))?;
+    areas.check_cut(&coast, Selector::Cell(CELL))?;
     areas.cut(&coast, Selector::Cell(CELL))?;
+    areas.check_drop_area(&coast)?;
     areas.drop_area(&coast)?;
+    areas.check_add_area(&coast)?;
+    areas.tell_soundness();
     Ok(())
 }
 
@@ -50,7 +55,7 @@ fn every_call_answers(rt: HostRuntime) -> Result<(), Fail> {
 fn selectors_are_copied(rt: HostRuntime) -> Result<(), Fail> {
     let alloc = rt.alloc();
     let selectors = Selectors::from_vec(Vec::from_slice(alloc, &[Selector::Lac(100)])?);
-    assert!(rt; selectors.copied(alloc)?.same(&selectors));
+    assert!(rt; selectors.clone()? == selectors);
     let area = Area {
         name: name(alloc, b"Coast")?,
         selectors,

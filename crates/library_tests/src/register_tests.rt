@@ -1,6 +1,6 @@
 //! What no clause says: that each call can succeed, and worked values from the rules.
 
-use cell_register::{BscId, Register};
+use cell_register::{BscId, Refusal, Register};
 use common::Cell;
 use std::alloc::Global;
 use std::process::Abort;
@@ -58,7 +58,24 @@ fn every_call_answers(rt: HostRuntime) -> Result<(), Fail> {
     assert_eq!(rt; register.remove_bsc(bsc(1)?), Ok(()));
     assert!(rt; !register.has_bsc(bsc(1)?));
     assert_eq!(rt; register.bsc_of(FIRST), Some(bsc(2)?));
-    register.is_sound();
+    register.tell_soundness();
+    Ok(())
+}
+
+#[test]
+fn a_check_accepts_what_its_edit_does(rt: HostRuntime) -> Result<(), Fail> {
+    let register = begun(rt.alloc())?;
+    assert_eq!(rt; register.check_add_bsc(bsc(3)?), Ok(()));
+    assert_eq!(rt;
+        register.check_remove_bsc(bsc(2)?),
+        Err(Refusal::BscHasCells)
+    );
+    assert_eq!(rt;
+        register.check_add_cell(Cell { lac: 7, ci: 7 }, bsc(2)?),
+        Ok(())
+    );
+    assert_eq!(rt; register.check_move_cell(FIRST, bsc(2)?), Ok(()));
+    assert_eq!(rt; register.check_remove_cell(FIRST), Ok(()));
     Ok(())
 }
 

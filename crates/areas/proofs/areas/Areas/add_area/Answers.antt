@@ -1,10 +1,13 @@
-use Rattle.std.proofs.Common.{◌≡◌, ◌<◌, false, length, rules}
+use Rattle.std.proofs.Common.{◌≡◌, None, rules}
+use Rattle.std.proofs.lemmas.Bool.{leb-false}
+use Rattle.common.specs.CheckLaws.{none_holds}
+use Rattle.common.specs.Checks.{first_refusal}
 use Rattle.areas.proofs.SoundLemmas.{sound-with_area}
-use Rattle.areas.specs.Areas.{has_area}
+use Rattle.areas.specs.Checks.{add_area_checks}
 use Rattle.areas.proofs.areas.Areas.add_area.Goals as goal
 
 pub invariant_of-self-2 : goal.invariant_of-self-2
 invariant_of-self-2 c =
-    let new : has_area c.self.inside.list.items c.args.a.now ≡ false = search rules in
-    let below : length c.self.inside.list.items < 4096 = search rules in
-    rw c.in_ok-add_area.ensures.added (sound-with_area _ _ c.self.invariant new below)
+    let none : first_refusal (add_area_checks c.self.inside.list.items c.args.a.now) ≡ None = search rules in
+    let holds = none_holds (add_area_checks c.self.inside.list.items c.args.a.now) none in
+    rw c.in_ok-add_area.ensures.added (sound-with_area _ _ c.self.invariant holds.1.0 (leb-false 4096 _ holds.1.1.0))
