@@ -20,10 +20,10 @@ mod reading;
 mod writing;
 
 pub use fault::MessageFault;
-pub use laws::{no_fault, one_fault, one_message, table_is_whole};
+pub use laws::{no_fault, one_fault, one_message, short_page, table_is_whole};
 pub use message::Message;
 pub use message_type::MessageType;
 pub use page::Page;
 pub use pages::Pages;
-pub use reading::read;
+pub use reading::{read, read_as};
 pub use writing::write;
