@@ -18,14 +18,15 @@ form_of (id.Lai plmn lac) = form.Lai
 form_of (id.Lac lac) = form.Lac
 form_of id.All = form.All
 
--- the identification names the cell, where the centre's network is plmn
-abbrev pub Names : List ℕ → CellId → Cell → Type 0
-Names plmn (id.Global own lac ci) cell = (own ≡ plmn) × (lac ≡ cell.lac) × (ci ≡ cell.ci)
-Names plmn (id.LacCi lac ci) cell = (lac ≡ cell.lac) × (ci ≡ cell.ci)
-Names plmn (id.Ci ci) cell = ci ≡ cell.ci
-Names plmn (id.Lai own lac) cell = (own ≡ plmn) × (lac ≡ cell.lac)
-Names plmn (id.Lac lac) cell = lac ≡ cell.lac
-Names plmn id.All cell = Unit {0}
+-- whether the identification names the cell, where the centre's network is plmn: the network, the location
+-- area and the cell identity are compared, as far as the form has them
+abbrev pub names : List ℕ → CellId → Cell → Bool
+names plmn (id.Global own lac ci) cell = pointwise nat_eq own plmn && nat_eq lac cell.lac && nat_eq ci cell.ci
+names plmn (id.LacCi lac ci) cell = nat_eq lac cell.lac && nat_eq ci cell.ci
+names plmn (id.Ci ci) cell = nat_eq ci cell.ci
+names plmn (id.Lai own lac) cell = pointwise nat_eq own plmn && nat_eq lac cell.lac
+names plmn (id.Lac lac) cell = nat_eq lac cell.lac
+names plmn id.All cell = true
 
 -- the three octets of a network
 abbrev pub IsPlmn : List ℕ → Type 0

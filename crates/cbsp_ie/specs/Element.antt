@@ -40,13 +40,15 @@ element_id_of (element.NumberOfPages n) = element_id.NumberOfPages
 element_id_of (element.BroadcastMessageType n) = element_id.BroadcastMessageType
 element_id_of (element.WarningPeriod n) = element_id.WarningPeriod
 
--- the octets are read as the number: two octets, one, or the low four bits of one
+-- the two octets are read as the number, the most significant first
 abbrev pub IsTwo : ℕ → List ℕ → Type 0
 IsTwo n octets = (n < 65536) × (octets ≡ bytes_high_first 2 n)
 
+-- the one octet is read as the number
 abbrev pub IsOne : ℕ → List ℕ → Type 0
 IsOne n octets = octets ≡ n ∷ []
 
+-- the low four bits of the octet are read as the number, and the high four are spare
 abbrev pub IsLow : ℕ → List ℕ → Type 0
 IsLow n octets = (octet : ℕ) × (n ≡ octet % 16) × (octets ≡ octet ∷ [])
 

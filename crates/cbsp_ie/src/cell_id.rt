@@ -1,8 +1,8 @@
 //! The identification of one cell or of several.
 
-ghost use Rattle.std.specs.Prelude.{◌≡◌, ◌≤◌, ◌↔◌, ◌++◌, IsTrue, OnOk, OnErr, length};
+ghost use Rattle.std.specs.Prelude.{◌≡◌, ◌≤◌, ◌++◌, OnOk, OnErr, length};
 ghost use Rattle.std.specs.Cmp.{decided, partial_equiv_from_equiv};
-ghost use Rattle.cbsp_ie.specs.CellId.{IsCellId, IsPlmn, Names, form_of, id_at, id_eq, id_octets};
+ghost use Rattle.cbsp_ie.specs.CellId.{IsCellId, IsPlmn, names, form_of, id_at, id_eq, id_octets};
 ghost use Rattle.cbsp_ie.specs.Equality.{id_decides};
 ghost use Rattle.cbsp_ie.specs.Form.{size_of};
 
@@ -41,7 +41,7 @@ impl CellId {
     /// Whether the cell is one that is identified, where the network asked for is `plmn`. The cell
     /// identity alone names the cell of that identity in every location area.
     pub fn names(&self, plmn: [u8; 3], cell: Cell) -> bool
-        ensures { IsTrue result ↔ Names plmn self.now cell }
+        ensures { result ≡ names plmn self.now cell }
     {
         match self {
             CellId::Global { plmn: own, lac, ci } => {

@@ -1,5 +1,5 @@
 -- What is written of a message that fits is short enough to be read.
-use Rattle.std.proofs.Common.{◌≡◌, ℕ, ◌+◌, ◌*◌, ◌<◌, ◌≤◌, List, [], ◌∷◌, ◌++◌, length, map, Option, Some, None, refl, ap, arith, length-append}
+use Rattle.std.proofs.Common.{◌≡◌, ℕ, ◌+◌, ◌*◌, ◌<◌, ◌≤◌, List, [], ◌∷◌, length, map, Option, Some, None, refl, ap, arith, length-append}
 use Rattle.std.specs.Prelude.{IfSome}
 use Rattle.std.specs.List.{AllByRecursion, flat_map}
 use Rattle.std.proofs.lemmas.List.{append-nil}
@@ -50,33 +50,33 @@ pages_length (page ∷ pages) h =
     omega (arith, length-append (element_octets (page_element page)) (flat_map element_octets (map page_element pages)))
 
 few_pages : (m : Message) → HasPages m → length (parts_of m).pages ≤ 15
-few_pages (message.WriteReplace message_id serial old cells channel category period requested pages dcs) h = h.1
-few_pages (message.WriteComplete message_id serial old counts cells channel) h = omega arith
-few_pages (message.WriteFailure message_id serial old failures counts cells channel) h = omega arith
-few_pages (message.Kill message_id serial cells channel) h = omega arith
-few_pages (message.KillComplete message_id serial counts cells channel) h = omega arith
-few_pages (message.KillFailure message_id serial failures counts cells channel) h = omega arith
-few_pages (message.StatusQuery message_id serial cells channel) h = omega arith
-few_pages (message.StatusComplete message_id serial counts channel) h = omega arith
-few_pages (message.StatusFailure message_id serial failures counts channel) h = omega arith
-few_pages (message.Restart cells kind recovery) h = omega arith
-few_pages (message.Failure failures kind) h = omega arith
-few_pages (message.ErrorIndication cause message_id serial old channel) h = omega arith
+few_pages (message.WriteReplace m) h = h.1
+few_pages (message.WriteComplete m) h = omega arith
+few_pages (message.WriteFailure m) h = omega arith
+few_pages (message.Kill m) h = omega arith
+few_pages (message.KillComplete m) h = omega arith
+few_pages (message.KillFailure m) h = omega arith
+few_pages (message.StatusQuery m) h = omega arith
+few_pages (message.StatusComplete m) h = omega arith
+few_pages (message.StatusFailure m) h = omega arith
+few_pages (message.Restart m) h = omega arith
+few_pages (message.Failure m) h = omega arith
+few_pages (message.ErrorIndication m) h = omega arith
 
 -- no message has security information
 no_security : (m : Message) → (parts_of m).security ≡ None
-no_security (message.WriteReplace message_id serial old cells channel category period requested pages dcs) = refl
-no_security (message.WriteComplete message_id serial old counts cells channel) = refl
-no_security (message.WriteFailure message_id serial old failures counts cells channel) = refl
-no_security (message.Kill message_id serial cells channel) = refl
-no_security (message.KillComplete message_id serial counts cells channel) = refl
-no_security (message.KillFailure message_id serial failures counts cells channel) = refl
-no_security (message.StatusQuery message_id serial cells channel) = refl
-no_security (message.StatusComplete message_id serial counts channel) = refl
-no_security (message.StatusFailure message_id serial failures counts channel) = refl
-no_security (message.Restart cells kind recovery) = refl
-no_security (message.Failure failures kind) = refl
-no_security (message.ErrorIndication cause message_id serial old channel) = refl
+no_security (message.WriteReplace m) = refl
+no_security (message.WriteComplete m) = refl
+no_security (message.WriteFailure m) = refl
+no_security (message.Kill m) = refl
+no_security (message.KillComplete m) = refl
+no_security (message.KillFailure m) = refl
+no_security (message.StatusQuery m) = refl
+no_security (message.StatusComplete m) = refl
+no_security (message.StatusFailure m) = refl
+no_security (message.Restart m) = refl
+no_security (message.Failure m) = refl
+no_security (message.ErrorIndication m) = refl
 
 -- the most octets that the elements with an identifier have
 abbrev most_at : ElementId → ℕ

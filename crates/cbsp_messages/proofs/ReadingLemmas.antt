@@ -15,7 +15,7 @@ use Rattle.cbsp_messages.specs.declared.fault.MessageFault.TheVariants as fault
 use Rattle.cbsp_messages.specs.declared.message.Message.{Message}
 use Rattle.cbsp_messages.specs.declared.message_type.MessageType.{MessageType}
 use Rattle.cbsp_messages.specs.Elements.{AreElements, IsOnce, with_id}
-use Rattle.cbsp_messages.specs.Faults.{IsCutFault, IsWholeFault, IsContentFault, IsPagesFault, IsFault, missing}
+use Rattle.cbsp_messages.specs.Faults.{IsCutFault, IsWholeFault, IsContentFault, IsPagesFault, IsFault, IsFaultAs, missing}
 use Rattle.cbsp_messages.specs.Message.{type_of}
 use Rattle.cbsp_messages.specs.MessageType.{code_of, demanded_of, message_types, type_with}
 use Rattle.cbsp_messages.specs.Parts.{Parts, no_parts, values_at, is_there, with_element}
@@ -118,21 +118,15 @@ not_there parts i which = (ap not (is_there-values parts which) ∙ not_not (len
 pub missing-taken : (parts : Parts) (t : MessageType) → find (λ which. not (is_there parts which)) (demanded_of t) ≡ missing t (values_at parts)
 missing-taken parts t = ap (λ test. find test (demanded_of t)) (not_there parts)
 
-pub IsFault-missing : (body : List ℕ) (parts : Parts) (kind : ℕ) (t : MessageType) (which : ElementId) → Takes body [] parts → type_with kind ≡ Some t
-    → Some which ≡ find (λ which. not (is_there parts which)) (demanded_of t) → IsFault kind body (fault.Missing which)
-IsFault-missing body parts kind t which taken is_kind first =
-    rw is_kind (inr (IsWholeFault-taken body parts t (fault.Missing which) taken (rw (sym (first ∙ missing-taken parts t)) refl)))
+pub IsFault-missing : (body : List ℕ) (parts : Parts) (t : MessageType) (which : ElementId) → Takes body [] parts
+    → Some which ≡ find (λ which. not (is_there parts which)) (demanded_of t) → IsFaultAs t body (fault.Missing which)
+IsFault-missing body parts t which taken first =
+    inr (IsWholeFault-taken body parts t (fault.Missing which) taken (rw (sym (first ∙ missing-taken parts t)) refl))
 
-pub IsFault-pages : (body : List ℕ) (parts : Parts) (kind : ℕ) (t : MessageType) (f : MessageFault) → Takes body [] parts → type_with kind ≡ Some t
-    → None ≡ find (λ which. not (is_there parts which)) (demanded_of t) → IsPagesFault t (values_at parts) f → IsFault kind body f
-IsFault-pages body parts kind t f taken is_kind none bad =
-    rw is_kind (inr (IsWholeFault-taken body parts t f taken (rw (sym (none ∙ missing-taken parts t)) bad)))
-
-pub IsFault-cut : (body : List ℕ) (kind : ℕ) (t : MessageType) (f : MessageFault) → type_with kind ≡ Some t → IsCutFault body f → IsFault kind body f
-IsFault-cut body kind t f is_kind cut = rw is_kind (inl cut)
-
-pub IsFault-type : (body : List ℕ) (kind : ℕ) → type_with kind ≡ None → IsFault kind body fault.NotInProfile
-IsFault-type body kind none = rw none refl
+IsFault-pages : (body : List ℕ) (parts : Parts) (t : MessageType) (f : MessageFault) → Takes body [] parts
+    → None ≡ find (λ which. not (is_there parts which)) (demanded_of t) → IsPagesFault t (values_at parts) f → IsFaultAs t body f
+IsFault-pages body parts t f taken none bad =
+    inr (IsWholeFault-taken body parts t f taken (rw (sym (none ∙ missing-taken parts t)) bad))
 
 -- what no look-up finds is nowhere
 all_there : (parts : Parts) (ids : List ElementId) → None ≡ find (λ which. not (is_there parts which)) ids → AllByRecursion (λ which. is_there parts which ≡ true) ids
@@ -146,19 +140,28 @@ all_there parts (which ∷ ids) none =
 pub HasDemanded-taken : (parts : Parts) (t : MessageType) → None ≡ find (λ which. not (is_there parts which)) (demanded_of t) → HasDemanded t parts
 HasDemanded-taken parts t none = all_there parts (demanded_of t) none
 
--- ---- what read answers
+-- ---- what read_as and read answer
+
+pub Spells-result : (body : List ℕ) (parts : Parts) (t : MessageType) (r : Result Message MessageFault) → Takes body [] parts
+    → IfOk r (λ m. type_of m ≡ t) → IfOk r (Says (values_at parts)) → IfOk r (Spells (code_of t) body)
+Spells-result body parts t (Ok m) taken has_type says = Spells-taken body parts t (code_of t) m taken refl has_type says
+Spells-result body parts t (Err f) taken has_type says = tt
+
+pub IsFault-result : (body : List ℕ) (parts : Parts) (t : MessageType) (r : Result Message MessageFault) → Takes body [] parts
+    → None ≡ find (λ which. not (is_there parts which)) (demanded_of t)
+    → IfErr r (λ f. (f ≡ fault.Memory) ⊎ IsPagesFault t (values_at parts) f) → IfErr r (λ f. (f ≡ fault.Memory) ⊎ IsFaultAs t body f)
+IsFault-result body parts t (Ok m) taken none bad = tt
+IsFault-result body parts t (Err f) taken none (inl memory) = inl memory
+IsFault-result body parts t (Err f) taken none (inr bad) = inr (IsFault-pages body parts t f taken none bad)
 
 pub code_of-type_with : (kind : ℕ) (t : MessageType) → type_with kind ≡ Some t → kind ≡ code_of t
 code_of-type_with kind t e = sym (eqb-true _ _ (find_passes (λ t. code_of t == kind) message_types t e))
 
-pub Spells-result : (body : List ℕ) (parts : Parts) (t : MessageType) (kind : ℕ) (r : Result Message MessageFault) → Takes body [] parts → type_with kind ≡ Some t
-    → IfOk r (λ m. type_of m ≡ t) → IfOk r (Says (values_at parts)) → IfOk r (Spells kind body)
-Spells-result body parts t kind (Ok m) taken is_kind has_type says = Spells-taken body parts t kind m taken (code_of-type_with kind t is_kind) has_type says
-Spells-result body parts t kind (Err f) taken is_kind has_type says = tt
+pub Spells-octet : (body : List ℕ) (kind : ℕ) (t : MessageType) (r : Result Message MessageFault) → type_with kind ≡ Some t → IfOk r (Spells (code_of t) body) → IfOk r (Spells kind body)
+Spells-octet body kind t r is_kind h = subst (λ k. IfOk r (Spells k body)) (sym (code_of-type_with kind t is_kind)) h
 
-pub IsFault-result : (body : List ℕ) (parts : Parts) (t : MessageType) (kind : ℕ) (r : Result Message MessageFault) → Takes body [] parts → type_with kind ≡ Some t
-    → None ≡ find (λ which. not (is_there parts which)) (demanded_of t)
-    → IfErr r (λ f. (f ≡ fault.Memory) ⊎ IsPagesFault t (values_at parts) f) → IfErr r (λ f. (f ≡ fault.Memory) ⊎ IsFault kind body f)
-IsFault-result body parts t kind (Ok m) taken is_kind none bad = tt
-IsFault-result body parts t kind (Err f) taken is_kind none (inl memory) = inl memory
-IsFault-result body parts t kind (Err f) taken is_kind none (inr bad) = inr (IsFault-pages body parts kind t f taken is_kind none bad)
+pub IsFault-octet : (body : List ℕ) (kind : ℕ) (t : MessageType) (r : Result Message MessageFault) → type_with kind ≡ Some t
+    → IfErr r (λ f. (f ≡ fault.Memory) ⊎ IsFaultAs t body f) → IfErr r (λ f. (f ≡ fault.Memory) ⊎ IsFault kind body f)
+IsFault-octet body kind t (Ok m) is_kind h = tt
+IsFault-octet body kind t (Err f) is_kind (inl memory) = inl memory
+IsFault-octet body kind t (Err f) is_kind (inr bad) = inr (rw is_kind bad)

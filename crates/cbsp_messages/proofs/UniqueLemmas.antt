@@ -15,7 +15,7 @@ use Rattle.cbsp_messages.specs.declared.message.Message.{Message}
 use Rattle.cbsp_messages.specs.declared.message_type.MessageType.{MessageType}
 use Rattle.cbsp_messages.specs.declared.message_type.MessageType.TheVariants as type
 use Rattle.cbsp_messages.specs.Elements.{AreElements, IsOnce, has_id, with_id}
-use Rattle.cbsp_messages.specs.Faults.{HavePages, IsContentFault, IsCutFault, IsFault, IsNextFault, IsPagesFault, IsWholeFault, missing}
+use Rattle.cbsp_messages.specs.Faults.{HavePages, IsContentFault, IsCutFault, IsFault, IsFaultAs, IsNextFault, IsPagesFault, IsWholeFault, missing}
 use Rattle.cbsp_messages.specs.Message.{type_of}
 use Rattle.cbsp_messages.specs.MessageType.{code_of, type_with, written_of}
 use Rattle.cbsp_messages.specs.Parts.{parts_of, values_at}
@@ -234,3 +234,11 @@ pub only_answer : (kind : ℕ) (body : List ℕ) (answer : Result Message Messag
 only_answer kind body (Ok read) m found wrong spells = one_message_at_most kind body read m found spells
 only_answer kind body (Err f) m found (inl memory) spells = memory
 only_answer kind body (Err f) m found (inr bad) spells = absurd (no_fault_if_spelled kind body m f spells bad)
+
+-- the same where the type is known
+pub only_answer_as : (t : MessageType) (body : List ℕ) (answer : Result Message MessageFault) (m : Message) → IfOk answer (Spells (code_of t) body)
+    → IfErr answer (λ f. (f ≡ fault.Memory) ⊎ IsFaultAs t body f) → Spells (code_of t) body m → MatchResult answer (λ read. read ≡ m) (λ f. f ≡ fault.Memory)
+only_answer_as t body (Ok read) m found wrong spells = one_message_at_most (code_of t) body read m found spells
+only_answer_as t body (Err f) m found (inl memory) spells = memory
+only_answer_as t body (Err f) m found (inr bad) spells =
+    absurd (no_fault_if_spelled (code_of t) body m f spells (subst (λ kind. MatchOption kind (f ≡ fault.NotInProfile) (λ t. IsFaultAs t body f)) (sym (type_with-code_of t)) bad))

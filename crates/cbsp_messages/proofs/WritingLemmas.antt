@@ -9,7 +9,7 @@ use Rattle.cbsp_messages.specs.Spelling.{HasPages}
 use Rattle.cbsp_messages.specs.Written.{Fits}
 
 few_pages : (m : Message) → HasPages m → IfSome (parts_of m).page_count (λ count. count < 256)
-few_pages (message.WriteReplace message_id serial old cells channel category period requested pages dcs) h = omega (arith, h.1)
+few_pages (message.WriteReplace m) h = omega (arith, h.1)
 few_pages other h = tt
 
 pub PartsFit-Fits : (m : Message) → Fits m → PartsFit (parts_of m)

@@ -99,18 +99,18 @@ parts_writable m ranges short fits none id.BroadcastMessageType = any_writable (
 parts_writable m ranges short fits none id.WarningPeriod = any_writable (λ n. element.WarningPeriod n) (λ x. (tt, tt)) (parts_of m).warning_period
 
 has_none : (m : Message) → HasNone (parts_of m)
-has_none (message.WriteReplace message_id serial old cells channel category period requested pages dcs) = (refl, refl)
-has_none (message.WriteComplete message_id serial old counts cells channel) = (refl, refl)
-has_none (message.WriteFailure message_id serial old failures counts cells channel) = (refl, refl)
-has_none (message.Kill message_id serial cells channel) = (refl, refl)
-has_none (message.KillComplete message_id serial counts cells channel) = (refl, refl)
-has_none (message.KillFailure message_id serial failures counts cells channel) = (refl, refl)
-has_none (message.StatusQuery message_id serial cells channel) = (refl, refl)
-has_none (message.StatusComplete message_id serial counts channel) = (refl, refl)
-has_none (message.StatusFailure message_id serial failures counts channel) = (refl, refl)
-has_none (message.Restart cells kind recovery) = (refl, refl)
-has_none (message.Failure failures kind) = (refl, refl)
-has_none (message.ErrorIndication cause message_id serial old channel) = (refl, refl)
+has_none (message.WriteReplace m) = (refl, refl)
+has_none (message.WriteComplete m) = (refl, refl)
+has_none (message.WriteFailure m) = (refl, refl)
+has_none (message.Kill m) = (refl, refl)
+has_none (message.KillComplete m) = (refl, refl)
+has_none (message.KillFailure m) = (refl, refl)
+has_none (message.StatusQuery m) = (refl, refl)
+has_none (message.StatusComplete m) = (refl, refl)
+has_none (message.StatusFailure m) = (refl, refl)
+has_none (message.Restart m) = (refl, refl)
+has_none (message.Failure m) = (refl, refl)
+has_none (message.ErrorIndication m) = (refl, refl)
 
 -- ---- the elements by their identifiers
 
@@ -279,46 +279,46 @@ pages_kept [] = refl
 pages_kept (page ∷ pages) = ap (λ es. page_element page ∷ es) (pages_kept pages)
 
 plain_values : (m : Message) → AllByRecursion (λ which. plain_at (parts_of m) which ≡ values_at (parts_of (plain m)) which) (written_of (type_of m))
-plain_values (message.WriteReplace message_id serial old cells channel category period requested pages dcs) = (refl, (refl, (kept (λ n. element.OldSerialNumber n) (λ x. refl) old, (refl, (plain_option (λ n. element.ChannelIndicator n) low (λ x. refl) channel, (refl, (refl, (refl, (refl, (refl, (pages_kept pages, tt)))))))))))
-plain_values (message.WriteComplete message_id serial old counts cells channel) = (refl, (refl, (kept (λ n. element.OldSerialNumber n) (λ x. refl) old, (plain_option (λ counts. element.BroadcastsCompleted counts) plain_counts (λ x. refl) counts, (kept (λ cells. element.CellList cells) (λ x. refl) cells, (plain_option (λ n. element.ChannelIndicator n) low (λ x. refl) channel, tt))))))
-plain_values (message.WriteFailure message_id serial old failures counts cells channel) = (refl, (refl, (kept (λ n. element.OldSerialNumber n) (λ x. refl) old, (refl, (plain_option (λ counts. element.BroadcastsCompleted counts) plain_counts (λ x. refl) counts, (kept (λ cells. element.CellList cells) (λ x. refl) cells, (plain_option (λ n. element.ChannelIndicator n) low (λ x. refl) channel, tt)))))))
-plain_values (message.Kill message_id serial cells channel) = (refl, (refl, (refl, (plain_option (λ n. element.ChannelIndicator n) low (λ x. refl) channel, tt))))
-plain_values (message.KillComplete message_id serial counts cells channel) = (refl, (refl, (plain_option (λ counts. element.BroadcastsCompleted counts) plain_counts (λ x. refl) counts, (kept (λ cells. element.CellList cells) (λ x. refl) cells, (plain_option (λ n. element.ChannelIndicator n) low (λ x. refl) channel, tt)))))
-plain_values (message.KillFailure message_id serial failures counts cells channel) = (refl, (refl, (refl, (plain_option (λ counts. element.BroadcastsCompleted counts) plain_counts (λ x. refl) counts, (kept (λ cells. element.CellList cells) (λ x. refl) cells, (plain_option (λ n. element.ChannelIndicator n) low (λ x. refl) channel, tt))))))
-plain_values (message.StatusQuery message_id serial cells channel) = (refl, (refl, (refl, (plain_option (λ n. element.ChannelIndicator n) low (λ x. refl) channel, tt))))
-plain_values (message.StatusComplete message_id serial counts channel) = (refl, (refl, (refl, (plain_option (λ n. element.ChannelIndicator n) low (λ x. refl) channel, tt))))
-plain_values (message.StatusFailure message_id serial failures counts channel) = (refl, (refl, (refl, (plain_option (λ counts. element.BroadcastsCompleted counts) plain_counts (λ x. refl) counts, (plain_option (λ n. element.ChannelIndicator n) low (λ x. refl) channel, tt)))))
-plain_values (message.Restart cells kind recovery) = (refl, (refl, (refl, tt)))
-plain_values (message.Failure failures kind) = (refl, (refl, tt))
-plain_values (message.ErrorIndication cause message_id serial old channel) = (refl, (kept (λ n. element.MessageIdentifier n) (λ x. refl) message_id, (kept (λ n. element.NewSerialNumber n) (λ x. refl) serial, (kept (λ n. element.OldSerialNumber n) (λ x. refl) old, (plain_option (λ n. element.ChannelIndicator n) low (λ x. refl) channel, tt)))))
+plain_values (message.WriteReplace m) = (refl, (refl, (kept (λ n. element.OldSerialNumber n) (λ x. refl) m.old, (refl, (plain_option (λ n. element.ChannelIndicator n) low (λ x. refl) m.channel, (refl, (refl, (refl, (refl, (refl, (pages_kept m.pages, tt)))))))))))
+plain_values (message.WriteComplete m) = (refl, (refl, (kept (λ n. element.OldSerialNumber n) (λ x. refl) m.old, (plain_option (λ counts. element.BroadcastsCompleted counts) plain_counts (λ x. refl) m.counts, (kept (λ cells. element.CellList cells) (λ x. refl) m.cells, (plain_option (λ n. element.ChannelIndicator n) low (λ x. refl) m.channel, tt))))))
+plain_values (message.WriteFailure m) = (refl, (refl, (kept (λ n. element.OldSerialNumber n) (λ x. refl) m.old, (refl, (plain_option (λ counts. element.BroadcastsCompleted counts) plain_counts (λ x. refl) m.counts, (kept (λ cells. element.CellList cells) (λ x. refl) m.cells, (plain_option (λ n. element.ChannelIndicator n) low (λ x. refl) m.channel, tt)))))))
+plain_values (message.Kill m) = (refl, (refl, (refl, (plain_option (λ n. element.ChannelIndicator n) low (λ x. refl) m.channel, tt))))
+plain_values (message.KillComplete m) = (refl, (refl, (plain_option (λ counts. element.BroadcastsCompleted counts) plain_counts (λ x. refl) m.counts, (kept (λ cells. element.CellList cells) (λ x. refl) m.cells, (plain_option (λ n. element.ChannelIndicator n) low (λ x. refl) m.channel, tt)))))
+plain_values (message.KillFailure m) = (refl, (refl, (refl, (plain_option (λ counts. element.BroadcastsCompleted counts) plain_counts (λ x. refl) m.counts, (kept (λ cells. element.CellList cells) (λ x. refl) m.cells, (plain_option (λ n. element.ChannelIndicator n) low (λ x. refl) m.channel, tt))))))
+plain_values (message.StatusQuery m) = (refl, (refl, (refl, (plain_option (λ n. element.ChannelIndicator n) low (λ x. refl) m.channel, tt))))
+plain_values (message.StatusComplete m) = (refl, (refl, (refl, (plain_option (λ n. element.ChannelIndicator n) low (λ x. refl) m.channel, tt))))
+plain_values (message.StatusFailure m) = (refl, (refl, (refl, (plain_option (λ counts. element.BroadcastsCompleted counts) plain_counts (λ x. refl) m.counts, (plain_option (λ n. element.ChannelIndicator n) low (λ x. refl) m.channel, tt)))))
+plain_values (message.Restart m) = (refl, (refl, (refl, tt)))
+plain_values (message.Failure m) = (refl, (refl, tt))
+plain_values (message.ErrorIndication m) = (refl, (kept (λ n. element.MessageIdentifier n) (λ x. refl) m.message_id, (kept (λ n. element.NewSerialNumber n) (λ x. refl) m.serial, (kept (λ n. element.OldSerialNumber n) (λ x. refl) m.old, (plain_option (λ n. element.ChannelIndicator n) low (λ x. refl) m.channel, tt)))))
 
 type_of-plain : (m : Message) → type_of (plain m) ≡ type_of m
-type_of-plain (message.WriteReplace message_id serial old cells channel category period requested pages dcs) = refl
-type_of-plain (message.WriteComplete message_id serial old counts cells channel) = refl
-type_of-plain (message.WriteFailure message_id serial old failures counts cells channel) = refl
-type_of-plain (message.Kill message_id serial cells channel) = refl
-type_of-plain (message.KillComplete message_id serial counts cells channel) = refl
-type_of-plain (message.KillFailure message_id serial failures counts cells channel) = refl
-type_of-plain (message.StatusQuery message_id serial cells channel) = refl
-type_of-plain (message.StatusComplete message_id serial counts channel) = refl
-type_of-plain (message.StatusFailure message_id serial failures counts channel) = refl
-type_of-plain (message.Restart cells kind recovery) = refl
-type_of-plain (message.Failure failures kind) = refl
-type_of-plain (message.ErrorIndication cause message_id serial old channel) = refl
+type_of-plain (message.WriteReplace m) = refl
+type_of-plain (message.WriteComplete m) = refl
+type_of-plain (message.WriteFailure m) = refl
+type_of-plain (message.Kill m) = refl
+type_of-plain (message.KillComplete m) = refl
+type_of-plain (message.KillFailure m) = refl
+type_of-plain (message.StatusQuery m) = refl
+type_of-plain (message.StatusComplete m) = refl
+type_of-plain (message.StatusFailure m) = refl
+type_of-plain (message.Restart m) = refl
+type_of-plain (message.Failure m) = refl
+type_of-plain (message.ErrorIndication m) = refl
 
 HasPages-plain : (m : Message) → HasPages m → HasPages (plain m)
-HasPages-plain (message.WriteReplace message_id serial old cells channel category period requested pages dcs) h = h
-HasPages-plain (message.WriteComplete message_id serial old counts cells channel) h = tt
-HasPages-plain (message.WriteFailure message_id serial old failures counts cells channel) h = tt
-HasPages-plain (message.Kill message_id serial cells channel) h = tt
-HasPages-plain (message.KillComplete message_id serial counts cells channel) h = tt
-HasPages-plain (message.KillFailure message_id serial failures counts cells channel) h = tt
-HasPages-plain (message.StatusQuery message_id serial cells channel) h = tt
-HasPages-plain (message.StatusComplete message_id serial counts channel) h = tt
-HasPages-plain (message.StatusFailure message_id serial failures counts channel) h = tt
-HasPages-plain (message.Restart cells kind recovery) h = tt
-HasPages-plain (message.Failure failures kind) h = tt
-HasPages-plain (message.ErrorIndication cause message_id serial old channel) h = tt
+HasPages-plain (message.WriteReplace m) h = h
+HasPages-plain (message.WriteComplete m) h = tt
+HasPages-plain (message.WriteFailure m) h = tt
+HasPages-plain (message.Kill m) h = tt
+HasPages-plain (message.KillComplete m) h = tt
+HasPages-plain (message.KillFailure m) h = tt
+HasPages-plain (message.StatusQuery m) h = tt
+HasPages-plain (message.StatusComplete m) h = tt
+HasPages-plain (message.StatusFailure m) h = tt
+HasPages-plain (message.Restart m) h = tt
+HasPages-plain (message.Failure m) h = tt
+HasPages-plain (message.ErrorIndication m) h = tt
 
 joined : (ids : List ElementId) (a b c d : ElementId → List Element) → ((which : ElementId) → a which ≡ b which) → AllByRecursion (λ which. b which ≡ c which) ids → AllByRecursion (λ which. c which ≡ d which) ids
     → AllByRecursion (λ which. a which ≡ d which) ids

@@ -69,6 +69,10 @@ pub record IsWholeFault (t : MessageType) (body : List ℕ) (f : MessageFault) :
   pub once : IsOnce elements
   pub bad : IsContentFault t (λ id. with_id id elements) f
 
+-- what is wrong with a body of the type: an element on the way, or else the elements as a whole
+abbrev pub IsFaultAs : MessageType → List ℕ → MessageFault → Type 0
+IsFaultAs t body f = IsCutFault body f ⊎ IsWholeFault t body f
+
 -- what is wrong with a body behind the octet of a type
 abbrev pub IsFault : ℕ → List ℕ → MessageFault → Type 0
-IsFault kind body f = MatchOption (type_with kind) (f ≡ fault.NotInProfile) (λ t. IsCutFault body f ⊎ IsWholeFault t body f)
+IsFault kind body f = MatchOption (type_with kind) (f ≡ fault.NotInProfile) (λ t. IsFaultAs t body f)

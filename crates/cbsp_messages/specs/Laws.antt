@@ -1,9 +1,10 @@
 -- That a body is read in one way: as one message, or with one fault.
-use Rattle.std.specs.Prelude.{◌≡◌, ℕ, List, IsTrue}
+use Rattle.std.specs.Prelude.{◌≡◌, ℕ, ◌≤◌, ◌-◌, List, ◌++◌, length, replicate, IsTrue}
 use Rattle.cbsp_messages.specs.declared.fault.MessageFault.{MessageFault}
 use Rattle.cbsp_messages.specs.declared.message.Message.{Message}
 use Rattle.cbsp_messages.specs.Faults.{IsFault}
 use Rattle.cbsp_messages.specs.MessageType.{is_whole_table}
+use Rattle.cbsp_messages.specs.PageText.{page_with}
 use Rattle.cbsp_messages.specs.Spelling.{Spells}
 
 -- a body spells one message
@@ -21,3 +22,8 @@ OneFault = (kind : ℕ) (body : List ℕ) (f g : MessageFault) → IsFault kind 
 -- the elements that a type writes are those that it demands and those that it may have, each once
 abbrev pub TableIsWhole : Type 0
 TableIsWhole = IsTrue is_whole_table
+
+-- content of at most 82 octets is all on its page, with zeros after it
+abbrev pub ShortPage : Type 0
+ShortPage =
+    (content : List ℕ) → length content ≤ 82 → page_with content ≡ record { used = length content; octets = content ++ replicate (82 - length content) 0 }

@@ -6,15 +6,15 @@ use Rattle.cbsp_messages.specs.declared.message_type.MessageType.TheVariants as 
 
 -- the type of a message
 abbrev pub type_of : Message → MessageType
-type_of (message.WriteReplace message_id serial old cells channel category period requested pages dcs) = type.WriteReplace
-type_of (message.WriteComplete message_id serial old counts cells channel) = type.WriteComplete
-type_of (message.WriteFailure message_id serial old failures counts cells channel) = type.WriteFailure
-type_of (message.Kill message_id serial cells channel) = type.Kill
-type_of (message.KillComplete message_id serial counts cells channel) = type.KillComplete
-type_of (message.KillFailure message_id serial failures counts cells channel) = type.KillFailure
-type_of (message.StatusQuery message_id serial cells channel) = type.StatusQuery
-type_of (message.StatusComplete message_id serial counts channel) = type.StatusComplete
-type_of (message.StatusFailure message_id serial failures counts channel) = type.StatusFailure
-type_of (message.Restart cells kind recovery) = type.Restart
-type_of (message.Failure failures kind) = type.Failure
-type_of (message.ErrorIndication cause message_id serial old channel) = type.ErrorIndication
+type_of (message.WriteReplace m) = type.WriteReplace
+type_of (message.WriteComplete m) = type.WriteComplete
+type_of (message.WriteFailure m) = type.WriteFailure
+type_of (message.Kill m) = type.Kill
+type_of (message.KillComplete m) = type.KillComplete
+type_of (message.KillFailure m) = type.KillFailure
+type_of (message.StatusQuery m) = type.StatusQuery
+type_of (message.StatusComplete m) = type.StatusComplete
+type_of (message.StatusFailure m) = type.StatusFailure
+type_of (message.Restart m) = type.Restart
+type_of (message.Failure m) = type.Failure
+type_of (message.ErrorIndication m) = type.ErrorIndication

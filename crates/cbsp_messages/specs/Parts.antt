@@ -11,6 +11,18 @@ use Rattle.cbsp_ie.specs.Identifications.{Identifications}
 use Rattle.cbsp_ie.specs.Page.{PageContent}
 use Rattle.cbsp_messages.specs.declared.message.Message.{Message}
 use Rattle.cbsp_messages.specs.declared.message.Message.TheVariants as message
+use Rattle.cbsp_messages.specs.declared.messages.write_replace.WriteReplace.{WriteReplace}
+use Rattle.cbsp_messages.specs.declared.messages.write_complete.WriteComplete.{WriteComplete}
+use Rattle.cbsp_messages.specs.declared.messages.write_failure.WriteFailure.{WriteFailure}
+use Rattle.cbsp_messages.specs.declared.messages.kill.Kill.{Kill}
+use Rattle.cbsp_messages.specs.declared.messages.kill_complete.KillComplete.{KillComplete}
+use Rattle.cbsp_messages.specs.declared.messages.kill_failure.KillFailure.{KillFailure}
+use Rattle.cbsp_messages.specs.declared.messages.status_query.StatusQuery.{StatusQuery}
+use Rattle.cbsp_messages.specs.declared.messages.status_complete.StatusComplete.{StatusComplete}
+use Rattle.cbsp_messages.specs.declared.messages.status_failure.StatusFailure.{StatusFailure}
+use Rattle.cbsp_messages.specs.declared.messages.restart.Restart.{Restart}
+use Rattle.cbsp_messages.specs.declared.messages.failure.Failure.{Failure}
+use Rattle.cbsp_messages.specs.declared.messages.error_indication.ErrorIndication.{ErrorIndication}
 
 -- what each element says, where it is there; the pages in their order
 pub record Parts : Type 0 where
@@ -117,17 +129,65 @@ with_element parts (element.NumberOfPages n) = record parts { page_count = Some 
 with_element parts (element.BroadcastMessageType n) = record parts { kind = Some n }
 with_element parts (element.WarningPeriod n) = record parts { warning_period = Some n }
 
--- the parts of a message; the Number of Pages is how many there are
+-- the parts of a WRITE-REPLACE; the Number of Pages is how many there are
+abbrev pub write_replace_parts : WriteReplace → Parts
+write_replace_parts m = record no_parts { message_id = Some m.message_id; new_serial = Some m.serial; old_serial = m.old; cells = Some m.cells; channel = m.channel; category = Some m.category; period = Some m.period; requested = Some m.requested; page_count = Some (length m.pages); pages = m.pages; dcs = Some m.dcs }
+
+-- the parts of a WRITE-REPLACE COMPLETE
+abbrev pub write_complete_parts : WriteComplete → Parts
+write_complete_parts m = record no_parts { message_id = Some m.message_id; new_serial = Some m.serial; old_serial = m.old; counts = m.counts; cells = m.cells; channel = m.channel }
+
+-- the parts of a WRITE-REPLACE FAILURE
+abbrev pub write_failure_parts : WriteFailure → Parts
+write_failure_parts m = record no_parts { message_id = Some m.message_id; new_serial = Some m.serial; old_serial = m.old; failures = Some m.failures; counts = m.counts; cells = m.cells; channel = m.channel }
+
+-- the parts of a KILL
+abbrev pub kill_parts : Kill → Parts
+kill_parts m = record no_parts { message_id = Some m.message_id; old_serial = Some m.serial; cells = Some m.cells; channel = m.channel }
+
+-- the parts of a KILL COMPLETE
+abbrev pub kill_complete_parts : KillComplete → Parts
+kill_complete_parts m = record no_parts { message_id = Some m.message_id; old_serial = Some m.serial; counts = m.counts; cells = m.cells; channel = m.channel }
+
+-- the parts of a KILL FAILURE
+abbrev pub kill_failure_parts : KillFailure → Parts
+kill_failure_parts m = record no_parts { message_id = Some m.message_id; old_serial = Some m.serial; failures = Some m.failures; counts = m.counts; cells = m.cells; channel = m.channel }
+
+-- the parts of a MESSAGE STATUS QUERY
+abbrev pub status_query_parts : StatusQuery → Parts
+status_query_parts m = record no_parts { message_id = Some m.message_id; old_serial = Some m.serial; cells = Some m.cells; channel = m.channel }
+
+-- the parts of a MESSAGE STATUS QUERY COMPLETE
+abbrev pub status_complete_parts : StatusComplete → Parts
+status_complete_parts m = record no_parts { message_id = Some m.message_id; old_serial = Some m.serial; counts = Some m.counts; channel = m.channel }
+
+-- the parts of a MESSAGE STATUS QUERY FAILURE
+abbrev pub status_failure_parts : StatusFailure → Parts
+status_failure_parts m = record no_parts { message_id = Some m.message_id; old_serial = Some m.serial; failures = Some m.failures; counts = m.counts; channel = m.channel }
+
+-- the parts of a RESTART
+abbrev pub restart_parts : Restart → Parts
+restart_parts m = record no_parts { cells = Some m.cells; kind = Some m.kind; recovery = Some m.recovery }
+
+-- the parts of a FAILURE
+abbrev pub failure_parts : Failure → Parts
+failure_parts m = record no_parts { failures = Some m.failures; kind = Some m.kind }
+
+-- the parts of an ERROR INDICATION
+abbrev pub error_indication_parts : ErrorIndication → Parts
+error_indication_parts m = record no_parts { cause = Some m.cause; message_id = m.message_id; new_serial = m.serial; old_serial = m.old; channel = m.channel }
+
+-- the parts of a message
 abbrev pub parts_of : Message → Parts
-parts_of (message.WriteReplace message_id serial old cells channel category period requested pages dcs) = record no_parts { message_id = Some message_id; new_serial = Some serial; old_serial = old; cells = Some cells; channel = channel; category = Some category; period = Some period; requested = Some requested; page_count = Some (length pages); dcs = Some dcs; pages = pages }
-parts_of (message.WriteComplete message_id serial old counts cells channel) = record no_parts { message_id = Some message_id; new_serial = Some serial; old_serial = old; counts = counts; cells = cells; channel = channel }
-parts_of (message.WriteFailure message_id serial old failures counts cells channel) = record no_parts { message_id = Some message_id; new_serial = Some serial; old_serial = old; failures = Some failures; counts = counts; cells = cells; channel = channel }
-parts_of (message.Kill message_id serial cells channel) = record no_parts { message_id = Some message_id; old_serial = Some serial; cells = Some cells; channel = channel }
-parts_of (message.KillComplete message_id serial counts cells channel) = record no_parts { message_id = Some message_id; old_serial = Some serial; counts = counts; cells = cells; channel = channel }
-parts_of (message.KillFailure message_id serial failures counts cells channel) = record no_parts { message_id = Some message_id; old_serial = Some serial; failures = Some failures; counts = counts; cells = cells; channel = channel }
-parts_of (message.StatusQuery message_id serial cells channel) = record no_parts { message_id = Some message_id; old_serial = Some serial; cells = Some cells; channel = channel }
-parts_of (message.StatusComplete message_id serial counts channel) = record no_parts { message_id = Some message_id; old_serial = Some serial; counts = Some counts; channel = channel }
-parts_of (message.StatusFailure message_id serial failures counts channel) = record no_parts { message_id = Some message_id; old_serial = Some serial; failures = Some failures; counts = counts; channel = channel }
-parts_of (message.Restart cells kind recovery) = record no_parts { cells = Some cells; kind = Some kind; recovery = Some recovery }
-parts_of (message.Failure failures kind) = record no_parts { failures = Some failures; kind = Some kind }
-parts_of (message.ErrorIndication cause message_id serial old channel) = record no_parts { cause = Some cause; message_id = message_id; new_serial = serial; old_serial = old; channel = channel }
+parts_of (message.WriteReplace m) = write_replace_parts m
+parts_of (message.WriteComplete m) = write_complete_parts m
+parts_of (message.WriteFailure m) = write_failure_parts m
+parts_of (message.Kill m) = kill_parts m
+parts_of (message.KillComplete m) = kill_complete_parts m
+parts_of (message.KillFailure m) = kill_failure_parts m
+parts_of (message.StatusQuery m) = status_query_parts m
+parts_of (message.StatusComplete m) = status_complete_parts m
+parts_of (message.StatusFailure m) = status_failure_parts m
+parts_of (message.Restart m) = restart_parts m
+parts_of (message.Failure m) = failure_parts m
+parts_of (message.ErrorIndication m) = error_indication_parts m

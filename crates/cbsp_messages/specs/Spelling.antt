@@ -12,8 +12,8 @@ use Rattle.cbsp_messages.specs.Parts.{parts_of, values_at}
 
 -- a WRITE-REPLACE has 1 to 15 pages
 abbrev pub HasPages : Message → Type 0
-HasPages (message.WriteReplace message_id serial old cells channel category period requested pages dcs) =
-    (1 ≤ length pages) × (length pages ≤ 15)
+HasPages (message.WriteReplace m) =
+    (1 ≤ length m.pages) × (length m.pages ≤ 15)
 HasPages other = Unit {0}
 
 -- at each identifier that the message's type lists, the elements are those of the message

@@ -42,15 +42,15 @@ low n = n % 16
 
 -- the message without spare bits
 abbrev pub plain : Message → Message
-plain (message.WriteReplace message_id serial old cells channel category period requested pages dcs) = message.WriteReplace message_id serial old cells (option_map low channel) (low category) period requested pages dcs
-plain (message.WriteComplete message_id serial old counts cells channel) = message.WriteComplete message_id serial old (option_map plain_counts counts) cells (option_map low channel)
-plain (message.WriteFailure message_id serial old failures counts cells channel) = message.WriteFailure message_id serial old failures (option_map plain_counts counts) cells (option_map low channel)
-plain (message.Kill message_id serial cells channel) = message.Kill message_id serial cells (option_map low channel)
-plain (message.KillComplete message_id serial counts cells channel) = message.KillComplete message_id serial (option_map plain_counts counts) cells (option_map low channel)
-plain (message.KillFailure message_id serial failures counts cells channel) = message.KillFailure message_id serial failures (option_map plain_counts counts) cells (option_map low channel)
-plain (message.StatusQuery message_id serial cells channel) = message.StatusQuery message_id serial cells (option_map low channel)
-plain (message.StatusComplete message_id serial counts channel) = message.StatusComplete message_id serial (plain_counts counts) (option_map low channel)
-plain (message.StatusFailure message_id serial failures counts channel) = message.StatusFailure message_id serial failures (option_map plain_counts counts) (option_map low channel)
-plain (message.Restart cells kind recovery) = message.Restart cells (low kind) (low recovery)
-plain (message.Failure failures kind) = message.Failure failures (low kind)
-plain (message.ErrorIndication cause message_id serial old channel) = message.ErrorIndication cause message_id serial old (option_map low channel)
+plain (message.WriteReplace m) = message.WriteReplace (record m { channel = option_map low m.channel; category = low m.category })
+plain (message.WriteComplete m) = message.WriteComplete (record m { counts = option_map plain_counts m.counts; channel = option_map low m.channel })
+plain (message.WriteFailure m) = message.WriteFailure (record m { counts = option_map plain_counts m.counts; channel = option_map low m.channel })
+plain (message.Kill m) = message.Kill (record m { channel = option_map low m.channel })
+plain (message.KillComplete m) = message.KillComplete (record m { counts = option_map plain_counts m.counts; channel = option_map low m.channel })
+plain (message.KillFailure m) = message.KillFailure (record m { counts = option_map plain_counts m.counts; channel = option_map low m.channel })
+plain (message.StatusQuery m) = message.StatusQuery (record m { channel = option_map low m.channel })
+plain (message.StatusComplete m) = message.StatusComplete (record m { counts = plain_counts m.counts; channel = option_map low m.channel })
+plain (message.StatusFailure m) = message.StatusFailure (record m { counts = option_map plain_counts m.counts; channel = option_map low m.channel })
+plain (message.Restart m) = message.Restart (record m { kind = low m.kind; recovery = low m.recovery })
+plain (message.Failure m) = message.Failure (record m { kind = low m.kind })
+plain (message.ErrorIndication m) = message.ErrorIndication (record m { channel = option_map low m.channel })

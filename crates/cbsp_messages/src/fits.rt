@@ -57,7 +57,7 @@ fn pages_fit(message: &Message) -> bool
     ensures { IsTrue result ↔ HasPages message.now }
 {
     match message {
-        Message::WriteReplace { pages, .. } => 1 <= pages.len() && pages.len() <= 15,
+        Message::WriteReplace(m) => 1 <= m.pages.len() && m.pages.len() <= 15,
         _ => true,
     }
 }

@@ -1,6 +1,6 @@
 //! Laws of bodies, each the contract of a function that does nothing.
 
-ghost use Rattle.cbsp_messages.specs.Laws.{NoFault, OneFault, OneMessage, TableIsWhole};
+ghost use Rattle.cbsp_messages.specs.Laws.{NoFault, OneFault, OneMessage, ShortPage, TableIsWhole};
 
 /// A body spells one message at most.
 pub fn one_message()
@@ -20,4 +20,9 @@ pub fn one_fault()
 /// The elements that a type writes are those that it demands and those that it may have, each once.
 pub fn table_is_whole()
     ensures { TableIsWhole }
+{}
+
+/// The page of at most 82 octets has all of them, and zeros after them.
+pub fn short_page()
+    ensures { ShortPage }
 {}

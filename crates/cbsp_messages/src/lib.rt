@@ -2,7 +2,7 @@
 //! behind a frame's length and written as whole frames.
 //!
 //! `message_type` has the one table of which elements each type demands, may have and writes in which order.
-//! `message` has the messages, and `reading` and `writing` go between them and their octets by that table.
+//! `messages` has the messages, and `reading` and `writing` go between them and their octets by that table.
 #![tactic(auto)]
 
 mod building;
@@ -13,6 +13,8 @@ mod laws;
 mod message;
 mod message_parts;
 mod message_type;
+mod messages;
+mod optional_lists;
 mod page;
 mod pages;
 mod ranges;
@@ -20,10 +22,14 @@ mod reading;
 mod writing;
 
 pub use fault::MessageFault;
-pub use laws::{no_fault, one_fault, one_message, table_is_whole};
+pub use laws::{no_fault, one_fault, one_message, short_page, table_is_whole};
 pub use message::Message;
 pub use message_type::MessageType;
+pub use messages::{
+    ErrorIndication, Failure, Kill, KillComplete, KillFailure, Restart, StatusComplete,
+    StatusFailure, StatusQuery, WriteComplete, WriteFailure, WriteReplace,
+};
 pub use page::Page;
 pub use pages::Pages;
-pub use reading::read;
+pub use reading::{read, read_as};
 pub use writing::write;

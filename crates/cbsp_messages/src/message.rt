@@ -4,8 +4,10 @@ ghost use Rattle.std.specs.Prelude.{◌≡◌, ◌↔◌, IsTrue, IfOk};
 ghost use Rattle.cbsp_messages.specs.Message.{type_of};
 
 use crate::message_type::MessageType;
-use crate::pages::Pages;
-use cbsp_ie::{Cause, CellIds, Counts, Failures};
+use crate::messages::{
+    ErrorIndication, Failure, Kill, KillComplete, KillFailure, Restart, StatusComplete,
+    StatusFailure, StatusQuery, WriteComplete, WriteFailure, WriteReplace,
+};
 use std::alloc::{AllocError, Global};
 
 /// A message of CBSP, of the types that this centre speaks (3GPP TS 48.049, 8.1.3).
@@ -22,103 +24,18 @@ use std::alloc::{AllocError, Global};
 /// are read and written, so a message that was read has no others.
 #[derive(Debug, Drop, PartialEq, Eq)]
 pub enum Message {
-    /// Writes a message, or replaces the older one that `old` names.
-    WriteReplace {
-        message_id: u16,
-        serial: u16,
-        old: Option<u16>,
-        cells: CellIds,
-        channel: Option<u8>,
-        category: u8,
-        period: u16,
-        requested: u16,
-        pages: Pages,
-        dcs: u8,
-    },
-    /// A write or replace was carried out in all its cells.
-    WriteComplete {
-        message_id: u16,
-        serial: u16,
-        old: Option<u16>,
-        counts: Option<Counts>,
-        cells: Option<CellIds>,
-        channel: Option<u8>,
-    },
-    /// A write or replace failed in the cells that `failures` names.
-    WriteFailure {
-        message_id: u16,
-        serial: u16,
-        old: Option<u16>,
-        failures: Failures,
-        counts: Option<Counts>,
-        cells: Option<CellIds>,
-        channel: Option<u8>,
-    },
-    /// Ends the broadcast of a message.
-    Kill {
-        message_id: u16,
-        serial: u16,
-        cells: CellIds,
-        channel: Option<u8>,
-    },
-    /// A kill was carried out in all its cells.
-    KillComplete {
-        message_id: u16,
-        serial: u16,
-        counts: Option<Counts>,
-        cells: Option<CellIds>,
-        channel: Option<u8>,
-    },
-    /// A kill failed in the cells that `failures` names.
-    KillFailure {
-        message_id: u16,
-        serial: u16,
-        failures: Failures,
-        counts: Option<Counts>,
-        cells: Option<CellIds>,
-        channel: Option<u8>,
-    },
-    /// Asks how often a message was broadcast.
-    StatusQuery {
-        message_id: u16,
-        serial: u16,
-        cells: CellIds,
-        channel: Option<u8>,
-    },
-    /// How often a message was broadcast.
-    StatusComplete {
-        message_id: u16,
-        serial: u16,
-        counts: Counts,
-        channel: Option<u8>,
-    },
-    /// A query failed in the cells that `failures` names.
-    StatusFailure {
-        message_id: u16,
-        serial: u16,
-        failures: Failures,
-        counts: Option<Counts>,
-        channel: Option<u8>,
-    },
-    /// Cells can broadcast again, without their messages if `recovery` is not 0.
-    Restart {
-        cells: CellIds,
-        kind: u8,
-        recovery: u8,
-    },
-    /// Cells can't broadcast.
-    Failure {
-        failures: Failures,
-        kind: u8,
-    },
-    /// What a BSC got was not understood.
-    ErrorIndication {
-        cause: Cause,
-        message_id: Option<u16>,
-        serial: Option<u16>,
-        old: Option<u16>,
-        channel: Option<u8>,
-    },
+    WriteReplace(WriteReplace),
+    WriteComplete(WriteComplete),
+    WriteFailure(WriteFailure),
+    Kill(Kill),
+    KillComplete(KillComplete),
+    KillFailure(KillFailure),
+    StatusQuery(StatusQuery),
+    StatusComplete(StatusComplete),
+    StatusFailure(StatusFailure),
+    Restart(Restart),
+    Failure(Failure),
+    ErrorIndication(ErrorIndication),
 }
 
 impl Message {
@@ -127,18 +44,18 @@ impl Message {
         ensures { result ≡ type_of self.now }
     {
         match self {
-            Message::WriteReplace { .. } => MessageType::WriteReplace,
-            Message::WriteComplete { .. } => MessageType::WriteComplete,
-            Message::WriteFailure { .. } => MessageType::WriteFailure,
-            Message::Kill { .. } => MessageType::Kill,
-            Message::KillComplete { .. } => MessageType::KillComplete,
-            Message::KillFailure { .. } => MessageType::KillFailure,
-            Message::StatusQuery { .. } => MessageType::StatusQuery,
-            Message::StatusComplete { .. } => MessageType::StatusComplete,
-            Message::StatusFailure { .. } => MessageType::StatusFailure,
-            Message::Restart { .. } => MessageType::Restart,
-            Message::Failure { .. } => MessageType::Failure,
-            Message::ErrorIndication { .. } => MessageType::ErrorIndication,
+            Message::WriteReplace(_) => MessageType::WriteReplace,
+            Message::WriteComplete(_) => MessageType::WriteComplete,
+            Message::WriteFailure(_) => MessageType::WriteFailure,
+            Message::Kill(_) => MessageType::Kill,
+            Message::KillComplete(_) => MessageType::KillComplete,
+            Message::KillFailure(_) => MessageType::KillFailure,
+            Message::StatusQuery(_) => MessageType::StatusQuery,
+            Message::StatusComplete(_) => MessageType::StatusComplete,
+            Message::StatusFailure(_) => MessageType::StatusFailure,
+            Message::Restart(_) => MessageType::Restart,
+            Message::Failure(_) => MessageType::Failure,
+            Message::ErrorIndication(_) => MessageType::ErrorIndication,
         }
     }
 
@@ -154,179 +71,18 @@ impl Message {
         ensures { IfOk result (λ copy. copy ≡ self.now) }
     {
         Ok(match self {
-            Message::WriteReplace {
-                message_id,
-                serial,
-                old,
-                cells,
-                channel,
-                category,
-                period,
-                requested,
-                pages,
-                dcs,
-            } => Message::WriteReplace {
-                message_id: *message_id,
-                serial: *serial,
-                old: *old,
-                cells: cells.copied(alloc)?,
-                channel: *channel,
-                category: *category,
-                period: *period,
-                requested: *requested,
-                pages: pages.copied(alloc)?,
-                dcs: *dcs,
-            },
-            Message::WriteComplete {
-                message_id,
-                serial,
-                old,
-                counts,
-                cells,
-                channel,
-            } => Message::WriteComplete {
-                message_id: *message_id,
-                serial: *serial,
-                old: *old,
-                counts: copied_counts(alloc, counts)?,
-                cells: copied_cells(alloc, cells)?,
-                channel: *channel,
-            },
-            Message::WriteFailure {
-                message_id,
-                serial,
-                old,
-                failures,
-                counts,
-                cells,
-                channel,
-            } => Message::WriteFailure {
-                message_id: *message_id,
-                serial: *serial,
-                old: *old,
-                failures: failures.copied(alloc)?,
-                counts: copied_counts(alloc, counts)?,
-                cells: copied_cells(alloc, cells)?,
-                channel: *channel,
-            },
-            Message::Kill {
-                message_id,
-                serial,
-                cells,
-                channel,
-            } => Message::Kill {
-                message_id: *message_id,
-                serial: *serial,
-                cells: cells.copied(alloc)?,
-                channel: *channel,
-            },
-            Message::KillComplete {
-                message_id,
-                serial,
-                counts,
-                cells,
-                channel,
-            } => Message::KillComplete {
-                message_id: *message_id,
-                serial: *serial,
-                counts: copied_counts(alloc, counts)?,
-                cells: copied_cells(alloc, cells)?,
-                channel: *channel,
-            },
-            Message::KillFailure {
-                message_id,
-                serial,
-                failures,
-                counts,
-                cells,
-                channel,
-            } => Message::KillFailure {
-                message_id: *message_id,
-                serial: *serial,
-                failures: failures.copied(alloc)?,
-                counts: copied_counts(alloc, counts)?,
-                cells: copied_cells(alloc, cells)?,
-                channel: *channel,
-            },
-            Message::StatusQuery {
-                message_id,
-                serial,
-                cells,
-                channel,
-            } => Message::StatusQuery {
-                message_id: *message_id,
-                serial: *serial,
-                cells: cells.copied(alloc)?,
-                channel: *channel,
-            },
-            Message::StatusComplete {
-                message_id,
-                serial,
-                counts,
-                channel,
-            } => Message::StatusComplete {
-                message_id: *message_id,
-                serial: *serial,
-                counts: counts.copied(alloc)?,
-                channel: *channel,
-            },
-            Message::StatusFailure {
-                message_id,
-                serial,
-                failures,
-                counts,
-                channel,
-            } => Message::StatusFailure {
-                message_id: *message_id,
-                serial: *serial,
-                failures: failures.copied(alloc)?,
-                counts: copied_counts(alloc, counts)?,
-                channel: *channel,
-            },
-            Message::Restart {
-                cells,
-                kind,
-                recovery,
-            } => Message::Restart {
-                cells: cells.copied(alloc)?,
-                kind: *kind,
-                recovery: *recovery,
-            },
-            Message::Failure { failures, kind } => Message::Failure {
-                failures: failures.copied(alloc)?,
-                kind: *kind,
-            },
-            Message::ErrorIndication {
-                cause,
-                message_id,
-                serial,
-                old,
-                channel,
-            } => Message::ErrorIndication {
-                cause: *cause,
-                message_id: *message_id,
-                serial: *serial,
-                old: *old,
-                channel: *channel,
-            },
+            Message::WriteReplace(m) => Message::WriteReplace(m.copied(alloc)?),
+            Message::WriteComplete(m) => Message::WriteComplete(m.copied(alloc)?),
+            Message::WriteFailure(m) => Message::WriteFailure(m.copied(alloc)?),
+            Message::Kill(m) => Message::Kill(m.copied(alloc)?),
+            Message::KillComplete(m) => Message::KillComplete(m.copied(alloc)?),
+            Message::KillFailure(m) => Message::KillFailure(m.copied(alloc)?),
+            Message::StatusQuery(m) => Message::StatusQuery(m.copied(alloc)?),
+            Message::StatusComplete(m) => Message::StatusComplete(m.copied(alloc)?),
+            Message::StatusFailure(m) => Message::StatusFailure(m.copied(alloc)?),
+            Message::Restart(m) => Message::Restart(m.copied(alloc)?),
+            Message::Failure(m) => Message::Failure(m.copied(alloc)?),
+            Message::ErrorIndication(m) => Message::ErrorIndication(m.copied()),
         })
-    }
-}
-
-fn copied_cells(alloc: Global, cells: &Option<CellIds>) -> Result<Option<CellIds>, AllocError>
-    ensures { IfOk result (λ copy. copy ≡ cells.now) }
-{
-    match cells {
-        None => Ok(None),
-        Some(cells) => Ok(Some(cells.copied(alloc)?)),
-    }
-}
-
-fn copied_counts(alloc: Global, counts: &Option<Counts>) -> Result<Option<Counts>, AllocError>
-    ensures { IfOk result (λ copy. copy ≡ counts.now) }
-{
-    match counts {
-        None => Ok(None),
-        Some(counts) => Ok(Some(counts.copied(alloc)?)),
     }
 }

@@ -1,6 +1,6 @@
 //! One page of a message.
 
-ghost use Rattle.std.specs.Prelude.{◌≡◌, ◌≤◌, ◌↔◌, ◌-◌, ◌++◌, length, replicate, IsTrue};
+ghost use Rattle.std.specs.Prelude.{◌≡◌, ◌≤◌, ◌↔◌, ◌-◌, ◌++◌, length, replicate, take, IsTrue};
 ghost use Rattle.cbsp_messages.specs.PageText.{page_with, page_eq, page_decides};
 ghost use Rattle.std.specs.Cmp.{decided, partial_equiv_from_equiv};
 
@@ -28,6 +28,18 @@ impl Model for Page {
     ghost inverse = { λ t. record { used = t.used; octets = t.octets } };
 }
 
+/// The first of the octets, at most so many.
+fn first_octets(octets: &[u8], most: usize) -> &[u8]
+    ensures value { result.now ≡ take most octets.now }
+    ensures few { length result.now ≤ most }
+{
+    if octets.len() <= most {
+        return octets;
+    }
+    let (first, _) = octets.split_at(most);
+    first
+}
+
 /// The octets with zeros after them.
 fn filled_up(content: &[u8]) -> [u8; 82]
     requires { length content.now ≤ 82 }
@@ -46,11 +58,11 @@ impl Page {
         Page { used, octets }
     }
 
-    /// The page whose content is these octets, with zeros after them.
+    /// The page whose content is the first 82 of these octets, with zeros after them up to 82.
     pub fn of_octets(content: &[u8]) -> Page
-        requires { length content.now ≤ 82 }
         ensures { result ≡ page_with content.now }
     {
+        let content = first_octets(content, 82);
         Page {
             used: content.len() as u8,
             octets: filled_up(content),

@@ -2,7 +2,9 @@
 
 ghost use Rattle.std.specs.Prelude.{◌≡◌, ◌⊎◌, List, [], ℕ, IfOk, IfErr, MatchResult};
 ghost use Rattle.cbsp_messages.specs.declared.message.Message.{Message as AMessage};
-ghost use Rattle.cbsp_messages.specs.Faults.{IsCutFault, IsFault};
+ghost use Rattle.cbsp_messages.specs.Faults.{IsCutFault, IsFault, IsFaultAs};
+ghost use Rattle.cbsp_messages.specs.Message.{type_of};
+ghost use Rattle.cbsp_messages.specs.MessageType.{code_of};
 ghost use Rattle.cbsp_messages.specs.Spelling.{Spells};
 ghost use Rattle.cbsp_messages.specs.Taken.{Takes, parts_taken};
 
@@ -37,6 +39,28 @@ fn message_in(alloc: Global, kind: u8, body: &[u8]) -> Result<Message, MessageFa
     let Some(kind) = MessageType::of_code(kind) else {
         return Err(MessageFault::NotInProfile);
     };
+    read_as(alloc, kind, body)
+}
+
+/// Reads the message of the type from the octets behind a frame's length, as `read` does where the octet of
+/// the type is known to be in the profile.
+pub fn read_as(alloc: Global, kind: MessageType, body: &[u8]) -> Result<Message, MessageFault>
+    ensures kind { IfOk result (λ m. type_of m ≡ kind) }
+    // What is read is spelled so.
+    ensures found { IfOk result (Spells (code_of kind) body.now) }
+    // It is the first fault, unless memory runs out.
+    ensures fault { IfErr result (λ f. (f ≡ MessageFault.Memory) ⊎ IsFaultAs kind body.now f) }
+    // What is spelled so is read, unless memory runs out.
+    ensures only { (m : AMessage) → Spells (code_of kind) body.now m → MatchResult result (λ read. read ≡ m) (λ f. f ≡ MessageFault.Memory) }
+{
+    message_as(alloc, kind, body)
+}
+
+fn message_as(alloc: Global, kind: MessageType, body: &[u8]) -> Result<Message, MessageFault>
+    ensures kind { IfOk result (λ m. type_of m ≡ kind) }
+    ensures found { IfOk result (Spells (code_of kind) body.now) }
+    ensures fault { IfErr result (λ f. (f ≡ MessageFault.Memory) ⊎ IsFaultAs kind body.now f) }
+{
     let elements = read_elements(alloc, body)?;
     if let Some(id) = elements.first_missing(kind) {
         return Err(MessageFault::Missing { id });

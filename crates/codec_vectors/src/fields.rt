@@ -78,148 +78,78 @@ impl<'m> Fields<'m> {
 
     fn put_message(&mut self, message: &'m Message) -> Result<(), AllocError> {
         match message {
-            Message::WriteReplace {
-                message_id,
-                serial,
-                old,
-                cells,
-                channel,
-                category,
-                period,
-                requested,
-                pages,
-                dcs,
-            } => {
-                self.put_names(*message_id, *serial, *old)?;
-                self.put_cells(Some(cells))?;
-                self.put_octet("category", *category)?;
-                self.put("period", Value::Number(*period))?;
-                self.put("requested", Value::Number(*requested))?;
-                self.put_octet("dcs", *dcs)?;
-                self.put_channel(*channel)?;
-                self.put_pages(pages.as_slice())
+            Message::WriteReplace(m) => {
+                self.put_names(m.message_id, m.serial, m.old)?;
+                self.put_cells(Some(&m.cells))?;
+                self.put_octet("category", m.category)?;
+                self.put("period", Value::Number(m.period))?;
+                self.put("requested", Value::Number(m.requested))?;
+                self.put_octet("dcs", m.dcs)?;
+                self.put_channel(m.channel)?;
+                self.put_pages(m.pages.as_slice())
             }
-            Message::WriteComplete {
-                message_id,
-                serial,
-                old,
-                counts,
-                cells,
-                channel,
-            } => {
-                self.put_names(*message_id, *serial, *old)?;
-                self.put_counts(counts.as_ref())?;
-                self.put_cells(cells.as_ref())?;
-                self.put_channel(*channel)
+            Message::WriteComplete(m) => {
+                self.put_names(m.message_id, m.serial, m.old)?;
+                self.put_counts(m.counts.as_ref())?;
+                self.put_cells(m.cells.as_ref())?;
+                self.put_channel(m.channel)
             }
-            Message::WriteFailure {
-                message_id,
-                serial,
-                old,
-                failures,
-                counts,
-                cells,
-                channel,
-            } => {
-                self.put_names(*message_id, *serial, *old)?;
-                self.put_failures(failures)?;
-                self.put_counts(counts.as_ref())?;
-                self.put_cells(cells.as_ref())?;
-                self.put_channel(*channel)
+            Message::WriteFailure(m) => {
+                self.put_names(m.message_id, m.serial, m.old)?;
+                self.put_failures(&m.failures)?;
+                self.put_counts(m.counts.as_ref())?;
+                self.put_cells(m.cells.as_ref())?;
+                self.put_channel(m.channel)
             }
-            Message::Kill {
-                message_id,
-                serial,
-                cells,
-                channel,
-            } => {
-                self.put_names(*message_id, *serial, None)?;
-                self.put_cells(Some(cells))?;
-                self.put_channel(*channel)
+            Message::Kill(m) => {
+                self.put_names(m.message_id, m.serial, None)?;
+                self.put_cells(Some(&m.cells))?;
+                self.put_channel(m.channel)
             }
-            Message::KillComplete {
-                message_id,
-                serial,
-                counts,
-                cells,
-                channel,
-            } => {
-                self.put_names(*message_id, *serial, None)?;
-                self.put_counts(counts.as_ref())?;
-                self.put_cells(cells.as_ref())?;
-                self.put_channel(*channel)
+            Message::KillComplete(m) => {
+                self.put_names(m.message_id, m.serial, None)?;
+                self.put_counts(m.counts.as_ref())?;
+                self.put_cells(m.cells.as_ref())?;
+                self.put_channel(m.channel)
             }
-            Message::KillFailure {
-                message_id,
-                serial,
-                failures,
-                counts,
-                cells,
-                channel,
-            } => {
-                self.put_names(*message_id, *serial, None)?;
-                self.put_failures(failures)?;
-                self.put_counts(counts.as_ref())?;
-                self.put_cells(cells.as_ref())?;
-                self.put_channel(*channel)
+            Message::KillFailure(m) => {
+                self.put_names(m.message_id, m.serial, None)?;
+                self.put_failures(&m.failures)?;
+                self.put_counts(m.counts.as_ref())?;
+                self.put_cells(m.cells.as_ref())?;
+                self.put_channel(m.channel)
             }
-            Message::StatusQuery {
-                message_id,
-                serial,
-                cells,
-                channel,
-            } => {
-                self.put_names(*message_id, *serial, None)?;
-                self.put_cells(Some(cells))?;
-                self.put_channel(*channel)
+            Message::StatusQuery(m) => {
+                self.put_names(m.message_id, m.serial, None)?;
+                self.put_cells(Some(&m.cells))?;
+                self.put_channel(m.channel)
             }
-            Message::StatusComplete {
-                message_id,
-                serial,
-                counts,
-                channel,
-            } => {
-                self.put_names(*message_id, *serial, None)?;
-                self.put_counts(Some(counts))?;
-                self.put_channel(*channel)
+            Message::StatusComplete(m) => {
+                self.put_names(m.message_id, m.serial, None)?;
+                self.put_counts(Some(&m.counts))?;
+                self.put_channel(m.channel)
             }
-            Message::StatusFailure {
-                message_id,
-                serial,
-                failures,
-                counts,
-                channel,
-            } => {
-                self.put_names(*message_id, *serial, None)?;
-                self.put_failures(failures)?;
-                self.put_counts(counts.as_ref())?;
-                self.put_channel(*channel)
+            Message::StatusFailure(m) => {
+                self.put_names(m.message_id, m.serial, None)?;
+                self.put_failures(&m.failures)?;
+                self.put_counts(m.counts.as_ref())?;
+                self.put_channel(m.channel)
             }
-            Message::Restart {
-                cells,
-                kind,
-                recovery,
-            } => {
-                self.put_cells(Some(cells))?;
-                self.put_octet("kind", *kind)?;
-                self.put_octet("recovery", *recovery)
+            Message::Restart(m) => {
+                self.put_cells(Some(&m.cells))?;
+                self.put_octet("kind", m.kind)?;
+                self.put_octet("recovery", m.recovery)
             }
-            Message::Failure { failures, kind } => {
-                self.put_failures(failures)?;
-                self.put_octet("kind", *kind)
+            Message::Failure(m) => {
+                self.put_failures(&m.failures)?;
+                self.put_octet("kind", m.kind)
             }
-            Message::ErrorIndication {
-                cause,
-                message_id,
-                serial,
-                old,
-                channel,
-            } => {
-                self.put_octet("cause", cause.0)?;
-                self.put_number("message_id", *message_id)?;
-                self.put_number("serial", *serial)?;
-                self.put_number("old", *old)?;
-                self.put_channel(*channel)
+            Message::ErrorIndication(m) => {
+                self.put_octet("cause", m.cause.0)?;
+                self.put_number("message_id", m.message_id)?;
+                self.put_number("serial", m.serial)?;
+                self.put_number("old", m.old)?;
+                self.put_channel(m.channel)
             }
         }
     }

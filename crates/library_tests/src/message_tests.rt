@@ -3,7 +3,7 @@
 ghost use Rattle.std.specs.Prelude.{◌≡◌};
 
 use cbsp_ie::{CellId, CellIds, ElementId, Form, IeFault};
-use cbsp_messages::{Message, MessageFault, Page, Pages, read, write};
+use cbsp_messages::{Kill, Message, MessageFault, Page, Pages, read, write};
 use std::alloc::{AllocError, Global};
 use std::process::Abort;
 use std::test::Fail;
@@ -21,12 +21,12 @@ fn a_list_fits_up_to_65535_octets(rt: HostRuntime) -> Result<(), Fail> {
     let alloc = rt.alloc();
     // a discriminator, and two octets for each cell identity
     for (count, fits) in [(32_767, true), (32_768, false)] {
-        let message = Message::Kill {
+        let message = Message::Kill(Kill {
             message_id: 4370,
             serial: 0xc000,
             cells: cell_identities(alloc, count)?,
             channel: Some(0),
-        };
+        });
         assert_eq!(rt; message.fits(), fits, "{count} cell identities");
     }
     Ok(())

@@ -1,15 +1,9 @@
-use Rattle.std.proofs.Common.{sym, ◌∙◌, inr}
-use Rattle.cbsp_messages.proofs.ReadingLemmas.{Spells-result, IsFault-missing, IsFault-result}
+use Rattle.std.proofs.Common.{sym, ◌∙◌}
+use Rattle.cbsp_messages.proofs.ReadingLemmas.{IsFault-octet, Spells-octet}
 use Rattle.cbsp_messages.proofs.reading.message_in.Goals as goal
 
-pub returns-in-Some-first_missing-clause-fault : goal.returns-in-Some-first_missing-clause-fault
-returns-in-Some-first_missing-clause-fault c =
-    inr (IsFault-missing _ _ c.args.kind _ _ c.in_ok-elements.ensures.found (sym c.of_code.ensures ∙ c.in-Some.is) (sym c.in-Some-first_missing.is ∙ c.first_missing.ensures))
-
 pub returns-clause-found : goal.returns-clause-found
-returns-clause-found c =
-    Spells-result _ _ _ c.args.kind _ c.in_ok-elements.ensures.found (sym c.of_code.ensures ∙ c.in-Some.is) c.message_of.ensures.kind c.message_of.ensures.says
+returns-clause-found c = Spells-octet _ c.args.kind _ _ (sym c.of_code.ensures ∙ c.in-Some.is) c.read_as.ensures.found
 
 pub returns-clause-fault : goal.returns-clause-fault
-returns-clause-fault c =
-    IsFault-result _ _ _ c.args.kind _ c.in_ok-elements.ensures.found (sym c.of_code.ensures ∙ c.in-Some.is) (sym c.in_default-first_missing.is ∙ c.first_missing.ensures) c.message_of.ensures.fault
+returns-clause-fault c = IsFault-octet _ c.args.kind _ _ (sym c.of_code.ensures ∙ c.in-Some.is) c.read_as.ensures.fault
