@@ -16,4 +16,5 @@ pub mod HeadlineLemmas
 pub mod HeadlineExamples
 pub mod RegisterLemmas
 pub mod AreaLemmas
+pub mod FlightLemmas
 pub mod CentreLemmas

@@ -1,5 +1,5 @@
 -- The book of a legal past is sound, and what the book refuses is what an event is refused.
-use Rattle.std.proofs.Common.{◌≡◌, ◌⊎◌, inl, inr, ℕ, ◌+◌, ◌<◌, Bool, true, false, ◌&&◌, ◌||◌, not, List, [], ◌∷◌, Option, Some, None, Ok, Err, nat_eq, length, cond, refl, sym, ◌∙◌, ap, subst}
+use Rattle.std.proofs.Common.{◌≡◌, ◌⊎◌, inl, inr, arith, ℕ, ◌+◌, ◌<◌, Bool, true, false, ◌&&◌, ◌||◌, not, List, [], ◌∷◌, Option, Some, None, Ok, Err, nat_eq, length, cond, refl, sym, ◌∙◌, ap, subst}
 use Rattle.std.specs.Prelude.{IfSome, IsOk, find}
 use Rattle.std.specs.List.{list_any, list_all}
 use Rattle.std.specs.Option.{option_map, option_and_then}
@@ -9,13 +9,13 @@ use Rattle.serials.specs.Serials.{next_of}
 use Rattle.common.specs.CheckLaws.{NoneHolds, none_holds}
 use Rattle.common.specs.Checks.{first_refusal}
 use Rattle.common.specs.Order.{is_ascending}
-use Rattle.warning_book.specs.Book.{State, has_number, number_lt, warning_is, warning_of, is_so, versions_if, versions_with, content_of, new_serial, next_serial, current_of, is_exhausted, ends_updates}
+use Rattle.warning_book.specs.Book.{State, empty, has_number, number_lt, warning_is, warning_of, is_so, versions_if, versions_with, content_of, new_serial, next_serial, current_of, is_exhausted, ends_updates}
 use Rattle.warning_book.specs.Checks as book
 use Rattle.warning_book.specs.Content.{are_pages, is_period}
 use Rattle.warning_book.specs.Laws.{found_so}
 use Rattle.warning_book.specs.SerialLaws.{serial_is_there}
-use Rattle.warning_book.specs.Sound.{IsSound, is_good, has_contents}
-use Rattle.warning_book.specs.SoundLaws.{sound_empty, sound_after_issue, sound_after_update, sound_after_widen, sound_after_narrow, sound_after_stop, sound_after_forget}
+use Rattle.warning_book.specs.Sound.{IsSound, IsCounted, is_good, has_contents}
+use Rattle.warning_book.specs.SoundLaws.{sound_after_issue, sound_after_update, sound_after_widen, sound_after_narrow, sound_after_stop, sound_after_forget}
 use Rattle.warning_book.specs.declared.content.Content.{Content}
 use Rattle.warning_book.specs.declared.notice.Notice.{Notice}
 use Rattle.warning_book.specs.declared.refusal.Refusal as book_refusal
@@ -206,19 +206,19 @@ forget_first past st n w e is ordered h checked (inr first) = inr (forget_found 
 
 -- What holds of the book of a legal past.
 
-issued_sound : (past : Past) (notice : Notice) (areas : List (List ℕ)) (a : Answer) → issue past notice areas ≡ Ok a → IsSound (book_of past) → IsSound (with_issue notice areas (new_serial (book_of past) notice) (book_of past))
+issued_sound : (past : Past) (notice : Notice) (areas : List (List ℕ)) (a : Answer) → issue past notice areas ≡ Ok a → IsCounted (book_of past) → IsCounted (with_issue notice areas (new_serial (book_of past) notice) (book_of past))
 issued_sound past notice areas a h sound = step (new_serial (book_of past) notice) refl
   where
     after : unless (by_book (book.issue_checks (book_of past) notice areas)) (issue_answer ((book_of past).issued + 1) (new_serial (book_of past) notice)) ≡ Ok a
     after = checked_after (list_any (λ a. not (is_area past a)) areas) refusal.NoSuchArea (unless (by_book (book.issue_checks (book_of past) notice areas)) (issue_answer ((book_of past).issued + 1) (new_serial (book_of past) notice))) a h
 
-    step : (o : Option ℕ) → new_serial (book_of past) notice ≡ o → IsSound (with_issue notice areas o (book_of past))
+    step : (o : Option ℕ) → new_serial (book_of past) notice ≡ o → IsCounted (with_issue notice areas o (book_of past))
     step None e = sound
     step (Some s) e =
         sound_after_issue (book_of past) notice areas s
         (none_held of_book (book.issue_checks (book_of past) notice areas) (issue_answer ((book_of past).issued + 1) (new_serial (book_of past) notice)) a after) e sound
 
-sound_after : (past : Past) (e : Edit) (a : Answer) → edit_answered past e ≡ Ok a → IsSound (book_of past) → IsSound (book_after e (book_of past))
+sound_after : (past : Past) (e : Edit) (a : Answer) → edit_answered past e ≡ Ok a → IsCounted (book_of past) → IsCounted (book_after e (book_of past))
 sound_after past (edit.Issue notice areas) a h sound = issued_sound past notice areas a h sound
 sound_after past (edit.Update n content) a h sound = sound_after_update (book_of past) n content (none_held of_book (book.update_checks (book_of past) n content) (update_answer (next_serial (book_of past) n)) a h) sound
 sound_after past (edit.Widen n x) a h sound =
@@ -229,14 +229,24 @@ sound_after past (edit.Stop n) a h sound = sound_after_stop (book_of past) n sou
 sound_after past (edit.Forget n) a h sound = sound_after_forget (book_of past) n sound
 sound_after past other a h sound = sound
 
-sound_then : (past : Past) (e : Event) (a : Answer) → answered past e ≡ Ok a → IsSound (book_of past) → IsSound (book_then e (book_of past))
+sound_then : (past : Past) (e : Event) (a : Answer) → answered past e ≡ Ok a → IsCounted (book_of past) → IsCounted (book_then e (book_of past))
 sound_then past (event.Edit e) a h sound = sound_after past e a h sound
 sound_then past other a h sound = sound
 
+-- the empty book is sound
+counted_empty : IsCounted empty
+counted_empty = record {
+  sound = record { ordered = refl; given = refl; few = omega arith; areas = refl; contents = refl; versions = refl; serials = refl; codes = refl; own_codes = refl };
+  counted = refl;
+}
+
+legal_counted : (settings : Settings) (past : Past) → Legal settings past → IsCounted (book_of past)
+legal_counted settings (From base) legal = subst (λ (k : Base). IsCounted k.book) (sym legal) counted_empty
+legal_counted settings (After e before) legal = sound_then before e.event e.answer (verdict_answered settings before e.event e.answer legal.0) (legal_counted settings before legal.1)
+
 -- the book of a legal past is sound
 pub legal_sound : (settings : Settings) (past : Past) → Legal settings past → IsSound (book_of past)
-legal_sound settings (From base) legal = subst (λ (k : Base). IsSound k.book) (sym legal) sound_empty
-legal_sound settings (After e before) legal = sound_then before e.event e.answer (verdict_answered settings before e.event e.answer legal.0) (legal_sound settings before legal.1)
+legal_sound settings past legal = (legal_counted settings past legal).sound
 
 -- The pages of what the book holds.
 

@@ -103,8 +103,8 @@ agree given f = agrees given.message_id (Some (id_of f)) && (agrees given.serial
 
 -- the message answers what is in flight: it is of its kind, and no identifier that it gives differs
 abbrev pub matches : Message → InFlight → Bool
-matches (WriteComplete message_id serial old counts cells channel) f = writes f && agree (record { message_id = Some message_id; serial = Some serial; old = old }) f
-matches (KillComplete message_id serial counts cells channel) f = kills f && agree (record { message_id = Some message_id; serial = None; old = Some serial }) f
+matches (WriteComplete m) f = writes f && agree (record { message_id = Some m.message_id; serial = Some m.serial; old = m.old }) f
+matches (KillComplete m) f = kills f && agree (record { message_id = Some m.message_id; serial = None; old = Some m.serial }) f
 matches other f = false
 
 -- it answers what is in flight, if anything is

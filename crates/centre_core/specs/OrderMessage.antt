@@ -19,11 +19,22 @@ listed cells = record { form = form.LacCi; ids = map id_of_cell cells }
 
 -- a write, which may replace a version: until killed, on the basic channel
 abbrev pub write_message : Order → Option ℕ → Content → Message
-write_message order old content = message.WriteReplace order.message_id order.serial old (listed order.cells) (Some 0) (category_number content.category) content.period 0 (map page_with content.pages) content.dcs
+write_message order old content = message.WriteReplace (record {
+  message_id = order.message_id;
+  serial = order.serial;
+  old = old;
+  cells = listed order.cells;
+  channel = Some 0;
+  category = category_number content.category;
+  period = content.period;
+  requested = 0;
+  pages = map page_with content.pages;
+  dcs = content.dcs;
+})
 
 -- a KILL, on the basic channel
 abbrev pub kill_message : Order → Message
-kill_message order = message.Kill order.message_id order.serial (listed order.cells) (Some 0)
+kill_message order = message.Kill (record { message_id = order.message_id; serial = order.serial; cells = listed order.cells; channel = Some 0 })
 
 -- the content of an order where there is none: no pages
 abbrev pub no_content : Content

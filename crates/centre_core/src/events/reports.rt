@@ -59,25 +59,16 @@ fn matches(message: &Message, order: &Order) -> bool
     ensures { result ≡ matches message.now (flight.Order order.now) }
 {
     match message {
-        Message::WriteComplete {
-            message_id,
-            serial,
-            old,
-            ..
-        } => {
+        Message::WriteComplete(said) => {
             order.kind != OrderKind::Kill
-                && agrees(Some(*message_id), Some(order.message_id))
-                && agrees(Some(*serial), new_of(order))
-                && agrees(*old, old_of(order))
+                && agrees(Some(said.message_id), Some(order.message_id))
+                && agrees(Some(said.serial), new_of(order))
+                && agrees(said.old, old_of(order))
         }
-        Message::KillComplete {
-            message_id,
-            serial,
-            ..
-        } => {
+        Message::KillComplete(said) => {
             order.kind == OrderKind::Kill
-                && agrees(Some(*message_id), Some(order.message_id))
-                && agrees(Some(*serial), old_of(order))
+                && agrees(Some(said.message_id), Some(order.message_id))
+                && agrees(Some(said.serial), old_of(order))
         }
         _ => false,
     }

@@ -8,7 +8,7 @@ ghost use Rattle.centre_core.specs.OrderMessage.{IsCarriable, order_message, wri
 use crate::order_maker::order::Order;
 use crate::order_maker::order_kind::OrderKind;
 use cbsp_ie::CellIds;
-use cbsp_messages::{Message, Page, Pages};
+use cbsp_messages::{Kill, Message, Page, Pages, WriteReplace};
 use common::Octets;
 use std::alloc::{AllocError, Global};
 use warning_book::Content;
@@ -32,7 +32,7 @@ fn write_message(
 ) -> Result<Message, AllocError>
     ensures { IfOk result (λ m. m ≡ write_message order.now old content.now) }
 {
-    Ok(Message::WriteReplace {
+    Ok(Message::WriteReplace(WriteReplace {
         message_id: order.message_id,
         serial: order.serial.to_u16(),
         old,
@@ -43,18 +43,18 @@ fn write_message(
         requested: 0,
         pages: pages_of(alloc, content.pages.as_slice())?,
         dcs: content.dcs,
-    })
+    }))
 }
 
 fn kill_message(alloc: Global, order: &Order) -> Result<Message, AllocError>
     ensures { IfOk result (λ m. m ≡ kill_message order.now) }
 {
-    Ok(Message::Kill {
+    Ok(Message::Kill(Kill {
         message_id: order.message_id,
         serial: order.serial.to_u16(),
         cells: CellIds::of_cells(alloc, order.cells.as_slice())?,
         channel: Some(0),
-    })
+    }))
 }
 
 /// The message that carries the order (TS 48.049, 8.1.3.1 and 8.1.3.4): a WRITE-REPLACE on the basic channel that is

@@ -2,9 +2,9 @@ use Rattle.centre_core.proofs.CentreLemmas.{err_gives}
 use Rattle.centre_core.proofs.WarningLemmas.{update_refused}
 use Rattle.centre_core.specs.Refusals.{of_book}
 use Rattle.centre_core.specs.Verdict.{update}
-use Rattle.centre_core.proofs.laws.warnings.update.Goals as goal
+use Rattle.centre_core.proofs.events.warnings.update.Goals as goal
 
 pub returns-in_err-serial-clause-verdict : goal.returns-in_err-serial-clause-verdict
 returns-in_err-serial-clause-verdict c =
-    λ past booked. err_gives (update past c.args.w c.args.content.now) c.from_residual.result (of_book c.in_err-serial.field-0.0) c.from_residual.ensures.1
-    (update_refused past c.args.book.now c.args.w c.args.content.now c.in_err-serial.field-0.0 booked c.in_err-serial.ensures.refused)
+    λ past booked. err_gives ⊥ (update past c.args.number c.args.content.now) c.from_residual.result (of_book c.in_err-serial.field-0.0) c.from_residual.ensures.1
+    (update_refused past c.args.book.now c.args.number c.args.content.now c.in_err-serial.field-0.0 booked c.in_err-serial.ensures.refused)
