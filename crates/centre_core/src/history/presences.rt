@@ -41,15 +41,24 @@ fn refused_presence(kind: OrderKind, cause: Cause) -> Option<Presence>
     }
 }
 
+/// The presence at the key of its serial number after an order of the kind was carried out.
+fn done_presence(kind: OrderKind) -> Presence
+    ensures { Some result ≡ presence_mark (new_effect kind Outcome.Done) }
+{
+    match kind {
+        OrderKind::Write | OrderKind::Replace { old: _ } => Presence::OnAir,
+        OrderKind::Kill => Presence::Absent,
+    }
+}
+
 /// The presence at the key of its serial number after an order of the kind with that outcome.
 fn new_presence(kind: OrderKind, outcome: Outcome) -> Option<Presence>
     ensures { result ≡ presence_mark (new_effect kind outcome) }
 {
-    match (kind, outcome) {
-        (OrderKind::Write | OrderKind::Replace { old: _ }, Outcome::Done) => Some(Presence::OnAir),
-        (OrderKind::Kill, Outcome::Done) => Some(Presence::Absent),
-        (_, Outcome::Silent) => Some(Presence::Unknown),
-        (_, Outcome::Refused(cause)) => refused_presence(kind, cause),
+    match outcome {
+        Outcome::Done => Some(done_presence(kind)),
+        Outcome::Refused(cause) => refused_presence(kind, cause),
+        Outcome::Silent => Some(Presence::Unknown),
     }
 }
 
