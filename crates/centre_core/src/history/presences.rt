@@ -6,7 +6,7 @@ ghost use Rattle.warning_book.specs.declared.warning.Warning.{Warning};
 ghost use Rattle.centre_core.specs.Effects.{is_among, new_effect, old_effect, write_refused, replace_refused, kill_refused, old_refused, key_effect, flight_effect, outcome_in, said_effect, reply_effect, presence_mark};
 ghost use Rattle.centre_core.specs.Past.{past_of};
 ghost use Rattle.centre_core.specs.Presence.{edit_effect, effect, presence};
-ghost use Rattle.centre_core.specs.declared.order_maker.in_flight.InFlight.TheVariants as flight;
+ghost use Rattle.centre_core.specs.declared.order_maker.in_flight.InFlight.TheVariants as in_flight_is;
 
 use crate::answer::Answer;
 use crate::coverage_plan::Edit;
@@ -94,7 +94,7 @@ fn flight_presence(
     message_id: u16,
     serial: Serial,
 ) -> Option<Presence>
-    ensures { result ≡ presence_mark (flight_effect (option_map flight.Order (option_copied flight.entry)) outcome c message_id serial) }
+    ensures { result ≡ presence_mark (flight_effect (option_map in_flight_is.Order (option_copied flight.entry)) outcome c message_id serial) }
 {
     match flight {
         Some(order) if order.message_id == message_id && is_among(c, order.cells.as_slice()) => {
@@ -122,7 +122,7 @@ fn reply_presence(
     message_id: u16,
     serial: Serial,
 ) -> Option<Presence>
-    ensures { result ≡ presence_mark (reply_effect answer.now (option_map flight.Order (option_copied flight.entry)) c message_id serial) }
+    ensures { result ≡ presence_mark (reply_effect answer.now (option_map in_flight_is.Order (option_copied flight.entry)) c message_id serial) }
 {
     let Answer::Replied(replies) = answer else {
         return None;
@@ -154,7 +154,7 @@ fn presence_mark(
     up: bool,
     flight: Option<&Order>,
 ) -> Option<Presence>
-    ensures { (warnings : List Warning) → result ≡ presence_mark (effect b c message_id serial entry.now.event entry.now.answer up (option_map flight.Order (option_copied flight.entry)) warnings) }
+    ensures { (warnings : List Warning) → result ≡ presence_mark (effect b c message_id serial entry.now.event entry.now.answer up (option_map in_flight_is.Order (option_copied flight.entry)) warnings) }
 {
     match &entry.event {
         Event::Report(other, _, _) if *other == b => {
