@@ -18,3 +18,6 @@ pub mod RegisterLemmas
 pub mod AreaLemmas
 pub mod FlightLemmas
 pub mod CentreLemmas
+pub mod IssuedLemmas
+pub mod OrderingLemmas
+pub mod BeginningLemmas

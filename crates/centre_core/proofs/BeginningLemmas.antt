@@ -1,0 +1,1 @@
+-- What is wholly at the beginning counts nowhere.
