@@ -1,5 +1,5 @@
 -- The book of a legal past says of the warning of each number what the entries say.
-use Rattle.std.proofs.Common.{◌≡◌, arith, ℕ, zero, suc, ◌+◌, ◌<◌, ◌≤◌, Bool, true, false, ◌&&◌, ◌||◌, not, List, [], ◌∷◌, ◌++◌, Option, Some, None, Ok, nat_eq, nat_le, cond, unwrap_or, refl, sym, ◌∙◌, ap, subst, eqb-true}
+use Rattle.std.proofs.Common.{◌≡◌, arith, ℕ, zero, suc, ◌+◌, ◌<◌, ◌≤◌, Bool, true, false, ◌&&◌, ◌||◌, not, List, [], ◌∷◌, ◌++◌, Option, Some, None, Ok, nat_eq, nat_le, ltb, map, filter, cond, unwrap_or, refl, sym, ◌∙◌, ap, subst, eqb-true, eq-eqb}
 use Rattle.std.specs.Prelude.{find}
 use Rattle.std.specs.Cmp.{unsigned_Decides}
 use Rattle.std.specs.List.{list_any, list_all, last_or, range_with_len}
@@ -12,18 +12,19 @@ use Rattle.serials.specs.Laws.{free_code, code_of_serial, update_of_serial, next
 use Rattle.serials.specs.Serials.{scope_number, scope_part, serial_of, code_of, update_of, next_of, is_last, every_code, least_free}
 use Rattle.common.specs.OnceLaws.{turned}
 use Rattle.common.specs.Order.{is_ascending}
-use Rattle.warning_book.specs.Book.{State, has_number, number_lt, is_so, is_active, is_exhausted, ends_updates, areas_of, versions_of, last_serial, current_of, codes_if, codes_of, new_serial, new_warning, version_after, updated, widened, narrowed, stopped, changed_if, edited, without}
+use Rattle.warning_book.specs.Book.{has_number, number_lt, is_so, is_active, is_exhausted, ends_updates, areas_of, versions_of, last_serial, current_of, codes_if, codes_of, numbers, new_serial, new_warning, version_after, updated, widened, narrowed, stopped, changed_if, edited, without}
 use Rattle.warning_book.specs.Checks as book
-use Rattle.warning_book.specs.Laws.{KeepsNumber, absent_so, found_so, found_edited, found_without, found_issued}
+use Rattle.warning_book.specs.Laws.{KeepsNumber, number-edited, absent_so, found_so, found_edited, found_without, found_issued}
 use Rattle.warning_book.specs.Sound.{IsSound, was_issued, shares_code, has_one_code}
 use Rattle.warning_book.specs.declared.content.Content.{Content}
 use Rattle.warning_book.specs.declared.notice.Notice.{Notice}
 use Rattle.warning_book.specs.declared.version.Version.{Version}
 use Rattle.warning_book.specs.declared.warning.Warning.{Warning}
 use Rattle.centre_core.specs.Base.{Base}
-use Rattle.centre_core.specs.Issued.{active_mark, is_active_by, edit_makes, but, areas_then, areas_by, continued, versions_then, versions_by, message_mark, message_by, issues_then, issued_by, has_code, IsNew, IsAnsweredIssue, IsNext, FollowsLast, IsAnsweredUpdate, IsEditAnswered, IsAnswered, AreAnswered, IsBookOf}
+use Rattle.centre_core.specs.Issued.{active_mark, is_active_by, edit_makes, but, areas_then, areas_by, continued, versions_then, versions_by, message_mark, message_by, issues_then, issued_by, number_given, numbers_then, numbers_by, is_used, IsNew, IsAnsweredIssue, IsNext, FollowsLast, IsAnsweredUpdate, IsEditAnswered, IsAnswered, AreAnswered, IsBookOf}
 use Rattle.centre_core.specs.Legal.{Legal}
 use Rattle.centre_core.specs.Past.{Past, From, After, by_edit}
+use Rattle.centre_core.specs.Seen.{is_the}
 use Rattle.centre_core.specs.Settings.{Settings}
 use Rattle.centre_core.specs.Verdict.{answered, edit_answered, issue, issue_checks, issue_answer, update, update_checks, update_answer, widen, widen_checks}
 use Rattle.centre_core.specs.Warnings.{book_of, warnings_of, book_after, book_then, with_issue}
@@ -33,8 +34,9 @@ use Rattle.centre_core.specs.declared.coverage_plan.edit.Edit.{Edit}
 use Rattle.centre_core.specs.declared.coverage_plan.edit.Edit.TheVariants as edit
 use Rattle.centre_core.specs.declared.event.Event.{Event}
 use Rattle.centre_core.specs.declared.event.Event.TheVariants as event
-use Rattle.centre_core.proofs.AnyLemmas.{or_none}
+use Rattle.centre_core.proofs.AnyLemmas.{or_none, any_same}
 use Rattle.centre_core.proofs.CheckLemmas.{unless_ok, no_check}
+use Rattle.centre_core.proofs.PastLemmas.{map_joined}
 use Rattle.centre_core.proofs.UniqueLemmas.{verdict_answered}
 use Rattle.centre_core.proofs.WarningLemmas.{legal_sound}
 
@@ -369,7 +371,95 @@ issued_told settings (From base) legal = refl
 issued_told settings (After e before) legal =
     issued_then before e.event e.answer (verdict_answered settings before e.event e.answer legal.0) ∙ ap (edit_makes issues_then e.event e.answer) (issued_told settings before legal.1)
 
+-- The numbers of the warnings.
+
+numbers_edited : (n : ℕ) (f : Warning → Warning) → KeepsNumber f → (ws : List Warning) → numbers (edited n f ws) ≡ numbers ws
+numbers_edited n f keeps [] = refl
+numbers_edited n f keeps (w ∷ ws) = λ i. number-edited n f keeps w i ∷ numbers_edited n f keeps ws i
+
+numbers_without : (n : ℕ) (ws : List Warning) → numbers (without n ws) ≡ filter (λ k. not (nat_eq k n)) (numbers ws)
+numbers_without n [] = refl
+numbers_without n (w ∷ ws) = step (numbers_without n ws) (has_number n w)
+  where
+    step : numbers (without n ws) ≡ filter (λ k. not (nat_eq k n)) (numbers ws) → (t : Bool) → numbers (cond (not t) (w ∷ without n ws) (without n ws)) ≡ cond (not t) (w.number ∷ filter (λ k. not (nat_eq k n)) (numbers ws)) (filter (λ k. not (nat_eq k n)) (numbers ws))
+    step rest true = rest
+    step rest false = ap (λ l. w.number ∷ l) rest
+
+numbers_after : (past : Past) (e : Edit) (a : Answer) → edit_answered past e ≡ Ok a → numbers (book_after e (book_of past)).warnings ≡ numbers_then e a (numbers (warnings_of past))
+numbers_after past (edit.Issue notice areas) a h =
+    let told = issue_told past notice areas a h in
+    ap (λ o. numbers (with_issue notice areas o (book_of past)).warnings) told.1.0
+    ∙ map_joined (λ (w : Warning). w.number) (warnings_of past) (new_warning ((book_of past).issued + 1) notice areas told.0 ∷ [])
+    ∙ sym (ap (λ x. numbers (warnings_of past) ++ number_given x) told.1.1)
+numbers_after past (edit.Update m content) a h = numbers_edited m (updated content) (λ w. refl) (warnings_of past)
+numbers_after past (edit.Widen m x) a h = numbers_edited m (widened x) (λ w. refl) (warnings_of past)
+numbers_after past (edit.Narrow m x) a h = numbers_edited m (narrowed x) (λ w. refl) (warnings_of past)
+numbers_after past (edit.Stop m) a h = numbers_edited m stopped (λ w. refl) (warnings_of past)
+numbers_after past (edit.Forget m) a h = numbers_without m (warnings_of past)
+numbers_after past other a h = refl
+
+numbered_then : (past : Past) (e : Event) (a : Answer) → answered past e ≡ Ok a → numbers (book_then e (book_of past)).warnings ≡ edit_makes numbers_then e a (numbers (warnings_of past))
+numbered_then past (event.Edit e) a h = numbers_after past e a h
+numbered_then past other a h = refl
+
+numbers_told : (settings : Settings) (past : Past) → Legal settings past → numbers (warnings_of past) ≡ numbers_by past
+numbers_told settings (From base) legal = refl
+numbers_told settings (After e before) legal =
+    numbered_then before e.event e.answer (verdict_answered settings before e.event e.answer legal.0) ∙ ap (edit_makes numbers_then e.event e.answer) (numbers_told settings before legal.1)
+
+-- Each warning is the one that is found by its number.
+
+abbrev EachFound : List Warning → List Warning → Type 0
+EachFound all [] = Unit {0}
+EachFound all (w ∷ ws) = (find (has_number w.number) all ≡ Some w) × EachFound all ws
+
+below_other : (k n : ℕ) → ltb k n ≡ true → nat_eq k n ≡ false
+below_other k n h = grind (arith, nat_tests, common_steps)
+
+found_behind : (v : Warning) (all ws : List Warning) → list_all (number_lt v) ws ≡ true → EachFound all ws → EachFound (v ∷ all) ws
+found_behind v all [] h found = tt
+found_behind v all (w ∷ ws) h found =
+    let parts = and_parts (number_lt v w) (list_all (number_lt v) ws) h in
+    (ap (λ t. cond t (Some v) (find (has_number w.number) all)) (below_other v.number w.number parts.0) ∙ found.0, found_behind v all ws parts.1 found.1)
+
+each_found : (ws : List Warning) → is_ascending number_lt ws ≡ true → EachFound ws ws
+each_found [] ordered = tt
+each_found (w ∷ ws) ordered =
+    let parts = and_parts (list_all (number_lt w) ws) (is_ascending number_lt ws) ordered in
+    (ap (λ t. cond t (Some w) (find (has_number w.number) ws)) (eq-eqb w.number w.number refl), found_behind w ws ws parts.0 (each_found ws parts.1))
+
+-- what is found passes
+abbrev passes : (Warning → Bool) → Option Warning → Bool
+passes p None = false
+passes p (Some w) = p w
+
+any_by_number : (p : Warning → Bool) (all ws : List Warning) → EachFound all ws → list_any p ws ≡ list_any (λ n. passes p (find (has_number n) all)) (numbers ws)
+any_by_number p all [] found = refl
+any_by_number p all (w ∷ ws) found =
+    ap (λ t. t || list_any p ws) (sym (ap (passes p) found.0)) ∙ ap (λ t. passes p (find (has_number w.number) all) || t) (any_by_number p all ws found.1)
+
 -- The least code that is free.
+
+-- a version of the warning has the message identifier and the code
+abbrev carries : ℕ → ℕ → Warning → Bool
+carries m code w = nat_eq w.message_id m && list_any (λ v. nat_eq (code_of v.serial) code) w.versions
+
+carries_found : (m code : ℕ) (o : Option Warning) → passes (carries m code) o ≡ (is_the (message_in o) m && list_any (λ v. nat_eq (code_of v.serial) code) (versions_in o))
+carries_found m code None = refl
+carries_found m code (Some w) = refl
+
+-- the codes of the book are those that the entries say
+used_told : (settings : Settings) (past : Past) → Legal settings past → (m code : ℕ) → list_any (carries m code) (warnings_of past) ≡ is_used past m code
+used_told settings past legal m code =
+    any_by_number (carries m code) (warnings_of past) (warnings_of past) (each_found (warnings_of past) (legal_sound settings past legal).ordered)
+    ∙ any_same (λ n. passes (carries m code) (find (has_number n) (warnings_of past))) (λ n. is_the (message_by past n) m && list_any (λ v. nat_eq (code_of v.serial) code) (versions_by past n)) said (numbers (warnings_of past))
+    ∙ ap (list_any (λ n. is_the (message_by past n) m && list_any (λ v. nat_eq (code_of v.serial) code) (versions_by past n))) (numbers_told settings past legal)
+  where
+    said : (n : ℕ) → passes (carries m code) (find (has_number n) (warnings_of past)) ≡ (is_the (message_by past n) m && list_any (λ v. nat_eq (code_of v.serial) code) (versions_by past n))
+    said n =
+        carries_found m code (find (has_number n) (warnings_of past))
+        ∙ ap (λ o. is_the o m && list_any (λ v. nat_eq (code_of v.serial) code) (versions_in (find (has_number n) (warnings_of past)))) (message_told settings past legal n)
+        ∙ ap (λ vs. is_the (message_by past n) m && list_any (λ v. nat_eq (code_of v.serial) code) vs) (versions_told settings past legal n)
 
 next_above : (k a : ℕ) → nat_eq k a ≡ false → a ≤ k → a + 1 ≤ k
 next_above k a h g = grind (arith, nat_tests, common_steps)
@@ -420,20 +510,20 @@ versions_code code (Some t) (v ∷ vs) e h =
     ∙ sym (ap (λ b. b || list_any (λ u. nat_eq (code_of u.serial) code) vs) (shared_test t code v parts.0) ∙ shared_none t code vs parts.1)
 
 -- the code of the current version is the code of each
-code_used : (m code : ℕ) (w : Warning) → has_one_code w ≡ true → list_any (nat_eq code) (codes_if m w) ≡ has_code m code w
+code_used : (m code : ℕ) (w : Warning) → has_one_code w ≡ true → list_any (nat_eq code) (codes_if m w) ≡ carries m code w
 code_used m code w h = step (nat_eq w.message_id m)
   where
     step : (t : Bool) → list_any (nat_eq code) (cond t (option_to_list (option_map code_of (current_of w))) []) ≡ (t && list_any (λ v. nat_eq (code_of v.serial) code) w.versions)
     step true = versions_code code (last_serial w.versions) w.versions refl h
     step false = refl
 
-codes_used : (m code : ℕ) (ws : List Warning) → list_all has_one_code ws ≡ true → list_any (nat_eq code) (codes_of m ws) ≡ list_any (has_code m code) ws
+codes_used : (m code : ℕ) (ws : List Warning) → list_all has_one_code ws ≡ true → list_any (nat_eq code) (codes_of m ws) ≡ list_any (carries m code) ws
 codes_used m code [] h = refl
 codes_used m code (w ∷ ws) h =
     let parts = and_parts (has_one_code w) (list_all has_one_code ws) h in
     list_any-append (nat_eq code) (codes_if m w) (codes_of m ws)
     ∙ ap (λ t. t || list_any (nat_eq code) (codes_of m ws)) (code_used m code w parts.0)
-    ∙ ap (λ t. has_code m code w || t) (codes_used m code ws parts.1)
+    ∙ ap (λ t. carries m code w || t) (codes_used m code ws parts.1)
 
 scope_of_serial : (scope code : ℕ) → code < 1024 → scope_part (serial_of scope code 0) ≡ scope
 scope_of_serial scope code h = omega arith
@@ -442,8 +532,8 @@ scope_of_serial scope code h = omega arith
 new_told : (settings : Settings) (past : Past) → Legal settings past → (notice : Notice) (s : ℕ) → new_serial (book_of past) notice ≡ Some s → IsNew past notice ((book_of past).issued + 1) s
 new_told settings past legal notice s h = step (least_free (codes_of notice.message_id (warnings_of past))) refl h
   where
-    used : (code : ℕ) → list_any (nat_eq code) (codes_of notice.message_id (warnings_of past)) ≡ list_any (has_code notice.message_id code) (warnings_of past)
-    used code = codes_used notice.message_id code (warnings_of past) (legal_sound settings past legal).codes
+    used : (code : ℕ) → list_any (nat_eq code) (codes_of notice.message_id (warnings_of past)) ≡ is_used past notice.message_id code
+    used code = codes_used notice.message_id code (warnings_of past) (legal_sound settings past legal).codes ∙ used_told settings past legal notice.message_id code
 
     step : (o : Option ℕ) → least_free (codes_of notice.message_id (warnings_of past)) ≡ o → option_map (λ code. serial_of (scope_number notice.scope) code 0) o ≡ Some s → IsNew past notice ((book_of past).issued + 1) s
     step None e g = absurd (cc)
@@ -511,6 +601,7 @@ answers_told settings (After e before) legal =
 
 pub book_is_as_entered : (settings : Settings) (past : Past) → Legal settings past → IsBookOf past
 book_is_as_entered settings past legal = record {
+  numbered = numbers_told settings past legal;
   active = λ n. active_found n (warnings_of past) (legal_sound settings past legal).ordered ∙ active_told settings past legal n;
   areas = λ n. areas_found n (warnings_of past) ∙ areas_told settings past legal n;
   versions = λ n. versions_found n (warnings_of past) ∙ versions_told settings past legal n;

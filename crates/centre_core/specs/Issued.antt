@@ -3,13 +3,13 @@
 use Rattle.std.specs.Prelude.{◌≡◌, ◌<◌, ℕ, ◌+◌, Bool, true, false, ◌&&◌, not, List, [], ◌∷◌, ◌++◌, Option, Some, None, nat_eq, bytes_eq, if◌then◌else◌}
 use Rattle.std.specs.List.{list_any, filter}
 use Rattle.serials.specs.Serials.{scope_number, scope_part, code_of, update_of}
-use Rattle.warning_book.specs.Book.{is_active, areas_of, versions_of, message_id}
+use Rattle.warning_book.specs.Book.{is_active, areas_of, versions_of, message_id, numbers}
 use Rattle.warning_book.specs.declared.content.Content.{Content}
 use Rattle.warning_book.specs.declared.notice.Notice.{Notice}
 use Rattle.warning_book.specs.declared.version.Version.{Version}
-use Rattle.warning_book.specs.declared.warning.Warning.{Warning}
 use Rattle.centre_core.specs.Base.{Base}
 use Rattle.centre_core.specs.Past.{Past, From, After, latest, by_edit}
+use Rattle.centre_core.specs.Seen.{is_the}
 use Rattle.centre_core.specs.Warnings.{book_of, warnings_of}
 use Rattle.centre_core.specs.declared.answer.Answer.{Answer}
 use Rattle.centre_core.specs.declared.answer.Answer.TheVariants.{Issued, Updated}
@@ -104,24 +104,39 @@ issues_then other answer were = were
 abbrev pub issued_by : Past → ℕ
 issued_by past = through issues_then (λ base. base.book.issued) past
 
--- a version of the warning has the message identifier and the code
-abbrev pub has_code : ℕ → ℕ → Warning → Bool
-has_code m code w = nat_eq w.message_id m && list_any (λ v. nat_eq (code_of v.serial) code) w.versions
+-- the number that the answer gives to a new warning
+abbrev pub number_given : Answer → List ℕ
+number_given (Issued n s) = n ∷ []
+number_given other = []
 
--- a warning in the book has them
+-- an Issue adds the number of its warning last, a Forget takes its own out
+abbrev pub numbers_then : Edit → Answer → List ℕ → List ℕ
+numbers_then (Issue notice areas) answer were = were ++ number_given answer
+numbers_then (Forget n) answer were = filter (λ k. not (nat_eq k n)) were
+numbers_then other answer were = were
+
+-- the numbers of the warnings that were issued and not forgotten, in the order of issue
+abbrev pub numbers_by : Past → List ℕ
+numbers_by past = through numbers_then (λ base. numbers base.book.warnings) past
+
+-- the warning of that number has the message identifier, and one of its versions the code
+abbrev pub has_code : Past → ℕ → ℕ → ℕ → Bool
+has_code past m code n = is_the (message_by past n) m && list_any (λ v. nat_eq (code_of v.serial) code) (versions_by past n)
+
+-- a warning that was issued and not forgotten has them
 abbrev pub is_used : Past → ℕ → ℕ → Bool
-is_used past m code = list_any (has_code m code) (warnings_of past)
+is_used past m code = list_any (has_code past m code) (numbers_by past)
 
--- the code of the serial number is one that no warning in the book with the message identifier has; each smaller code is
--- one that such a warning has
-pub record HasLeastCode (before : Past) (m : ℕ) (s : ℕ) : Type 0 where
-  pub free : is_used before m (code_of s) ≡ false
-  pub least : (code : ℕ) → code < code_of s → is_used before m code ≡ true
+-- the code of the serial number is one that no such warning with the notice's message identifier has; each smaller code
+-- is one that such a warning has
+pub record HasLeastCode (before : Past) (notice : Notice) (s : ℕ) : Type 0 where
+  pub free : is_used before notice.message_id (code_of s) ≡ false
+  pub least : (code : ℕ) → code < code_of s → is_used before notice.message_id code ≡ true
 
 -- a new warning has the next number, and a serial number of the notice's scope, the least free code and update number 0
 pub record IsNew (before : Past) (notice : Notice) (n : ℕ) (s : ℕ) : Type 0 where
   pub number : n ≡ issued_by before + 1
-  pub code : HasLeastCode before notice.message_id s
+  pub code : HasLeastCode before notice s
   pub scope : scope_part s ≡ scope_number notice.scope
   pub update : update_of s ≡ 0
 
@@ -162,8 +177,10 @@ abbrev pub AreAnswered : Past → Type 0
 AreAnswered (From base) = Unit {0}
 AreAnswered (After e before) = IsAnswered before e.event e.answer × AreAnswered before
 
--- the book of the past says of the warning of each number what the entries say
+-- the book of the past has the warnings that the entries leave, in their order, and says of the warning of each number
+-- what the entries say
 pub record IsBookOf (past : Past) : Type 0 where
+  pub numbered : numbers (warnings_of past) ≡ numbers_by past
   pub active : (n : ℕ) → is_active (book_of past) n ≡ is_active_by past n
   pub areas : (n : ℕ) → areas_of n (warnings_of past) ≡ areas_by past n
   pub versions : (n : ℕ) → versions_of n (warnings_of past) ≡ versions_by past n
