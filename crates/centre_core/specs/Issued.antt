@@ -34,11 +34,12 @@ active_mark n answer other = None
 abbrev pub is_active_by : Past → ℕ → Bool
 is_active_by past n = latest (λ e before. by_edit (active_mark n e.answer) e.event) (λ base. is_active base.book n) past
 
--- what the edits, answered so, make one after another of what the base has; no other event makes anything of it
+-- what the event, answered so, makes of what was there: f says it of an edit, and no other event changes it
 abbrev pub edit_makes : {A : Type 0} → (Edit → Answer → A → A) → Event → Answer → A → A
 edit_makes f (event.Edit e) answer x = f e answer x
 edit_makes f other answer x = x
 
+-- what the entries make of what the base has, one after another
 abbrev pub through : {A : Type 0} → (Edit → Answer → A → A) → (Base → A) → Past → A
 through f first (From base) = first base
 through f first (After e before) = edit_makes f e.event e.answer (through f first before)
@@ -168,6 +169,7 @@ IsEditAnswered before (Issue notice areas) answer = IsAnsweredIssue before notic
 IsEditAnswered before (Update n content) answer = IsAnsweredUpdate (versions_by before n) answer
 IsEditAnswered before other answer = Unit {0}
 
+-- what an event is answered, where it is one of these
 abbrev pub IsAnswered : Past → Event → Answer → Type 0
 IsAnswered before (event.Edit e) answer = IsEditAnswered before e answer
 IsAnswered before other answer = Unit {0}

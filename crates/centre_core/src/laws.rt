@@ -9,10 +9,12 @@ ghost use Rattle.centre_core.specs.Legal.{Legal};
 ghost use Rattle.centre_core.specs.Past.{Past};
 ghost use Rattle.centre_core.specs.Settings.{Settings};
 
-/// Lemma: after every legal history the book of warnings says what the entries say. A warning is active where its last
-/// Issue, Stop or Forget is the Issue; its areas are those of its Issue with each Widen and without each Narrow; its
-/// versions are its Issue and its Updates, with the serial numbers that these were answered. Each Issue was answered
-/// the next number, and a serial number with the least code that no warning with its message identifier had.
+/// Lemma: after every legal history the book has the warnings that were issued and not forgotten, in the order of issue.
+/// A warning is active where its last Issue, Stop or Forget is the Issue. Its areas are those of its Issue, with each
+/// Widen and without each Narrow. Its versions are its Issue and its Updates, with the serial numbers that these were
+/// answered. An Issue was answered the next number, and a serial number with its scope, update number 0, and the least
+/// code that no warning in the book with its message identifier had. An Update was answered the serial number with the
+/// next update number.
 #[tactic(auto, using(crate::proofs::IssuedLemmas::book_is_as_entered))]
 pub fn book_is_as_entered()
     ensures { (settings : Settings) (past : Past) → Legal settings past → IsBookOf past }
