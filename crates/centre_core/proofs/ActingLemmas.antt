@@ -218,11 +218,12 @@ replaced_is v s (Some t) w h = step (needs v t) refl (is_absent (v.presence t)) 
         let parts = and_parts (not (nat_eq s t)) (is_on_air (v.presence s) && not (v.is_held s)) found.1 in
         let there = and_parts (is_on_air (v.presence s)) (not (v.is_held s)) parts.1 in
         let present : is_absent (v.presence s) ≡ false = on_air_present (v.presence s) there.0 in
-        let another : is_the v.wanted s ≡ false = ap (λ k. is_the k s) w ∙ turned nat_eq unsigned_Decides t s ∙ not-true (nat_eq s t) parts.0 in
-        (sym (any_reverse (λ k. nat_eq k s) v.versions) ∙ found.0,
-         and_from (not v.down) (not (is_the v.wanted s) && (not (v.is_held s) && not (is_absent (v.presence s)))) up
-         (and_from (not (is_the v.wanted s)) (not (v.is_held s) && not (is_absent (v.presence s))) (not_from_false (is_the v.wanted s) another)
-         (and_from (not (v.is_held s)) (not (is_absent (v.presence s))) there.1 (not_from_false (is_absent (v.presence s)) present))))
+        let another : is_the v.wanted s ≡ false = ap (λ k. is_the k s) w ∙ turned nat_eq unsigned_Decides t s ∙ not-true (nat_eq s t) parts.0 in (
+          sym (any_reverse (λ k. nat_eq k s) v.versions) ∙ found.0,
+          and_from (not v.down) (not (is_the v.wanted s) && (not (v.is_held s) && not (is_absent (v.presence s)))) up
+              (and_from (not (is_the v.wanted s)) (not (v.is_held s) && not (is_absent (v.presence s))) (not_from_false (is_the v.wanted s) another)
+              (and_from (not (v.is_held s)) (not (is_absent (v.presence s))) there.1 (not_from_false (is_absent (v.presence s)) present))),
+        )
     step true e false f g = cc
     step false e a f g = cc
 
@@ -250,4 +251,3 @@ does_clearing v s =
         let is = replaced_is v s v.wanted refl e in
         ap (λ t. t || (has_serial s v.versions && is_to_kill v s)) e ∙ here (has_serial s v.versions) (is_surplus v s) (is_to_kill v s) is.0 is.1
     step false e = rw e (without (has_serial s v.versions) (not v.down) (not (is_the v.wanted s)) (not (v.is_held s)) (not (is_absent (v.presence s))))
-

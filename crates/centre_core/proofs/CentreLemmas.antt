@@ -2,18 +2,20 @@
 use Rattle.std.proofs.Common.{◌≡◌, ◌⊎◌, inl, inr, ℕ, ◌<◌, ◌≤◌, Bool, true, false, List, [], ◌∷◌, ◌++◌, Result, Ok, Err, nat_le, length, reverse, refl, sym, ◌∙◌, ap, subst, arith, length-append}
 use Rattle.std.proofs.lemmas.Bool.{lt-leb, le-leb}
 use Rattle.std.proofs.lemmas.List.{reverse-append}
-use Rattle.std.specs.Prelude.{IsErrAnd, IsOk, if◌then◌else◌}
+use Rattle.std.specs.Prelude.{IsErrAnd, IfErr, IsOk, if◌then◌else◌}
 use Rattle.areas.specs.declared.area.Area.{Area}
 use Rattle.cell_register.specs.Register as register
 use Rattle.warning_book.specs.Book as book
 use Rattle.centre_core.specs.Centre.{IsCentre}
 use Rattle.centre_core.specs.Flights.{flights_after, up_before}
 use Rattle.centre_core.specs.Kept.{Gives, GivesOr, IsCheckedOr, Rules, MayStarve, TakesMemory, is_edit, is_plain, register_then, areas_then}
+use Rattle.centre_core.specs.Legal.{Legal}
 use Rattle.centre_core.specs.Past.{Past, past_of, entry_count}
 use Rattle.centre_core.specs.Settings.{Settings}
-use Rattle.centre_core.specs.Verdict.{verdict, answered}
+use Rattle.centre_core.specs.Verdict.{verdict, answered, edit_answered}
 use Rattle.centre_core.specs.Warnings.{book_then}
 use Rattle.centre_core.specs.declared.answer.Answer.{Answer}
+use Rattle.centre_core.specs.declared.coverage_plan.edit.Edit.{Edit}
 use Rattle.centre_core.specs.declared.entry.Entry.{Entry}
 use Rattle.centre_core.specs.declared.event.Event.{Event}
 use Rattle.centre_core.specs.declared.event.Event.TheVariants as event
@@ -78,6 +80,18 @@ err_kept finding v (Ok a) refusal h g = absurd h
 err_kept finding v (Err x) refusal h (inl g) = inl (h ∙ g.0, g.1)
 err_kept finding v (Err x) refusal h (inr g) = inr (g ∙ ap Err (sym h))
 
+-- what an edit is refused when it is looked at is given
+pub err_first : (finding : Type 0) (v r : Result Answer Refusal) (refusal : Refusal) → IsErrAnd r (λ x. x ≡ refusal) → ((refusal ≡ Memory) × finding) ⊎ (v ≡ Err refusal) → GivesOr finding v r
+err_first finding v (Ok a) refusal h g = absurd h
+err_first finding v (Err x) refusal h (inl g) = inl (h ∙ g.0, inl g.1)
+err_first finding v (Err x) refusal h (inr g) = inr (g ∙ ap Err (sym h))
+
+-- the same over the same entries
+pub edit_refused : (xs ys : List Entry) (e : Edit) (r : Result Answer Refusal) (x : Refusal) → ys ≡ xs → IsErrAnd r (λ y. y ≡ x) → ((x ≡ Memory) × TakesMemory (past_of ys) (event.Edit e)) ⊎ (edit_answered (past_of ys) e ≡ Err x) → GivesOr (TakesMemory (past_of xs) (event.Edit e)) (edit_answered (past_of xs) e) r
+edit_refused xs ys e r x same h g =
+    subst (λ zs. GivesOr (TakesMemory (past_of zs) (event.Edit e)) (edit_answered (past_of zs) e) r) same
+    (err_first (TakesMemory (past_of ys) (event.Edit e)) (edit_answered (past_of ys) e) r x h g)
+
 -- what is given where the journal has room is what is ruled
 pub ruled : (settings : Settings) (journal : List Entry) (e : Event) (r : Result Answer Refusal) → length journal < settings.limit → GivesOr (TakesMemory (past_of journal) e) (answered (past_of journal) e) r → Rules settings (past_of journal) e r
 ruled settings journal e r room given = step r given
@@ -99,3 +113,19 @@ ruled settings journal e r room given = step r given
 -- a full journal
 pub full : (settings : Settings) (journal : List Entry) (e : Event) → settings.limit ≤ length journal → verdict settings (past_of journal) e ≡ Err JournalFull
 full settings journal e h = ap (λ t. if t then Err JournalFull else answered (past_of journal) e) (le-leb settings.limit (entry_count (past_of journal)) (omega (arith, count_journal journal)))
+
+-- what is ruled of an error that is refused so
+pub err_ruled : (settings : Settings) (past : Past) (e : Event) (r : Result Answer Refusal) (x : Refusal) → IsErrAnd r (λ y. y ≡ x) → Rules settings past e (Err x) → IfErr r (λ y. ((y ≡ Memory) × MayStarve settings past e) ⊎ (verdict settings past e ≡ Err y))
+err_ruled settings past e (Ok a) x h g = absurd h
+err_ruled settings past e (Err y) x h (inl g) = inl (h ∙ g.0, g.1)
+err_ruled settings past e (Err y) x h (inr g) = inr (g ∙ ap Err (sym h))
+
+-- an event that is accepted may find that memory is wanting for its entry
+pub entry_starves : (settings : Settings) (journal : List Entry) (e : Event) (a : Answer) (r : Result Answer Refusal) → IsErrAnd r (λ y. y ≡ Memory) → length journal < settings.limit → verdict settings (past_of journal) e ≡ Ok a → IfErr r (λ y. ((y ≡ Memory) × MayStarve settings (past_of journal) e) ⊎ (verdict settings (past_of journal) e ≡ Err y))
+entry_starves settings journal e a (Ok b) h room given = absurd h
+entry_starves settings journal e a (Err y) h room given =
+    inl (h, (omega (arith, count_journal journal), inr (subst IsOk (sym (verdict_answered settings (past_of journal) e a given)) refl)))
+
+-- an accepted event keeps the journal legal
+pub legal_with : (settings : Settings) (journal base now : List Entry) (e : Entry) → Legal settings (past_of journal) → base ≡ journal → now ≡ base ++ e ∷ [] → verdict settings (past_of journal) e.event ≡ Ok e.answer → Legal settings (past_of now)
+legal_with settings journal base now e legal same entries accepted = rw (entries, same) (rw (reverse-append journal (e ∷ [])) (accepted, legal))

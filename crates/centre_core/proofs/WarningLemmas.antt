@@ -143,7 +143,6 @@ stop_taken past st n is checked = taken of_book (book.stop_checks (book_of past)
 pub stop_refused : (past : Past) (st : State) (n : ℕ) (e : book_refusal.Refusal) → st ≡ book_of past → first_refusal (book.stop_checks st n) ≡ Some e → stop past n ≡ Err (of_book e)
 stop_refused past st n e is h = refused of_book (book.stop_checks (book_of past) n) (Ok answer.Done) e (rw (← is) h)
 
-
 pub issue_free : (past : Past) (st : State) (notice : Notice) (areas : List (List ℕ)) → st ≡ book_of past → list_any (λ a. not (is_area past a)) areas ≡ false → first_refusal (book.issue_checks st notice areas) ≡ None → IsOk (issue past notice areas)
 issue_free past st notice areas is there checked =
     past_ok (list_any (λ a. not (is_area past a)) areas) refusal.NoSuchArea (unless (by_book (book.issue_checks (book_of past) notice areas)) (issue_answer ((book_of past).issued + 1) (new_serial (book_of past) notice))) there

@@ -1,8 +1,8 @@
 //! The centre: its journal, and the questions that the journal answers.
 
-ghost use Rattle.std.specs.Prelude.{◌≡◌, ◌<◌, List, ℕ, length, true, false, IfOk, IfErr, OnOk, OnErr};
+ghost use Rattle.std.specs.Prelude.{◌≡◌, ◌<◌, ◌++◌, ◌∷◌, [], List, ℕ, length, true, false, IfOk, IfErr, IsOk, OnOk, OnErr};
 ghost use Rattle.std.specs.Vec.{vec_len, vec_capacity};
-ghost use Rattle.centre_core.specs.Flights.{up_before};
+ghost use Rattle.centre_core.specs.Flights.{flights_after, up_before};
 ghost use Rattle.centre_core.specs.Kept.{IsRegisterOf, AreAreasOf, TakesMemory, Rules, register_after, areas_after, register_then, areas_then, is_edit, is_plain, GivesOr};
 ghost use Rattle.centre_core.specs.Past.{past_of};
 ghost use Rattle.centre_core.specs.Verdict.{answered, edit_answered};
@@ -24,7 +24,7 @@ use crate::refusal::Refusal;
 use areas::Areas;
 use cell_register::{BscId, Register};
 use common::Cell;
-use std::alloc::Global;
+use std::alloc::{AllocError, Global};
 use std::marker::Model;
 use warning_book::{Book, WarningId};
 
@@ -54,7 +54,6 @@ fn make_room(journal: &mut Vec<Entry>) -> Result<(), Refusal>
 
 /// What the edit is answered after the entries of the journal, which has room for one more then; an accepted edit is
 /// made.
-#[tactic(auto, using(crate::proofs::CentreLemmas::checked_gives, crate::proofs::CentreLemmas::starved_gives))]
 fn answer_edit(
     alloc: Global,
     journal: &mut Vec<Entry>,
@@ -132,7 +131,9 @@ fn answer_to(
     }
     match event {
         Event::Edit(edit) => answer_edit(alloc, journal, register, areas, book, edit),
-        _ => answer_other(alloc, journal, register, book, event),
+        Event::LinkUp(_) | Event::LinkDown(_, _) | Event::Send(_, _) | Event::Report(_, _, _) => {
+            answer_other(alloc, journal, register, book, event)
+        }
     }
 }
 
@@ -144,6 +145,30 @@ fn up_before(journal: &[Entry], event: &Event) -> bool
         Event::LinkUp(b) => is_up(journal, *b),
         _ => false,
     }
+}
+
+/// Enters an accepted event in the journal, which has room for it, with what that makes of what is in flight. An edit
+/// with a plain answer takes no memory.
+fn enter(
+    alloc: Global,
+    journal: &mut Vec<Entry>,
+    flights: &mut Vec<Flight>,
+    desk: u32,
+    event: Event,
+    answer: &Answer,
+) -> Result<(), AllocError>
+    requires { vec_len journal.old < vec_capacity journal.old }
+    ensures entry { OnOk result (journal.new.items ≡ journal.old.items ++ record { desk = desk; event = event; answer = answer.now } ∷ []) }
+    ensures flights { OnOk result (flights.new.items ≡ flights_after event answer.now (up_before (past_of journal.old.items) event) flights.old.items) }
+    ensures entries_stay { OnErr result (journal.new.items ≡ journal.old.items) }
+    ensures flights_stay { OnErr result (flights.new.items ≡ flights.old.items) }
+    ensures plain { is_edit event ≡ true → is_plain answer.now ≡ true → IsOk result }
+{
+    let up = up_before(journal.as_slice(), &event);
+    let entry = Entry::of(alloc, desk, event, answer)?;
+    flights::follow(alloc, flights, &entry.event, answer, up)?;
+    journal.push(entry)?;
+    Ok(())
 }
 
 impl Model for Centre {
@@ -214,10 +239,14 @@ impl Centre {
             &mut self.book,
             &event,
         )?;
-        let up = up_before(self.journal.as_slice(), &event);
-        let entry = Entry::of(self.alloc, desk, event, &answer)?;
-        flights::follow(self.alloc, &mut self.flights, &entry.event, &answer, up)?;
-        self.journal.push(entry)?;
+        enter(
+            self.alloc,
+            &mut self.journal,
+            &mut self.flights,
+            desk,
+            event,
+            &answer,
+        )?;
         Ok(answer)
     }
 

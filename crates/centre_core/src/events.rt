@@ -54,7 +54,9 @@ pub(crate) fn check_edit(
         Edit::DropArea(a) => named_areas::check_drop_area(book, areas, a),
         Edit::Put(a, s) => named_areas::check_put(areas, a, *s),
         Edit::Cut(a, s) => named_areas::check_cut(areas, a, *s),
-        Edit::Issue(notice, names) => { warnings::check_issue(areas, book, notice, names.as_slice()) }
+        Edit::Issue(notice, names) => {
+            warnings::check_issue(areas, book, notice, names.as_slice())
+        }
         Edit::Update(number, content) => warnings::check_update(book, *number, content),
         Edit::Widen(number, a) => warnings::check_widen(areas, book, *number, a),
         Edit::Narrow(number, a) => warnings::check_narrow(areas, book, *number, a),

@@ -1,6 +1,7 @@
 //! What is in flight to each BSC, kept beside the journal.
 
-ghost use Rattle.std.specs.Prelude.{◌≡◌, ◌∷◌, ◌++◌, [], true, find, OnOk, OnErr, IsOk};
+ghost use Rattle.std.specs.Prelude.{◌≡◌, ◌≤◌, true, OnOk, OnErr, IsOk};
+ghost use Rattle.std.specs.Vec.{vec_len, vec_capacity};
 ghost use Rattle.std.specs.Option.{option_copied, option_map};
 ghost use Rattle.centre_core.specs.Flights.{with_flight, flights_after};
 ghost use Rattle.centre_core.specs.InFlight.{sent_flight, is_replied};
@@ -25,7 +26,9 @@ pub(crate) fn flight_in(flights: &[Flight], b: BscId) -> Option<&InFlight>
 
 /// Takes out what is in flight to the BSC.
 fn take_out(flights: &mut Vec<Flight>, b: BscId)
-    ensures { flights.new.items ≡ without_flight b flights.old.items }
+    ensures left { flights.new.items ≡ without_flight b flights.old.items }
+    ensures len { vec_len flights.new ≤ vec_len flights.old }
+    ensures capacity { vec_capacity flights.new ≡ vec_capacity flights.old }
 {
     flights.retain(|flight| flight.bsc != b);
 }

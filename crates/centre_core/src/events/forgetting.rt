@@ -157,7 +157,11 @@ pub(crate) fn check_forget(
 
 /// Forget: takes a stopped warning out of the book of which nothing is on air or in flight.
 #[tactic(auto, using(crate::proofs::WarningLemmas::forget_refused))]
-pub(crate) fn forget(journal: &[Entry], book: &mut Book, number: WarningId) -> Result<Answer, Refusal>
+pub(crate) fn forget(
+    journal: &[Entry],
+    book: &mut Book,
+    number: WarningId,
+) -> Result<Answer, Refusal>
     requires booked { book.old ≡ book_of (past_of journal.now) }
     requires free { forget (past_of journal.now) number ≡ Ok Answer.Done }
     ensures verdict { Gives (forget (past_of journal.now) number) result }

@@ -8,8 +8,8 @@ ghost use Rattle.centre_core.specs.Verdict.{link_up, link_checks, link_down};
 
 use crate::answer::Answer;
 use crate::entry::Entry;
-use crate::history::{is_up, last_link};
 use crate::events::Verdict;
+use crate::history::{is_up, last_link};
 use crate::refusal::Refusal;
 use cell_register::{BscId, Register};
 

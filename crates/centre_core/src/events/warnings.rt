@@ -62,11 +62,7 @@ pub(crate) fn issue(
 
 /// Whether an Update is accepted: the warning is active and has a version left, and its content is good.
 #[tactic(auto, using(crate::proofs::WarningLemmas::update_free, crate::proofs::WarningLemmas::update_first))]
-pub(crate) fn check_update(
-    book: &Book,
-    number: WarningId,
-    content: &Content,
-) -> Result<(), Refusal>
+pub(crate) fn check_update(book: &Book, number: WarningId, content: &Content) -> Result<(), Refusal>
     ensures { (past : Past) → book.now ≡ book_of past → IsChecked (update past number content.now) result }
 {
     book.check_update(number, content)?;
@@ -75,7 +71,11 @@ pub(crate) fn check_update(
 
 /// Update: gives a warning a new version.
 #[tactic(auto, using(crate::proofs::WarningLemmas::update_taken, crate::proofs::WarningLemmas::update_refused))]
-pub(crate) fn update(book: &mut Book, number: WarningId, content: &Content) -> Result<Answer, Refusal>
+pub(crate) fn update(
+    book: &mut Book,
+    number: WarningId,
+    content: &Content,
+) -> Result<Answer, Refusal>
     ensures verdict { (past : Past) → book.old ≡ book_of past → Gives (update past number content.now) result }
     ensures changed { OnOk result (book.new ≡ after_update number content.now book.old) }
     ensures unchanged { OnErr result (book.new ≡ book.old) }
@@ -161,10 +161,7 @@ pub(crate) fn narrow(
 
 /// Whether a Stop is accepted: the warning is active.
 #[tactic(auto, using(crate::proofs::WarningLemmas::stop_free, crate::proofs::WarningLemmas::stop_first))]
-pub(crate) fn check_stop(
-    book: &Book,
-    number: WarningId,
-) -> Result<(), Refusal>
+pub(crate) fn check_stop(book: &Book, number: WarningId) -> Result<(), Refusal>
     ensures { (past : Past) → book.now ≡ book_of past → IsChecked (stop past number) result }
 {
     book.check_stop(number)?;
