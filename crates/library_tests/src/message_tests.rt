@@ -55,6 +55,7 @@ fn every_call_answers(rt: HostRuntime) -> Result<(), Fail> {
     let alloc = rt.alloc();
     let mut pages = Pages::new(alloc);
     pages.push(Page::of_octets(&[1]))?;
+    pages.push(Page::of_octets(&[1; 100]))?;
     assert!(rt; pages.copied(alloc)?.same(&pages));
     let message = read(alloc, 4, &KILL)?;
     assert!(rt; message.copied(alloc)?.same(&message));
