@@ -22,21 +22,21 @@ use Rattle.centre_core.specs.Base.{Base, empty_base}
 use Rattle.centre_core.specs.Beginning.{IsAtBeginning, AreTheCells, CountsNoOther, IsBscAtBeginning, AreTheBscs, CountsNoOtherBsc}
 use Rattle.centre_core.specs.Cover.{is_covered}
 use Rattle.centre_core.specs.Effects.{Sets, Frees, Leaves, is_among, presence_mark, flight_effect, reply_effect}
-use Rattle.centre_core.specs.Grouping.{grouped, action_lt}
+use Rattle.centre_core.specs.Grouping.{in_order, grouped, action_lt}
 use Rattle.centre_core.specs.InFlight.{in_flight}
 use Rattle.centre_core.specs.Legal.{Legal}
 use Rattle.centre_core.specs.Lines.{seen, stand}
 use Rattle.centre_core.specs.Links.{is_bsc, bsc_mark, added_bsc, bscs, is_up}
 use Rattle.centre_core.specs.Numbers.{number_at}
 use Rattle.centre_core.specs.Past.{Past, From, After, IsUnfolded, by_edit, with_new, position}
-use Rattle.centre_core.specs.Pending.{actions}
+use Rattle.centre_core.specs.Pending.{actions, pending}
 use Rattle.centre_core.specs.Places.{place, place_mark, added_cell, cells}
 use Rattle.centre_core.specs.Plan.{wanted}
 use Rattle.centre_core.specs.Presence.{presence, effect, edit_effect}
 use Rattle.centre_core.specs.Seen.{Seen, is_absent}
 use Rattle.centre_core.specs.Settings.{Settings}
 use Rattle.centre_core.specs.Standings.{Stand, stands, standing, is_way, is_left, is_unwanted}
-use Rattle.centre_core.specs.Table.{key_of, keys_in, keys_over, key_lt}
+use Rattle.centre_core.specs.Table.{key_of, keys_in, keys_over, key_lt, table}
 use Rattle.centre_core.specs.Verdict.{answered, edit_answered, add_cell_checks, move_cell_checks, link_up_checks, link_checks, report_checks, report_answer}
 use Rattle.centre_core.specs.Warnings.{warnings_of, serials, has_key}
 use Rattle.centre_core.specs.declared.answer.Answer.{Answer}
@@ -357,9 +357,28 @@ no_number : (past : Past) (w : Warning) (x : Way) (b : ℕ) → IsBscAtBeginning
 no_number past w x b start =
     sum_none (λ c. one (stands x (stand past b w c))) (λ c. not_counted past x b w c (seen_blank past b w c (start.empty c) (start.silent c))) (cells past)
 
+all_empty : {B : Type 0} (f : Warning → Cell → List B) → ((w : Warning) (c : Cell) → f w c ≡ []) → (ws : List Warning) (cs : List Cell) → flat_map (λ w. flat_map (f w) cs) ws ≡ []
+all_empty {B} f none [] cs = refl
+all_empty {B} f none (w ∷ ws) cs =
+    ap (λ l. l ++ flat_map (λ v. flat_map (f v) cs) ws) (row cs) ∙ all_empty f none ws cs
+  where
+    row : (ds : List Cell) → flat_map (f w) ds ≡ []
+    row [] = refl
+    row (d ∷ ds) = ap (λ l. l ++ flat_map (f w) ds) (none w d) ∙ row ds
+
+no_orders : (past : Past) (b : ℕ) → IsBscAtBeginning past b → pending past b ≡ []
+no_orders past b start =
+    ap (λ l. grouped (in_order l)) (all_empty (actions past b) (λ w c. no_actions past b w c (seen_blank past b w c (start.empty c) (start.silent c))) (warnings_of past) (cells past))
+
+no_table : (past : Past) (b : ℕ) → IsBscAtBeginning past b → table past b ≡ []
+no_table past b start =
+    ap (sorted_by key_lt) (keys_told past b (cells past) ∙ ap (map (told past b)) (all_empty (bare_in past b) (λ w c. no_keys past b w c (start.silent c)) (warnings_of past) (cells past)))
+
 pub counts_no_other_bsc : (settings : Settings) (past : Past) (bs : List ℕ) → Legal settings past → AreTheBscs past bs → CountsNoOtherBsc past bs
 counts_no_other_bsc settings past bs legal here = record {
   numbers = λ w x.
       sums_agree nat_eq unsigned_Decides bs (bscs past) here.once (named_once nat_eq added_bsc (λ base. base.bscs) refl past (legal_unfolded settings past legal)) (number_at past w x (cells past))
       (λ b h. no_number past w x b (here.others b h)) (λ b h. no_number past w x b (bsc_outside settings past legal b h));
+  orders = λ b h. no_orders past b (here.others b h);
+  tables = λ b h. no_table past b (here.others b h);
 }

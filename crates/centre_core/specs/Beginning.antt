@@ -1,7 +1,7 @@
 -- What is wholly at the beginning counts nowhere: a cell that is registered nowhere and in which nothing is on air, and a
 -- BSC at which no cell is registered and nothing is on air. The numbers, the orders and the tables are the same over any
 -- list of cells, each once, outside which every cell is at the beginning; and so are the sums over BSCs.
-use Rattle.std.specs.Prelude.{◌≡◌, ℕ, true, false, List, None, nat_eq}
+use Rattle.std.specs.Prelude.{◌≡◌, ℕ, true, false, List, [], None, nat_eq}
 use Rattle.std.specs.List.{list_any}
 use Rattle.cell_register.specs.Register.{is_place}
 use Rattle.common.specs.Cell.{cell_eq}
@@ -47,6 +47,9 @@ pub record AreTheBscs (past : Past) (bs : List ℕ) : Type 0 where
   pub once : each_once nat_eq bs ≡ true
   pub others : (b : ℕ) → list_any (nat_eq b) bs ≡ false → IsBscAtBeginning past b
 
--- over these BSCs the numbers are what they are over all
+-- over these BSCs the numbers are what they are over all, and for every other BSC nothing is pending and no key is
+-- reported
 pub record CountsNoOtherBsc (past : Past) (bs : List ℕ) : Type 0 where
   pub numbers : (w : Warning) (way : Way) → sum_of (number_at past w way (cells past)) bs ≡ number past w way
+  pub orders : (b : ℕ) → list_any (nat_eq b) bs ≡ false → pending past b ≡ []
+  pub tables : (b : ℕ) → list_any (nat_eq b) bs ≡ false → table past b ≡ []

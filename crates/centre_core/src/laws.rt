@@ -27,7 +27,8 @@ pub fn counts_no_other_cell()
     ensures { (settings : Settings) (past : Past) (cs : List Cell) → Legal settings past → AreTheCells past cs → CountsNoOther past cs }
 {}
 
-/// Lemma: BSCs at which no cell is registered, and nothing is on air, add nothing to the numbers of a board.
+/// Lemma: BSCs at which no cell is registered, and nothing is on air, add nothing to the numbers of a board. Nothing is
+/// pending for them, and no key is reported of them.
 #[tactic(auto, using(crate::proofs::BeginningLemmas::counts_no_other_bsc))]
 pub fn counts_no_other_bsc()
     ensures { (settings : Settings) (past : Past) (bs : List ℕ) → Legal settings past → AreTheBscs past bs → CountsNoOtherBsc past bs }
