@@ -1,14 +1,15 @@
-//! What no clause says of the centre: that each call can succeed. What is answered, worked scripts in the data of
-//! `examples` show.
+//! What no clause says of the centre: that each call can succeed, and what is lent of a flight. What is answered, worked
+//! scripts in the data of `examples` show.
 
 use areas::Selector;
 use cbsp_messages::read;
 use cell_register::BscId;
 use centre_core::answer::Answer;
 use centre_core::centre::Centre;
+use centre_core::coverage_plan::Edit;
 use centre_core::entry::Entry;
 use centre_core::event::Event;
-use centre_core::order_maker::{Order, OrderKind, message_of};
+use centre_core::order_maker::{InFlight, Order, OrderKind, message_of};
 use centre_core::outcome::Outcome;
 use centre_core::refusal::Refusal;
 use centre_core::replies::Replies;
@@ -18,6 +19,7 @@ use common::{Cell, Cells, Name, Names, Octets};
 use std::alloc::{AllocError, Global};
 use std::process::Abort;
 use std::test::Fail;
+use warning_book::Category;
 
 const PLMN: [u8; 3] = [0x00, 0xf1, 0x10];
 
@@ -36,7 +38,7 @@ fn content(alloc: Global) -> Result<Content, AllocError> {
     pages.push(page)?;
     Ok(Content {
         dcs: 15,
-        category: 0,
+        category: Category::HighPriority,
         period: 30,
         pages: ContentPages::from_vec(pages),
     })
@@ -53,7 +55,8 @@ fn notice(alloc: Global) -> Result<Notice, AllocError> {
 fn issue(alloc: Global) -> Result<Event, AllocError> {
     let mut names = Vec::new(alloc);
     names.push(coast(alloc)?)?;
-    Ok(Event::Issue(notice(alloc)?, Names::from_vec(names)))
+    let names = Names::from_vec(names);
+    Ok(Event::Edit(Edit::Issue(notice(alloc)?, names)))
 }
 
 fn takes(rt: &impl Abort, centre: &mut Centre, event: Event) {
@@ -64,14 +67,21 @@ fn takes(rt: &impl Abort, centre: &mut Centre, event: Event) {
 /// A BSC with its cell, an area that covers it, a warning there, and the link up, of generation 6.
 fn begun(rt: &impl Abort, alloc: Global, b: BscId) -> Result<Centre, AllocError> {
     let mut centre = Centre::new(alloc, PLMN, 100);
-    takes(rt, &mut centre, Event::AddBsc(b));
-    takes(rt, &mut centre, Event::AddCell(CELL, b));
-    takes(rt, &mut centre, Event::AddArea(coast(alloc)?));
-    let put = Event::Put(coast(alloc)?, Selector::Cell(CELL));
-    takes(rt, &mut centre, put);
+    takes(rt, &mut centre, Event::Edit(Edit::AddBsc(b)));
+    takes(rt, &mut centre, Event::Edit(Edit::AddCell(CELL, b)));
+    takes(rt, &mut centre, Event::Edit(Edit::AddArea(coast(alloc)?)));
+    let put = Edit::Put(coast(alloc)?, Selector::Cell(CELL));
+    takes(rt, &mut centre, Event::Edit(put));
     takes(rt, &mut centre, issue(alloc)?);
     takes(rt, &mut centre, Event::LinkUp(b));
     Ok(centre)
+}
+
+/// The BSC answers that the first warning is on air.
+fn completes(rt: &impl Abort, alloc: Global, centre: &mut Centre, b: BscId) -> Result<(), Fail> {
+    let complete = read(alloc, 2, &COMPLETE)?;
+    takes(rt, centre, Event::Report(b, 6, complete));
+    Ok(())
 }
 
 /// What the COMPLETE says of the cell.
@@ -91,14 +101,19 @@ fn is_copied(rt: &impl Abort, alloc: Global, event: &Event) -> Result<(), AllocE
     Ok(())
 }
 
-fn events_are_copied(rt: &impl Abort, alloc: Global) -> Result<(), AllocError> {
+fn edit_is_copied(rt: &impl Abort, alloc: Global, edit: &Edit) -> Result<(), AllocError> {
+    let copy = edit.copied(alloc)?;
+    assert!(rt; edit.same(&copy), "{edit:?}");
+    Ok(())
+}
+
+fn edits_are_copied(rt: &impl Abort, alloc: Global) -> Result<(), AllocError> {
     let warning = WarningId::new(1);
-    is_copied(rt, alloc, &issue(alloc)?)?;
-    is_copied(rt, alloc, &Event::DropArea(coast(alloc)?))?;
-    is_copied(rt, alloc, &Event::Cut(coast(alloc)?, Selector::Cell(CELL)))?;
-    is_copied(rt, alloc, &Event::Update(warning, content(alloc)?))?;
-    is_copied(rt, alloc, &Event::Widen(warning, coast(alloc)?))?;
-    is_copied(rt, alloc, &Event::Narrow(warning, coast(alloc)?))?;
+    edit_is_copied(rt, alloc, &Edit::DropArea(coast(alloc)?))?;
+    edit_is_copied(rt, alloc, &Edit::Cut(coast(alloc)?, Selector::Cell(CELL)))?;
+    edit_is_copied(rt, alloc, &Edit::Update(warning, content(alloc)?))?;
+    edit_is_copied(rt, alloc, &Edit::Widen(warning, coast(alloc)?))?;
+    edit_is_copied(rt, alloc, &Edit::Narrow(warning, coast(alloc)?))?;
     Ok(())
 }
 
@@ -108,19 +123,55 @@ fn replies_are_copied(rt: &impl Abort, alloc: Global) -> Result<(), AllocError> 
     Ok(())
 }
 
-fn kill(alloc: Global) -> Result<Order, AllocError> {
-    let cells = Cells::from_vec(Vec::from_slice(alloc, &[CELL])?);
+fn cells(alloc: Global) -> Result<Cells, AllocError> {
+    Ok(Cells::from_vec(Vec::from_slice(alloc, &[CELL])?))
+}
+
+/// The order of that kind for the first warning.
+fn order_of(alloc: Global, kind: OrderKind) -> Result<Order, AllocError> {
     Ok(Order {
-        kind: OrderKind::Kill,
+        kind,
         message_id: 4370,
         serial: Serial::from_u16(0xc000),
-        cells,
+        cells: cells(alloc)?,
     })
 }
 
 fn orders_are_copied(rt: &impl Abort, alloc: Global) -> Result<(), AllocError> {
-    let order = kill(alloc)?;
+    let order = order_of(alloc, OrderKind::Kill)?;
     assert!(rt; order.same(&order.copied(alloc)?));
+    Ok(())
+}
+
+fn flight_is_copied(rt: &impl Abort, alloc: Global, flight: &InFlight) -> Result<(), AllocError> {
+    let copy = flight.copied(alloc)?;
+    assert!(rt; flight.same(&copy), "{flight:?}");
+    Ok(())
+}
+
+fn flights_are_copied(rt: &impl Abort, alloc: Global) -> Result<(), AllocError> {
+    let query = InFlight::Query {
+        message_id: 4370,
+        serial: Serial::from_u16(0xc000),
+        cells: cells(alloc)?,
+    };
+    flight_is_copied(rt, alloc, &query)?;
+    flight_is_copied(
+        rt,
+        alloc,
+        &InFlight::Order(order_of(alloc, OrderKind::Kill)?),
+    )
+}
+
+/// A KILL is carried without a content.
+fn a_kill_is_carried(alloc: Global) -> Result<(), AllocError> {
+    let order = Order {
+        kind: OrderKind::Kill,
+        message_id: 4370,
+        serial: Serial::from_u16(0xc000),
+        cells: cells(alloc)?,
+    };
+    message_of(alloc, &order, None)?;
     Ok(())
 }
 
@@ -168,10 +219,12 @@ fn is_entered(
 #[test]
 fn copies_are_made(rt: HostRuntime) -> Result<(), Fail> {
     let alloc = rt.alloc();
-    events_are_copied(&rt, alloc)?;
+    is_copied(&rt, alloc, &issue(alloc)?)?;
+    edits_are_copied(&rt, alloc)?;
     replies_are_copied(&rt, alloc)?;
     orders_are_copied(&rt, alloc)?;
-    message_of(alloc, &kill(alloc)?, None)?;
+    flights_are_copied(&rt, alloc)?;
+    a_kill_is_carried(alloc)?;
     Ok(())
 }
 
@@ -183,9 +236,35 @@ fn every_call_answers(rt: HostRuntime) -> Result<(), Fail> {
     assert_eq!(rt; table_is_copied(alloc, &mut centre, b), Ok(0));
     assert_eq!(rt; pending_is_copied(alloc, &centre, b), Ok(1));
     takes(&rt, &mut centre, Event::Send(b, 6));
-    let complete = read(alloc, 2, &COMPLETE)?;
-    takes(&rt, &mut centre, Event::Report(b, 6, complete));
+    completes(&rt, alloc, &mut centre, b)?;
     is_entered(&rt, alloc, &mut centre, 7)?;
     is_entered(&rt, alloc, &mut centre, 8)?;
+    Ok(())
+}
+
+/// Whether the order is in flight to the BSC.
+fn is_in_flight(centre: &Centre, b: BscId, order: &Order) -> Result<bool, Refusal> {
+    Ok(match centre.in_flight_of(b)? {
+        Some(InFlight::Order(found)) => found.same(order),
+        _ => false,
+    })
+}
+
+/// Whether nothing is in flight to the BSC.
+fn is_idle(centre: &Centre, b: BscId) -> Result<bool, Refusal> {
+    Ok(centre.in_flight_of(b)?.is_none())
+}
+
+#[test]
+fn an_order_is_in_flight_until_it_is_answered(rt: HostRuntime) -> Result<(), Fail> {
+    let alloc = rt.alloc();
+    let b = BscId::new(1).ok_or("1 is a BSC")?;
+    let mut centre = begun(&rt, alloc, b)?;
+    let write = order_of(alloc, OrderKind::Write)?;
+    assert_eq!(rt; is_idle(&centre, b), Ok(true));
+    takes(&rt, &mut centre, Event::Send(b, 6));
+    assert_eq!(rt; is_in_flight(&centre, b, &write), Ok(true));
+    completes(&rt, alloc, &mut centre, b)?;
+    assert_eq!(rt; is_idle(&centre, b), Ok(true));
     Ok(())
 }
