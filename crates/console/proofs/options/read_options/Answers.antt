@@ -26,5 +26,5 @@ returns-clause-asked c =
     record {
       well_formed = taken_has_no_fault _ words c.in_ok-command_line.ensures c.in-Ok.ensures.kinds;
       network = ap network_in rows ∙ (sym c.asked_plmn.ensures ∙ c.in-Some.is);
-      entries = ap limit_in rows ∙ sym c.asked_journal.ensures.asked;
+      entries = ap limit_in rows ∙ (sym c.asked_journal.ensures.asked ∙ c.in-Some-2.is);
     }
