@@ -1,5 +1,5 @@
 -- That each test of equality answers true of equal values, and of no others.
-use Rattle.std.specs.Prelude.{◌≡◌, Bool, true, false, ◌&&◌, List, nat_eq}
+use Rattle.std.specs.Prelude.{◌≡◌, ◌&&◌, List, nat_eq}
 use Rattle.std.proofs.Common.{refl}
 use Rattle.std.proofs.lemmas.Slice.Eq.{bytes_eq-Decides}
 use Rattle.std.specs.Bool.{Decides}

@@ -29,35 +29,19 @@ pub fn message_of(
     ensures fault { IfErr result (λ f. (f ≡ MessageFault.Memory) ⊎ IsPagesFault kind (values_at (parts_taken elements.entry)) f) }
 {
     Ok(match kind {
-        MessageType::WriteReplace => Message::WriteReplace(WriteReplace::of_elements(
+        MessageType::WriteReplace => Message::WriteReplace(WriteReplace::of(alloc, elements)?),
+        MessageType::WriteComplete => Message::WriteComplete(WriteComplete::of(alloc, elements)?),
+        MessageType::WriteFailure => Message::WriteFailure(WriteFailure::of(alloc, elements)?),
+        MessageType::Kill => Message::Kill(Kill::of(alloc, elements)?),
+        MessageType::KillComplete => Message::KillComplete(KillComplete::of(alloc, elements)?),
+        MessageType::KillFailure => Message::KillFailure(KillFailure::of(alloc, elements)?),
+        MessageType::StatusQuery => Message::StatusQuery(StatusQuery::of(alloc, elements)?),
+        MessageType::StatusComplete => Message::StatusComplete(StatusComplete::of(
             alloc, elements,
         )?),
-        MessageType::WriteComplete => Message::WriteComplete(WriteComplete::of_elements(
-            alloc, elements,
-        )?),
-        MessageType::WriteFailure => Message::WriteFailure(WriteFailure::of_elements(
-            alloc, elements,
-        )?),
-        MessageType::Kill => Message::Kill(Kill::of_elements(alloc, elements)?),
-        MessageType::KillComplete => Message::KillComplete(KillComplete::of_elements(
-            alloc, elements,
-        )?),
-        MessageType::KillFailure => Message::KillFailure(KillFailure::of_elements(
-            alloc, elements,
-        )?),
-        MessageType::StatusQuery => Message::StatusQuery(StatusQuery::of_elements(
-            alloc, elements,
-        )?),
-        MessageType::StatusComplete => Message::StatusComplete(StatusComplete::of_elements(
-            alloc, elements,
-        )?),
-        MessageType::StatusFailure => Message::StatusFailure(StatusFailure::of_elements(
-            alloc, elements,
-        )?),
-        MessageType::Restart => Message::Restart(Restart::of_elements(alloc, elements)?),
-        MessageType::Failure => Message::Failure(Failure::of_elements(alloc, elements)?),
-        MessageType::ErrorIndication => Message::ErrorIndication(ErrorIndication::of_elements(
-            elements,
-        )),
+        MessageType::StatusFailure => Message::StatusFailure(StatusFailure::of(alloc, elements)?),
+        MessageType::Restart => Message::Restart(Restart::of(alloc, elements)?),
+        MessageType::Failure => Message::Failure(Failure::of(alloc, elements)?),
+        MessageType::ErrorIndication => Message::ErrorIndication(ErrorIndication::of(elements)),
     })
 }

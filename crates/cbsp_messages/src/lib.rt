@@ -2,7 +2,8 @@
 //! behind a frame's length and written as whole frames.
 //!
 //! `message_type` has the one table of which elements each type demands, may have and writes in which order.
-//! `messages` has the messages, and `reading` and `writing` go between them and their octets by that table.
+//! `messages` has a file for each message, and `reading` and `writing` go between messages and their octets by
+//! that table.
 #![tactic(auto)]
 
 mod building;

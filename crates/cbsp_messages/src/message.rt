@@ -12,7 +12,7 @@ use std::alloc::{AllocError, Global};
 
 /// A message of CBSP, of the types that this centre speaks (3GPP TS 48.049, 8.1.3).
 ///
-/// `message_id` is the Message Identifier. `serial` is the New Serial Number where a type has one, else
+/// In each, `message_id` is the Message Identifier. `serial` is the New Serial Number where a type has one, else
 /// the Old Serial Number, which then names the message that is meant. `old` is the Old Serial Number
 /// beside a new one. `channel` is the Channel Indicator, `counts` the Number of Broadcasts Completed
 /// List, `period` the Repetition Period in units of 1.883 s, `requested` the Number of Broadcasts

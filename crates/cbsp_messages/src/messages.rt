@@ -1,4 +1,5 @@
-//! The messages, one a file: its fields, how it is made of the elements of a body, its parts and its copy.
+//! The messages, each in a file of its own: its fields, how it is made of the elements of a body, what it says for
+//! each element, and its copy.
 
 mod error_indication;
 mod failure;

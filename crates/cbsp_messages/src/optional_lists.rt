@@ -5,6 +5,7 @@ ghost use Rattle.std.specs.Prelude.{◌≡◌, IfOk};
 use cbsp_ie::{CellIds, CellList, CountList, Counts};
 use std::alloc::{AllocError, Global};
 
+/// The identifications of a cell list, if there is one.
 pub fn owned_ids(alloc: Global, cells: Option<CellList<'_>>) -> Result<Option<CellIds>, AllocError>
     ensures { IfOk result (λ owned. owned ≡ cells.entry) }
 {
@@ -14,6 +15,7 @@ pub fn owned_ids(alloc: Global, cells: Option<CellList<'_>>) -> Result<Option<Ce
     }
 }
 
+/// The entries of a list of broadcasts completed, if there is one.
 pub fn owned_counts(
     alloc: Global,
     counts: Option<CountList<'_>>,
@@ -26,6 +28,7 @@ pub fn owned_counts(
     }
 }
 
+/// The same identifications, in memory of their own.
 pub fn copied_ids(alloc: Global, cells: &Option<CellIds>) -> Result<Option<CellIds>, AllocError>
     ensures { IfOk result (λ copy. copy ≡ cells.now) }
 {
@@ -35,6 +38,7 @@ pub fn copied_ids(alloc: Global, cells: &Option<CellIds>) -> Result<Option<CellI
     }
 }
 
+/// The same entries, in memory of their own.
 pub fn copied_counts(alloc: Global, counts: &Option<Counts>) -> Result<Option<Counts>, AllocError>
     ensures { IfOk result (λ copy. copy ≡ counts.now) }
 {

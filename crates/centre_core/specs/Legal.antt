@@ -1,7 +1,7 @@
 -- A legal past: nothing was folded into its base, and each entry has the answer that the past before it gives its event.
-use Rattle.std.specs.Prelude.{◌≡◌, ℕ, List, [], ◌∷◌, reverse, Result, Ok, Err}
-use Rattle.centre_core.specs.Base.{Base, empty_base}
-use Rattle.centre_core.specs.Past.{Past, From, After, since}
+use Rattle.std.specs.Prelude.{◌≡◌, ℕ, List, [], ◌∷◌, Result, Ok, Err}
+use Rattle.centre_core.specs.Base.{empty_base}
+use Rattle.centre_core.specs.Past.{Past, From, After, past_of}
 use Rattle.centre_core.specs.Settings.{Settings}
 use Rattle.centre_core.specs.Verdict.{verdict}
 use Rattle.centre_core.specs.declared.answer.Answer.{Answer}
@@ -14,19 +14,18 @@ abbrev pub Legal : Settings → Past → Type 0
 Legal settings (From base) = base ≡ empty_base
 Legal settings (After e before) = (verdict settings before e.event ≡ Ok e.answer) × Legal settings before
 
--- what contracts see of a centre: its settings, its base, and its journal, the oldest entry first
+-- what contracts see of a centre: its settings, and its journal, the oldest entry first
 pub record Known : Type 0 where
   pub settings : Settings
-  pub base : Base
   pub journal : List Entry
 
 -- a centre of the network without entries
 abbrev pub new_centre : List ℕ → ℕ → Known
-new_centre network limit = record { settings = record { network = network; limit = limit }; base = empty_base; journal = [] }
+new_centre network limit = record { settings = record { network = network; limit = limit }; journal = [] }
 
--- the past of a centre
+-- the past of a centre: nothing was folded so far
 abbrev pub past : Known → Past
-past centre = since centre.base (reverse centre.journal)
+past centre = past_of centre.journal
 
 -- an event as it is submitted: by which desk
 pub record Call : Type 0 where

@@ -1,5 +1,5 @@
 -- The numbers of a warning: sums over the lines of each BSC and each cell.
-use Rattle.std.specs.Prelude.{ℕ, Option}
+use Rattle.std.specs.Prelude.{ℕ, List, Option}
 use Rattle.std.specs.Option.{option_map}
 use Rattle.common.specs.Sums.{sum_of, count_of}
 use Rattle.common.specs.declared.cell.Cell.{Cell}

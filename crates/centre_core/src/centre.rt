@@ -29,7 +29,7 @@ use std::marker::Model;
 use warning_book::{Book, WarningId};
 
 /// A cell broadcast centre. Contracts see its settings, which are its network and the greatest number of entries of its
-/// journal, its base, which is empty, and its journal, the oldest entry first.
+/// journal, and its journal, the oldest entry first.
 #[derive(Drop)]
 pub struct Centre {
     alloc: Global,
@@ -147,13 +147,12 @@ fn up_before(journal: &[Entry], event: &Event) -> bool
 }
 
 impl Model for Centre {
-    ghost use Rattle.centre_core.specs.Base.{empty_base};
     ghost use Rattle.centre_core.specs.Legal.{Known};
     ghost use Rattle.centre_core.specs.Centre.{IsCentre};
 
     ghost Value = { Known };
 
-    ghost view = { λ c. record { settings = record { network = c.plmn; limit = c.limit }; base = empty_base; journal = c.journal.items } };
+    ghost view = { λ c. record { settings = record { network = c.plmn; limit = c.limit }; journal = c.journal.items } };
 
     ghost invariant = { λ c. IsCentre (record { network = c.plmn; limit = c.limit }) c.journal.items c.register c.areas c.book c.flights.items };
 }
@@ -198,7 +197,6 @@ impl Centre {
     /// `StillReported` and `StillInFlight`, since these take memory to find.
     pub fn accept(&mut self, desk: u32, event: Event) -> Result<Answer, Refusal>
         ensures settings { self.new.settings ≡ self.old.settings }
-        ensures base { self.new.base ≡ self.old.base }
         ensures answer { IfOk result (λ a. verdict self.old.settings (past self.old) event ≡ Ok a) }
         ensures entry { IfOk result (λ a. self.new.journal ≡ self.old.journal ++ record { desk = desk; event = event; answer = a } ∷ []) }
         ensures refusal { IfErr result (λ r. ((r ≡ Refusal.Memory) × MayStarve self.old.settings (past self.old) event) ⊎ (verdict self.old.settings (past self.old) event ≡ Err r)) }

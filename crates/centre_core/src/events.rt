@@ -10,7 +10,7 @@ mod reports;
 mod sends;
 mod warnings;
 
-ghost use Rattle.std.specs.Prelude.{◌≡◌, Ok, true, IfOk, IsOk, OnOk, OnErr};
+ghost use Rattle.std.specs.Prelude.{◌≡◌, true, false, IfOk, IsOk, OnOk, OnErr};
 ghost use Rattle.centre_core.specs.Kept.{IsRegisterOf, AreAreasOf, TakesMemory, register_after, areas_after, is_edit, is_plain, Gives, GivesOr, IsCheckedOr};
 ghost use Rattle.centre_core.specs.Past.{past_of};
 ghost use Rattle.centre_core.specs.Verdict.{answered, edit_answered};

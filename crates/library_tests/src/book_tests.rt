@@ -5,7 +5,9 @@ use serials::{Scope, Serial};
 use std::alloc::{AllocError, Global};
 use std::process::Abort;
 use std::test::Fail;
-use warning_book::{Book, Category, Content, ContentPages, Limit, Notice, Refusal, Version, WarningId};
+use warning_book::{
+    Book, Category, Content, ContentPages, Limit, Notice, Refusal, Version, WarningId,
+};
 
 /// The number of the first warning that a book issues.
 fn first_id() -> WarningId {
@@ -202,7 +204,9 @@ fn checks_leave_the_book_to_the_edits(rt: HostRuntime) -> Result<(), Fail> {
     let hills = name(alloc, b"hills")?;
     assert!(rt; book.check_widen(first_id(), &hills) == Ok(()));
     assert!(rt; book.check_narrow(first_id(), &hills) == Err(Refusal::AreaNotThere));
-    assert!(rt; book.check_update(first_id(), &content(alloc, 0x42, 83)?) == Err(Refusal::BadPages));
+    assert!(rt;
+        book.check_update(first_id(), &content(alloc, 0x42, 83)?) == Err(Refusal::BadPages)
+    );
     assert!(rt; book.check_forget(first_id()) == Err(Refusal::StillActive));
     assert!(rt; book.check_stop(first_id()) == Ok(()));
     book.stop(first_id())?;

@@ -3,7 +3,7 @@
 ghost use Rattle.std.specs.Prelude.{◌≡◌};
 
 use cbsp_ie::{CellId, CellIds, ElementId, Form, IeFault};
-use cbsp_messages::{Kill, Message, MessageFault, Page, Pages, read, write};
+use cbsp_messages::{Kill, Message, MessageFault, MessageType, Page, Pages, read, read_as, write};
 use std::alloc::{AllocError, Global};
 use std::process::Abort;
 use std::test::Fail;
@@ -55,9 +55,11 @@ fn every_call_answers(rt: HostRuntime) -> Result<(), Fail> {
     let alloc = rt.alloc();
     let mut pages = Pages::new(alloc);
     pages.push(Page::of_octets(&[1]))?;
+    pages.push(Page::of_octets(&[1; 100]))?;
     assert!(rt; pages.copied(alloc)?.same(&pages));
     let message = read(alloc, 4, &KILL)?;
     assert!(rt; message.copied(alloc)?.same(&message));
+    assert!(rt; read_as(alloc, MessageType::Kill, &KILL)?.same(&message));
     assert!(rt; message.fits());
     assert_eq!(rt; write(alloc, &message)?.len(), 20);
     Ok(())

@@ -31,7 +31,7 @@ current_of w = last_serial w.versions
 abbrev pub code_in : Warning → Option ℕ
 code_in w = option_map code_of (current_of w)
 
--- no version can follow one with this serial number
+-- no update number is left after this serial number, or there is no version that one could follow
 abbrev pub ends_updates : Option ℕ → Bool
 ends_updates None = true
 ends_updates (Some serial) = is_last serial
@@ -58,15 +58,15 @@ is_full w = nat_le 16 (length w.areas)
 abbrev pub has_one_area : Warning → Bool
 has_one_area w = nat_le (length w.areas) 1
 
--- it had its last update
+-- no update number is left for a next version of it
 abbrev pub is_exhausted : Warning → Bool
 is_exhausted w = ends_updates (current_of w)
 
--- the book has the warning, and it is as the test says
+-- one of the warnings has that number, and it is as the test says
 abbrev pub is_so : ℕ → (Warning → Bool) → List Warning → Bool
 is_so n f ws = list_any (λ w. has_number n w && f w) ws
 
--- the same of the book's state
+-- the book in this state has the warning, and it is as the test says
 abbrev pub warning_is : State → ℕ → (Warning → Bool) → Bool
 warning_is st n f = is_so n f st.warnings
 

@@ -15,48 +15,48 @@ abbrev pub is_empty : List (List ℕ) → Bool
 is_empty [] = true
 is_empty (a ∷ areas) = false
 
--- a new warning
+-- the checks of issuing a warning, in their order
 abbrev pub issue_checks : State → Notice → List (List ℕ) → List (Bool × Refusal)
 issue_checks st notice areas = (is_empty areas, refusal.NoAreas) ∷ (not (each_once bytes_eq areas), refusal.AreaThere) ∷ (not (are_pages notice.content.pages), refusal.BadPages) ∷ (not (is_period notice.content.period), refusal.BadPeriod) ∷ (nat_le 256 (length st.warnings), refusal.Limit limit.Warnings) ∷ (ltb 16 (length areas), refusal.Limit limit.WarningAreas) ∷ (nat_le 4294967295 st.issued, refusal.Limit limit.Ids) ∷ []
 
--- a new version of a warning
+-- the checks of updating a warning
 abbrev pub update_checks : State → ℕ → Content → List (Bool × Refusal)
 update_checks st n content = (not (is_there st n), refusal.NoSuchWarning) ∷ (not (is_active st n), refusal.NotActive) ∷ (not (are_pages content.pages), refusal.BadPages) ∷ (not (is_period content.period), refusal.BadPeriod) ∷ (warning_is st n is_exhausted, refusal.UpdatesExhausted) ∷ []
 
--- one more area of a warning
+-- the checks of naming one more area
 abbrev pub widen_checks : State → ℕ → List ℕ → List (Bool × Refusal)
 widen_checks st n a = (not (is_there st n), refusal.NoSuchWarning) ∷ (not (is_active st n), refusal.NotActive) ∷ (warning_is st n (names a), refusal.AreaThere) ∷ (warning_is st n is_full, refusal.Limit limit.WarningAreas) ∷ []
 
--- one area less of a warning
+-- the checks of taking an area out
 abbrev pub narrow_checks : State → ℕ → List ℕ → List (Bool × Refusal)
 narrow_checks st n a = (not (is_there st n), refusal.NoSuchWarning) ∷ (not (is_active st n), refusal.NotActive) ∷ (not (warning_is st n (names a)), refusal.AreaNotThere) ∷ (warning_is st n has_one_area, refusal.LastArea) ∷ []
 
--- the end of a warning, which stays in the book
+-- the checks of stopping a warning
 abbrev pub stop_checks : State → ℕ → List (Bool × Refusal)
 stop_checks st n = (not (is_there st n), refusal.NoSuchWarning) ∷ (not (is_active st n), refusal.NotActive) ∷ []
 
--- taking a stopped warning out of the book
+-- the checks of forgetting a warning
 abbrev pub forget_checks : State → ℕ → List (Bool × Refusal)
 forget_checks st n = (not (is_there st n), refusal.NoSuchWarning) ∷ (is_active st n, refusal.StillActive) ∷ []
 
--- the same checks of a warning that is there, from the second on
+-- the checks that are left where the warning is there
 
--- a new version of it
+-- the checks of updating it
 abbrev pub warning_update_checks : Content → Warning → List (Bool × Refusal)
 warning_update_checks content w = (not w.active, refusal.NotActive) ∷ (not (are_pages content.pages), refusal.BadPages) ∷ (not (is_period content.period), refusal.BadPeriod) ∷ (is_exhausted w, refusal.UpdatesExhausted) ∷ []
 
--- one more area of it
+-- the checks of naming one more area in it
 abbrev pub warning_widen_checks : List ℕ → Warning → List (Bool × Refusal)
 warning_widen_checks a w = (not w.active, refusal.NotActive) ∷ (names a w, refusal.AreaThere) ∷ (is_full w, refusal.Limit limit.WarningAreas) ∷ []
 
--- one area less of it
+-- the checks of taking an area out of it
 abbrev pub warning_narrow_checks : List ℕ → Warning → List (Bool × Refusal)
 warning_narrow_checks a w = (not w.active, refusal.NotActive) ∷ (not (names a w), refusal.AreaNotThere) ∷ (has_one_area w, refusal.LastArea) ∷ []
 
--- its end
+-- the checks of stopping it
 abbrev pub warning_stop_checks : Warning → List (Bool × Refusal)
 warning_stop_checks w = (not w.active, refusal.NotActive) ∷ []
 
--- taking it out of the book
+-- the checks of forgetting it
 abbrev pub warning_forget_checks : Warning → List (Bool × Refusal)
 warning_forget_checks w = (w.active, refusal.StillActive) ∷ []

@@ -57,7 +57,7 @@ has_one_code w = share_code w.versions
 abbrev pub key_of : Warning → ℕ × Option ℕ
 key_of w = (w.message_id, code_in w)
 
--- the codes are one
+-- both are there and are one code
 abbrev pub is_same_code : Option ℕ → Option ℕ → Bool
 is_same_code (Some c) (Some d) = nat_eq c d
 is_same_code c d = false
@@ -92,7 +92,7 @@ are_counted update (v ∷ versions) = nat_eq (update_of v.serial) update && are_
 abbrev pub counts_updates : Warning → Bool
 counts_updates w = are_counted 0 w.versions
 
--- a book as its edits keep it: sound, and no update number is used again. No call promises the second.
+-- a book as its edits keep it: sound, and the update numbers count the versions. No call promises the second.
 pub record IsCounted (st : State) : Type 0 where
   pub sound : IsSound st
   pub counted : list_all counts_updates st.warnings ≡ true

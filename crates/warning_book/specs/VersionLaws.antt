@@ -1,8 +1,9 @@
--- The versions of a warning: the current one is among them, and what one more version leaves as it was.
-use Rattle.std.proofs.Common.{◌≡◌, ℕ, suc, ◌+◌, ◌<◌, ◌≤◌, Bool, true, false, ◌&&◌, ◌||◌, List, [], ◌∷◌, ◌++◌, Option, Some, None, map, nat_eq, nat_le, length, refl, sym, ap, ◌∙◌, arith, length-append, eqb-true, eq-eqb}
+-- The versions of a warning: the current one is among them, one more leaves what holds of them, and the last two
+-- sections are for crates above.
+use Rattle.std.proofs.Common.{◌≡◌, ℕ, suc, ◌+◌, ◌<◌, ◌≤◌, Bool, true, false, ◌&&◌, ◌||◌, not, List, [], ◌∷◌, ◌++◌, Option, Some, None, map, nat_eq, nat_le, length, refl, sym, ap, ◌∙◌, arith, length-append, eqb-true, eq-eqb}
 use Rattle.std.specs.List.{list_any, list_all, last_or}
 use Rattle.std.specs.Option.{option_map, option_to_list}
-use Rattle.std.proofs.lemmas.Bool.{and_parts, and_from, or_from, or_left}
+use Rattle.std.proofs.lemmas.Bool.{and_parts, and_from, or_parts, or_from, or_left, not-true}
 use Rattle.std.proofs.lemmas.Bool.Decides.{nat_tests}
 use Rattle.std.proofs.lemmas.Grind.{common_steps}
 use Rattle.std.proofs.lemmas.List.{map-append}
@@ -10,10 +11,11 @@ use Rattle.std.proofs.lemmas.List.Folds.{list_all-append}
 use Rattle.common.specs.OnceLaws.{once_last}
 use Rattle.common.specs.Order.{each_once}
 use Rattle.common.specs.OrderLaws.{all_same}
+use Rattle.common.specs.Sums.{one, count_of}
 use Rattle.serials.specs.Laws.{update_left, next_scope, next_code, next_update}
 use Rattle.serials.specs.Serials.{scope_part, code_of, update_of, next_of, is_last}
-use Rattle.warning_book.specs.Book.{last_serial, current_of, ends_updates, version_after, with_next}
-use Rattle.warning_book.specs.Sound.{are_few, stand_once, shares_code, share_code, are_counted}
+use Rattle.warning_book.specs.Book.{last_serial, current_of, code_in, ends_updates, version_after, with_next}
+use Rattle.warning_book.specs.Sound.{are_few, stand_once, shares_code, share_code, has_one_code, key_of, is_same_code, is_same_key, are_counted}
 use Rattle.warning_book.specs.declared.content.Content.{Content}
 use Rattle.warning_book.specs.declared.version.Version.{Version}
 use Rattle.warning_book.specs.declared.warning.Warning.{Warning}
@@ -151,3 +153,76 @@ code_kept content vs left = step (last_serial vs) refl left
     step None e g = cc
     step (Some s) e g =
         ap (λ (o : Option Version). option_map code_of (option_map (λ (v : Version). v.serial) o)) (last_more None vs (version_after content s)) ∙ ap (λ (k : ℕ). Some k) (next_code s g)
+
+-- the versions of a serial number
+
+-- no version has the serial number where it isn't among the serial numbers
+none_counted : (vs : List Version) (s : ℕ) → list_any (nat_eq s) (map (λ (v : Version). v.serial) vs) ≡ false → count_of (λ v. nat_eq v.serial s) vs ≡ 0
+none_counted [] s h = refl
+none_counted (v ∷ vs) s h =
+    let parts = or_parts (nat_eq s v.serial) (list_any (nat_eq s) (map (λ (u : Version). u.serial) vs)) h in
+    let here : nat_eq v.serial s ≡ false = turned s v.serial parts.0 in
+    let rest : count_of (λ u. nat_eq u.serial s) vs ≡ 0 = none_counted vs s parts.1 in
+    added (one (nat_eq v.serial s)) (count_of (λ u. nat_eq u.serial s) vs) (ap one here) rest
+  where
+    turned : (j k : ℕ) → nat_eq j k ≡ false → nat_eq k j ≡ false
+    turned j k h = grind (arith, nat_tests, common_steps)
+
+    added : (a b : ℕ) → a ≡ 0 → b ≡ 0 → a + b ≡ 0
+    added a b e f = omega arith
+
+-- where each serial number stands once, one version has it at most
+pub one_version : (vs : List Version) (s : ℕ) → stand_once vs ≡ true → count_of (λ v. nat_eq v.serial s) vs ≤ 1
+one_version [] s h = omega arith
+one_version (v ∷ vs) s h =
+    step (one_version vs s parts.1) (nat_eq v.serial s) refl
+  where
+    parts : (not (list_any (nat_eq v.serial) (map (λ (u : Version). u.serial) vs)) ≡ true) × (stand_once vs ≡ true)
+    parts = and_parts (not (list_any (nat_eq v.serial) (map (λ (u : Version). u.serial) vs))) (stand_once vs) h
+
+    last : (n : ℕ) → n ≡ 0 → 1 + n ≤ 1
+    last n h = omega arith
+
+    rest_of : (n : ℕ) → n ≤ 1 → 0 + n ≤ 1
+    rest_of n h = omega arith
+
+    step : count_of (λ u. nat_eq u.serial s) vs ≤ 1 → (t : Bool) → nat_eq v.serial s ≡ t → one t + count_of (λ u. nat_eq u.serial s) vs ≤ 1
+    step rest true e =
+        let same : v.serial ≡ s = eqb-true v.serial s e in
+        let none : list_any (nat_eq s) (map (λ (u : Version). u.serial) vs) ≡ false = ap (λ (k : ℕ). list_any (nat_eq k) (map (λ (u : Version). u.serial) vs)) (sym same) ∙ not-true (list_any (nat_eq v.serial) (map (λ (u : Version). u.serial) vs)) parts.0 in
+        let rest_none : count_of (λ u. nat_eq u.serial s) vs ≡ 0 = none_counted vs s none in
+        last (count_of (λ u. nat_eq u.serial s) vs) rest_none
+    step rest false e = rest_of (count_of (λ u. nat_eq u.serial s) vs) rest
+
+-- the code of a serial number that one of a warning's versions has
+
+code_in_list : (vs : List Version) (o : Option ℕ) (s : ℕ) → list_all (shares_code o) vs ≡ true → list_any (λ v. nat_eq v.serial s) vs ≡ true → is_same_code (option_map code_of o) (Some (code_of s)) ≡ true
+code_in_list [] o s h g = cc
+code_in_list (v ∷ vs) o s h g = step (code_in_list vs o s) (and_parts (shares_code o v) (list_all (shares_code o) vs) h) (nat_eq v.serial s) refl g
+  where
+    here : (p : Option ℕ) → shares_code p v ≡ true → v.serial ≡ s → is_same_code (option_map code_of p) (Some (code_of s)) ≡ true
+    here None e same = cc
+    here (Some k) e same =
+        let parts = and_parts (nat_eq (scope_part v.serial) (scope_part k)) (nat_eq (code_of v.serial) (code_of k)) e in
+        eq-eqb (code_of k) (code_of s) (sym (eqb-true (code_of v.serial) (code_of k) parts.1) ∙ ap code_of same)
+
+    step : (list_all (shares_code o) vs ≡ true → list_any (λ u. nat_eq u.serial s) vs ≡ true → is_same_code (option_map code_of o) (Some (code_of s)) ≡ true) → (shares_code o v ≡ true) × (list_all (shares_code o) vs ≡ true) → (t : Bool) → nat_eq v.serial s ≡ t → (t || list_any (λ u. nat_eq u.serial s) vs) ≡ true → is_same_code (option_map code_of o) (Some (code_of s)) ≡ true
+    step rest parts true e f = here o parts.0 (eqb-true v.serial s e)
+    step rest parts false e f = rest parts.1 f
+
+-- a warning with the message identifier and a version of the serial number has their key
+pub key_among : (m s : ℕ) (w : Warning) → has_one_code w ≡ true → nat_eq w.message_id m ≡ true → list_any (λ v. nat_eq v.serial s) w.versions ≡ true → is_same_key (key_of w) (m, Some (code_of s)) ≡ true
+key_among m s w codes same there =
+    and_from (nat_eq w.message_id m) (is_same_code (code_in w) (Some (code_of s))) same (code_in_list w.versions (current_of w) s codes there)
+
+-- two that are the same as a third are the same
+codes_meet : (o p : Option ℕ) (c : ℕ) → is_same_code o (Some c) ≡ true → is_same_code p (Some c) ≡ true → is_same_code o p ≡ true
+codes_meet None p c h g = cc
+codes_meet (Some a) None c h g = cc
+codes_meet (Some a) (Some b) c h g = eq-eqb a b (eqb-true a c h ∙ sym (eqb-true b c g))
+
+pub keys_meet : (j k : ℕ × Option ℕ) (m c : ℕ) → is_same_key j (m, Some c) ≡ true → is_same_key k (m, Some c) ≡ true → is_same_key j k ≡ true
+keys_meet j k m c h g =
+    let first = and_parts (nat_eq j.0 m) (is_same_code j.1 (Some c)) h in
+    let second = and_parts (nat_eq k.0 m) (is_same_code k.1 (Some c)) g in
+    and_from (nat_eq j.0 k.0) (is_same_code j.1 k.1) (eq-eqb j.0 k.0 (eqb-true j.0 m first.0 ∙ sym (eqb-true k.0 m second.0))) (codes_meet j.1 k.1 c first.1 second.1)

@@ -7,7 +7,7 @@ ghost use Rattle.std.specs.Prelude.{◌≡◌, ◌↔◌, ◌<◌, IsSome, IfSom
 pub enum Category {
     /// 0: broadcast as soon as possible.
     HighPriority,
-    /// 1: broadcast where no other content is due.
+    /// 1: broadcast when no content of another category is.
     Background,
     /// 2: broadcast within its repetition period.
     Normal,

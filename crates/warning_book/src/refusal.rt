@@ -16,7 +16,7 @@ pub enum Limit {
     Ids,
 }
 
-/// Why an edit is refused. Each edit says in which order it looks at the causes; want of memory is the last.
+/// Why an edit is refused. Each edit says in which order it looks at the causes; `Memory` is the last.
 #[derive(Clone, Copy, Debug, PartialEq, Eq, Error)]
 pub enum Refusal {
     #[error("no such warning")]

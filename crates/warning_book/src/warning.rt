@@ -18,7 +18,7 @@ pub struct Warning {
 }
 
 impl Warning {
-    ghost use Rattle.std.specs.Prelude.{◌≡◌, Some, true, IfSome, IfNone};
+    ghost use Rattle.std.specs.Prelude.{◌≡◌, Some, true, false, IfSome, IfNone};
     ghost use Rattle.std.specs.Option.{option_map};
     ghost use Rattle.serials.specs.Serials.{next_of};
     ghost use Rattle.warning_book.specs.Book.{current_of, is_exhausted};
@@ -57,6 +57,7 @@ impl Warning {
     /// The serial number of the next version; `None` where no update number is left.
     pub(crate) fn next_serial(&self) -> Option<Serial>
         ensures next { IfSome result (λ s. option_map next_of (current_of self.now) ≡ Some s) }
+        ensures left { IfSome result (λ s. is_exhausted self.now ≡ false) }
         ensures none { IfNone result (is_exhausted self.now ≡ true) }
     {
         match self.serial() {
@@ -69,10 +70,7 @@ impl Warning {
     pub(crate) fn is_exhausted(&self) -> bool
         ensures { result ≡ is_exhausted self.now }
     {
-        match self.serial() {
-            Some(serial) => serial.update() == 15,
-            None => true,
-        }
+        self.next_serial().is_none()
     }
 
     /// The areas, in the order in which they were named.

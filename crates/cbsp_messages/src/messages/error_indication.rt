@@ -24,7 +24,7 @@ pub struct ErrorIndication {
 
 impl ErrorIndication {
     /// The message of a body's elements, each demanded one of which is there.
-    pub(crate) fn of_elements(elements: Elements<'_>) -> ErrorIndication
+    pub(crate) fn of(elements: Elements<'_>) -> ErrorIndication
         requires { HasDemanded MessageType.ErrorIndication (parts_taken elements) }
         ensures says { Says (values_at (parts_taken elements.entry)) (Message.ErrorIndication result) }
     {

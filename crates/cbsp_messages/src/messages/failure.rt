@@ -22,7 +22,7 @@ pub struct Failure {
 
 impl Failure {
     /// The message of a body's elements, each demanded one of which is there.
-    pub(crate) fn of_elements(alloc: Global, elements: Elements<'_>) -> Result<Failure, AllocError>
+    pub(crate) fn of(alloc: Global, elements: Elements<'_>) -> Result<Failure, AllocError>
         requires { HasDemanded MessageType.Failure (parts_taken elements) }
         ensures says { IfOk result (λ m. Says (values_at (parts_taken elements.entry)) (Message.Failure m)) }
     {

@@ -24,7 +24,7 @@ pub struct Kill {
 
 impl Kill {
     /// The message of a body's elements, each demanded one of which is there.
-    pub(crate) fn of_elements(alloc: Global, elements: Elements<'_>) -> Result<Kill, AllocError>
+    pub(crate) fn of(alloc: Global, elements: Elements<'_>) -> Result<Kill, AllocError>
         requires { HasDemanded MessageType.Kill (parts_taken elements) }
         ensures says { IfOk result (λ m. Says (values_at (parts_taken elements.entry)) (Message.Kill m)) }
     {

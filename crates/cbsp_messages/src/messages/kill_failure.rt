@@ -27,10 +27,7 @@ pub struct KillFailure {
 
 impl KillFailure {
     /// The message of a body's elements, each demanded one of which is there.
-    pub(crate) fn of_elements(
-        alloc: Global,
-        elements: Elements<'_>,
-    ) -> Result<KillFailure, AllocError>
+    pub(crate) fn of(alloc: Global, elements: Elements<'_>) -> Result<KillFailure, AllocError>
         requires { HasDemanded MessageType.KillFailure (parts_taken elements) }
         ensures says { IfOk result (λ m. Says (values_at (parts_taken elements.entry)) (Message.KillFailure m)) }
     {

@@ -23,7 +23,7 @@ pub struct Restart {
 
 impl Restart {
     /// The message of a body's elements, each demanded one of which is there.
-    pub(crate) fn of_elements(alloc: Global, elements: Elements<'_>) -> Result<Restart, AllocError>
+    pub(crate) fn of(alloc: Global, elements: Elements<'_>) -> Result<Restart, AllocError>
         requires { HasDemanded MessageType.Restart (parts_taken elements) }
         ensures says { IfOk result (λ m. Says (values_at (parts_taken elements.entry)) (Message.Restart m)) }
     {

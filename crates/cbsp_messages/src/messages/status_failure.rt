@@ -26,10 +26,7 @@ pub struct StatusFailure {
 
 impl StatusFailure {
     /// The message of a body's elements, each demanded one of which is there.
-    pub(crate) fn of_elements(
-        alloc: Global,
-        elements: Elements<'_>,
-    ) -> Result<StatusFailure, AllocError>
+    pub(crate) fn of(alloc: Global, elements: Elements<'_>) -> Result<StatusFailure, AllocError>
         requires { HasDemanded MessageType.StatusFailure (parts_taken elements) }
         ensures says { IfOk result (λ m. Says (values_at (parts_taken elements.entry)) (Message.StatusFailure m)) }
     {

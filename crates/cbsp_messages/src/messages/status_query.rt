@@ -24,10 +24,7 @@ pub struct StatusQuery {
 
 impl StatusQuery {
     /// The message of a body's elements, each demanded one of which is there.
-    pub(crate) fn of_elements(
-        alloc: Global,
-        elements: Elements<'_>,
-    ) -> Result<StatusQuery, AllocError>
+    pub(crate) fn of(alloc: Global, elements: Elements<'_>) -> Result<StatusQuery, AllocError>
         requires { HasDemanded MessageType.StatusQuery (parts_taken elements) }
         ensures says { IfOk result (λ m. Says (values_at (parts_taken elements.entry)) (Message.StatusQuery m)) }
     {

@@ -27,10 +27,7 @@ pub struct WriteComplete {
 
 impl WriteComplete {
     /// The message of a body's elements, each demanded one of which is there.
-    pub(crate) fn of_elements(
-        alloc: Global,
-        elements: Elements<'_>,
-    ) -> Result<WriteComplete, AllocError>
+    pub(crate) fn of(alloc: Global, elements: Elements<'_>) -> Result<WriteComplete, AllocError>
         requires { HasDemanded MessageType.WriteComplete (parts_taken elements) }
         ensures says { IfOk result (λ m. Says (values_at (parts_taken elements.entry)) (Message.WriteComplete m)) }
     {

@@ -28,10 +28,7 @@ pub struct WriteFailure {
 
 impl WriteFailure {
     /// The message of a body's elements, each demanded one of which is there.
-    pub(crate) fn of_elements(
-        alloc: Global,
-        elements: Elements<'_>,
-    ) -> Result<WriteFailure, AllocError>
+    pub(crate) fn of(alloc: Global, elements: Elements<'_>) -> Result<WriteFailure, AllocError>
         requires { HasDemanded MessageType.WriteFailure (parts_taken elements) }
         ensures says { IfOk result (λ m. Says (values_at (parts_taken elements.entry)) (Message.WriteFailure m)) }
     {

@@ -33,10 +33,7 @@ pub struct WriteReplace {
 
 impl WriteReplace {
     /// The message of a body's elements, each demanded one of which is there.
-    pub(crate) fn of_elements(
-        alloc: Global,
-        elements: Elements<'_>,
-    ) -> Result<WriteReplace, MessageFault>
+    pub(crate) fn of(alloc: Global, elements: Elements<'_>) -> Result<WriteReplace, MessageFault>
         requires { HasDemanded MessageType.WriteReplace (parts_taken elements) }
         ensures says { IfOk result (λ m. Says (values_at (parts_taken elements.entry)) (Message.WriteReplace m)) }
         ensures fault { IfErr result (λ f. (f ≡ MessageFault.Memory) ⊎ IsPagesFault MessageType.WriteReplace (values_at (parts_taken elements.entry)) f) }

@@ -13,7 +13,7 @@ ghost use Rattle.centre_core.specs.Past.{past_of};
 ghost use Rattle.centre_core.specs.Reported.{is_present, is_reported_in, is_reported, names_serial, flight_names, is_in_flight};
 ghost use Rattle.centre_core.specs.Verdict.{idle_checks, forget};
 ghost use Rattle.centre_core.specs.Warnings.{book_of};
-ghost use Rattle.centre_core.specs.declared.order_maker.in_flight.InFlight.TheVariants as flight;
+ghost use Rattle.centre_core.specs.declared.order_maker.in_flight.InFlight.TheVariants as in_flight_is;
 
 use crate::answer::Answer;
 use crate::entry::Entry;
@@ -71,7 +71,7 @@ fn is_reported(alloc: Global, journal: &[Entry], w: &Warning) -> Result<bool, Al
 
 /// Whether the order writes, replaces or kills the version of that serial number.
 fn names_serial(order: &Order, serial: Serial) -> bool
-    ensures { result ≡ names_serial (flight.Order order.now) serial }
+    ensures { result ≡ names_serial (in_flight_is.Order order.now) serial }
 {
     match order.kind {
         OrderKind::Replace { old } => order.serial == serial || old == serial,
@@ -81,7 +81,7 @@ fn names_serial(order: &Order, serial: Serial) -> bool
 
 /// Whether the order names one of the versions.
 fn names_one(order: &Order, versions: &[Version]) -> bool
-    ensures { result ≡ list_any (λ v. names_serial (flight.Order order.now) v.serial) versions.now }
+    ensures { result ≡ list_any (λ v. names_serial (in_flight_is.Order order.now) v.serial) versions.now }
 {
     versions
         .iter()
@@ -90,7 +90,7 @@ fn names_one(order: &Order, versions: &[Version]) -> bool
 
 /// Whether the order in flight, if there is one, names a version of the warning.
 fn flight_names(order: Option<&Order>, w: &Warning) -> bool
-    ensures { result ≡ flight_names w.now (option_map flight.Order (option_copied order.entry)) }
+    ensures { result ≡ flight_names w.now (option_map in_flight_is.Order (option_copied order.entry)) }
 {
     match order {
         Some(order) => order.message_id == w.message_id() && names_one(order, w.versions()),

@@ -6,7 +6,7 @@ ghost use Rattle.centre_core.specs.InFlight.{agrees, written_by, cleared_by, new
 ghost use Rattle.centre_core.specs.Kept.{IsRegisterOf, Gives};
 ghost use Rattle.centre_core.specs.Past.{past_of};
 ghost use Rattle.centre_core.specs.Verdict.{report, report_answer};
-ghost use Rattle.centre_core.specs.declared.order_maker.in_flight.InFlight.TheVariants as flight;
+ghost use Rattle.centre_core.specs.declared.order_maker.in_flight.InFlight.TheVariants as in_flight_is;
 
 use crate::answer::Answer;
 use crate::entry::Entry;
@@ -35,7 +35,7 @@ fn agrees(given: Option<u16>, counterpart: Option<u16>) -> bool
 
 /// The serial number that an order writes.
 fn new_of(order: &Order) -> Option<u16>
-    ensures { result ≡ new_of (flight.Order order.now) }
+    ensures { result ≡ new_of (in_flight_is.Order order.now) }
 {
     match order.kind {
         OrderKind::Write | OrderKind::Replace { old: _ } => Some(order.serial.to_u16()),
@@ -45,7 +45,7 @@ fn new_of(order: &Order) -> Option<u16>
 
 /// The serial number that an order takes off the air.
 fn old_of(order: &Order) -> Option<u16>
-    ensures { result ≡ old_of (flight.Order order.now) }
+    ensures { result ≡ old_of (in_flight_is.Order order.now) }
 {
     match order.kind {
         OrderKind::Write => None,
@@ -56,7 +56,7 @@ fn old_of(order: &Order) -> Option<u16>
 
 /// Whether the message answers the order: it is of the order's kind, and no identifier that it gives differs.
 fn matches(message: &Message, order: &Order) -> bool
-    ensures { result ≡ matches message.now (flight.Order order.now) }
+    ensures { result ≡ matches message.now (in_flight_is.Order order.now) }
 {
     match message {
         Message::WriteComplete(said) => {

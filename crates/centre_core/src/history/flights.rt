@@ -4,7 +4,7 @@ ghost use Rattle.std.specs.Prelude.{◌≡◌, unwrap_or};
 ghost use Rattle.std.specs.Option.{option_copied, option_map};
 ghost use Rattle.centre_core.specs.InFlight.{sent_flight, is_replied, flight_mark, in_flight};
 ghost use Rattle.centre_core.specs.Past.{past_of};
-ghost use Rattle.centre_core.specs.declared.order_maker.in_flight.InFlight.TheVariants as flight;
+ghost use Rattle.centre_core.specs.declared.order_maker.in_flight.InFlight.TheVariants as in_flight_is;
 
 use crate::answer::Answer;
 use crate::entry::Entry;
@@ -21,7 +21,7 @@ fn is_replied(answer: &Answer) -> bool
 }
 
 fn sent_order(answer: &Answer) -> Option<&Order>
-    ensures { option_map flight.Order (option_copied result) ≡ sent_flight answer.now }
+    ensures { option_map in_flight_is.Order (option_copied result) ≡ sent_flight answer.now }
 {
     match answer {
         Answer::Sent { order, message: _ } => Some(order),
@@ -36,7 +36,7 @@ pub(crate) fn flight_after<'a>(
     up: bool,
     flight: Option<&'a Order>,
 ) -> Option<&'a Order>
-    ensures { option_map flight.Order (option_copied result) ≡ unwrap_or (flight_mark b entry.now.event entry.now.answer up) (option_map flight.Order (option_copied flight.entry)) }
+    ensures { option_map in_flight_is.Order (option_copied result) ≡ unwrap_or (flight_mark b entry.now.event entry.now.answer up) (option_map in_flight_is.Order (option_copied flight.entry)) }
 {
     match &entry.event {
         Event::Send(other, _) if *other == b => sent_order(&entry.answer),
@@ -50,7 +50,7 @@ pub(crate) fn flight_after<'a>(
 /// The order in flight to the BSC. So far nothing else can be.
 #[tactic(auto, using(crate::proofs::PastLemmas::past_more))]
 pub(crate) fn in_flight(journal: &[Entry], b: BscId) -> Option<&Order>
-    ensures { option_map flight.Order (option_copied result) ≡ in_flight (past_of journal.now) b }
+    ensures { option_map in_flight_is.Order (option_copied result) ≡ in_flight (past_of journal.now) b }
 {
     let mut up = false;
     let mut flight = None;

@@ -6,7 +6,7 @@ ghost use Rattle.warning_book.specs.declared.warning.Warning.{Warning};
 ghost use Rattle.centre_core.specs.Effects.{is_among, new_effect, old_effect, write_refused, replace_refused, kill_refused, old_refused, key_effect, flight_effect, outcome_in, said_effect, reply_effect, presence_mark};
 ghost use Rattle.centre_core.specs.Past.{past_of};
 ghost use Rattle.centre_core.specs.Presence.{edit_effect, effect, presence};
-ghost use Rattle.centre_core.specs.declared.order_maker.in_flight.InFlight.TheVariants as flight;
+ghost use Rattle.centre_core.specs.declared.order_maker.in_flight.InFlight.TheVariants as in_flight_is;
 
 use crate::answer::Answer;
 use crate::coverage_plan::Edit;
@@ -41,15 +41,24 @@ fn refused_presence(kind: OrderKind, cause: Cause) -> Option<Presence>
     }
 }
 
+/// The presence at the key of its serial number after an order of the kind was carried out.
+fn done_presence(kind: OrderKind) -> Presence
+    ensures { Some result ≡ presence_mark (new_effect kind Outcome.Done) }
+{
+    match kind {
+        OrderKind::Write | OrderKind::Replace { old: _ } => Presence::OnAir,
+        OrderKind::Kill => Presence::Absent,
+    }
+}
+
 /// The presence at the key of its serial number after an order of the kind with that outcome.
 fn new_presence(kind: OrderKind, outcome: Outcome) -> Option<Presence>
     ensures { result ≡ presence_mark (new_effect kind outcome) }
 {
-    match (kind, outcome) {
-        (OrderKind::Write | OrderKind::Replace { old: _ }, Outcome::Done) => Some(Presence::OnAir),
-        (OrderKind::Kill, Outcome::Done) => Some(Presence::Absent),
-        (_, Outcome::Silent) => Some(Presence::Unknown),
-        (_, Outcome::Refused(cause)) => refused_presence(kind, cause),
+    match outcome {
+        Outcome::Done => Some(done_presence(kind)),
+        Outcome::Refused(cause) => refused_presence(kind, cause),
+        Outcome::Silent => Some(Presence::Unknown),
     }
 }
 
@@ -85,7 +94,7 @@ fn flight_presence(
     message_id: u16,
     serial: Serial,
 ) -> Option<Presence>
-    ensures { result ≡ presence_mark (flight_effect (option_map flight.Order (option_copied flight.entry)) outcome c message_id serial) }
+    ensures { result ≡ presence_mark (flight_effect (option_map in_flight_is.Order (option_copied flight.entry)) outcome c message_id serial) }
 {
     match flight {
         Some(order) if order.message_id == message_id && is_among(c, order.cells.as_slice()) => {
@@ -113,7 +122,7 @@ fn reply_presence(
     message_id: u16,
     serial: Serial,
 ) -> Option<Presence>
-    ensures { result ≡ presence_mark (reply_effect answer.now (option_map flight.Order (option_copied flight.entry)) c message_id serial) }
+    ensures { result ≡ presence_mark (reply_effect answer.now (option_map in_flight_is.Order (option_copied flight.entry)) c message_id serial) }
 {
     let Answer::Replied(replies) = answer else {
         return None;
@@ -145,7 +154,7 @@ fn presence_mark(
     up: bool,
     flight: Option<&Order>,
 ) -> Option<Presence>
-    ensures { (warnings : List Warning) → result ≡ presence_mark (effect b c message_id serial entry.now.event entry.now.answer up (option_map flight.Order (option_copied flight.entry)) warnings) }
+    ensures { (warnings : List Warning) → result ≡ presence_mark (effect b c message_id serial entry.now.event entry.now.answer up (option_map in_flight_is.Order (option_copied flight.entry)) warnings) }
 {
     match &entry.event {
         Event::Report(other, _, _) if *other == b => {

@@ -126,16 +126,10 @@ fn replaced(journal: &[Entry], b: BscId, w: &Warning, c: Cell, serial: Serial) -
 }
 
 /// The version that the write replaces, where there is a write.
-fn replaced_for(
-    journal: &[Entry],
-    b: BscId,
-    w: &Warning,
-    c: Cell,
-    wanted: Option<Serial>,
-) -> Option<Serial>
-    ensures { result ≡ replaced_for (seen (past_of journal.now) b w.now c) wanted }
+fn replaced_there(journal: &[Entry], b: BscId, w: &Warning, c: Cell) -> Option<Serial>
+    ensures { result ≡ replaced_for (seen (past_of journal.now) b w.now c) (wanted (past_of journal.now) b w.now c) }
 {
-    match wanted {
+    match wanted(journal, b, w, c) {
         Some(serial) if needs(journal, b, w, c, serial) => replaced(journal, b, w, c, serial),
         _ => None,
     }
@@ -154,10 +148,9 @@ fn fresh_kind(old: Option<Serial>) -> OrderKind
 fn is_to_kill(journal: &[Entry], b: BscId, w: &Warning, c: Cell, serial: Serial) -> bool
     ensures { result ≡ is_to_kill (seen (past_of journal.now) b w.now c) serial }
 {
-    let wanted = wanted(journal, b, w, c);
-    !is_the(wanted, serial)
+    !is_the(wanted(journal, b, w, c), serial)
         && presence(journal, b, c, w.message_id(), serial) != Presence::Absent
-        && !is_the(replaced_for(journal, b, w, c, wanted), serial)
+        && !is_the(replaced_there(journal, b, w, c), serial)
 }
 
 /// Adds the write of the wanted version, where there is one.

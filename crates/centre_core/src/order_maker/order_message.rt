@@ -65,7 +65,7 @@ pub fn message_of(
     order: &Order,
     content: Option<&Content>,
 ) -> Result<Message, AllocError>
-    requires { IsCarriable order.now.kind (option_copied content.entry) }
+    requires { IsCarriable order.now.kind (option_copied content) }
     ensures { IfOk result (λ m. m ≡ order_message order.now (option_copied content.entry)) }
 {
     match (order.kind, content) {
