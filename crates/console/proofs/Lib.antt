@@ -1,8 +1,8 @@
 pub mod PartLemmas
-pub mod CategoryLemmas
 pub mod HexTextLemmas
 pub mod FrameLemmas
 pub mod GenerationLemmas
+pub mod ListLemmas
 pub mod TextLemmas
 pub mod StopLemmas
 pub mod ReplayLemmas

@@ -189,6 +189,10 @@ IsStarved old r new = Says old (response.Refused refusal.Memory) r new
 abbrev pub StarvesAt : SessionState → Event → Response → SessionState → Type 0
 StarvesAt old e r new = MayStarveAt old e × IsStarved old r new
 
+-- the event is submitted, or memory was wanting where it may be
+abbrev pub SubmitsOrStarves : SessionState → Event → Response → SessionState → Type 0
+SubmitsOrStarves old e r new = Submits old e r new ⊎ StarvesAt old e r new
+
 -- memory was wanting for a line
 abbrev pub Starves : SessionState → Line → Response → SessionState → Type 0
 Starves old l r new = LineMayStarve old l × IsStarved old r new

@@ -100,7 +100,6 @@ fn read_scope(word: &[u8]) -> Option<Scope>
 }
 
 /// CAT, 0 high priority, 1 background, 2 normal.
-#[tactic(auto, using(crate::proofs::CategoryLemmas::category_found))]
 fn read_category(word: &[u8]) -> Option<Category>
     ensures { result ≡ category_of word.now }
 {

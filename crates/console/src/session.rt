@@ -49,7 +49,7 @@ impl Session {
     ghost use Rattle.centre_core.specs.declared.event.Event.TheVariants as event;
     ghost use Rattle.console.specs.Texts.{ResponseFits};
     ghost use Rattle.console.specs.Replays.{new_session};
-    ghost use Rattle.console.specs.Sessions.{AnswersOrStarves, IsStarved, MayStarveAt, ReportsBody, ReportsFrame, RespondsOrStarves, Submits};
+    ghost use Rattle.console.specs.Sessions.{AnswersOrStarves, IsStarved, ReportsBody, ReportsFrame, RespondsOrStarves, SubmitsOrStarves};
     ghost use Rattle.console.specs.declared.line.Line.TheVariants as request;
 
     pub fn new(alloc: Global, plmn: [u8; 3], journal_limit: u32) -> Session
@@ -64,7 +64,7 @@ impl Session {
     }
 
     fn submit(&mut self, event: Event) -> Response
-        ensures answer { Submits self.old event result self.new ⊎ (MayStarveAt self.old event × IsStarved self.old result self.new) }
+        ensures answer { SubmitsOrStarves self.old event result self.new }
         ensures fits { ResponseFits result }
     {
         match self.centre.accept(DESK, event) {
@@ -77,7 +77,7 @@ impl Session {
     }
 
     fn edit(&mut self, edit: Edit) -> Response
-        ensures answer { Submits self.old (event.Edit edit) result self.new ⊎ (MayStarveAt self.old (event.Edit edit) × IsStarved self.old result self.new) }
+        ensures answer { SubmitsOrStarves self.old (event.Edit edit) result self.new }
         ensures fits { ResponseFits result }
     {
         self.submit(Event::Edit(edit))
@@ -125,6 +125,7 @@ impl Session {
         self.submit(Event::LinkDown(bsc, generation))
     }
 
+    #[tactic(auto, using(crate::proofs::ListLemmas::pending_told))]
     fn pending(&self, bsc: BscId) -> Response
         ensures answer { RespondsOrStarves self.now (request.Pending bsc) result self.now }
         ensures fits { ResponseFits result }
@@ -135,6 +136,7 @@ impl Session {
         }
     }
 
+    #[tactic(auto, using(crate::proofs::ListLemmas::table_told))]
     fn table(&mut self, bsc: BscId) -> Response
         ensures answer { RespondsOrStarves self.old (request.Table bsc) result self.new }
         ensures fits { ResponseFits result }
