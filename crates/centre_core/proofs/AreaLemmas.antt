@@ -176,7 +176,7 @@ pub add_area_taken : (past : Past) (l : List Area) (a : List ℕ) → is_ascendi
 add_area_taken past l a ascending tied h = ap (λ cs. unless cs (Ok answer.Done)) (sym (add_area_same past l a ascending tied)) ∙ taken of_areas (checked.add_area_checks l a) (Ok answer.Done) h
 
 pub add_area_refused : (past : Past) (l : List Area) (a : List ℕ) (e : areas_refusal.Refusal) → is_ascending named_lt l ≡ true → AreAreasOf past l → (first_refusal (checked.add_area_checks l a) ≡ Some e) ⊎ ((e ≡ areas_refusal_is.Memory) × (first_refusal (checked.add_area_checks l a) ≡ None)) → Gives (add_area past a) (Err (of_areas e))
-add_area_refused past l a e ascending tied h = subst (λ cs. Gives (unless cs (Ok answer.Done)) (Err (of_areas e))) (add_area_same past l a ascending tied) (given of_areas areas_refusal_is.Memory refl (checked.add_area_checks l a) (Ok answer.Done) e (λ n. tt) h)
+add_area_refused past l a e ascending tied h = subst (λ cs. Gives (unless cs (Ok answer.Done)) (Err (of_areas e))) (add_area_same past l a ascending tied) (given of_areas areas_refusal_is.Memory refl (checked.add_area_checks l a) (Ok answer.Done) e (λ n. refl) h)
 
 put_same : (past : Past) (l : List Area) (a : List ℕ) (s : Selector) → ((x : List ℕ) → each_once selector_eq (selectors_of l x) ≡ true) → AreAreasOf past l → translated of_areas (checked.put_checks l a s) ≡ put_checks past a s
 put_same past l a s once tied = rw (tied.names a, tied.selectors a s, selectors_counted past l a once tied) refl
@@ -185,7 +185,7 @@ pub put_taken : (past : Past) (l : List Area) (a : List ℕ) (s : Selector) → 
 put_taken past l a s once tied h = ap (λ cs. unless cs (Ok answer.Done)) (sym (put_same past l a s once tied)) ∙ taken of_areas (checked.put_checks l a s) (Ok answer.Done) h
 
 pub put_refused : (past : Past) (l : List Area) (a : List ℕ) (s : Selector) (e : areas_refusal.Refusal) → ((x : List ℕ) → each_once selector_eq (selectors_of l x) ≡ true) → AreAreasOf past l → (first_refusal (checked.put_checks l a s) ≡ Some e) ⊎ ((e ≡ areas_refusal_is.Memory) × (first_refusal (checked.put_checks l a s) ≡ None)) → Gives (put past a s) (Err (of_areas e))
-put_refused past l a s e once tied h = subst (λ cs. Gives (unless cs (Ok answer.Done)) (Err (of_areas e))) (put_same past l a s once tied) (given of_areas areas_refusal_is.Memory refl (checked.put_checks l a s) (Ok answer.Done) e (λ n. tt) h)
+put_refused past l a s e once tied h = subst (λ cs. Gives (unless cs (Ok answer.Done)) (Err (of_areas e))) (put_same past l a s once tied) (given of_areas areas_refusal_is.Memory refl (checked.put_checks l a s) (Ok answer.Done) e (λ n. refl) h)
 
 cut_same : (past : Past) (l : List Area) (a : List ℕ) (s : Selector) → AreAreasOf past l → translated of_areas (checked.cut_checks l a s) ≡ cut_checks past a s
 cut_same past l a s tied = rw (tied.names a, tied.selectors a s) refl
@@ -201,19 +201,19 @@ pub names_there : (past : Past) (l : List Area) (names : List (List ℕ)) → Ar
 names_there past l names tied = any_same (λ a. not (has_area l a)) (λ a. not (is_area past a)) (λ a. ap not (tied.names a)) names
 
 pub add_area_free : (past : Past) (l : List Area) (a : List ℕ) → is_ascending named_lt l ≡ true → AreAreasOf past l → first_refusal (checked.add_area_checks l a) ≡ None → IsOk (add_area past a)
-add_area_free past l a ascending tied h = subst IsOk (sym (add_area_taken past l a ascending tied h)) tt
+add_area_free past l a ascending tied h = subst IsOk (sym (add_area_taken past l a ascending tied h)) refl
 
 pub add_area_first : (past : Past) (l : List Area) (a : List ℕ) (e : areas_refusal.Refusal) → is_ascending named_lt l ≡ true → AreAreasOf past l → first_refusal (checked.add_area_checks l a) ≡ Some e → add_area past a ≡ Err (of_areas e)
 add_area_first past l a e ascending tied h = ap (λ cs. unless cs (Ok answer.Done)) (sym (add_area_same past l a ascending tied)) ∙ refused of_areas (checked.add_area_checks l a) (Ok answer.Done) e h
 
 pub put_free : (past : Past) (l : List Area) (a : List ℕ) (s : Selector) → ((x : List ℕ) → each_once selector_eq (selectors_of l x) ≡ true) → AreAreasOf past l → first_refusal (checked.put_checks l a s) ≡ None → IsOk (put past a s)
-put_free past l a s once tied h = subst IsOk (sym (put_taken past l a s once tied h)) tt
+put_free past l a s once tied h = subst IsOk (sym (put_taken past l a s once tied h)) refl
 
 pub put_first : (past : Past) (l : List Area) (a : List ℕ) (s : Selector) (e : areas_refusal.Refusal) → ((x : List ℕ) → each_once selector_eq (selectors_of l x) ≡ true) → AreAreasOf past l → first_refusal (checked.put_checks l a s) ≡ Some e → put past a s ≡ Err (of_areas e)
 put_first past l a s e once tied h = ap (λ cs. unless cs (Ok answer.Done)) (sym (put_same past l a s once tied)) ∙ refused of_areas (checked.put_checks l a s) (Ok answer.Done) e h
 
 pub cut_free : (past : Past) (l : List Area) (a : List ℕ) (s : Selector) → AreAreasOf past l → first_refusal (checked.cut_checks l a s) ≡ None → IsOk (cut past a s)
-cut_free past l a s tied h = subst IsOk (sym (cut_taken past l a s tied h)) tt
+cut_free past l a s tied h = subst IsOk (sym (cut_taken past l a s tied h)) refl
 
 pub cut_first : (past : Past) (l : List Area) (a : List ℕ) (s : Selector) (e : areas_refusal.Refusal) → AreAreasOf past l → first_refusal (checked.cut_checks l a s) ≡ Some e → cut past a s ≡ Err (of_areas e)
 cut_first past l a s e tied h = ap (λ cs. unless cs (Ok answer.Done)) (sym (cut_same past l a s tied)) ∙ refused of_areas (checked.cut_checks l a s) (Ok answer.Done) e h

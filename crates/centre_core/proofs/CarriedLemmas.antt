@@ -165,9 +165,9 @@ pending_carry past b =
 -- the order can be carried
 carriable : (kind : OrderKind) (content : Option Content) → (is_kill kind || is_some content) ≡ true → IsCarriable kind content
 carriable Kill content h = tt
-carriable Write (Some content) h = tt
+carriable Write (Some content) h = refl
 carriable Write None h = cc
-carriable (Replace old) (Some content) h = tt
+carriable (Replace old) (Some content) h = refl
 carriable (Replace old) None h = cc
 
 -- the first of the orders can be carried

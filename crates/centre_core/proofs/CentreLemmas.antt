@@ -67,6 +67,17 @@ pub err_gives : (finding : Type 0) (v r : Result Answer Refusal) (refusal : Refu
 err_gives finding v (Ok a) refusal h g = absurd h
 err_gives finding v (Err x) refusal h g = subst (λ k. GivesOr finding v (Err k)) (sym h) g
 
+-- the same of an edit that is looked at
+pub err_checked : {A : Type 0} (finding : Type 0) (v : Result Answer Refusal) (r : Result A Refusal) (refusal : Refusal) → IsErrAnd r (λ x. x ≡ refusal) → v ≡ Err refusal → IsCheckedOr finding v r
+err_checked finding v (Ok a) refusal h g = absurd h
+err_checked finding v (Err x) refusal h g = inr (g ∙ ap Err (sym h))
+
+-- the same where memory may be wanting
+pub err_kept : {A : Type 0} (finding : Type 0) (v : Result Answer Refusal) (r : Result A Refusal) (refusal : Refusal) → IsErrAnd r (λ x. x ≡ refusal) → ((refusal ≡ Memory) × finding) ⊎ (v ≡ Err refusal) → IsCheckedOr finding v r
+err_kept finding v (Ok a) refusal h g = absurd h
+err_kept finding v (Err x) refusal h (inl g) = inl (h ∙ g.0, g.1)
+err_kept finding v (Err x) refusal h (inr g) = inr (g ∙ ap Err (sym h))
+
 -- what is given where the journal has room is what is ruled
 pub ruled : (settings : Settings) (journal : List Entry) (e : Event) (r : Result Answer Refusal) → length journal < settings.limit → GivesOr (TakesMemory (past_of journal) e) (answered (past_of journal) e) r → Rules settings (past_of journal) e r
 ruled settings journal e r room given = step r given

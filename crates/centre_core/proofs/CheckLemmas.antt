@@ -55,7 +55,7 @@ given f memory is checks r e o (inr h) = inl (ap f h.0 ∙ is, inr (ok_after f c
 -- an answer that is no refusal is what the checks leave
 pub ok_is : (checks : List (Bool × Refusal)) (r : Result Answer Refusal) → IsOk (unless checks r) → unless checks r ≡ r
 ok_is [] r h = refl
-ok_is ((true, e) ∷ checks) r h = absurd h
+ok_is ((true, e) ∷ checks) r h = cc
 ok_is ((false, e) ∷ checks) r h = ok_is checks r h
 
 -- none of them held where the answer stands

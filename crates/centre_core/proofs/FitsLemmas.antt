@@ -67,8 +67,8 @@ message_fits order Write (Some content) few there good =
 message_fits order (Replace old) (Some content) few there good =
     record { cells = listed_fits order.cells few; counts = tt; failures = tt; pages = pages_fit content.pages good }
 message_fits order Kill content few there good = record { cells = listed_fits order.cells few; counts = tt; failures = tt; pages = tt }
-message_fits order Write None few there good = absurd there
-message_fits order (Replace old) None few there good = absurd there
+message_fits order Write None few there good = cc
+message_fits order (Replace old) None few there good = cc
 
 -- a KILL carries a kill, and a WRITE-REPLACE a write
 message_carries : (order : Order) (kind : OrderKind) (content : Option Content) → type_of (message_by order kind content) ≡ (if is_kill kind then type.Kill else type.WriteReplace)

@@ -18,3 +18,8 @@ pub mod RegisterLemmas
 pub mod AreaLemmas
 pub mod FlightLemmas
 pub mod CentreLemmas
+pub mod FoundLemmas
+pub mod ToldLemmas
+pub mod IssuedLemmas
+pub mod OrderingLemmas
+pub mod BeginningLemmas

@@ -194,7 +194,7 @@ pub add_bsc_taken : (past : Past) (r : State) (b : ℕ) → IsRegister r → IsR
 add_bsc_taken past r b sound kept h = ap (λ cs. unless cs (Ok answer.Done)) (sym (add_bsc_same past r b sound kept)) ∙ taken of_register (register.add_bsc_checks r b) (Ok answer.Done) h
 
 pub add_bsc_refused : (past : Past) (r : State) (b : ℕ) (e : register_refusal.Refusal) → IsRegister r → IsRegisterOf past r → (first_refusal (register.add_bsc_checks r b) ≡ Some e) ⊎ ((e ≡ register_refusal_is.Memory) × (first_refusal (register.add_bsc_checks r b) ≡ None)) → Gives (add_bsc past b) (Err (of_register e))
-add_bsc_refused past r b e sound kept h = subst (λ cs. Gives (unless cs (Ok answer.Done)) (Err (of_register e))) (add_bsc_same past r b sound kept) (given of_register register_refusal_is.Memory refl (register.add_bsc_checks r b) (Ok answer.Done) e (λ n. tt) h)
+add_bsc_refused past r b e sound kept h = subst (λ cs. Gives (unless cs (Ok answer.Done)) (Err (of_register e))) (add_bsc_same past r b sound kept) (given of_register register_refusal_is.Memory refl (register.add_bsc_checks r b) (Ok answer.Done) e (λ n. refl) h)
 
 add_cell_same : (past : Past) (r : State) (c : Cell) (b : ℕ) → IsRegister r → IsRegisterOf past r → translated of_register (register.add_cell_checks r c b) ≡ add_cell_checks past c b
 add_cell_same past r c b sound kept = rw (kept.bscs b, kept.places c, cells_counted past r sound kept) refl
@@ -203,7 +203,7 @@ pub add_cell_taken : (past : Past) (r : State) (c : Cell) (b : ℕ) → IsRegist
 add_cell_taken past r c b sound kept h = ap (λ cs. unless cs (Ok answer.Done)) (sym (add_cell_same past r c b sound kept)) ∙ taken of_register (register.add_cell_checks r c b) (Ok answer.Done) h
 
 pub add_cell_refused : (past : Past) (r : State) (c : Cell) (b : ℕ) (e : register_refusal.Refusal) → IsRegister r → IsRegisterOf past r → (first_refusal (register.add_cell_checks r c b) ≡ Some e) ⊎ ((e ≡ register_refusal_is.Memory) × (first_refusal (register.add_cell_checks r c b) ≡ None)) → Gives (add_cell past c b) (Err (of_register e))
-add_cell_refused past r c b e sound kept h = subst (λ cs. Gives (unless cs (Ok answer.Done)) (Err (of_register e))) (add_cell_same past r c b sound kept) (given of_register register_refusal_is.Memory refl (register.add_cell_checks r c b) (Ok answer.Done) e (λ n. tt) h)
+add_cell_refused past r c b e sound kept h = subst (λ cs. Gives (unless cs (Ok answer.Done)) (Err (of_register e))) (add_cell_same past r c b sound kept) (given of_register register_refusal_is.Memory refl (register.add_cell_checks r c b) (Ok answer.Done) e (λ n. refl) h)
 
 same_place : (o : Option ℕ) (b : ℕ) → register.is_place o b ≡ is_place o b
 same_place None b = refl
@@ -228,25 +228,25 @@ pub remove_cell_refused : (past : Past) (r : State) (c : Cell) (e : register_ref
 remove_cell_refused past r c e kept h = ap (λ cs. unless cs (Ok answer.Done)) (sym (remove_cell_same past r c kept)) ∙ refused of_register (register.remove_cell_checks r c) (Ok answer.Done) e h
 
 pub add_bsc_free : (past : Past) (r : State) (b : ℕ) → IsRegister r → IsRegisterOf past r → first_refusal (register.add_bsc_checks r b) ≡ None → IsOk (add_bsc past b)
-add_bsc_free past r b sound kept h = subst IsOk (sym (add_bsc_taken past r b sound kept h)) tt
+add_bsc_free past r b sound kept h = subst IsOk (sym (add_bsc_taken past r b sound kept h)) refl
 
 pub add_bsc_first : (past : Past) (r : State) (b : ℕ) (e : register_refusal.Refusal) → IsRegister r → IsRegisterOf past r → first_refusal (register.add_bsc_checks r b) ≡ Some e → add_bsc past b ≡ Err (of_register e)
 add_bsc_first past r b e sound kept h = ap (λ cs. unless cs (Ok answer.Done)) (sym (add_bsc_same past r b sound kept)) ∙ refused of_register (register.add_bsc_checks r b) (Ok answer.Done) e h
 
 pub add_cell_free : (past : Past) (r : State) (c : Cell) (b : ℕ) → IsRegister r → IsRegisterOf past r → first_refusal (register.add_cell_checks r c b) ≡ None → IsOk (add_cell past c b)
-add_cell_free past r c b sound kept h = subst IsOk (sym (add_cell_taken past r c b sound kept h)) tt
+add_cell_free past r c b sound kept h = subst IsOk (sym (add_cell_taken past r c b sound kept h)) refl
 
 pub add_cell_first : (past : Past) (r : State) (c : Cell) (b : ℕ) (e : register_refusal.Refusal) → IsRegister r → IsRegisterOf past r → first_refusal (register.add_cell_checks r c b) ≡ Some e → add_cell past c b ≡ Err (of_register e)
 add_cell_first past r c b e sound kept h = ap (λ cs. unless cs (Ok answer.Done)) (sym (add_cell_same past r c b sound kept)) ∙ refused of_register (register.add_cell_checks r c b) (Ok answer.Done) e h
 
 pub move_cell_free : (past : Past) (r : State) (c : Cell) (b : ℕ) → IsRegisterOf past r → first_refusal (register.move_cell_checks r c b) ≡ None → IsOk (move_cell past c b)
-move_cell_free past r c b kept h = subst IsOk (sym (move_cell_taken past r c b kept h)) tt
+move_cell_free past r c b kept h = subst IsOk (sym (move_cell_taken past r c b kept h)) refl
 
 pub move_cell_first : (past : Past) (r : State) (c : Cell) (b : ℕ) (e : register_refusal.Refusal) → IsRegisterOf past r → first_refusal (register.move_cell_checks r c b) ≡ Some e → move_cell past c b ≡ Err (of_register e)
 move_cell_first past r c b e kept h = ap (λ cs. unless cs (Ok answer.Done)) (sym (move_cell_same past r c b kept)) ∙ refused of_register (register.move_cell_checks r c b) (Ok answer.Done) e h
 
 pub remove_cell_free : (past : Past) (r : State) (c : Cell) → IsRegisterOf past r → first_refusal (register.remove_cell_checks r c) ≡ None → IsOk (remove_cell past c)
-remove_cell_free past r c kept h = subst IsOk (sym (remove_cell_taken past r c kept h)) tt
+remove_cell_free past r c kept h = subst IsOk (sym (remove_cell_taken past r c kept h)) refl
 
 pub remove_cell_first : (past : Past) (r : State) (c : Cell) (e : register_refusal.Refusal) → IsRegisterOf past r → first_refusal (register.remove_cell_checks r c) ≡ Some e → remove_cell past c ≡ Err (of_register e)
 remove_cell_first past r c e kept h = ap (λ cs. unless cs (Ok answer.Done)) (sym (remove_cell_same past r c kept)) ∙ refused of_register (register.remove_cell_checks r c) (Ok answer.Done) e h

@@ -46,7 +46,15 @@ use Rattle.centre_core.proofs.UniqueLemmas.{verdict_answered}
 -- What the book refuses.
 
 -- no warning has the number where none is found
-n-- what is issued has a serial number, since a code is free
+none_found : (n : ℕ) (ws : List Warning) → find (has_number n) ws ≡ None → list_any (has_number n) ws ≡ false
+none_found n [] h = refl
+none_found n (w ∷ ws) h = step (none_found n ws) (has_number n w) h
+  where
+    step : (find (has_number n) ws ≡ None → list_any (has_number n) ws ≡ false) → (t : Bool) → cond t (Some w) (find (has_number n) ws) ≡ None → (t || list_any (has_number n) ws) ≡ false
+    step rest true g = cc
+    step rest false g = rest g
+
+-- what is issued has a serial number, since a code is free
 issue_ok : (past : Past) (notice : Notice) (areas : List (List ℕ)) → first_refusal (book.issue_checks (book_of past) notice areas) ≡ None → IsOk (issue_answer ((book_of past).issued + 1) (new_serial (book_of past) notice))
 issue_ok past notice areas h = step (new_serial (book_of past) notice) refl
   where
@@ -58,7 +66,7 @@ issue_ok past notice areas h = step (new_serial (book_of past) notice) refl
 
     step : (o : Option ℕ) → new_serial (book_of past) notice ≡ o → IsOk (issue_answer ((book_of past).issued + 1) o)
     step None e = serial_is_there (book_of past).issued (book_of past).warnings notice few e
-    step (Some s) e = tt
+    step (Some s) e = refl
 
 -- what is so of no warning of the number is not so of the one that is found
 found_not : (n : ℕ) (f : Warning → Bool) (ws : List Warning) (w : Warning) → find (has_number n) ws ≡ Some w → is_so n f ws ≡ false → f w ≡ false
@@ -81,7 +89,7 @@ update_ok past n content h = step (warning_of (book_of past) n) refl
 
     next : (o : Option ℕ) → ends_updates o ≡ false → IsOk (update_answer (option_map next_of o))
     next None e = absurd (let no : true ≡ false = e in cc)
-    next (Some s) e = tt
+    next (Some s) e = refl
 
     step : (o : Option Warning) → warning_of (book_of past) n ≡ o → IsOk (update_answer (option_map next_of (option_and_then current_of o)))
     step None e = absurd (let no : true ≡ false = sym there ∙ none_found n (book_of past).warnings e in cc)
@@ -117,7 +125,7 @@ widen_taken past st n a is there checked =
 pub widen_refused : (past : Past) (st : State) (n : ℕ) (a : List ℕ) (e : book_refusal.Refusal) → st ≡ book_of past → is_area past a ≡ true → (first_refusal (book.widen_checks st n a) ≡ Some e) ⊎ ((e ≡ book_refusal_is.Memory) × (first_refusal (book.widen_checks st n a) ≡ None)) → Gives (widen past n a) (Err (of_book e))
 widen_refused past st n a e is there h =
     past_given (not (is_area past a)) refusal.NoSuchArea (unless (by_book (book.widen_checks (book_of past) n a)) (Ok answer.Done)) (Err (of_book e)) (ap not there)
-    (given of_book book_refusal_is.Memory refl (book.widen_checks (book_of past) n a) (Ok answer.Done) e (λ none. tt) (rw (← is) h))
+    (given of_book book_refusal_is.Memory refl (book.widen_checks (book_of past) n a) (Ok answer.Done) e (λ none. refl) (rw (← is) h))
 
 pub narrow_taken : (past : Past) (st : State) (n : ℕ) (a : List ℕ) → st ≡ book_of past → is_area past a ≡ true → first_refusal (book.narrow_checks st n a) ≡ None → narrow past n a ≡ Ok answer.Done
 narrow_taken past st n a is there checked =
@@ -154,7 +162,7 @@ pub update_first : (past : Past) (st : State) (n : ℕ) (content : Content) (e :
 update_first past st n content e is h = refused of_book (book.update_checks (book_of past) n content) (update_answer (next_serial (book_of past) n)) e (rw (← is) h)
 
 pub widen_free : (past : Past) (st : State) (n : ℕ) (a : List ℕ) → st ≡ book_of past → is_area past a ≡ true → first_refusal (book.widen_checks st n a) ≡ None → IsOk (widen past n a)
-widen_free past st n a is there checked = subst IsOk (sym (widen_taken past st n a is there checked)) tt
+widen_free past st n a is there checked = subst IsOk (sym (widen_taken past st n a is there checked)) refl
 
 pub widen_first : (past : Past) (st : State) (n : ℕ) (a : List ℕ) (e : book_refusal.Refusal) → st ≡ book_of past → is_area past a ≡ true → first_refusal (book.widen_checks st n a) ≡ Some e → widen past n a ≡ Err (of_book e)
 widen_first past st n a e is there h =
@@ -162,13 +170,13 @@ widen_first past st n a e is there h =
     (refused of_book (book.widen_checks (book_of past) n a) (Ok answer.Done) e (rw (← is) h))
 
 pub narrow_free : (past : Past) (st : State) (n : ℕ) (a : List ℕ) → st ≡ book_of past → is_area past a ≡ true → first_refusal (book.narrow_checks st n a) ≡ None → IsOk (narrow past n a)
-narrow_free past st n a is there checked = subst IsOk (sym (narrow_taken past st n a is there checked)) tt
+narrow_free past st n a is there checked = subst IsOk (sym (narrow_taken past st n a is there checked)) refl
 
 pub narrow_first : (past : Past) (st : State) (n : ℕ) (a : List ℕ) (e : book_refusal.Refusal) → st ≡ book_of past → is_area past a ≡ true → first_refusal (book.narrow_checks st n a) ≡ Some e → narrow past n a ≡ Err (of_book e)
 narrow_first past st n a e is there h = narrow_refused past st n a e is there h
 
 pub stop_free : (past : Past) (st : State) (n : ℕ) → st ≡ book_of past → first_refusal (book.stop_checks st n) ≡ None → IsOk (stop past n)
-stop_free past st n is checked = subst IsOk (sym (stop_taken past st n is checked)) tt
+stop_free past st n is checked = subst IsOk (sym (stop_taken past st n is checked)) refl
 
 pub stop_first : (past : Past) (st : State) (n : ℕ) (e : book_refusal.Refusal) → st ≡ book_of past → first_refusal (book.stop_checks st n) ≡ Some e → stop past n ≡ Err (of_book e)
 stop_first past st n e is h = stop_refused past st n e is h
@@ -197,7 +205,7 @@ forget_found past st n w is ordered h checked =
 
 pub forget_free : (past : Past) (st : State) (n : ℕ) (w : Warning) → st ≡ book_of past → is_ascending number_lt st.warnings ≡ true → warning_of st n ≡ Some w → first_refusal (book.forget_checks st n) ≡ None → first_refusal (idle_checks past w) ≡ None → IsOk (forget past n)
 forget_free past st n w is ordered h checked idle =
-    subst IsOk (sym (forget_found past st n w is ordered h checked ∙ none_left (idle_checks past w) (Ok answer.Done) idle)) tt
+    subst IsOk (sym (forget_found past st n w is ordered h checked ∙ none_left (idle_checks past w) (Ok answer.Done) idle)) refl
 
 -- the refusal of a warning that is there
 pub forget_first : (past : Past) (st : State) (n : ℕ) (w : Warning) (e : Refusal) → st ≡ book_of past → is_ascending number_lt st.warnings ≡ true → warning_of st n ≡ Some w → first_refusal (book.forget_checks st n) ≡ None → (e ≡ refusal.Memory) ⊎ (first_refusal (idle_checks past w) ≡ Some e) → ((e ≡ refusal.Memory) × (first_refusal (book.forget_checks (book_of past) n) ≡ None)) ⊎ (forget past n ≡ Err e)

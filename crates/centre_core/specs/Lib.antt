@@ -29,4 +29,6 @@ pub mod Legal
 pub mod Kept
 pub mod Flights
 pub mod Headline
+pub mod Issued
+pub mod Beginning
 pub mod Centre

@@ -17,6 +17,7 @@ mod flight;
 mod flights;
 pub mod headline;
 mod history;
+pub mod laws;
 pub mod mirror;
 pub mod order_maker;
 pub mod outcome;

@@ -1,6 +1,6 @@
 //! How many lines of a warning are counted in each way.
 
-ghost use Rattle.std.specs.Prelude.{◌≡◌, ◌≤◌, length, map, nat_eq};
+ghost use Rattle.std.specs.Prelude.{◌≡◌, ◌≤◌, length, nat_eq};
 ghost use Rattle.std.specs.List.{list_any};
 ghost use Rattle.common.specs.Cell.{cell_eq};
 ghost use Rattle.common.specs.Sums.{sum_of, count_of};
@@ -46,13 +46,20 @@ fn is_unwanted(journal: &[Entry], w: &Warning, b: BscId, c: Cell, serial: Serial
 }
 
 /// Whether one of the versions is on air, or may be, in the cell at the BSC, and not wanted there.
-#[tactic(auto, using(crate::proofs::PastLemmas::any_image))]
 fn has_unwanted(journal: &[Entry], w: &Warning, b: BscId, c: Cell, versions: &[Version]) -> bool
-    ensures { result ≡ list_any (is_unwanted (seen (past_of journal.now) b w.now c)) (map (λ v. v.serial) versions.now) }
+    ensures { result ≡ list_any (λ v. is_unwanted (seen (past_of journal.now) b w.now c) v.serial) versions.now }
 {
     versions
         .iter()
         .any(|version| is_unwanted(journal, w, b, c, version.serial))
+}
+
+/// Whether a version of the warning is.
+#[tactic(auto, using(crate::proofs::PastLemmas::any_image))]
+fn is_left(journal: &[Entry], w: &Warning, b: BscId, c: Cell) -> bool
+    ensures { result ≡ is_left (seen (past_of journal.now) b w.now c) }
+{
+    has_unwanted(journal, w, b, c, w.versions())
 }
 
 /// Whether the line is counted in that way.
@@ -60,7 +67,7 @@ fn stands(journal: &[Entry], w: &Warning, way: Way, b: BscId, c: Cell) -> bool
     ensures { result ≡ stands way (stand (past_of journal.now) b w.now c) }
 {
     match way {
-        Way::Left => has_unwanted(journal, w, b, c, w.versions()),
+        Way::Left => is_left(journal, w, b, c),
         Way::Awaited | Way::OnAir | Way::Failed => standing(journal, w, b, c) == Some(way),
     }
 }

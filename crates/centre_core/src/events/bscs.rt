@@ -58,7 +58,7 @@ pub(crate) fn check_remove_bsc(
 }
 
 /// RemoveBsc: takes a BSC out that has no cells and no link.
-#[tactic(auto, using(crate::proofs::RegisterLemmas::remove_bsc_taken, crate::proofs::RegisterLemmas::remove_bsc_refused))]
+#[tactic(auto, using(crate::proofs::RegisterLemmas::remove_bsc_refused))]
 pub(crate) fn remove_bsc(
     journal: &[Entry],
     register: &mut Register,

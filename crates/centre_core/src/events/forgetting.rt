@@ -43,13 +43,20 @@ fn has_present(journal: &[Entry], w: &Warning, b: BscId, c: Cell, versions: &[Ve
         .any(|version| is_present(journal, w, b, c, version.serial))
 }
 
-/// Whether a version of the warning is, in one of the cells at the BSC.
+/// Whether a version of the warning is, in the cell at the BSC.
+fn is_reported_in(journal: &[Entry], w: &Warning, b: BscId, c: Cell) -> bool
+    ensures { result ≡ is_reported_in (past_of journal.now) w.now b c }
+{
+    has_present(journal, w, b, c, w.versions())
+}
+
+/// Whether one is, in one of the cells at the BSC.
 fn is_reported_at(journal: &[Entry], cells: &[Cell], w: &Warning, b: BscId) -> bool
     ensures { result ≡ list_any (is_reported_in (past_of journal.now) w.now b) cells.now }
 {
     cells
         .iter()
-        .any(|cell| has_present(journal, w, b, *cell, w.versions()))
+        .any(|cell| is_reported_in(journal, w, b, *cell))
 }
 
 /// Whether one is, in one of the cells at one of the BSCs.
@@ -144,7 +151,8 @@ pub(crate) fn check_forget(
     let Some(warning) = book.find(number) else {
         return Err(Refusal::NoSuchWarning);
     };
-    check_idle(alloc, journal, warning)
+    check_idle(alloc, journal, warning)?;
+    Ok(())
 }
 
 /// Forget: takes a stopped warning out of the book of which nothing is on air or in flight.

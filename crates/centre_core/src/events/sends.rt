@@ -38,6 +38,7 @@ fn send_answer(alloc: Global, book: &Book, order: Option<Order>) -> Verdict
 }
 
 /// Send: takes the first pending order of a BSC, over its link.
+#[tactic(auto, using(crate::proofs::CarriedLemmas::sent_carriable))]
 pub(crate) fn send(
     alloc: Global,
     journal: &[Entry],

@@ -52,8 +52,8 @@ fn add_key(
     )
 }
 
-/// Adds what is reported of the warning in the cell, of each of its versions.
-fn add_keys_in(
+/// Adds what is reported in the cell of the versions.
+fn add_keys(
     out: &mut Vec<ReportedKey>,
     journal: &[Entry],
     b: BscId,
@@ -69,6 +69,19 @@ fn add_keys_in(
     Ok(())
 }
 
+/// Adds what is reported of the warning in the cell.
+fn add_keys_in(
+    out: &mut Vec<ReportedKey>,
+    journal: &[Entry],
+    b: BscId,
+    w: &Warning,
+    c: Cell,
+) -> Result<(), AllocError>
+    ensures { OnOk result (out.new.items ≡ out.old.items ++ keys_in (past_of journal.now) b w.now c) }
+{
+    add_keys(out, journal, b, w, c, w.versions())
+}
+
 /// Adds what is reported of the warning in the cells.
 fn add_keys_of(
     out: &mut Vec<ReportedKey>,
@@ -80,7 +93,7 @@ fn add_keys_of(
     ensures { OnOk result (out.new.items ≡ out.old.items ++ keys_of (past_of journal.now) b cells.now w.now) }
 {
     for cell in cells {
-        add_keys_in(out, journal, b, w, *cell, w.versions())?;
+        add_keys_in(out, journal, b, w, *cell)?;
     }
     Ok(())
 }

@@ -1,9 +1,9 @@
 //! The message that carries an order.
 
-ghost use Rattle.std.specs.Prelude.{◌≡◌, map, IfOk};
+ghost use Rattle.std.specs.Prelude.{◌≡◌, map, IfOk, IsSome};
 ghost use Rattle.std.specs.Option.{option_copied};
 ghost use Rattle.cbsp_messages.specs.PageText.{page_with};
-ghost use Rattle.centre_core.specs.OrderMessage.{IsCarriable, order_message, write_message, kill_message};
+ghost use Rattle.centre_core.specs.OrderMessage.{IsCarriable, given_content, order_message, write_message, kill_message};
 
 use crate::order_maker::order::Order;
 use crate::order_maker::order_kind::OrderKind;
@@ -57,6 +57,22 @@ fn kill_message(alloc: Global, order: &Order) -> Result<Message, AllocError>
     }))
 }
 
+/// The WRITE-REPLACE of an order whose content is there.
+fn written(
+    alloc: Global,
+    order: &Order,
+    old: Option<u16>,
+    content: Option<&Content>,
+) -> Result<Message, AllocError>
+    requires { IsSome (option_copied content) }
+    ensures { IfOk result (λ m. m ≡ write_message order.now old (given_content (option_copied content.entry))) }
+{
+    match content {
+        Some(content) => write_message(alloc, order, old, content),
+        None => unreachable!(),
+    }
+}
+
 /// The message that carries the order (TS 48.049, 8.1.3.1 and 8.1.3.4): a WRITE-REPLACE on the basic channel that is
 /// broadcast until it is killed, with the Old Serial Number where it replaces a message, or a KILL. A write or a replace
 /// needs its content.
@@ -68,12 +84,9 @@ pub fn message_of(
     requires { IsCarriable order.now.kind (option_copied content) }
     ensures { IfOk result (λ m. m ≡ order_message order.now (option_copied content.entry)) }
 {
-    match (order.kind, content) {
-        (OrderKind::Kill, _) => kill_message(alloc, order),
-        (OrderKind::Write, Some(content)) => write_message(alloc, order, None, content),
-        (OrderKind::Replace { old }, Some(content)) => {
-            write_message(alloc, order, Some(old.to_u16()), content)
-        }
-        (OrderKind::Write | OrderKind::Replace { old: _ }, None) => unreachable!(),
+    match order.kind {
+        OrderKind::Write => written(alloc, order, None, content),
+        OrderKind::Replace { old } => written(alloc, order, Some(old.to_u16()), content),
+        OrderKind::Kill => kill_message(alloc, order),
     }
 }

@@ -2,7 +2,7 @@ use Rattle.std.proofs.Common.{◌≡◌, ◌++◌, drop}
 use Rattle.std.specs.List.{flat_map}
 use Rattle.centre_core.specs.Table.{key_of}
 use Rattle.centre_core.specs.Past.{past_of}
-use Rattle.centre_core.proofs.mirror.table.add_keys_in.Given as goal
+use Rattle.centre_core.proofs.mirror.table.add_keys.Given as goal
 
 -- what is added, and what the versions ahead add, is what all add
 abbrev pub invariant-loop-version : goal.invariant-loop-version
