@@ -1,5 +1,5 @@
 -- A line has one answer, and lines have one text.
-use Rattle.std.proofs.Common.{◌≡◌, inl, inr, ℕ, ◌+◌, Bool, true, false, Option, Some, None, Result, Ok, Err, List, [], ◌∷◌, ◌++◌, length, refl, sym, ap, ◌∙◌, subst}
+use Rattle.std.proofs.Common.{◌≡◌, inl, inr, ℕ, ◌+◌, true, false, Option, Some, None, Result, Ok, Err, List, [], ◌∷◌, ◌++◌, length, refl, sym, ap, ◌∙◌, subst}
 use Rattle.std.specs.Bool.{MatchBool}
 use Rattle.std.specs.Prelude.{MatchOption}
 use Rattle.cbsp_messages.specs.Faults.{IsFaultAs}
@@ -22,7 +22,6 @@ use Rattle.centre_core.specs.declared.event.Event.{Event}
 use Rattle.centre_core.specs.declared.event.Event.TheVariants as event
 use Rattle.centre_core.specs.declared.refusal.Refusal.{Refusal}
 use Rattle.centre_core.specs.declared.refusal.Refusal.TheVariants as refusal
-use Rattle.framing.specs.declared.frame.Frame.{Frame}
 use Rattle.console.specs.Generations.{generation_of}
 use Rattle.console.specs.Grammar.{line_of}
 use Rattle.console.specs.HexText.{octets_of}
