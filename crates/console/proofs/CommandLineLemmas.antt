@@ -19,7 +19,7 @@ use Rattle.clap.specs.declared.parser.matches.ArgMatches.TheViews.{out-ArgMatche
 use Rattle.clap.specs.declared.parser.matches.SubCommand.{SubCommand}
 use Rattle.console.specs.CommandLine.{command_line, entry_numbers, limit_in, limit_of, most_entries, network_in, network_of, replay_rows, AreTaken, AsksHelp, ComesTo, HasNoFault, Refuses}
 use Rattle.console.specs.declared.no_run.NoRun.{NoRun}
-use Rattle.console.specs.declared.no_run.NoRun.TheVariants.{Help, Refused, BadPlmn, Memory}
+use Rattle.console.specs.declared.no_run.NoRun.TheVariants.{Help, Refused, BadPlmn, BadJournal, Memory}
 
 is_plain : is_simple command_line ≡ true
 unfolding clap_on_literals
@@ -45,6 +45,7 @@ module _ (words : List Text) (e : Error) (taken : AreTaken words → kind_of e �
   refuses_so (Refused text) memory comes =
       ((λ t. cc (memory (taken t))), (kind_of e, among (Refused text) memory (λ same. cc same), comes.0, comes.1))
   refuses_so BadPlmn memory comes = absurd comes
+  refuses_so BadJournal memory comes = absurd comes
   refuses_so Memory memory comes = tt
 
 -- the kinds that clap's rules give for the command line
@@ -78,7 +79,7 @@ Reads text r = ParsesUnsigned 32 10 text r × ExplainsUnsignedError 10 text r ×
 
 -- a number that is read and that the option takes is the limit
 pub limit_of_number : (o : Option Text) (r : Option ℕ) (n : ℕ) → (o ≡ None → r ≡ None) → ((t : Text) → o ≡ Some t → ReadsOne Reads t r)
-    → r ≡ Some n → 1 ≤ n → n ≤ most_entries → n ≡ limit_of o
+    → r ≡ Some n → 1 ≤ n → n ≤ most_entries → Some n ≡ option_and_then limit_of o
 limit_of_number None None n none value is least most = cc is
 limit_of_number None (Some m) n none value is least most = cc (none refl)
 limit_of_number (Some t) None n none value is least most = cc is
@@ -86,16 +87,16 @@ limit_of_number (Some t) (Some m) n none value is least most =
     let ok = (value t refl).0 in
     let same : m ≡ n = cc is in
     let taken : accepts false entry_numbers t ≡ true = Accepts-accepts false entry_numbers t (ok.0.0, omega (arith, ok.1, same), omega (arith, ok.1, same), omega (arith, ok.1, same)) in
-    rw taken (sym same ∙ ok.1)
+    rw taken (ap Some (sym same ∙ ok.1))
 
--- and where no such number is read the limit is the greatest
+-- and where no such number is read there is no limit
 pub limit_of_none : (o : Option Text) (r : Option ℕ) → ((t : Text) → o ≡ Some t → ReadsOne Reads t r)
-    → ((n : ℕ) → r ≡ Some n → 1 ≤ n → n ≤ most_entries → ⊥) → most_entries ≡ limit_of o
+    → ((n : ℕ) → r ≡ Some n → 1 ≤ n → n ≤ most_entries → ⊥) → None ≡ option_and_then limit_of o
 limit_of_none None r value out = refl
 limit_of_none (Some t) r value out = go (accepts false entry_numbers t) refl r (value t refl) out
   where
     go : (b : Bool) → accepts false entry_numbers t ≡ b → (r : Option ℕ) → ReadsOne Reads t r → ((n : ℕ) → r ≡ Some n → 1 ≤ n → n ≤ most_entries → ⊥)
-        → most_entries ≡ cond b (digits_value 10 (without_leading_plus t)) most_entries
+        → None ≡ cond b (Some (digits_value 10 (without_leading_plus t))) None
     go false e r read out = refl
     go true e (Some n) read out =
         let passed = accepts-Accepts false entry_numbers t e in
@@ -125,9 +126,9 @@ replay_rows_met m replay name rows =
 
 -- the limit and the network of the values that are read of it
 pub met_limit : (m replay : ArgMatches) → subcommand_name_of m ≡ Some (codes "replay") → Met m replay
-    → limit_of (one_text (found_of replay) (codes "journal")) ≡ limit_in (replay_rows (subcommand_rows_of m))
+    → option_and_then limit_of (one_text (found_of replay) (codes "journal")) ≡ limit_in (replay_rows (subcommand_rows_of m))
 met_limit m replay name rows =
-    ap limit_of (one_text-rows (found_of replay) (codes "journal")) ∙ ap limit_in (sym (replay_rows_met m replay name rows))
+    ap (option_and_then limit_of) (one_text-rows (found_of replay) (codes "journal")) ∙ ap limit_in (sym (replay_rows_met m replay name rows))
 
 pub met_network : (m replay : ArgMatches) (value : Option (Bor Text)) → subcommand_name_of m ≡ Some (codes "replay") → Met m replay
     → option_map (λ s. s.now) value ≡ first_value (found_of replay) (codes "plmn")

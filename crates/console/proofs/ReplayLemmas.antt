@@ -8,39 +8,34 @@ use Rattle.centre_core.specs.declared.refusal.Refusal.TheVariants as refusal
 use Rattle.console.specs.Consoles.{ConsoleState, EndsLine, BreaksInLine, BreaksLine, Stops, Reads, ReadsAndStops, IsWritten}
 use Rattle.console.specs.Grammar.{line_of}
 use Rattle.console.specs.Replays.{IsLeft, MeetsWant, Replays, BreaksOff}
-use Rattle.console.specs.Sessions.{SessionState, Says, Responds, RespondsOrStarves, IsStarved, Starves, is_comment, AnswersLine, AnswersWords, AnswersOrStarves}
+use Rattle.console.specs.Sessions.{SessionState, Says, Responds, RespondsOrStarves, IsStarved, Starves, is_comment, AnswersLine, AnswersWords, AnswersOrStarves, LineStarves}
 use Rattle.console.specs.Text.{lines_from, lines_of, without_return, IsText, IsTextOrStarves}
 use Rattle.console.specs.Texts.{response_text, refused_text}
 use Rattle.console.specs.Words.{words_of}
 use Rattle.console.specs.declared.fault.ReplayFault.{ReplayFault}
 use Rattle.console.specs.declared.fault.ReplayFault.TheVariants.{ReadFault, WriteFault, Memory, LongLine}
 use Rattle.console.specs.declared.line.Line.{Line}
-use Rattle.console.specs.declared.line.Line.TheVariants as line
 use Rattle.console.specs.declared.response.Response.{Response}
 use Rattle.console.specs.declared.response.Response.TheVariants as response
 use Rattle.console.proofs.PartLemmas.{lines_from_start}
 use Rattle.console.proofs.StopLemmas.{goes_stops, written_after}
 use Rattle.console.proofs.TextLemmas.{text_append, goes_goes, goes_nowhere}
 
--- a line has its answer, or memory was wanting
-starved : (old : SessionState) (l : Line) (r : Response) (new : SessionState) → Starves old l r new → IsStarved old r new
-starved old (line.Board w) r new h = absurd h
-starved old (line.Keep b generation) r new h = absurd h
-starved old _ r new h = h
-
+-- a line has its answer, or memory was wanting where it may be
 line_or_want : (old : SessionState) (l : Option Line) (r : Response) (new : SessionState) → AnswersLine RespondsOrStarves old l r new
-    → AnswersLine Responds old l r new ⊎ IsStarved old r new
+    → AnswersLine Responds old l r new ⊎ (AnswersLine Starves old l r new × IsStarved old r new)
 line_or_want old None r new h = inl h
-line_or_want old (Some l) r new h = elim h [ inl answered ↦ inl answered | inr want ↦ inr (starved old l r new want) ]
+line_or_want old (Some l) r new h = elim h [ inl answered ↦ inl answered | inr want ↦ inr (want, want.1) ]
 
 words_or_want : (old : SessionState) (words : List (List ℕ)) (r : Response) (new : SessionState) → AnswersWords RespondsOrStarves old words r new
-    → AnswersWords Responds old words r new ⊎ IsStarved old r new
+    → AnswersWords Responds old words r new ⊎ (AnswersWords Starves old words r new × IsStarved old r new)
 words_or_want old [] r new h = inl h
-words_or_want old (w ∷ ws) r new h =
-    elim (is_comment w) as (λ b. MatchBool b (Says old response.Silence r new) (AnswersLine RespondsOrStarves old (line_of (w ∷ ws)) r new)
-    → MatchBool b (Says old response.Silence r new) (AnswersLine Responds old (line_of (w ∷ ws)) r new) ⊎ IsStarved old r new) [
+words_or_want old (first ∷ words) r new h =
+    elim (is_comment first) as (λ b. MatchBool b (Says old response.Silence r new) (AnswersLine RespondsOrStarves old (line_of (first ∷ words)) r new)
+    → MatchBool b (Says old response.Silence r new) (AnswersLine Responds old (line_of (first ∷ words)) r new)
+    ⊎ (MatchBool b (Says old response.Silence r new) (AnswersLine Starves old (line_of (first ∷ words)) r new) × IsStarved old r new)) [
       | true ↦ λ same. inl same
-      | false ↦ λ answered. line_or_want old (line_of (w ∷ ws)) r new answered
+      | false ↦ λ answered. line_or_want old (line_of (first ∷ words)) r new answered
     ] h
 
 -- the lines have their text, or memory was wanting for one of them
@@ -78,10 +73,10 @@ text_or_want old (line ∷ lines) new text told =
         told = (refl, refl);
         short = told.3;
         starved =
-            subst (λ r. AnswersOrStarves old (without_return line) r old) starved.0
-            (subst (λ session. AnswersOrStarves old (without_return line) told.0 session) starved.1 told.4);
-        more = subst (λ session. IsTextOrStarves session lines new told.2) starved.1 told.5;
-        text_is = told.6 ∙ ap (λ r. response_text r ++ told.2) starved.0;
+            subst (λ r. LineStarves old (without_return line) r old) starved.1.0
+            (subst (λ session. LineStarves old (without_return line) told.0 session) starved.1.1 starved.0);
+        more = subst (λ session. IsTextOrStarves session lines new told.2) starved.1.1 told.5;
+        text_is = told.6 ∙ ap (λ r. response_text r ++ told.2) starved.1.0;
       })
     ]
 

@@ -1,9 +1,16 @@
 -- A line has one answer, and lines have one text.
-use Rattle.std.proofs.Common.{◌≡◌, inl, inr, ℕ, ◌+◌, Bool, true, false, Option, Some, None, Result, Ok, Err, List, [], ◌∷◌, ◌++◌, length, refl, sym, ap, ◌∙◌, subst}
+use Rattle.std.proofs.Common.{◌≡◌, inl, inr, ℕ, ◌+◌, true, false, Option, Some, None, Result, Ok, Err, List, [], ◌∷◌, ◌++◌, length, refl, sym, ap, ◌∙◌, subst}
 use Rattle.std.specs.Bool.{MatchBool}
 use Rattle.std.specs.Prelude.{MatchOption}
-use Rattle.cbsp_messages.specs.MessageType.{type_with}
-use Rattle.cbsp_messages.proofs.UniqueLemmas.{one_message_at_most, no_fault_if_spelled, one_fault_at_most}
+use Rattle.cbsp_messages.specs.Faults.{IsFaultAs}
+use Rattle.cbsp_messages.specs.MessageType.{code_of, type_with}
+use Rattle.cbsp_messages.specs.Spelling.{Spells}
+use Rattle.cbsp_messages.specs.declared.fault.MessageFault.{MessageFault}
+use Rattle.cbsp_messages.specs.declared.fault.MessageFault.TheVariants as fault
+use Rattle.cbsp_messages.specs.declared.message.Message.{Message}
+use Rattle.cbsp_messages.specs.declared.message_type.MessageType.{MessageType}
+use Rattle.cbsp_messages.specs.declared.message_type.MessageType.TheVariants as type
+use Rattle.cbsp_messages.proofs.UniqueLemmas.{no_fault_if_spelled, not_whole, one_cut_fault, one_message_at_most, one_whole_fault}
 use Rattle.centre_core.specs.Legal.{past}
 use Rattle.centre_core.specs.Links.{is_bsc}
 use Rattle.centre_core.specs.Numbers.{board}
@@ -15,11 +22,10 @@ use Rattle.centre_core.specs.declared.event.Event.{Event}
 use Rattle.centre_core.specs.declared.event.Event.TheVariants as event
 use Rattle.centre_core.specs.declared.refusal.Refusal.{Refusal}
 use Rattle.centre_core.specs.declared.refusal.Refusal.TheVariants as refusal
-use Rattle.framing.specs.declared.frame.Frame.{Frame}
 use Rattle.console.specs.Generations.{generation_of}
 use Rattle.console.specs.Grammar.{line_of}
-use Rattle.console.specs.HexText.{octets_of, pages_of}
-use Rattle.console.specs.Sessions.{SessionState, Says, entered, with_link, Submits, BringsUp, AsksBsc, ReportsBody, ReportsFrame, ReportsOctets, is_report_type, Responds, is_comment, content_of, notice_of, AnswersLine, AnswersWords}
+use Rattle.console.specs.HexText.{octets_of}
+use Rattle.console.specs.Sessions.{SessionState, Says, entered, with_link, Submits, BringsUp, AsksBsc, ReportsBody, ReportsFrame, ReportsOctets, report_type, event_of, SubmitsLine, Responds, is_comment, AnswersLine, AnswersWords}
 use Rattle.console.specs.Text.{IsText, without_return}
 use Rattle.console.specs.Texts.{response_text}
 use Rattle.console.specs.Words.{words_of}
@@ -46,7 +52,7 @@ session_of old after (Ok a) = after a
 session_of old after (Err r) = old
 
 submits_so : (old : SessionState) (e : Event) (r : Response) (new : SessionState) → Submits old e r new
-    → Same r (answer_of old (verdict old.centre.limit (past old.centre) e)) new (session_of old (entered old e) (verdict old.centre.limit (past old.centre) e))
+    → Same r (answer_of old (verdict old.centre.settings (past old.centre) e)) new (session_of old (entered old e) (verdict old.centre.settings (past old.centre) e))
 submits_so old e (response.Accepted number a) new h =
     subst (λ v. Same (response.Accepted number a) (answer_of old v) new (session_of old (entered old e) v)) (sym h.0.0) (ap (λ n. response.Accepted n a) h.0.1, h.1)
 submits_so old e (response.Refused r) new h =
@@ -58,8 +64,8 @@ submits_one old e r s new last h k =
     let one = submits_so old e r new h in let two = submits_so old e s last k in (one.0 ∙ sym two.0, one.1 ∙ sym two.1)
 
 brings_up_so : (old : SessionState) (b : ℕ) (r : Response) (new : SessionState) → BringsUp old b r new
-    → Same r (answer_of old (verdict old.centre.limit (past old.centre) (event.LinkUp b))) new
-    (session_of old (λ a. with_link b a (entered old (event.LinkUp b) a)) (verdict old.centre.limit (past old.centre) (event.LinkUp b)))
+    → Same r (answer_of old (verdict old.centre.settings (past old.centre) (event.LinkUp b))) new
+    (session_of old (λ a. with_link b a (entered old (event.LinkUp b) a)) (verdict old.centre.settings (past old.centre) (event.LinkUp b)))
 brings_up_so old b (response.Accepted number a) new h =
     subst (λ v. Same (response.Accepted number a) (answer_of old v) new (session_of old (λ x. with_link b x (entered old (event.LinkUp b) x)) v)) (sym h.0.0) (ap (λ n. response.Accepted n a) h.0.1, h.1)
 brings_up_so old b (response.Refused r) new h =
@@ -70,33 +76,58 @@ brings_up_one : (old : SessionState) (b : ℕ) (r s : Response) (new last : Sess
 brings_up_one old b r s new last h k =
     let one = brings_up_so old b r new h in let two = brings_up_so old b s last k in (one.0 ∙ sym two.0, one.1 ∙ sym two.1)
 
--- an event whose pages are a text
-pages_one : (old : SessionState) (e : List (List ℕ) → Event) (pages : Option (List (List ℕ))) (r s : Response) (new last : SessionState)
-    → MatchOption pages (Says old response.BadHex r new) (λ ps. Submits old (e ps) r new)
-    → MatchOption pages (Says old response.BadHex s last) (λ ps. Submits old (e ps) s last) → Same r s new last
-pages_one old e None r s new last h k = says_one old response.BadHex r s new last h k
-pages_one old e (Some ps) r s new last h k = submits_one old (e ps) r s new last h k
+-- the event of a line, or pages that are no octets
+event_one : (old : SessionState) (e : Option Event) (r s : Response) (new last : SessionState) → SubmitsLine old e r new → SubmitsLine old e s last → Same r s new last
+event_one old None r s new last h k = says_one old response.BadHex r s new last h k
+event_one old (Some e) r s new last h k = submits_one old e r s new last h k
 
-body_one : (old : SessionState) (b kind : ℕ) (body : List ℕ) (r s : Response) (new last : SessionState) → ReportsBody old b kind body r new → ReportsBody old b kind body s last
+-- a body of this type has one fault at most
+one_fault : (t : MessageType) (body : List ℕ) (f g : MessageFault) → IsFaultAs t body f → IsFaultAs t body g → f ≡ g
+one_fault t body f g (inl h) (inl k) = one_cut_fault body f g h k
+one_fault t body f g (inl h) (inr k) = absurd (not_whole body k.elements f k.joined k.once h)
+one_fault t body f g (inr h) (inl k) = absurd (not_whole body h.elements g h.joined h.once k)
+one_fault t body f g (inr h) (inr k) = one_whole_fault t body f g h k
+
+-- the octet of a type names it
+octet_names : (t : MessageType) → type_with (code_of t) ≡ Some t
+octet_names type.WriteReplace = refl
+octet_names type.WriteComplete = refl
+octet_names type.WriteFailure = refl
+octet_names type.Kill = refl
+octet_names type.KillComplete = refl
+octet_names type.KillFailure = refl
+octet_names type.StatusQuery = refl
+octet_names type.StatusComplete = refl
+octet_names type.StatusFailure = refl
+octet_names type.Restart = refl
+octet_names type.Failure = refl
+octet_names type.ErrorIndication = refl
+
+-- and none where it spells a message
+no_fault : (t : MessageType) (body : List ℕ) (m : Message) (f : MessageFault) → Spells (code_of t) body m → IsFaultAs t body f → ⊥
+no_fault t body m f spells bad =
+    no_fault_if_spelled (code_of t) body m f spells (subst (λ kind. MatchOption kind (f ≡ fault.NotInProfile) (λ u. IsFaultAs u body f)) (sym (octet_names t)) bad)
+
+body_one : (old : SessionState) (b : ℕ) (t : MessageType) (body : List ℕ) (r s : Response) (new last : SessionState) → ReportsBody old b t body r new → ReportsBody old b t body s last
     → Same r s new last
-body_one old b kind body r s new last (inl h) (inl k) =
+body_one old b t body r s new last (inl h) (inl k) =
     submits_one old (event.Report b (generation_of old.kept b) k.0) r s new last
-    (subst (λ m. Submits old (event.Report b (generation_of old.kept b) m) r new) (one_message_at_most kind body h.0 k.0 h.1 k.1) h.2) k.2
-body_one old b kind body r s new last (inl h) (inr k) = absurd (no_fault_if_spelled kind body h.0 k.0 h.1 k.1)
-body_one old b kind body r s new last (inr h) (inl k) = absurd (no_fault_if_spelled kind body k.0 h.0 k.1 h.1)
-body_one old b kind body r s new last (inr h) (inr k) =
-    says_one old (response.BadMessage k.0) r s new last (subst (λ f. Says old (response.BadMessage f) r new) (one_fault_at_most kind body h.0 k.0 h.1 k.1) h.2) k.2
+    (subst (λ m. Submits old (event.Report b (generation_of old.kept b) m) r new) (one_message_at_most (code_of t) body h.0 k.0 h.1 k.1) h.2) k.2
+body_one old b t body r s new last (inl h) (inr k) = absurd (no_fault t body h.0 k.0 h.1 k.1)
+body_one old b t body r s new last (inr h) (inl k) = absurd (no_fault t body k.0 h.0 k.1 h.1)
+body_one old b t body r s new last (inr h) (inr k) =
+    says_one old (response.BadMessage k.0) r s new last (subst (λ f. Says old (response.BadMessage f) r new) (one_fault t body h.0 k.0 h.1 k.1) h.2) k.2
 
-frame_one : (old : SessionState) (b : ℕ) (frame : Frame) (is_report : Bool) (r s : Response) (new last : SessionState)
-    → MatchBool is_report (ReportsBody old b frame.kind frame.body r new) (Says old response.Skipped r new)
-    → MatchBool is_report (ReportsBody old b frame.kind frame.body s last) (Says old response.Skipped s last) → Same r s new last
-frame_one old b frame true r s new last h k = body_one old b frame.kind frame.body r s new last h k
-frame_one old b frame false r s new last h k = says_one old response.Skipped r s new last h k
+frame_one : (old : SessionState) (b : ℕ) (body : List ℕ) (kind : Option MessageType) (r s : Response) (new last : SessionState)
+    → MatchOption kind (Says old response.Skipped r new) (λ t. ReportsBody old b t body r new)
+    → MatchOption kind (Says old response.Skipped s last) (λ t. ReportsBody old b t body s last) → Same r s new last
+frame_one old b body (Some t) r s new last h k = body_one old b t body r s new last h k
+frame_one old b body None r s new last h k = says_one old response.Skipped r s new last h k
 
 octets_one : (old : SessionState) (b : ℕ) (octets : List ℕ) (r s : Response) (new last : SessionState) → ReportsOctets old b octets r new → ReportsOctets old b octets s last
     → Same r s new last
 octets_one old b octets r s new last (inl h) (inl k) =
-    frame_one old b k.0 (is_report_type (type_with k.0.kind)) r s new last (subst (λ f. ReportsFrame old b f r new) (one_frame octets h.0 k.0 h.1 k.1) h.2) k.2
+    frame_one old b k.0.body (report_type k.0.kind) r s new last (subst (λ f. ReportsFrame old b f r new) (one_frame octets h.0 k.0 h.1 k.1) h.2) k.2
 octets_one old b octets r s new last (inl h) (inr k) = absurd (k.0 h.0 h.1)
 octets_one old b octets r s new last (inr h) (inl k) = absurd (h.0 k.0 k.1)
 octets_one old b octets r s new last (inr h) (inr k) = says_one old response.BadFrame r s new last h.1 k.1
@@ -117,34 +148,18 @@ asks_one old b said r s new last h k =
     ] h k
 
 responds_one : (old : SessionState) (l : Line) (r s : Response) (new last : SessionState) → Responds old l r new → Responds old l s last → Same r s new last
-responds_one old (line.AddBsc b) r s new last h k = submits_one old (event.AddBsc b) r s new last h k
-responds_one old (line.RemoveBsc b) r s new last h k = submits_one old (event.RemoveBsc b) r s new last h k
-responds_one old (line.AddCell c b) r s new last h k = submits_one old (event.AddCell c b) r s new last h k
-responds_one old (line.MoveCell c b) r s new last h k = submits_one old (event.MoveCell c b) r s new last h k
-responds_one old (line.RemoveCell c) r s new last h k = submits_one old (event.RemoveCell c) r s new last h k
-responds_one old (line.AddArea a) r s new last h k = submits_one old (event.AddArea a) r s new last h k
-responds_one old (line.DropArea a) r s new last h k = submits_one old (event.DropArea a) r s new last h k
-responds_one old (line.Put a selector) r s new last h k = submits_one old (event.Put a selector) r s new last h k
-responds_one old (line.Cut a selector) r s new last h k = submits_one old (event.Cut a selector) r s new last h k
-responds_one old (line.Issue heading pages areas) r s new last h k = pages_one old (λ ps. event.Issue (notice_of heading ps) areas) (pages_of pages) r s new last h k
-responds_one old (line.Update w heading pages) r s new last h k = pages_one old (λ ps. event.Update w (content_of heading ps)) (pages_of pages) r s new last h k
-responds_one old (line.Widen w a) r s new last h k = submits_one old (event.Widen w a) r s new last h k
-responds_one old (line.Narrow w a) r s new last h k = submits_one old (event.Narrow w a) r s new last h k
-responds_one old (line.Stop w) r s new last h k = submits_one old (event.Stop w) r s new last h k
-responds_one old (line.Forget w) r s new last h k = submits_one old (event.Forget w) r s new last h k
 responds_one old (line.Up b) r s new last h k = brings_up_one old b r s new last h k
-responds_one old (line.Down b) r s new last h k = submits_one old (event.LinkDown b (generation_of old.kept b)) r s new last h k
 responds_one old (line.Keep b generation) r s new last h k = (h.0 ∙ sym k.0, h.1 ∙ sym k.1)
-responds_one old (line.Send b) r s new last h k = submits_one old (event.Send b (generation_of old.kept b)) r s new last h k
 responds_one old (line.Report b text) r s new last h k = reports_one old b (octets_of text) r s new last h k
-responds_one old (line.Board w) r s new last h k =
-    elim (board (past old.centre) w) as (λ o. MatchOption o (Says old (response.Refused refusal.NoSuchWarning) r new) (λ n. Says old (response.Board n) r new)
+responds_one old (line.Board number) r s new last h k =
+    elim (board (past old.centre) number) as (λ o. MatchOption o (Says old (response.Refused refusal.NoSuchWarning) r new) (λ n. Says old (response.Board n) r new)
     → MatchOption o (Says old (response.Refused refusal.NoSuchWarning) s last) (λ n. Says old (response.Board n) s last) → Same r s new last) [
       | None ↦ λ x y. says_one old (response.Refused refusal.NoSuchWarning) r s new last x y
       | Some n ↦ λ x y. says_one old (response.Board n) r s new last x y
     ] h k
 responds_one old (line.Pending b) r s new last h k = asks_one old b (response.Pending (pending (past old.centre) b)) r s new last h k
 responds_one old (line.Table b) r s new last h k = asks_one old b (response.Table (table (past old.centre) b)) r s new last h k
+responds_one old l r s new last h k = event_one old (event_of old l) r s new last h k
 
 line_one : (old : SessionState) (l : Option Line) (r s : Response) (new last : SessionState) → AnswersLine Responds old l r new → AnswersLine Responds old l s last → Same r s new last
 line_one old None r s new last h k = says_one old response.BadLine r s new last h k
@@ -153,11 +168,11 @@ line_one old (Some l) r s new last h k = responds_one old l r s new last h k
 words_one : (old : SessionState) (words : List (List ℕ)) (r s : Response) (new last : SessionState) → AnswersWords Responds old words r new → AnswersWords Responds old words s last
     → Same r s new last
 words_one old [] r s new last h k = says_one old response.Silence r s new last h k
-words_one old (w ∷ ws) r s new last h k =
-    elim (is_comment w) as (λ b. MatchBool b (Says old response.Silence r new) (AnswersLine Responds old (line_of (w ∷ ws)) r new)
-    → MatchBool b (Says old response.Silence s last) (AnswersLine Responds old (line_of (w ∷ ws)) s last) → Same r s new last) [
+words_one old (first ∷ words) r s new last h k =
+    elim (is_comment first) as (λ b. MatchBool b (Says old response.Silence r new) (AnswersLine Responds old (line_of (first ∷ words)) r new)
+    → MatchBool b (Says old response.Silence s last) (AnswersLine Responds old (line_of (first ∷ words)) s last) → Same r s new last) [
       | true ↦ λ x y. says_one old response.Silence r s new last x y
-      | false ↦ λ x y. line_one old (line_of (w ∷ ws)) r s new last x y
+      | false ↦ λ x y. line_one old (line_of (first ∷ words)) r s new last x y
     ] h k
 
 pub one_text : (old : SessionState) (lines : List (List ℕ)) (new last : SessionState) (text other : List ℕ) → IsText old lines new text → IsText old lines last other

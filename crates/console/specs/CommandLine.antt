@@ -10,7 +10,7 @@ use Rattle.clap.specs.declared.builder.value_parser.ValueParser.TheVariants.{Uns
 use Rattle.clap.specs.declared.error.kind.ErrorKind.{ErrorKind}
 use Rattle.clap.specs.declared.error.kind.ErrorKind.TheVariants as kind
 use Rattle.console.specs.declared.no_run.NoRun.{NoRun}
-use Rattle.console.specs.declared.no_run.NoRun.TheVariants.{Help, Refused, BadPlmn, Memory}
+use Rattle.console.specs.declared.no_run.NoRun.TheVariants.{Help, Refused, BadPlmn, BadJournal, Memory}
 
 -- the most entries that a journal may hold, and the number where none is given
 abbrev pub most_entries : ℕ
@@ -24,12 +24,15 @@ plmn_option = record (new_rule (codes "plmn")) { long = Some (codes "plmn"); val
 abbrev pub entry_numbers : ValueParser
 entry_numbers = Unsigned 1 most_entries
 
+-- how many entries the journal may hold
 abbrev pub journal_option : Rule
 journal_option = record (new_rule (codes "journal")) { long = Some (codes "journal"); value_names = 1; defaults = codes "4000000" ∷ []; parser = Some entry_numbers }
 
+-- `replay`, with its two options
 abbrev pub replay_command : App
 replay_command = with_rule (with_rule (new_app (codes "replay")) plmn_option) journal_option
 
+-- a program that is nothing without a command
 abbrev pub program : App
 program = let a = new_app (codes "cbc") in record a { top = record a.top { subcommand_required = true } }
 
@@ -58,32 +61,35 @@ network_of text = result_ok (decode_sized text 3)
 abbrev pub network_in : List Row → Option (List ℕ)
 network_in rows = option_and_then network_of (first_of (codes "plmn") rows)
 
--- the number that the text writes; 4,000,000 for a text that the option does not take, which clap refuses
-abbrev pub limit_of : Option Text → ℕ
-limit_of None = most_entries
-limit_of (Some text) = if accepts false entry_numbers text then digits_value 10 (without_leading_plus text) else most_entries
+-- the number that the text writes, if the option takes it
+abbrev pub limit_of : Text → Option ℕ
+limit_of text = if accepts false entry_numbers text then Some (digits_value 10 (without_leading_plus text)) else None
 
 -- the number of the value of `--journal`
-abbrev pub limit_in : List Row → ℕ
-limit_in rows = limit_of (one_of (codes "journal") rows)
+abbrev pub limit_in : List Row → Option ℕ
+limit_in rows = option_and_then limit_of (one_of (codes "journal") rows)
 
 -- the network that the words ask for, by the matches that clap's rules give; none where the value isn't six hexadecimal digits
 abbrev pub asked_network : List Text → Option (List ℕ)
 asked_network words = network_in (replay_rows (subcommand_of command_line words))
 
--- the greatest number of entries that they ask for
-abbrev pub asked_limit : List Text → ℕ
+-- the greatest number of entries that they ask for; none where the value isn't a number from 1 to 4,000,000
+abbrev pub asked_limit : List Text → Option ℕ
 asked_limit words = limit_in (replay_rows (subcommand_of command_line words))
 
 -- the words ask for a script to be run with this network and this limit
 pub record Asks (words : List Text) (plmn : List ℕ) (limit : ℕ) : Type 0 where
   pub well_formed : HasNoFault words
   pub network : asked_network words ≡ Some plmn
-  pub entries : asked_limit words ≡ limit
+  pub entries : asked_limit words ≡ Some limit
 
 -- the words have no fault, and the value of `--plmn` isn't six hexadecimal digits
 abbrev pub AsksBadPlmn : List Text → Type 0
 AsksBadPlmn words = HasNoFault words × (asked_network words ≡ None)
+
+-- the words have no fault, and the value of `--journal` isn't a number from 1 to 4,000,000
+abbrev pub AsksBadJournal : List Text → Type 0
+AsksBadJournal words = HasNoFault words × (asked_limit words ≡ None)
 
 -- clap's rules answer the words by help, or by a version
 abbrev pub AsksHelp : List Text → Type 0
@@ -98,11 +104,13 @@ abbrev pub ComesTo : ErrorKind → NoRun → Type 0
 ComesTo k (Help text) = (k ≡ kind.DisplayHelp) ⊎ (k ≡ kind.DisplayVersion)
 ComesTo k (Refused text) = (k ≢ kind.DisplayHelp) × (k ≢ kind.DisplayVersion)
 ComesTo k BadPlmn = ⊥
+ComesTo k BadJournal = ⊥
 ComesTo k Memory = Unit {0}
 
--- what no script is run for: help is asked for, the words have a mistake, the network is bad, or memory was wanting
+-- what no script is run for: help is asked for, the words have a mistake, the network or the number of entries is bad, or memory was wanting
 abbrev pub Refuses : List Text → NoRun → Type 0
 Refuses words (Help text) = (AreTaken words → ⊥) × AsksHelp words
 Refuses words (Refused text) = (AreTaken words → ⊥) × IsMistaken words
 Refuses words BadPlmn = AsksBadPlmn words
+Refuses words BadJournal = AsksBadJournal words
 Refuses words Memory = Unit {0}

@@ -77,6 +77,7 @@ is_write_fault (Ok x) = false
 is_write_fault (Err WriteFault) = true
 is_write_fault (Err other) = false
 
+-- a fault of reading
 abbrev pub is_read_fault : {T : Type 0} → Result T ReplayFault → Bool
 is_read_fault (Ok x) = false
 is_read_fault (Err ReadFault) = true

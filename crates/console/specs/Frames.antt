@@ -9,5 +9,6 @@ pub record IsFrame (octets : List ℕ) (frame : Frame) : Type 0 where
   pub whole : octets ≡ frame_octets frame
   pub readable : length frame.body ≤ longest_body
 
+-- the octets are no such frame
 abbrev pub IsNoFrame : List ℕ → Type 0
 IsNoFrame octets = (frame : Frame) → IsFrame octets frame → ⊥

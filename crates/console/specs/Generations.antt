@@ -3,9 +3,11 @@
 use Rattle.std.specs.Prelude.{ℕ, ◌==◌, List, [], ◌∷◌, if◌then◌else◌}
 use Rattle.console.specs.declared.kept.Kept.{Kept}
 
+-- a generation kept for a BSC
 abbrev pub kept : ℕ → ℕ → Kept
 kept b generation = record { bsc = b; generation = generation }
 
+-- the generation kept for the BSC
 abbrev pub generation_of : List Kept → ℕ → ℕ
 generation_of [] b = 0
 generation_of (k ∷ ks) b = if k.bsc == b then k.generation else generation_of ks b

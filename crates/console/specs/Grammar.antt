@@ -1,10 +1,14 @@
 -- The lines that an operator may write, by their words.
 use Rattle.std.specs.Prelude.{ℕ, ◌&&◌, ◌==◌, List, [], ◌∷◌, Option, Some, None, bytes_eq, codes, if◌then◌else◌}
+use Rattle.std.specs.List.{find}
 use Rattle.std.specs.Option.{option_map}
 use Rattle.common.specs.declared.cell.Cell.{Cell}
 use Rattle.areas.specs.declared.selector.Selector.TheVariants as selector
 use Rattle.serials.specs.declared.scope.Scope.{Scope}
 use Rattle.serials.specs.declared.scope.Scope.TheVariants as scope
+use Rattle.warning_book.specs.Content.{category_number}
+use Rattle.warning_book.specs.declared.category.Category.{Category}
+use Rattle.warning_book.specs.declared.category.Category.TheVariants as category
 use Rattle.console.specs.Numbers.{number_in}
 use Rattle.console.specs.Parts.{parts_of}
 use Rattle.console.specs.declared.content_heading.ContentHeading.{ContentHeading}
@@ -37,12 +41,17 @@ link_generation_of word = number_in 0 4294967295 word
 abbrev pub cell_of : List ℕ → List ℕ → Option Cell
 cell_of lac ci = if_some (two_octets_of lac) (λ l. if_some (two_octets_of ci) (λ c. Some (record { lac = l; ci = c })))
 
--- SCOPE
+-- the scope of a number from 0 to 3
 abbrev pub scope_with : ℕ → Scope
 scope_with n = if n == 0 then scope.CellImmediate else (if n == 1 then scope.Plmn else (if n == 2 then scope.LocationArea else scope.Cell))
 
+-- SCOPE
 abbrev pub scope_of : List ℕ → Option Scope
 scope_of word = option_map scope_with (number_in 0 3 word)
+
+-- CAT: the category of this number
+abbrev pub category_of : List ℕ → Option Category
+category_of word = if_some (number_in 0 255 word) (λ n. find (λ c. category_number c == n) (category.HighPriority ∷ category.Background ∷ category.Normal ∷ []))
 
 -- AREAS: names are joined by `,`, which is 44; `-` alone is none
 abbrev pub names_of : List ℕ → List (List ℕ)
@@ -64,9 +73,9 @@ keep bsc generation = if_some (bsc_of bsc) (λ b. if_some (link_generation_of ge
 abbrev pub content_heading_of : List ℕ → List ℕ → List ℕ → Option ContentHeading
 content_heading_of dcs category period =
     if_some (number_in 0 255 dcs) (λ d.
-    if_some (number_in 0 2 category) (λ k.
+    if_some (category_of category) (λ c.
     if_some (two_octets_of period) (λ p.
-    Some (record { dcs = d; category = k; period = p }))))
+    Some (record { dcs = d; category = c; period = p }))))
 
 -- M SCOPE DCS CAT PERIOD of `issue`
 abbrev pub heading_of : List ℕ → List ℕ → List ℕ → List ℕ → List ℕ → Option Heading
@@ -78,7 +87,7 @@ heading_of message_id scope dcs category period =
 
 -- W DCS CAT PERIOD PAGES of `update`
 abbrev pub update : List ℕ → List ℕ → List ℕ → List ℕ → List ℕ → Option Line
-update warning dcs category period pages = if_some (warning_of warning) (λ w. if_some (content_heading_of dcs category period) (λ h. Some (Update w h pages)))
+update warning dcs category period pages = if_some (warning_of warning) (λ number. if_some (content_heading_of dcs category period) (λ h. Some (Update number h pages)))
 
 -- the line of the words, by how many they are; there is no other line
 abbrev pub line_of : List (List ℕ) → Option Line
@@ -97,8 +106,8 @@ line_of (verb ∷ x ∷ y ∷ []) =
     else if bytes_eq verb (codes "bsc") && bytes_eq x (codes "remove") then option_map RemoveBsc (bsc_of y)
     else if bytes_eq verb (codes "area") && bytes_eq x (codes "add") then Some (AddArea y)
     else if bytes_eq verb (codes "area") && bytes_eq x (codes "drop") then Some (DropArea y)
-    else if bytes_eq verb (codes "widen") then option_map (λ w. Widen w y) (warning_of x)
-    else if bytes_eq verb (codes "narrow") then option_map (λ w. Narrow w y) (warning_of x)
+    else if bytes_eq verb (codes "widen") then option_map (λ number. Widen number y) (warning_of x)
+    else if bytes_eq verb (codes "narrow") then option_map (λ number. Narrow number y) (warning_of x)
     else if bytes_eq verb (codes "gen") then keep x y
     else if bytes_eq verb (codes "rx") then option_map (λ b. Report b y) (bsc_of x)
     else None

@@ -8,11 +8,13 @@ use Rattle.console.specs.Parts.{parts_of}
 abbrev pub octets_of : List ℕ → Option (List ℕ)
 octets_of text = result_ok (decode_of text)
 
+-- one page in front of the others
 abbrev pub and_page : Option (List ℕ) → Option (List (List ℕ)) → Option (List (List ℕ))
 and_page None pages = None
 and_page (Some page) None = None
 and_page (Some page) (Some pages) = Some (page ∷ pages)
 
+-- the octets that each of the texts spells
 abbrev pub all_octets_of : List (List ℕ) → Option (List (List ℕ))
 all_octets_of [] = Some []
 all_octets_of (text ∷ texts) = and_page (octets_of text) (all_octets_of texts)

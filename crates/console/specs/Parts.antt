@@ -6,6 +6,7 @@ abbrev pub in_front : List ℕ → List (List ℕ) → List (List ℕ)
 in_front octets [] = octets ∷ []
 in_front octets (part ∷ parts) = (octets ++ part) ∷ parts
 
+-- what stands between the separators
 abbrev pub parts_of : ℕ → List ℕ → List (List ℕ)
 parts_of separator [] = [] ∷ []
 parts_of separator (x ∷ xs) = if x == separator then [] ∷ parts_of separator xs else in_front (x ∷ []) (parts_of separator xs)

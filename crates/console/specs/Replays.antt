@@ -1,9 +1,10 @@
 -- A whole run: what is written is the text of what was read.
 use Rattle.std.specs.Prelude.{◌≡◌, ◌⊎◌, ℕ, ◌≤◌, List, [], ◌∷◌, ◌++◌, length, Option}
 use Rattle.std.specs.Io.KnownBytes.{Appends, Consumes, IsAtEnd}
+use Rattle.centre_core.specs.Legal.{new_centre}
 use Rattle.centre_core.specs.declared.refusal.Refusal.TheVariants as refusal
 use Rattle.console.specs.Consoles.{BeginsLong, IsWritten}
-use Rattle.console.specs.Sessions.{SessionState, AnswersOrStarves}
+use Rattle.console.specs.Sessions.{SessionState, LineStarves}
 use Rattle.console.specs.Text.{longest_line, without_return, lines_of, IsText, IsTextOrStarves}
 use Rattle.console.specs.Texts.{refused_text}
 use Rattle.console.specs.declared.fault.ReplayFault.{ReplayFault}
@@ -12,9 +13,9 @@ use Rattle.console.specs.declared.response.Response.TheVariants as response
 
 -- a session in which nothing has happened
 abbrev pub new_session : List ℕ → ℕ → SessionState
-new_session plmn limit = record { centre = record { plmn = plmn; limit = limit; journal = [] }; kept = [] }
+new_session plmn limit = record { centre = new_centre plmn limit; kept = [] }
 
--- memory was wanting for a line that is an event or a question: the lines before it have their text, and nothing came of it
+-- memory was wanting for a line where it may be: the lines before it have their text, and nothing came of it
 pub record MeetsWant (old : SessionState) (lines : List (List ℕ)) (new : SessionState) (text : List ℕ) : Type 0 where
   pub front : List (List ℕ)
   pub line : List ℕ
@@ -25,7 +26,7 @@ pub record MeetsWant (old : SessionState) (lines : List (List ℕ)) (new : Sessi
   pub cut : lines ≡ front ++ line ∷ back
   pub told : IsText old front session answered
   pub short : length (without_return line) ≤ longest_line
-  pub starved : AnswersOrStarves session (without_return line) (response.Refused refusal.Memory) session
+  pub starved : LineStarves session (without_return line) (response.Refused refusal.Memory) session
   pub more : IsTextOrStarves session back new rest
   pub text_is : text ≡ answered ++ (refused_text refusal.Memory ++ rest)
 

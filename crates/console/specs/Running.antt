@@ -5,7 +5,7 @@ use Rattle.std.specs.Io.KnownBytes.{Appends}
 use Rattle.framing.specs.Sink.{AppendsFront}
 use Rattle.framing.specs.Source.{counted}
 use Rattle.clap.specs.Words.{Text}
-use Rattle.console.specs.CommandLine.{AreTaken, Asks, AsksBadPlmn, AsksHelp, IsMistaken}
+use Rattle.console.specs.CommandLine.{AreTaken, Asks, AsksBadJournal, AsksBadPlmn, AsksHelp, IsMistaken}
 use Rattle.console.specs.Replays.{new_session, Replays, BreaksOff}
 use Rattle.console.specs.Sessions.{SessionState}
 use Rattle.console.specs.Texts.{newline}
@@ -19,8 +19,13 @@ fault_words WriteFault = codes "cbc: write fault" ++ newline
 fault_words Memory = codes "cbc: out of memory" ++ newline
 fault_words LongLine = codes "cbc: line too long" ++ newline
 
+-- what is said of a network that isn't six hexadecimal digits
 abbrev pub bad_plmn : List ℕ
 bad_plmn = codes "cbc: bad plmn" ++ newline
+
+-- what is said of a number of entries that isn't one from 1 to 4,000,000
+abbrev pub bad_journal : List ℕ
+bad_journal = codes "cbc: bad journal" ++ newline
 
 -- what a run has yet to read, how often it has read, what it has written and what it has said; and whether reading,
 -- writing and saying have failed
@@ -37,6 +42,7 @@ pub record Streams : Type 0 where
 abbrev pub IsTold : Option (List ℕ) → Option (List ℕ) → Bool → List ℕ → Type 0
 IsTold before after has_failed text = Appends before after text ⊎ (AppendsFront before after text × (has_failed ≡ true))
 
+-- the text is said on standard error
 abbrev pub Tells : Streams → Streams → List ℕ → Type 0
 Tells old new text = IsTold old.errors new.errors new.is_mute text
 
@@ -61,9 +67,13 @@ pub record RunsInPart (start : SessionState) (old new : Streams) : Type 0 where
 abbrev pub Runs : SessionState → Streams → Streams → ℕ → Type 0
 Runs start old new status = MatchBool (status == 0) (RunsWhole start old new) ((status ≡ 1) × RunsInPart start old new)
 
--- what is said of a command line that is taken, where no script is run: memory was wanting, or the network is bad
+-- what is said of a network, or of a number of entries, that is bad
+abbrev pub IsBadValue : List Text → List ℕ → Type 0
+IsBadValue words said = (AsksBadPlmn words × (said ≡ bad_plmn)) ⊎ (AsksBadJournal words × (said ≡ bad_journal))
+
+-- what is said of a command line that is taken, where no script is run: memory was wanting, or a value is bad
 abbrev pub IsCause : List Text → ℕ → List ℕ → Type 0
-IsCause words status said = ((status ≡ 1) × (said ≡ fault_words Memory)) ⊎ ((status ≡ 2) × (said ≡ bad_plmn) × AsksBadPlmn words)
+IsCause words status said = ((status ≡ 1) × (said ≡ fault_words Memory)) ⊎ ((status ≡ 2) × IsBadValue words said)
 
 -- why a run without a script has status 1: memory was wanting, or help could not be written in full
 abbrev pub IsUnable : List Text → Streams → Streams → List ℕ → Type 0
@@ -77,7 +87,7 @@ pub record RunsNone (words : List Text) (old new : Streams) (status : ℕ) : Typ
   pub cause : AreTaken words → IsCause words status said
   pub helped : status ≡ 0 → AsksHelp words
   pub unable : status ≡ 1 → IsUnable words old new said
-  pub refused : status ≡ 2 → (AsksBadPlmn words × (said ≡ bad_plmn)) ⊎ IsMistaken words
+  pub refused : status ≡ 2 → IsBadValue words said ⊎ IsMistaken words
   pub unread : (new.input ≡ old.input) × (new.reads ≡ old.reads) × (new.read_failed ≡ old.read_failed)
   pub answered : MatchBool (status == 0) (Appends old.output new.output said × (new.errors ≡ old.errors)) (Tells old new said)
   pub silent : status ≡ 2 → new.output ≡ old.output
@@ -90,5 +100,6 @@ pub record RunsSome (words : List Text) (old new : Streams) (status : ℕ) : Typ
   pub asked : Asks words plmn limit
   pub runs : Runs (new_session plmn limit) old new status
 
+-- how a run of the program ends: a script was run, or none
 abbrev pub Ends : List Text → Streams → Streams → ℕ → Type 0
 Ends words old new status = RunsSome words old new status ⊎ RunsNone words old new status

@@ -1,12 +1,13 @@
 -- How a session answers a line, and what it is then.
-use Rattle.std.specs.Prelude.{◌≡◌, ◌⊎◌, ℕ, ◌+◌, ◌==◌, Bool, false, List, [], ◌∷◌, ◌++◌, length, Option, Some, None, Ok, Err, MatchOption}
+use Rattle.std.specs.Prelude.{◌≡◌, ◌⊎◌, ℕ, ◌+◌, ◌==◌, Bool, true, false, List, [], ◌∷◌, ◌++◌, length, Option, Some, None, Ok, Err, IsSome, IsSomeAnd, MatchOption, option_and_then, option_map, if◌then◌else◌}
 use Rattle.std.specs.Bool.{MatchBool}
-use Rattle.cbsp_messages.specs.Faults.{IsFault}
-use Rattle.cbsp_messages.specs.MessageType.{type_with, is_report}
+use Rattle.cbsp_messages.specs.Faults.{IsFaultAs}
+use Rattle.cbsp_messages.specs.MessageType.{code_of, type_with, is_report}
 use Rattle.cbsp_messages.specs.Spelling.{Spells}
 use Rattle.cbsp_messages.specs.declared.fault.MessageFault.{MessageFault}
 use Rattle.cbsp_messages.specs.declared.message.Message.{Message}
 use Rattle.cbsp_messages.specs.declared.message_type.MessageType.{MessageType}
+use Rattle.centre_core.specs.Kept.{MayStarve}
 use Rattle.centre_core.specs.Legal.{Known, past}
 use Rattle.centre_core.specs.Links.{is_bsc}
 use Rattle.centre_core.specs.Numbers.{board}
@@ -15,6 +16,7 @@ use Rattle.centre_core.specs.Table.{table}
 use Rattle.centre_core.specs.Verdict.{verdict}
 use Rattle.centre_core.specs.declared.answer.Answer.{Answer}
 use Rattle.centre_core.specs.declared.answer.Answer.TheVariants.{Link}
+use Rattle.centre_core.specs.declared.coverage_plan.edit.Edit.TheVariants as edit
 use Rattle.centre_core.specs.declared.entry.Entry.{Entry}
 use Rattle.centre_core.specs.declared.event.Event.{Event}
 use Rattle.centre_core.specs.declared.event.Event.TheVariants as event
@@ -44,10 +46,11 @@ pub record SessionState : Type 0 where
 abbrev pub Says : SessionState → Response → Response → SessionState → Type 0
 Says old said r new = (r ≡ said) × (new ≡ old)
 
--- the event is the last entry of the journal, and desk 1 submitted it
+-- the entry of an event that desk 1 submitted
 abbrev pub entry_of : Event → Answer → Entry
 entry_of e a = record { desk = 1; event = e; answer = a }
 
+-- the event is the last entry of the journal
 abbrev pub entered : SessionState → Event → Answer → SessionState
 entered s e a = record s { centre = record s.centre { journal = s.centre.journal ++ entry_of e a ∷ [] } }
 
@@ -58,40 +61,31 @@ with_link b other s = s
 
 -- the event is accepted with this answer, as the entry of this number
 abbrev pub Accepts : SessionState → Event → ℕ → Answer → Type 0
-Accepts old e number a = (verdict old.centre.limit (past old.centre) e ≡ Ok a) × (number ≡ length old.centre.journal + 1)
+Accepts old e number a = (verdict old.centre.settings (past old.centre) e ≡ Ok a) × (number ≡ length old.centre.journal + 1)
 
 -- the event is submitted: accepted, or refused with nothing changed
 abbrev pub Submits : SessionState → Event → Response → SessionState → Type 0
 Submits old e (response.Accepted number a) new = Accepts old e number a × (new ≡ entered old e a)
-Submits old e (response.Refused r) new = (verdict old.centre.limit (past old.centre) e ≡ Err r) × (new ≡ old)
+Submits old e (response.Refused r) new = (verdict old.centre.settings (past old.centre) e ≡ Err r) × (new ≡ old)
 Submits old e other new = ⊥
 
 -- the link of the BSC comes up
 abbrev pub BringsUp : SessionState → ℕ → Response → SessionState → Type 0
 BringsUp old b (response.Accepted number a) new = Accepts old (event.LinkUp b) number a × (new ≡ with_link b a (entered old (event.LinkUp b) a))
-BringsUp old b (response.Refused r) new = (verdict old.centre.limit (past old.centre) (event.LinkUp b) ≡ Err r) × (new ≡ old)
+BringsUp old b (response.Refused r) new = (verdict old.centre.settings (past old.centre) (event.LinkUp b) ≡ Err r) × (new ≡ old)
 BringsUp old b other new = ⊥
 
--- what an operator writes of a version, and of a warning that is issued
+-- what an operator writes of a version
 abbrev pub content_of : ContentHeading → List (List ℕ) → Content
 content_of h pages = record { dcs = h.dcs; category = h.category; period = h.period; pages = pages }
 
+-- what an operator writes of a warning that is issued
 abbrev pub notice_of : Heading → List (List ℕ) → Notice
 notice_of h pages = record { message_id = h.message_id; scope = h.scope; content = content_of h.content pages }
 
--- a warning is issued in these areas
-abbrev pub Issues : SessionState → Heading → List ℕ → List (List ℕ) → Response → SessionState → Type 0
-Issues old h text areas r new =
-    MatchOption (pages_of text) (Says old response.BadHex r new) (λ pages. Submits old (event.Issue (notice_of h pages) areas) r new)
-
--- a warning gets a new version
-abbrev pub Updates : SessionState → ℕ → ContentHeading → List ℕ → Response → SessionState → Type 0
-Updates old w h text r new =
-    MatchOption (pages_of text) (Says old response.BadHex r new) (λ pages. Submits old (event.Update w (content_of h pages)) r new)
-
 -- the board of a warning
 abbrev pub AsksBoard : SessionState → ℕ → Response → SessionState → Type 0
-AsksBoard old w r new = MatchOption (board (past old.centre) w) (Says old (response.Refused refusal.NoSuchWarning) r new) (λ n. Says old (response.Board n) r new)
+AsksBoard old warning r new = MatchOption (board (past old.centre) warning) (Says old (response.Refused refusal.NoSuchWarning) r new) (λ n. Says old (response.Board n) r new)
 
 -- a question about a BSC is answered, if the BSC is there
 abbrev pub AsksBsc : SessionState → ℕ → Response → Response → SessionState → Type 0
@@ -109,21 +103,22 @@ AsksTable old b r new = AsksBsc old b (response.Table (table (past old.centre) b
 abbrev pub Keeps : SessionState → ℕ → ℕ → Response → SessionState → Type 0
 Keeps old b generation r new = (r ≡ response.Set) × (new ≡ record old { kept = with_generation b generation old.kept })
 
--- the octet is the type of a message that a BSC sends
-abbrev pub is_report_type : Option MessageType → Bool
-is_report_type None = false
-is_report_type (Some t) = is_report t
+-- the type of a message that a BSC sends, by its octet
+abbrev pub report_type : ℕ → Option MessageType
+report_type octet = option_and_then (λ t. if is_report t then Some t else None) (type_with octet)
 
--- the message that the octets spell, or what is wrong with them
-abbrev pub ReportsBody : SessionState → ℕ → ℕ → List ℕ → Response → SessionState → Type 0
-ReportsBody old b kind body r new =
-    ((m : Message) × Spells kind body m × Submits old (event.Report b (generation_of old.kept b) m) r new)
-    ⊎ ((f : MessageFault) × IsFault kind body f × Says old (response.BadMessage f) r new)
+-- the message of this type that the octets spell, or what is wrong with them
+abbrev pub ReportsBody : SessionState → ℕ → MessageType → List ℕ → Response → SessionState → Type 0
+ReportsBody old b t body r new =
+    ((m : Message) × Spells (code_of t) body m × Submits old (event.Report b (generation_of old.kept b) m) r new)
+    ⊎ ((f : MessageFault) × IsFaultAs t body f × Says old (response.BadMessage f) r new)
 
+-- a frame of a BSC; it is skipped where its type is not that of a message that a BSC sends
 abbrev pub ReportsFrame : SessionState → ℕ → Frame → Response → SessionState → Type 0
 ReportsFrame old b frame r new =
-    MatchBool (is_report_type (type_with frame.kind)) (ReportsBody old b frame.kind frame.body r new) (Says old response.Skipped r new)
+    MatchOption (report_type frame.kind) (Says old response.Skipped r new) (λ t. ReportsBody old b t frame.body r new)
 
+-- octets of a BSC, which are to be one frame
 abbrev pub ReportsOctets : SessionState → ℕ → List ℕ → Response → SessionState → Type 0
 ReportsOctets old b octets r new =
     ((frame : Frame) × IsFrame octets frame × ReportsFrame old b frame r new)
@@ -134,42 +129,75 @@ abbrev pub Reports : SessionState → ℕ → List ℕ → Response → SessionS
 Reports old b text r new =
     MatchOption (octets_of text) (Says old response.BadHex r new) (λ octets. ReportsOctets old b octets r new)
 
+-- the event that a line stands for; `issue` and `update` stand for one where their pages are octets
+abbrev pub event_of : SessionState → Line → Option Event
+event_of old (line.AddBsc b) = Some (event.Edit (edit.AddBsc b))
+event_of old (line.RemoveBsc b) = Some (event.Edit (edit.RemoveBsc b))
+event_of old (line.AddCell c b) = Some (event.Edit (edit.AddCell c b))
+event_of old (line.MoveCell c b) = Some (event.Edit (edit.MoveCell c b))
+event_of old (line.RemoveCell c) = Some (event.Edit (edit.RemoveCell c))
+event_of old (line.AddArea a) = Some (event.Edit (edit.AddArea a))
+event_of old (line.DropArea a) = Some (event.Edit (edit.DropArea a))
+event_of old (line.Put a s) = Some (event.Edit (edit.Put a s))
+event_of old (line.Cut a s) = Some (event.Edit (edit.Cut a s))
+event_of old (line.Issue heading text areas) = option_map (λ pages. event.Edit (edit.Issue (notice_of heading pages) areas)) (pages_of text)
+event_of old (line.Update warning heading text) = option_map (λ pages. event.Edit (edit.Update warning (content_of heading pages))) (pages_of text)
+event_of old (line.Widen warning a) = Some (event.Edit (edit.Widen warning a))
+event_of old (line.Narrow warning a) = Some (event.Edit (edit.Narrow warning a))
+event_of old (line.Stop warning) = Some (event.Edit (edit.Stop warning))
+event_of old (line.Forget warning) = Some (event.Edit (edit.Forget warning))
+event_of old (line.Up b) = Some (event.LinkUp b)
+event_of old (line.Down b) = Some (event.LinkDown b (generation_of old.kept b))
+event_of old (line.Send b) = Some (event.Send b (generation_of old.kept b))
+event_of old other = None
+
+-- the event of a line is submitted; where there is none, its pages are no octets
+abbrev pub SubmitsLine : SessionState → Option Event → Response → SessionState → Type 0
+SubmitsLine old e r new = MatchOption e (Says old response.BadHex r new) (λ e. Submits old e r new)
+
 -- the answer to a line, and the session after it
 abbrev pub Responds : SessionState → Line → Response → SessionState → Type 0
-Responds old (line.AddBsc b) r new = Submits old (event.AddBsc b) r new
-Responds old (line.RemoveBsc b) r new = Submits old (event.RemoveBsc b) r new
-Responds old (line.AddCell c b) r new = Submits old (event.AddCell c b) r new
-Responds old (line.MoveCell c b) r new = Submits old (event.MoveCell c b) r new
-Responds old (line.RemoveCell c) r new = Submits old (event.RemoveCell c) r new
-Responds old (line.AddArea a) r new = Submits old (event.AddArea a) r new
-Responds old (line.DropArea a) r new = Submits old (event.DropArea a) r new
-Responds old (line.Put a s) r new = Submits old (event.Put a s) r new
-Responds old (line.Cut a s) r new = Submits old (event.Cut a s) r new
-Responds old (line.Issue heading pages areas) r new = Issues old heading pages areas r new
-Responds old (line.Update w heading pages) r new = Updates old w heading pages r new
-Responds old (line.Widen w a) r new = Submits old (event.Widen w a) r new
-Responds old (line.Narrow w a) r new = Submits old (event.Narrow w a) r new
-Responds old (line.Stop w) r new = Submits old (event.Stop w) r new
-Responds old (line.Forget w) r new = Submits old (event.Forget w) r new
 Responds old (line.Up b) r new = BringsUp old b r new
-Responds old (line.Down b) r new = Submits old (event.LinkDown b (generation_of old.kept b)) r new
 Responds old (line.Keep b generation) r new = Keeps old b generation r new
-Responds old (line.Send b) r new = Submits old (event.Send b (generation_of old.kept b)) r new
 Responds old (line.Report b text) r new = Reports old b text r new
-Responds old (line.Board w) r new = AsksBoard old w r new
+Responds old (line.Board warning) r new = AsksBoard old warning r new
 Responds old (line.Pending b) r new = AsksPending old b r new
 Responds old (line.Table b) r new = AsksTable old b r new
+Responds old l r new = SubmitsLine old (event_of old l) r new
 
--- memory was wanting for an event, its message or a question, and nothing changed
+-- memory may be wanting for an event
+abbrev pub MayStarveAt : SessionState → Event → Type 0
+MayStarveAt old e = MayStarve old.centre.settings (past old.centre) e
+
+-- memory may be wanting while a message is read: the octets are one frame, of a type that a BSC sends
+abbrev pub ReadsMessage : List ℕ → Type 0
+ReadsMessage octets = (frame : Frame) × IsFrame octets frame × IsSome (report_type frame.kind)
+
+-- where a line may be answered that memory is wanting: while the message of an `rx` is read, for a list of a BSC that
+-- is there, and at the event that the line stands for
+abbrev pub LineMayStarve : SessionState → Line → Type 0
+LineMayStarve old (line.Report b text) = IsSomeAnd (octets_of text) ReadsMessage
+LineMayStarve old (line.Pending b) = is_bsc (past old.centre) b ≡ true
+LineMayStarve old (line.Table b) = is_bsc (past old.centre) b ≡ true
+LineMayStarve old l = IsSomeAnd (event_of old l) (MayStarveAt old)
+
+-- memory was wanting, and nothing changed
 abbrev pub IsStarved : SessionState → Response → SessionState → Type 0
 IsStarved old r new = Says old (response.Refused refusal.Memory) r new
 
--- the same of a line; a board takes no memory, and want of memory for a generation that is set is not answered
-abbrev pub Starves : SessionState → Line → Response → SessionState → Type 0
-Starves old (line.Board w) r new = ⊥
-Starves old (line.Keep b generation) r new = ⊥
-Starves old other r new = IsStarved old r new
+-- memory was wanting for an event
+abbrev pub StarvesAt : SessionState → Event → Response → SessionState → Type 0
+StarvesAt old e r new = MayStarveAt old e × IsStarved old r new
 
+-- the event is submitted, or memory was wanting where it may be
+abbrev pub SubmitsOrStarves : SessionState → Event → Response → SessionState → Type 0
+SubmitsOrStarves old e r new = Submits old e r new ⊎ StarvesAt old e r new
+
+-- memory was wanting for a line
+abbrev pub Starves : SessionState → Line → Response → SessionState → Type 0
+Starves old l r new = LineMayStarve old l × IsStarved old r new
+
+-- the line has its answer, or memory was wanting where it may be
 abbrev pub RespondsOrStarves : SessionState → Line → Response → SessionState → Type 0
 RespondsOrStarves old l r new = Responds old l r new ⊎ Starves old l r new
 
@@ -182,18 +210,24 @@ is_comment (x ∷ xs) = x == 35
 abbrev pub Responding : Type 1
 Responding = SessionState → Line → Response → SessionState → Type 0
 
+-- a line of these words asks for something, or is bad
 abbrev pub AnswersLine : Responding → SessionState → Option Line → Response → SessionState → Type 0
 AnswersLine responds old None r new = Says old response.BadLine r new
 AnswersLine responds old (Some l) r new = responds old l r new
 
+-- blank lines and comments are answered by nothing
 abbrev pub AnswersWords : Responding → SessionState → List (List ℕ) → Response → SessionState → Type 0
 AnswersWords responds old [] r new = Says old response.Silence r new
-AnswersWords responds old (w ∷ ws) r new = MatchBool (is_comment w) (Says old response.Silence r new) (AnswersLine responds old (line_of (w ∷ ws)) r new)
+AnswersWords responds old (first ∷ words) r new = MatchBool (is_comment first) (Says old response.Silence r new) (AnswersLine responds old (line_of (first ∷ words)) r new)
 
 -- a line of these octets is answered so
 abbrev pub Answers : SessionState → List ℕ → Response → SessionState → Type 0
 Answers old octets r new = AnswersWords Responds old (words_of octets) r new
 
--- the same, where memory may be wanting for an event or a question
+-- memory was wanting for a line of these octets
+abbrev pub LineStarves : SessionState → List ℕ → Response → SessionState → Type 0
+LineStarves old octets r new = AnswersWords Starves old (words_of octets) r new
+
+-- a line of these octets is answered so, or memory was wanting where it may be
 abbrev pub AnswersOrStarves : SessionState → List ℕ → Response → SessionState → Type 0
 AnswersOrStarves old octets r new = AnswersWords RespondsOrStarves old (words_of octets) r new

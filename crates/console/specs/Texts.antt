@@ -31,6 +31,7 @@ use Rattle.console.specs.declared.response.Response.TheVariants.{Silence, BadLin
 abbrev pub newline : List ℕ
 newline = 10 ∷ []
 
+-- the name of a limit
 abbrev pub limit_name : Limit → List ℕ
 limit_name limit.Bscs = codes "Bscs"
 limit_name limit.Cells = codes "Cells"
@@ -40,6 +41,7 @@ limit_name limit.Warnings = codes "Warnings"
 limit_name limit.WarningAreas = codes "WarningAreas"
 limit_name limit.Ids = codes "Ids"
 
+-- the name of a refusal
 abbrev pub refusal_name : Refusal → List ℕ
 refusal_name refusal.JournalFull = codes "JournalFull"
 refusal_name refusal.NoSuchBsc = codes "NoSuchBsc"
@@ -81,6 +83,7 @@ refusal_detail (refusal.StaleLink now) = codes " " ++ (decimal now ++ newline)
 refusal_detail (refusal.Limit which) = codes " " ++ (limit_name which ++ newline)
 refusal_detail other = newline
 
+-- a refusal: its number, its name, and what follows it
 abbrev pub refused_text : Refusal → List ℕ
 refused_text r = codes "no " ++ (decimal (refusal_number r) ++ (codes " " ++ (refusal_name r ++ refusal_detail r)))
 
@@ -97,9 +100,11 @@ answer_text (answer.Link generation) = codes " link " ++ (decimal generation ++ 
 answer_text (answer.Sent order message) = codes " tx " ++ (encode_lower (frame_of message) ++ newline)
 answer_text (answer.Replied replies) = codes " cells " ++ (decimal (length replies) ++ newline)
 
+-- an event that is accepted: the number of its entry, and its answer
 abbrev pub accepted_text : ℕ → Answer → List ℕ
 accepted_text number a = codes "ok " ++ (decimal number ++ answer_text a)
 
+-- the name of what is wrong with a message
 abbrev pub fault_name : MessageFault → List ℕ
 fault_name (fault.Element element_fault.Cut) = codes "Cut"
 fault_name (fault.Element (element_fault.UnknownElement id)) = codes "UnknownElement"
@@ -120,20 +125,25 @@ fault_value (fault.Repeated id) = Some (code_of id)
 fault_value (fault.Missing id) = Some (code_of id)
 fault_value other = None
 
+-- a number after a space, if there is one
 abbrev pub number_text : Option ℕ → List ℕ
 number_text None = []
 number_text (Some n) = codes " " ++ decimal n
 
+-- an octet in two digits after a space, if there is one
 abbrev pub value_text : Option ℕ → List ℕ
 value_text None = []
 value_text (Some v) = codes " " ++ encode_upper (v ∷ [])
 
+-- a message that can't be read: the number of its fault, its name, and the octet that it speaks of
 abbrev pub fault_text : MessageFault → List ℕ
 fault_text f = codes "bad message" ++ (number_text (number_of f) ++ (codes " " ++ (fault_name f ++ (value_text (fault_value f) ++ newline))))
 
+-- the numbers of a warning
 abbrev pub board_text : Numbers → List ℕ
 board_text n = codes "awaited " ++ (decimal n.awaited ++ (codes " onair " ++ (decimal n.on_air ++ (codes " failed " ++ (decimal n.failed ++ (codes " left " ++ (decimal n.left ++ (codes " broadcasts " ++ (decimal n.broadcasts ++ newline)))))))))
 
+-- the name of what an order does
 abbrev pub kind_name : OrderKind → List ℕ
 kind_name Write = codes "write"
 kind_name (Replace old) = codes "replace"

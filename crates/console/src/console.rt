@@ -32,10 +32,11 @@ impl Model for Console {
 impl Console {
     ghost use Rattle.std.specs.Prelude.{◌≡◌, ◌≤◌, ◌||◌, ◌∷◌, [], false, OnOk, IfErr};
     ghost use Rattle.console.specs.Consoles.{EndsLine, BreaksLine, Goes, Stops, is_read_fault, is_write_fault};
+    ghost use Rattle.console.specs.Replays.{new_session};
 
     pub fn new(alloc: Global, plmn: [u8; 3], journal_limit: u32) -> Console
         requires { journal_limit ≤ 4000000 }
-        ensures { result ≡ record { session = record { centre = record { plmn = plmn; limit = journal_limit; journal = [] }; kept = [] }; begun = [] } }
+        ensures { result ≡ record { session = new_session plmn journal_limit; begun = [] } }
     {
         Console {
             alloc,

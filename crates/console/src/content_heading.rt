@@ -1,14 +1,13 @@
 //! What stands in front of the pages of a version.
 
-use warning_book::{Content, ContentPages};
+use warning_book::{Category, Content, ContentPages};
 
 /// The numbers of a version of a warning.
 #[derive(Clone, Copy, Debug)]
 pub struct ContentHeading {
     /// The data coding scheme, as coded by TS 23.038.
     pub dcs: u8,
-    /// 0 high priority, 1 background, 2 normal.
-    pub category: u8,
+    pub category: Category,
     /// The repetition period, in units of 1.883 s.
     pub period: u16,
 }

@@ -1,7 +1,7 @@
 //! The lines that an operator may write.
 
 ghost use Rattle.std.specs.Prelude.{◌≡◌, [], ◌∷◌, IfOk};
-ghost use Rattle.console.specs.Grammar.{bsc_of, two_octets_of, warning_of, link_generation_of, cell_of, scope_of, names_of, add_cell, move_cell, keep, content_heading_of, heading_of, line_of};
+ghost use Rattle.console.specs.Grammar.{bsc_of, two_octets_of, warning_of, link_generation_of, cell_of, scope_of, category_of, names_of, add_cell, move_cell, keep, content_heading_of, heading_of, line_of};
 
 use crate::content_heading::ContentHeading;
 use crate::heading::Heading;
@@ -14,7 +14,7 @@ use cell_register::BscId;
 use common::{Cell, Name, Names, Octets};
 use serials::Scope;
 use std::alloc::{AllocError, Global};
-use warning_book::WarningId;
+use warning_book::{Category, WarningId};
 
 /// The line of the words; `None` where there is no such line, or a number isn't one or is out of its range.
 pub fn read_line(alloc: Global, words: &[Octets]) -> Result<Option<Line>, AllocError>
@@ -97,6 +97,14 @@ fn read_scope(word: &[u8]) -> Option<Scope>
 {
     let number = read_number_in(word, 0, 3)?;
     Scope::from_number(number as u16)
+}
+
+/// CAT, 0 high priority, 1 background, 2 normal.
+fn read_category(word: &[u8]) -> Option<Category>
+    ensures { result ≡ category_of word.now }
+{
+    let number = read_number_in(word, 0, 255)?;
+    Category::of_number(number as u8)
 }
 
 /// AREAS, names joined by `,`, or `-` for none.
@@ -262,7 +270,7 @@ fn read_content_heading(dcs: &Octets, category: &Octets, period: &Octets) -> Opt
 {
     Some(ContentHeading {
         dcs: read_number_in(dcs.as_slice(), 0, 255)? as u8,
-        category: read_number_in(category.as_slice(), 0, 2)? as u8,
+        category: read_category(category.as_slice())?,
         period: read_two_octets(period.as_slice())?,
     })
 }

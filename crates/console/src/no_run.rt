@@ -11,6 +11,8 @@ pub enum NoRun {
     Refused(String),
     /// The network code isn't six hexadecimal digits.
     BadPlmn,
+    /// The number of entries isn't one from 1 to 4,000,000.
+    BadJournal,
     Memory,
 }
 

@@ -1,6 +1,6 @@
 //! What the command line asks for.
 
-ghost use Rattle.std.specs.Prelude.{◌≡◌, ◌≤◌, false, map, string_bytes, IfOk, IfErr};
+ghost use Rattle.std.specs.Prelude.{◌≡◌, ◌≤◌, false, map, string_bytes, IfOk, IfErr, IfSome};
 ghost use Rattle.clap.specs.Words.{app_of, kind_of, rule_of, subcommand_rows_of};
 ghost use Rattle.clap.specs.declared.builder.command.Command.TheViews.{out-Command as fields_of};
 ghost use Rattle.console.specs.CommandLine.{plmn_option, journal_option, replay_command, command_line, most_entries};
@@ -79,9 +79,12 @@ pub fn read_options<'a>(alloc: Global, words: &'a [String]) -> Result<Options, N
     let Some(plmn) = asked_plmn(&matches) else {
         return Err(NoRun::BadPlmn);
     };
+    let Some(journal_limit) = asked_journal(&matches) else {
+        return Err(NoRun::BadJournal);
+    };
     Ok(Options {
         plmn,
-        journal_limit: asked_journal(&matches),
+        journal_limit,
     })
 }
 
@@ -93,18 +96,16 @@ fn asked_plmn(matches: &ArgMatches<'_>) -> Option<[u8; 3]>
     <[u8; 3] as FromHex>::from_hex(replay.get_str("plmn")?).ok()
 }
 
-/// How many entries the journal may hold. The range is looked at once more: no contract of the parser's names the
-/// values that a command below the first may have.
-fn asked_journal(matches: &ArgMatches<'_>) -> u32
+/// How many entries the journal may hold; `None` where that isn't a number from 1 to 4,000,000. The parser refuses
+/// other numbers, but no contract of its names the values of a command below the first.
+fn asked_journal(matches: &ArgMatches<'_>) -> Option<u32>
     ensures asked { result ≡ limit_in (replay_rows (subcommand_rows_of matches.now)) }
-    ensures few { result ≤ most_entries }
+    ensures few { IfSome result (λ limit. limit ≤ most_entries) }
 {
-    let Some(replay) = matches.subcommand_matches("replay") else {
-        return MOST_ENTRIES;
-    };
+    let replay = matches.subcommand_matches("replay")?;
     match replay.get_one::<u32>("journal") {
-        Some(limit @ 1..=MOST_ENTRIES) => limit,
-        _ => MOST_ENTRIES,
+        Some(limit @ 1..=MOST_ENTRIES) => Some(limit),
+        _ => None,
     }
 }
 

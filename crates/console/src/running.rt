@@ -15,7 +15,8 @@ use std::alloc::Global;
 /// status, and `errors` gets what is said on standard error.
 ///
 /// 0: all of the input was read, or help was asked for. 1: a fault ended the run, which is said as `cbc: ` and its
-/// words. 2: the command line was refused, with clap's text, or with `cbc: bad plmn` where that had none.
+/// words. 2: the command line was refused, with clap's text, or with `cbc: bad plmn` or `cbc: bad journal` where that
+/// had none.
 pub fn run<R: Source, W: Sink, E: Sink>(
     alloc: Global,
     words: &[String],
@@ -42,6 +43,10 @@ pub fn run<R: Source, W: Sink, E: Sink>(
         }
         Err(NoRun::BadPlmn) => {
             tell(errors, b"cbc: bad plmn\n");
+            2
+        }
+        Err(NoRun::BadJournal) => {
+            tell(errors, b"cbc: bad journal\n");
             2
         }
         Err(NoRun::Memory) => {

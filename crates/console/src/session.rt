@@ -1,8 +1,7 @@
 //! One run of the console: a centre, and the generations that its lines speak of.
 
 ghost use Rattle.std.specs.Prelude.{◌≡◌};
-ghost use Rattle.cbsp_messages.specs.MessageType.{type_with};
-ghost use Rattle.console.specs.Sessions.{is_comment, is_report_type};
+ghost use Rattle.console.specs.Sessions.{is_comment, report_type};
 
 use crate::content_heading::ContentHeading;
 use crate::frames::read_frame;
@@ -13,10 +12,11 @@ use crate::hex_text::{read_octets, read_pages};
 use crate::line::Line;
 use crate::response::Response;
 use crate::words::split_words;
-use cbsp_messages::{MessageFault, MessageType, read};
+use cbsp_messages::{MessageFault, MessageType, read_as};
 use cell_register::BscId;
 use centre_core::answer::Answer;
 use centre_core::centre::Centre;
+use centre_core::coverage_plan::Edit;
 use centre_core::event::Event;
 use centre_core::refusal::Refusal;
 use common::Names;
@@ -45,15 +45,16 @@ impl Model for Session {
 }
 
 impl Session {
-    ghost use Rattle.std.specs.Prelude.{◌≡◌, ◌≤◌, ◌⊎◌, [], IfOk};
+    ghost use Rattle.std.specs.Prelude.{◌≡◌, ◌≤◌, ◌⊎◌, IfOk, IsSome};
     ghost use Rattle.centre_core.specs.declared.event.Event.TheVariants as event;
     ghost use Rattle.console.specs.Texts.{ResponseFits};
-    ghost use Rattle.console.specs.Sessions.{AnswersOrStarves, AsksBoard, AsksPending, AsksTable, BringsUp, IsStarved, Issues, Keeps, Reports, ReportsBody, ReportsFrame, RespondsOrStarves, Submits, Updates};
-    ghost use Rattle.console.specs.Generations.{generation_of};
+    ghost use Rattle.console.specs.Replays.{new_session};
+    ghost use Rattle.console.specs.Sessions.{AnswersOrStarves, IsStarved, ReportsBody, ReportsFrame, RespondsOrStarves, SubmitsOrStarves};
+    ghost use Rattle.console.specs.declared.line.Line.TheVariants as request;
 
     pub fn new(alloc: Global, plmn: [u8; 3], journal_limit: u32) -> Session
         requires { journal_limit ≤ 4000000 }
-        ensures { result ≡ record { centre = record { plmn = plmn; limit = journal_limit; journal = [] }; kept = [] } }
+        ensures { result ≡ new_session plmn journal_limit }
     {
         Session {
             alloc,
@@ -63,7 +64,7 @@ impl Session {
     }
 
     fn submit(&mut self, event: Event) -> Response
-        ensures answer { Submits self.old event result self.new ⊎ IsStarved self.old result self.new }
+        ensures answer { SubmitsOrStarves self.old event result self.new }
         ensures fits { ResponseFits result }
     {
         match self.centre.accept(DESK, event) {
@@ -75,8 +76,15 @@ impl Session {
         }
     }
 
+    fn edit(&mut self, edit: Edit) -> Response
+        ensures answer { SubmitsOrStarves self.old (event.Edit edit) result self.new }
+        ensures fits { ResponseFits result }
+    {
+        self.submit(Event::Edit(edit))
+    }
+
     fn board(&self, warning: WarningId) -> Response
-        ensures answer { AsksBoard self.now warning result self.now }
+        ensures answer { RespondsOrStarves self.now (request.Board warning) result self.now }
         ensures fits { ResponseFits result }
     {
         match self.centre.board_total(warning) {
@@ -86,7 +94,7 @@ impl Session {
     }
 
     fn bring_up(&mut self, bsc: BscId) -> Result<Response, AllocError>
-        ensures answer { IfOk result (λ r. BringsUp self.old bsc r self.new ⊎ IsStarved self.old r self.new) }
+        ensures answer { IfOk result (λ r. RespondsOrStarves self.old (request.Up bsc) r self.new) }
         ensures fits { IfOk result ResponseFits }
     {
         let response = self.submit(Event::LinkUp(bsc));
@@ -102,7 +110,7 @@ impl Session {
 
     /// Keeps the generation for the BSC, which need not be there.
     fn keep(&mut self, bsc: BscId, generation: u64) -> Result<Response, AllocError>
-        ensures answer { IfOk result (λ r. Keeps self.old bsc generation r self.new) }
+        ensures answer { IfOk result (λ r. RespondsOrStarves self.old (request.Keep bsc generation) r self.new) }
         ensures fits { IfOk result ResponseFits }
     {
         self.generations.keep(bsc, generation)?;
@@ -110,15 +118,16 @@ impl Session {
     }
 
     fn bring_down(&mut self, bsc: BscId) -> Response
-        ensures answer { Submits self.old (event.LinkDown bsc (generation_of self.old.kept bsc)) result self.new ⊎ IsStarved self.old result self.new }
+        ensures answer { RespondsOrStarves self.old (request.Down bsc) result self.new }
         ensures fits { ResponseFits result }
     {
         let generation = self.generations.of(bsc);
         self.submit(Event::LinkDown(bsc, generation))
     }
 
+    #[tactic(auto, using(crate::proofs::ListLemmas::pending_told))]
     fn pending(&self, bsc: BscId) -> Response
-        ensures answer { AsksPending self.now bsc result self.now ⊎ IsStarved self.now result self.now }
+        ensures answer { RespondsOrStarves self.now (request.Pending bsc) result self.now }
         ensures fits { ResponseFits result }
     {
         match self.centre.pending_of(bsc) {
@@ -127,8 +136,9 @@ impl Session {
         }
     }
 
+    #[tactic(auto, using(crate::proofs::ListLemmas::table_told))]
     fn table(&mut self, bsc: BscId) -> Response
-        ensures answer { AsksTable self.old bsc result self.new ⊎ IsStarved self.old result self.new }
+        ensures answer { RespondsOrStarves self.old (request.Table bsc) result self.new }
         ensures fits { ResponseFits result }
     {
         match self.centre.table_of(bsc) {
@@ -138,7 +148,7 @@ impl Session {
     }
 
     fn send(&mut self, bsc: BscId) -> Response
-        ensures answer { Submits self.old (event.Send bsc (generation_of self.old.kept bsc)) result self.new ⊎ IsStarved self.old result self.new }
+        ensures answer { RespondsOrStarves self.old (request.Send bsc) result self.new }
         ensures fits { ResponseFits result }
     {
         let generation = self.generations.of(bsc);
@@ -146,7 +156,7 @@ impl Session {
     }
 
     fn report(&mut self, bsc: BscId, text: &[u8]) -> Result<Response, AllocError>
-        ensures answer { IfOk result (λ r. Reports self.old bsc text.now r self.new ⊎ IsStarved self.old r self.new) }
+        ensures answer { IfOk result (λ r. RespondsOrStarves self.old (request.Report bsc text.now) r self.new) }
         ensures fits { IfOk result ResponseFits }
     {
         let Some(octets) = read_octets(self.alloc, text)? else {
@@ -159,21 +169,20 @@ impl Session {
     }
 
     fn report_frame(&mut self, bsc: BscId, frame: &Frame) -> Response
-        ensures answer { ReportsFrame self.old bsc frame.now result self.new ⊎ IsStarved self.old result self.new }
+        ensures answer { ReportsFrame self.old bsc frame.now result self.new ⊎ (IsSome (report_type frame.now.kind) × IsStarved self.old result self.new) }
         ensures fits { ResponseFits result }
     {
-        if is_report(frame.kind) {
-            self.report_body(bsc, frame.kind, frame.body.as_slice())
-        } else {
-            Response::Skipped
+        match report_type(frame.kind) {
+            Some(kind) => self.report_body(bsc, kind, frame.body.as_slice()),
+            None => Response::Skipped,
         }
     }
 
-    fn report_body(&mut self, bsc: BscId, kind: u8, body: &[u8]) -> Response
+    fn report_body(&mut self, bsc: BscId, kind: MessageType, body: &[u8]) -> Response
         ensures answer { ReportsBody self.old bsc kind body.now result self.new ⊎ IsStarved self.old result self.new }
         ensures fits { ResponseFits result }
     {
-        match read(self.alloc, kind, body) {
+        match read_as(self.alloc, kind, body) {
             Ok(message) => {
                 let generation = self.generations.of(bsc);
                 self.submit(Event::Report(bsc, generation, message))
@@ -189,7 +198,7 @@ impl Session {
         pages: &[u8],
         areas: Names,
     ) -> Result<Response, AllocError>
-        ensures answer { IfOk result (λ r. Issues self.old heading pages.now areas r self.new ⊎ IsStarved self.old r self.new) }
+        ensures answer { IfOk result (λ r. RespondsOrStarves self.old (request.Issue heading pages.now areas) r self.new) }
         ensures fits { IfOk result ResponseFits }
     {
         let Some(pages) = read_pages(self.alloc, pages)? else {
@@ -200,7 +209,7 @@ impl Session {
             scope: heading.scope,
             content: heading.content.content(pages),
         };
-        Ok(self.submit(Event::Issue(notice, areas)))
+        Ok(self.edit(Edit::Issue(notice, areas)))
     }
 
     fn update(
@@ -209,13 +218,13 @@ impl Session {
         heading: ContentHeading,
         pages: &[u8],
     ) -> Result<Response, AllocError>
-        ensures answer { IfOk result (λ r. Updates self.old warning heading pages.now r self.new ⊎ IsStarved self.old r self.new) }
+        ensures answer { IfOk result (λ r. RespondsOrStarves self.old (request.Update warning heading pages.now) r self.new) }
         ensures fits { IfOk result ResponseFits }
     {
         let Some(pages) = read_pages(self.alloc, pages)? else {
             return Ok(Response::BadHex);
         };
-        Ok(self.submit(Event::Update(warning, heading.content(pages))))
+        Ok(self.edit(Edit::Update(warning, heading.content(pages))))
     }
 
     fn respond(&mut self, line: Line) -> Result<Response, AllocError>
@@ -223,15 +232,15 @@ impl Session {
         ensures fits { IfOk result ResponseFits }
     {
         match line {
-            Line::AddBsc(bsc) => Ok(self.submit(Event::AddBsc(bsc))),
-            Line::RemoveBsc(bsc) => Ok(self.submit(Event::RemoveBsc(bsc))),
-            Line::AddCell(cell, bsc) => Ok(self.submit(Event::AddCell(cell, bsc))),
-            Line::MoveCell(cell, bsc) => Ok(self.submit(Event::MoveCell(cell, bsc))),
-            Line::RemoveCell(cell) => Ok(self.submit(Event::RemoveCell(cell))),
-            Line::AddArea(area) => Ok(self.submit(Event::AddArea(area))),
-            Line::DropArea(area) => Ok(self.submit(Event::DropArea(area))),
-            Line::Put(area, selector) => Ok(self.submit(Event::Put(area, selector))),
-            Line::Cut(area, selector) => Ok(self.submit(Event::Cut(area, selector))),
+            Line::AddBsc(bsc) => Ok(self.edit(Edit::AddBsc(bsc))),
+            Line::RemoveBsc(bsc) => Ok(self.edit(Edit::RemoveBsc(bsc))),
+            Line::AddCell(cell, bsc) => Ok(self.edit(Edit::AddCell(cell, bsc))),
+            Line::MoveCell(cell, bsc) => Ok(self.edit(Edit::MoveCell(cell, bsc))),
+            Line::RemoveCell(cell) => Ok(self.edit(Edit::RemoveCell(cell))),
+            Line::AddArea(area) => Ok(self.edit(Edit::AddArea(area))),
+            Line::DropArea(area) => Ok(self.edit(Edit::DropArea(area))),
+            Line::Put(area, selector) => Ok(self.edit(Edit::Put(area, selector))),
+            Line::Cut(area, selector) => Ok(self.edit(Edit::Cut(area, selector))),
             Line::Issue {
                 heading,
                 pages,
@@ -242,10 +251,10 @@ impl Session {
                 heading,
                 pages,
             } => self.update(warning, heading, pages.as_slice()),
-            Line::Widen(warning, area) => Ok(self.submit(Event::Widen(warning, area))),
-            Line::Narrow(warning, area) => Ok(self.submit(Event::Narrow(warning, area))),
-            Line::Stop(warning) => Ok(self.submit(Event::Stop(warning))),
-            Line::Forget(warning) => Ok(self.submit(Event::Forget(warning))),
+            Line::Widen(warning, area) => Ok(self.edit(Edit::Widen(warning, area))),
+            Line::Narrow(warning, area) => Ok(self.edit(Edit::Narrow(warning, area))),
+            Line::Stop(warning) => Ok(self.edit(Edit::Stop(warning))),
+            Line::Forget(warning) => Ok(self.edit(Edit::Forget(warning))),
             Line::Up(bsc) => self.bring_up(bsc),
             Line::Down(bsc) => Ok(self.bring_down(bsc)),
             Line::Keep(bsc, generation) => self.keep(bsc, generation),
@@ -276,13 +285,12 @@ impl Session {
     }
 }
 
-fn is_report(kind: u8) -> bool
-    ensures { result ≡ is_report_type (type_with kind) }
+/// The type of a message that a BSC sends, by its octet.
+fn report_type(octet: u8) -> Option<MessageType>
+    ensures { result ≡ report_type octet }
 {
-    match MessageType::of_code(kind) {
-        Some(kind) => kind.is_report(),
-        None => false,
-    }
+    let kind = MessageType::of_code(octet)?;
+    if kind.is_report() { Some(kind) } else { None }
 }
 
 fn is_comment(word: &[u8]) -> bool

@@ -19,6 +19,13 @@ returns-in_default-clause-refused c =
     let rows = ap replay_rows (sym (taken_has_matches _ words c.in-Ok.matches c.in_ok-command_line.ensures c.in-Ok.ensures.matches)) in
     (taken_has_no_fault _ words c.in_ok-command_line.ensures c.in-Ok.ensures.kinds, ap network_in rows ∙ (sym c.asked_plmn.ensures ∙ c.in_default.is))
 
+-- or whose number of entries isn't one
+pub returns-in_default-asked_journal-clause-refused : goal.returns-in_default-asked_journal-clause-refused
+returns-in_default-asked_journal-clause-refused c =
+    let words = map string_bytes c.args.words.now in
+    let rows = ap replay_rows (sym (taken_has_matches _ words c.in-Ok.matches c.in_ok-command_line.ensures c.in-Ok.ensures.matches)) in
+    (taken_has_no_fault _ words c.in_ok-command_line.ensures c.in-Ok.ensures.kinds, ap limit_in rows ∙ (sym c.asked_journal.ensures.asked ∙ c.in_default-asked_journal.is))
+
 pub returns-clause-asked : goal.returns-clause-asked
 returns-clause-asked c =
     let words = map string_bytes c.args.words.now in
@@ -26,5 +33,5 @@ returns-clause-asked c =
     record {
       well_formed = taken_has_no_fault _ words c.in_ok-command_line.ensures c.in-Ok.ensures.kinds;
       network = ap network_in rows ∙ (sym c.asked_plmn.ensures ∙ c.in-Some.is);
-      entries = ap limit_in rows ∙ sym c.asked_journal.ensures.asked;
+      entries = ap limit_in rows ∙ (sym c.asked_journal.ensures.asked ∙ c.in-Some-asked_journal.is);
     }
