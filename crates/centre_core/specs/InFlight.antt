@@ -82,6 +82,7 @@ abbrev pub cells_of : InFlight → List Cell
 cells_of (flight.Order order) = order.cells
 cells_of (flight.Query message_id serial cells) = cells
 
+-- an order of this kind is a KILL
 abbrev pub is_kill : OrderKind → Bool
 is_kill Write = false
 is_kill (Replace old) = false

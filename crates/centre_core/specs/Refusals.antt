@@ -13,6 +13,7 @@ use Rattle.centre_core.specs.declared.refusal.Limit.TheVariants as limit
 use Rattle.centre_core.specs.declared.refusal.Refusal.{Refusal}
 use Rattle.centre_core.specs.declared.refusal.Refusal.TheVariants.{JournalFull, NoSuchBsc, BscExists, BscHasCells, LinkIsUp, CellExists, NoSuchCell, SameBsc, BadName, AreaExists, NoSuchArea, AreaInUse, SelectorThere, SelectorNotThere, NoSuchWarning, NotActive, StillActive, StillReported, StillInFlight, NoAreas, AreaThere, AreaNotThere, LastArea, BadPages, BadPeriod, UpdatesExhausted, StaleLink, LinkNotUp, InFlight, NothingPending, NoOrder, Limit, Memory}
 
+-- the number that a refusal is answered with
 abbrev pub refusal_number : Refusal → ℕ
 refusal_number JournalFull = 2
 refusal_number NoSuchBsc = 3
