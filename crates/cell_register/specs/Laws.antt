@@ -59,7 +59,7 @@ place_step p q d more qs e true comes =
     ap (λ o. if cell_eq q.cell d then Some q.bsc else o) e ∙ exchanged (cell_eq q.cell d) (cell_eq p.cell d) (Some q.bsc) (Some p.bsc) (place_among qs d) (λ same. cell_lt_other d q.cell p.cell same comes)
 place_step p q d more qs e false comes = refl
 
-place_among_inserted : (p : Placed) (d : Cell) (ps : List Placed) → place_among (inserted placed_lt p ps) d ≡ (if cell_eq p.cell d then Some p.bsc else place_among ps d)
+pub place_among_inserted : (p : Placed) (d : Cell) (ps : List Placed) → place_among (inserted placed_lt p ps) d ≡ (if cell_eq p.cell d then Some p.bsc else place_among ps d)
 place_among_inserted p d [] = refl
 place_among_inserted p d (q ∷ qs) = place_step p q d (inserted placed_lt p qs) qs (place_among_inserted p d qs) (placed_lt q p) refl
 
@@ -82,7 +82,7 @@ either_way : (v : Bool) (o : Option ℕ) → o ≡ (if v then o else o)
 either_way true o = refl
 either_way false o = refl
 
-place_among_without : (c d : Cell) (ps : List Placed) → place_among (filter (λ p. not (cell_eq p.cell c)) ps) d ≡ (if cell_eq c d then None else place_among ps d)
+pub place_among_without : (c d : Cell) (ps : List Placed) → place_among (filter (λ p. not (cell_eq p.cell c)) ps) d ≡ (if cell_eq c d then None else place_among ps d)
 place_among_without c d [] = either_way (cell_eq c d) None
 place_among_without c d (p ∷ ps) =
     place_kept (cell_eq p.cell c) p (filter (λ q. not (cell_eq q.cell c)) ps) d ∙ without_place (cell_eq p.cell c) (cell_eq p.cell d) (cell_eq c d) (Some p.bsc) (place_among (filter (λ q. not (cell_eq q.cell c)) ps) d) (place_among ps d) (along cell_eq cell_decides c d p.cell) (differs cell_eq cell_decides c d p.cell) (place_among_without c d ps)
@@ -148,7 +148,7 @@ length_without_cell c r sound there =
 some_same : (x y : ℕ) → Some x ≡ Some y → x ≡ y
 some_same x y e = cc
 
-at_bsc : (ps : List Placed) (c : Cell) (b : ℕ) → place_among ps c ≡ Some b → list_any (λ p. nat_eq p.bsc b) ps ≡ true
+pub at_bsc : (ps : List Placed) (c : Cell) (b : ℕ) → place_among ps c ≡ Some b → list_any (λ p. nat_eq p.bsc b) ps ≡ true
 at_bsc [] c b h = cc
 at_bsc (p ∷ ps) c b h = step (cell_eq p.cell c) (at_bsc ps c b) h
   where
@@ -161,7 +161,7 @@ pub has_cells_from_place : (r : State) (c : Cell) (b : ℕ) → place_in r c ≡
 has_cells_from_place r c b h = at_bsc r.cells c b h
 
 -- the cell of the first is at none of the others
-nowhere_after : (p : Placed) (ps : List Placed) (c : Cell) → list_all (placed_lt p) ps ≡ true → cell_eq p.cell c ≡ true → is_some (place_among ps c) ≡ false
+pub nowhere_after : (p : Placed) (ps : List Placed) (c : Cell) → list_all (placed_lt p) ps ≡ true → cell_eq p.cell c ≡ true → is_some (place_among ps c) ≡ false
 nowhere_after p [] c h same = refl
 nowhere_after p (q ∷ qs) c h same =
     let order = and_parts (placed_lt p q) (list_all (placed_lt p) qs) h in
@@ -173,7 +173,7 @@ after_first p ps c b h e =
     false_from_ne_true (cell_eq p.cell c) (λ same. let no : true ≡ false = sym (ap (λ o. is_some o) e) ∙ nowhere_after p ps c h same in cc)
 
 -- the cells with a BSC's number, and a first one that is at another
-cell_at : (ps : List Placed) (b : ℕ) → is_ascending placed_lt ps ≡ true → list_any (λ p. nat_eq p.bsc b) ps ≡ true → (c : Cell) × (place_among ps c ≡ Some b)
+pub cell_at : (ps : List Placed) (b : ℕ) → is_ascending placed_lt ps ≡ true → list_any (λ p. nat_eq p.bsc b) ps ≡ true → (c : Cell) × (place_among ps c ≡ Some b)
 cell_at [] b order h = cc
 cell_at (p ∷ ps) b order h = step (nat_eq p.bsc b) refl (cell_at ps b orders.1) h
   where
@@ -234,7 +234,7 @@ here_or_later true false s b o l e nowhere rest = rest
 here_or_later false true s b o l e nowhere rest = rest ∙ (no_place o b (nowhere refl) ∙ sym e)
 here_or_later false false s b o l e nowhere rest = rest
 
-one_of_bsc : (ps : List Placed) (c : Cell) (b : ℕ) → is_ascending placed_lt ps ≡ true → list_any (λ d. cell_eq d c) (map cell_of (filter (λ p. nat_eq p.bsc b) ps)) ≡ is_place (place_among ps c) b
+pub one_of_bsc : (ps : List Placed) (c : Cell) (b : ℕ) → is_ascending placed_lt ps ≡ true → list_any (λ d. cell_eq d c) (map cell_of (filter (λ p. nat_eq p.bsc b) ps)) ≡ is_place (place_among ps c) b
 one_of_bsc [] c b h = refl
 one_of_bsc (p ∷ ps) c b h =
     let order = and_parts (list_all (placed_lt p) ps) (is_ascending placed_lt ps) h in

@@ -1,5 +1,6 @@
 pub mod Register
 pub mod Sound
+pub mod Places
 pub mod CellLaws
 pub mod Laws
 pub mod SoundLaws

@@ -48,6 +48,10 @@ cells_of r b = map cell_of (filter (λ p. nat_eq p.bsc b) r.cells)
 abbrev pub cells_in : State → ℕ → List Cell
 cells_in r lac = map cell_of (filter (λ p. nat_eq p.cell.lac lac) r.cells)
 
+-- every registered cell
+abbrev pub all_cells : State → List Cell
+all_cells r = map cell_of r.cells
+
 -- registered cells stand in the order of cells
 abbrev pub placed_lt : Placed → Placed → Bool
 placed_lt p q = cell_lt p.cell q.cell

@@ -1,5 +1,5 @@
 -- Each event that is not refused leaves a register.
-use Rattle.std.proofs.Common.{◌≡◌, ◌<◌, ℕ, Bool, true, false, ◌||◌, not, nat_eq, ltb, length, if◌then◌else◌, refl, sym, ◌∙◌, ap, arith}
+use Rattle.std.proofs.Common.{◌≡◌, ◌<◌, ℕ, Bool, true, false, ◌||◌, not, List, map, nat_eq, ltb, length, if◌then◌else◌, refl, sym, ◌∙◌, ap, arith}
 use Rattle.std.proofs.lemmas.Bool.{and_from, or_right}
 use Rattle.std.specs.Cmp.{unsigned_Decides}
 use Rattle.std.specs.List.{list_all}
@@ -9,8 +9,9 @@ use Rattle.common.specs.declared.cell.Cell.{Cell}
 use Rattle.cell_register.specs.CellLaws.{cell_lt_follows, cell_lt_apart, ltb_follows, ltb_apart}
 use Rattle.common.specs.OnceLaws.{turned}
 use Rattle.cell_register.specs.Laws.{has_bsc_with_bsc, has_bsc_without_bsc, length_with_bsc, length_with_cell, length_moved, is_some_place_among}
+use Rattle.common.specs.Order.{inserted, is_ascending}
 use Rattle.common.specs.OrderLaws.{all_same, all_besides, all_from_none, all_map, all_filter, all_inserted, ascending_inserted, ascending_filter, ascending_map, length_filter}
-use Rattle.cell_register.specs.Register.{State, empty, has_bsc, place_in, has_cells, placed_lt, new_placed, cell_of, with_bsc, without_bsc, with_cell, placed_after_move, moved, without_cell}
+use Rattle.cell_register.specs.Register.{State, empty, has_bsc, place_among, place_in, has_cells, placed_lt, new_placed, cell_of, with_bsc, without_bsc, with_cell, placed_after_move, moved, without_cell}
 use Rattle.cell_register.specs.Sound.{IsRegister}
 use Rattle.cell_register.specs.declared.placed.Placed.{Placed}
 
@@ -35,10 +36,15 @@ without_bsc_sound b r sound none = record {
   few_cells = sound.few_cells;
 }
 
+-- with one more cell they are in ascending order
+pub with_cell_ascends : (c : Cell) (b : ℕ) (ps : List Placed) → is_some (place_among ps c) ≡ false → is_ascending placed_lt ps ≡ true → is_ascending placed_lt (inserted placed_lt (new_placed c b) ps) ≡ true
+with_cell_ascends c b ps fresh order =
+    ascending_inserted placed_lt (λ p q s. cell_lt_follows p.cell q.cell s.cell) (new_placed c b) ps (all_from_none (λ p. cell_eq p.cell c) (λ p. placed_lt p (new_placed c b) || placed_lt (new_placed c b) p) (λ p. cell_lt_apart c p.cell) ps (sym (is_some_place_among c ps) ∙ fresh)) order
+
 pub with_cell_sound : (c : Cell) (b : ℕ) (r : State) → IsRegister r → has_bsc r b ≡ true → is_some (place_in r c) ≡ false → length r.cells < 65536 → IsRegister (with_cell c b r)
 with_cell_sound c b r sound there fresh room = record {
   bscs_ascend = sound.bscs_ascend;
-  cells_ascend = ascending_inserted placed_lt (λ p q s. cell_lt_follows p.cell q.cell s.cell) (new_placed c b) r.cells (all_from_none (λ p. cell_eq p.cell c) (λ p. placed_lt p (new_placed c b) || placed_lt (new_placed c b) p) (λ p. cell_lt_apart c p.cell) r.cells (sym (is_some_place_among c r.cells) ∙ fresh)) sound.cells_ascend;
+  cells_ascend = with_cell_ascends c b r.cells fresh sound.cells_ascend;
   placed = all_inserted placed_lt (λ p. has_bsc r p.bsc) (new_placed c b) r.cells ∙ and_from (has_bsc r b) (list_all (λ p. has_bsc r p.bsc) r.cells) there sound.placed;
   few_bscs = sound.few_bscs;
   few_cells = omega (arith, length_with_cell c b r);
@@ -60,10 +66,14 @@ set_bsc : (test : ℕ → Bool) (t : Bool) (b : ℕ) (p : Placed) → test b ≡
 set_bsc test true b p h g = h
 set_bsc test false b p h g = g
 
+-- with a cell at another BSC they are in ascending order
+pub moved_ascends : (c : Cell) (b : ℕ) (ps : List Placed) → is_ascending placed_lt ps ≡ true → is_ascending placed_lt (map (placed_after_move c b) ps) ≡ true
+moved_ascends c b ps order = ascending_map placed_lt placed_lt (placed_after_move c b) (set_order c b) ps order
+
 pub moved_sound : (c : Cell) (b : ℕ) (r : State) → IsRegister r → has_bsc r b ≡ true → IsRegister (moved c b r)
 moved_sound c b r sound there = record {
   bscs_ascend = sound.bscs_ascend;
-  cells_ascend = ascending_map placed_lt placed_lt (placed_after_move c b) (set_order c b) r.cells sound.cells_ascend;
+  cells_ascend = moved_ascends c b r.cells sound.cells_ascend;
   placed = all_map (λ p. has_bsc r p.bsc) (λ p. has_bsc r p.bsc) (placed_after_move c b) (λ p. set_bsc (has_bsc r) (cell_eq p.cell c) b p there) r.cells sound.placed;
   few_bscs = sound.few_bscs;
   few_cells = let few = sound.few_cells in omega (arith, length_moved c b r);

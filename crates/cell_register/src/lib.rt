@@ -3,7 +3,7 @@
 //! A cell is registered at one BSC or at none; cells are ordered by location area, then by cell identity.
 //! Begin with `register`. What each event makes of a register, and what refuses it, is said in
 //! `specs/Register.antt`, what always holds in `specs/Sound.antt`; what follows from an event for each BSC and
-//! each cell is in `specs/Laws.antt`.
+//! each cell is in `specs/Laws.antt`. How the cells are kept, in their order and by BSC, is in `specs/Places.antt`.
 #![tactic(auto)]
 
 mod bsc_id;
@@ -12,6 +12,8 @@ mod placed;
 mod places;
 mod refusal;
 mod register;
+mod seat;
+mod seats;
 
 pub use bsc_id::BscId;
 pub use placed::Placed;

@@ -2,13 +2,13 @@
 
 ghost use Rattle.std.specs.Prelude.{◌≡◌, ◌⊎◌, None, Some, OnOk, OnErr, IfOk, IfErr};
 ghost use Rattle.common.specs.Checks.{first_refusal};
-ghost use Rattle.cell_register.specs.Register.{empty, has_bsc, has_cells, place_in, cells_of, cells_in, with_bsc, without_bsc, with_cell, moved, without_cell, add_bsc_checks, remove_bsc_checks, add_cell_checks, move_cell_checks, remove_cell_checks};
+ghost use Rattle.cell_register.specs.Register.{empty, has_bsc, has_cells, place_in, cells_of, cells_in, all_cells, with_bsc, without_bsc, with_cell, moved, without_cell, add_bsc_checks, remove_bsc_checks, add_cell_checks, move_cell_checks, remove_cell_checks};
 ghost use Rattle.cell_register.specs.Sound.{IsRegister};
 
 use crate::bsc_id::BscId;
-use crate::placed::Placed;
+use crate::bscs;
+use crate::places::Places;
 use crate::refusal::{Limit, Refusal};
-use crate::{bscs, places};
 use common::{Cell, Cells, insert_in_order};
 use std::alloc::{AllocError, Global};
 use std::marker::Model;
@@ -18,7 +18,7 @@ use std::marker::Model;
 pub struct Register {
     alloc: Global,
     bscs: Vec<BscId>,
-    cells: Vec<Placed>,
+    places: Places,
 }
 
 impl Model for Register {
@@ -27,9 +27,9 @@ impl Model for Register {
 
     ghost Value = { State };
 
-    ghost view = { λ r. record { bscs = r.bscs.items; cells = r.cells.items } };
+    ghost view = { λ r. record { bscs = r.bscs.items; cells = r.places } };
 
-    ghost invariant = { λ r. IsRegister (record { bscs = r.bscs.items; cells = r.cells.items }) };
+    ghost invariant = { λ r. IsRegister (record { bscs = r.bscs.items; cells = r.places }) };
 }
 
 impl Register {
@@ -40,7 +40,7 @@ impl Register {
         Register {
             alloc,
             bscs: Vec::new(alloc),
-            cells: Vec::new(alloc),
+            places: Places::new(alloc),
         }
     }
 
@@ -58,32 +58,46 @@ impl Register {
         bscs::is_among(b, self.bscs.as_slice())
     }
 
+    /// The registered BSCs, in ascending order.
+    pub fn bscs(&self) -> &[BscId]
+        ensures { result.now ≡ self.now.bscs }
+    {
+        self.bscs.as_slice()
+    }
+
     /// Whether a cell is registered at the BSC.
     pub fn has_cells(&self, b: BscId) -> bool
         ensures { result ≡ has_cells self.now b }
     {
-        places::has_cells(b, self.cells.as_slice())
+        self.places.has_cells(b)
     }
 
     /// The BSC at which the cell is registered.
     pub fn bsc_of(&self, c: Cell) -> Option<BscId>
         ensures { result ≡ place_in self.now c }
     {
-        places::place_among(c, self.cells.as_slice())
+        self.places.bsc_of(c)
     }
 
     /// The cells that are registered at the BSC, in ascending order; none where there is no such BSC.
     pub fn cells_of(&self, b: BscId) -> Result<Cells, AllocError>
         ensures { IfOk result (λ cells. cells ≡ cells_of self.now b) }
     {
-        places::cells_of(self.alloc, b, self.cells.as_slice())
+        self.places.cells_of(self.alloc, b)
     }
 
     /// The registered cells of the location area, in ascending order; none where there is no such area.
     pub fn cells_in(&self, lac: u16) -> Result<Cells, AllocError>
         ensures { IfOk result (λ cells. cells ≡ cells_in self.now lac) }
     {
-        places::cells_in(self.alloc, lac, self.cells.as_slice())
+        self.places.cells_in(self.alloc, lac)
+    }
+
+    /// Every registered cell, in ascending order.
+    pub fn all_cells(&self) -> Result<Cells, AllocError>
+        ensures { IfOk result (λ cells. cells ≡ all_cells self.now) }
+    {
+        self.places.all_cells(self.alloc)
     }
 
     /// Whether a BSC can be registered now, and what refuses it. It changes nothing and takes no memory.
@@ -112,7 +126,7 @@ impl Register {
         if !bscs::is_among(b, self.bscs.as_slice()) {
             return Err(Refusal::NoSuchBsc);
         }
-        if places::has_cells(b, self.cells.as_slice()) {
+        if self.places.has_cells(b) {
             return Err(Refusal::BscHasCells);
         }
         Ok(())
@@ -128,10 +142,10 @@ impl Register {
         if !bscs::is_among(at, self.bscs.as_slice()) {
             return Err(Refusal::NoSuchBsc);
         }
-        if places::place_among(c, self.cells.as_slice()).is_some() {
+        if self.places.bsc_of(c).is_some() {
             return Err(Refusal::CellExists);
         }
-        if self.cells.len() >= 65536 {
+        if self.places.len() >= 65536 {
             return Err(Refusal::Limit {
                 which: Limit::Cells,
             });
@@ -149,7 +163,7 @@ impl Register {
         if !bscs::is_among(to, self.bscs.as_slice()) {
             return Err(Refusal::NoSuchBsc);
         }
-        match places::place_among(c, self.cells.as_slice()) {
+        match self.places.bsc_of(c) {
             None => Err(Refusal::NoSuchCell),
             Some(old) if old == to => Err(Refusal::SameBsc),
             Some(_) => Ok(()),
@@ -163,7 +177,7 @@ impl Register {
         ensures accepted { OnOk result (first_refusal (remove_cell_checks self.now c) ≡ None) }
         ensures refused { IfErr result (λ e. first_refusal (remove_cell_checks self.now c) ≡ Some e) }
     {
-        if places::place_among(c, self.cells.as_slice()).is_none() {
+        if self.places.bsc_of(c).is_none() {
             return Err(Refusal::NoSuchCell);
         }
         Ok(())
@@ -208,11 +222,13 @@ impl Register {
         ensures unchanged { OnErr result (self.new ≡ self.old) }
     {
         self.check_add_cell(c, at)?;
-        insert_in_order(Placed { cell: c, bsc: at }, &mut self.cells)?;
+        self.places.insert(self.alloc, c, at)?;
         Ok(())
     }
 
-    /// Registers a cell at another BSC. It takes no memory.
+    /// Registers a cell at another BSC. It never answers `Memory`: where the index by BSC is refused memory, the cell is
+    /// moved all the same and the index given up. Until the next edit can make it anew, `has_cells` and `cells_of` look at
+    /// every cell.
     ///
     /// `NoSuchBsc`, `NoSuchCell`, then `SameBsc` where it is registered at this BSC.
     pub fn move_cell(&mut self, c: Cell, to: BscId) -> Result<(), Refusal>
@@ -222,7 +238,7 @@ impl Register {
         ensures unchanged { OnErr result (self.new ≡ self.old) }
     {
         self.check_move_cell(c, to)?;
-        places::set_place(c, to, &mut self.cells);
+        self.places.set(self.alloc, c, to);
         Ok(())
     }
 
@@ -236,7 +252,7 @@ impl Register {
         ensures unchanged { OnErr result (self.new ≡ self.old) }
     {
         self.check_remove_cell(c)?;
-        places::remove(c, &mut self.cells);
+        self.places.remove(c);
         Ok(())
     }
 }

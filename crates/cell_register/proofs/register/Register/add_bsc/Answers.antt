@@ -8,7 +8,7 @@ use Rattle.cell_register.proofs.register.Register.add_bsc.Goals as goal
 
 pub invariant_of-self-2 : goal.invariant_of-self-2
 invariant_of-self-2 c =
-    let r : State = record { bscs = c.self.inside.bscs.items; cells = c.self.inside.cells.items } in
+    let r : State = record { bscs = c.self.inside.bscs.items; cells = c.self.inside.places } in
     let none : first_refusal (add_bsc_checks r c.args.b) ≡ None = search rules in
     let holds = none_holds (add_bsc_checks r c.args.b) none in
     let room : length r.bscs < 256 = leb-false 256 (length r.bscs) holds.1.0 in

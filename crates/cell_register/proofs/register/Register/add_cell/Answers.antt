@@ -8,9 +8,9 @@ use Rattle.cell_register.proofs.register.Register.add_cell.Goals as goal
 
 pub invariant_of-self-2 : goal.invariant_of-self-2
 invariant_of-self-2 c =
-    let r : State = record { bscs = c.self.inside.bscs.items; cells = c.self.inside.cells.items } in
+    let r : State = record { bscs = c.self.inside.bscs.items; cells = c.self.inside.places } in
     let none : first_refusal (add_cell_checks r c.args.c c.args.at) ≡ None = search rules in
     let holds = none_holds (add_cell_checks r c.args.c c.args.at) none in
     let there : has_bsc r c.args.at ≡ true = not-false (has_bsc r c.args.at) holds.0 in
     let room : length r.cells < 65536 = leb-false 65536 (length r.cells) holds.1.1.0 in
-    rw c.in_ok-insert_in_order.ensures.inserted (with_cell_sound c.args.c c.args.at r c.self.invariant there holds.1.0 room)
+    rw c.in_ok-insert.ensures.inserted (with_cell_sound c.args.c c.args.at r c.self.invariant there holds.1.0 room)

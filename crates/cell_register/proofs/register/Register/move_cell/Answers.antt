@@ -8,7 +8,7 @@ use Rattle.cell_register.proofs.register.Register.move_cell.Goals as goal
 
 pub invariant_of-self : goal.invariant_of-self
 invariant_of-self c =
-    let r : State = record { bscs = c.self.inside.bscs.items; cells = c.self.inside.cells.items } in
+    let r : State = record { bscs = c.self.inside.bscs.items; cells = c.self.inside.places } in
     let none : first_refusal (move_cell_checks r c.args.c c.args.to) ≡ None = search rules in
     let there : has_bsc r c.args.to ≡ true = not-false (has_bsc r c.args.to) (none_holds (move_cell_checks r c.args.c c.args.to) none).0 in
-    rw c.set_place.ensures (moved_sound c.args.c c.args.to r c.self.invariant there)
+    rw c.set.ensures (moved_sound c.args.c c.args.to r c.self.invariant there)

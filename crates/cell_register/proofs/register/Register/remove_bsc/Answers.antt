@@ -7,6 +7,6 @@ use Rattle.cell_register.proofs.register.Register.remove_bsc.Goals as goal
 
 pub invariant_of-self : goal.invariant_of-self
 invariant_of-self c =
-    let r : State = record { bscs = c.self.inside.bscs.items; cells = c.self.inside.cells.items } in
+    let r : State = record { bscs = c.self.inside.bscs.items; cells = c.self.inside.places } in
     let none : first_refusal (remove_bsc_checks r c.args.b) ≡ None = search rules in
     rw c.remove.ensures (without_bsc_sound c.args.b r c.self.invariant (none_holds (remove_bsc_checks r c.args.b) none).1.0)

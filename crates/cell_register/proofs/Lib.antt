@@ -1,0 +1,5 @@
+pub mod RangeLemmas
+pub mod SeatLemmas
+pub mod PlacesLemmas
+pub mod IndexLemmas
+pub mod EditLemmas

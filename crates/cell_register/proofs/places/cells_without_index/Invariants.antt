@@ -1,0 +1,9 @@
+use Rattle.std.proofs.Common.{◌≡◌, ◌++◌, nat_eq, filter, map}
+use Rattle.cell_register.specs.Places.{placed}
+use Rattle.cell_register.specs.Register.{cell_of}
+use Rattle.cell_register.proofs.places.cells_without_index.Given as goal
+
+-- the cells found, and those to come
+abbrev pub invariant-loop-cell : goal.invariant-loop-cell
+invariant-loop-cell l =
+    l.found.items ++ map cell_of (filter (λ p. nat_eq p.bsc l.b) (placed l.cell-iterator)) ≡ map cell_of (filter (λ p. nat_eq p.bsc l.b) (placed l.places.entries))
