@@ -1,0 +1,5 @@
+mod KeyLemmas
+mod KeptLemmas
+mod GatherLemmas
+mod OnAirLemmas
+mod CountLemmas

@@ -1,0 +1,16 @@
+-- Which cells are known at a BSC, and which of them a report names (TS 48.049, 8.2.6).
+use Rattle.std.specs.Prelude.{ℕ, Bool, ◌||◌, List}
+use Rattle.std.specs.List.{list_any}
+use Rattle.cbsp_ie.specs.CellId.{names}
+use Rattle.cbsp_ie.specs.declared.cell_id.CellId.{CellId}
+use Rattle.cell_register.specs.Register.{State, place_in, is_place}
+use Rattle.common.specs.declared.cell.Cell.{Cell}
+use Rattle.mirror.specs.Table.{Table, down_at, has_line}
+
+-- the cell is registered at the BSC, or it is down there, or something is kept of a warning in it there
+abbrev pub is_known : Table → State → ℕ → Cell → Bool
+is_known t r b c = is_place (place_in r c) b || (down_at t b c || has_line t b c)
+
+-- one of the identifications names the cell, where the centre's network is plmn
+abbrev pub is_named : List ℕ → List CellId → Cell → Bool
+is_named plmn ids c = list_any (λ id. names plmn id c) ids

@@ -1,0 +1,35 @@
+-- The order in which a table keeps its lines and the cells that are down: by BSC, then by cell, then by warning.
+use Rattle.std.specs.Prelude.{ℕ}
+use Rattle.std.specs.Ordering.{ordering_then, nat_cmp}
+use Rattle.std.specs.declared.cmp.Ordering.{Ordering}
+use Rattle.common.specs.declared.cell.Cell.{Cell}
+use Rattle.mirror.specs.declared.place.Place.{Place}
+use Rattle.mirror.specs.declared.slot.Slot.{Slot}
+
+-- cells by location area, then by cell identity
+abbrev pub cell_cmp : Cell → Cell → Ordering
+cell_cmp x y = ordering_then (nat_cmp x.lac y.lac) (nat_cmp x.ci y.ci)
+
+-- lines by BSC, then by cell, then by warning
+abbrev pub slot_cmp : Slot → Slot → Ordering
+slot_cmp x y = ordering_then (nat_cmp x.bsc y.bsc) (ordering_then (cell_cmp x.cell y.cell) (nat_cmp x.warning y.warning))
+
+-- cells that are down by BSC, then by cell
+abbrev pub place_cmp : Place → Place → Ordering
+place_cmp x y = ordering_then (nat_cmp x.bsc y.bsc) (cell_cmp x.cell y.cell)
+
+-- the slot of a BSC, a cell and a warning
+abbrev pub slot_of : ℕ → Cell → ℕ → Slot
+slot_of b c w = record { bsc = b; cell = c; warning = w }
+
+-- the first slot that a BSC can have
+abbrev pub least_slot : ℕ → Slot
+least_slot b = record { bsc = b; cell = record { lac = 0; ci = 0 }; warning = 0 }
+
+-- the place of a BSC and a cell
+abbrev pub place_of : ℕ → Cell → Place
+place_of b c = record { bsc = b; cell = c }
+
+-- the first place that a BSC can have
+abbrev pub least_place : ℕ → Place
+least_place b = record { bsc = b; cell = record { lac = 0; ci = 0 } }

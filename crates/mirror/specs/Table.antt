@@ -1,0 +1,56 @@
+-- What a table of lines holds: a line for each BSC, cell and warning, which cells are down at each BSC, and how often
+-- lines were read or set.
+use Rattle.std.specs.Prelude.{◌≡◌, ℕ, Bool, true, ◌+◌, ◌-◌, ◌^◌, ◌&&◌, not, List, nat_eq, if◌then◌else◌}
+use Rattle.std.specs.List.{list_any, list_all}
+use Rattle.std.specs.Map.{lookup}
+use Rattle.std.specs.Option.{unwrap_or}
+use Rattle.common.specs.Cell.{cell_eq}
+use Rattle.common.specs.declared.cell.Cell.{Cell}
+use Rattle.mirror.specs.Blank.{is_blank}
+use Rattle.mirror.specs.Line.{blank_line}
+use Rattle.mirror.specs.declared.line.Line.{Line}
+use Rattle.mirror.specs.declared.line_key.LineKey.{LineKey}
+use Rattle.mirror.specs.declared.place.Place.{Place}
+use Rattle.mirror.specs.declared.slot.Slot.{Slot}
+
+-- the lines of which something is kept, the cells that are down, and how often lines were read or set
+pub record Table : Type 0 where
+  pub lines : List (Slot × Line)
+  pub downs : List Place
+  pub meter : ℕ
+
+-- the slot is that of the BSC, the cell and the warning
+abbrev pub is_slot : ℕ → Cell → ℕ → Slot → Bool
+is_slot b c w s = nat_eq b s.bsc && (cell_eq c s.cell && nat_eq w s.warning)
+
+-- the slot is one of the BSC and the cell, whatever its warning
+abbrev pub is_slot_in : ℕ → Cell → Slot → Bool
+is_slot_in b c s = nat_eq b s.bsc && cell_eq c s.cell
+
+-- the place is that of the BSC and the cell
+abbrev pub is_that_place : ℕ → Cell → Place → Bool
+is_that_place b c p = nat_eq b p.bsc && cell_eq c p.cell
+
+-- the key is that of the BSC, the cell and the warning
+abbrev pub is_key : LineKey → ℕ → Cell → ℕ → Bool
+is_key key b c w = nat_eq key.bsc b && (cell_eq key.cell c && nat_eq key.warning w)
+
+-- the line of the BSC, the cell and the warning: blank where nothing is kept of them
+abbrev pub line_at : Table → ℕ → Cell → ℕ → Line
+line_at t b c w = unwrap_or (lookup (is_slot b c w) t.lines) blank_line
+
+-- some line of the BSC and the cell isn't blank
+abbrev pub has_line : Table → ℕ → Cell → Bool
+has_line t b c = list_any (λ e. is_slot_in b c e.0) t.lines
+
+-- the BSC said that the cell failed, and didn't say since that it is up
+abbrev pub down_at : Table → ℕ → Cell → Bool
+down_at t b c = list_any (is_that_place b c) t.downs
+
+-- one access more; the greatest value of 64 bits stays
+abbrev pub counted : ℕ → ℕ
+counted n = if nat_eq n (2 ^ 64 - 1) then n else n + 1
+
+-- what holds of every table: none of the lines that it keeps is blank
+pub record IsTable (t : Table) : Type 0 where
+  pub none_blank : list_all (λ e. not (is_blank e.1)) t.lines ≡ true

@@ -1,0 +1,26 @@
+//! What the base station controllers (BSCs) have reported: what is on air, what holds an order back, how often a
+//! message was broadcast, and which cells are down.
+//!
+//! A line is what is kept of one BSC, cell and warning. Begin with `line_table`; the definitions that contracts cite
+//! are in `specs/`: `Line` and `Seen` for one line, `Table` for all of them, `Known` for the cells that a report names,
+//! `OnAir` for the cells in which a version is on air.
+#![tactic(auto)]
+
+mod gathering;
+mod key_state;
+mod line;
+mod line_key;
+mod line_table;
+mod naming;
+mod on_air;
+mod place;
+mod presence;
+mod sight;
+mod slot;
+
+pub use key_state::KeyState;
+pub use line::Line;
+pub use line_key::LineKey;
+pub use line_table::LineTable;
+pub use presence::Presence;
+pub use sight::Sight;

@@ -1,0 +1,48 @@
+//! What is kept of one BSC, cell and warning.
+
+ghost use Rattle.std.specs.Prelude.{◌≡◌, ◌↔◌, IsTrue};
+ghost use Rattle.mirror.specs.Blank.{is_blank};
+ghost use Rattle.mirror.specs.Line.{blank_line, state_of, with_state};
+
+use crate::key_state::KeyState;
+use serials::Serial;
+
+/// What is kept of the versions of one warning in one cell of a BSC, by their update numbers (TS 23.041, 9.4.1.2.1).
+#[derive(Clone, Copy, Debug, PartialEq, Eq)]
+pub struct Line {
+    pub states: [KeyState; 16],
+}
+
+impl Line {
+    /// Every key as it begins.
+    pub fn blank() -> Line
+        ensures { result ≡ blank_line }
+    {
+        Line {
+            states: [KeyState::blank(); 16],
+        }
+    }
+
+    /// Whether every key is as it begins.
+    pub fn is_blank(&self) -> bool
+        ensures test { result ≡ is_blank self.now }
+        ensures blank { IsTrue result ↔ (self.now ≡ blank_line) }
+    {
+        *self == Line::blank()
+    }
+
+    /// What is kept of the version of that serial number.
+    pub fn state(&self, serial: Serial) -> KeyState
+        ensures { result ≡ state_of self.now serial }
+    {
+        self.states[serial.update() as usize]
+    }
+
+    /// The line with that state for the version of that serial number, the others as they are.
+    pub fn with_state(mut self, serial: Serial, state: KeyState) -> Line
+        ensures { result ≡ with_state self serial state }
+    {
+        self.states[serial.update() as usize] = state;
+        self
+    }
+}

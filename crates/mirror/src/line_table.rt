@@ -1,0 +1,212 @@
+//! The lines of all BSCs, cells and warnings, and which cells are down.
+
+ghost use Rattle.std.specs.Prelude.{◌≡◌, ◌≤◌, ◌<◌, ◌+◌, ◌-◌, ◌^◌, ◌&&◌, ℕ, true, false, if◌then◌else◌, nat_eq, List, length, take, OnOk, OnErr, IfOk};
+ghost use Rattle.std.specs.List.{list_any};
+ghost use Rattle.common.specs.Cell.{cell_eq, cell_lt};
+ghost use Rattle.common.specs.Order.{is_ascending};
+ghost use Rattle.common.specs.declared.cell.Cell.{Cell};
+ghost use Rattle.mirror.specs.Blank.{is_blank};
+ghost use Rattle.mirror.specs.Line.{blank_line};
+ghost use Rattle.mirror.specs.Table.{line_at, has_line, down_at, counted, is_key};
+ghost use Rattle.mirror.specs.Known.{is_known, is_named};
+ghost use Rattle.mirror.specs.OnAir.{AreOnAir, line_count};
+
+use crate::gathering::{add_cells, add_downs, add_line_cells, cells_in_order};
+use crate::line::Line;
+use crate::line_key::LineKey;
+use crate::naming::named;
+use crate::on_air::{first_on_air, lines_after};
+use crate::place::Place;
+use crate::slot::Slot;
+use cbsp_ie::CellId;
+use cell_register::{BscId, Register};
+use common::{Cell, Cells};
+use serials::Serial;
+use std::alloc::{AllocError, Global};
+use std::collections::{BTreeMap, BTreeSet};
+use std::marker::Model;
+use warning_book::WarningId;
+
+/// A line for each BSC, cell and warning, and whether each cell is down at each BSC. Lines are read and set by
+/// `read_line`, `cells_on_air` and `set_line` alone, and each line that is read or set is counted.
+#[derive(Drop)]
+pub struct LineTable {
+    alloc: Global,
+    lines: BTreeMap<Slot, Line>,
+    downs: BTreeSet<Place>,
+    meter: u64,
+}
+
+impl Model for LineTable {
+    ghost use Rattle.mirror.specs.Table.{Table, IsTable};
+
+    ghost Value = { Table };
+
+    ghost view = { λ t. record { lines = t.lines.entries; downs = t.downs.keys; meter = t.meter } };
+
+    ghost invariant = { λ t. IsTable (record { lines = t.lines.entries; downs = t.downs.keys; meter = t.meter }) };
+}
+
+impl LineTable {
+    /// Blank lines, no cell that is down, and no access counted.
+    pub fn new(alloc: Global) -> LineTable
+        ensures lines { (b : ℕ) (c : Cell) (w : ℕ) → line_at result b c w ≡ blank_line }
+        ensures downs { (b : ℕ) (c : Cell) → down_at result b c ≡ false }
+        ensures meter { result.meter ≡ 0 }
+    {
+        LineTable {
+            alloc,
+            lines: BTreeMap::new(alloc),
+            downs: BTreeSet::new(alloc),
+            meter: 0,
+        }
+    }
+
+    /// A lemma, not a test: it returns nothing, and its clauses say that a BSC has a line of a cell exactly where one
+    /// of them isn't blank.
+    pub fn tell_soundness(&self)
+        ensures none { (b : ℕ) (c : Cell) → has_line self.now b c ≡ false → (w : ℕ) → line_at self.now b c w ≡ blank_line }
+        ensures some { (b : ℕ) (c : Cell) (w : ℕ) → is_blank (line_at self.now b c w) ≡ false → has_line self.now b c ≡ true }
+        ensures which { (b : ℕ) (c : Cell) → has_line self.now b c ≡ true → (w : ℕ) × (is_blank (line_at self.now b c w) ≡ false) }
+    {
+        let _ = &self.lines;
+    }
+
+    /// A lemma, not a test: it returns nothing, and its clause says that a BSC keeps no more lines of a warning than
+    /// there are cells in which the warning's line isn't blank.
+    pub fn tell_line_count(&self)
+        ensures { (b w : ℕ) (cells : List Cell) → ((c : Cell) → is_blank (line_at self.now b c w) ≡ false → list_any (cell_eq c) cells ≡ true) → line_count self.now b w ≤ length cells }
+    {
+        let _ = self.lines.len();
+    }
+
+    /// How often lines were read or set, up to the greatest value, which stays.
+    pub fn meter(&self) -> u64
+        ensures { result ≡ self.now.meter }
+    {
+        self.meter
+    }
+
+    fn count(&mut self)
+        ensures { self.new ≡ record self.old { meter = counted self.old.meter } }
+    {
+        self.meter = self.meter.saturating_add(1);
+    }
+
+    /// The line of that BSC, cell and warning. It takes no memory, and is counted.
+    pub fn read_line(&mut self, key: LineKey) -> Line
+        ensures line { result ≡ line_at self.old key.bsc key.cell key.warning }
+        ensures lines { self.new.lines ≡ self.old.lines }
+        ensures downs { self.new.downs ≡ self.old.downs }
+        ensures meter { self.new.meter ≡ counted self.old.meter }
+        ensures most { self.new.meter ≤ self.old.meter + 1 }
+    {
+        self.count();
+        match self.lines.get(&Slot::of(key)) {
+            Some(line) => *line,
+            None => Line::blank(),
+        }
+    }
+
+    /// Keeps the line for that BSC, cell and warning. It is counted, also where memory is wanting; then each line stays
+    /// as it was. Memory is taken only for a line that isn't blank, in place of one that was.
+    pub fn set_line(&mut self, key: LineKey, line: Line) -> Result<(), AllocError>
+        ensures set { OnOk result ((b : ℕ) (c : Cell) (w : ℕ) → line_at self.new b c w ≡ (if is_key key b c w then line else line_at self.old b c w)) }
+        ensures unchanged { OnErr result (self.new.lines ≡ self.old.lines) }
+        ensures grows { OnErr result ((is_blank line ≡ false) × (line_at self.old key.bsc key.cell key.warning ≡ blank_line)) }
+        ensures downs { self.new.downs ≡ self.old.downs }
+        ensures meter { self.new.meter ≡ counted self.old.meter }
+        ensures most { self.new.meter ≤ self.old.meter + 1 }
+    {
+        self.count();
+        let slot = Slot::of(key);
+        if line.is_blank() {
+            self.lines.remove(&slot);
+            return Ok(());
+        }
+        self.lines.insert(slot, line)?;
+        Ok(())
+    }
+
+    /// The first `most` cells at the BSC, in ascending order and after the given one, in which the version of that serial
+    /// number of the warning is on air. Each line of the warning at the BSC that is read is counted. Memory is taken only
+    /// for a cell that is found.
+    pub fn cells_on_air(
+        &mut self,
+        b: BscId,
+        w: WarningId,
+        serial: Serial,
+        after: Option<Cell>,
+        most: usize,
+    ) -> Result<Cells, AllocError>
+        ensures first { (xs : List Cell) → AreOnAir self.old b w serial after xs → IfOk result (λ cells. cells ≡ take most xs) }
+        ensures some { (xs : List Cell) → AreOnAir self.old b w serial after xs → OnErr result (1 ≤ length (take most xs)) }
+        ensures lines { self.new.lines ≡ self.old.lines }
+        ensures downs { self.new.downs ≡ self.old.downs }
+        ensures meter { self.new.meter ≤ self.old.meter + line_count self.old b w }
+        ensures counted { IfOk result (λ cells. self.new.meter < 2 ^ 64 - 1 → self.old.meter + length cells ≤ self.new.meter) }
+    {
+        let lines = lines_after(&self.lines, b, w, after);
+        let cells = first_on_air(self.alloc, lines, w, serial, most, &mut self.meter)?;
+        Ok(cells)
+    }
+
+    /// Whether the cell is down at the BSC: the BSC's last indication of type 0 that named it was a FAILURE
+    /// (TS 48.049, 8.1.3). It takes no memory.
+    pub fn is_down(&self, b: BscId, c: Cell) -> bool
+        ensures { result ≡ down_at self.now b c }
+    {
+        self.downs.contains(&Place::of(b, c))
+    }
+
+    /// Sets whether the cell is down at the BSC. Where memory is wanting nothing changes. Memory is taken only for a
+    /// cell that is down and wasn't.
+    pub fn set_down(&mut self, b: BscId, c: Cell, down: bool) -> Result<(), AllocError>
+        ensures set { OnOk result ((d : ℕ) (e : Cell) → down_at self.new d e ≡ (if nat_eq b d && cell_eq c e then down else down_at self.old d e)) }
+        ensures unchanged { OnErr result (self.new.downs ≡ self.old.downs) }
+        ensures grows { OnErr result ((down ≡ true) × (down_at self.old b c ≡ false)) }
+        ensures lines { self.new.lines ≡ self.old.lines }
+        ensures meter { self.new.meter ≡ self.old.meter }
+    {
+        let place = Place::of(b, c);
+        if !down {
+            self.downs.remove(&place);
+            return Ok(());
+        }
+        self.downs.insert(place)?;
+        Ok(())
+    }
+
+    /// The cells that are known at the BSC, in ascending order: those registered there, those that are down there, and
+    /// those of which a line isn't blank.
+    pub fn known_cells(&self, register: &Register, b: BscId) -> Result<Cells, AllocError>
+        ensures order { IfOk result (λ cells. is_ascending cell_lt cells ≡ true) }
+        ensures known { IfOk result (λ cells. (c : Cell) → list_any (cell_eq c) cells ≡ is_known self.now register.now b c) }
+    {
+        let registered = register.cells_of(b)?;
+        let mut gathered = BTreeSet::new(self.alloc);
+        add_cells(registered.as_slice(), &mut gathered)?;
+        add_downs(b, &self.downs, &mut gathered)?;
+        add_line_cells(b, &self.lines, &mut gathered)?;
+        register.tell_soundness();
+        let cells = cells_in_order(self.alloc, &gathered)?;
+        Ok(cells)
+    }
+
+    /// Those cells known at the BSC that one of the identifications names, in ascending order (TS 48.049, 8.2.6). The
+    /// network is that of the centre, as its three octets are sent.
+    pub fn cells_named(
+        &self,
+        register: &Register,
+        network: [u8; 3],
+        b: BscId,
+        ids: &[CellId],
+    ) -> Result<Cells, AllocError>
+        ensures order { IfOk result (λ cells. is_ascending cell_lt cells ≡ true) }
+        ensures named { IfOk result (λ cells. (c : Cell) → list_any (cell_eq c) cells ≡ (is_known self.now register.now b c && is_named network ids.now c)) }
+    {
+        let known = self.known_cells(register, b)?;
+        let cells = named(self.alloc, network, ids, known.as_slice())?;
+        Ok(cells)
+    }
+}

@@ -1,0 +1,39 @@
+//! Where a line stands among all lines.
+
+ghost use Rattle.std.specs.Prelude.{◌≡◌};
+ghost use Rattle.mirror.specs.Order.{slot_of, least_slot};
+
+use crate::line_key::LineKey;
+use common::Cell;
+
+/// The BSC, the cell and the warning of a line, in this order. The BSC's field is wider than its number, so that the
+/// lines of each BSC end before those of a number one greater.
+#[derive(Clone, Copy, Debug, PartialEq, Eq, PartialOrd, Ord)]
+pub(crate) struct Slot {
+    pub bsc: u32,
+    pub cell: Cell,
+    pub warning: u32,
+}
+
+impl Slot {
+    pub(crate) fn of(key: LineKey) -> Slot
+        ensures { result ≡ slot_of key.bsc key.cell key.warning }
+    {
+        Slot {
+            bsc: u32::from(key.bsc.number()),
+            cell: key.cell,
+            warning: key.warning.number(),
+        }
+    }
+
+    /// The slot at or after which all those of the BSC stand.
+    pub(crate) fn least(bsc: u32) -> Slot
+        ensures { result ≡ least_slot bsc }
+    {
+        Slot {
+            bsc,
+            cell: Cell { lac: 0, ci: 0 },
+            warning: 0,
+        }
+    }
+}
