@@ -1,0 +1,5 @@
+pub mod ActionsLemmas
+pub mod HeldLemmas
+pub mod JoiningLemmas
+pub mod SlotLemmas
+pub mod ShiftLemmas

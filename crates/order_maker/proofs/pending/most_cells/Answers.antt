@@ -1,0 +1,7 @@
+use Rattle.std.proofs.Common.{refl}
+use Rattle.order_maker.specs.Grouping.{most_cells}
+use Rattle.order_maker.proofs.pending.most_cells.Goals as goal
+
+pub returns : goal.returns
+unfolding most_cells
+returns c = refl

@@ -1,0 +1,148 @@
+//! What is to be ordered on one line: for a BSC, a cell and a warning.
+
+ghost use Rattle.std.specs.Prelude.{◌≡◌, ◌++◌, ◌∷◌, [], IfOk, OnOk, if◌then◌else◌};
+ghost use Rattle.mirror.specs.Seen.{is_the, seen};
+ghost use Rattle.order_maker.specs.Actions.{needs, is_replaceable, newest, replaced, replaced_for, fresh_kind, deed, fresh, is_to_kill, kills, deeds};
+
+use crate::deed::Deed;
+use crate::order_kind::OrderKind;
+use mirror::{Presence, Sight};
+use serials::Serial;
+use std::alloc::{AllocError, Global};
+
+fn presence(sight: &Sight<'_>, serial: Serial) -> Presence
+    ensures { result ≡ (seen sight.now).presence serial }
+{
+    sight.line.state(serial).presence
+}
+
+fn is_held(sight: &Sight<'_>, serial: Serial) -> bool
+    ensures { result ≡ (seen sight.now).is_held serial }
+{
+    sight.line.state(serial).hold.is_some()
+}
+
+fn is_the(found: Option<Serial>, serial: Serial) -> bool
+    ensures { result ≡ is_the found serial }
+{
+    match found {
+        Some(other) => other == serial,
+        None => false,
+    }
+}
+
+fn deed(sight: &Sight<'_>, kind: OrderKind, serial: Serial) -> Deed
+    ensures { result ≡ deed (seen sight.now) kind serial }
+{
+    Deed {
+        kind,
+        message_id: sight.message_id,
+        serial,
+    }
+}
+
+/// Whether the wanted version is to be written: the cell is up, and its key neither held nor on air.
+fn needs(sight: &Sight<'_>, serial: Serial) -> bool
+    ensures { result ≡ needs (seen sight.now) serial }
+{
+    !sight.down && !is_held(sight, serial) && presence(sight, serial) != Presence::OnAir
+}
+
+/// Whether another version is on air there and not held.
+fn is_replaceable(sight: &Sight<'_>, serial: Serial, other: Serial) -> bool
+    ensures { result ≡ is_replaceable (seen sight.now) serial other }
+{
+    other != serial && presence(sight, other) == Presence::OnAir && !is_held(sight, other)
+}
+
+/// The newest other version that a write can replace.
+#[tactic(auto, using(crate::proofs::ActionsLemmas::newest_more))]
+fn newest_other(sight: &Sight<'_>, serial: Serial) -> Option<Serial>
+    ensures { result ≡ newest (is_replaceable (seen sight.now) serial) sight.now.versions.now }
+{
+    let mut found = None;
+    let versions = sight.versions;
+    for other in versions {
+        if is_replaceable(sight, serial, *other) {
+            found = Some(*other);
+        }
+    }
+    found
+}
+
+/// The version that a write of that serial number replaces.
+fn replaced(sight: &Sight<'_>, serial: Serial) -> Option<Serial>
+    ensures { result ≡ replaced (seen sight.now) serial }
+{
+    match presence(sight, serial) {
+        Presence::Absent => newest_other(sight, serial),
+        Presence::OnAir | Presence::Unknown => None,
+    }
+}
+
+/// The version that the write replaces, where there is a write.
+fn replaced_there(sight: &Sight<'_>) -> Option<Serial>
+    ensures { result ≡ replaced_for (seen sight.now) sight.now.wanted }
+{
+    match sight.wanted {
+        Some(serial) if needs(sight, serial) => replaced(sight, serial),
+        _ => None,
+    }
+}
+
+fn fresh_kind(old: Option<Serial>) -> OrderKind
+    ensures { result ≡ fresh_kind old }
+{
+    match old {
+        Some(old) => OrderKind::Replace { old },
+        None => OrderKind::Write,
+    }
+}
+
+/// Adds the write of the wanted version, where there is one.
+fn add_fresh(out: &mut Vec<Deed>, sight: &Sight<'_>) -> Result<(), AllocError>
+    ensures { OnOk result (out.new.items ≡ out.old.items ++ fresh (seen sight.now) sight.now.wanted) }
+{
+    match sight.wanted {
+        Some(serial) if needs(sight, serial) => {
+            let kind = fresh_kind(replaced(sight, serial));
+            out.push(deed(sight, kind, serial))?;
+            Ok(())
+        }
+        _ => Ok(()),
+    }
+}
+
+/// Whether the version is on air, or may be, and neither wanted nor replaced there, its cell up and its key not held.
+fn is_to_kill(sight: &Sight<'_>, serial: Serial) -> bool
+    ensures { result ≡ is_to_kill (seen sight.now) serial }
+{
+    !sight.down
+        && !is_the(sight.wanted, serial)
+        && !is_held(sight, serial)
+        && presence(sight, serial) != Presence::Absent
+        && !is_the(replaced_there(sight), serial)
+}
+
+/// Adds the KILLs of the versions.
+fn add_kills(out: &mut Vec<Deed>, sight: &Sight<'_>) -> Result<(), AllocError>
+    ensures { OnOk result (out.new.items ≡ out.old.items ++ kills (seen sight.now) sight.now.versions.now) }
+{
+    let versions = sight.versions;
+    for serial in versions {
+        if is_to_kill(sight, *serial) {
+            out.push(deed(sight, OrderKind::Kill, *serial))?;
+        }
+    }
+    Ok(())
+}
+
+/// What is to be ordered on the line, the write first. The only `Err` is that of memory.
+pub fn actions(alloc: Global, sight: &Sight<'_>) -> Result<Vec<Deed>, AllocError>
+    ensures { IfOk result (λ ds. ds.items ≡ deeds (seen sight.now)) }
+{
+    let mut out = Vec::new(alloc);
+    add_fresh(&mut out, sight)?;
+    add_kills(&mut out, sight)?;
+    Ok(out)
+}
