@@ -1,0 +1,89 @@
+-- How the numbers of one area change, and those of no other.
+use Rattle.std.proofs.Common.{◌≡◌, ℕ, zero, suc, ◌+◌, ◌<◌, Bool, true, false, ◌||◌, cond, List, [], ◌∷◌, Some, None, bytes_eq, if◌then◌else◌, refl, sym, ap, ◌∙◌, unwrap_or, length, take, get_or, arith}
+use Rattle.std.proofs.lemmas.Bool.{or_right}
+use Rattle.std.proofs.lemmas.List.{take_more}
+use Rattle.std.proofs.lemmas.List.Folds.{list_any-append}
+use Rattle.std.specs.Bool.{Decides}
+use Rattle.std.specs.Cmp.{unsigned_Decides}
+use Rattle.std.specs.Cmp.Lexicographic.{pointwise_decides}
+use Rattle.std.specs.Map.{lookup}
+use Rattle.coverage_board.specs.Board.{area_in}
+use Rattle.coverage_board.specs.Numbers.{zero_numbers}
+use Rattle.coverage_board.specs.Parts.{has_area, part_where}
+use Rattle.coverage_board.specs.declared.numbers.Numbers.{Numbers}
+
+-- the test of two names is true where they are one name, and nowhere else
+pub names_decide : (a b : List ℕ) → Decides (bytes_eq a b) (a ≡ b)
+names_decide = pointwise_decides unsigned_Decides
+
+or_none : (t : Bool) → (t || false) ≡ t
+or_none true = refl
+or_none false = refl
+
+-- the numbers of an area that is there
+pub area_found : (k : List ℕ) (old : List (List ℕ × Numbers)) (n : Numbers) → lookup (bytes_eq k) old ≡ Some n → area_in old k ≡ n
+area_found k old n h = ap (λ o. unwrap_or o zero_numbers) h
+
+-- and of one that isn't
+pub area_not_found : (k : List ℕ) (old : List (List ℕ × Numbers)) → lookup (bytes_eq k) old ≡ None → area_in old k ≡ zero_numbers
+area_not_found k old h = ap (λ o. unwrap_or o zero_numbers) h
+
+-- where one entry has what f makes of the area's numbers, the area has that, and the others have what they had
+pub area_changed : (f : Numbers → Numbers) (k : List ℕ) (w : Numbers) (old new : List (List ℕ × Numbers)) → w ≡ f (area_in old k) → ((q : List ℕ) → lookup (bytes_eq q) new ≡ cond (bytes_eq k q) (Some w) (lookup (bytes_eq q) old)) → (a : List ℕ) → area_in new a ≡ (if bytes_eq k a then f (area_in old a) else area_in old a)
+area_changed f k w old new is h a = step (bytes_eq k a) refl (h a)
+  where
+    step : (t : Bool) → bytes_eq k a ≡ t → lookup (bytes_eq a) new ≡ cond t (Some w) (lookup (bytes_eq a) old) → area_in new a ≡ (if t then f (area_in old a) else area_in old a)
+    step true e g = ap (λ o. unwrap_or o zero_numbers) g ∙ is ∙ ap (λ b. f (area_in old b)) ((names_decide k a).0 e)
+    step false e g = ap (λ o. unwrap_or o zero_numbers) g
+
+-- where f makes nothing of nothing, and the area isn't there, all areas have what they had
+pub area_absent : (f : Numbers → Numbers) → f zero_numbers ≡ zero_numbers → (k : List ℕ) (old : List (List ℕ × Numbers)) → lookup (bytes_eq k) old ≡ None → (a : List ℕ) → area_in old a ≡ (if bytes_eq k a then f (area_in old a) else area_in old a)
+area_absent f z k old h a = step (bytes_eq k a) refl
+  where
+    step : (t : Bool) → bytes_eq k a ≡ t → area_in old a ≡ (if t then f (area_in old a) else area_in old a)
+    step true e =
+        let none : area_in old a ≡ zero_numbers = ap (λ b. area_in old b) (sym ((names_decide k a).0 e)) ∙ ap (λ o. unwrap_or o zero_numbers) h in
+        none ∙ sym (ap f none ∙ z)
+    step false e = refl
+
+-- an area is among one more where it is among those before, or is the last
+pub has_next : (xs : List (List ℕ)) (i : ℕ) (x : List ℕ) → x ≡ get_or xs i x → i < length xs → (a : List ℕ) → has_area (take (i + 1) xs) a ≡ (has_area (take i xs) a || bytes_eq x a)
+has_next xs i x is h a =
+    ap (λ ys. has_area ys a) (take_more xs i x h)
+    ∙ list_any-append (λ b. bytes_eq b a) (take i xs) (get_or xs i x ∷ [])
+    ∙ ap (λ t. has_area (take i xs) a || t) (or_none (bytes_eq (get_or xs i x) a))
+    ∙ ap (λ b. has_area (take i xs) a || bytes_eq b a) (sym is)
+
+-- one more that was among them changes nothing
+pub has_again : (xs : List (List ℕ)) (i : ℕ) (x : List ℕ) → x ≡ get_or xs i x → i < length xs → has_area (take i xs) x ≡ true → (a : List ℕ) → has_area (take (i + 1) xs) a ≡ has_area (take i xs) a
+has_again xs i x is h there a = has_next xs i x is h a ∙ step (bytes_eq x a) refl
+  where
+    step : (t : Bool) → bytes_eq x a ≡ t → (has_area (take i xs) a || t) ≡ has_area (take i xs) a
+    step true e =
+        let known : has_area (take i xs) a ≡ true = ap (has_area (take i xs)) (sym ((names_decide x a).0 e)) ∙ there in
+        rw known refl
+    step false e = or_none (has_area (take i xs) a)
+
+-- where each area of the first has what op makes of its numbers and a part, and a new one then has it too, so has each
+-- area of one more
+pub part_next : (op : Numbers → Numbers → Numbers) → ((n : Numbers) → op n zero_numbers ≡ n) → (p : Numbers) (xs : List (List ℕ)) (i : ℕ) (x : List ℕ) (old mid new : List (List ℕ × Numbers)) → x ≡ get_or xs i x → i < length xs → has_area (take i xs) x ≡ false → ((b : List ℕ) → area_in mid b ≡ op (area_in old b) (part_where (has_area (take i xs) b) p)) → ((b : List ℕ) → area_in new b ≡ (if bytes_eq x b then op (area_in mid b) p else area_in mid b)) → (a : List ℕ) → area_in new a ≡ op (area_in old a) (part_where (has_area (take (i + 1) xs) a) p)
+part_next op none p xs i x old mid new is h absent before change a =
+    step (bytes_eq x a) refl (change a) ∙ ap (λ t. op (area_in old a) (part_where t p)) (sym (has_next xs i x is h a))
+  where
+    step : (t : Bool) → bytes_eq x a ≡ t → area_in new a ≡ (if t then op (area_in mid a) p else area_in mid a) → area_in new a ≡ op (area_in old a) (part_where (has_area (take i xs) a || t) p)
+    step true e g =
+        let out : has_area (take i xs) a ≡ false = ap (has_area (take i xs)) (sym ((names_decide x a).0 e)) ∙ absent in
+        let kept : area_in mid a ≡ area_in old a = before a ∙ ap (λ t. op (area_in old a) (part_where t p)) out ∙ none (area_in old a) in
+        g ∙ ap (λ n. op n p) kept ∙ ap (λ t. op (area_in old a) (part_where (t || true) p)) (sym out)
+    step false e g = g ∙ before a ∙ ap (λ t. op (area_in old a) (part_where t p)) (sym (or_none (has_area (take i xs) a)))
+
+-- an area that isn't among the first has the numbers that it had
+pub part_first : (op : Numbers → Numbers → Numbers) → ((n : Numbers) → op n zero_numbers ≡ n) → (p : Numbers) (xs : List (List ℕ)) (i : ℕ) (x : List ℕ) (old mid : List (List ℕ × Numbers)) → has_area (take i xs) x ≡ false → ((b : List ℕ) → area_in mid b ≡ op (area_in old b) (part_where (has_area (take i xs) b) p)) → area_in mid x ≡ area_in old x
+part_first op none p xs i x old mid absent before =
+    before x ∙ ap (λ t. op (area_in old x) (part_where t p)) absent ∙ none (area_in old x)
+
+-- the name at an index is among the names
+pub has_at : (xs : List (List ℕ)) (i : ℕ) (x : List ℕ) → x ≡ get_or xs i x → i < length xs → has_area xs x ≡ true
+has_at [] i x is h = absurd (omega arith)
+has_at (y ∷ xs) zero x is h = rw ((names_decide y x).1 (sym is)) refl
+has_at (y ∷ xs) (suc i) x is h = or_right (bytes_eq y x) (has_area xs x) (has_at xs i x is (omega arith))

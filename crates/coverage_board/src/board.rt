@@ -1,0 +1,90 @@
+//! The numbers of all warnings.
+
+use crate::numbers::Numbers;
+use crate::row::Row;
+use crate::stand::Stand;
+use common::Name;
+use std::alloc::{AllocError, Global};
+use std::collections::BTreeMap;
+use std::marker::Model;
+use warning_book::WarningId;
+
+/// The numbers of each warning, and of each warning and area. A board follows its lines: it knows none of them, and is
+/// told how a line stood before it changed and how it stands after.
+#[derive(Drop)]
+pub struct Board {
+    alloc: Global,
+    rows: BTreeMap<u32, Row>,
+}
+
+impl Model for Board {
+    ghost use Rattle.std.specs.Prelude.{List, ℕ};
+    ghost use Rattle.coverage_board.specs.Board.{WarningNumbers};
+
+    ghost Value = { List (ℕ × WarningNumbers) };
+
+    ghost view = { λ b. b.rows.entries };
+}
+
+impl Board {
+    ghost use Rattle.std.specs.Prelude.{◌≡◌, ℕ, List, nat_eq, if◌then◌else◌, OnOk};
+    ghost use Rattle.coverage_board.specs.Board.{total_of, area_of};
+    ghost use Rattle.coverage_board.specs.Numbers.{zero_numbers, moved, Holds, HasRoom};
+    ghost use Rattle.coverage_board.specs.Parts.{total_part, area_part};
+    ghost use Rattle.coverage_board.specs.Reading.{stand_of};
+
+    /// A board on which nothing is counted. What it will need is taken from the allocator.
+    pub fn new(alloc: Global) -> Board
+        ensures total { (v : ℕ) → total_of result v ≡ zero_numbers }
+        ensures area { (v : ℕ) (a : List ℕ) → area_of result v a ≡ zero_numbers }
+    {
+        Board {
+            alloc,
+            rows: BTreeMap::new(alloc),
+        }
+    }
+
+    /// The numbers of the warning: of the cells that at least one of its areas covers, each once. It takes no memory.
+    pub fn total(&self, w: WarningId) -> Numbers
+        ensures { result ≡ total_of self.now w }
+    {
+        match self.rows.get(&w.number()) {
+            Some(row) => row.total(),
+            None => Numbers::zero(),
+        }
+    }
+
+    /// The numbers of the warning and the area of that name: of the cells that this area covers. It takes no memory.
+    pub fn area(&self, w: WarningId, a: &Name) -> Numbers
+        ensures { result ≡ area_of self.now w a.now }
+    {
+        match self.rows.get(&w.number()) {
+            Some(row) => row.area(a),
+            None => Numbers::zero(),
+        }
+    }
+
+    /// Moves the numbers of the warning from what one line added as it was to what it adds as it is. At an `Err` memory
+    /// was wanting, and what the board then holds is not said: it is not to be used any more.
+    pub fn shift(
+        &mut self,
+        w: WarningId,
+        before: &Stand<'_>,
+        after: &Stand<'_>,
+    ) -> Result<(), AllocError>
+        requires total_there { Holds (total_of self.old w) (total_part (stand_of before.now)) }
+        requires total_room { HasRoom (total_of self.old w) (total_part (stand_of before.now)) (total_part (stand_of after.now)) }
+        requires area_there { (a : List ℕ) → Holds (area_of self.old w a) (area_part a (stand_of before.now)) }
+        requires area_room { (a : List ℕ) → HasRoom (area_of self.old w a) (area_part a (stand_of before.now)) (area_part a (stand_of after.now)) }
+        ensures total { OnOk result ((v : ℕ) → total_of self.new v ≡ (if nat_eq w v then moved (total_of self.old v) (total_part (stand_of before.now)) (total_part (stand_of after.now)) else total_of self.old v)) }
+        ensures area { OnOk result ((v : ℕ) (a : List ℕ) → area_of self.new v a ≡ (if nat_eq w v then moved (area_of self.old v a) (area_part a (stand_of before.now)) (area_part a (stand_of after.now)) else area_of self.old v a)) }
+    {
+        if let Some(row) = self.rows.get_mut(&w.number()) {
+            return row.shift(before, after);
+        }
+        let mut row = Row::new(self.alloc);
+        row.shift(before, after)?;
+        self.rows.insert(w.number(), row)?;
+        Ok(())
+    }
+}

@@ -1,0 +1,74 @@
+//! The numbers of one warning.
+
+use crate::area_numbers::AreaNumbers;
+use crate::numbers::Numbers;
+use crate::parts::total_part;
+use crate::stand::Stand;
+use common::Name;
+use std::alloc::{AllocError, Global};
+use std::marker::Model;
+
+/// The numbers of a warning, and those of its areas.
+#[derive(Drop)]
+pub(crate) struct Row {
+    total: Numbers,
+    areas: AreaNumbers,
+}
+
+impl Model for Row {
+    ghost use Rattle.coverage_board.specs.Board.{WarningNumbers};
+
+    ghost Value = { WarningNumbers };
+
+    ghost view = { λ r. record { total = r.total; areas = r.areas } };
+}
+
+impl Row {
+    ghost use Rattle.std.specs.Prelude.{◌≡◌, ℕ, List, OnOk};
+    ghost use Rattle.coverage_board.specs.Board.{nothing, area_in};
+    ghost use Rattle.coverage_board.specs.Numbers.{moved, Holds, HasRoom};
+    ghost use Rattle.coverage_board.specs.Parts.{total_part, area_part};
+    ghost use Rattle.coverage_board.specs.Reading.{stand_of};
+
+    /// Nothing is counted.
+    pub(crate) fn new(alloc: Global) -> Row
+        ensures { result ≡ nothing }
+    {
+        Row {
+            total: Numbers::zero(),
+            areas: AreaNumbers::new(alloc),
+        }
+    }
+
+    pub(crate) fn total(&self) -> Numbers
+        ensures { result ≡ self.now.total }
+    {
+        self.total
+    }
+
+    pub(crate) fn area(&self, area: &Name) -> Numbers
+        ensures { result ≡ area_in self.now.areas area.now }
+    {
+        self.areas.area(area)
+    }
+
+    /// Moves the numbers from what a line added as it was to what it adds as it is.
+    pub(crate) fn shift(&mut self, before: &Stand<'_>, after: &Stand<'_>) -> Result<(), AllocError>
+        requires total_there { Holds self.old.total (total_part (stand_of before.now)) }
+        requires total_room { HasRoom self.old.total (total_part (stand_of before.now)) (total_part (stand_of after.now)) }
+        requires area_there { (a : List ℕ) → Holds (area_in self.old.areas a) (area_part a (stand_of before.now)) }
+        requires area_room { (a : List ℕ) → HasRoom (area_in self.old.areas a) (area_part a (stand_of before.now)) (area_part a (stand_of after.now)) }
+        ensures total { OnOk result (self.new.total ≡ moved self.old.total (total_part (stand_of before.now)) (total_part (stand_of after.now))) }
+        ensures areas { OnOk result ((a : List ℕ) → area_in self.new.areas a ≡ moved (area_in self.old.areas a) (area_part a (stand_of before.now)) (area_part a (stand_of after.now))) }
+    {
+        // Read, so that the part of it is known to fit 64 bits.
+        let _broadcasts = self.total.broadcasts;
+        let part_before = total_part(before);
+        let part_after = total_part(after);
+        self.total = self.total.less(part_before).added(part_after);
+        self.areas
+            .take_out_all(before.areas, part_before.without_left());
+        self.areas
+            .put_in_all(after.areas, part_after.without_left())
+    }
+}

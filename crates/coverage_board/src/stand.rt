@@ -1,0 +1,16 @@
+//! What is read of one line before it is counted.
+
+use common::Name;
+use mirror::Sight;
+
+/// What a board counts of one BSC, cell and warning.
+#[derive(Clone, Copy, Debug)]
+pub struct Stand<'a> {
+    pub sight: Sight<'a>,
+    /// The warning's areas that cover the cell.
+    pub areas: &'a [Name],
+    /// The cell is registered at this BSC.
+    pub here: bool,
+    /// The warning is active: it was not stopped.
+    pub active: bool,
+}

@@ -1,0 +1,64 @@
+//! In which way a line is counted.
+
+ghost use Rattle.std.specs.Prelude.{◌≡◌};
+ghost use Rattle.mirror.specs.Seen.{seen};
+ghost use Rattle.coverage_board.specs.Reading.{stand_of};
+ghost use Rattle.coverage_board.specs.Standings.{standing, standing_of, is_unwanted, is_left, stands};
+
+use crate::stand::Stand;
+use crate::way::Way;
+use mirror::{Presence, Sight};
+use serials::Serial;
+
+/// How the line stands whose wanted version has this serial number.
+fn standing_of(sight: &Sight<'_>, wanted: Serial) -> Way
+    ensures { result ≡ standing_of (seen sight.now) wanted }
+{
+    let state = sight.line.state(wanted);
+    if sight.down {
+        Way::Failed
+    } else if state.presence == Presence::OnAir {
+        Way::OnAir
+    } else if state.hold.is_some() {
+        Way::Failed
+    } else {
+        Way::Awaited
+    }
+}
+
+/// How the line of the wanted version stands, if one is wanted.
+fn standing(sight: &Sight<'_>) -> Option<Way>
+    ensures { result ≡ standing (seen sight.now) sight.now.wanted }
+{
+    match sight.wanted {
+        Some(serial) => Some(standing_of(sight, serial)),
+        None => None,
+    }
+}
+
+/// Whether the version is on air there, or may be, and not wanted.
+fn is_unwanted(sight: &Sight<'_>, serial: Serial) -> bool
+    ensures { result ≡ is_unwanted (seen sight.now) serial }
+{
+    sight.wanted != Some(serial) && sight.line.state(serial).presence != Presence::Absent
+}
+
+/// Whether a version of the warning is.
+fn is_left(sight: &Sight<'_>) -> bool
+    ensures { result ≡ is_left (seen sight.now) }
+{
+    sight
+        .versions
+        .iter()
+        .any(|serial| is_unwanted(sight, *serial))
+}
+
+/// Whether the line is counted in that way.
+pub(crate) fn stands(stand: &Stand<'_>, way: Way) -> bool
+    ensures { result ≡ stands way (stand_of stand.now) }
+{
+    match way {
+        Way::Left => is_left(&stand.sight),
+        Way::Awaited | Way::OnAir | Way::Failed => standing(&stand.sight) == Some(way),
+    }
+}
