@@ -1,0 +1,9 @@
+pub mod CheckLemmas
+pub mod PairLemmas
+pub mod ReachLemmas
+pub mod FilterLemmas
+pub mod ChangeLemmas
+pub mod CellChangeLemmas
+pub mod AreaChangeLemmas
+pub mod WarningChangeLemmas
+pub mod EditChangeLemmas
