@@ -1,0 +1,6 @@
+pub mod SumLemmas
+pub mod SpotLemmas
+pub mod BroadcastLemmas
+pub mod NumbersLemmas
+pub mod ViewLemmas
+pub mod SettleLemmas

@@ -1,0 +1,10 @@
+pub mod Facts
+pub mod FactsLaws
+pub mod View
+pub mod Tables
+pub mod Consistent
+pub mod Changes
+pub mod Same
+pub mod SpotLaws
+pub mod CountLaws
+pub mod ConsistentLaws

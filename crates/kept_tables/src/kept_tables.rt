@@ -1,0 +1,251 @@
+//! The lines, the pending orders and the board of a centre.
+
+ghost use Rattle.std.specs.Prelude.{◌≡◌, ◌<◌, ℕ, true};
+ghost use Rattle.kept_tables.specs.Consistent.{is_in_range};
+ghost use Rattle.kept_tables.specs.View.{spot_of};
+ghost use Rattle.mirror.specs.Line.{state_of};
+
+use crate::change::Change;
+use crate::line_facts::LineFacts;
+use cbsp_ie::CellId;
+use cell_register::{BscId, Register};
+use common::{Cell, Cells, Name};
+use coverage_board::{Board, Numbers};
+use mirror::{KeyState, Line, LineKey, LineTable};
+use order_maker::{Order, Orders, Pending};
+use serials::Serial;
+use std::alloc::{AllocError, Global};
+use std::marker::Model;
+use warning_book::WarningId;
+
+/// What is kept of every line, what is pending for each BSC, and the numbers of the board. All three change in step, by
+/// `settle` alone.
+#[derive(Drop)]
+pub struct KeptTables {
+    lines: LineTable,
+    pending: Pending,
+    board: Board,
+}
+
+impl Model for KeptTables {
+    ghost use Rattle.kept_tables.specs.Tables.{Tables};
+
+    ghost Value = { Tables };
+
+    ghost view = { λ t. record { lines = t.lines; pending = t.pending; board = t.board } };
+}
+
+/// A lemma, not a test: it returns nothing, and its clause says that the numbers of a line's BSC, location area and cell
+/// fit 16 bits.
+fn tell_range(key: LineKey)
+    ensures { is_in_range (spot_of key) ≡ true }
+{
+    let _ = key;
+}
+
+/// A lemma, not a test: it returns nothing, and its clause says that a count of broadcasts fits 16 bits (TS 48.049,
+/// 8.2.10).
+fn tell_count(state: KeyState)
+    ensures { state.count < 65536 }
+{
+    let _ = state;
+}
+
+/// A lemma, not a test: it returns nothing, and its clause says that each count of broadcasts of the line fits 16 bits.
+fn tell_counts(line: Line)
+    ensures { (s : ℕ) → (state_of line s).count < 65536 }
+{
+    for state in line.states {
+        tell_count(state);
+    }
+}
+
+impl KeptTables {
+    ghost use Rattle.std.specs.Prelude.{◌≡◌, ◌≤◌, ◌+◌, ◌&&◌, ℕ, List, true, false, if◌then◌else◌, length, nat_eq, take, OnOk, OnErr, IfOk};
+    ghost use Rattle.std.specs.List.{list_any};
+    ghost use Rattle.std.specs.Option.{is_some};
+    ghost use Rattle.common.specs.Cell.{cell_eq, cell_lt};
+    ghost use Rattle.common.specs.Order.{is_ascending};
+    ghost use Rattle.common.specs.declared.cell.Cell.{Cell};
+    ghost use Rattle.coverage_board.specs.Board.{total_of, area_of};
+    ghost use Rattle.kept_tables.specs.Changes.{Begins, mixed};
+    ghost use Rattle.kept_tables.specs.Consistent.{Consistent};
+    ghost use Rattle.kept_tables.specs.Tables.{HasPart, IsEmpty, SameTables, Shifted};
+    ghost use Rattle.mirror.specs.Known.{is_known, is_named};
+    ghost use Rattle.mirror.specs.OnAir.{AreOnAir, line_count};
+    ghost use Rattle.mirror.specs.Table.{line_at, down_at};
+    ghost use Rattle.order_maker.specs.Grouping.{in_order, grouped, first};
+    ghost use Rattle.order_maker.specs.Pending.{IsListOf};
+    ghost use Rattle.order_maker.specs.declared.action.Action.{Action};
+
+    /// Blank lines, no cell that is down, nothing pending and nothing counted.
+    pub fn new(alloc: Global) -> KeptTables
+        ensures { IsEmpty result }
+    {
+        KeptTables {
+            lines: LineTable::new(alloc),
+            pending: Pending::new(alloc),
+            board: Board::new(alloc),
+        }
+    }
+
+    /// How often lines were read or set, up to the greatest value, which stays.
+    pub fn meter(&self) -> u64
+        ensures { result ≡ self.now.lines.meter }
+    {
+        self.lines.meter()
+    }
+
+    /// What is kept of the lines, to ask which cells are down and known: no line can be read through it.
+    pub fn lines(&self) -> &LineTable
+        ensures { result.now ≡ self.now.lines }
+    {
+        &self.lines
+    }
+
+    /// The line of that BSC, cell and warning. It takes no memory, and is counted.
+    pub fn read_line(&mut self, key: LineKey) -> Line
+        ensures line { result ≡ line_at self.old.lines key.bsc key.cell key.warning }
+        ensures same { SameTables self.old self.new }
+        ensures lines { self.new.lines.lines ≡ self.old.lines.lines }
+        ensures downs { self.new.lines.downs ≡ self.old.lines.downs }
+        ensures meter { self.new.lines.meter ≤ self.old.lines.meter + 1 }
+    {
+        self.lines.read_line(key)
+    }
+
+    /// The first `most` cells at the BSC, in ascending order and after the given one, in which the version of that serial
+    /// number of the warning is on air. Each line of the warning there that is read is counted. Memory is taken only for a
+    /// cell that is found.
+    pub fn cells_on_air(
+        &mut self,
+        b: BscId,
+        w: WarningId,
+        serial: Serial,
+        after: Option<Cell>,
+        most: usize,
+    ) -> Result<Cells, AllocError>
+        ensures first { (xs : List Cell) → AreOnAir self.old.lines b w serial after xs → IfOk result (λ cells. cells ≡ take most xs) }
+        ensures some { (xs : List Cell) → AreOnAir self.old.lines b w serial after xs → OnErr result (1 ≤ length (take most xs)) }
+        ensures same { SameTables self.old self.new }
+        ensures lines { self.new.lines.lines ≡ self.old.lines.lines }
+        ensures downs { self.new.lines.downs ≡ self.old.lines.downs }
+        ensures meter { self.new.lines.meter ≤ self.old.lines.meter + line_count self.old.lines b w }
+    {
+        self.lines.cells_on_air(b, w, serial, after, most)
+    }
+
+    /// Whether the cell is down at the BSC (TS 48.049, 8.1.3). It takes no memory.
+    pub fn is_down(&self, b: BscId, c: Cell) -> bool
+        ensures { result ≡ down_at self.now.lines b c }
+    {
+        self.lines.is_down(b, c)
+    }
+
+    /// Sets whether the cell is down at the BSC. Memory is taken only for a cell that is down and wasn't.
+    pub fn set_down(&mut self, b: BscId, c: Cell, down: bool) -> Result<(), AllocError>
+        ensures set { OnOk result ((d : ℕ) (e : Cell) → down_at self.new.lines d e ≡ (if nat_eq b d && cell_eq c e then down else down_at self.old.lines d e)) }
+        ensures unchanged { OnErr result (self.new.lines.downs ≡ self.old.lines.downs) }
+        ensures grows { OnErr result ((down ≡ true) × (down_at self.old.lines b c ≡ false)) }
+        ensures same { SameTables self.old self.new }
+        ensures lines { self.new.lines.lines ≡ self.old.lines.lines }
+        ensures meter { self.new.lines.meter ≡ self.old.lines.meter }
+    {
+        self.lines.set_down(b, c, down)
+    }
+
+    /// The cells that are known at the BSC, in ascending order: those registered there, those that are down there, and
+    /// those of which a line isn't blank.
+    pub fn known_cells(&self, register: &Register, b: BscId) -> Result<Cells, AllocError>
+        ensures order { IfOk result (λ cells. is_ascending cell_lt cells ≡ true) }
+        ensures known { IfOk result (λ cells. (c : Cell) → list_any (cell_eq c) cells ≡ is_known self.now.lines register.now b c) }
+    {
+        self.lines.known_cells(register, b)
+    }
+
+    /// Those cells known at the BSC that one of the identifications names, in ascending order (TS 48.049, 8.2.6). The
+    /// network is that of the centre, as its three octets are sent.
+    pub fn cells_named(
+        &self,
+        register: &Register,
+        network: [u8; 3],
+        b: BscId,
+        ids: &[CellId],
+    ) -> Result<Cells, AllocError>
+        ensures order { IfOk result (λ cells. is_ascending cell_lt cells ≡ true) }
+        ensures named { IfOk result (λ cells. (c : Cell) → list_any (cell_eq c) cells ≡ (is_known self.now.lines register.now b c && is_named network ids.now c)) }
+    {
+        self.lines.cells_named(register, network, b, ids)
+    }
+
+    /// The pending orders of the BSC, in the order in which they are sent.
+    pub fn groups(&self, b: BscId) -> Result<Orders, AllocError>
+        ensures { (xs : List Action) → IsListOf xs self.now.pending b → IfOk result (λ orders. orders ≡ grouped (in_order xs)) }
+    {
+        self.pending.groups(b)
+    }
+
+    /// The order that is sent next, for its first cells. `None` where nothing is pending.
+    pub fn first(&self, b: BscId) -> Result<Option<Order>, AllocError>
+        ensures { (xs : List Action) → IsListOf xs self.now.pending b → IfOk result (λ o. o ≡ first (grouped (in_order xs))) }
+    {
+        self.pending.first(b)
+    }
+
+    /// Whether an order is pending for the BSC. It takes no memory.
+    pub fn has(&self, b: BscId) -> bool
+        ensures { (xs : List Action) → IsListOf xs self.now.pending b → result ≡ is_some (first (grouped (in_order xs))) }
+    {
+        self.pending.has(b)
+    }
+
+    /// The numbers of the warning: of the cells that at least one of its areas covers, each once. It takes no memory.
+    pub fn total(&self, w: WarningId) -> Numbers
+        ensures { result ≡ total_of self.now.board w }
+    {
+        self.board.total(w)
+    }
+
+    /// The numbers of the warning and the area of that name: of the cells that this area covers. It takes no memory.
+    pub fn area(&self, w: WarningId, a: &Name) -> Numbers
+        ensures { result ≡ area_of self.now.board w a.now }
+    {
+        self.board.area(w, a)
+    }
+
+    /// Changes one line: what is kept of it, what is pending for it, and what it adds to the numbers. At an `Err` memory
+    /// was wanting, and the tables are of no use any more.
+    fn change(
+        &mut self,
+        key: LineKey,
+        before: &LineFacts,
+        after: &LineFacts,
+    ) -> Result<(), AllocError>
+        requires { HasPart self.old key before.now after.now }
+        ensures changed { OnOk result (Shifted self.old self.new key before.now after.now) }
+        ensures downs { self.new.lines.downs ≡ self.old.lines.downs }
+        ensures meter { self.new.lines.meter ≤ self.old.lines.meter + 1 }
+    {
+        let LineKey { bsc, cell, warning } = key;
+        self.lines.set_line(key, after.line)?;
+        self.pending
+            .shift(bsc, cell, &before.sight(), &after.sight())?;
+        self.board.shift(warning, &before.stand(), &after.stand())
+    }
+
+    /// Makes the changes, in their order. Each is of another line. At an `Err` memory was wanting, and the tables are of
+    /// no use any more.
+    pub fn settle(&mut self, changes: &[Change]) -> Result<(), AllocError>
+        requires { Begins self.old changes.now }
+        ensures settled { OnOk result ((b : Begins self.old changes.now) → Consistent self.new (mixed b.from b.to changes.now)) }
+        ensures downs { (b : ℕ) (c : Cell) → down_at self.new.lines b c ≡ down_at self.old.lines b c }
+        ensures meter { self.new.lines.meter ≤ self.old.lines.meter + length changes.now }
+    {
+        for change in changes {
+            tell_range(change.key);
+            tell_counts(change.after.line);
+            self.change(change.key, &change.before, &change.after)?;
+        }
+        Ok(())
+    }
+}

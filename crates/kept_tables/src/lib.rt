@@ -1,0 +1,19 @@
+//! The lines, the pending orders and the board of a centre, changed in step, line by line.
+//!
+//! A view says what is read of every line; the tables are consistent with one. A step changes one line: what is kept of
+//! it, what is pending for it and what it adds to the board. Begin with `kept_tables`. Of the definitions that contracts
+//! cite, `Facts` and `View` say what is read of lines, `Consistent` when the tables agree with it, and `Changes` how a
+//! list of changes leads from one view to another; what follows for a caller stands in `ConsistentLaws`.
+#![tactic(auto)]
+
+mod change;
+mod kept_tables;
+mod line_facts;
+mod serial_list;
+mod spot;
+
+pub use change::Change;
+pub use kept_tables::KeptTables;
+pub use line_facts::LineFacts;
+pub use serial_list::Serials;
+pub use spot::Spot;
