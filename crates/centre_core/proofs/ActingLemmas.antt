@@ -10,7 +10,7 @@ use Rattle.common.specs.Equality.{cell_decides}
 use Rattle.common.specs.OnceLaws.{turned}
 use Rattle.common.specs.declared.cell.Cell.{Cell}
 use Rattle.warning_book.specs.declared.warning.Warning.{Warning}
-use Rattle.centre_core.specs.Actions.{in_cell, deed, needs, is_replaceable, newest, replaced, replaced_for, fresh_kind, fresh, is_to_kill, kills, deeds}
+use Rattle.order_maker.specs.Actions.{in_cell, deed, needs, is_replaceable, newest, replaced, replaced_for, fresh_kind, fresh, is_to_kill, kills, deeds}
 use Rattle.centre_core.specs.Effects.{is_among}
 use Rattle.centre_core.specs.Headline.{clears_serial}
 use Rattle.centre_core.specs.InFlight.{is_kill}
@@ -18,13 +18,13 @@ use Rattle.centre_core.specs.Lines.{seen}
 use Rattle.centre_core.specs.Past.{Past}
 use Rattle.centre_core.specs.Pending.{actions, actions_in, all_actions}
 use Rattle.centre_core.specs.Places.{cells}
-use Rattle.centre_core.specs.Seen.{Seen, is_absent, is_on_air, is_the}
+use Rattle.mirror.specs.Seen.{Seen, is_absent, is_on_air, is_the}
 use Rattle.centre_core.specs.Warnings.{warnings_of}
-use Rattle.centre_core.specs.declared.mirror.presence.Presence.{Presence}
-use Rattle.centre_core.specs.declared.mirror.presence.Presence.TheVariants.{Absent, OnAir, Unknown}
-use Rattle.centre_core.specs.declared.order_maker.deed.Deed.{Deed}
-use Rattle.centre_core.specs.declared.order_maker.order_kind.OrderKind.{OrderKind}
-use Rattle.centre_core.specs.declared.order_maker.order_kind.OrderKind.TheVariants.{Kill}
+use Rattle.mirror.specs.declared.presence.Presence.{Presence}
+use Rattle.mirror.specs.declared.presence.Presence.TheVariants.{Absent, OnAir, Unknown}
+use Rattle.order_maker.specs.declared.deed.Deed.{Deed}
+use Rattle.order_maker.specs.declared.order_kind.OrderKind.{OrderKind}
+use Rattle.order_maker.specs.declared.order_kind.OrderKind.TheVariants.{Kill}
 use Rattle.centre_core.proofs.AnyLemmas.{or_none, and_none, and_over_or, any_same, any_never, any_flat, any_reverse}
 use Rattle.centre_core.proofs.GroupingLemmas.{touches}
 use Rattle.centre_core.proofs.PastLemmas.{any_image}
@@ -72,7 +72,7 @@ any_kills g c m v d (t ∷ ts) = step (any_kills g c m v d ts) (is_to_kill v t) 
         ∙ one_kill (nat_eq v.message_id m) (cell_eq c d) (g Kill t) (list_any (λ u. is_to_kill v u && g Kill u) ts))
     step rest false h = rw h rest
 
-any_deeds : (g : OrderKind → ℕ → Bool) (c : Cell) (m : ℕ) (v : Seen) (d : Cell) → list_any (touches g c m) (map (in_cell d) (deeds v)) ≡ ((nat_eq v.message_id m && cell_eq c d) && does g v)
+pub any_deeds : (g : OrderKind → ℕ → Bool) (c : Cell) (m : ℕ) (v : Seen) (d : Cell) → list_any (touches g c m) (map (in_cell d) (deeds v)) ≡ ((nat_eq v.message_id m && cell_eq c d) && does g v)
 any_deeds g c m v d =
     any_image (touches g c m) (in_cell d) (deeds v)
     ∙ list_any-append (at_cell g c m d) (fresh v v.wanted) (kills v v.versions)
@@ -189,7 +189,7 @@ writes_clearing v s (Some t) = ap (λ u. needs v t && u) (fresh_clears (replaced
     step false = refl
 
 -- what is found is one of the list, and passes
-found_serial : (p : ℕ → Bool) (s : ℕ) (ts : List ℕ) → is_the (find p ts) s ≡ true → (has_serial s ts ≡ true) × (p s ≡ true)
+pub found_serial : (p : ℕ → Bool) (s : ℕ) (ts : List ℕ) → is_the (find p ts) s ≡ true → (has_serial s ts ≡ true) × (p s ≡ true)
 found_serial p s [] h = cc
 found_serial p s (t ∷ ts) h = step (found_serial p s ts) (p t) refl h
   where

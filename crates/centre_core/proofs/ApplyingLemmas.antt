@@ -4,9 +4,9 @@ use Rattle.std.proofs.lemmas.Bool.{or_parts}
 use Rattle.std.specs.List.{list_any}
 use Rattle.common.specs.declared.cell.Cell.{Cell}
 use Rattle.centre_core.specs.Headline.{applied, applied_one, airs, clears}
-use Rattle.centre_core.specs.declared.mirror.presence.Presence.{Presence}
-use Rattle.centre_core.specs.declared.mirror.presence.Presence.TheVariants.{Absent, OnAir}
-use Rattle.centre_core.specs.declared.order_maker.order.Order.{Order}
+use Rattle.mirror.specs.declared.presence.Presence.{Presence}
+use Rattle.mirror.specs.declared.presence.Presence.TheVariants.{Absent, OnAir}
+use Rattle.order_maker.specs.declared.order.Order.{Order}
 
 -- a value that is set again stays
 again : (a : Bool) (p : Presence) → cond a p p ≡ p

@@ -29,8 +29,8 @@ use Rattle.centre_core.specs.Refusals.{of_areas}
 use Rattle.centre_core.specs.Verdict.{translated, answered, edit_answered, unless, add_area, add_area_checks, put, put_checks, cut, cut_checks}
 use Rattle.centre_core.specs.declared.answer.Answer.{Answer}
 use Rattle.centre_core.specs.declared.answer.Answer.TheVariants as answer
-use Rattle.centre_core.specs.declared.coverage_plan.edit.Edit.{Edit}
-use Rattle.centre_core.specs.declared.coverage_plan.edit.Edit.TheVariants as edit
+use Rattle.coverage_plan.specs.declared.edit.Edit.{Edit}
+use Rattle.coverage_plan.specs.declared.edit.Edit.TheVariants as edit
 use Rattle.centre_core.specs.declared.entry.Entry.{Entry}
 use Rattle.centre_core.specs.declared.event.Event.{Event}
 use Rattle.centre_core.specs.declared.event.Event.TheVariants as event
@@ -69,16 +69,16 @@ area_then : (e : Event) (a : List ℕ) (l : List Area) (before : Bool) → has_a
 area_then (event.Edit e) a l before h = area_after e a l before h
 area_then other a l before h = h
 
-selector_then : (past : Past) (e : Event) (given : Answer) (a : List ℕ) (s : Selector) (l : List Area) → answered past e ≡ Ok given → AreAreasOf past l → kept_areas.has_selector (areas_then e l) a s ≡ unwrap_or (by_edit (selector_mark a s) e) (has_selector past a s)
-selector_then past (event.Edit e) given a s l v tied = selector_after past e given a s l v tied
-selector_then past other given a s l v tied = tied.selectors a s
+selector_then : (network : List ℕ) (past : Past) (e : Event) (given : Answer) (a : List ℕ) (s : Selector) (l : List Area) → answered network past e ≡ Ok given → AreAreasOf past l → kept_areas.has_selector (areas_then e l) a s ≡ unwrap_or (by_edit (selector_mark a s) e) (has_selector past a s)
+selector_then network past (event.Edit e) given a s l v tied = selector_after past e given a s l v tied
+selector_then network past other given a s l v tied = tied.selectors a s
 
 -- the areas stay tied to the past, one entry further
-pub areas_with : (e : Entry) (before : Past) (l : List Area) → answered before e.event ≡ Ok e.answer → AreAreasOf before l → AreAreasOf (After e before) (areas_then e.event l)
-areas_with e before l v tied = record {
+pub areas_with : (network : List ℕ) (e : Entry) (before : Past) (l : List Area) → answered network before e.event ≡ Ok e.answer → AreAreasOf before l → AreAreasOf (After e before) (areas_then e.event l)
+areas_with network e before l v tied = record {
   unfolded = tied.unfolded;
   names = λ a. area_then e.event a l (is_area before a) (tied.names a);
-  selectors = λ a s. selector_then before e.event e.answer a s l v tied;
+  selectors = λ a s. selector_then network before e.event e.answer a s l v tied;
 }
 
 -- How many there are.

@@ -7,28 +7,29 @@ use Rattle.std.specs.Option.{option_map}
 use Rattle.std.proofs.lemmas.Bool.{and_parts, and_from, or_right}
 use Rattle.std.proofs.lemmas.Grind.{common_steps}
 use Rattle.std.proofs.lemmas.Bool.Decides.{nat_tests}
-use Rattle.std.proofs.lemmas.List.Folds.{list_any-append, list_all-append}
-use Rattle.common.specs.SortingLaws.{all_sorted}
+use Rattle.std.proofs.lemmas.List.Folds.{list_any-append}
 use Rattle.common.specs.declared.cell.Cell.{Cell}
 use Rattle.warning_book.specs.Book.{State, current_of, versions_if, versions_with, content_of}
 use Rattle.warning_book.specs.VersionLaws.{current_among}
 use Rattle.warning_book.specs.declared.content.Content.{Content}
 use Rattle.warning_book.specs.declared.warning.Warning.{Warning}
-use Rattle.centre_core.specs.Actions.{in_cell, deed, needs, replaced, is_to_kill, fresh_kind, fresh, kills}
-use Rattle.centre_core.specs.Grouping.{fits, joined, grouped, alone, in_order, action_lt, first}
+use Rattle.order_maker.specs.Actions.{in_cell, deed, needs, replaced, is_to_kill, fresh_kind, fresh, kills}
+use Rattle.order_maker.specs.Grouping.{first}
 use Rattle.centre_core.specs.InFlight.{is_kill}
 use Rattle.centre_core.specs.Lines.{seen}
-use Rattle.centre_core.specs.OrderMessage.{IsCarriable}
+use Rattle.order_maker.specs.OrderMessage.{IsCarriable}
 use Rattle.centre_core.specs.Past.{Past}
-use Rattle.centre_core.specs.Pending.{actions, actions_in, all_actions, pending}
+use Rattle.centre_core.specs.Pending.{actions, actions_in, pending}
 use Rattle.centre_core.specs.Places.{cells}
 use Rattle.centre_core.specs.Plan.{wants, wanted}
-use Rattle.centre_core.specs.Seen.{Seen}
+use Rattle.mirror.specs.Seen.{Seen}
 use Rattle.centre_core.specs.Warnings.{book_of, warnings_of, serials}
-use Rattle.centre_core.specs.declared.order_maker.action.Action.{Action}
-use Rattle.centre_core.specs.declared.order_maker.order.Order.{Order}
-use Rattle.centre_core.specs.declared.order_maker.order_kind.OrderKind.{OrderKind}
-use Rattle.centre_core.specs.declared.order_maker.order_kind.OrderKind.TheVariants.{Write, Replace, Kill}
+use Rattle.order_maker.specs.declared.action.Action.{Action}
+use Rattle.order_maker.specs.declared.order.Order.{Order}
+use Rattle.order_maker.specs.declared.order_kind.OrderKind.{OrderKind}
+use Rattle.order_maker.specs.declared.order_kind.OrderKind.TheVariants.{Write, Replace, Kill}
+use Rattle.centre_core.proofs.AnyLemmas.{all_joined}
+use Rattle.centre_core.proofs.GroupingLemmas.{all_pending}
 use Rattle.centre_core.proofs.PastLemmas.{map_joined}
 
 -- contents of the book
@@ -98,9 +99,6 @@ order_carries ws order = carries ws order.kind order.message_id order.serial
 
 -- actions
 
-both : (p : Action → Bool) (xs ys : List Action) → list_all p xs ≡ true → list_all p ys ≡ true → list_all p (xs ++ ys) ≡ true
-both p xs ys h g = list_all-append p xs ys ∙ and_from (list_all p xs) (list_all p ys) h g
-
 kills_carry : (ws : List Warning) (v : Seen) (c : Cell) (ts : List ℕ) → list_all (action_carries ws) (map (in_cell c) (kills v ts)) ≡ true
 kills_carry ws v c [] = refl
 kills_carry ws v c (t ∷ ts) = step (kills_carry ws v c ts) (is_to_kill v t)
@@ -128,9 +126,9 @@ wanted_has ws past b w c h = step (wants past b w c)
 in_carry : (ws : List Warning) (past : Past) (b : ℕ) (w : Warning) (cs : List Cell) → current_has ws w ≡ true → list_all (action_carries ws) (actions_in past b cs w) ≡ true
 in_carry ws past b w [] h = refl
 in_carry ws past b w (c ∷ cs) h =
-    both (action_carries ws) (actions past b w c) (actions_in past b cs w)
+    all_joined (action_carries ws) (actions past b w c) (actions_in past b cs w)
     (ap (list_all (action_carries ws)) (map_joined (in_cell c) (fresh (seen past b w c) (wanted past b w c)) (kills (seen past b w c) (serials w)))
-    ∙ both (action_carries ws) (map (in_cell c) (fresh (seen past b w c) (wanted past b w c))) (map (in_cell c) (kills (seen past b w c) (serials w)))
+    ∙ all_joined (action_carries ws) (map (in_cell c) (fresh (seen past b w c) (wanted past b w c))) (map (in_cell c) (kills (seen past b w c) (serials w)))
     (fresh_carry ws (seen past b w c) c (wanted past b w c) (wanted_has ws past b w c h)) (kills_carry ws (seen past b w c) c (serials w)))
     (in_carry ws past b w cs h)
 
@@ -138,29 +136,14 @@ of_carry : (ws : List Warning) (past : Past) (b : ℕ) (cs : List Cell) (vs : Li
 of_carry ws past b cs [] h = refl
 of_carry ws past b cs (w ∷ vs) h =
     let parts = and_parts (current_has ws w) (list_all (current_has ws) vs) h in
-    both (action_carries ws) (actions_in past b cs w) (flat_map (actions_in past b cs) vs) (in_carry ws past b w cs parts.0) (of_carry ws past b cs vs parts.1)
+    all_joined (action_carries ws) (actions_in past b cs w) (flat_map (actions_in past b cs) vs) (in_carry ws past b w cs parts.0) (of_carry ws past b cs vs parts.1)
 
 -- orders
 
-joined_carry : (ws : List Warning) (a : Action) (orders : List Order) → action_carries ws a ≡ true → list_all (order_carries ws) orders ≡ true → list_all (order_carries ws) (joined a orders) ≡ true
-joined_carry ws a [] h g = and_from (carries ws a.kind a.message_id a.serial) true h refl
-joined_carry ws a (order ∷ orders) h g = step (fits a order)
-  where
-    step : (t : Bool) → list_all (order_carries ws) (if t then record order { cells = a.cell ∷ order.cells } ∷ orders else alone a ∷ order ∷ orders) ≡ true
-    step true = g
-    step false = and_from (carries ws a.kind a.message_id a.serial) (list_all (order_carries ws) (order ∷ orders)) h g
-
-grouped_carry : (ws : List Warning) (xs : List Action) → list_all (action_carries ws) xs ≡ true → list_all (order_carries ws) (grouped xs) ≡ true
-grouped_carry ws [] h = refl
-grouped_carry ws (a ∷ xs) h =
-    let parts = and_parts (action_carries ws a) (list_all (action_carries ws) xs) h in
-    joined_carry ws a (grouped xs) parts.0 (grouped_carry ws xs parts.1)
-
 pub pending_carry : (past : Past) (b : ℕ) → list_all (λ (order : Order). is_kill order.kind || is_some (content_of order.message_id order.serial (warnings_of past))) (pending past b) ≡ true
 pending_carry past b =
-    grouped_carry (warnings_of past) (in_order (all_actions past b))
-    (all_sorted action_lt (action_carries (warnings_of past)) (all_actions past b)
-    (of_carry (warnings_of past) past b (cells past) (warnings_of past) (each_has (warnings_of past))))
+    all_pending (carries (warnings_of past)) past b
+    (of_carry (warnings_of past) past b (cells past) (warnings_of past) (each_has (warnings_of past)))
 
 -- the order can be carried
 carriable : (kind : OrderKind) (content : Option Content) → (is_kill kind || is_some content) ≡ true → IsCarriable kind content

@@ -1,131 +1,272 @@
--- What always holds of a centre, one entry further.
-use Rattle.std.proofs.Common.{◌≡◌, ◌⊎◌, inl, inr, ℕ, ◌<◌, ◌≤◌, Bool, true, false, List, [], ◌∷◌, ◌++◌, Result, Ok, Err, nat_le, length, reverse, refl, sym, ◌∙◌, ap, subst, arith, length-append}
+-- What a centre answers, and what always holds of it one entry further.
+use Rattle.std.proofs.Common.{◌≡◌, inl, inr, ℕ, ◌+◌, ◌*◌, ◌<◌, ◌≤◌, Bool, true, false, List, [], ◌∷◌, ◌++◌, Result, Ok, Err, length, map, refl, sym, ◌∙◌, ap, subst, arith, length-append}
 use Rattle.std.proofs.lemmas.Bool.{lt-leb, le-leb}
-use Rattle.std.proofs.lemmas.List.{reverse-append}
+use Rattle.std.proofs.lemmas.List.{reverse-append, length-map}
+use Rattle.kept_tables.specs.View.{key_at}
 use Rattle.std.specs.Prelude.{IsErrAnd, IfErr, IsOk, if◌then◌else◌}
 use Rattle.areas.specs.declared.area.Area.{Area}
 use Rattle.cell_register.specs.Register as register
+use Rattle.kept_tables.specs.Consistent.{Consistent}
+use Rattle.kept_tables.specs.declared.spot.Spot.{Spot}
+use Rattle.mirror.specs.Table.{down_at}
 use Rattle.warning_book.specs.Book as book
-use Rattle.centre_core.specs.Centre.{IsCentre}
-use Rattle.centre_core.specs.Flights.{flights_after, up_before}
-use Rattle.centre_core.specs.Kept.{Gives, GivesOr, IsCheckedOr, Rules, MayStarve, TakesMemory, is_edit, is_plain, register_then, areas_then}
-use Rattle.centre_core.specs.Legal.{Legal}
-use Rattle.centre_core.specs.Past.{Past, past_of, entry_count}
+use Rattle.centre_core.specs.Centre.{IsCentre, IsRefused, Leaves, Refuses}
+use Rattle.centre_core.specs.Flights.{up_before}
+use Rattle.centre_core.specs.Following.{Finishes, WasReached, held_past, keys_of}
+use Rattle.centre_core.specs.IsKept.{IsKept, OnlyReadsIn}
+use Rattle.centre_core.specs.Facts.{facts}
+use Rattle.centre_core.specs.Kept.{Gives, IsChecked, is_edit, register_after, areas_after, register_then, areas_then}
+use Rattle.centre_core.specs.Legal.{Known, Legal}
+use Rattle.centre_core.specs.Past.{Past, After, past_of, entry_count, position}
+use Rattle.centre_core.specs.Reach.{edit_reach, looked_at, size, reach, reach_of}
 use Rattle.centre_core.specs.Settings.{Settings}
+use Rattle.centre_core.specs.State.{AreLinksOf}
 use Rattle.centre_core.specs.Verdict.{verdict, answered, edit_answered}
-use Rattle.centre_core.specs.Warnings.{book_then}
+use Rattle.centre_core.specs.Warnings.{book_after, book_then}
 use Rattle.centre_core.specs.declared.answer.Answer.{Answer}
-use Rattle.centre_core.specs.declared.coverage_plan.edit.Edit.{Edit}
+use Rattle.coverage_plan.specs.declared.edit.Edit.{Edit}
 use Rattle.centre_core.specs.declared.entry.Entry.{Entry}
 use Rattle.centre_core.specs.declared.event.Event.{Event}
 use Rattle.centre_core.specs.declared.event.Event.TheVariants as event
-use Rattle.centre_core.specs.declared.flight.Flight.{Flight}
+use Rattle.centre_core.specs.declared.held.Held.{Held}
+use Rattle.centre_core.specs.declared.kept.Kept.{Kept}
 use Rattle.centre_core.specs.declared.refusal.Refusal.{Refusal}
 use Rattle.centre_core.specs.declared.refusal.Refusal.TheVariants.{JournalFull, Memory}
 use Rattle.centre_core.proofs.AreaLemmas.{areas_with}
-use Rattle.centre_core.proofs.FlightLemmas.{flights_with}
-use Rattle.centre_core.proofs.PastLemmas.{count_journal}
+use Rattle.centre_core.proofs.PastLemmas.{count_journal, position_journal}
+use Rattle.centre_core.proofs.ReadLemmas.{reads_kept}
 use Rattle.centre_core.proofs.RegisterLemmas.{register_with}
 use Rattle.centre_core.proofs.UniqueLemmas.{verdict_answered}
 
 -- an event that is no edit leaves the register, the areas and the book
-register_stays : (e : Event) (r : register.State) → is_edit e ≡ false → register_then e r ≡ r
+pub register_stays : (e : Event) (r : register.State) → is_edit e ≡ false → register_then e r ≡ r
 register_stays (event.Edit x) r h = cc
 register_stays other r h = refl
 
-areas_stay : (e : Event) (l : List Area) → is_edit e ≡ false → areas_then e l ≡ l
+pub areas_stay : (e : Event) (l : List Area) → is_edit e ≡ false → areas_then e l ≡ l
 areas_stay (event.Edit x) l h = cc
 areas_stay other l h = refl
 
-book_stays : (e : Event) (st : book.State) → is_edit e ≡ false → book_then e st ≡ st
+pub book_stays : (e : Event) (st : book.State) → is_edit e ≡ false → book_then e st ≡ st
 book_stays (event.Edit x) st h = cc
 book_stays other st h = refl
 
--- where the answer could not be copied, or the flights not followed, the event was no edit
-pub centre_stays : (settings : Settings) (journal now : List Entry) (r s : register.State) (l k : List Area) (st su : book.State) (fs gs : List Flight) (e : Event) → IsCentre settings journal r l st fs → now ≡ journal → s ≡ register_then e r → k ≡ areas_then e l → su ≡ book_then e st → gs ≡ fs → (is_edit e ≡ true → false ≡ true) → IsCentre settings now s k su gs
-centre_stays settings journal now r s l k st su fs gs e sound entries registered selected booked flying other = step (is_edit e) refl
-  where
-    step : (t : Bool) → is_edit e ≡ t → IsCentre settings now s k su gs
-    step true f = absurd (let no : false ≡ true = other f in cc)
-    step false f = rw (entries, registered ∙ register_stays e r f, selected ∙ areas_stay e l f, booked ∙ book_stays e st f, flying) sound
-
--- an accepted event and its entry keep what always holds
-pub centre_with : (settings : Settings) (journal base now : List Entry) (r s : register.State) (l k : List Area) (st su : book.State) (fs gs : List Flight) (e entry : Entry) → IsCentre settings journal r l st fs → length journal < settings.limit → base ≡ journal → entry ≡ e → now ≡ base ++ entry ∷ [] → verdict settings (past_of journal) e.event ≡ Ok e.answer → s ≡ register_then e.event r → k ≡ areas_then e.event l → su ≡ book_then e.event st → gs ≡ flights_after e.event e.answer (up_before (past_of journal) e.event) fs → IsCentre settings now s k su gs
-centre_with settings journal base now r s l k st su fs gs e entry sound room same is entries accepted registered selected booked flying = rw (entries, same, is, registered, selected, booked, flying) (record {
-  few = sound.few;
-  long = omega (arith, length-append journal (e ∷ []));
-  legal = rw (reverse-append journal (e ∷ [])) (accepted, sound.legal);
-  registered = rw (reverse-append journal (e ∷ [])) (register_with e (past_of journal) r ruled sound.registered);
-  selected = rw (reverse-append journal (e ∷ [])) (areas_with e (past_of journal) l ruled sound.selected);
-  booked = rw (reverse-append journal (e ∷ [])) (ap (book_then e.event) sound.booked);
-  flying = rw (reverse-append journal (e ∷ [])) (flights_with e (past_of journal) fs sound.flying);
-})
-  where
-    ruled : answered (past_of journal) e.event ≡ Ok e.answer
-    ruled = verdict_answered settings (past_of journal) e.event e.answer accepted
-
 -- an error that is such a refusal is given where that refusal is
-pub err_gives : (finding : Type 0) (v r : Result Answer Refusal) (refusal : Refusal) → IsErrAnd r (λ x. x ≡ refusal) → GivesOr finding v (Err refusal) → GivesOr finding v r
-err_gives finding v (Ok a) refusal h g = absurd h
-err_gives finding v (Err x) refusal h g = subst (λ k. GivesOr finding v (Err k)) (sym h) g
+pub err_gives : (v r : Result Answer Refusal) (refusal : Refusal) → IsErrAnd r (λ x. x ≡ refusal) → Gives v (Err refusal) → Gives v r
+err_gives v (Ok a) refusal h g = absurd h
+err_gives v (Err x) refusal h g = subst (λ k. Gives v (Err k)) (sym h) g
 
 -- the same of an edit that is looked at
-pub err_checked : {A : Type 0} (finding : Type 0) (v : Result Answer Refusal) (r : Result A Refusal) (refusal : Refusal) → IsErrAnd r (λ x. x ≡ refusal) → v ≡ Err refusal → IsCheckedOr finding v r
-err_checked finding v (Ok a) refusal h g = absurd h
-err_checked finding v (Err x) refusal h g = inr (g ∙ ap Err (sym h))
+pub err_checked : {A : Type 0} (v : Result Answer Refusal) (r : Result A Refusal) (refusal : Refusal) → IsErrAnd r (λ x. x ≡ refusal) → v ≡ Err refusal → IsChecked v r
+err_checked v (Ok a) refusal h g = absurd h
+err_checked v (Err x) refusal h g = g ∙ ap Err (sym h)
 
--- the same where memory may be wanting
-pub err_kept : {A : Type 0} (finding : Type 0) (v : Result Answer Refusal) (r : Result A Refusal) (refusal : Refusal) → IsErrAnd r (λ x. x ≡ refusal) → ((refusal ≡ Memory) × finding) ⊎ (v ≡ Err refusal) → IsCheckedOr finding v r
-err_kept finding v (Ok a) refusal h g = absurd h
-err_kept finding v (Err x) refusal h (inl g) = inl (h ∙ g.0, g.1)
-err_kept finding v (Err x) refusal h (inr g) = inr (g ∙ ap Err (sym h))
+-- where the journal has room the verdict is what the event is answered
+pub room_is : (settings : Settings) (journal : List Entry) (e : Event) → length journal < settings.limit → verdict settings (past_of journal) e ≡ answered settings.network (past_of journal) e
+room_is settings journal e room =
+    ap (λ t. if t then Err JournalFull else answered settings.network (past_of journal) e) (lt-leb settings.limit (entry_count (past_of journal)) (omega (arith, count_journal journal)))
 
--- what an edit is refused when it is looked at is given
-pub err_first : (finding : Type 0) (v r : Result Answer Refusal) (refusal : Refusal) → IsErrAnd r (λ x. x ≡ refusal) → ((refusal ≡ Memory) × finding) ⊎ (v ≡ Err refusal) → GivesOr finding v r
-err_first finding v (Ok a) refusal h g = absurd h
-err_first finding v (Err x) refusal h (inl g) = inl (h ∙ g.0, inl g.1)
-err_first finding v (Err x) refusal h (inr g) = inr (g ∙ ap Err (sym h))
+-- what is given where the journal has room
+pub given_there : (settings : Settings) (journal : List Entry) (e : Event) (r : Result Answer Refusal) → length journal < settings.limit → Gives (answered settings.network (past_of journal) e) r → Gives (verdict settings (past_of journal) e) r
+given_there settings journal e r room given = subst (λ v. Gives v r) (sym (room_is settings journal e room)) given
 
--- the same over the same entries
-pub edit_refused : (xs ys : List Entry) (e : Edit) (r : Result Answer Refusal) (x : Refusal) → ys ≡ xs → IsErrAnd r (λ y. y ≡ x) → ((x ≡ Memory) × TakesMemory (past_of ys) (event.Edit e)) ⊎ (edit_answered (past_of ys) e ≡ Err x) → GivesOr (TakesMemory (past_of xs) (event.Edit e)) (edit_answered (past_of xs) e) r
-edit_refused xs ys e r x same h g =
-    subst (λ zs. GivesOr (TakesMemory (past_of zs) (event.Edit e)) (edit_answered (past_of zs) e) r) same
-    (err_first (TakesMemory (past_of ys) (event.Edit e)) (edit_answered (past_of ys) e) r x h g)
-
--- what is given where the journal has room is what is ruled
-pub ruled : (settings : Settings) (journal : List Entry) (e : Event) (r : Result Answer Refusal) → length journal < settings.limit → GivesOr (TakesMemory (past_of journal) e) (answered (past_of journal) e) r → Rules settings (past_of journal) e r
-ruled settings journal e r room given = step r given
-  where
-    few : entry_count (past_of journal) < settings.limit
-    few = omega (arith, count_journal journal)
-
-    free : nat_le settings.limit (entry_count (past_of journal)) ≡ false
-    free = lt-leb settings.limit (entry_count (past_of journal)) few
-
-    is : verdict settings (past_of journal) e ≡ answered (past_of journal) e
-    is = ap (λ t. if t then Err JournalFull else answered (past_of journal) e) free
-
-    step : (x : Result Answer Refusal) → GivesOr (TakesMemory (past_of journal) e) (answered (past_of journal) e) x → Rules settings (past_of journal) e x
-    step (Ok a) g = is ∙ g
-    step (Err x) (inl g) = inl (g.0, (few, g.1))
-    step (Err x) (inr g) = inr (is ∙ g)
+-- what is found of an edit where the journal has room
+pub checked_there : {A : Type 0} (settings : Settings) (journal : List Entry) (e : Event) (r : Result A Refusal) → length journal < settings.limit → IsChecked (answered settings.network (past_of journal) e) r → IsChecked (verdict settings (past_of journal) e) r
+checked_there settings journal e r room given = subst (λ v. IsChecked v r) (sym (room_is settings journal e room)) given
 
 -- a full journal
 pub full : (settings : Settings) (journal : List Entry) (e : Event) → settings.limit ≤ length journal → verdict settings (past_of journal) e ≡ Err JournalFull
-full settings journal e h = ap (λ t. if t then Err JournalFull else answered (past_of journal) e) (le-leb settings.limit (entry_count (past_of journal)) (omega (arith, count_journal journal)))
+full settings journal e h = ap (λ t. if t then Err JournalFull else answered settings.network (past_of journal) e) (le-leb settings.limit (entry_count (past_of journal)) (omega (arith, count_journal journal)))
 
--- what is ruled of an error that is refused so
-pub err_ruled : (settings : Settings) (past : Past) (e : Event) (r : Result Answer Refusal) (x : Refusal) → IsErrAnd r (λ y. y ≡ x) → Rules settings past e (Err x) → IfErr r (λ y. ((y ≡ Memory) × MayStarve settings past e) ⊎ (verdict settings past e ≡ Err y))
-err_ruled settings past e (Ok a) x h g = absurd h
-err_ruled settings past e (Err y) x h (inl g) = inl (h ∙ g.0, g.1)
-err_ruled settings past e (Err y) x h (inr g) = inr (g ∙ ap Err (sym h))
+-- Before an event is entered.
 
--- an event that is accepted may find that memory is wanting for its entry
-pub entry_starves : (settings : Settings) (journal : List Entry) (e : Event) (a : Answer) (r : Result Answer Refusal) → IsErrAnd r (λ y. y ≡ Memory) → length journal < settings.limit → verdict settings (past_of journal) e ≡ Ok a → IfErr r (λ y. ((y ≡ Memory) × MayStarve settings (past_of journal) e) ⊎ (verdict settings (past_of journal) e ≡ Err y))
-entry_starves settings journal e a (Ok b) h room given = absurd h
-entry_starves settings journal e a (Err y) h room given =
-    inl (h, (omega (arith, count_journal journal), inr (subst IsOk (sym (verdict_answered settings (past_of journal) e a given)) refl)))
+-- an edit bears on as many lines whatever it is answered
+pub edit_reach_is : (past : Past) (e : Edit) (v : Result Answer Refusal) → reach past (event.Edit e) v ≡ size (edit_reach past e)
+edit_reach_is past e (Ok a) = omega arith
+edit_reach_is past e (Err x) = omega arith
 
--- an accepted event keeps the journal legal
-pub legal_with : (settings : Settings) (journal base now : List Entry) (e : Entry) → Legal settings (past_of journal) → base ≡ journal → now ≡ base ++ e ∷ [] → verdict settings (past_of journal) e.event ≡ Ok e.answer → Legal settings (past_of now)
-legal_with settings journal base now e legal same entries accepted = rw (entries, same) (rw (reverse-append journal (e ∷ [])) (accepted, legal))
+-- After an edit is made, or at once where the event is none.
+
+abbrev pub finishes : (settings : Settings) (past : Past) (desk : ℕ) (e : Event) (a : Answer) (s t : Kept) (place : ℕ) (up : Bool) (spots : List Spot) (held : List Held) → Legal settings past → verdict settings past e ≡ Ok a → IsKept past s → t.register ≡ register_then e s.register → t.areas ≡ areas_then e s.areas → t.book ≡ book_then e s.book → t.links ≡ s.links → t.flights ≡ s.flights → t.tables ≡ s.tables → up ≡ up_before past e → place ≡ position past + 1 → WasReached past e a spots held → Finishes t e a place up spots held
+finishes settings past desk e a s t place up spots held legal accepted kept registered selected booked linked flying tables is_up is_place reached = record {
+  settings = settings;
+  past = past;
+  desk = desk;
+  legal = legal;
+  accepted = accepted;
+  registered = rw registered (register_with settings.network (let x : Entry = record { desk = desk; event = e; answer = a } in x) past s.register (verdict_answered settings past e a accepted) kept.registered);
+  selected = rw selected (areas_with settings.network (let x : Entry = record { desk = desk; event = e; answer = a } in x) past s.areas (verdict_answered settings past e a accepted) kept.selected);
+  booked = booked ∙ ap (book_then e) kept.booked;
+  linked = rw linked kept.linked;
+  flying = rw flying kept.flying;
+  is_up = is_up;
+  is_place = is_place;
+  downs = λ b c. ap (λ u. down_at u.lines b c) tables ∙ kept.downs b c;
+  tables = subst (λ u. Consistent u (facts past)) (sym tables) kept.tables;
+  reached = reached;
+}
+
+abbrev pub finishes_edit : (settings : Settings) (past : Past) (desk : ℕ) (e : Edit) (a : Answer) (s t : Kept) (place : ℕ) (spots : List Spot) (held : List Held) → Legal settings past → verdict settings past (event.Edit e) ≡ Ok a → IsKept past s → t ≡ record s { register = register_after e s.register; areas = areas_after e s.areas; book = book_after e s.book } → place ≡ position past + 1 → WasReached past (event.Edit e) a spots held → Finishes t (event.Edit e) a place false spots held
+finishes_edit settings past desk e a s t place spots held legal accepted kept made is_place reached =
+    finishes settings past desk (event.Edit e) a s t place false spots held legal accepted kept (ap (λ (k : Kept). k.register) made) (ap (λ (k : Kept). k.areas) made) (ap (λ (k : Kept). k.book) made) (ap (λ (k : Kept). k.links) made) (ap (λ (k : Kept). k.flights) made) (ap (λ (k : Kept). k.tables) made) refl is_place reached
+
+abbrev pub finishes_other : (settings : Settings) (past : Past) (desk : ℕ) (e : Event) (a : Answer) (s : Kept) (place : ℕ) (up : Bool) (spots : List Spot) (held : List Held) → Legal settings past → verdict settings past e ≡ Ok a → IsKept past s → is_edit e ≡ false → up ≡ up_before past e → place ≡ position past + 1 → WasReached past e a spots held → Finishes s e a place up spots held
+finishes_other settings past desk e a s place up spots held legal accepted kept other is_up is_place reached =
+    finishes settings past desk e a s s place up spots held legal accepted kept (sym (register_stays e s.register other)) (sym (areas_stay e s.areas other)) (sym (book_stays e s.book other)) refl refl refl is_up is_place reached
+
+-- the number of the next entry
+pub next_place : (journal : List Entry) → length journal + 1 ≡ position (past_of journal) + 1
+next_place journal = ap (λ n. n + 1) (sym (position_journal journal))
+
+-- reading lines keeps what always holds
+pub centre_reads : (settings : Settings) (journal : List Entry) (stale : Bool) (s t : Kept) → IsCentre settings journal stale s → OnlyReadsIn s t → IsCentre settings journal stale t
+centre_reads settings journal stale s t sound reads = record {
+  few = sound.few;
+  long = sound.long;
+  legal = sound.legal;
+  whole = λ h. reads_kept (past_of journal) s t (sound.whole h) reads;
+}
+
+-- What is found before an edit is made, over the entries of the journal.
+
+-- what is said over the entries that were lent is said over those of the journal
+pub over_entries : (P : List Entry → Type 0) (settings : Settings) (xs ys : List Entry) (s : Kept) → ys ≡ xs → (IsCentre settings ys false s → P ys) → IsCentre settings xs false s → P xs
+over_entries P settings xs ys s same h = subst (λ zs. IsCentre settings zs false s → P zs) same h
+
+-- what the verdict refuses is refused
+pub refused_as : {A : Type 0} (settings : Settings) (journal : List Entry) (e : Event) (r : Result A Refusal) (x : Refusal) → IsErrAnd r (λ y. y ≡ x) → verdict settings (past_of journal) e ≡ Err x → IfErr r (IsRefused settings journal e)
+refused_as settings journal e (Ok free) x h is = tt
+refused_as settings journal e (Err y) x h is = inr (is ∙ ap Err (sym h))
+
+-- where memory runs out, an event whose verdict is no refusal is refused by `Memory`
+pub starved : {A : Type 0} (settings : Settings) (journal : List Entry) (e : Event) (r : Result A Refusal) → IsErrAnd r (λ y. y ≡ Memory) → IsOk (verdict settings (past_of journal) e) → IfErr r (IsRefused settings journal e)
+starved settings journal e (Ok free) h given = tt
+starved settings journal e (Err y) h given = inl (h, given)
+
+-- the same where the refusal is `Memory`
+pub starved_as : {A : Type 0} (settings : Settings) (journal : List Entry) (e : Event) (r : Result A Refusal) (x : Refusal) → IsErrAnd r (λ y. y ≡ x) → x ≡ Memory → IsOk (verdict settings (past_of journal) e) → IfErr r (IsRefused settings journal e)
+starved_as settings journal e (Ok free) x h is given = tt
+starved_as settings journal e (Err y) x h is given = inl (h ∙ is, given)
+
+answer_in : (v : Result Answer Refusal) → IsOk v → (a : Answer) × (v ≡ Ok a)
+answer_in (Ok a) h = (a, refl)
+answer_in (Err x) h = cc
+
+-- the lines of an edit that is accepted are read within its reach
+pub reached_within : (settings : Settings) (journal : List Entry) (s : Kept) (e : Edit) (old new : ℕ) → IsOk (verdict settings (past_of journal) (event.Edit e)) → ((settings : Settings) (past : Past) (a : Answer) → Legal settings past → IsKept past s → edit_answered past e ≡ Ok a → new ≤ old + size (edit_reach past e)) → IsCentre settings journal false s → new ≤ old + size (edit_reach (past_of journal) e)
+reached_within settings journal s e old new given now centre =
+    let found = answer_in (verdict settings (past_of journal) (event.Edit e)) given in
+    now settings (past_of journal) found.0 centre.legal (centre.whole refl) (verdict_answered settings (past_of journal) (event.Edit e) found.0 found.1)
+
+-- the lines of another event that is accepted: those that it looks at, and those on which it bears
+pub other_within : (settings : Settings) (journal : List Entry) (e : Event) (a : Answer) (old mid new : ℕ) → verdict settings (past_of journal) e ≡ Ok a → mid ≤ old + looked_at (past_of journal) e → new ≤ mid + size (reach_of (past_of journal) e a) → new ≤ old + reach (past_of journal) e (verdict settings (past_of journal) e)
+other_within settings journal e a old mid new is looks bears = omega (arith, looks, bears, ap (reach (past_of journal) e) is)
+
+-- What a centre is, one event further.
+
+pub centre_after : (settings : Settings) (journal now : List Entry) (stale : Bool) (s t : Kept) → IsCentre settings journal stale s → now ≡ journal → OnlyReadsIn s t → IsCentre settings now stale t
+centre_after settings journal now stale s t sound same reads = subst (λ js. IsCentre settings js stale t) (sym same) (centre_reads settings journal stale s t sound reads)
+
+-- where memory runs out while an event is entered
+pub centre_stale : (settings : Settings) (journal base now : List Entry) (stale : Bool) (s t : Kept) → IsCentre settings journal stale s → base ≡ journal → now ≡ base → IsCentre settings now true t
+centre_stale settings journal base now stale s t sound same entries =
+    subst (λ js. IsCentre settings js true t) (sym (entries ∙ same)) (record { few = sound.few; long = sound.long; legal = sound.legal; whole = λ h. cc })
+
+pub leaves_stale : (settings : Settings) (journal base now : List Entry) (stale : Bool) (r : Result Answer Refusal) → IsErrAnd r (λ y. y ≡ Memory) → base ≡ journal → now ≡ base → IfErr r (λ x. Leaves (record { settings = settings; journal = journal; stale = stale }) x (record { settings = settings; journal = now; stale = true }))
+leaves_stale settings journal base now stale (Ok a) h same entries = tt
+leaves_stale settings journal base now stale (Err y) h same entries =
+    inr (h, ap (λ js. let known : Known = record { settings = settings; journal = js; stale = true } in known) (entries ∙ same))
+
+-- an accepted event is entered
+pub centre_entered : (settings : Settings) (journal base now : List Entry) (stale : Bool) (s t : Kept) (e : Entry) → IsCentre settings journal stale s → length journal < settings.limit → base ≡ journal → now ≡ base ++ e ∷ [] → verdict settings (past_of journal) e.event ≡ Ok e.answer → IsKept (After e (past_of journal)) t → IsCentre settings now false t
+centre_entered settings journal base now stale s t e sound room same entries accepted kept = rw (entries, same) (record {
+  few = sound.few;
+  long = omega (arith, length-append journal (e ∷ []));
+  legal = rw (reverse-append journal (e ∷ [])) (accepted, sound.legal);
+  whole = λ h. rw (reverse-append journal (e ∷ [])) kept;
+})
+
+-- a refusal that is given
+pub refuses : (settings : Settings) (journal : List Entry) (stale : Bool) (e : Event) (r : Result Answer Refusal) (x : Refusal) → IsErrAnd r (λ y. y ≡ x) → stale ≡ false → IsRefused settings journal e x → IfErr r (Refuses (record { settings = settings; journal = journal; stale = stale }) e)
+refuses settings journal stale e (Ok a) x h whole given = tt
+refuses settings journal stale e (Err y) x h whole (inl g) = inr (whole, inl (h ∙ g.0, g.1))
+refuses settings journal stale e (Err y) x h whole (inr g) = inr (whole, inr (g ∙ ap Err (sym h)))
+
+-- the same of an event that a centre is given
+pub refuses_starved : (settings : Settings) (journal : List Entry) (stale : Bool) (e : Event) (r : Result Answer Refusal) → IsErrAnd r (λ y. y ≡ Memory) → stale ≡ false → IsOk (verdict settings (past_of journal) e) → IfErr r (Refuses (record { settings = settings; journal = journal; stale = stale }) e)
+refuses_starved settings journal stale e (Ok a) h whole given = tt
+refuses_starved settings journal stale e (Err y) h whole given = inr (whole, inl (h, given))
+
+-- The lines that were read or set.
+
+keys_counted : (ps : List Spot) (ns : List ℕ) → length (keys_of ps ns) ≡ length ps * length ns
+keys_counted [] ns = omega arith
+keys_counted (p ∷ ps) ns = omega (arith, length-append (map (key_at p) ns) (keys_of ps ns), length-map ns (key_at p), keys_counted ps ns)
+
+-- as many lines were read as the event bears on
+pub held_counted : (past : Past) (e : Event) (a : Answer) (spots : List Spot) (held : List Held) → WasReached past e a spots held → length held ≡ size (reach_of past e a)
+held_counted past e a spots held was =
+    ap length was.lines
+    ∙ length-map (keys_of spots was.numbers) (held_past past)
+    ∙ keys_counted spots was.numbers
+    ∙ ap (λ n. n * length was.numbers) was.reach.spots_counted
+    ∙ ap (λ n. length (reach_of past e a).spots * n) was.reach.warnings_counted
+
+pub within_four : (settings : Settings) (journal : List Entry) (e : Event) (old new : ℕ) → new ≤ old + reach (past_of journal) e (verdict settings (past_of journal) e) → new ≤ old + 4 * reach (past_of journal) e (verdict settings (past_of journal) e)
+within_four settings journal e old new h = omega (arith, h)
+
+pub edit_lines : (settings : Settings) (journal : List Entry) (e : Edit) (old new : ℕ) → new ≤ old + size (edit_reach (past_of journal) e) → new ≤ old + 4 * reach (past_of journal) (event.Edit e) (verdict settings (past_of journal) (event.Edit e))
+edit_lines settings journal e old new h = omega (arith, h, edit_reach_is (past_of journal) e (verdict settings (past_of journal) (event.Edit e)))
+
+pub edit_lines_then : (settings : Settings) (journal : List Entry) (e : Edit) (a : Answer) (old mid new : ℕ) (spots : List Spot) (held : List Held) → mid ≤ old + size (edit_reach (past_of journal) e) → new ≤ mid + length held → WasReached (past_of journal) (event.Edit e) a spots held → new ≤ old + 4 * reach (past_of journal) (event.Edit e) (verdict settings (past_of journal) (event.Edit e))
+edit_lines_then settings journal e a old mid new spots held before now was =
+    omega (arith, before, now, held_counted (past_of journal) (event.Edit e) a spots held was, edit_reach_is (past_of journal) e (verdict settings (past_of journal) (event.Edit e)))
+
+pub lines_then : (settings : Settings) (journal : List Entry) (e : Event) (a : Answer) (old mid new : ℕ) (spots : List Spot) (held : List Held) → verdict settings (past_of journal) e ≡ Ok a → mid ≤ old + reach (past_of journal) e (verdict settings (past_of journal) e) → new ≤ mid + length held → WasReached (past_of journal) e a spots held → new ≤ old + 4 * reach (past_of journal) e (verdict settings (past_of journal) e)
+lines_then settings journal e a old mid new spots held is before now was =
+    omega (arith, before, now, held_counted (past_of journal) e a spots held was, ap (reach (past_of journal) e) is)
+
+-- What is known where an event is entered.
+
+-- an edit that is made is answered so
+pub made_is : (settings : Settings) (journal : List Entry) (e : Edit) (a : Answer) → length journal < settings.limit → edit_answered (past_of journal) e ≡ Ok a → verdict settings (past_of journal) (event.Edit e) ≡ Ok a
+made_is settings journal e a room h = room_is settings journal (event.Edit e) room ∙ h
+
+pub may_be_made : (settings : Settings) (journal : List Entry) (e : Edit) → length journal < settings.limit → IsOk (verdict settings (past_of journal) (event.Edit e)) → IsOk (edit_answered (past_of journal) e)
+may_be_made settings journal e room h = subst IsOk (room_is settings journal (event.Edit e) room) h
+
+pub made_refused : (settings : Settings) (journal : List Entry) (e : Edit) (x : Refusal) → length journal < settings.limit → IsOk (verdict settings (past_of journal) (event.Edit e)) → Gives (edit_answered (past_of journal) e) (Err x) → IsRefused settings journal (event.Edit e) x
+made_refused settings journal e x room given (inl h) = inl (h.0, given)
+made_refused settings journal e x room given (inr h) = inr (room_is settings journal (event.Edit e) room ∙ h)
+
+pub record Enters (t : Kept) (e : Entry) (past : Past) (place : ℕ) (up : Bool) (spots : List Spot) (held : List Held) : Type 0 where
+  pub known : Finishes t e.event e.answer place up spots held
+  pub desk : known.desk ≡ e.desk
+  pub is_past : known.past ≡ past
+
+pub edit_enters : (settings : Settings) (journal base : List Entry) (desk : ℕ) (e : Edit) (a : Answer) (entry : Entry) (r s t : Kept) (len : ℕ) (spots : List Spot) (held : List Held) → IsCentre settings journal false r → length journal < settings.limit → base ≡ journal → len ≡ length base → OnlyReadsIn r s → edit_answered (past_of journal) e ≡ Ok a → t ≡ record s { register = register_after e s.register; areas = areas_after e s.areas; book = book_after e s.book } → entry ≡ record { desk = desk; event = event.Edit e; answer = a } → ((b : Answer) → verdict settings (past_of journal) (event.Edit e) ≡ Ok b → WasReached (past_of journal) (event.Edit e) b spots held) → Enters t entry (past_of journal) (len + 1) false spots held
+edit_enters settings journal base desk e a entry r s t len spots held sound room same is reads answered made entered reached =
+    subst (λ x. Enters t x (past_of journal) (len + 1) false spots held) (sym entered) (record {
+      known = finishes_edit settings (past_of journal) desk e a s t (len + 1) spots held sound.legal (made_is settings journal e a room answered) (reads_kept (past_of journal) r s (sound.whole refl) reads) made (ap (λ n. n + 1) (is ∙ ap length same) ∙ next_place journal) (reached a (made_is settings journal e a room answered));
+      desk = refl;
+      is_past = refl;
+    })
+
+pub other_enters : (settings : Settings) (journal base : List Entry) (desk : ℕ) (e : Event) (a : Answer) (entry : Entry) (r s : Kept) (len : ℕ) (up : Bool) (spots : List Spot) (held : List Held) → IsCentre settings journal false r → base ≡ journal → len ≡ length base → OnlyReadsIn r s → verdict settings (past_of journal) e ≡ Ok a → is_edit e ≡ false → entry ≡ record { desk = desk; event = e; answer = a } → ((past : Past) → AreLinksOf past s.links.items → up ≡ up_before past entry.event) → WasReached (past_of journal) e a spots held → Enters s entry (past_of journal) (len + 1) up spots held
+other_enters settings journal base desk e a entry r s len up spots held sound same is reads accepted other entered up_is reached =
+    subst (λ x. Enters s x (past_of journal) (len + 1) up spots held) (sym entered) (record {
+      known = finishes_other settings (past_of journal) desk e a s (len + 1) up spots held sound.legal accepted kept other (up_is (past_of journal) kept.linked ∙ ap (λ (x : Entry). up_before (past_of journal) x.event) entered) (ap (λ n. n + 1) (is ∙ ap length same) ∙ next_place journal) reached;
+      desk = refl;
+      is_past = refl;
+    })
+  where
+    kept : IsKept (past_of journal) s
+    kept = reads_kept (past_of journal) r s (sound.whole refl) reads
+
+-- what is kept then
+pub kept_entered : (t new : Kept) (e : Entry) (past : Past) (place : ℕ) (up : Bool) (spots : List Spot) (held : List Held) → Enters t e past place up spots held → ((x : Finishes t e.event e.answer place up spots held) → IsKept (After (record { desk = x.desk; event = e.event; answer = e.answer }) x.past) new) → IsKept (After e past) new
+kept_entered t new e past place up spots held x f =
+    subst (λ p. IsKept (After e p) new) x.is_past (subst (λ d. IsKept (After (record { desk = d; event = e.event; answer = e.answer }) x.known.past) new) x.desk (f x.known))
+
+pub entry_accepted : (settings : Settings) (past : Past) (desk : ℕ) (e : Event) (a : Answer) (entry : Entry) → verdict settings past e ≡ Ok a → entry ≡ record { desk = desk; event = e; answer = a } → verdict settings past entry.event ≡ Ok entry.answer
+entry_accepted settings past desk e a entry accepted is = subst (λ (x : Entry). verdict settings past x.event ≡ Ok x.answer) (sym is) accepted

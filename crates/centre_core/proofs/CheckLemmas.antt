@@ -50,7 +50,7 @@ ok_after f checks r h o = subst IsOk (sym (taken f checks r h)) o
 -- what a lower crate refuses is the verdict, or that memory is wanting where none of its checks holds
 pub given : {E : Type 0} (f : E → Refusal) (memory : E) → f memory ≡ Memory → (checks : List (Bool × E)) (r : Result Answer Refusal) (e : E) → (first_refusal checks ≡ None → IsOk r) → (first_refusal checks ≡ Some e) ⊎ ((e ≡ memory) × (first_refusal checks ≡ None)) → Gives (unless (translated f checks) r) (Err (f e))
 given f memory is checks r e o (inl h) = inr (refused f checks r e h)
-given f memory is checks r e o (inr h) = inl (ap f h.0 ∙ is, inr (ok_after f checks r h.1 (o h.1)))
+given f memory is checks r e o (inr h) = inl (ap f h.0 ∙ is, ok_after f checks r h.1 (o h.1))
 
 -- an answer that is no refusal is what the checks leave
 pub ok_is : (checks : List (Bool × Refusal)) (r : Result Answer Refusal) → IsOk (unless checks r) → unless checks r ≡ r
@@ -88,13 +88,14 @@ passed f [] rest r h = refl
 passed f ((true, e) ∷ checks) rest r h = cc
 passed f ((false, e) ∷ checks) rest r h = passed f checks rest r h
 
--- the centre's own checks: where none holds, and the first that does
+-- the centre's own checks: where none holds the answer stands
 pub none_left : (checks : List (Bool × Refusal)) (r : Result Answer Refusal) → first_refusal checks ≡ None → unless checks r ≡ r
 none_left [] r h = refl
 none_left ((true, e) ∷ checks) r h = cc
 none_left ((false, e) ∷ checks) r h = none_left checks r h
 
-pub one_left : (checks : List (Bool × Refusal)) (r : Result Answer Refusal) (e : Refusal) → first_refusal checks ≡ Some e → unless checks r ≡ Err e
-one_left [] r e h = cc
-one_left ((true, x) ∷ checks) r e h = let same : x ≡ e = cc in ap Err same
-one_left ((false, x) ∷ checks) r e h = one_left checks r e h
+-- where none holds, those that follow decide
+pub none_before : (checks rest : List (Bool × Refusal)) (r : Result Answer Refusal) → first_refusal checks ≡ None → unless (checks ++ rest) r ≡ unless rest r
+none_before [] rest r h = refl
+none_before ((true, e) ∷ checks) rest r h = cc
+none_before ((false, e) ∷ checks) rest r h = none_before checks rest r h

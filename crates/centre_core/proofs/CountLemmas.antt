@@ -7,7 +7,7 @@ use Rattle.common.specs.Order.{each_once}
 use Rattle.centre_core.specs.Base.{Base, empty_base}
 use Rattle.centre_core.specs.Past.{Past, From, After, IsUnfolded, by_edit, with_new, named}
 use Rattle.common.specs.Sums.{one, count_of}
-use Rattle.centre_core.specs.declared.coverage_plan.edit.Edit.{Edit}
+use Rattle.coverage_plan.specs.declared.edit.Edit.{Edit}
 
 -- what is among those that are not x
 among_rest : {A : Type 0} (same : A → A → Bool) → DecidesAll same → (x z : A) (ys : List A) → list_any (same z) (filter (λ y. not (same y x)) ys) ≡ (not (same x z) && list_any (same z) ys)

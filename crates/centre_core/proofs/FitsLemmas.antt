@@ -1,7 +1,7 @@
--- The messages that are sent fit, since an order names at most 1,000 cells and a content has 1 to 15 pages; and they
--- carry their orders.
-use Rattle.std.proofs.Common.{◌≡◌, ℕ, ◌+◌, ◌*◌, ◌<◌, ◌≤◌, Bool, true, ◌&&◌, not, List, [], ◌∷◌, Option, Some, None, Result, Ok, nat_le, length, take, map, refl, subst, ◌∙◌, arith, length-append, lit≤}
-use Rattle.std.specs.Prelude.{IfSome, if◌then◌else◌}
+-- The messages that are sent fit, since an order or a query names at most 1,000 cells and a content has 1 to 15 pages; and
+-- they carry their orders.
+use Rattle.std.proofs.Common.{◌≡◌, ℕ, ◌+◌, ◌*◌, ◌<◌, ◌≤◌, Bool, true, ◌&&◌, not, List, [], ◌∷◌, Option, Some, None, Result, Ok, Err, nat_le, length, take, map, refl, sym, subst, ◌∙◌, arith, length-append, lit≤}
+use Rattle.std.specs.Prelude.{IfOk, IfSome, if◌then◌else◌}
 use Rattle.std.specs.List.{list_any, flat_map}
 use Rattle.std.proofs.lemmas.Bool.{leb-true, and_parts}
 use Rattle.std.proofs.lemmas.List.{length-take, length-map}
@@ -12,37 +12,41 @@ use Rattle.cbsp_messages.specs.Message.{type_of}
 use Rattle.cbsp_messages.specs.PageText.{page_with}
 use Rattle.cbsp_messages.specs.Written.{Fits}
 use Rattle.cbsp_messages.specs.declared.message.Message.{Message}
+use Rattle.cbsp_messages.specs.declared.message.Message.TheVariants.{Restart, Failure}
 use Rattle.cbsp_messages.specs.declared.message_type.MessageType.TheVariants as type
 use Rattle.common.specs.declared.cell.Cell.{Cell}
 use Rattle.warning_book.specs.Book.{new_serial, next_serial, content_of}
 use Rattle.warning_book.specs.Content.{is_page, are_pages}
 use Rattle.warning_book.specs.Sound.{IsSound}
 use Rattle.warning_book.specs.declared.content.Content.{Content}
+use Rattle.centre_core.proofs.AskLemmas.{IsQuery, ask_query}
 use Rattle.centre_core.proofs.CarriedLemmas.{sent_carriable}
 use Rattle.centre_core.proofs.CheckLemmas.{unless_ok}
 use Rattle.centre_core.proofs.UniqueLemmas.{verdict_answered}
 use Rattle.centre_core.proofs.WarningLemmas.{content_has_pages, legal_sound}
+use Rattle.centre_core.specs.Asking.{asked_cells, on_air_after}
 use Rattle.centre_core.specs.Fits.{AnswerFits, IsCarried}
-use Rattle.centre_core.specs.Grouping.{first, most_cells, shortened}
+use Rattle.order_maker.specs.Grouping.{first, most_cells}
 use Rattle.centre_core.specs.InFlight.{in_flight, is_kill}
 use Rattle.centre_core.specs.Legal.{Legal}
-use Rattle.centre_core.specs.OrderMessage.{IsCarriable, listed, message_by, order_message}
+use Rattle.order_maker.specs.OrderMessage.{IsCarriable, listed, message_by, order_message}
 use Rattle.centre_core.specs.Past.{Past, position}
 use Rattle.centre_core.specs.Pending.{pending}
 use Rattle.centre_core.specs.Settings.{Settings}
-use Rattle.centre_core.specs.Verdict.{unless, answered, edit_answered, verdict, add_bsc_checks, remove_bsc_checks, add_cell_checks, move_cell_checks, remove_cell_checks, add_area_checks, drop_area_checks, put_checks, cut_checks, issue_checks, issue_answer, update_checks, update_answer, widen_checks, narrow_checks, stop_checks, forget_checks, link_up_checks, link_checks, send_checks, send_answer, report_checks, report_answer}
+use Rattle.centre_core.specs.Verdict.{unless, answered, edit_answered, verdict, add_bsc_checks, remove_bsc_checks, add_cell_checks, move_cell_checks, remove_cell_checks, add_area_checks, drop_area_checks, put_checks, cut_checks, issue_checks, issue_answer, update_checks, update_answer, widen_checks, narrow_checks, stop_checks, forget_checks, retry_checks, link_up_checks, link_checks, send_checks, send_answer, report_checks, reply_answer, report_answer}
 use Rattle.centre_core.specs.Warnings.{book_of, warnings_of}
 use Rattle.centre_core.specs.declared.answer.Answer.{Answer}
-use Rattle.centre_core.specs.declared.answer.Answer.TheVariants.{Done, Link, Sent}
-use Rattle.centre_core.specs.declared.coverage_plan.edit.Edit.{Edit}
-use Rattle.centre_core.specs.declared.coverage_plan.edit.Edit.TheVariants as edit
+use Rattle.centre_core.specs.declared.answer.Answer.TheVariants.{Done, Link, Issued, Updated, Replied, Listed}
+use Rattle.coverage_plan.specs.declared.edit.Edit.{Edit}
+use Rattle.coverage_plan.specs.declared.edit.Edit.TheVariants as edit
 use Rattle.centre_core.specs.declared.event.Event.{Event}
 use Rattle.centre_core.specs.declared.event.Event.TheVariants as event
-use Rattle.centre_core.specs.declared.order_maker.in_flight.InFlight.{InFlight}
-use Rattle.centre_core.specs.declared.order_maker.order.Order.{Order}
-use Rattle.centre_core.specs.declared.order_maker.order_kind.OrderKind.{OrderKind}
-use Rattle.centre_core.specs.declared.order_maker.order_kind.OrderKind.TheVariants.{Write, Replace, Kill}
+use Rattle.centre_core.specs.declared.in_flight.InFlight.{InFlight}
+use Rattle.order_maker.specs.declared.order.Order.{Order}
+use Rattle.order_maker.specs.declared.order_kind.OrderKind.{OrderKind}
+use Rattle.order_maker.specs.declared.order_kind.OrderKind.TheVariants.{Write, Replace, Kill}
 use Rattle.centre_core.specs.declared.refusal.Refusal.{Refusal}
+use Rattle.centre_core.specs.declared.reply.Reply.{Reply}
 
 -- a cell takes four octets of a list
 listed_length : (cells : List Cell) → length (flat_map id_octets (map id_of_cell cells)) ≡ 4 * length cells
@@ -87,90 +91,117 @@ first_is_short : (orders : List Order) → IfSome (first orders) (λ order. leng
 first_is_short [] = tt
 first_is_short (order ∷ orders) = omega (arith, few_cells, take_few most_cells order.cells)
 
-sent_fits : (past : Past) (next : Option Order) (order : Order) (message : Message) → IsSound (book_of past) → IfSome next (λ o. length o.cells ≤ 1000) → IfSome next (λ (o : Order). IsCarriable o.kind (content_of o.message_id o.serial (warnings_of past))) → send_answer past next ≡ Ok (Sent order message) → Fits message
-sent_fits past None order message good few there h = absurd (let no : send_answer past None ≡ Ok (Sent order message) = h in cc)
-sent_fits past (Some o) order message good few there h =
-    let same : order_message o (content_of o.message_id o.serial (warnings_of past)) ≡ message = cc in
-    subst Fits same (message_fits o o.kind (content_of o.message_id o.serial (warnings_of past)) few there (content_has_pages o.message_id o.serial (warnings_of past) good.contents))
+-- The first pending order, if there is one.
 
-sent_carried : (past : Past) (next : Option Order) (order : Order) (message : Message) → send_answer past next ≡ Ok (Sent order message) → IsCarried (Sent order message)
-sent_carried past None order message h = absurd (let no : send_answer past None ≡ Ok (Sent order message) = h in cc)
-sent_carried past (Some o) order message h =
-    let taken : o ≡ order = cc in
-    let same : order_message o (content_of o.message_id o.serial (warnings_of past)) ≡ message = cc in
-    subst (λ m. type_of m ≡ (if is_kill order.kind then type.Kill else type.WriteReplace)) same
-    (subst (λ (p : Order). type_of (order_message o (content_of o.message_id o.serial (warnings_of past))) ≡ (if is_kill p.kind then type.Kill else type.WriteReplace)) taken
-    (message_carries o o.kind (content_of o.message_id o.serial (warnings_of past))))
+send_fits : (past : Past) (next : Option Order) → IsSound (book_of past) → IfSome next (λ o. length o.cells ≤ 1000) → IfSome next (λ (o : Order). IsCarriable o.kind (content_of o.message_id o.serial (warnings_of past))) → IfOk (send_answer past next) AnswerFits
+send_fits past None good few there = tt
+send_fits past (Some o) good few there = message_fits o o.kind (content_of o.message_id o.serial (warnings_of past)) few there (content_has_pages o.message_id o.serial (warnings_of past) good.contents)
 
-no_done : (checks : List (Bool × Refusal)) (order : Order) (message : Message) → unless checks (Ok Done) ≡ Ok (Sent order message) → ⊥
-no_done checks order message h =
-    let done : Result Answer Refusal = Ok Done in
-    let no : done ≡ Ok (Sent order message) = unless_ok checks done (Sent order message) h in
-    cc
+send_carries : (past : Past) (next : Option Order) → IfOk (send_answer past next) IsCarried
+send_carries past None = tt
+send_carries past (Some o) = message_carries o o.kind (content_of o.message_id o.serial (warnings_of past))
 
-no_link : (checks : List (Bool × Refusal)) (place : ℕ) (order : Order) (message : Message) → unless checks (Ok (Link place)) ≡ Ok (Sent order message) → ⊥
-no_link checks place order message h =
-    let link : Result Answer Refusal = Ok (Link place) in
-    let no : link ≡ Ok (Sent order message) = unless_ok checks link (Sent order message) h in
-    cc
+-- A query, which names no more cells.
 
-no_issue : (n : ℕ) (o : Option ℕ) (order : Order) (message : Message) → issue_answer n o ≡ Ok (Sent order message) → ⊥
-no_issue n None order message e = cc
-no_issue n (Some s) order message e = cc
+query_fits : (past : Past) (b : ℕ) (a : Answer) → IsQuery past b a → AnswerFits a
+query_fits past b a query =
+    subst AnswerFits (sym query.is)
+    (record { cells = listed_fits cells (omega (arith, few_cells, take_few most_cells (on_air_after past b query.warning.message_id query.serial query.after))); counts = tt; failures = tt; pages = tt })
+  where
+    cells : List Cell
+    cells = asked_cells past b query.warning.message_id query.serial query.after
 
-no_update : (o : Option ℕ) (order : Order) (message : Message) → update_answer o ≡ Ok (Sent order message) → ⊥
-no_update None order message e = cc
-no_update (Some s) order message e = cc
+query_carries : (past : Past) (b : ℕ) (a : Answer) → IsQuery past b a → IsCarried a
+query_carries past b a query = subst IsCarried (sym query.is) refl
 
-no_report : (o : Option InFlight) (order : Order) (message : Message) → report_answer o ≡ Ok (Sent order message) → ⊥
-no_report None order message e = cc
-no_report (Some x) order message e = cc
+-- The other answers have no message.
+
+-- what holds of each answer without a message
+record OfPlain (P : Answer → Type 0) : Type 0 where
+  done : P Done
+  link : (generation : ℕ) → P (Link generation)
+  issued : (n s : ℕ) → P (Issued n s)
+  updated : (s : ℕ) → P (Updated s)
+  replied : (replies : List Reply) → P (Replied replies)
+  listed : (cells : List Cell) → P (Listed cells)
+
+-- what holds of the answer after checks holds of what is answered
+holds_after : (P : Answer → Type 0) (checks : List (Bool × Refusal)) (r : Result Answer Refusal) (a : Answer) → IfOk r P → unless checks r ≡ Ok a → P a
+holds_after P checks r a h e = subst (λ v. IfOk v P) (unless_ok checks r a e) h
+
+of_issue : (P : Answer → Type 0) → OfPlain P → (n : ℕ) (o : Option ℕ) → IfOk (issue_answer n o) P
+of_issue P plain n None = tt
+of_issue P plain n (Some s) = plain.issued n s
+
+of_update : (P : Answer → Type 0) → OfPlain P → (o : Option ℕ) → IfOk (update_answer o) P
+of_update P plain None = tt
+of_update P plain (Some s) = plain.updated s
+
+of_reply : (P : Answer → Type 0) → OfPlain P → (network : List ℕ) (reply : Message) (o : Option InFlight) → IfOk (reply_answer network reply o) P
+of_reply P plain network reply None = tt
+of_reply P plain network reply (Some f) = plain.replied _
+
+of_report : (P : Answer → Type 0) → OfPlain P → (network : List ℕ) (past : Past) (b : ℕ) (report : Message) (o : Option InFlight) → IfOk (report_answer network past b report o) P
+of_report P plain network past b (Restart m) o = plain.listed _
+of_report P plain network past b (Failure m) o = plain.listed _
+of_report P plain network past b other o = of_reply P plain network other o
 
 -- an edit is answered without a message
-no_edit : (past : Past) (e : Edit) (order : Order) (message : Message) → edit_answered past e ≡ Ok (Sent order message) → ⊥
-no_edit past (edit.AddBsc b) order message h = no_done (add_bsc_checks past b) order message h
-no_edit past (edit.RemoveBsc b) order message h = no_done (remove_bsc_checks past b) order message h
-no_edit past (edit.AddCell c b) order message h = no_done (add_cell_checks past c b) order message h
-no_edit past (edit.MoveCell c b) order message h = no_done (move_cell_checks past c b) order message h
-no_edit past (edit.RemoveCell c) order message h = no_done (remove_cell_checks past c) order message h
-no_edit past (edit.AddArea a) order message h = no_done (add_area_checks past a) order message h
-no_edit past (edit.DropArea a) order message h = no_done (drop_area_checks past a) order message h
-no_edit past (edit.Put a s) order message h = no_done (put_checks past a s) order message h
-no_edit past (edit.Cut a s) order message h = no_done (cut_checks past a s) order message h
-no_edit past (edit.Issue notice areas) order message h =
-    no_issue ((book_of past).issued + 1) (new_serial (book_of past) notice) order message (unless_ok (issue_checks past notice areas) (issue_answer ((book_of past).issued + 1) (new_serial (book_of past) notice)) (Sent order message) h)
-no_edit past (edit.Update n content) order message h =
-    no_update (next_serial (book_of past) n) order message (unless_ok (update_checks past n content) (update_answer (next_serial (book_of past) n)) (Sent order message) h)
-no_edit past (edit.Widen n a) order message h = no_done (widen_checks past n a) order message h
-no_edit past (edit.Narrow n a) order message h = no_done (narrow_checks past n a) order message h
-no_edit past (edit.Stop n) order message h = no_done (stop_checks past n) order message h
-no_edit past (edit.Forget n) order message h = no_done (forget_checks past n) order message h
+of_edit : (P : Answer → Type 0) → OfPlain P → (past : Past) (e : Edit) (a : Answer) → edit_answered past e ≡ Ok a → P a
+of_edit P plain past (edit.AddBsc b) a h = holds_after P (add_bsc_checks past b) (Ok Done) a plain.done h
+of_edit P plain past (edit.RemoveBsc b) a h = holds_after P (remove_bsc_checks past b) (Ok Done) a plain.done h
+of_edit P plain past (edit.AddCell c b) a h = holds_after P (add_cell_checks past c b) (Ok Done) a plain.done h
+of_edit P plain past (edit.MoveCell c b) a h = holds_after P (move_cell_checks past c b) (Ok Done) a plain.done h
+of_edit P plain past (edit.RemoveCell c) a h = holds_after P (remove_cell_checks past c) (Ok Done) a plain.done h
+of_edit P plain past (edit.AddArea x) a h = holds_after P (add_area_checks past x) (Ok Done) a plain.done h
+of_edit P plain past (edit.DropArea x) a h = holds_after P (drop_area_checks past x) (Ok Done) a plain.done h
+of_edit P plain past (edit.Put x s) a h = holds_after P (put_checks past x s) (Ok Done) a plain.done h
+of_edit P plain past (edit.Cut x s) a h = holds_after P (cut_checks past x s) (Ok Done) a plain.done h
+of_edit P plain past (edit.Issue notice areas) a h =
+    holds_after P (issue_checks past notice areas) (issue_answer ((book_of past).issued + 1) (new_serial (book_of past) notice)) a (of_issue P plain ((book_of past).issued + 1) (new_serial (book_of past) notice)) h
+of_edit P plain past (edit.Update n content) a h =
+    holds_after P (update_checks past n content) (update_answer (next_serial (book_of past) n)) a (of_update P plain (next_serial (book_of past) n)) h
+of_edit P plain past (edit.Widen n x) a h = holds_after P (widen_checks past n x) (Ok Done) a plain.done h
+of_edit P plain past (edit.Narrow n x) a h = holds_after P (narrow_checks past n x) (Ok Done) a plain.done h
+of_edit P plain past (edit.Stop n) a h = holds_after P (stop_checks past n) (Ok Done) a plain.done h
+of_edit P plain past (edit.Forget n) a h = holds_after P (forget_checks past n) (Ok Done) a plain.done h
 
--- a message is answered to a Send alone, with the first pending order
-sent_by : (past : Past) (e : Event) (order : Order) (message : Message) → answered past e ≡ Ok (Sent order message) → (b : ℕ) × (send_answer past (first (pending past b)) ≡ Ok (Sent order message))
-sent_by past (event.Edit e) order message h = absurd (no_edit past e order message h)
-sent_by past (event.LinkUp b) order message h = absurd (no_link (link_up_checks past b) (position past + 1) order message h)
-sent_by past (event.LinkDown b generation) order message h = absurd (no_done (link_checks past b generation) order message h)
-sent_by past (event.Send b generation) order message h = (b, unless_ok (send_checks past b generation) (send_answer past (first (pending past b))) (Sent order message) h)
-sent_by past (event.Report b generation report) order message h = absurd (no_report (in_flight past b) order message (unless_ok (report_checks past b generation report) (report_answer (in_flight past b)) (Sent order message) h))
+-- what holds of each answer without a message, of what a Send is answered and of each query holds of every answer
+of_answer : (P : Answer → Type 0) → OfPlain P → (network : List ℕ) (past : Past) → ((b : ℕ) → IfOk (send_answer past (first (pending past b))) P) → ((b : ℕ) (a : Answer) → IsQuery past b a → P a) → (e : Event) (a : Answer) → answered network past e ≡ Ok a → P a
+of_answer P plain network past sent asked (event.Edit e) a h = of_edit P plain past e a h
+of_answer P plain network past sent asked (event.Retry b) a h = holds_after P (retry_checks past b) (Ok Done) a plain.done h
+of_answer P plain network past sent asked (event.LinkUp b) a h = holds_after P (link_up_checks past b) (Ok (Link (position past + 1))) a (plain.link (position past + 1)) h
+of_answer P plain network past sent asked (event.LinkDown b generation) a h = holds_after P (link_checks past b generation) (Ok Done) a plain.done h
+of_answer P plain network past sent asked (event.Send b generation) a h = holds_after P (send_checks past b generation) (send_answer past (first (pending past b))) a (sent b) h
+of_answer P plain network past sent asked (event.Ask b generation n after) a h = asked b a (ask_query past b generation n after a h)
+of_answer P plain network past sent asked (event.Report b generation report) a h =
+    holds_after P (report_checks past b generation report) (report_answer network past b report (in_flight past b)) a (of_report P plain network past b report (in_flight past b)) h
 
-answer_fits : (past : Past) (e : Event) (answer : Answer) → IsSound (book_of past) → answered past e ≡ Ok answer → AnswerFits answer
-answer_fits past e (Sent order message) good h =
-    let sent = sent_by past e order message h in
-    sent_fits past (first (pending past sent.0)) order message good (first_is_short (pending past sent.0)) (sent_carriable past sent.0 (book_of past) (pending past sent.0) (first (pending past sent.0)) refl refl refl) sent.1
-answer_fits past e answer good h = tt
+answer_fits : (network : List ℕ) (past : Past) (e : Event) (answer : Answer) → IsSound (book_of past) → answered network past e ≡ Ok answer → AnswerFits answer
+answer_fits network past e answer good h =
+    of_answer AnswerFits (record { done = tt; link = λ n. tt; issued = λ n s. tt; updated = λ s. tt; replied = λ replies. tt; listed = λ cells. tt }) network past
+    (λ b. send_fits past (first (pending past b)) good (first_is_short (pending past b)) (sent_carriable past b (book_of past) (pending past b) (first (pending past b)) refl refl refl))
+    (query_fits past) e answer h
 
-answer_carried : (past : Past) (e : Event) (answer : Answer) → answered past e ≡ Ok answer → IsCarried answer
-answer_carried past e (Sent order message) h =
-    let sent = sent_by past e order message h in
-    sent_carried past (first (pending past sent.0)) order message sent.1
-answer_carried past e answer h = tt
+answer_carried : (network : List ℕ) (past : Past) (e : Event) (answer : Answer) → answered network past e ≡ Ok answer → IsCarried answer
+answer_carried network past e answer h =
+    of_answer IsCarried (record { done = tt; link = λ n. tt; issued = λ n s. tt; updated = λ s. tt; replied = λ replies. tt; listed = λ cells. tt }) network past
+    (λ b. send_carries past (first (pending past b))) (query_carries past) e answer h
 
 -- what an event is answered after a legal past fits
 pub verdict_fits : (settings : Settings) (past : Past) (e : Event) (answer : Answer) → Legal settings past → verdict settings past e ≡ Ok answer → AnswerFits answer
 verdict_fits settings past e answer legal h =
-    answer_fits past e answer (legal_sound settings past legal) (verdict_answered settings past e answer h)
+    answer_fits settings.network past e answer (legal_sound settings past legal) (verdict_answered settings past e answer h)
 
 -- and carries its order
 pub verdict_carried : (settings : Settings) (past : Past) (e : Event) (answer : Answer) → verdict settings past e ≡ Ok answer → IsCarried answer
-verdict_carried settings past e answer h = answer_carried past e answer (verdict_answered settings past e answer h)
+verdict_carried settings past e answer h = answer_carried settings.network past e answer (verdict_answered settings past e answer h)
+
+-- the same of what is answered, if the event is accepted
+pub fits_if : (settings : Settings) (past : Past) (e : Event) (r : Result Answer Refusal) → Legal settings past → IfOk r (λ a. verdict settings past e ≡ Ok a) → IfOk r AnswerFits
+fits_if settings past e (Ok a) legal h = verdict_fits settings past e a legal h
+fits_if settings past e (Err x) legal h = tt
+
+pub carried_if : (settings : Settings) (past : Past) (e : Event) (r : Result Answer Refusal) → IfOk r (λ a. verdict settings past e ≡ Ok a) → IfOk r IsCarried
+carried_if settings past e (Ok a) h = verdict_carried settings past e a h
+carried_if settings past e (Err x) h = tt

@@ -1,11 +1,9 @@
 -- The flights that a centre keeps are those of the past, one entry further.
-use Rattle.std.proofs.Common.{◌≡◌, ℕ, Bool, true, false, ◌&&◌, not, List, [], ◌∷◌, ◌++◌, Option, Some, None, unwrap_or, nat_eq, filter, cond, refl, sym, ◌∙◌, ap, eqb-true, eq-eqb}
+use Rattle.std.proofs.Common.{◌≡◌, ℕ, Bool, true, false, ◌&&◌, not, List, [], ◌∷◌, ◌++◌, Option, Some, None, unwrap_or, nat_eq, cond, refl, sym, ◌∙◌, ap, eqb-true}
 use Rattle.std.specs.Prelude.{find, if◌then◌else◌}
-use Rattle.std.specs.Cmp.{unsigned_Decides}
 use Rattle.std.specs.Option.{option_map}
-use Rattle.common.specs.OnceLaws.{turned}
 use Rattle.centre_core.specs.Flights.{with_flight, flights_after, up_before}
-use Rattle.centre_core.specs.InFlight.{in_flight, flight_mark, sent_flight, is_replied}
+use Rattle.centre_core.specs.InFlight.{in_flight, flight_mark, sent_flight, asked_flight, is_replied}
 use Rattle.centre_core.specs.Kept.{AreFlightsOf, is_of, flight_in, without_flight}
 use Rattle.centre_core.specs.Links.{is_up}
 use Rattle.centre_core.specs.Past.{Past, After}
@@ -14,7 +12,7 @@ use Rattle.centre_core.specs.declared.entry.Entry.{Entry}
 use Rattle.centre_core.specs.declared.event.Event.{Event}
 use Rattle.centre_core.specs.declared.event.Event.TheVariants as event
 use Rattle.centre_core.specs.declared.flight.Flight.{Flight}
-use Rattle.centre_core.specs.declared.order_maker.in_flight.InFlight.{InFlight}
+use Rattle.centre_core.specs.declared.in_flight.InFlight.{InFlight}
 
 -- one more flight, at the front
 abbrev flight_if : ℕ → Flight → Option InFlight → Option InFlight
@@ -103,6 +101,7 @@ flight_cond false b xs ys = refl
 
 flight_after : (past : Past) (e : Event) (a : Answer) (fs : List Flight) (b : ℕ) → flight_in fs b ≡ in_flight past b → flight_in (flights_after e a (up_before past e) fs) b ≡ unwrap_or (flight_mark b e a (is_up past b)) (in_flight past b)
 flight_after past (event.Send other generation) a fs b h = in_with other b (sent_flight a) fs ∙ ap (cond (nat_eq other b) (sent_flight a)) h ∙ begun (nat_eq other b) (sent_flight a) (in_flight past b)
+flight_after past (event.Ask other generation n after) a fs b h = in_with other b (asked_flight a) fs ∙ ap (cond (nat_eq other b) (asked_flight a)) h ∙ begun (nat_eq other b) (asked_flight a) (in_flight past b)
 flight_after past (event.Report other generation message) a fs b h =
     flight_cond (is_replied a) b (without_flight other fs) fs
     ∙ ended_if (nat_eq other b) (is_replied a) (flight_in fs b) (flight_in (without_flight other fs) b) (in_flight past b) (in_without other b fs ∙ ap (cond (nat_eq other b) None) h) h
@@ -117,6 +116,7 @@ flight_after past (event.LinkUp other) a fs b h =
         ended_if false (is_up past other) (flight_in fs b) (flight_in (without_flight other fs) b) (in_flight past b) (in_without other b fs ∙ ap (λ t. cond t None (flight_in fs b)) e ∙ h) h
 flight_after past (event.LinkDown other generation) a fs b h = in_without other b fs ∙ ap (cond (nat_eq other b) None) h ∙ ended (nat_eq other b) (in_flight past b)
 flight_after past (event.Edit e) a fs b h = h
+flight_after past (event.Retry other) a fs b h = h
 
 -- the flights stay those of the past
 pub flights_with : (e : Entry) (before : Past) (fs : List Flight) → AreFlightsOf before fs → AreFlightsOf (After e before) (flights_after e.event e.answer (up_before before e.event) fs)

@@ -19,8 +19,8 @@ use Rattle.centre_core.specs.Verdict.{answered, edit_answered, issue, issue_chec
 use Rattle.centre_core.specs.Warnings.{book_of, warnings_of, book_after, book_then, with_issue}
 use Rattle.centre_core.specs.declared.answer.Answer.{Answer}
 use Rattle.centre_core.specs.declared.answer.Answer.TheVariants as answer
-use Rattle.centre_core.specs.declared.coverage_plan.edit.Edit.{Edit}
-use Rattle.centre_core.specs.declared.coverage_plan.edit.Edit.TheVariants as edit
+use Rattle.coverage_plan.specs.declared.edit.Edit.{Edit}
+use Rattle.coverage_plan.specs.declared.edit.Edit.TheVariants as edit
 use Rattle.centre_core.specs.declared.event.Event.{Event}
 use Rattle.centre_core.specs.declared.event.Event.TheVariants as event
 use Rattle.centre_core.proofs.CheckLemmas.{unless_ok}
@@ -28,7 +28,7 @@ use Rattle.centre_core.proofs.CheckLemmas.{unless_ok}
 -- The warning of a number after each edit.
 
 -- what is found has the number
-found_number : (n : ℕ) (ws : List Warning) (w : Warning) → find (has_number n) ws ≡ Some w → nat_eq w.number n ≡ true
+pub found_number : (n : ℕ) (ws : List Warning) (w : Warning) → find (has_number n) ws ≡ Some w → nat_eq w.number n ≡ true
 found_number n [] w h = cc
 found_number n (v ∷ ws) w h = step (found_number n ws w) (has_number n v) refl h
   where
@@ -139,10 +139,10 @@ mark_cond true x y = refl
 mark_cond false x y = refl
 
 -- an event is an edit or leaves the book
-pub view_then : {A : Type 0} (view : Option Warning → A) (f : Edit → Answer → A → A) (past : Past) (n : ℕ) (e : Event) (a : Answer) (old : A) → answered past e ≡ Ok a → view (find (has_number n) (warnings_of past)) ≡ old → ((x : Edit) → edit_answered past x ≡ Ok a → view (find (has_number n) (book_after x (book_of past)).warnings) ≡ f x a (view (find (has_number n) (warnings_of past)))) → view (find (has_number n) (book_then e (book_of past)).warnings) ≡ edit_makes f e a old
-view_then view f past n (event.Edit x) a old h same after = after x h ∙ ap (f x a) same
-view_then view f past n other a old h same after = same
+pub view_then : {A : Type 0} (view : Option Warning → A) (f : Edit → Answer → A → A) (network : List ℕ) (past : Past) (n : ℕ) (e : Event) (a : Answer) (old : A) → answered network past e ≡ Ok a → view (find (has_number n) (warnings_of past)) ≡ old → ((x : Edit) → edit_answered past x ≡ Ok a → view (find (has_number n) (book_after x (book_of past)).warnings) ≡ f x a (view (find (has_number n) (warnings_of past)))) → view (find (has_number n) (book_then e (book_of past)).warnings) ≡ edit_makes f e a old
+view_then view f network past n (event.Edit x) a old h same after = after x h ∙ ap (f x a) same
+view_then view f network past n other a old h same after = same
 
-pub mark_then : {A : Type 0} (view : Option Warning → A) (mark : Answer → Edit → Option A) (past : Past) (n : ℕ) (e : Event) (a : Answer) (old : A) → answered past e ≡ Ok a → view (find (has_number n) (warnings_of past)) ≡ old → ((x : Edit) → edit_answered past x ≡ Ok a → view (find (has_number n) (book_after x (book_of past)).warnings) ≡ unwrap_or (mark a x) (view (find (has_number n) (warnings_of past)))) → view (find (has_number n) (book_then e (book_of past)).warnings) ≡ unwrap_or (by_edit (mark a) e) old
-mark_then view mark past n (event.Edit x) a old h same after = after x h ∙ ap (unwrap_or (mark a x)) same
-mark_then view mark past n other a old h same after = same
+pub mark_then : {A : Type 0} (view : Option Warning → A) (mark : Answer → Edit → Option A) (network : List ℕ) (past : Past) (n : ℕ) (e : Event) (a : Answer) (old : A) → answered network past e ≡ Ok a → view (find (has_number n) (warnings_of past)) ≡ old → ((x : Edit) → edit_answered past x ≡ Ok a → view (find (has_number n) (book_after x (book_of past)).warnings) ≡ unwrap_or (mark a x) (view (find (has_number n) (warnings_of past)))) → view (find (has_number n) (book_then e (book_of past)).warnings) ≡ unwrap_or (by_edit (mark a) e) old
+mark_then view mark network past n (event.Edit x) a old h same after = after x h ∙ ap (unwrap_or (mark a x)) same
+mark_then view mark network past n other a old h same after = same

@@ -1,19 +1,20 @@
 -- Sorting and grouping change no test of what the actions touch.
 use Rattle.std.proofs.Common.{◌≡◌, ℕ, Bool, true, false, ◌&&◌, ◌||◌, nat_eq, List, [], ◌∷◌, refl, ◌∙◌, ap, eqb-true}
-use Rattle.std.proofs.lemmas.Bool.{and_parts}
-use Rattle.std.specs.List.{list_any}
+use Rattle.std.specs.Prelude.{if◌then◌else◌}
+use Rattle.std.proofs.lemmas.Bool.{and_parts, and_from}
+use Rattle.std.specs.List.{list_any, list_all}
 use Rattle.common.specs.Cell.{cell_eq}
 use Rattle.common.specs.declared.cell.Cell.{Cell}
 use Rattle.centre_core.specs.Headline.{names_cell}
-use Rattle.centre_core.specs.Grouping.{kind_eq, action_lt, in_order, alone, fits, joined, grouped}
+use Rattle.order_maker.specs.Grouping.{kind_eq, action_lt, in_order, alone, fits, joined, grouped}
 use Rattle.centre_core.specs.Past.{Past}
 use Rattle.centre_core.specs.Pending.{all_actions, pending}
 use Rattle.centre_core.specs.Effects.{is_among}
-use Rattle.common.specs.SortingLaws.{any_sorted}
-use Rattle.centre_core.specs.declared.order_maker.action.Action.{Action}
-use Rattle.centre_core.specs.declared.order_maker.order.Order.{Order}
-use Rattle.centre_core.specs.declared.order_maker.order_kind.OrderKind.{OrderKind}
-use Rattle.centre_core.specs.declared.order_maker.order_kind.OrderKind.TheVariants.{Write, Replace, Kill}
+use Rattle.common.specs.SortingLaws.{any_sorted, all_sorted}
+use Rattle.order_maker.specs.declared.action.Action.{Action}
+use Rattle.order_maker.specs.declared.order.Order.{Order}
+use Rattle.order_maker.specs.declared.order_kind.OrderKind.{OrderKind}
+use Rattle.order_maker.specs.declared.order_kind.OrderKind.TheVariants.{Write, Replace, Kill}
 
 -- an order names the cell with this message identifier, and what it does passes g
 abbrev pub tests : (OrderKind → ℕ → Bool) → Cell → ℕ → Order → Bool
@@ -23,7 +24,7 @@ tests g c m order = names_cell order c m && g order.kind order.serial
 abbrev pub touches : (OrderKind → ℕ → Bool) → Cell → ℕ → Action → Bool
 touches g c m a = tests g c m (alone a)
 
-kind_same : (x y : OrderKind) → kind_eq x y ≡ true → x ≡ y
+pub kind_same : (x y : OrderKind) → kind_eq x y ≡ true → x ≡ y
 kind_same Write Write h = refl
 kind_same (Replace old) (Replace other) h = ap (λ s. Replace s) (eqb-true old other h)
 kind_same Kill Kill h = refl
@@ -57,3 +58,23 @@ any_grouped g c m (a ∷ xs) = any_joined g c m a (grouped xs) ∙ ap (λ t. tou
 -- what the pending orders touch is what the actions touch
 pub any_pending : (g : OrderKind → ℕ → Bool) (c : Cell) (m : ℕ) (past : Past) (b : ℕ) → list_any (tests g c m) (pending past b) ≡ list_any (touches g c m) (all_actions past b)
 any_pending g c m past b = any_grouped g c m (in_order (all_actions past b)) ∙ any_sorted action_lt (touches g c m) (all_actions past b)
+
+-- what is so of the kind, the message identifier and the serial number of each action is so of each order's
+
+all_joined_to : (p : OrderKind → ℕ → ℕ → Bool) (a : Action) (orders : List Order) → p a.kind a.message_id a.serial ≡ true → list_all (λ (o : Order). p o.kind o.message_id o.serial) orders ≡ true → list_all (λ (o : Order). p o.kind o.message_id o.serial) (joined a orders) ≡ true
+all_joined_to p a [] h g = and_from (p a.kind a.message_id a.serial) true h refl
+all_joined_to p a (order ∷ orders) h g = step (fits a order)
+  where
+    step : (t : Bool) → list_all (λ (o : Order). p o.kind o.message_id o.serial) (if t then record order { cells = a.cell ∷ order.cells } ∷ orders else alone a ∷ order ∷ orders) ≡ true
+    step true = g
+    step false = and_from (p a.kind a.message_id a.serial) (list_all (λ (o : Order). p o.kind o.message_id o.serial) (order ∷ orders)) h g
+
+all_grouped : (p : OrderKind → ℕ → ℕ → Bool) (xs : List Action) → list_all (λ (a : Action). p a.kind a.message_id a.serial) xs ≡ true → list_all (λ (o : Order). p o.kind o.message_id o.serial) (grouped xs) ≡ true
+all_grouped p [] h = refl
+all_grouped p (a ∷ xs) h =
+    let parts = and_parts (p a.kind a.message_id a.serial) (list_all (λ (x : Action). p x.kind x.message_id x.serial) xs) h in
+    all_joined_to p a (grouped xs) parts.0 (all_grouped p xs parts.1)
+
+pub all_pending : (p : OrderKind → ℕ → ℕ → Bool) (past : Past) (b : ℕ) → list_all (λ (a : Action). p a.kind a.message_id a.serial) (all_actions past b) ≡ true → list_all (λ (o : Order). p o.kind o.message_id o.serial) (pending past b) ≡ true
+all_pending p past b h =
+    all_grouped p (in_order (all_actions past b)) (all_sorted action_lt (λ (a : Action). p a.kind a.message_id a.serial) (all_actions past b) h)

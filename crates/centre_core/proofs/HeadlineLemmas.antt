@@ -11,6 +11,7 @@ use Rattle.warning_book.specs.declared.version.Version.{Version}
 use Rattle.warning_book.specs.declared.warning.Warning.{Warning}
 use Rattle.centre_core.specs.Base.{empty_base}
 use Rattle.centre_core.specs.Cover.{is_covered}
+use Rattle.centre_core.specs.Down.{is_down}
 use Rattle.centre_core.specs.Effects.{is_among}
 use Rattle.centre_core.specs.Headline.{airs, clears, applied, Agrees, PendingGivesPlan}
 use Rattle.centre_core.specs.Legal.{Legal, Call, with_verdict, after_calls}
@@ -19,105 +20,115 @@ use Rattle.centre_core.specs.Past.{Past, From, IsUnfolded}
 use Rattle.centre_core.specs.Pending.{pending}
 use Rattle.centre_core.specs.Places.{place, cells}
 use Rattle.centre_core.specs.Plan.{wants, wanted, planned}
-use Rattle.centre_core.specs.Presence.{presence}
-use Rattle.centre_core.specs.Seen.{is_absent, is_on_air, is_the}
+use Rattle.centre_core.specs.Presence.{presence, is_held}
+use Rattle.mirror.specs.Seen.{is_absent, is_on_air, is_the}
 use Rattle.centre_core.specs.Settings.{Settings}
 use Rattle.centre_core.specs.Verdict.{verdict}
 use Rattle.centre_core.specs.Warnings.{book_of, warnings_of, is_version, has_key, is_key}
 use Rattle.centre_core.specs.declared.answer.Answer.{Answer}
 use Rattle.centre_core.specs.declared.event.Event.{Event}
-use Rattle.centre_core.specs.declared.mirror.presence.Presence.{Presence}
-use Rattle.centre_core.specs.declared.mirror.presence.Presence.TheVariants.{Absent, OnAir, Unknown}
+use Rattle.mirror.specs.declared.presence.Presence.{Presence}
+use Rattle.mirror.specs.declared.presence.Presence.TheVariants.{Absent, OnAir, Unknown}
 use Rattle.centre_core.specs.declared.refusal.Refusal.{Refusal}
 use Rattle.centre_core.proofs.AnyLemmas.{and_none, any_same, any_pulled}
 use Rattle.centre_core.proofs.ApplyingLemmas.{applied_airs, applied_clears}
 use Rattle.centre_core.proofs.ActingLemmas.{does, any_all, airing, clearing, is_surplus, does_airing, does_clearing}
 use Rattle.centre_core.proofs.GroupingLemmas.{any_pending}
-use Rattle.centre_core.proofs.KnownLemmas.{legal_unfolded, known_place, known_presence}
+use Rattle.centre_core.proofs.MarkLemmas.{known_presence}
+use Rattle.centre_core.proofs.KnownLemmas.{legal_unfolded, known_place}
 use Rattle.centre_core.proofs.PastLemmas.{any_image}
 use Rattle.centre_core.proofs.UniqueLemmas.{unique, one_other}
 use Rattle.centre_core.proofs.WarningLemmas.{legal_sound}
 
 -- the warning plans the key
-abbrev plans : Past → ℕ → Cell → ℕ → ℕ → Warning → Bool
+abbrev pub plans : Past → ℕ → Cell → ℕ → ℕ → Warning → Bool
 plans past b c m s w = nat_eq w.message_id m && is_the (wanted past b w c) s
 
-airs_at : (past : Past) (b : ℕ) (c : Cell) (m s : ℕ) (w : Warning) → (nat_eq w.message_id m && (is_among c (cells past) && does (airing s) (seen past b w c))) ≡ ((is_among c (cells past) && not (is_on_air (presence past b c m s))) && plans past b c m s w)
+-- the cell is up at the BSC, and nothing holds the key back
+abbrev pub is_free : Past → ℕ → Cell → ℕ → ℕ → Bool
+is_free past b c m s = not (is_down past b c) && not (is_held past b c m s)
+
+airs_at : (past : Past) (b : ℕ) (c : Cell) (m s : ℕ) (w : Warning) → (nat_eq w.message_id m && (is_among c (cells past) && does (airing s) (seen past b w c))) ≡ ((is_among c (cells past) && (is_free past b c m s && not (is_on_air (presence past b c m s)))) && plans past b c m s w)
 airs_at past b c m s w =
     ap (λ t. nat_eq w.message_id m && (is_among c (cells past) && t)) (does_airing (seen past b w c) s)
     ∙ step (nat_eq w.message_id m) refl
   where
-    table : (k wd on : Bool) → (k && (wd && not on)) ≡ ((k && not on) && wd)
-    table true true true = refl
-    table true true false = refl
-    table true false true = refl
-    table true false false = refl
-    table false wd on = refl
+    table : (k wd up free on : Bool) → (k && (wd && (up && (free && on)))) ≡ ((k && ((up && free) && on)) && wd)
+    table true true true true true = refl
+    table true true true true false = refl
+    table true true true false on = refl
+    table true true false free on = refl
+    table true false up free on = sym (and_none ((up && free) && on))
+    table false wd up free on = refl
 
-    step : (t : Bool) → nat_eq w.message_id m ≡ t → (nat_eq w.message_id m && (is_among c (cells past) && (is_the (wanted past b w c) s && not (is_on_air (presence past b c w.message_id s))))) ≡ ((is_among c (cells past) && not (is_on_air (presence past b c m s))) && plans past b c m s w)
+    step : (t : Bool) → nat_eq w.message_id m ≡ t → (nat_eq w.message_id m && (is_among c (cells past) && (is_the (wanted past b w c) s && (not (is_down past b c) && (not (is_held past b c w.message_id s) && not (is_on_air (presence past b c w.message_id s))))))) ≡ ((is_among c (cells past) && (is_free past b c m s && not (is_on_air (presence past b c m s)))) && plans past b c m s w)
     step true e =
         let at_m : w.message_id ≡ m = eqb-true w.message_id m e in
-        let here : (is_among c (cells past) && (is_the (wanted past b w c) s && not (is_on_air (presence past b c w.message_id s)))) ≡ ((is_among c (cells past) && not (is_on_air (presence past b c m s))) && is_the (wanted past b w c) s) =
-        ap (λ (n : ℕ). is_among c (cells past) && (is_the (wanted past b w c) s && not (is_on_air (presence past b c n s)))) at_m
-        ∙ table (is_among c (cells past)) (is_the (wanted past b w c) s) (is_on_air (presence past b c m s)) in
+        let here : (is_among c (cells past) && (is_the (wanted past b w c) s && (not (is_down past b c) && (not (is_held past b c w.message_id s) && not (is_on_air (presence past b c w.message_id s)))))) ≡ ((is_among c (cells past) && (is_free past b c m s && not (is_on_air (presence past b c m s)))) && is_the (wanted past b w c) s) =
+        ap (λ (n : ℕ). is_among c (cells past) && (is_the (wanted past b w c) s && (not (is_down past b c) && (not (is_held past b c n s) && not (is_on_air (presence past b c n s)))))) at_m
+        ∙ table (is_among c (cells past)) (is_the (wanted past b w c) s) (not (is_down past b c)) (not (is_held past b c m s)) (not (is_on_air (presence past b c m s))) in
         rw e here
-    step false e = rw e (sym (and_none (is_among c (cells past) && not (is_on_air (presence past b c m s)))))
+    step false e = rw e (sym (and_none (is_among c (cells past) && (is_free past b c m s && not (is_on_air (presence past b c m s))))))
 
-clears_at : (past : Past) (b : ℕ) (c : Cell) (m s : ℕ) (w : Warning) → (nat_eq w.message_id m && (is_among c (cells past) && does (clearing s) (seen past b w c))) ≡ ((is_among c (cells past) && not (is_absent (presence past b c m s))) && (has_key m s w && not (plans past b c m s w)))
+clears_at : (past : Past) (b : ℕ) (c : Cell) (m s : ℕ) (w : Warning) → (nat_eq w.message_id m && (is_among c (cells past) && does (clearing s) (seen past b w c))) ≡ ((is_among c (cells past) && (is_free past b c m s && not (is_absent (presence past b c m s)))) && (has_key m s w && not (plans past b c m s w)))
 clears_at past b c m s w =
     ap (λ t. nat_eq w.message_id m && (is_among c (cells past) && t)) (does_clearing (seen past b w c) s)
     ∙ ap (λ t. nat_eq w.message_id m && (is_among c (cells past) && (t && is_surplus (seen past b w c) s))) (any_image (λ n. nat_eq n s) (λ (v : Version). v.serial) w.versions)
     ∙ step (nat_eq w.message_id m) refl
   where
-    table : (k v p a : Bool) → (k && (v && (not p && not a))) ≡ ((k && not a) && (v && not p))
-    table true true true true = refl
-    table true true true false = refl
-    table true true false true = refl
-    table true true false false = refl
-    table true false p true = refl
-    table true false p false = refl
-    table false v p a = refl
+    table : (k v up p free a : Bool) → (k && (v && (up && (p && (free && a))))) ≡ ((k && ((up && free) && a)) && (v && p))
+    table true true true true true true = refl
+    table true true true true true false = refl
+    table true true true true false a = refl
+    table true true true false free a = sym (and_none (free && a))
+    table true true false p free a = refl
+    table true false up p free a = sym (and_none ((up && free) && a))
+    table false v up p free a = refl
 
-    step : (t : Bool) → nat_eq w.message_id m ≡ t → (nat_eq w.message_id m && (is_among c (cells past) && (list_any (is_version s) w.versions && (not (is_the (wanted past b w c) s) && not (is_absent (presence past b c w.message_id s)))))) ≡ ((is_among c (cells past) && not (is_absent (presence past b c m s))) && (has_key m s w && not (plans past b c m s w)))
+    step : (t : Bool) → nat_eq w.message_id m ≡ t → (nat_eq w.message_id m && (is_among c (cells past) && (list_any (is_version s) w.versions && (not (is_down past b c) && (not (is_the (wanted past b w c) s) && (not (is_held past b c w.message_id s) && not (is_absent (presence past b c w.message_id s)))))))) ≡ ((is_among c (cells past) && (is_free past b c m s && not (is_absent (presence past b c m s)))) && (has_key m s w && not (plans past b c m s w)))
     step true e =
         let at_m : w.message_id ≡ m = eqb-true w.message_id m e in
-        let here : (is_among c (cells past) && (list_any (is_version s) w.versions && (not (is_the (wanted past b w c) s) && not (is_absent (presence past b c w.message_id s))))) ≡ ((is_among c (cells past) && not (is_absent (presence past b c m s))) && (list_any (is_version s) w.versions && not (is_the (wanted past b w c) s))) =
-        ap (λ (n : ℕ). is_among c (cells past) && (list_any (is_version s) w.versions && (not (is_the (wanted past b w c) s) && not (is_absent (presence past b c n s))))) at_m
-        ∙ table (is_among c (cells past)) (list_any (is_version s) w.versions) (is_the (wanted past b w c) s) (is_absent (presence past b c m s)) in
+        let here : (is_among c (cells past) && (list_any (is_version s) w.versions && (not (is_down past b c) && (not (is_the (wanted past b w c) s) && (not (is_held past b c w.message_id s) && not (is_absent (presence past b c w.message_id s))))))) ≡ ((is_among c (cells past) && (is_free past b c m s && not (is_absent (presence past b c m s)))) && (list_any (is_version s) w.versions && not (is_the (wanted past b w c) s))) =
+        ap (λ (n : ℕ). is_among c (cells past) && (list_any (is_version s) w.versions && (not (is_down past b c) && (not (is_the (wanted past b w c) s) && (not (is_held past b c n s) && not (is_absent (presence past b c n s))))))) at_m
+        ∙ table (is_among c (cells past)) (list_any (is_version s) w.versions) (not (is_down past b c)) (not (is_the (wanted past b w c) s)) (not (is_held past b c m s)) (not (is_absent (presence past b c m s))) in
         rw e here
-    step false e = rw e (sym (and_none (is_among c (cells past) && not (is_absent (presence past b c m s)))))
+    step false e = rw e (sym (and_none (is_among c (cells past) && (is_free past b c m s && not (is_absent (presence past b c m s))))))
 
--- the pending orders put the key on air just where it is planned and not on air
-airs_pending : (past : Past) (b : ℕ) (c : Cell) (m s : ℕ) → list_any (airs c m s) (pending past b) ≡ ((is_among c (cells past) && not (is_on_air (presence past b c m s))) && planned past b c m s)
+-- the pending orders put a key on air just where it is planned, free and not on air
+pub airs_pending : (past : Past) (b : ℕ) (c : Cell) (m s : ℕ) → list_any (airs c m s) (pending past b) ≡ ((is_among c (cells past) && (is_free past b c m s && not (is_on_air (presence past b c m s)))) && planned past b c m s)
 airs_pending past b c m s =
     any_pending (airing s) c m past b
     ∙ any_all (airing s) c m past b
-    ∙ any_same (λ w. nat_eq w.message_id m && (is_among c (cells past) && does (airing s) (seen past b w c))) (λ w. (is_among c (cells past) && not (is_on_air (presence past b c m s))) && plans past b c m s w) (airs_at past b c m s) (warnings_of past)
-    ∙ any_pulled (is_among c (cells past) && not (is_on_air (presence past b c m s))) (plans past b c m s) (warnings_of past)
+    ∙ any_same (λ w. nat_eq w.message_id m && (is_among c (cells past) && does (airing s) (seen past b w c))) (λ w. (is_among c (cells past) && (is_free past b c m s && not (is_on_air (presence past b c m s)))) && plans past b c m s w) (airs_at past b c m s) (warnings_of past)
+    ∙ any_pulled (is_among c (cells past) && (is_free past b c m s && not (is_on_air (presence past b c m s)))) (plans past b c m s) (warnings_of past)
 
 -- what is the serial number is there
-the_some : (o : Option ℕ) (s : ℕ) → is_the o s ≡ true → o ≡ Some s
+pub the_some : (o : Option ℕ) (s : ℕ) → is_the o s ≡ true → o ≡ Some s
 the_some None s h = cc
 the_some (Some t) s h = ap (λ n. Some n) (eqb-true t s h)
 
-key_of_plan : (past : Past) (b : ℕ) (c : Cell) (m s : ℕ) (w : Warning) → plans past b c m s w ≡ true → has_key m s w ≡ true
-key_of_plan past b c m s w h =
-    let parts = and_parts (nat_eq w.message_id m) (is_the (wanted past b w c) s) h in
-    and_from (nat_eq w.message_id m) (list_any (is_version s) w.versions) parts.0 (step (wants past b w c) parts.1)
+-- what is wanted is a version
+pub wanted_version : (past : Past) (b : ℕ) (w : Warning) (c : Cell) (s : ℕ) → is_the (wanted past b w c) s ≡ true → list_any (is_version s) w.versions ≡ true
+wanted_version past b w c s h = step (wants past b w c) h
   where
     step : (t : Bool) → is_the (if t then current_of w else None) s ≡ true → list_any (is_version s) w.versions ≡ true
     step true g = current_among w s (the_some (current_of w) s g)
     step false g = cc
 
--- and take it off just where it is a key of a warning that isn't planned and not absent
-clears_pending : (settings : Settings) (past : Past) → Legal settings past → (b : ℕ) (c : Cell) (m s : ℕ) → is_key past m s ≡ true → list_any (clears c m s) (pending past b) ≡ ((is_among c (cells past) && not (is_absent (presence past b c m s))) && not (planned past b c m s))
+pub key_of_plan : (past : Past) (b : ℕ) (c : Cell) (m s : ℕ) (w : Warning) → plans past b c m s w ≡ true → has_key m s w ≡ true
+key_of_plan past b c m s w h =
+    let parts = and_parts (nat_eq w.message_id m) (is_the (wanted past b w c) s) h in
+    and_from (nat_eq w.message_id m) (list_any (is_version s) w.versions) parts.0 (wanted_version past b w c s parts.1)
+
+-- and take a key of the book off just where it is not planned, free and not absent
+pub clears_pending : (settings : Settings) (past : Past) → Legal settings past → (b : ℕ) (c : Cell) (m s : ℕ) → is_key past m s ≡ true → list_any (clears c m s) (pending past b) ≡ ((is_among c (cells past) && (is_free past b c m s && not (is_absent (presence past b c m s)))) && not (planned past b c m s))
 clears_pending settings past legal b c m s key =
     any_pending (clearing s) c m past b
     ∙ any_all (clearing s) c m past b
-    ∙ any_same (λ w. nat_eq w.message_id m && (is_among c (cells past) && does (clearing s) (seen past b w c))) (λ w. (is_among c (cells past) && not (is_absent (presence past b c m s))) && (has_key m s w && not (plans past b c m s w))) (clears_at past b c m s) (warnings_of past)
-    ∙ any_pulled (is_among c (cells past) && not (is_absent (presence past b c m s))) (λ w. has_key m s w && not (plans past b c m s w)) (warnings_of past)
-    ∙ ap (λ t. (is_among c (cells past) && not (is_absent (presence past b c m s))) && t) (one_other (has_key m s) (plans past b c m s) (key_of_plan past b c m s) (warnings_of past) (unique (book_of past) (legal_sound settings past legal) m s))
-    ∙ ap (λ t. (is_among c (cells past) && not (is_absent (presence past b c m s))) && (t && not (planned past b c m s))) key
+    ∙ any_same (λ w. nat_eq w.message_id m && (is_among c (cells past) && does (clearing s) (seen past b w c))) (λ w. (is_among c (cells past) && (is_free past b c m s && not (is_absent (presence past b c m s)))) && (has_key m s w && not (plans past b c m s w))) (clears_at past b c m s) (warnings_of past)
+    ∙ any_pulled (is_among c (cells past) && (is_free past b c m s && not (is_absent (presence past b c m s)))) (λ w. has_key m s w && not (plans past b c m s w)) (warnings_of past)
+    ∙ ap (λ t. (is_among c (cells past) && (is_free past b c m s && not (is_absent (presence past b c m s)))) && t) (one_other (has_key m s) (plans past b c m s) (key_of_plan past b c m s) (warnings_of past) (unique (book_of past) (legal_sound settings past legal) m s))
+    ∙ ap (λ t. (is_among c (cells past) && (is_free past b c m s && not (is_absent (presence past b c m s)))) && (t && not (planned past b c m s))) key
 
 -- a planned cell was registered
 planned_known : (past : Past) → IsUnfolded past → (b : ℕ) (c : Cell) (m s : ℕ) (ws : List Warning) → list_any (plans past b c m s) ws ≡ true → is_among c (cells past) ≡ true
@@ -150,11 +161,15 @@ decided k p x y false after ex ey kq kp airs_it clears_it = off p x y ex ey kp c
     off OnAir u v e f known g = g (e ∙ and_none (k && false)) ∙ ap (λ t. cond t Absent OnAir) (f ∙ ap (λ t. (t && true) && true) (known refl))
     off Unknown u v e f known g = g (e ∙ and_none (k && true)) ∙ ap (λ t. cond t Absent Unknown) (f ∙ ap (λ t. (t && true) && true) (known refl))
 
+free_from : (past : Past) (b : ℕ) (c : Cell) (m s : ℕ) → is_down past b c ≡ false → is_held past b c m s ≡ false → is_free past b c m s ≡ true
+free_from past b c m s up free = and_from (not (is_down past b c)) (not (is_held past b c m s)) (ap not up) (ap not free)
+
 pub pending_gives_plan : (settings : Settings) (past : Past) → Legal settings past → PendingGivesPlan past
 pending_gives_plan settings past legal = record {
-  each = λ b c m s key.
+  each = λ b c m s key up free.
       decided (is_among c (cells past)) (presence past b c m s) (list_any (airs c m s) (pending past b)) (list_any (clears c m s) (pending past b)) (planned past b c m s) (applied (pending past b) c m s (presence past b c m s))
-      (airs_pending past b c m s) (clears_pending settings past legal b c m s key)
+      (airs_pending past b c m s ∙ ap (λ t. (is_among c (cells past) && (t && not (is_on_air (presence past b c m s)))) && planned past b c m s) (free_from past b c m s up free))
+      (clears_pending settings past legal b c m s key ∙ ap (λ t. (is_among c (cells past) && (t && not (is_absent (presence past b c m s)))) && not (planned past b c m s)) (free_from past b c m s up free))
       (planned_known past (legal_unfolded settings past legal) b c m s (warnings_of past)) (known_presence settings past legal b c m s)
       (applied_airs (pending past b) c m s (presence past b c m s)) (applied_clears (pending past b) c m s (presence past b c m s));
 }

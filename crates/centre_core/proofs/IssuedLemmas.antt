@@ -1,5 +1,5 @@
 -- The book of a legal past in the words of its entries: its codes, what Issues and Updates are answered, and the law.
-use Rattle.std.proofs.Common.{◌≡◌, arith, ℕ, zero, suc, ◌+◌, ◌<◌, ◌≤◌, Bool, true, false, ◌&&◌, ◌||◌, not, List, [], ◌∷◌, Option, Some, None, Ok, nat_eq, ltb, cond, refl, sym, ◌∙◌, ap, subst, eqb-true, eq-eqb}
+use Rattle.std.proofs.Common.{◌≡◌, arith, ℕ, zero, suc, ◌+◌, ◌<◌, ◌≤◌, Bool, true, false, ◌&&◌, ◌||◌, not, List, [], ◌∷◌, Option, Some, None, Ok, nat_eq, cond, refl, sym, ◌∙◌, ap, subst, eqb-true}
 use Rattle.std.specs.Prelude.{find}
 use Rattle.std.specs.Cmp.{unsigned_Decides}
 use Rattle.std.specs.List.{list_any, list_all, range_with_len}
@@ -11,8 +11,7 @@ use Rattle.std.proofs.lemmas.List.Folds.{list_any-append}
 use Rattle.serials.specs.Laws.{free_code, code_of_serial, update_of_serial, next_scope, next_code, next_update}
 use Rattle.serials.specs.Serials.{scope_number, scope_part, serial_of, code_of, update_of, next_of, is_last, every_code, least_free}
 use Rattle.common.specs.OnceLaws.{turned}
-use Rattle.common.specs.Order.{is_ascending}
-use Rattle.warning_book.specs.Book.{has_number, number_lt, is_exhausted, ends_updates, last_serial, current_of, codes_if, codes_of, numbers, new_serial}
+use Rattle.warning_book.specs.Book.{has_number, is_exhausted, ends_updates, last_serial, current_of, codes_if, codes_of, numbers, new_serial}
 use Rattle.warning_book.specs.Laws.{found_so}
 use Rattle.warning_book.specs.Sound.{shares_code, has_one_code}
 use Rattle.warning_book.specs.declared.content.Content.{Content}
@@ -22,53 +21,23 @@ use Rattle.warning_book.specs.declared.warning.Warning.{Warning}
 use Rattle.centre_core.specs.Issued.{versions_by, message_by, is_used, IsNew, IsAnsweredIssue, IsNext, FollowsLast, IsAnsweredUpdate, IsEditAnswered, IsAnswered, AreAnswered, IsBookOf}
 use Rattle.centre_core.specs.Legal.{Legal}
 use Rattle.centre_core.specs.Past.{Past, From, After}
-use Rattle.centre_core.specs.Seen.{is_the}
+use Rattle.mirror.specs.Seen.{is_the}
 use Rattle.centre_core.specs.Settings.{Settings}
 use Rattle.centre_core.specs.Verdict.{answered, edit_answered, issue, update, update_checks, update_answer}
 use Rattle.centre_core.specs.Warnings.{book_of, warnings_of}
 use Rattle.centre_core.specs.declared.answer.Answer.{Answer}
 use Rattle.centre_core.specs.declared.answer.Answer.TheVariants as answer
-use Rattle.centre_core.specs.declared.coverage_plan.edit.Edit.{Edit}
-use Rattle.centre_core.specs.declared.coverage_plan.edit.Edit.TheVariants as edit
+use Rattle.coverage_plan.specs.declared.edit.Edit.{Edit}
+use Rattle.coverage_plan.specs.declared.edit.Edit.TheVariants as edit
 use Rattle.centre_core.specs.declared.event.Event.{Event}
 use Rattle.centre_core.specs.declared.event.Event.TheVariants as event
 use Rattle.centre_core.proofs.AnyLemmas.{or_none, any_same}
 use Rattle.centre_core.proofs.CheckLemmas.{no_check}
 use Rattle.centre_core.proofs.FoundLemmas.{issue_told}
+use Rattle.centre_core.proofs.NumberLemmas.{passes, each_found, any_by_number}
 use Rattle.centre_core.proofs.ToldLemmas.{active_found, active_told, areas_found, areas_told, versions_in, versions_found, update_told, versions_told, message_in, message_told, issued_told, numbers_told}
 use Rattle.centre_core.proofs.UniqueLemmas.{verdict_answered}
 use Rattle.centre_core.proofs.WarningLemmas.{legal_sound}
-
--- Each warning is the one that is found by its number.
-
-abbrev EachFound : List Warning → List Warning → Type 0
-EachFound all [] = Unit {0}
-EachFound all (w ∷ ws) = (find (has_number w.number) all ≡ Some w) × EachFound all ws
-
-below_other : (k n : ℕ) → ltb k n ≡ true → nat_eq k n ≡ false
-below_other k n h = grind (arith, nat_tests, common_steps)
-
-found_behind : (v : Warning) (all ws : List Warning) → list_all (number_lt v) ws ≡ true → EachFound all ws → EachFound (v ∷ all) ws
-found_behind v all [] h found = tt
-found_behind v all (w ∷ ws) h found =
-    let parts = and_parts (number_lt v w) (list_all (number_lt v) ws) h in
-    (ap (λ t. cond t (Some v) (find (has_number w.number) all)) (below_other v.number w.number parts.0) ∙ found.0, found_behind v all ws parts.1 found.1)
-
-each_found : (ws : List Warning) → is_ascending number_lt ws ≡ true → EachFound ws ws
-each_found [] ordered = tt
-each_found (w ∷ ws) ordered =
-    let parts = and_parts (list_all (number_lt w) ws) (is_ascending number_lt ws) ordered in
-    (ap (λ t. cond t (Some w) (find (has_number w.number) ws)) (eq-eqb w.number w.number refl), found_behind w ws ws parts.0 (each_found ws parts.1))
-
--- what is found passes
-abbrev passes : (Warning → Bool) → Option Warning → Bool
-passes p None = false
-passes p (Some w) = p w
-
-any_by_number : (p : Warning → Bool) (all ws : List Warning) → EachFound all ws → list_any p ws ≡ list_any (λ n. passes p (find (has_number n) all)) (numbers ws)
-any_by_number p all [] found = refl
-any_by_number p all (w ∷ ws) found =
-    ap (λ t. t || list_any p ws) (sym (ap (passes p) found.0)) ∙ ap (λ t. passes p (find (has_number w.number) all) || t) (any_by_number p all ws found.1)
 
 -- The least code that is free.
 
@@ -222,7 +191,7 @@ edit_said settings past legal (edit.Issue notice areas) a h = issue_answered set
 edit_said settings past legal (edit.Update m content) a h = update_answered settings past legal m content a h
 edit_said settings past legal other a h = tt
 
-event_said : (settings : Settings) (past : Past) → Legal settings past → (e : Event) (a : Answer) → answered past e ≡ Ok a → IsAnswered past e a
+event_said : (settings : Settings) (past : Past) → Legal settings past → (e : Event) (a : Answer) → answered settings.network past e ≡ Ok a → IsAnswered past e a
 event_said settings past legal (event.Edit e) a h = edit_said settings past legal e a h
 event_said settings past legal other a h = tt
 

@@ -1,8 +1,8 @@
 -- How actions are joined to orders.
 use Rattle.std.proofs.Common.{◌≡◌, List, [], ◌∷◌, ◌++◌, refl, ap}
-use Rattle.centre_core.specs.Grouping.{joined, grouped}
-use Rattle.centre_core.specs.declared.order_maker.action.Action.{Action}
-use Rattle.centre_core.specs.declared.order_maker.order.Order.{Order}
+use Rattle.order_maker.specs.Grouping.{joined, grouped}
+use Rattle.order_maker.specs.declared.action.Action.{Action}
+use Rattle.order_maker.specs.declared.order.Order.{Order}
 
 -- joined to orders, the last first
 abbrev pub joined_onto : List Action → List Order → List Order

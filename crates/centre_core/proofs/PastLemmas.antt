@@ -1,11 +1,12 @@
 -- The past at each step of a walk over the journal, and lists along such a walk.
-use Rattle.std.proofs.Common.{◌≡◌, ℕ, ◌+◌, ◌<◌, ◌≤◌, Bool, true, false, ◌||◌, List, [], ◌∷◌, ◌++◌, Option, Some, None, refl, sym, ◌∙◌, length, get_or, take, map, reverse, ap, arith}
+use Rattle.std.proofs.Common.{◌≡◌, ℕ, ◌+◌, ◌<◌, ◌≤◌, Bool, true, false, ◌||◌, List, [], ◌∷◌, ◌++◌, Some, None, refl, ◌∙◌, length, get_or, take, map, reverse, ap, arith}
 use Rattle.std.specs.Prelude.{find, if◌then◌else◌}
 use Rattle.std.specs.List.{list_any}
 use Rattle.std.proofs.lemmas.List.{take_more, reverse-append, length-reverse, length-take-le}
 use Rattle.centre_core.specs.Base.{empty_base}
-use Rattle.centre_core.specs.Effects.{Effect, Frees, Leaves, presence_mark}
-use Rattle.centre_core.specs.Past.{since, position, entry_count, IsUnfolded, past_of}
+use Rattle.centre_core.specs.Effects.{presence_mark}
+use Rattle.centre_core.specs.Past.{since, position, entry_count}
+use Rattle.centre_core.specs.declared.effect.Effect.TheVariants.{Frees, Leaves}
 use Rattle.centre_core.specs.declared.entry.Entry.{Entry}
 
 -- one entry further, the past is that entry and the past before it

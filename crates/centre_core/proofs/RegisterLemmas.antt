@@ -1,7 +1,7 @@
 -- What the register tells, counts and refuses is what the entries say.
 use Rattle.std.proofs.Common.{◌≡◌, ◌⊎◌, subst, ℕ, Bool, true, false, ◌&&◌, ◌||◌, not, nat_eq, ltb, List, [], ◌∷◌, Option, Some, None, Ok, Err, unwrap_or, length, map, refl, sym, ◌∙◌, ap, cond, eqb-true, eq-eqb}
 use Rattle.std.specs.Prelude.{IsOk}
-use Rattle.std.proofs.lemmas.Bool.{not-false, or_right}
+use Rattle.std.proofs.lemmas.Bool.{not-false}
 use Rattle.std.proofs.lemmas.List.{length-map}
 use Rattle.std.specs.Cmp.{unsigned_Decides}
 use Rattle.std.specs.List.{list_any}
@@ -14,29 +14,30 @@ use Rattle.cell_register.specs.Laws.{has_bsc_with_bsc, has_bsc_without_bsc, plac
 use Rattle.common.specs.OnceLaws.{turned, any_turned, ascending_once}
 use Rattle.common.specs.OrderLaws.{ascending_map}
 use Rattle.common.specs.Checks.{first_refusal}
-use Rattle.cell_register.specs.Register.{State, has_bsc, place_in, place_among, cell_of, placed_lt, with_bsc, without_bsc, with_cell, moved, without_cell}
+use Rattle.cell_register.specs.Register.{State, has_bsc, place_in, cell_of, placed_lt}
 use Rattle.cell_register.specs.Register as register
 use Rattle.cell_register.specs.Sound.{IsRegister}
 use Rattle.cell_register.specs.declared.placed.Placed.{Placed}
 use Rattle.cell_register.specs.declared.refusal.Refusal as register_refusal
 use Rattle.cell_register.specs.declared.refusal.Refusal.TheVariants as register_refusal_is
-use Rattle.centre_core.specs.Base.{Base, empty_base}
 use Rattle.centre_core.specs.Kept.{IsRegisterOf, Gives, register_after, register_then}
 use Rattle.centre_core.specs.Links.{bsc_mark, bscs, is_bsc, bsc_count, added_bsc}
-use Rattle.centre_core.specs.Past.{Past, From, After, IsUnfolded, by_edit, with_new}
+use Rattle.centre_core.specs.Past.{Past, After, IsUnfolded, by_edit}
 use Rattle.centre_core.specs.Places.{place_mark, place, cells, is_registered, cell_count, added_cell}
 use Rattle.cell_register.specs.Register.{is_place}
 use Rattle.centre_core.specs.Refusals.{of_register}
 use Rattle.centre_core.specs.Verdict.{translated, answered, edit_answered, unless, has_cells, remove_bsc, remove_bsc_checks, add_bsc, add_bsc_checks, add_cell, add_cell_checks, move_cell, move_cell_checks, remove_cell, remove_cell_checks}
 use Rattle.centre_core.specs.declared.answer.Answer.{Answer}
 use Rattle.centre_core.specs.declared.answer.Answer.TheVariants as answer
-use Rattle.centre_core.specs.declared.coverage_plan.edit.Edit.{Edit}
-use Rattle.centre_core.specs.declared.coverage_plan.edit.Edit.TheVariants as edit
+use Rattle.coverage_plan.specs.declared.edit.Edit.{Edit}
+use Rattle.coverage_plan.specs.declared.edit.Edit.TheVariants as edit
 use Rattle.centre_core.specs.declared.entry.Entry.{Entry}
 use Rattle.centre_core.specs.declared.event.Event.{Event}
 use Rattle.centre_core.specs.declared.event.Event.TheVariants as event
+use Rattle.centre_core.proofs.AnyLemmas.{any_at}
+use Rattle.centre_core.proofs.BscLemmas.{bsc_named}
 use Rattle.centre_core.proofs.CheckLemmas.{no_check, taken, refused, given}
-use Rattle.centre_core.proofs.CountLemmas.{same_count, named_once, among_more, among_new, both_or_it}
+use Rattle.centre_core.proofs.CountLemmas.{same_count, named_once, both_or_it}
 use Rattle.centre_core.proofs.KnownLemmas.{known_place}
 
 -- One entry further.
@@ -72,46 +73,21 @@ bsc_then : (e : Event) (b : ℕ) (r : State) (before : Bool) → has_bsc r b ≡
 bsc_then (event.Edit e) b r before h = bsc_after e b r before h
 bsc_then other b r before h = h
 
-place_then : (past : Past) (e : Event) (a : Answer) (c : Cell) (r : State) → answered past e ≡ Ok a → ((d : Cell) → place_in r d ≡ place past d) → place_in (register_then e r) c ≡ unwrap_or (by_edit (place_mark c) e) (place past c)
-place_then past (event.Edit e) a c r v h = place_after past e a c r v h
-place_then past other a c r v h = h c
+place_then : (network : List ℕ) (past : Past) (e : Event) (a : Answer) (c : Cell) (r : State) → answered network past e ≡ Ok a → ((d : Cell) → place_in r d ≡ place past d) → place_in (register_then e r) c ≡ unwrap_or (by_edit (place_mark c) e) (place past c)
+place_then network past (event.Edit e) a c r v h = place_after past e a c r v h
+place_then network past other a c r v h = h c
 
 -- the register stays tied to the past, one entry further
-pub register_with : (e : Entry) (before : Past) (r : State) → answered before e.event ≡ Ok e.answer → IsRegisterOf before r → IsRegisterOf (After e before) (register_then e.event r)
-register_with e before r v kept = record {
+pub register_with : (network : List ℕ) (e : Entry) (before : Past) (r : State) → answered network before e.event ≡ Ok e.answer → IsRegisterOf before r → IsRegisterOf (After e before) (register_then e.event r)
+register_with network e before r v kept = record {
   unfolded = kept.unfolded;
   bscs = λ b. bsc_then e.event b r (is_bsc before b) (kept.bscs b);
-  places = λ c. place_then before e.event e.answer c r v kept.places;
+  places = λ c. place_then network before e.event e.answer c r v kept.places;
 }
 
 -- How many there are.
 
-bsc_named : (e : Edit) (b : ℕ) (bs : List ℕ) (before : Bool) → (before ≡ true → list_any (nat_eq b) bs ≡ true) → unwrap_or (bsc_mark b e) before ≡ true → list_any (nat_eq b) (with_new nat_eq (added_bsc e) bs) ≡ true
-bsc_named (edit.AddBsc d) b bs before known h = step (nat_eq d b) refl h
-  where
-    step : (t : Bool) → nat_eq d b ≡ t → unwrap_or (cond t (Some true) None) before ≡ true → list_any (nat_eq b) (with_new nat_eq (Some d) bs) ≡ true
-    step true e g = among_new nat_eq unsigned_Decides b d bs e
-    step false e g = among_more nat_eq b (Some d) bs (known g)
-bsc_named (edit.RemoveBsc d) b bs before known h = step (nat_eq d b) h
-  where
-    step : (t : Bool) → unwrap_or (cond t (Some false) None) before ≡ true → list_any (nat_eq b) bs ≡ true
-    step true g = cc
-    step false g = known g
-bsc_named other b bs before known h = known h
-
-bsc_named_then : (e : Event) (b : ℕ) (bs : List ℕ) (before : Bool) → (before ≡ true → list_any (nat_eq b) bs ≡ true) → unwrap_or (by_edit (bsc_mark b) e) before ≡ true → list_any (nat_eq b) (with_new nat_eq (by_edit added_bsc e) bs) ≡ true
-bsc_named_then (event.Edit e) b bs before known h = bsc_named e b bs before known h
-bsc_named_then other b bs before known h = known h
-
-no_bsc : (base : Base) (b : ℕ) → base ≡ empty_base → base.is_bsc b ≡ true → list_any (nat_eq b) base.bscs ≡ true
-no_bsc base b e h = let no : empty_base.is_bsc b ≡ true = ap (λ (k : Base). k.is_bsc b) (sym e) ∙ h in cc
-
--- a BSC that is registered is one of those that ever were
-known_bsc : (past : Past) → IsUnfolded past → (b : ℕ) → is_bsc past b ≡ true → list_any (nat_eq b) (bscs past) ≡ true
-known_bsc (From base) unfolded b h = no_bsc base b unfolded h
-known_bsc (After e before) unfolded b h = bsc_named_then e.event b (bscs before) (is_bsc before b) (known_bsc before unfolded b) h
-
-nat_apart : (x y : ℕ) → ltb x y ≡ true → nat_eq x y ≡ false
+pub nat_apart : (x y : ℕ) → ltb x y ≡ true → nat_eq x y ≡ false
 nat_apart x y h = turned nat_eq unsigned_Decides x y ∙ ltb_other x x y (eq-eqb x x refl) h
 
 -- as many BSCs stand in the register
@@ -119,12 +95,12 @@ pub bscs_counted : (past : Past) (r : State) → IsRegister r → IsRegisterOf p
 bscs_counted past r sound kept = sym (same_count nat_eq unsigned_Decides (is_bsc past) (bscs past) r.bscs (named_once nat_eq added_bsc (λ base. base.bscs) refl past kept.unfolded) (ascending_once nat_eq ltb nat_apart r.bscs sound.bscs_ascend) members)
   where
     members : (b : ℕ) → list_any (nat_eq b) r.bscs ≡ (is_bsc past b && list_any (nat_eq b) (bscs past))
-    members b = any_turned nat_eq unsigned_Decides b r.bscs ∙ kept.bscs b ∙ both_or_it (is_bsc past b) (list_any (nat_eq b) (bscs past)) (known_bsc past kept.unfolded b)
+    members b = any_turned nat_eq unsigned_Decides b r.bscs ∙ kept.bscs b ∙ both_or_it (is_bsc past b) (list_any (nat_eq b) (bscs past)) (bsc_named past kept.unfolded b)
 
-cell_apart : (x y : Cell) → cell_lt x y ≡ true → cell_eq x y ≡ false
+pub cell_apart : (x y : Cell) → cell_lt x y ≡ true → cell_eq x y ≡ false
 cell_apart x y h = turned cell_eq cell_decides x y ∙ cell_lt_other x x y ((cell_decides x x).1 refl) h
 
-cell_among : (c : Cell) (ps : List Placed) → list_any (λ d. cell_eq d c) (map cell_of ps) ≡ list_any (λ p. cell_eq p.cell c) ps
+pub cell_among : (c : Cell) (ps : List Placed) → list_any (λ d. cell_eq d c) (map cell_of ps) ≡ list_any (λ p. cell_eq p.cell c) ps
 cell_among c [] = refl
 cell_among c (p ∷ ps) = ap (λ t. cell_eq p.cell c || t) (cell_among c ps)
 
@@ -145,14 +121,6 @@ cells_counted past r sound kept = sym (length-map r.cells cell_of) ∙ sym (same
 
 -- Whether a BSC has cells.
 
-any_here : (p : Cell → Bool) (c : Cell) (cs : List Cell) → p c ≡ true → list_any (cell_eq c) cs ≡ true → list_any p cs ≡ true
-any_here p c [] h g = cc
-any_here p c (d ∷ ds) h g = step (any_here p c ds h) (cell_eq c d) refl g
-  where
-    step : (list_any (cell_eq c) ds ≡ true → list_any p ds ≡ true) → (t : Bool) → cell_eq c d ≡ t → (t || list_any (cell_eq c) ds) ≡ true → (p d || list_any p ds) ≡ true
-    step rest true e k = ap (λ t. t || list_any p ds) (ap p (sym ((cell_decides c d).0 e)) ∙ h)
-    step rest false e k = or_right (p d) (list_any p ds) (rest k)
-
 any_which : (p : Cell → Bool) (cs : List Cell) → list_any p cs ≡ true → (c : Cell) × (p c ≡ true)
 any_which p [] h = cc
 any_which p (c ∷ cs) h = step (any_which p cs) (p c) refl h
@@ -171,7 +139,7 @@ cells_there past r b sound kept = step (register.has_cells r b) refl (has_cells 
     at_place : (c : Cell) → place_in r c ≡ Some b → has_cells past b ≡ true
     at_place c e =
         let there : is_place (place past c) b ≡ true = ap (λ o. is_place o b) (sym (kept.places c) ∙ e) ∙ eq-eqb b b refl in
-        any_here (λ d. is_place (place past d) b) c (cells past) there (known_place past kept.unfolded b c there)
+        any_at cell_eq cell_decides (λ d. is_place (place past d) b) c (cells past) there (known_place past kept.unfolded b c there)
 
     step : (t : Bool) → register.has_cells r b ≡ t → (u : Bool) → has_cells past b ≡ u → t ≡ u
     step true e true f = refl

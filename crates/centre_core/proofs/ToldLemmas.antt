@@ -7,7 +7,6 @@ use Rattle.std.proofs.lemmas.Bool.{not-false}
 use Rattle.serials.specs.Serials.{next_of}
 use Rattle.common.specs.Order.{is_ascending}
 use Rattle.warning_book.specs.Book.{has_number, number_lt, is_so, areas_of, versions_of, last_serial, current_of, numbers, new_warning, version_after, updated, widened, narrowed, stopped, edited, without}
-use Rattle.warning_book.specs.Checks as book
 use Rattle.warning_book.specs.Laws.{KeepsNumber, number-edited, absent_so, found_so}
 use Rattle.warning_book.specs.Sound.{IsSound}
 use Rattle.warning_book.specs.declared.content.Content.{Content}
@@ -21,8 +20,8 @@ use Rattle.centre_core.specs.Verdict.{answered, edit_answered, update, update_ch
 use Rattle.centre_core.specs.Warnings.{book_of, warnings_of, book_after, book_then, with_issue}
 use Rattle.centre_core.specs.declared.answer.Answer.{Answer}
 use Rattle.centre_core.specs.declared.answer.Answer.TheVariants as answer
-use Rattle.centre_core.specs.declared.coverage_plan.edit.Edit.{Edit}
-use Rattle.centre_core.specs.declared.coverage_plan.edit.Edit.TheVariants as edit
+use Rattle.coverage_plan.specs.declared.edit.Edit.{Edit}
+use Rattle.coverage_plan.specs.declared.edit.Edit.TheVariants as edit
 use Rattle.centre_core.specs.declared.event.Event.{Event}
 use Rattle.centre_core.specs.declared.event.Event.TheVariants as event
 use Rattle.centre_core.proofs.CheckLemmas.{unless_ok, no_check}
@@ -77,12 +76,12 @@ active_after past n other a h sound = refl
 pub active_told : (settings : Settings) (past : Past) → Legal settings past → (n : ℕ) → active_in (find (has_number n) (warnings_of past)) ≡ is_active_by past n
 active_told settings (From base) legal n = sym (active_found n base.book.warnings (legal_sound settings (From base) legal).ordered)
 active_told settings (After e before) legal n =
-    mark_then active_in (active_mark n) before n e.event e.answer (is_active_by before n) (verdict_answered settings before e.event e.answer legal.0) (active_told settings before legal.1 n)
+    mark_then active_in (active_mark n) settings.network before n e.event e.answer (is_active_by before n) (verdict_answered settings before e.event e.answer legal.0) (active_told settings before legal.1 n)
     (λ x h. active_after before n x e.answer h (legal_sound settings before legal.1))
 
 -- Its areas.
 
-abbrev areas_in : Option Warning → List (List ℕ)
+abbrev pub areas_in : Option Warning → List (List ℕ)
 areas_in None = []
 areas_in (Some w) = w.areas
 
@@ -136,7 +135,7 @@ areas_after past n other a h sound = refl
 pub areas_told : (settings : Settings) (past : Past) → Legal settings past → (n : ℕ) → areas_in (find (has_number n) (warnings_of past)) ≡ areas_by past n
 areas_told settings (From base) legal n = sym (areas_found n base.book.warnings)
 areas_told settings (After e before) legal n =
-    view_then areas_in (areas_then n) before n e.event e.answer (areas_by before n) (verdict_answered settings before e.event e.answer legal.0) (areas_told settings before legal.1 n)
+    view_then areas_in (areas_then n) settings.network before n e.event e.answer (areas_by before n) (verdict_answered settings before e.event e.answer legal.0) (areas_told settings before legal.1 n)
     (λ x h. areas_after before n x e.answer h (legal_sound settings before legal.1))
 
 -- Its versions.
@@ -196,7 +195,7 @@ versions_after past n other a h sound = refl
 pub versions_told : (settings : Settings) (past : Past) → Legal settings past → (n : ℕ) → versions_in (find (has_number n) (warnings_of past)) ≡ versions_by past n
 versions_told settings (From base) legal n = sym (versions_found n base.book.warnings)
 versions_told settings (After e before) legal n =
-    view_then versions_in (versions_then n) before n e.event e.answer (versions_by before n) (verdict_answered settings before e.event e.answer legal.0) (versions_told settings before legal.1 n)
+    view_then versions_in (versions_then n) settings.network before n e.event e.answer (versions_by before n) (verdict_answered settings before e.event e.answer legal.0) (versions_told settings before legal.1 n)
     (λ x h. versions_after before n x e.answer h (legal_sound settings before legal.1))
 
 -- Its message identifier.
@@ -222,7 +221,7 @@ message_after past n other a h sound = refl
 pub message_told : (settings : Settings) (past : Past) → Legal settings past → (n : ℕ) → message_in (find (has_number n) (warnings_of past)) ≡ message_by past n
 message_told settings (From base) legal n = refl
 message_told settings (After e before) legal n =
-    mark_then message_in (message_mark n) before n e.event e.answer (message_by before n) (verdict_answered settings before e.event e.answer legal.0) (message_told settings before legal.1 n)
+    mark_then message_in (message_mark n) settings.network before n e.event e.answer (message_by before n) (verdict_answered settings before e.event e.answer legal.0) (message_told settings before legal.1 n)
     (λ x h. message_after before n x e.answer h (legal_sound settings before legal.1))
 
 -- How many were issued.
@@ -231,14 +230,14 @@ issued_after : (past : Past) (e : Edit) (a : Answer) → edit_answered past e �
 issued_after past (edit.Issue notice areas) a h = ap (λ o. (with_issue notice areas o (book_of past)).issued) (issue_told past notice areas a h).1.0
 issued_after past other a h = refl
 
-issued_then : (past : Past) (e : Event) (a : Answer) → answered past e ≡ Ok a → (book_then e (book_of past)).issued ≡ edit_makes issues_then e a (book_of past).issued
-issued_then past (event.Edit e) a h = issued_after past e a h
-issued_then past other a h = refl
+issued_then : (network : List ℕ) (past : Past) (e : Event) (a : Answer) → answered network past e ≡ Ok a → (book_then e (book_of past)).issued ≡ edit_makes issues_then e a (book_of past).issued
+issued_then network past (event.Edit e) a h = issued_after past e a h
+issued_then network past other a h = refl
 
 pub issued_told : (settings : Settings) (past : Past) → Legal settings past → (book_of past).issued ≡ issued_by past
 issued_told settings (From base) legal = refl
 issued_told settings (After e before) legal =
-    issued_then before e.event e.answer (verdict_answered settings before e.event e.answer legal.0) ∙ ap (edit_makes issues_then e.event e.answer) (issued_told settings before legal.1)
+    issued_then settings.network before e.event e.answer (verdict_answered settings before e.event e.answer legal.0) ∙ ap (edit_makes issues_then e.event e.answer) (issued_told settings before legal.1)
 
 -- The numbers of the warnings.
 
@@ -267,11 +266,11 @@ numbers_after past (edit.Stop m) a h = numbers_edited m stopped (λ w. refl) (wa
 numbers_after past (edit.Forget m) a h = numbers_without m (warnings_of past)
 numbers_after past other a h = refl
 
-numbered_then : (past : Past) (e : Event) (a : Answer) → answered past e ≡ Ok a → numbers (book_then e (book_of past)).warnings ≡ edit_makes numbers_then e a (numbers (warnings_of past))
-numbered_then past (event.Edit e) a h = numbers_after past e a h
-numbered_then past other a h = refl
+numbered_then : (network : List ℕ) (past : Past) (e : Event) (a : Answer) → answered network past e ≡ Ok a → numbers (book_then e (book_of past)).warnings ≡ edit_makes numbers_then e a (numbers (warnings_of past))
+numbered_then network past (event.Edit e) a h = numbers_after past e a h
+numbered_then network past other a h = refl
 
 pub numbers_told : (settings : Settings) (past : Past) → Legal settings past → numbers (warnings_of past) ≡ numbers_by past
 numbers_told settings (From base) legal = refl
 numbers_told settings (After e before) legal =
-    numbered_then before e.event e.answer (verdict_answered settings before e.event e.answer legal.0) ∙ ap (edit_makes numbers_then e.event e.answer) (numbers_told settings before legal.1)
+    numbered_then settings.network before e.event e.answer (verdict_answered settings before e.event e.answer legal.0) ∙ ap (edit_makes numbers_then e.event e.answer) (numbers_told settings before legal.1)

@@ -1,5 +1,5 @@
 -- At most one warning of a legal past's book has a key.
-use Rattle.std.proofs.Common.{◌≡◌, ℕ, ◌+◌, ◌≤◌, Bool, true, false, ◌&&◌, ◌||◌, not, nat_eq, nat_le, List, [], ◌∷◌, Option, Some, None, Ok, refl, sym, ◌∙◌, ap, map, length, eqb-true, eq-eqb, arith}
+use Rattle.std.proofs.Common.{◌≡◌, ℕ, ◌+◌, ◌≤◌, Bool, true, false, ◌&&◌, ◌||◌, not, nat_eq, nat_le, List, [], ◌∷◌, Option, Some, None, Ok, refl, sym, ◌∙◌, ap, map, eqb-true, eq-eqb, arith}
 use Rattle.std.specs.List.{list_any, list_all}
 use Rattle.std.proofs.lemmas.Bool.{and_parts, and_from, or_parts, not-true}
 use Rattle.std.specs.Option.{option_map}
@@ -20,11 +20,11 @@ use Rattle.centre_core.proofs.AnyLemmas.{any_implies}
 use Rattle.centre_core.proofs.CheckLemmas.{unless_ok}
 
 -- what is accepted was not refused because the journal is full
-pub verdict_answered : (settings : Settings) (past : Past) (e : Event) (a : Answer) → verdict settings past e ≡ Ok a → answered past e ≡ Ok a
-verdict_answered settings past e a h = unless_ok ((nat_le settings.limit (entry_count past), refusal.JournalFull) ∷ []) (answered past e) a h
+pub verdict_answered : (settings : Settings) (past : Past) (e : Event) (a : Answer) → verdict settings past e ≡ Ok a → answered settings.network past e ≡ Ok a
+verdict_answered settings past e a h = unless_ok ((nat_le settings.limit (entry_count past), refusal.JournalFull) ∷ []) (answered settings.network past e) a h
 
 -- the count of what no element passes
-count_none : {X : Type 0} (p : X → Bool) (xs : List X) → list_any p xs ≡ false → count_of p xs ≡ 0
+pub count_none : {X : Type 0} (p : X → Bool) (xs : List X) → list_any p xs ≡ false → count_of p xs ≡ 0
 count_none p [] h = refl
 count_none p (x ∷ xs) h = step (count_none p xs) (p x) refl h
   where
@@ -33,7 +33,7 @@ count_none p (x ∷ xs) h = step (count_none p xs) (p x) refl h
     step rest false e g = let none : count_of p xs ≡ 0 = rest g in let here : one (p x) ≡ 0 = rw e refl in omega arith
 
 -- what no element passes where the count is 0
-any_none : {X : Type 0} (p : X → Bool) (xs : List X) → count_of p xs ≡ 0 → list_any p xs ≡ false
+pub any_none : {X : Type 0} (p : X → Bool) (xs : List X) → count_of p xs ≡ 0 → list_any p xs ≡ false
 any_none p [] h = refl
 any_none p (x ∷ xs) h = step (any_none p xs) (p x) refl h
   where
@@ -41,26 +41,30 @@ any_none p (x ∷ xs) h = step (any_none p xs) (p x) refl h
     step rest true e g = absurd (omega arith)
     step rest false e g = rw e (rest (omega arith))
 
--- a version of the serial number has the code that all versions share
-version_code : (o : Option ℕ) (s : ℕ) (vs : List Version) → list_all (shares_code o) vs ≡ true → list_any (is_version s) vs ≡ true → is_same_code (option_map code_of o) (Some (code_of s)) ≡ true
-version_code o s [] h g = cc
-version_code o s (v ∷ vs) h g = step (version_code o s vs) (and_parts (shares_code o v) (list_all (shares_code o) vs) h) (nat_eq v.serial s) refl g
+-- a version whose serial number passes has the code that all versions share
+version_code : (o : Option ℕ) (p : ℕ → Bool) (code : ℕ) → ((s : ℕ) → p s ≡ true → code_of s ≡ code) → (vs : List Version) → list_all (shares_code o) vs ≡ true → list_any (λ (v : Version). p v.serial) vs ≡ true → is_same_code (option_map code_of o) (Some code) ≡ true
+version_code o p code coded [] h g = cc
+version_code o p code coded (v ∷ vs) h g = step (version_code o p code coded vs) (and_parts (shares_code o v) (list_all (shares_code o) vs) h) (p v.serial) refl g
   where
-    shared : (k : Option ℕ) → shares_code k v ≡ true → v.serial ≡ s → is_same_code (option_map code_of k) (Some (code_of s)) ≡ true
+    shared : (k : Option ℕ) → shares_code k v ≡ true → p v.serial ≡ true → is_same_code (option_map code_of k) (Some code) ≡ true
     shared None e f = cc
     shared (Some k) e f =
         let parts = and_parts (nat_eq (scope_part v.serial) (scope_part k)) (nat_eq (code_of v.serial) (code_of k)) e in
-        eq-eqb (code_of k) (code_of s) (sym (eqb-true (code_of v.serial) (code_of k) parts.1) ∙ ap code_of f)
+        eq-eqb (code_of k) code (sym (eqb-true (code_of v.serial) (code_of k) parts.1) ∙ coded v.serial f)
 
-    step : (list_all (shares_code o) vs ≡ true → list_any (is_version s) vs ≡ true → is_same_code (option_map code_of o) (Some (code_of s)) ≡ true) → (shares_code o v ≡ true) × (list_all (shares_code o) vs ≡ true) → (t : Bool) → nat_eq v.serial s ≡ t → (t || list_any (is_version s) vs) ≡ true → is_same_code (option_map code_of o) (Some (code_of s)) ≡ true
-    step rest parts true e f = shared o parts.0 (eqb-true v.serial s e)
+    step : (list_all (shares_code o) vs ≡ true → list_any (λ (u : Version). p u.serial) vs ≡ true → is_same_code (option_map code_of o) (Some code) ≡ true) → (shares_code o v ≡ true) × (list_all (shares_code o) vs ≡ true) → (t : Bool) → p v.serial ≡ t → (t || list_any (λ (u : Version). p u.serial) vs) ≡ true → is_same_code (option_map code_of o) (Some code) ≡ true
+    step rest parts true e f = shared o parts.0 e
     step rest parts false e f = rest parts.1 f
+
+-- so has a warning one of whose versions passes
+pub code_among : (w : Warning) (p : ℕ → Bool) (code : ℕ) → has_one_code w ≡ true → ((s : ℕ) → p s ≡ true → code_of s ≡ code) → list_any (λ (v : Version). p v.serial) w.versions ≡ true → is_same_code (code_in w) (Some code) ≡ true
+code_among w p code shared coded h = version_code (current_of w) p code coded w.versions shared h
 
 -- a warning with the key has the key's code
 key_code : (m s : ℕ) (w : Warning) → has_one_code w ≡ true → has_key m s w ≡ true → is_same_key (key_of w) (m, Some (code_of s)) ≡ true
 key_code m s w shared h =
     let parts = and_parts (nat_eq w.message_id m) (list_any (is_version s) w.versions) h in
-    and_from (nat_eq w.message_id m) (is_same_code (code_in w) (Some (code_of s))) parts.0 (version_code (current_of w) s w.versions shared parts.1)
+    and_from (nat_eq w.message_id m) (is_same_code (code_in w) (Some (code_of s))) parts.0 (code_among w (λ t. nat_eq t s) (code_of s) shared (λ t e. ap code_of (eqb-true t s e)) parts.1)
 
 same_code : (o : Option ℕ) (c : ℕ) → is_same_code o (Some c) ≡ true → o ≡ Some c
 same_code None c h = cc
@@ -75,34 +79,42 @@ keys_meet j k m c h g =
     let one_code : is_same_code j.1 k.1 ≡ true = rw (same_code j.1 c first.1, same_code k.1 c second.1) (eq-eqb c c refl) in
     and_from (nat_eq j.0 k.0) (is_same_code j.1 k.1) one_id one_code
 
--- where no other warning has the code, none has the key
-no_other : (m s : ℕ) (j : ℕ × Option ℕ) (ws : List Warning) → list_all has_one_code ws ≡ true → is_same_key j (m, Some (code_of s)) ≡ true → list_any (is_same_key j) (map key_of ws) ≡ false → list_any (has_key m s) ws ≡ false
-no_other m s j [] shared h g = refl
-no_other m s j (w ∷ ws) shared h g =
+-- a warning that passes has the message identifier and the code
+abbrev AreOfCode : (Warning → Bool) → ℕ → ℕ → Type 0
+AreOfCode p m code = (w : Warning) → has_one_code w ≡ true → p w ≡ true → is_same_key (key_of w) (m, Some code) ≡ true
+
+-- where no other warning has the code, none passes
+no_other : (p : Warning → Bool) (m code : ℕ) → AreOfCode p m code → (j : ℕ × Option ℕ) (ws : List Warning) → list_all has_one_code ws ≡ true → is_same_key j (m, Some code) ≡ true → list_any (is_same_key j) (map key_of ws) ≡ false → list_any p ws ≡ false
+no_other p m code coded j [] shared h g = refl
+no_other p m code coded j (w ∷ ws) shared h g =
     let whole = and_parts (has_one_code w) (list_all has_one_code ws) shared in
     let parts = or_parts (is_same_key j (key_of w)) (list_any (is_same_key j) (map key_of ws)) g in
-    step (has_key m s w) refl whole.0 parts.0 (no_other m s j ws whole.1 h parts.1)
+    step (p w) refl whole.0 parts.0 (no_other p m code coded j ws whole.1 h parts.1)
   where
-    step : (t : Bool) → has_key m s w ≡ t → has_one_code w ≡ true → is_same_key j (key_of w) ≡ false → list_any (has_key m s) ws ≡ false → (t || list_any (has_key m s) ws) ≡ false
-    step true e whole differs rest = let meets : is_same_key j (key_of w) ≡ true = keys_meet j (key_of w) m (code_of s) h (key_code m s w whole e) in cc
+    step : (t : Bool) → p w ≡ t → has_one_code w ≡ true → is_same_key j (key_of w) ≡ false → list_any p ws ≡ false → (t || list_any p ws) ≡ false
+    step true e whole differs rest = let meets : is_same_key j (key_of w) ≡ true = keys_meet j (key_of w) m code h (coded w whole e) in cc
     step false e whole differs rest = rest
 
-unique_in : (m s : ℕ) (ws : List Warning) → list_all has_one_code ws ≡ true → have_own_codes ws ≡ true → count_of (has_key m s) ws ≤ 1
-unique_in m s [] shared codes = omega arith
-unique_in m s (w ∷ ws) shared codes =
+unique_in : (p : Warning → Bool) (m code : ℕ) → AreOfCode p m code → (ws : List Warning) → list_all has_one_code ws ≡ true → have_own_codes ws ≡ true → count_of p ws ≤ 1
+unique_in p m code coded [] shared codes = omega arith
+unique_in p m code coded (w ∷ ws) shared codes =
     let whole = and_parts (has_one_code w) (list_all has_one_code ws) shared in
     let parts = and_parts (not (list_any (is_same_key (key_of w)) (map key_of ws))) (have_own_codes ws) codes in
-    step (has_key m s w) refl whole.0 whole.1 (not-true (list_any (is_same_key (key_of w)) (map key_of ws)) parts.0) (unique_in m s ws whole.1 parts.1)
+    step (p w) refl whole.0 whole.1 (not-true (list_any (is_same_key (key_of w)) (map key_of ws)) parts.0) (unique_in p m code coded ws whole.1 parts.1)
   where
-    step : (t : Bool) → has_key m s w ≡ t → has_one_code w ≡ true → list_all has_one_code ws ≡ true → list_any (is_same_key (key_of w)) (map key_of ws) ≡ false → count_of (has_key m s) ws ≤ 1 → one t + count_of (has_key m s) ws ≤ 1
+    step : (t : Bool) → p w ≡ t → has_one_code w ≡ true → list_all has_one_code ws ≡ true → list_any (is_same_key (key_of w)) (map key_of ws) ≡ false → count_of p ws ≤ 1 → one t + count_of p ws ≤ 1
     step true e own rest alone bound =
-        let none : count_of (has_key m s) ws ≡ 0 = count_none (has_key m s) ws (no_other m s (key_of w) ws rest (key_code m s w own e) alone) in
+        let none : count_of p ws ≡ 0 = count_none p ws (no_other p m code coded (key_of w) ws rest (coded w own e) alone) in
         omega arith
     step false e own rest alone bound = omega arith
 
--- at most one warning of a sound book has a key
+-- at most one warning of a sound book passes what one of a message identifier and a code alone can pass
+pub unique_by : (p : Warning → Bool) (m code : ℕ) → ((w : Warning) → has_one_code w ≡ true → p w ≡ true → is_same_key (key_of w) (m, Some code) ≡ true) → (st : State) → IsSound st → count_of p st.warnings ≤ 1
+unique_by p m code coded st sound = unique_in p m code coded st.warnings sound.codes sound.own_codes
+
+-- at most one has a key
 pub unique : (st : State) → IsSound st → (m s : ℕ) → count_of (has_key m s) st.warnings ≤ 1
-unique st sound m s = unique_in m s st.warnings sound.codes sound.own_codes
+unique st sound m s = unique_by (has_key m s) m (code_of s) (key_code m s) st sound
 
 not_implied : {X : Type 0} (p q : X → Bool) → ((x : X) → p x ≡ true → q x ≡ true) → (x : X) → q x ≡ false → p x ≡ false
 not_implied p q e x h = step (p x) refl

@@ -1,5 +1,5 @@
 -- The book of a legal past is sound, and what the book refuses is what an event is refused.
-use Rattle.std.proofs.Common.{◌≡◌, ◌⊎◌, inl, inr, arith, ℕ, ◌+◌, ◌<◌, Bool, true, false, ◌&&◌, ◌||◌, not, List, [], ◌∷◌, Option, Some, None, Ok, Err, nat_eq, length, cond, refl, sym, ◌∙◌, ap, subst}
+use Rattle.std.proofs.Common.{◌≡◌, ◌⊎◌, arith, ℕ, ◌+◌, ◌<◌, Bool, true, false, ◌&&◌, ◌||◌, not, List, [], ◌∷◌, Option, Some, None, Ok, Err, nat_eq, length, cond, refl, sym, ◌∙◌, ap, eqb-true, subst}
 use Rattle.std.specs.Prelude.{IfSome, IsOk, find}
 use Rattle.std.specs.List.{list_any, list_all}
 use Rattle.std.specs.Option.{option_map, option_and_then}
@@ -34,13 +34,14 @@ use Rattle.centre_core.specs.Verdict.{unless, answered, edit_answered, by_book, 
 use Rattle.centre_core.specs.Warnings.{book_of, book_after, book_then, with_issue}
 use Rattle.centre_core.specs.declared.answer.Answer.{Answer}
 use Rattle.centre_core.specs.declared.answer.Answer.TheVariants as answer
-use Rattle.centre_core.specs.declared.coverage_plan.edit.Edit.{Edit}
-use Rattle.centre_core.specs.declared.coverage_plan.edit.Edit.TheVariants as edit
+use Rattle.coverage_plan.specs.declared.edit.Edit.{Edit}
+use Rattle.coverage_plan.specs.declared.edit.Edit.TheVariants as edit
 use Rattle.centre_core.specs.declared.event.Event.{Event}
 use Rattle.centre_core.specs.declared.event.Event.TheVariants as event
 use Rattle.centre_core.specs.declared.refusal.Refusal.{Refusal}
 use Rattle.centre_core.specs.declared.refusal.Refusal.TheVariants as refusal
-use Rattle.centre_core.proofs.CheckLemmas.{taken, refused, refused_first, passed, none_left, one_left, given, ok_after, none_held, past_check, past_given, past_ok, checked_after}
+use Rattle.centre_core.proofs.CheckLemmas.{taken, refused, refused_first, passed, given, ok_after, none_held, past_check, past_given, past_ok, checked_after}
+use Rattle.centre_core.proofs.FoundLemmas.{found_number}
 use Rattle.centre_core.proofs.UniqueLemmas.{verdict_answered}
 
 -- What the book refuses.
@@ -194,7 +195,7 @@ forget_missing past st n is h =
     rw none refl
 
 -- what the book does not refuse is refused by what is kept of the warning
-forget_found : (past : Past) (st : State) (n : ℕ) (w : Warning) → st ≡ book_of past → is_ascending number_lt st.warnings ≡ true → warning_of st n ≡ Some w → first_refusal (book.forget_checks st n) ≡ None → forget past n ≡ unless (idle_checks past w) (Ok answer.Done)
+pub forget_found : (past : Past) (st : State) (n : ℕ) (w : Warning) → st ≡ book_of past → is_ascending number_lt st.warnings ≡ true → warning_of st n ≡ Some w → first_refusal (book.forget_checks st n) ≡ None → forget past n ≡ unless (idle_checks past w) (Ok answer.Done)
 forget_found past st n w is ordered h checked =
     let order : is_ascending number_lt (book_of past).warnings ≡ true = rw (← is) ordered in
     let found : find (has_number n) (book_of past).warnings ≡ Some w = rw (← is) h in
@@ -202,14 +203,17 @@ forget_found past st n w is ordered h checked =
     let flying : is_so n (is_in_flight past) (book_of past).warnings ≡ is_in_flight past w = found_so n (is_in_flight past) (book_of past).warnings w order found in
     passed of_book (book.forget_checks (book_of past) n) (kept_checks past n) (Ok answer.Done) (rw (← is) checked) ∙ (rw (reported, flying) refl)
 
-pub forget_free : (past : Past) (st : State) (n : ℕ) (w : Warning) → st ≡ book_of past → is_ascending number_lt st.warnings ≡ true → warning_of st n ≡ Some w → first_refusal (book.forget_checks st n) ≡ None → first_refusal (idle_checks past w) ≡ None → IsOk (forget past n)
-forget_free past st n w is ordered h checked idle =
-    subst IsOk (sym (forget_found past st n w is ordered h checked ∙ none_left (idle_checks past w) (Ok answer.Done) idle)) refl
+-- a warning that the book does not refuse to forget is not active
+pub forget_inactive : (st : State) (n : ℕ) (w : Warning) → warning_of st n ≡ Some w → first_refusal (book.forget_checks st n) ≡ None → w.active ≡ false
+forget_inactive st n w h checked =
+    let none : NoneHolds (book.forget_checks st n) = none_holds (book.forget_checks st n) checked in
+    found_not n (λ v. v.active) st.warnings w h none.1.0
 
--- the refusal of a warning that is there
-pub forget_first : (past : Past) (st : State) (n : ℕ) (w : Warning) (e : Refusal) → st ≡ book_of past → is_ascending number_lt st.warnings ≡ true → warning_of st n ≡ Some w → first_refusal (book.forget_checks st n) ≡ None → (e ≡ refusal.Memory) ⊎ (first_refusal (idle_checks past w) ≡ Some e) → ((e ≡ refusal.Memory) × (first_refusal (book.forget_checks (book_of past) n) ≡ None)) ⊎ (forget past n ≡ Err e)
-forget_first past st n w e is ordered h checked (inl memory) = inl (memory, rw (← is) checked)
-forget_first past st n w e is ordered h checked (inr first) = inr (forget_found past st n w is ordered h checked ∙ one_left (idle_checks past w) (Ok answer.Done) e first)
+-- a warning that is found is found by its own number
+pub found_itself : (past : Past) (st : State) (n : ℕ) (w : Warning) → st ≡ book_of past → warning_of st n ≡ Some w → warning_of (book_of past) w.number ≡ Some w
+found_itself past st n w is h =
+    let same : w.number ≡ n = eqb-true w.number n (found_number n st.warnings w h) in
+    ap (warning_of (book_of past)) same ∙ ap (λ k. warning_of k n) (sym is) ∙ h
 
 -- What holds of the book of a legal past.
 
@@ -236,9 +240,9 @@ sound_after past (edit.Stop n) a h sound = sound_after_stop (book_of past) n sou
 sound_after past (edit.Forget n) a h sound = sound_after_forget (book_of past) n sound
 sound_after past other a h sound = sound
 
-sound_then : (past : Past) (e : Event) (a : Answer) → answered past e ≡ Ok a → IsCounted (book_of past) → IsCounted (book_then e (book_of past))
-sound_then past (event.Edit e) a h sound = sound_after past e a h sound
-sound_then past other a h sound = sound
+sound_then : (network : List ℕ) (past : Past) (e : Event) (a : Answer) → answered network past e ≡ Ok a → IsCounted (book_of past) → IsCounted (book_then e (book_of past))
+sound_then network past (event.Edit e) a h sound = sound_after past e a h sound
+sound_then network past other a h sound = sound
 
 -- the empty book is sound
 counted_empty : IsCounted empty
@@ -247,9 +251,9 @@ counted_empty = record {
   counted = refl;
 }
 
-legal_counted : (settings : Settings) (past : Past) → Legal settings past → IsCounted (book_of past)
+pub legal_counted : (settings : Settings) (past : Past) → Legal settings past → IsCounted (book_of past)
 legal_counted settings (From base) legal = subst (λ (k : Base). IsCounted k.book) (sym legal) counted_empty
-legal_counted settings (After e before) legal = sound_then before e.event e.answer (verdict_answered settings before e.event e.answer legal.0) (legal_counted settings before legal.1)
+legal_counted settings (After e before) legal = sound_then settings.network before e.event e.answer (verdict_answered settings before e.event e.answer legal.0) (legal_counted settings before legal.1)
 
 -- the book of a legal past is sound
 pub legal_sound : (settings : Settings) (past : Past) → Legal settings past → IsSound (book_of past)

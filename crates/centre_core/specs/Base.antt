@@ -5,9 +5,10 @@ use Rattle.std.specs.Prelude.{ℕ, Bool, false, List, [], Option, None}
 use Rattle.areas.specs.declared.selector.Selector.{Selector}
 use Rattle.common.specs.declared.cell.Cell.{Cell}
 use Rattle.warning_book.specs.Book as book
-use Rattle.centre_core.specs.declared.mirror.presence.Presence.{Presence}
-use Rattle.centre_core.specs.declared.mirror.presence.Presence.TheVariants.{Absent}
-use Rattle.centre_core.specs.declared.order_maker.in_flight.InFlight.{InFlight}
+use Rattle.mirror.specs.declared.presence.Presence.{Presence}
+use Rattle.mirror.specs.declared.presence.Presence.TheVariants.{Absent}
+use Rattle.cbsp_ie.specs.declared.cause.Cause.{Cause}
+use Rattle.centre_core.specs.declared.in_flight.InFlight.{InFlight}
 
 -- how many entries were folded; the BSCs, their links and what is in flight to each; the cells and where they are
 -- registered; the areas and their selectors; the warnings; and what the BSCs have reported
@@ -26,6 +27,9 @@ pub record Base : Type 0 where
   pub has_selector : List ℕ → Selector → Bool
   pub book : book.State
   pub presence : ℕ → Cell → ℕ → ℕ → Presence
+  pub hold : ℕ → Cell → ℕ → ℕ → Option Cause
+  pub count : ℕ → Cell → ℕ → ℕ → ℕ
+  pub is_down : ℕ → Cell → Bool
 
 -- the base of a centre that has folded nothing: nothing is registered, nothing is on air
 abbrev pub empty_base : Base
@@ -44,4 +48,7 @@ empty_base = record {
   has_selector = λ a s. false;
   book = book.empty;
   presence = λ b c m s. Absent;
+  hold = λ b c m s. None;
+  count = λ b c m s. 0;
+  is_down = λ b c. false;
 }

@@ -11,15 +11,15 @@ use Rattle.common.specs.Sums.{sum_of}
 use Rattle.common.specs.declared.cell.Cell.{Cell}
 use Rattle.warning_book.specs.declared.warning.Warning.{Warning}
 use Rattle.centre_core.specs.Effects.{is_among}
-use Rattle.centre_core.specs.Grouping.{in_order, grouped}
-use Rattle.centre_core.specs.Numbers.{number_at, number}
+use Rattle.order_maker.specs.Grouping.{in_order, grouped}
+use Rattle.centre_core.specs.Numbers.{number_at, number, broadcasts_at, broadcasts}
 use Rattle.centre_core.specs.Past.{Past}
 use Rattle.centre_core.specs.Pending.{actions_over, pending}
 use Rattle.centre_core.specs.Places.{place, cells}
 use Rattle.centre_core.specs.Presence.{presence}
 use Rattle.centre_core.specs.Table.{key_lt, keys_over, table}
-use Rattle.centre_core.specs.declared.coverage_board.way.Way.{Way}
-use Rattle.centre_core.specs.declared.mirror.presence.Presence.TheVariants.{Absent}
+use Rattle.coverage_board.specs.declared.way.Way.{Way}
+use Rattle.mirror.specs.declared.presence.Presence.TheVariants.{Absent}
 
 -- the cell is registered nowhere, and nothing is on air there
 pub record IsAtBeginning (past : Past) (c : Cell) : Type 0 where
@@ -34,6 +34,7 @@ pub record AreTheCells (past : Past) (cs : List Cell) : Type 0 where
 -- over these cells the numbers, the orders and the tables are what they are over all
 pub record CountsNoOther (past : Past) (cs : List Cell) : Type 0 where
   pub numbers : (w : Warning) (way : Way) (b : ℕ) → number_at past w way cs b ≡ number_at past w way (cells past) b
+  pub broadcasts : (w : Warning) (b : ℕ) → broadcasts_at past w cs b ≡ broadcasts_at past w (cells past) b
   pub orders : (b : ℕ) → grouped (in_order (actions_over past b cs)) ≡ pending past b
   pub tables : (b : ℕ) → sorted_by key_lt (keys_over past b cs) ≡ table past b
 
@@ -51,5 +52,6 @@ pub record AreTheBscs (past : Past) (bs : List ℕ) : Type 0 where
 -- reported
 pub record CountsNoOtherBsc (past : Past) (bs : List ℕ) : Type 0 where
   pub numbers : (w : Warning) (way : Way) → sum_of (number_at past w way (cells past)) bs ≡ number past w way
+  pub broadcasts : (w : Warning) → sum_of (broadcasts_at past w (cells past)) bs ≡ broadcasts past w
   pub orders : (b : ℕ) → list_any (nat_eq b) bs ≡ false → pending past b ≡ []
   pub tables : (b : ℕ) → list_any (nat_eq b) bs ≡ false → table past b ≡ []

@@ -1,22 +1,33 @@
--- What always holds of a centre.
-use Rattle.std.specs.Prelude.{◌≡◌, ◌≤◌, List, length}
-use Rattle.areas.specs.declared.area.Area.{Area}
-use Rattle.cell_register.specs.Register as register
-use Rattle.warning_book.specs.Book as book
-use Rattle.centre_core.specs.Kept.{IsRegisterOf, AreAreasOf, AreFlightsOf}
-use Rattle.centre_core.specs.Legal.{Legal}
+-- What always holds of a centre, and what comes of an event that it is given.
+use Rattle.std.specs.Prelude.{◌≡◌, ◌⊎◌, ◌≤◌, Bool, true, false, List, length, Err}
+use Rattle.centre_core.specs.IsKept.{IsKept}
+use Rattle.centre_core.specs.Kept.{MayStarve}
+use Rattle.centre_core.specs.Legal.{Legal, Known}
 use Rattle.centre_core.specs.Past.{past_of}
 use Rattle.centre_core.specs.Settings.{Settings}
-use Rattle.centre_core.specs.Warnings.{book_of}
+use Rattle.centre_core.specs.Verdict.{verdict}
 use Rattle.centre_core.specs.declared.entry.Entry.{Entry}
-use Rattle.centre_core.specs.declared.flight.Flight.{Flight}
+use Rattle.centre_core.specs.declared.event.Event.{Event}
+use Rattle.centre_core.specs.declared.kept.Kept.{Kept}
+use Rattle.centre_core.specs.declared.refusal.Refusal.{Refusal}
+use Rattle.centre_core.specs.declared.refusal.Refusal.TheVariants.{Stale, Memory}
 
--- the journal has no more entries than it may, it is legal, and what is kept beside it is tied to it
-pub record IsCentre (settings : Settings) (journal : List Entry) (bscs : register.State) (areas : List Area) (warnings : book.State) (flights : List Flight) : Type 0 where
+-- the journal has no more entries than it may, it is legal, and what is kept beside it is what it says, unless the centre
+-- is stale
+pub record IsCentre (settings : Settings) (journal : List Entry) (stale : Bool) (kept : Kept) : Type 0 where
   pub few : settings.limit ≤ 4000000
   pub long : length journal ≤ settings.limit
   pub legal : Legal settings (past_of journal)
-  pub registered : IsRegisterOf (past_of journal) bscs
-  pub selected : AreAreasOf (past_of journal) areas
-  pub booked : warnings ≡ book_of (past_of journal)
-  pub flying : AreFlightsOf (past_of journal) flights
+  pub whole : stale ≡ false → IsKept (past_of journal) kept
+
+-- why an event is refused in a whole centre: memory is wanting where it may be, or the verdict is that refusal
+abbrev pub IsRefused : Settings → List Entry → Event → Refusal → Type 0
+IsRefused settings journal e r = ((r ≡ Memory) × MayStarve settings (past_of journal) e) ⊎ (verdict settings (past_of journal) e ≡ Err r)
+
+-- why a centre refuses an event: it is stale, or it is whole and the event is refused
+abbrev pub Refuses : Known → Event → Refusal → Type 0
+Refuses centre e r = ((r ≡ Stale) × (centre.stale ≡ true)) ⊎ ((centre.stale ≡ false) × IsRefused centre.settings centre.journal e r)
+
+-- what a refusal leaves of a centre: it is as it was, or memory was wanting and it is stale
+abbrev pub Leaves : Known → Refusal → Known → Type 0
+Leaves old r new = (new ≡ old) ⊎ ((r ≡ Memory) × (new ≡ record old { stale = true }))

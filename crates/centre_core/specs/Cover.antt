@@ -7,8 +7,8 @@ use Rattle.common.specs.Sums.{count_of}
 use Rattle.areas.specs.Selector.{selector_eq}
 use Rattle.areas.specs.declared.selector.Selector.{Selector}
 use Rattle.areas.specs.declared.selector.Selector.TheVariants as selector
-use Rattle.centre_core.specs.declared.coverage_plan.edit.Edit.{Edit}
-use Rattle.centre_core.specs.declared.coverage_plan.edit.Edit.TheVariants.{AddArea, DropArea, Put, Cut}
+use Rattle.coverage_plan.specs.declared.edit.Edit.{Edit}
+use Rattle.coverage_plan.specs.declared.edit.Edit.TheVariants.{AddArea, DropArea, Put, Cut}
 
 -- whether the edit makes the area, or drops it
 abbrev pub area_mark : List ℕ → Edit → Option Bool

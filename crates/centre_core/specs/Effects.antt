@@ -1,19 +1,25 @@
 -- What an event does to one key: what an order in flight comes to there, by what its BSC said of the cell (TS 48.049,
 -- 8.1.3, with the causes of 8.2.13).
-use Rattle.std.specs.Prelude.{ℕ, Bool, false, ◌&&◌, ◌||◌, List, Option, Some, None, find, nat_eq, if◌then◌else◌}
+use Rattle.std.specs.Prelude.{ℕ, Bool, false, ◌&&◌, ◌||◌, List, Option, Some, None, find, nat_eq, unwrap_or, if◌then◌else◌}
 use Rattle.std.specs.List.{list_any}
 use Rattle.std.specs.Option.{option_map}
+use Rattle.cbsp_ie.specs.declared.cause.Cause.{Cause}
+use Rattle.cbsp_messages.specs.declared.message.Message.{Message}
+use Rattle.cbsp_messages.specs.declared.message.Message.TheVariants.{Restart}
 use Rattle.common.specs.Cell.{cell_eq}
 use Rattle.common.specs.declared.cell.Cell.{Cell}
 use Rattle.centre_core.specs.declared.answer.Answer.{Answer}
-use Rattle.centre_core.specs.declared.answer.Answer.TheVariants.{Replied}
-use Rattle.centre_core.specs.declared.mirror.presence.Presence.{Presence}
-use Rattle.centre_core.specs.declared.mirror.presence.Presence.TheVariants.{Absent, OnAir, Unknown}
-use Rattle.centre_core.specs.declared.order_maker.in_flight.InFlight.{InFlight}
-use Rattle.centre_core.specs.declared.order_maker.in_flight.InFlight.TheVariants as flight
-use Rattle.centre_core.specs.declared.order_maker.order.Order.{Order}
-use Rattle.centre_core.specs.declared.order_maker.order_kind.OrderKind.{OrderKind}
-use Rattle.centre_core.specs.declared.order_maker.order_kind.OrderKind.TheVariants.{Write, Replace, Kill}
+use Rattle.centre_core.specs.declared.answer.Answer.TheVariants.{Replied, Listed}
+use Rattle.centre_core.specs.declared.effect.Effect.{Effect}
+use Rattle.centre_core.specs.declared.effect.Effect.TheVariants.{Sets, Holds, Frees, Leaves}
+use Rattle.mirror.specs.declared.key_state.KeyState.{KeyState}
+use Rattle.mirror.specs.declared.presence.Presence.{Presence}
+use Rattle.mirror.specs.declared.presence.Presence.TheVariants.{Absent, OnAir, Unknown}
+use Rattle.centre_core.specs.declared.in_flight.InFlight.{InFlight}
+use Rattle.centre_core.specs.declared.in_flight.InFlight.TheVariants as flight
+use Rattle.order_maker.specs.declared.order.Order.{Order}
+use Rattle.order_maker.specs.declared.order_kind.OrderKind.{OrderKind}
+use Rattle.order_maker.specs.declared.order_kind.OrderKind.TheVariants.{Write, Replace, Kill}
 use Rattle.centre_core.specs.declared.outcome.Outcome.{Outcome}
 use Rattle.centre_core.specs.declared.outcome.Outcome.TheVariants.{Done, Refused, Silent}
 use Rattle.centre_core.specs.declared.reply.Reply.{Reply}
@@ -22,43 +28,36 @@ use Rattle.centre_core.specs.declared.reply.Reply.{Reply}
 abbrev pub is_among : Cell → List Cell → Bool
 is_among c cs = list_any (cell_eq c) cs
 
--- what an entry does to a key: it sets its presence, holds it with a cause, frees it of its hold, or leaves it
-pub data Effect : Type 0 where
-  Sets : Presence → Effect
-  Holds : ℕ → Effect
-  Frees : Effect
-  Leaves : Effect
-
 -- a write that was refused: cause 13 says that the message is on air already
-abbrev pub write_refused : ℕ → Effect
-write_refused cause = if nat_eq cause 13 then Sets OnAir else Holds cause
+abbrev pub write_refused : Cause → Effect
+write_refused cause = if nat_eq cause.0 13 then Sets OnAir else Holds cause
 
 -- a replace at its new key: cause 2 says that the old message is not there, and nothing of the new one
-abbrev pub replace_refused : ℕ → Effect
-replace_refused cause = if nat_eq cause 2 then Leaves else write_refused cause
+abbrev pub replace_refused : Cause → Effect
+replace_refused cause = if nat_eq cause.0 2 then Leaves else write_refused cause
 
 -- a KILL that was refused: causes 2 and 3 say that the message, or the cell, is not there
-abbrev pub kill_refused : ℕ → Effect
-kill_refused cause = if nat_eq cause 2 || nat_eq cause 3 then Sets Absent else Holds cause
+abbrev pub kill_refused : Cause → Effect
+kill_refused cause = if nat_eq cause.0 2 || nat_eq cause.0 3 then Sets Absent else Holds cause
 
 -- an order of each kind at the key of its serial number, by what became of it
 abbrev pub new_effect : OrderKind → Outcome → Effect
 new_effect Write Done = Sets OnAir
-new_effect Write (Refused cause) = write_refused cause.0
+new_effect Write (Refused cause) = write_refused cause
 new_effect (Replace old) Done = Sets OnAir
-new_effect (Replace old) (Refused cause) = replace_refused cause.0
+new_effect (Replace old) (Refused cause) = replace_refused cause
 new_effect Kill Done = Sets Absent
-new_effect Kill (Refused cause) = kill_refused cause.0
+new_effect Kill (Refused cause) = kill_refused cause
 new_effect kind Silent = Sets Unknown
 
 -- a replace that was refused, at the key that it takes off the air
-abbrev pub old_refused : ℕ → Effect
-old_refused cause = if nat_eq cause 13 then Sets Unknown else (if nat_eq cause 2 then Sets Absent else Leaves)
+abbrev pub old_refused : Cause → Effect
+old_refused cause = if nat_eq cause.0 13 then Sets Unknown else (if nat_eq cause.0 2 then Sets Absent else Leaves)
 
 -- a replace at the key that it takes off the air
 abbrev pub old_effect : Outcome → Effect
 old_effect Done = Sets Absent
-old_effect (Refused cause) = old_refused cause.0
+old_effect (Refused cause) = old_refused cause
 old_effect Silent = Sets Unknown
 
 -- a query at its key: cause 2 says that the message is not there
@@ -95,10 +94,20 @@ abbrev pub said_effect : Option Outcome → Option InFlight → Cell → ℕ →
 said_effect None f c m s = Leaves
 said_effect (Some o) f c m s = flight_effect f o c m s
 
--- a report that was answered so: a matched reply tells the outcome in each cell
-abbrev pub reply_effect : Answer → Option InFlight → Cell → ℕ → ℕ → Effect
-reply_effect (Replied replies) f c m s = said_effect (outcome_in c replies) f c m s
-reply_effect other f c m s = Leaves
+-- a RESTART in a cell that it lists: nothing is on air any more, unless its data were kept; no order is held back
+abbrev pub restart_effect : ℕ → Effect
+restart_effect recovery = if nat_eq recovery 0 then Frees else Sets Absent
+
+-- an indication at each key of a cell that it lists: a FAILURE leaves them, since the cell is down
+abbrev pub indicated_effect : Message → Effect
+indicated_effect (Restart m) = restart_effect m.recovery
+indicated_effect other = Leaves
+
+-- a report that was answered so: a matched reply tells the outcome in each cell, an indication lists its cells
+abbrev pub report_effect : Message → Answer → Option InFlight → Cell → ℕ → ℕ → Effect
+report_effect message (Replied replies) f c m s = said_effect (outcome_in c replies) f c m s
+report_effect message (Listed cells) f c m s = if is_among c cells then indicated_effect message else Leaves
+report_effect message other f c m s = Leaves
 
 -- the presence that is set, if one is
 abbrev pub presence_mark : Effect → Option Presence
@@ -106,3 +115,14 @@ presence_mark (Sets p) = Some p
 presence_mark (Holds cause) = None
 presence_mark Frees = None
 presence_mark Leaves = None
+
+-- what holds the key then, if that changes: whatever sets a presence ends a hold
+abbrev pub hold_mark : Effect → Option (Option Cause)
+hold_mark (Sets p) = Some None
+hold_mark (Holds cause) = Some (Some cause)
+hold_mark Frees = Some None
+hold_mark Leaves = None
+
+-- what is kept of the key then, where that number of broadcasts is reported, if one is
+abbrev pub state_after : Effect → Option ℕ → KeyState → KeyState
+state_after e n k = record { presence = unwrap_or (presence_mark e) k.presence; hold = unwrap_or (hold_mark e) k.hold; count = unwrap_or n k.count }

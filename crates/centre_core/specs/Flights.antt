@@ -1,14 +1,14 @@
 -- What is in flight to each BSC, after an event.
 use Rattle.std.specs.Prelude.{ℕ, Bool, false, List, [], ◌∷◌, ◌++◌, Option, Some, None, if◌then◌else◌}
-use Rattle.centre_core.specs.InFlight.{sent_flight, is_replied}
+use Rattle.centre_core.specs.InFlight.{sent_flight, asked_flight, is_replied}
 use Rattle.centre_core.specs.Kept.{without_flight}
 use Rattle.centre_core.specs.Links.{is_up}
 use Rattle.centre_core.specs.Past.{Past}
 use Rattle.centre_core.specs.declared.answer.Answer.{Answer}
 use Rattle.centre_core.specs.declared.event.Event.{Event}
-use Rattle.centre_core.specs.declared.event.Event.TheVariants.{LinkUp, LinkDown, Send, Report}
+use Rattle.centre_core.specs.declared.event.Event.TheVariants.{LinkUp, LinkDown, Send, Ask, Report}
 use Rattle.centre_core.specs.declared.flight.Flight.{Flight}
-use Rattle.centre_core.specs.declared.order_maker.in_flight.InFlight.{InFlight}
+use Rattle.centre_core.specs.declared.in_flight.InFlight.{InFlight}
 
 -- that is in flight to the BSC, in the place of what was; nothing is, where there is nothing
 abbrev pub with_flight : ℕ → Option InFlight → List Flight → List Flight
@@ -18,6 +18,7 @@ with_flight b (Some f) fs = without_flight b fs ++ record { bsc = b; in_flight =
 -- the flights after the event with that answer, where the link of its BSC was up or not
 abbrev pub flights_after : Event → Answer → Bool → List Flight → List Flight
 flights_after (Send b generation) answer up fs = with_flight b (sent_flight answer) fs
+flights_after (Ask b generation n after) answer up fs = with_flight b (asked_flight answer) fs
 flights_after (Report b generation message) answer up fs = if is_replied answer then without_flight b fs else fs
 flights_after (LinkUp b) answer up fs = if up then without_flight b fs else fs
 flights_after (LinkDown b generation) answer up fs = without_flight b fs

@@ -1,18 +1,19 @@
 -- The headline: the pending orders of each BSC, applied to what it has reported, give its part of the plan.
 use Rattle.std.specs.Prelude.{◌≡◌, ℕ, Bool, true, false, ◌&&◌, not, List, [], ◌∷◌, nat_eq, if◌then◌else◌}
 use Rattle.common.specs.declared.cell.Cell.{Cell}
+use Rattle.centre_core.specs.Down.{is_down}
 use Rattle.centre_core.specs.Effects.{is_among}
 use Rattle.centre_core.specs.InFlight.{is_kill}
 use Rattle.centre_core.specs.Past.{Past}
 use Rattle.centre_core.specs.Pending.{pending}
 use Rattle.centre_core.specs.Plan.{planned}
-use Rattle.centre_core.specs.Presence.{presence}
+use Rattle.centre_core.specs.Presence.{presence, is_held}
 use Rattle.centre_core.specs.Warnings.{is_key}
-use Rattle.centre_core.specs.declared.mirror.presence.Presence.{Presence}
-use Rattle.centre_core.specs.declared.mirror.presence.Presence.TheVariants.{Absent, OnAir}
-use Rattle.centre_core.specs.declared.order_maker.order.Order.{Order}
-use Rattle.centre_core.specs.declared.order_maker.order_kind.OrderKind.{OrderKind}
-use Rattle.centre_core.specs.declared.order_maker.order_kind.OrderKind.TheVariants.{Write, Replace, Kill}
+use Rattle.mirror.specs.declared.presence.Presence.{Presence}
+use Rattle.mirror.specs.declared.presence.Presence.TheVariants.{Absent, OnAir}
+use Rattle.order_maker.specs.declared.order.Order.{Order}
+use Rattle.order_maker.specs.declared.order_kind.OrderKind.{OrderKind}
+use Rattle.order_maker.specs.declared.order_kind.OrderKind.TheVariants.{Write, Replace, Kill}
 
 -- the order is of that message identifier and names the cell
 abbrev pub names_cell : Order → Cell → ℕ → Bool
@@ -46,6 +47,7 @@ abbrev pub Agrees : Presence → Bool → Type 0
 Agrees p true = p ≡ OnAir
 Agrees p false = p ≡ Absent
 
--- the pending orders of each BSC, applied to what it has reported, give its part of the plan at each key of the book
+-- the pending orders of each BSC, applied to what it has reported, give its part of the plan at each key of the book whose
+-- cell is up there and that nothing holds back
 pub record PendingGivesPlan (past : Past) : Type 0 where
-  pub each : (b : ℕ) (c : Cell) (m s : ℕ) → is_key past m s ≡ true → Agrees (applied (pending past b) c m s (presence past b c m s)) (planned past b c m s)
+  pub each : (b : ℕ) (c : Cell) (m s : ℕ) → is_key past m s ≡ true → is_down past b c ≡ false → is_held past b c m s ≡ false → Agrees (applied (pending past b) c m s (presence past b c m s)) (planned past b c m s)

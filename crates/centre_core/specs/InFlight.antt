@@ -1,21 +1,18 @@
 -- What is in flight to a BSC, an order or a query, and the replies that match it.
-use Rattle.std.specs.Prelude.{ℕ, Bool, true, false, ◌&&◌, not, List, Option, Some, None, nat_eq, map, if◌then◌else◌}
+use Rattle.std.specs.Prelude.{ℕ, Bool, true, false, ◌&&◌, not, List, Option, Some, None, nat_eq, if◌then◌else◌}
 use Rattle.common.specs.declared.cell.Cell.{Cell}
 use Rattle.cbsp_messages.specs.declared.message.Message.{Message}
-use Rattle.cbsp_messages.specs.declared.message.Message.TheVariants.{WriteComplete, KillComplete}
+use Rattle.cbsp_messages.specs.declared.message.Message.TheVariants.{WriteComplete, WriteFailure, KillComplete, KillFailure, StatusComplete, StatusFailure, ErrorIndication}
 use Rattle.centre_core.specs.Past.{Past, latest}
 use Rattle.centre_core.specs.Links.{is_up}
 use Rattle.centre_core.specs.declared.answer.Answer.{Answer}
-use Rattle.centre_core.specs.declared.answer.Answer.TheVariants.{Sent, Replied}
+use Rattle.centre_core.specs.declared.answer.Answer.TheVariants.{Sent, Asked, Replied}
 use Rattle.centre_core.specs.declared.event.Event.{Event}
-use Rattle.centre_core.specs.declared.event.Event.TheVariants.{LinkUp, LinkDown, Send, Report}
-use Rattle.centre_core.specs.declared.order_maker.in_flight.InFlight.{InFlight}
-use Rattle.centre_core.specs.declared.order_maker.in_flight.InFlight.TheVariants as flight
-use Rattle.centre_core.specs.declared.order_maker.order.Order.{Order}
-use Rattle.centre_core.specs.declared.order_maker.order_kind.OrderKind.{OrderKind}
-use Rattle.centre_core.specs.declared.order_maker.order_kind.OrderKind.TheVariants.{Write, Replace, Kill}
-use Rattle.centre_core.specs.declared.outcome.Outcome.TheVariants.{Done}
-use Rattle.centre_core.specs.declared.reply.Reply.{Reply}
+use Rattle.centre_core.specs.declared.event.Event.TheVariants.{LinkUp, LinkDown, Send, Ask, Report}
+use Rattle.centre_core.specs.declared.in_flight.InFlight.{InFlight}
+use Rattle.centre_core.specs.declared.in_flight.InFlight.TheVariants as flight
+use Rattle.order_maker.specs.declared.order_kind.OrderKind.{OrderKind}
+use Rattle.order_maker.specs.declared.order_kind.OrderKind.TheVariants.{Write, Replace, Kill}
 
 -- what an accepted Send put in flight
 abbrev pub sent_flight : Answer → Option InFlight
@@ -27,9 +24,15 @@ abbrev pub is_replied : Answer → Bool
 is_replied (Replied replies) = true
 is_replied other = false
 
--- a Send begins a flight; a matched reply and the loss of the link end it
+-- what an accepted Ask put in flight
+abbrev pub asked_flight : Answer → Option InFlight
+asked_flight (Asked m s cells message) = Some (flight.Query m s cells)
+asked_flight other = None
+
+-- a Send or an Ask begins a flight; a matched reply and the loss of the link end it
 abbrev pub flight_mark : ℕ → Event → Answer → Bool → Option (Option InFlight)
 flight_mark b (Send other generation) answer up = if nat_eq other b then Some (sent_flight answer) else None
+flight_mark b (Ask other generation n after) answer up = if nat_eq other b then Some (asked_flight answer) else None
 flight_mark b (Report other generation message) answer up = if nat_eq other b && is_replied answer then Some None else None
 flight_mark b (LinkUp other) answer up = if nat_eq other b && up then Some None else None
 flight_mark b (LinkDown other generation) answer up = if nat_eq other b then Some None else None
@@ -98,21 +101,28 @@ abbrev pub writes : InFlight → Bool
 writes (flight.Order order) = not (is_kill order.kind)
 writes (flight.Query message_id serial cells) = false
 
+-- it is a MESSAGE STATUS QUERY
+abbrev pub asks : InFlight → Bool
+asks (flight.Order order) = false
+asks (flight.Query message_id serial cells) = true
+
 -- no identifier that is given differs from its counterpart
 abbrev pub agree : Identifiers → InFlight → Bool
 agree given f = agrees given.message_id (Some (id_of f)) && (agrees given.serial (new_of f) && agrees given.old (old_of f))
 
--- the message answers what is in flight: it is of its kind, and no identifier that it gives differs
+-- the message answers what is in flight: it is of its kind, or an ERROR INDICATION, and no identifier that it gives
+-- differs
 abbrev pub matches : Message → InFlight → Bool
 matches (WriteComplete m) f = writes f && agree (record { message_id = Some m.message_id; serial = Some m.serial; old = m.old }) f
+matches (WriteFailure m) f = writes f && agree (record { message_id = Some m.message_id; serial = Some m.serial; old = m.old }) f
 matches (KillComplete m) f = kills f && agree (record { message_id = Some m.message_id; serial = None; old = Some m.serial }) f
+matches (KillFailure m) f = kills f && agree (record { message_id = Some m.message_id; serial = None; old = Some m.serial }) f
+matches (StatusComplete m) f = asks f && agree (record { message_id = Some m.message_id; serial = None; old = Some m.serial }) f
+matches (StatusFailure m) f = asks f && agree (record { message_id = Some m.message_id; serial = None; old = Some m.serial }) f
+matches (ErrorIndication m) f = agree (record { message_id = m.message_id; serial = m.serial; old = m.old }) f
 matches other f = false
 
 -- it answers what is in flight, if anything is
 abbrev pub matches_flight : Message → Option InFlight → Bool
 matches_flight message None = false
 matches_flight message (Some f) = matches message f
-
--- a COMPLETE says of each cell that it was done, in the order's order
-abbrev pub completed : List Cell → List Reply
-completed cells = map (λ c. let reply : Reply = record { cell = c; outcome = Done; count = None } in reply) cells

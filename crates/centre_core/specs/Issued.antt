@@ -9,12 +9,12 @@ use Rattle.warning_book.specs.declared.notice.Notice.{Notice}
 use Rattle.warning_book.specs.declared.version.Version.{Version}
 use Rattle.centre_core.specs.Base.{Base}
 use Rattle.centre_core.specs.Past.{Past, From, After, latest, by_edit}
-use Rattle.centre_core.specs.Seen.{is_the}
+use Rattle.mirror.specs.Seen.{is_the}
 use Rattle.centre_core.specs.Warnings.{book_of, warnings_of}
 use Rattle.centre_core.specs.declared.answer.Answer.{Answer}
 use Rattle.centre_core.specs.declared.answer.Answer.TheVariants.{Issued, Updated}
-use Rattle.centre_core.specs.declared.coverage_plan.edit.Edit.{Edit}
-use Rattle.centre_core.specs.declared.coverage_plan.edit.Edit.TheVariants.{Issue, Update, Widen, Narrow, Stop, Forget}
+use Rattle.coverage_plan.specs.declared.edit.Edit.{Edit}
+use Rattle.coverage_plan.specs.declared.edit.Edit.TheVariants.{Issue, Update, Widen, Narrow, Stop, Forget}
 use Rattle.centre_core.specs.declared.event.Event.{Event}
 use Rattle.centre_core.specs.declared.event.Event.TheVariants as event
 

@@ -1,7 +1,7 @@
 -- What a centre keeps beside its journal, and how that is tied to the past: the register and the areas tell of each
 -- BSC, cell, area and selector what the past says of it; the book of warnings is the one that the entries make; the
 -- flights tell of each BSC what is in flight to it.
-use Rattle.std.specs.Prelude.{◌≡◌, ◌⊎◌, ◌<◌, ◌≤◌, ℕ, Bool, true, false, not, List, ◌∷◌, Option, Some, None, Result, Ok, Err, IsOk, find, nat_eq, if◌then◌else◌}
+use Rattle.std.specs.Prelude.{◌≡◌, ◌⊎◌, ℕ, Bool, true, false, not, List, Option, Result, Ok, Err, IsOk, find, nat_eq}
 use Rattle.std.specs.List.{filter}
 use Rattle.std.specs.Option.{option_map}
 use Rattle.areas.specs.Areas.{has_area, with_area, without_area, with_selector, without_selector}
@@ -9,25 +9,22 @@ use Rattle.areas.specs.Areas as kept
 use Rattle.areas.specs.declared.area.Area.{Area}
 use Rattle.areas.specs.declared.selector.Selector.{Selector}
 use Rattle.cell_register.specs.Register.{State, has_bsc, place_in, with_bsc, without_bsc, with_cell, moved, without_cell}
-use Rattle.common.specs.Checks.{first_refusal}
 use Rattle.common.specs.declared.cell.Cell.{Cell}
-use Rattle.warning_book.specs.Checks.{forget_checks}
 use Rattle.centre_core.specs.Cover.{is_area, has_selector}
 use Rattle.centre_core.specs.InFlight.{in_flight}
 use Rattle.centre_core.specs.Links.{is_bsc}
-use Rattle.centre_core.specs.Past.{Past, IsUnfolded, entry_count}
+use Rattle.centre_core.specs.Past.{Past, IsUnfolded}
 use Rattle.centre_core.specs.Places.{place}
 use Rattle.centre_core.specs.Settings.{Settings}
-use Rattle.centre_core.specs.Verdict.{answered, send_checks, verdict}
-use Rattle.centre_core.specs.Warnings.{book_of}
+use Rattle.centre_core.specs.Verdict.{verdict}
 use Rattle.centre_core.specs.declared.answer.Answer.{Answer}
-use Rattle.centre_core.specs.declared.answer.Answer.TheVariants.{Sent, Replied}
-use Rattle.centre_core.specs.declared.coverage_plan.edit.Edit.{Edit}
-use Rattle.centre_core.specs.declared.coverage_plan.edit.Edit.TheVariants as edit
+use Rattle.centre_core.specs.declared.answer.Answer.TheVariants.{Sent, Asked, Replied, Listed}
+use Rattle.coverage_plan.specs.declared.edit.Edit.{Edit}
+use Rattle.coverage_plan.specs.declared.edit.Edit.TheVariants as edit
 use Rattle.centre_core.specs.declared.event.Event.{Event}
 use Rattle.centre_core.specs.declared.event.Event.TheVariants as event
 use Rattle.centre_core.specs.declared.flight.Flight.{Flight}
-use Rattle.centre_core.specs.declared.order_maker.in_flight.InFlight.{InFlight}
+use Rattle.centre_core.specs.declared.in_flight.InFlight.{InFlight}
 use Rattle.centre_core.specs.declared.refusal.Refusal.{Refusal}
 use Rattle.centre_core.specs.declared.refusal.Refusal.TheVariants.{Memory}
 
@@ -94,41 +91,22 @@ is_edit other = false
 -- the answer takes no memory to copy
 abbrev pub is_plain : Answer → Bool
 is_plain (Sent order message) = false
+is_plain (Asked m s cells message) = false
 is_plain (Replied replies) = false
+is_plain (Listed cells) = false
 is_plain other = true
 
--- what is answered is the verdict, or that memory is wanting where the verdict is no refusal or while it is found
-abbrev pub GivesOr : Type 0 → Result Answer Refusal → Result Answer Refusal → Type 0
-GivesOr finding verdict (Ok answer) = verdict ≡ Ok answer
-GivesOr finding verdict (Err refusal) = ((refusal ≡ Memory) × (finding ⊎ IsOk verdict)) ⊎ (verdict ≡ Err refusal)
-
--- the same of what takes no memory to find
+-- what is answered is the verdict, or `Memory` where the verdict is no refusal
 abbrev pub Gives : Result Answer Refusal → Result Answer Refusal → Type 0
-Gives verdict result = GivesOr ⊥ verdict result
+Gives verdict (Ok answer) = verdict ≡ Ok answer
+Gives verdict (Err refusal) = ((refusal ≡ Memory) × IsOk verdict) ⊎ (verdict ≡ Err refusal)
 
--- the answer takes memory to find: a Send looks at what is pending once nothing else refuses it, a Forget at what is
--- reported once the book does not refuse it
-abbrev pub TakesMemory : Past → Event → Type 0
-TakesMemory past (event.Send b generation) = first_refusal (send_checks past b generation) ≡ None
-TakesMemory past (event.Edit (edit.Forget n)) = first_refusal (forget_checks (book_of past) n) ≡ None
-TakesMemory past other = ⊥
-
--- an event may be answered that memory is wanting: there is room for its entry, and it is not refused, or its answer
--- takes memory to find
+-- `Memory` is the last refusal: an event may be answered by it only where its verdict is no refusal
 abbrev pub MayStarve : Settings → Past → Event → Type 0
-MayStarve settings past e = (entry_count past < settings.limit) × (TakesMemory past e ⊎ IsOk (answered past e))
+MayStarve settings past e = IsOk (verdict settings past e)
 
--- whether it is accepted: it is where the verdict is no refusal; that memory is wanting may be answered while that is
--- found
-abbrev pub IsCheckedOr : {A : Type 0} → Type 0 → Result Answer Refusal → Result A Refusal → Type 0
-IsCheckedOr finding verdict (Ok free) = IsOk verdict
-IsCheckedOr finding verdict (Err refusal) = ((refusal ≡ Memory) × finding) ⊎ (verdict ≡ Err refusal)
-
--- the same where that takes no memory
+-- whether an edit is accepted: it is where its verdict is no refusal, and else it is refused by its verdict. To find this
+-- takes no memory, so it is never answered by `Memory`
 abbrev pub IsChecked : {A : Type 0} → Result Answer Refusal → Result A Refusal → Type 0
-IsChecked verdict result = IsCheckedOr ⊥ verdict result
-
--- what is answered to an event: the verdict, or that memory is wanting where it may be
-abbrev pub Rules : Settings → Past → Event → Result Answer Refusal → Type 0
-Rules settings past e (Ok answer) = verdict settings past e ≡ Ok answer
-Rules settings past e (Err refusal) = ((refusal ≡ Memory) × MayStarve settings past e) ⊎ (verdict settings past e ≡ Err refusal)
+IsChecked verdict (Ok free) = IsOk verdict
+IsChecked verdict (Err refusal) = verdict ≡ Err refusal

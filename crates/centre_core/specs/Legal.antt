@@ -1,5 +1,5 @@
 -- A legal past: nothing was folded into its base, and each entry has the answer that the past before it gives its event.
-use Rattle.std.specs.Prelude.{◌≡◌, ℕ, List, [], ◌∷◌, Result, Ok, Err}
+use Rattle.std.specs.Prelude.{◌≡◌, ℕ, Bool, false, List, [], ◌∷◌, Result, Ok, Err}
 use Rattle.centre_core.specs.Base.{empty_base}
 use Rattle.centre_core.specs.Past.{Past, From, After, past_of}
 use Rattle.centre_core.specs.Settings.{Settings}
@@ -14,14 +14,20 @@ abbrev pub Legal : Settings → Past → Type 0
 Legal settings (From base) = base ≡ empty_base
 Legal settings (After e before) = (verdict settings before e.event ≡ Ok e.answer) × Legal settings before
 
--- what contracts see of a centre: its settings, and its journal, the oldest entry first
+-- what is known of a centre: its settings, its journal, the oldest entry first, and whether it is stale
 pub record Known : Type 0 where
   pub settings : Settings
   pub journal : List Entry
+  pub stale : Bool
+
+-- what contracts see of a centre: what is known of it, and how often its lines were read or set
+pub record CentreState : Type 0 where
+  pub known : Known
+  pub lines : ℕ
 
 -- a centre of the network without entries
 abbrev pub new_centre : List ℕ → ℕ → Known
-new_centre network limit = record { settings = record { network = network; limit = limit }; journal = [] }
+new_centre network limit = record { settings = record { network = network; limit = limit }; journal = []; stale = false }
 
 -- the past of a centre: nothing was folded so far
 abbrev pub past : Known → Past

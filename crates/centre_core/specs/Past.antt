@@ -3,7 +3,7 @@
 use Rattle.std.specs.Prelude.{◌≡◌, ℕ, ◌+◌, Bool, List, [], ◌∷◌, Option, Some, None, unwrap_or, reverse, if◌then◌else◌}
 use Rattle.std.specs.List.{list_any}
 use Rattle.centre_core.specs.Base.{Base, empty_base}
-use Rattle.centre_core.specs.declared.coverage_plan.edit.Edit.{Edit}
+use Rattle.coverage_plan.specs.declared.edit.Edit.{Edit}
 use Rattle.centre_core.specs.declared.entry.Entry.{Entry}
 use Rattle.centre_core.specs.declared.event.Event.{Event}
 use Rattle.centre_core.specs.declared.event.Event.TheVariants as event

@@ -5,8 +5,8 @@ use Rattle.common.specs.Cell.{cell_eq}
 use Rattle.common.specs.Sums.{count_of}
 use Rattle.common.specs.declared.cell.Cell.{Cell}
 use Rattle.centre_core.specs.Past.{Past, latest, by_edit, named}
-use Rattle.centre_core.specs.declared.coverage_plan.edit.Edit.{Edit}
-use Rattle.centre_core.specs.declared.coverage_plan.edit.Edit.TheVariants.{AddCell, MoveCell, RemoveCell}
+use Rattle.coverage_plan.specs.declared.edit.Edit.{Edit}
+use Rattle.coverage_plan.specs.declared.edit.Edit.TheVariants.{AddCell, MoveCell, RemoveCell}
 
 -- where the edit puts the cell: at a BSC, or nowhere
 abbrev pub place_mark : Cell → Edit → Option (Option ℕ)

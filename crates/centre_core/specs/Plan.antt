@@ -1,6 +1,6 @@
 -- What is wanted on air: each cell at its BSC, with the current version of each active warning one of whose areas
 -- covers it.
-use Rattle.std.specs.Prelude.{ℕ, Bool, ◌&&◌, List, Option, None, nat_eq, if◌then◌else◌}
+use Rattle.std.specs.Prelude.{ℕ, Bool, ◌&&◌, Option, None, nat_eq, if◌then◌else◌}
 use Rattle.std.specs.List.{list_any}
 use Rattle.cell_register.specs.Register.{is_place}
 use Rattle.common.specs.declared.cell.Cell.{Cell}
@@ -9,7 +9,7 @@ use Rattle.warning_book.specs.declared.warning.Warning.{Warning}
 use Rattle.centre_core.specs.Cover.{is_covered}
 use Rattle.centre_core.specs.Past.{Past}
 use Rattle.centre_core.specs.Places.{place}
-use Rattle.centre_core.specs.Seen.{is_the}
+use Rattle.mirror.specs.Seen.{is_the}
 use Rattle.centre_core.specs.Warnings.{warnings_of}
 
 -- the warning is wanted in the cell at the BSC

@@ -11,10 +11,11 @@ use Rattle.warning_book.specs.declared.refusal.Refusal as book
 use Rattle.warning_book.specs.declared.refusal.Refusal.TheVariants as book_refusal
 use Rattle.centre_core.specs.declared.refusal.Limit.TheVariants as limit
 use Rattle.centre_core.specs.declared.refusal.Refusal.{Refusal}
-use Rattle.centre_core.specs.declared.refusal.Refusal.TheVariants.{JournalFull, NoSuchBsc, BscExists, BscHasCells, LinkIsUp, CellExists, NoSuchCell, SameBsc, BadName, AreaExists, NoSuchArea, AreaInUse, SelectorThere, SelectorNotThere, NoSuchWarning, NotActive, StillActive, StillReported, StillInFlight, NoAreas, AreaThere, AreaNotThere, LastArea, BadPages, BadPeriod, UpdatesExhausted, StaleLink, LinkNotUp, InFlight, NothingPending, NoOrder, Limit, Memory}
+use Rattle.centre_core.specs.declared.refusal.Refusal.TheVariants.{Stale, JournalFull, NoSuchBsc, BscExists, BscHasCells, LinkIsUp, CellExists, NoSuchCell, SameBsc, BadName, AreaExists, NoSuchArea, AreaInUse, SelectorThere, SelectorNotThere, NoSuchWarning, NotActive, StillActive, StillReported, StillInFlight, NoAreas, AreaThere, AreaNotThere, LastArea, BadPages, BadPeriod, UpdatesExhausted, StaleLink, LinkNotUp, InFlight, NothingPending, NothingToAsk, NoOrder, Limit, Memory}
 
 -- the number that a refusal is answered with
 abbrev pub refusal_number : Refusal → ℕ
+refusal_number Stale = 1
 refusal_number JournalFull = 2
 refusal_number NoSuchBsc = 3
 refusal_number BscExists = 4
@@ -45,6 +46,7 @@ refusal_number (StaleLink now) = 29
 refusal_number LinkNotUp = 30
 refusal_number InFlight = 31
 refusal_number NothingPending = 32
+refusal_number NothingToAsk = 33
 refusal_number NoOrder = 34
 refusal_number (Limit which) = 35
 refusal_number Memory = 36

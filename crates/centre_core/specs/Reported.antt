@@ -1,5 +1,5 @@
 -- What keeps a stopped warning in the book: a key of it that a BSC has reported, or an order in flight.
-use Rattle.std.specs.Prelude.{ℕ, Bool, false, ◌&&◌, ◌||◌, not, List, Option, Some, None, nat_eq}
+use Rattle.std.specs.Prelude.{ℕ, Bool, false, ◌&&◌, ◌||◌, not, Option, Some, None, nat_eq}
 use Rattle.std.specs.List.{list_any}
 use Rattle.common.specs.declared.cell.Cell.{Cell}
 use Rattle.warning_book.specs.declared.warning.Warning.{Warning}
@@ -9,9 +9,9 @@ use Rattle.centre_core.specs.Links.{bscs}
 use Rattle.centre_core.specs.Places.{cells}
 use Rattle.centre_core.specs.Past.{Past}
 use Rattle.centre_core.specs.Presence.{presence}
-use Rattle.centre_core.specs.Seen.{is_absent}
-use Rattle.centre_core.specs.declared.order_maker.in_flight.InFlight.{InFlight}
-use Rattle.centre_core.specs.declared.order_maker.in_flight.InFlight.TheVariants as flight
+use Rattle.mirror.specs.Seen.{is_absent}
+use Rattle.centre_core.specs.declared.in_flight.InFlight.{InFlight}
+use Rattle.centre_core.specs.declared.in_flight.InFlight.TheVariants as flight
 
 -- the version of that serial number is on air, or may be, in the cell at the BSC
 abbrev pub is_present : Past → Warning → ℕ → Cell → ℕ → Bool

@@ -8,11 +8,11 @@ use Rattle.warning_book.specs.declared.warning.Warning.{Warning}
 use Rattle.centre_core.specs.Places.{cells}
 use Rattle.centre_core.specs.Past.{Past}
 use Rattle.centre_core.specs.Presence.{presence}
-use Rattle.centre_core.specs.Seen.{is_absent}
+use Rattle.mirror.specs.Seen.{is_absent}
 use Rattle.common.specs.Sorting.{comes_before, sorted_by}
 use Rattle.centre_core.specs.Warnings.{warnings_of}
-use Rattle.centre_core.specs.declared.mirror.presence.Presence.{Presence}
-use Rattle.centre_core.specs.declared.mirror.reported_key.ReportedKey.{ReportedKey}
+use Rattle.mirror.specs.declared.presence.Presence.{Presence}
+use Rattle.centre_core.specs.declared.reported.reported_key.ReportedKey.{ReportedKey}
 
 -- the key of that presence, unless it is absent
 abbrev pub key_if : Cell → ℕ → ℕ → Presence → List ReportedKey

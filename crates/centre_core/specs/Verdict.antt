@@ -1,23 +1,26 @@
 -- What an event is answered: the first refusal whose cause holds, in the order of the refusals, or else its answer.
-use Rattle.std.specs.Prelude.{ℕ, ◌+◌, Bool, not, List, [], ◌∷◌, ◌++◌, Option, Some, None, Result, Ok, Err, nat_eq, nat_le, if◌then◌else◌}
+use Rattle.std.specs.Prelude.{ℕ, ◌+◌, Bool, true, false, ◌||◌, not, List, [], ◌∷◌, ◌++◌, Option, Some, None, Result, Ok, Err, nat_eq, nat_le, if◌then◌else◌}
 use Rattle.std.specs.Option.{is_some}
 use Rattle.std.specs.List.{list_any}
 use Rattle.areas.specs.Name.{is_name}
 use Rattle.areas.specs.declared.selector.Selector.{Selector}
 use Rattle.cbsp_messages.specs.declared.message.Message.{Message}
+use Rattle.cbsp_messages.specs.declared.message.Message.TheVariants as message
 use Rattle.cell_register.specs.Register.{is_place}
 use Rattle.common.specs.declared.cell.Cell.{Cell}
-use Rattle.warning_book.specs.Book.{names, warning_is, new_serial, next_serial, content_of}
+use Rattle.warning_book.specs.Book.{names, warning_is, new_serial, next_serial, content_of, warning_of}
 use Rattle.warning_book.specs.Checks as book
 use Rattle.warning_book.specs.declared.content.Content.{Content}
 use Rattle.warning_book.specs.declared.notice.Notice.{Notice}
 use Rattle.warning_book.specs.declared.refusal.Refusal as book_refusal
 use Rattle.warning_book.specs.declared.warning.Warning.{Warning}
+use Rattle.centre_core.specs.Asking.{warning_query}
 use Rattle.centre_core.specs.Cover.{is_area, area_count, has_selector, selector_count}
-use Rattle.centre_core.specs.Grouping.{first}
-use Rattle.centre_core.specs.InFlight.{in_flight, matches_flight, cells_of, completed}
+use Rattle.order_maker.specs.Grouping.{first}
+use Rattle.centre_core.specs.InFlight.{in_flight, matches_flight}
 use Rattle.centre_core.specs.Links.{is_bsc, bsc_count, is_up, last_link}
-use Rattle.centre_core.specs.OrderMessage.{order_message}
+use Rattle.order_maker.specs.OrderMessage.{order_message}
+use Rattle.centre_core.specs.Outcomes.{replies_to, failed_ids, listed_cells}
 use Rattle.centre_core.specs.Past.{Past, entry_count, position}
 use Rattle.centre_core.specs.Pending.{pending}
 use Rattle.centre_core.specs.Places.{cells, place, is_registered, cell_count}
@@ -27,12 +30,12 @@ use Rattle.centre_core.specs.Settings.{Settings}
 use Rattle.centre_core.specs.Warnings.{book_of, warnings_of}
 use Rattle.centre_core.specs.declared.answer.Answer.{Answer}
 use Rattle.centre_core.specs.declared.answer.Answer.TheVariants as answer
-use Rattle.centre_core.specs.declared.coverage_plan.edit.Edit.{Edit}
-use Rattle.centre_core.specs.declared.coverage_plan.edit.Edit.TheVariants as edit
+use Rattle.coverage_plan.specs.declared.edit.Edit.{Edit}
+use Rattle.coverage_plan.specs.declared.edit.Edit.TheVariants as edit
 use Rattle.centre_core.specs.declared.event.Event.{Event}
 use Rattle.centre_core.specs.declared.event.Event.TheVariants as event
-use Rattle.centre_core.specs.declared.order_maker.in_flight.InFlight.{InFlight}
-use Rattle.centre_core.specs.declared.order_maker.order.Order.{Order}
+use Rattle.centre_core.specs.declared.in_flight.InFlight.{InFlight}
+use Rattle.order_maker.specs.declared.order.Order.{Order}
 use Rattle.centre_core.specs.declared.refusal.Limit.TheVariants as limit
 use Rattle.centre_core.specs.declared.refusal.Refusal.{Refusal}
 use Rattle.centre_core.specs.declared.refusal.Refusal.TheVariants as refusal
@@ -222,18 +225,50 @@ send_answer past (Some order) = Ok (answer.Sent order (order_message order (cont
 abbrev pub send : Past → ℕ → ℕ → Result Answer Refusal
 send past b generation = unless (send_checks past b generation) (send_answer past (first (pending past b)))
 
+-- why an Ask is refused, whatever is on air: its BSC and its warning are looked for first, then it is as for a Send
+abbrev pub ask_checks : Past → ℕ → ℕ → ℕ → List (Bool × Refusal)
+ask_checks past b generation n = (not (is_bsc past b), refusal.NoSuchBsc) ∷ (not (is_some (warning_of (book_of past) n)), refusal.NoSuchWarning) ∷ send_checks past b generation
+
+-- what an Ask is answered: it is refused too where there is no cell to ask
+abbrev pub ask : Past → ℕ → ℕ → ℕ → Option Cell → Result Answer Refusal
+ask past b generation n after = unless (ask_checks past b generation n) (warning_query past b (warning_of (book_of past) n) after)
+
+-- why a Retry is refused
+abbrev pub retry_checks : Past → ℕ → List (Bool × Refusal)
+retry_checks past b = (not (is_bsc past b), refusal.NoSuchBsc) ∷ []
+
+-- what a Retry is answered
+abbrev pub retry : Past → ℕ → Result Answer Refusal
+retry past b = unless (retry_checks past b) (Ok answer.Done)
+
+-- the message is a RESTART or a FAILURE, which a BSC sends unasked
+abbrev pub is_indication : Message → Bool
+is_indication (message.Restart m) = true
+is_indication (message.Failure m) = true
+is_indication other = false
+
+-- the message is no indication and answers nothing that is in flight
+abbrev pub is_out_of_place : Message → Option InFlight → Bool
+is_out_of_place message flight = not (is_indication message || matches_flight message flight)
+
 -- why a Report is refused
 abbrev pub report_checks : Past → ℕ → ℕ → Message → List (Bool × Refusal)
-report_checks past b generation message = link_checks past b generation ++ (not (matches_flight message (in_flight past b)), refusal.NoOrder) ∷ []
+report_checks past b generation message = link_checks past b generation ++ (is_out_of_place message (in_flight past b), refusal.NoOrder) ∷ []
 
 -- what the reply says of each cell of what was in flight
-abbrev pub report_answer : Option InFlight → Result Answer Refusal
-report_answer None = Err refusal.NoOrder
-report_answer (Some f) = Ok (answer.Replied (completed (cells_of f)))
+abbrev pub reply_answer : List ℕ → Message → Option InFlight → Result Answer Refusal
+reply_answer network message None = Err refusal.NoOrder
+reply_answer network message (Some f) = Ok (answer.Replied (replies_to network message f))
+
+-- an indication lists the cells known at the BSC that it names, a reply answers what is in flight
+abbrev pub report_answer : List ℕ → Past → ℕ → Message → Option InFlight → Result Answer Refusal
+report_answer network past b (message.Restart m) flight = Ok (answer.Listed (listed_cells network past b m.kind m.cells.ids))
+report_answer network past b (message.Failure m) flight = Ok (answer.Listed (listed_cells network past b m.kind (failed_ids m.failures)))
+report_answer network past b other flight = reply_answer network other flight
 
 -- what a Report is answered
-abbrev pub report : Past → ℕ → ℕ → Message → Result Answer Refusal
-report past b generation message = unless (report_checks past b generation message) (report_answer (in_flight past b))
+abbrev pub report : List ℕ → Past → ℕ → ℕ → Message → Result Answer Refusal
+report network past b generation message = unless (report_checks past b generation message) (report_answer network past b message (in_flight past b))
 
 -- what an edit is answered
 abbrev pub edit_answered : Past → Edit → Result Answer Refusal
@@ -254,13 +289,15 @@ edit_answered past (edit.Stop n) = stop past n
 edit_answered past (edit.Forget n) = forget past n
 
 -- what an event is answered where the journal has room
-abbrev pub answered : Past → Event → Result Answer Refusal
-answered past (event.Edit e) = edit_answered past e
-answered past (event.LinkUp b) = link_up past b
-answered past (event.LinkDown b generation) = link_down past b generation
-answered past (event.Send b generation) = send past b generation
-answered past (event.Report b generation message) = report past b generation message
+abbrev pub answered : List ℕ → Past → Event → Result Answer Refusal
+answered network past (event.Edit e) = edit_answered past e
+answered network past (event.Retry b) = retry past b
+answered network past (event.LinkUp b) = link_up past b
+answered network past (event.LinkDown b generation) = link_down past b generation
+answered network past (event.Send b generation) = send past b generation
+answered network past (event.Ask b generation n after) = ask past b generation n after
+answered network past (event.Report b generation message) = report network past b generation message
 
 -- what an event is answered after that past
 abbrev pub verdict : Settings → Past → Event → Result Answer Refusal
-verdict settings past e = if nat_le settings.limit (entry_count past) then Err refusal.JournalFull else answered past e
+verdict settings past e = if nat_le settings.limit (entry_count past) then Err refusal.JournalFull else answered settings.network past e

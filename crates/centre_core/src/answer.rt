@@ -3,9 +3,10 @@
 ghost use Rattle.std.specs.Prelude.{◌≡◌, ◌↔◌, true, IsTrue, IfOk, IsOk};
 ghost use Rattle.centre_core.specs.Kept.{is_plain};
 
-use crate::order_maker::Order;
 use crate::replies::Replies;
 use cbsp_messages::Message;
+use common::Cells;
+use order_maker::Order;
 use serials::Serial;
 use std::alloc::{AllocError, Global};
 use warning_book::WarningId;
@@ -21,9 +22,21 @@ pub enum Answer {
     /// The generation of a link: the number of the entry that brought it up.
     Link(u64),
     /// An order that is now in flight, and the message that carries it.
-    Sent { order: Order, message: Message },
-    /// What a reply says of each cell of its order, in the order's order.
+    Sent {
+        order: Order,
+        message: Message,
+    },
+    /// A query that is now in flight, and the message that carries it.
+    Asked {
+        message_id: u16,
+        serial: Serial,
+        cells: Cells,
+        message: Message,
+    },
+    /// What a reply says of each cell of its order or query, in the order in which that names them.
     Replied(Replies),
+    /// The cells known at the BSC that an indication names, in order; none where it isn't about CBS messages.
+    Listed(Cells),
 }
 
 impl Answer {
@@ -41,7 +54,19 @@ impl Answer {
                 order: order.copied(alloc)?,
                 message: message.copied(alloc)?,
             }),
+            Answer::Asked {
+                message_id,
+                serial,
+                cells,
+                message,
+            } => Ok(Answer::Asked {
+                message_id: *message_id,
+                serial: *serial,
+                cells: cells.copied(alloc)?,
+                message: message.copied(alloc)?,
+            }),
             Answer::Replied(replies) => Ok(Answer::Replied(replies.copied(alloc)?)),
+            Answer::Listed(cells) => Ok(Answer::Listed(cells.copied(alloc)?)),
         }
     }
 
@@ -64,9 +89,29 @@ impl Answer {
                     message: other_message,
                 },
             ) => order.same(other_order) && message.same(other_message),
+            (
+                Answer::Asked {
+                    message_id,
+                    serial,
+                    cells,
+                    message,
+                },
+                Answer::Asked {
+                    message_id: other_id,
+                    serial: other_serial,
+                    cells: other_cells,
+                    message: other_message,
+                },
+            ) => {
+                message_id == other_id
+                    && serial == other_serial
+                    && cells.same(other_cells)
+                    && message.same(other_message)
+            }
             (Answer::Replied(replies), Answer::Replied(other_replies)) => {
                 replies.same(other_replies)
             }
+            (Answer::Listed(cells), Answer::Listed(other_cells)) => cells.same(other_cells),
             _ => false,
         }
     }

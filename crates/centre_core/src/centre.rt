@@ -1,318 +1,324 @@
-//! The centre: its journal, and the questions that the journal answers.
-
-ghost use Rattle.std.specs.Prelude.{◌≡◌, ◌<◌, ◌++◌, ◌∷◌, [], List, ℕ, length, true, false, IfOk, IfErr, IsOk, OnOk, OnErr};
-ghost use Rattle.std.specs.Vec.{vec_len, vec_capacity};
-ghost use Rattle.centre_core.specs.Flights.{flights_after, up_before};
-ghost use Rattle.centre_core.specs.Kept.{IsRegisterOf, AreAreasOf, TakesMemory, Rules, register_after, areas_after, register_then, areas_then, is_edit, is_plain, GivesOr};
-ghost use Rattle.centre_core.specs.Past.{past_of};
-ghost use Rattle.centre_core.specs.Verdict.{answered, edit_answered};
-ghost use Rattle.centre_core.specs.Warnings.{book_of, book_after, book_then};
-ghost use Rattle.centre_core.specs.declared.event.Event.TheVariants as event;
+//! The centre: its journal, what is kept beside it, and the questions that are answered from there.
 
 use crate::answer::Answer;
-use crate::coverage_board::{self, Numbers};
-use crate::coverage_plan::Edit;
+use crate::entering::{enter, make, up_before, with_entry};
 use crate::entry::Entry;
 use crate::event::Event;
-use crate::events::{self, Verdict};
-use crate::flight::Flight;
-use crate::flights;
-use crate::history::is_up;
-use crate::mirror::{self, ReportedKeys};
-use crate::order_maker::{self, InFlight, Orders};
+use crate::events::tell_known;
+use crate::flights::flight_in;
+use crate::in_flight::InFlight;
+use crate::kept::Kept;
+use crate::looking::{prepare_edit, prepare_other};
+use crate::meter::Meter;
+use crate::questions;
+use crate::reach::tell_lines;
+use crate::rebuilding::kept_of;
 use crate::refusal::Refusal;
-use areas::Areas;
-use cell_register::{BscId, Register};
-use common::Cell;
+use crate::reported::ReportedKeys;
+use cell_register::BscId;
+use common::{Cell, Name};
+use coverage_board::Numbers;
+use coverage_plan::Edit;
+use order_maker::Orders;
 use std::alloc::{AllocError, Global};
 use std::marker::Model;
-use warning_book::{Book, WarningId};
+use warning_book::WarningId;
 
 /// A cell broadcast centre. Contracts see its settings, which are its network and the greatest number of entries of its
-/// journal, and its journal, the oldest entry first.
+/// journal, its journal, the oldest entry first, whether it is stale, and how often its lines were read or set.
+///
+/// A centre is stale after want of memory while an event was entered: its journal is as it was, and what is kept beside it
+/// is of no use until `rebuild` made it anew. While it is stale, every call but `position`, `entry`, `is_stale`, `meter`
+/// and `rebuild` answers `Stale`.
 #[derive(Drop)]
 pub struct Centre {
     alloc: Global,
     plmn: [u8; 3],
     limit: u32,
     journal: Vec<Entry>,
-    register: Register,
-    areas: Areas,
-    book: Book,
-    flights: Vec<Flight>,
-}
-
-/// Makes room for one more entry in the journal.
-fn make_room(journal: &mut Vec<Entry>) -> Result<(), Refusal>
-    ensures entries { journal.new.items ≡ journal.old.items }
-    ensures room { OnOk result (vec_len journal.new < vec_capacity journal.new) }
-    ensures refusal { IfErr result (λ r. r ≡ Refusal.Memory) }
-{
-    journal.try_reserve(1)?;
-    Ok(())
-}
-
-/// What the edit is answered after the entries of the journal, which has room for one more then; an accepted edit is
-/// made.
-fn answer_edit(
-    alloc: Global,
-    journal: &mut Vec<Entry>,
-    register: &mut Register,
-    areas: &mut Areas,
-    book: &mut Book,
-    edit: &Edit,
-) -> Verdict
-    requires registered { IsRegisterOf (past_of journal.old.items) register.old }
-    requires selected { AreAreasOf (past_of journal.old.items) areas.old }
-    requires booked { book.old ≡ book_of (past_of journal.old.items) }
-    ensures entries { journal.new.items ≡ journal.old.items }
-    ensures room { OnOk result (vec_len journal.new < vec_capacity journal.new) }
-    ensures verdict { GivesOr (TakesMemory (past_of journal.old.items) (event.Edit edit.now)) (edit_answered (past_of journal.old.items) edit.now) result }
-    ensures register { OnOk result (register.new ≡ register_after edit.now register.old) }
-    ensures areas { OnOk result (areas.new ≡ areas_after edit.now areas.old) }
-    ensures book { OnOk result (book.new ≡ book_after edit.now book.old) }
-    ensures register_stays { OnErr result (register.new ≡ register.old) }
-    ensures areas_stay { OnErr result (areas.new ≡ areas.old) }
-    ensures book_stays { OnErr result (book.new ≡ book.old) }
-    ensures plain { IfOk result (λ a. is_plain a ≡ true) }
-{
-    events::check_edit(alloc, journal.as_slice(), register, areas, book, edit)?;
-    make_room(journal)?;
-    events::make_edit(journal.as_slice(), register, areas, book, edit)
-}
-
-/// What an event that is no edit is answered after the entries of the journal, which has room for one more then.
-fn answer_other(
-    alloc: Global,
-    journal: &mut Vec<Entry>,
-    register: &Register,
-    book: &Book,
-    event: &Event,
-) -> Verdict
-    requires registered { IsRegisterOf (past_of journal.old.items) register.now }
-    requires booked { book.now ≡ book_of (past_of journal.old.items) }
-    requires other { is_edit event.now ≡ false }
-    ensures entries { journal.new.items ≡ journal.old.items }
-    ensures room { OnOk result (vec_len journal.new < vec_capacity journal.new) }
-    ensures verdict { GivesOr (TakesMemory (past_of journal.old.items) event.now) (answered (past_of journal.old.items) event.now) result }
-{
-    let answer = events::answer(alloc, journal.as_slice(), register, book, event)?;
-    make_room(journal)?;
-    Ok(answer)
-}
-
-/// What the event is answered after the entries of the journal, which holds so many at most.
-fn answer_to(
-    alloc: Global,
-    limit: u32,
-    journal: &mut Vec<Entry>,
-    register: &mut Register,
-    areas: &mut Areas,
-    book: &mut Book,
-    event: &Event,
-) -> Verdict
-    requires registered { IsRegisterOf (past_of journal.old.items) register.old }
-    requires selected { AreAreasOf (past_of journal.old.items) areas.old }
-    requires booked { book.old ≡ book_of (past_of journal.old.items) }
-    ensures entries { journal.new.items ≡ journal.old.items }
-    ensures room { OnOk result (vec_len journal.new < vec_capacity journal.new) }
-    ensures few { OnOk result (length journal.old.items < limit) }
-    ensures verdict { (network : List ℕ) → Rules (record { network = network; limit = limit }) (past_of journal.old.items) event.now result }
-    ensures register { OnOk result (register.new ≡ register_then event.now register.old) }
-    ensures areas { OnOk result (areas.new ≡ areas_then event.now areas.old) }
-    ensures book { OnOk result (book.new ≡ book_then event.now book.old) }
-    ensures register_stays { OnErr result (register.new ≡ register.old) }
-    ensures areas_stay { OnErr result (areas.new ≡ areas.old) }
-    ensures book_stays { OnErr result (book.new ≡ book.old) }
-    ensures edits { IfOk result (λ a. is_edit event.now ≡ true → is_plain a ≡ true) }
-{
-    if journal.len() >= limit as usize {
-        return Err(Refusal::JournalFull);
-    }
-    match event {
-        Event::Edit(edit) => answer_edit(alloc, journal, register, areas, book, edit),
-        Event::LinkUp(_) | Event::LinkDown(_, _) | Event::Send(_, _) | Event::Report(_, _, _) => {
-            answer_other(alloc, journal, register, book, event)
-        }
-    }
-}
-
-/// Whether the event brings up a link that is up already.
-fn up_before(journal: &[Entry], event: &Event) -> bool
-    ensures { result ≡ up_before (past_of journal.now) event.now }
-{
-    match event {
-        Event::LinkUp(b) => is_up(journal, *b),
-        _ => false,
-    }
-}
-
-/// Enters an accepted event in the journal, which has room for it, with what that makes of what is in flight. An edit
-/// with a plain answer takes no memory.
-fn enter(
-    alloc: Global,
-    journal: &mut Vec<Entry>,
-    flights: &mut Vec<Flight>,
-    desk: u32,
-    event: Event,
-    answer: &Answer,
-) -> Result<(), AllocError>
-    requires { vec_len journal.old < vec_capacity journal.old }
-    ensures entry { OnOk result (journal.new.items ≡ journal.old.items ++ record { desk = desk; event = event; answer = answer.now } ∷ []) }
-    ensures flights { OnOk result (flights.new.items ≡ flights_after event answer.now (up_before (past_of journal.old.items) event) flights.old.items) }
-    ensures entries_stay { OnErr result (journal.new.items ≡ journal.old.items) }
-    ensures flights_stay { OnErr result (flights.new.items ≡ flights.old.items) }
-    ensures plain { is_edit event ≡ true → is_plain answer.now ≡ true → IsOk result }
-{
-    let up = up_before(journal.as_slice(), &event);
-    let entry = Entry::of(alloc, desk, event, answer)?;
-    flights::follow(alloc, flights, &entry.event, answer, up)?;
-    journal.push(entry)?;
-    Ok(())
+    stale: bool,
+    kept: Kept,
 }
 
 impl Model for Centre {
-    ghost use Rattle.centre_core.specs.Legal.{Known};
+    ghost use Rattle.centre_core.specs.Legal.{CentreState};
     ghost use Rattle.centre_core.specs.Centre.{IsCentre};
 
-    ghost Value = { Known };
+    ghost Value = { CentreState };
 
-    ghost view = { λ c. record { settings = record { network = c.plmn; limit = c.limit }; journal = c.journal.items } };
+    ghost view = { λ c. record { known = record { settings = record { network = c.plmn; limit = c.limit }; journal = c.journal.items; stale = c.stale }; lines = c.kept.tables.lines.meter } };
 
-    ghost invariant = { λ c. IsCentre (record { network = c.plmn; limit = c.limit }) c.journal.items c.register c.areas c.book c.flights.items };
+    ghost invariant = { λ c. IsCentre (record { network = c.plmn; limit = c.limit }) c.journal.items c.stale c.kept };
 }
 
 impl Centre {
-    ghost use Rattle.std.specs.Prelude.{◌≡◌, ◌<◌, ◌≤◌, ◌-◌, ◌++◌, ◌∷◌, [], ◌⊎◌, ◌==◌, ⊤, length, reverse, slice_get, true, false, IfOk, IfErr, OnOk, if◌then◌else◌};
+    ghost use Rattle.std.specs.Prelude.{◌≡◌, ◌<◌, ◌≤◌, ◌-◌, ◌+◌, ◌*◌, ◌++◌, ◌∷◌, [], ◌⊎◌, ◌==◌, ⊤, length, reverse, slice_get, true, false, Ok, Err, IfOk, IfErr, OnOk, OnErr, if◌then◌else◌};
     ghost use Rattle.std.specs.Borrow.{sem, follows_so};
     ghost use Rattle.std.specs.Option.{option_copied};
     ghost use mathlib.Core.Option.{none};
+    ghost use Rattle.centre_core.specs.Centre.{Leaves, Refuses};
     ghost use Rattle.centre_core.specs.contracts.centre.Centre.{the_row};
     ghost use Rattle.centre_core.specs.Fits.{AnswerFits, IsCarried};
     ghost use Rattle.centre_core.specs.InFlight.{in_flight};
-    ghost use Rattle.centre_core.specs.Kept.{MayStarve};
+    ghost use Rattle.centre_core.specs.Kept.{is_edit};
     ghost use Rattle.centre_core.specs.Legal.{Legal, new_centre, past};
     ghost use Rattle.centre_core.specs.Links.{is_bsc};
-    ghost use Rattle.centre_core.specs.Numbers.{board};
+    ghost use Rattle.centre_core.specs.Numbers.{board, area_board};
     ghost use Rattle.centre_core.specs.Pending.{pending};
     ghost use Rattle.centre_core.specs.Places.{place};
+    ghost use Rattle.centre_core.specs.Reach.{reach};
     ghost use Rattle.centre_core.specs.Table.{table};
     ghost use Rattle.centre_core.specs.Verdict.{verdict};
+    ghost use Rattle.centre_core.specs.declared.event.Event.TheVariants as event;
 
     /// A centre of the network, without entries, whose journal holds so many at most.
     pub fn new(alloc: Global, plmn: [u8; 3], journal_limit: u32) -> Centre
         requires { journal_limit ≤ 4000000 }
-        ensures { result ≡ new_centre plmn journal_limit }
+        ensures { result ≡ record { known = new_centre plmn journal_limit; lines = 0 } }
     {
         Centre {
             alloc,
             plmn,
             limit: journal_limit,
             journal: Vec::new(alloc),
-            register: Register::new(alloc),
-            areas: Areas::new(alloc),
-            book: Book::new(alloc),
-            flights: Vec::new(alloc),
+            stale: false,
+            kept: Kept::new(alloc),
         }
     }
 
-    /// Takes an event that the desk submits. An accepted event becomes one entry of the journal; a refused one changes
-    /// nothing. The refusal is the first, in the order of their numbers, whose cause holds. `Memory` is the last of them:
-    /// it comes where no other refusal holds, for a Send also in the place of `NothingPending`, and for a Forget in that of
-    /// `StillReported` and `StillInFlight`, since these take memory to find.
-    pub fn accept(&mut self, desk: u32, event: Event) -> Result<Answer, Refusal>
-        ensures settings { self.new.settings ≡ self.old.settings }
-        ensures answer { IfOk result (λ a. verdict self.old.settings (past self.old) event ≡ Ok a) }
-        ensures entry { IfOk result (λ a. self.new.journal ≡ self.old.journal ++ record { desk = desk; event = event; answer = a } ∷ []) }
-        ensures refusal { IfErr result (λ r. ((r ≡ Refusal.Memory) × MayStarve self.old.settings (past self.old) event) ⊎ (verdict self.old.settings (past self.old) event ≡ Err r)) }
-        ensures unchanged { IfErr result (λ _. self.new ≡ self.old) }
-        ensures legal { Legal self.new.settings (past self.new) }
-        ensures fits { IfOk result AnswerFits }
-        ensures carried { IfOk result IsCarried }
+    /// Takes an edit, while the centre is whole.
+    fn accept_edit(&mut self, desk: u32, edit: Edit) -> Result<Answer, Refusal>
+        requires whole { self.old.known.stale ≡ false }
+        ensures settings { self.new.known.settings ≡ self.old.known.settings }
+        ensures answer { IfOk result (λ a. verdict self.old.known.settings (past self.old.known) (event.Edit edit) ≡ Ok a) }
+        ensures entry { IfOk result (λ a. self.new.known ≡ record self.old.known { journal = self.old.known.journal ++ record { desk = desk; event = event.Edit edit; answer = a } ∷ [] }) }
+        ensures refusal { IfErr result (Refuses self.old.known (event.Edit edit)) }
+        ensures left { IfErr result (λ r. Leaves self.old.known r self.new.known) }
+        ensures lines { self.new.lines ≤ self.old.lines + 4 * reach (past self.old.known) (event.Edit edit) (verdict self.old.known.settings (past self.old.known) (event.Edit edit)) }
     {
-        let answer = answer_to(
+        let reached = prepare_edit(
             self.alloc,
             self.limit,
             &mut self.journal,
-            &mut self.register,
-            &mut self.areas,
-            &mut self.book,
-            &event,
+            &mut self.kept,
+            &edit,
         )?;
+        let answer = make(&mut self.kept, &edit)?;
+        self.stale = true;
+        let (entry, answer) = with_entry(self.alloc, desk, Event::Edit(edit), answer)?;
+        let place = self.journal.len() as u64 + 1;
         enter(
             self.alloc,
             &mut self.journal,
-            &mut self.flights,
-            desk,
-            event,
-            &answer,
+            &mut self.kept,
+            place,
+            false,
+            reached,
+            entry,
         )?;
+        self.stale = false;
         Ok(answer)
     }
 
+    /// Takes an event that is no edit, while the centre is whole.
+    fn accept_other(&mut self, desk: u32, event: Event) -> Result<Answer, Refusal>
+        requires whole { self.old.known.stale ≡ false }
+        requires other { is_edit event ≡ false }
+        ensures settings { self.new.known.settings ≡ self.old.known.settings }
+        ensures answer { IfOk result (λ a. verdict self.old.known.settings (past self.old.known) event ≡ Ok a) }
+        ensures entry { IfOk result (λ a. self.new.known ≡ record self.old.known { journal = self.old.known.journal ++ record { desk = desk; event = event; answer = a } ∷ [] }) }
+        ensures refusal { IfErr result (Refuses self.old.known event) }
+        ensures left { IfErr result (λ r. Leaves self.old.known r self.new.known) }
+        ensures lines { self.new.lines ≤ self.old.lines + 4 * reach (past self.old.known) event (verdict self.old.known.settings (past self.old.known) event) }
+    {
+        let found = prepare_other(
+            self.alloc,
+            self.plmn,
+            self.limit,
+            &mut self.journal,
+            &mut self.kept,
+            &event,
+        )?;
+        let (entry, given) = with_entry(self.alloc, desk, event, found.answer)?;
+        let up = up_before(self.kept.links.as_slice(), &entry.event);
+        let place = self.journal.len() as u64 + 1;
+        self.stale = true;
+        enter(
+            self.alloc,
+            &mut self.journal,
+            &mut self.kept,
+            place,
+            up,
+            found.reached,
+            entry,
+        )?;
+        self.stale = false;
+        Ok(given)
+    }
+
+    /// Takes an event that the desk submits. An accepted event becomes one entry of the journal; a refused one becomes none.
+    /// The refusal is the first, in the order of their numbers, whose cause holds. `Memory` is the last of them: nothing
+    /// that decides a refusal takes memory, so `Memory` comes only where no other refusal holds. After it the centre may be
+    /// stale; after any other refusal it is as it was.
+    pub fn accept(&mut self, desk: u32, event: Event) -> Result<Answer, Refusal>
+        ensures settings { self.new.known.settings ≡ self.old.known.settings }
+        ensures answer { IfOk result (λ a. verdict self.old.known.settings (past self.old.known) event ≡ Ok a) }
+        ensures whole { OnOk result (self.old.known.stale ≡ false) }
+        ensures entry { IfOk result (λ a. self.new.known ≡ record self.old.known { journal = self.old.known.journal ++ record { desk = desk; event = event; answer = a } ∷ [] }) }
+        ensures refusal { IfErr result (Refuses self.old.known event) }
+        ensures left { IfErr result (λ r. Leaves self.old.known r self.new.known) }
+        ensures legal { Legal self.new.known.settings (past self.new.known) }
+        ensures fits { IfOk result AnswerFits }
+        ensures carried { IfOk result IsCarried }
+        ensures lines { self.new.lines ≤ self.old.lines + 4 * reach (past self.old.known) event (verdict self.old.known.settings (past self.old.known) event) }
+    {
+        self.tell_soundness();
+        if self.stale {
+            return Err(Refusal::Stale);
+        }
+        match event {
+            Event::Edit(edit) => self.accept_edit(desk, edit),
+            other => self.accept_other(desk, other),
+        }
+    }
+
+    /// Whether memory was wanting while an event was entered, and the centre wasn't rebuilt since.
+    pub fn is_stale(&self) -> bool
+        ensures { result ≡ self.now.known.stale }
+    {
+        self.stale
+    }
+
+    /// Makes what is kept beside the journal anew from its entries, which makes a stale centre whole. Where memory is
+    /// wanting the centre is as it was.
+    pub fn rebuild(&mut self) -> Result<(), AllocError>
+        ensures rebuilt { OnOk result (self.new.known ≡ record self.old.known { stale = false }) }
+        ensures unchanged { OnErr result (self.new ≡ self.old) }
+    {
+        let kept = kept_of(self.alloc, self.journal.as_slice())?;
+        self.kept = kept;
+        self.stale = false;
+        Ok(())
+    }
+
+    /// How often lines were read or set since the centre was made or rebuilt, up to the greatest value, which stays.
+    pub fn meter(&self) -> Meter
+        ensures { result.lines ≡ self.now.lines }
+    {
+        Meter {
+            lines: self.kept.tables.meter(),
+        }
+    }
+
     /// The pending orders of the BSC: writes and replaces before kills, then by message identifier, serial number and
-    /// the serial number that is replaced, none first. `NoSuchBsc`, then `Memory`.
+    /// the serial number that is replaced, none first. `Stale`, then `NoSuchBsc`, then `Memory`.
     pub fn pending_of(&self, b: BscId) -> Result<Orders, Refusal>
-        ensures orders { IfOk result (λ orders. (orders ≡ pending (past self.now) b) × (is_bsc (past self.now) b ≡ true)) }
-        ensures refusal { IfErr result (λ r. ((r ≡ Refusal.Memory) × (is_bsc (past self.now) b ≡ true)) ⊎ ((r ≡ Refusal.NoSuchBsc) × (is_bsc (past self.now) b ≡ false))) }
+        ensures orders { IfOk result (λ orders. (orders ≡ pending (past self.now.known) b) × (is_bsc (past self.now.known) b ≡ true)) }
+        ensures whole { OnOk result (self.now.known.stale ≡ false) }
+        ensures refusal { IfErr result (λ r. ((r ≡ Refusal.Stale) × (self.now.known.stale ≡ true)) ⊎ ((self.now.known.stale ≡ false) × (((r ≡ Refusal.Memory) × (is_bsc (past self.now.known) b ≡ true)) ⊎ ((r ≡ Refusal.NoSuchBsc) × (is_bsc (past self.now.known) b ≡ false))))) }
     {
-        if !self.register.has_bsc(b) {
+        if self.stale {
+            return Err(Refusal::Stale);
+        }
+        if !self.kept.register.has_bsc(b) {
             return Err(Refusal::NoSuchBsc);
         }
-        Ok(order_maker::pending(self.alloc, self.journal.as_slice(), self.book.as_slice(), b)?)
+        Ok(questions::pending(&self.kept.tables, b)?)
     }
 
-    /// What is in flight to the BSC: sent, and neither answered nor lost with its link. `NoSuchBsc`.
+    /// What is in flight to the BSC: sent, and neither answered nor lost with its link. `Stale`, then `NoSuchBsc`.
     pub fn in_flight_of(&self, b: BscId) -> Result<Option<&InFlight>, Refusal>
-        ensures flight { IfOk result (λ flight. (option_copied flight ≡ in_flight (past self.now) b) × (is_bsc (past self.now) b ≡ true)) }
-        ensures refusal { IfErr result (λ r. (r ≡ Refusal.NoSuchBsc) × (is_bsc (past self.now) b ≡ false)) }
+        ensures flight { IfOk result (λ flight. (option_copied flight ≡ in_flight (past self.now.known) b) × (is_bsc (past self.now.known) b ≡ true)) }
+        ensures whole { OnOk result (self.now.known.stale ≡ false) }
+        ensures refusal { IfErr result (λ r. ((r ≡ Refusal.Stale) × (self.now.known.stale ≡ true)) ⊎ ((self.now.known.stale ≡ false) × ((r ≡ Refusal.NoSuchBsc) × (is_bsc (past self.now.known) b ≡ false)))) }
     {
-        if !self.register.has_bsc(b) {
+        if self.stale {
+            return Err(Refusal::Stale);
+        }
+        if !self.kept.register.has_bsc(b) {
             return Err(Refusal::NoSuchBsc);
         }
-        Ok(flights::flight_in(self.flights.as_slice(), b))
+        Ok(flight_in(self.kept.flights.as_slice(), b))
     }
 
-    /// The BSC at which the cell is registered, if it is.
+    /// The BSC at which the cell is registered, if it is. `Stale`.
     pub fn place_of(&self, cell: Cell) -> Result<Option<BscId>, Refusal>
-        ensures { result ≡ Ok (place (past self.now) cell) }
+        ensures place { IfOk result (λ p. (p ≡ place (past self.now.known) cell) × (self.now.known.stale ≡ false)) }
+        ensures refusal { IfErr result (λ r. (r ≡ Refusal.Stale) × (self.now.known.stale ≡ true)) }
     {
-        Ok(self.register.bsc_of(cell))
+        if self.stale {
+            return Err(Refusal::Stale);
+        }
+        Ok(self.kept.register.bsc_of(cell))
     }
 
     /// What the BSC has reported: each of its keys that is on air, or may be, by cell, message identifier and serial
-    /// number. `NoSuchBsc`, then `Memory`.
+    /// number. `Stale`, then `NoSuchBsc`, then `Memory`.
     pub fn table_of(&mut self, b: BscId) -> Result<ReportedKeys, Refusal>
-        ensures table { IfOk result (λ keys. (keys ≡ table (past self.old) b) × (is_bsc (past self.old) b ≡ true)) }
-        ensures refusal { IfErr result (λ r. ((r ≡ Refusal.Memory) × (is_bsc (past self.old) b ≡ true)) ⊎ ((r ≡ Refusal.NoSuchBsc) × (is_bsc (past self.old) b ≡ false))) }
-        ensures unchanged { self.new ≡ self.old }
+        ensures table { IfOk result (λ keys. (keys ≡ table (past self.old.known) b) × (is_bsc (past self.old.known) b ≡ true)) }
+        ensures whole { OnOk result (self.old.known.stale ≡ false) }
+        ensures refusal { IfErr result (λ r. ((r ≡ Refusal.Stale) × (self.old.known.stale ≡ true)) ⊎ ((self.old.known.stale ≡ false) × (((r ≡ Refusal.Memory) × (is_bsc (past self.old.known) b ≡ true)) ⊎ ((r ≡ Refusal.NoSuchBsc) × (is_bsc (past self.old.known) b ≡ false))))) }
+        ensures unchanged { self.new.known ≡ self.old.known }
     {
-        if !self.register.has_bsc(b) {
+        if self.stale {
+            return Err(Refusal::Stale);
+        }
+        if !self.kept.register.has_bsc(b) {
             return Err(Refusal::NoSuchBsc);
         }
-        Ok(mirror::table(self.alloc, self.journal.as_slice(), self.book.as_slice(), b)?)
+        tell_lines(self.kept.tables.lines());
+        tell_known();
+        Ok(questions::table(
+            self.alloc,
+            &self.kept.register,
+            &self.kept.book,
+            &mut self.kept.tables,
+            b,
+        )?)
     }
 
-    /// The numbers of the warning. `NoSuchWarning`.
+    /// The numbers of the warning. `Stale`, then `NoSuchWarning`.
     pub fn board_total(&self, warning: WarningId) -> Result<Numbers, Refusal>
-        ensures numbers { IfOk result (λ numbers. board (past self.now) warning ≡ Some numbers) }
-        ensures refusal { IfErr result (λ r. (r ≡ Refusal.NoSuchWarning) × (board (past self.now) warning ≡ None)) }
+        ensures numbers { IfOk result (λ numbers. board (past self.now.known) warning ≡ Some numbers) }
+        ensures whole { OnOk result (self.now.known.stale ≡ false) }
+        ensures refusal { IfErr result (λ r. ((r ≡ Refusal.Stale) × (self.now.known.stale ≡ true)) ⊎ ((self.now.known.stale ≡ false) × ((r ≡ Refusal.NoSuchWarning) × (board (past self.now.known) warning ≡ None)))) }
     {
-        match self.book.find(warning) {
-            Some(w) => Ok(coverage_board::total(self.journal.as_slice(), w)),
+        if self.stale {
+            return Err(Refusal::Stale);
+        }
+        match questions::board(&self.kept.tables, &self.kept.book, warning) {
+            Some(numbers) => Ok(numbers),
             None => Err(Refusal::NoSuchWarning),
         }
     }
 
+    /// The numbers of the warning and one of its areas. `Stale`, then `NoSuchArea`, `NoSuchWarning`, `AreaNotThere`.
+    pub fn board_area(&self, warning: WarningId, area: &Name) -> Result<Numbers, Refusal>
+        ensures numbers { IfOk result (λ numbers. area_board (past self.now.known) warning area.now ≡ Ok numbers) }
+        ensures whole { OnOk result (self.now.known.stale ≡ false) }
+        ensures refusal { IfErr result (λ r. ((r ≡ Refusal.Stale) × (self.now.known.stale ≡ true)) ⊎ ((self.now.known.stale ≡ false) × (area_board (past self.now.known) warning area.now ≡ Err r))) }
+    {
+        if self.stale {
+            return Err(Refusal::Stale);
+        }
+        questions::area_board(
+            &self.kept.areas,
+            &self.kept.book,
+            &self.kept.tables,
+            warning,
+            area,
+        )
+    }
+
     /// The number of entries.
     pub fn position(&self) -> u64
-        ensures { result ≡ length self.now.journal }
+        ensures { result ≡ length self.now.known.journal }
     {
         self.journal.len() as u64
     }
 
     fn nth(&self, n: u64) -> Option<&Entry>
-        ensures { option_copied result ≡ (if n == 0 then None else slice_get self.now.journal (n - 1)) }
+        ensures { option_copied result ≡ (if n == 0 then None else slice_get self.now.known.journal (n - 1)) }
     {
         if n == 0 || n > self.journal.len() as u64 {
             return None;
@@ -323,16 +329,16 @@ impl Centre {
     /// The entry of that number, from 1; `None` past the last.
     pub fn entry(&mut self, n: u64) -> Option<&Entry>
         ensures* after { sem 𝓛 (follows_so the_row the_row self.entry.ghost_name none (λ _ _. ⊤) (λ c. c ≡ self.old)) }
-        ensures value { option_copied result ≡ (if n == 0 then None else slice_get self.old.journal (n - 1)) }
+        ensures value { option_copied result ≡ (if n == 0 then None else slice_get self.old.known.journal (n - 1)) }
     {
         self.nth(n)
     }
 
     /// Tells what always holds of a centre.
     pub fn tell_soundness(&self)
-        ensures legal { Legal self.now.settings (past self.now) }
-        ensures long { length self.now.journal ≤ self.now.settings.limit }
-        ensures few { self.now.settings.limit ≤ 4000000 }
+        ensures legal { Legal self.now.known.settings (past self.now.known) }
+        ensures long { length self.now.known.journal ≤ self.now.known.settings.limit }
+        ensures few { self.now.known.settings.limit ≤ 4000000 }
     {
         let _ = &self.limit;
     }

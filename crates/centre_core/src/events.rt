@@ -1,4 +1,4 @@
-//! The rules of the events: what each is answered after the entries of a journal. Each looks at the causes of refusal in
+//! The rules of the events: what each is answered, by what a centre keeps. Each looks at the causes of refusal in
 //! the order of their numbers. An edit has two functions, one that looks whether it is accepted and one that makes it.
 
 mod bscs;
@@ -6,78 +6,90 @@ mod cells;
 mod forgetting;
 mod links;
 mod named_areas;
+mod queries;
 mod reports;
 mod sends;
 mod warnings;
 
-ghost use Rattle.std.specs.Prelude.{◌≡◌, true, false, IfOk, IsOk, OnOk, OnErr};
-ghost use Rattle.centre_core.specs.Kept.{IsRegisterOf, AreAreasOf, TakesMemory, register_after, areas_after, is_edit, is_plain, Gives, GivesOr, IsCheckedOr};
-ghost use Rattle.centre_core.specs.Past.{past_of};
+ghost use Rattle.std.specs.Prelude.{◌≡◌, ◌≤◌, ◌+◌, ℕ, true, false, IfOk, IsOk, OnOk, OnErr};
+ghost use Rattle.order_maker.specs.Pending.{IsListOf};
+ghost use Rattle.centre_core.specs.Idle.{AreKnownOf};
+ghost use Rattle.centre_core.specs.IsKept.{IsKept, OnlyReadsIn};
+ghost use Rattle.centre_core.specs.Kept.{IsRegisterOf, AreAreasOf, register_after, areas_after, is_edit, is_plain, Gives, IsChecked};
+ghost use Rattle.centre_core.specs.Legal.{Legal};
+ghost use Rattle.centre_core.specs.Past.{Past, position};
+ghost use Rattle.centre_core.specs.Pending.{all_actions};
+ghost use Rattle.centre_core.specs.Reach.{looked_at};
+ghost use Rattle.centre_core.specs.Reaching.{TellsLines};
+ghost use Rattle.centre_core.specs.Settings.{Settings};
 ghost use Rattle.centre_core.specs.Verdict.{answered, edit_answered};
 ghost use Rattle.centre_core.specs.Warnings.{book_of, book_after};
-ghost use Rattle.centre_core.specs.declared.event.Event.TheVariants as event;
+ghost use Rattle.centre_core.specs.declared.kept.Kept.{Kept};
 
 use crate::answer::Answer;
-use crate::coverage_plan::Edit;
-use crate::entry::Entry;
 use crate::event::Event;
+use crate::kept::Kept;
 use crate::refusal::Refusal;
 use areas::Areas;
 use cell_register::Register;
+use coverage_plan::Edit;
 use std::alloc::Global;
 use warning_book::Book;
 
 /// What an event is answered.
 pub(crate) type Verdict = Result<Answer, Refusal>;
 
-/// Whether the edit is accepted after the entries of the journal. Nothing is changed; a Forget alone takes memory.
-pub(crate) fn check_edit(
-    alloc: Global,
-    journal: &[Entry],
-    register: &Register,
-    areas: &Areas,
-    book: &Book,
-    edit: &Edit,
-) -> Result<(), Refusal>
-    requires registered { IsRegisterOf (past_of journal.now) register.now }
-    requires selected { AreAreasOf (past_of journal.now) areas.now }
-    requires booked { book.now ≡ book_of (past_of journal.now) }
-    ensures { IsCheckedOr (TakesMemory (past_of journal.now) (event.Edit edit.now)) (edit_answered (past_of journal.now) edit.now) result }
+/// Whether the edit is accepted. No line is read, and no memory is taken.
+pub(crate) fn check_edit(kept: &Kept, edit: &Edit) -> Result<(), Refusal>
+    ensures { (settings : Settings) (past : Past) → Legal settings past → IsKept past kept.now → IsChecked (edit_answered past edit.now) result }
 {
     match edit {
-        Edit::AddBsc(b) => bscs::check_add_bsc(register, *b),
-        Edit::RemoveBsc(b) => bscs::check_remove_bsc(journal, register, *b),
-        Edit::AddCell(c, b) => cells::check_add_cell(register, *c, *b),
-        Edit::MoveCell(c, b) => cells::check_move_cell(register, *c, *b),
-        Edit::RemoveCell(c) => cells::check_remove_cell(register, *c),
-        Edit::AddArea(a) => named_areas::check_add_area(areas, a),
-        Edit::DropArea(a) => named_areas::check_drop_area(book, areas, a),
-        Edit::Put(a, s) => named_areas::check_put(areas, a, *s),
-        Edit::Cut(a, s) => named_areas::check_cut(areas, a, *s),
+        Edit::AddBsc(b) => bscs::check_add_bsc(&kept.register, *b),
+        Edit::RemoveBsc(b) => bscs::check_remove_bsc(kept.links.as_slice(), &kept.register, *b),
+        Edit::AddCell(c, b) => cells::check_add_cell(&kept.register, *c, *b),
+        Edit::MoveCell(c, b) => cells::check_move_cell(&kept.register, *c, *b),
+        Edit::RemoveCell(c) => cells::check_remove_cell(&kept.register, *c),
+        Edit::AddArea(a) => named_areas::check_add_area(&kept.areas, a),
+        Edit::DropArea(a) => named_areas::check_drop_area(&kept.book, &kept.areas, a),
+        Edit::Put(a, s) => named_areas::check_put(&kept.areas, a, *s),
+        Edit::Cut(a, s) => named_areas::check_cut(&kept.areas, a, *s),
         Edit::Issue(notice, names) => {
-            warnings::check_issue(areas, book, notice, names.as_slice())
+            warnings::check_issue(&kept.areas, &kept.book, notice, names.as_slice())
         }
-        Edit::Update(number, content) => warnings::check_update(book, *number, content),
-        Edit::Widen(number, a) => warnings::check_widen(areas, book, *number, a),
-        Edit::Narrow(number, a) => warnings::check_narrow(areas, book, *number, a),
-        Edit::Stop(number) => warnings::check_stop(book, *number),
-        Edit::Forget(number) => forgetting::check_forget(alloc, journal, book, *number),
+        Edit::Update(number, content) => warnings::check_update(&kept.book, *number, content),
+        Edit::Widen(number, a) => warnings::check_widen(&kept.areas, &kept.book, *number, a),
+        Edit::Narrow(number, a) => warnings::check_narrow(&kept.areas, &kept.book, *number, a),
+        Edit::Stop(number) => warnings::check_stop(&kept.book, *number),
+        Edit::Forget(number) => forgetting::check_forget(
+            &kept.register,
+            &kept.book,
+            kept.flights.as_slice(),
+            &kept.tables,
+            *number,
+        ),
     }
 }
 
+/// A lemma, not a test: where lines were only read, what is kept stays what the past says.
+#[tactic(auto, using(crate::proofs::ReadLemmas::reads_kept))]
+pub(crate) fn tell_reads()
+    ensures { (past : Past) (s t : Kept) → IsKept past s → OnlyReadsIn s t → IsKept past t }
+{}
+
+/// A lemma, not a test: the cells that are known by what is kept are those of the past.
+#[tactic(auto, using(crate::proofs::ReadLemmas::known_kept))]
+pub(crate) fn tell_known()
+    ensures { (settings : Settings) (past : Past) (s : Kept) → Legal settings past → IsKept past s → TellsLines s.tables.lines → AreKnownOf past s.tables.lines s.register }
+{}
+
 /// Makes an edit that is accepted. Where memory is wanting the register, the areas and the book are as before.
 pub(crate) fn make_edit(
-    journal: &[Entry],
     register: &mut Register,
     areas: &mut Areas,
     book: &mut Book,
     edit: &Edit,
 ) -> Verdict
-    requires registered { IsRegisterOf (past_of journal.now) register.old }
-    requires selected { AreAreasOf (past_of journal.now) areas.old }
-    requires booked { book.old ≡ book_of (past_of journal.now) }
-    requires free { IsOk (edit_answered (past_of journal.now) edit.now) }
-    ensures verdict { Gives (edit_answered (past_of journal.now) edit.now) result }
+    ensures verdict { (past : Past) → IsRegisterOf past register.old → AreAreasOf past areas.old → book.old ≡ book_of past → IsOk (edit_answered past edit.now) → Gives (edit_answered past edit.now) result }
     ensures register { OnOk result (register.new ≡ register_after edit.now register.old) }
     ensures areas { OnOk result (areas.new ≡ areas_after edit.now areas.old) }
     ensures book { OnOk result (book.new ≡ book_after edit.now book.old) }
@@ -88,7 +100,7 @@ pub(crate) fn make_edit(
 {
     match edit {
         Edit::AddBsc(b) => bscs::add_bsc(register, *b),
-        Edit::RemoveBsc(b) => bscs::remove_bsc(journal, register, *b),
+        Edit::RemoveBsc(b) => bscs::remove_bsc(register, *b),
         Edit::AddCell(c, b) => cells::add_cell(register, *c, *b),
         Edit::MoveCell(c, b) => cells::move_cell(register, *c, *b),
         Edit::RemoveCell(c) => cells::remove_cell(register, *c),
@@ -101,30 +113,38 @@ pub(crate) fn make_edit(
         Edit::Widen(number, a) => warnings::widen(areas, book, *number, a),
         Edit::Narrow(number, a) => warnings::narrow(areas, book, *number, a),
         Edit::Stop(number) => warnings::stop(book, *number),
-        Edit::Forget(number) => forgetting::forget(journal, book, *number),
+        Edit::Forget(number) => forgetting::forget(book, *number),
     }
 }
 
-/// What an event that is no edit is answered after the entries of the journal.
+/// What an event that is no edit is answered. Its entry would have that number. The network is the centre's, as its three
+/// octets are sent (TS 24.008, 10.5.1.3). Lines are read for an Ask alone.
+#[tactic(auto, using(crate::proofs::ReadLemmas::reads_none))]
 pub(crate) fn answer(
     alloc: Global,
-    journal: &[Entry],
-    register: &Register,
-    book: &Book,
+    network: [u8; 3],
+    kept: &mut Kept,
+    place: u64,
     event: &Event,
 ) -> Verdict
-    requires registered { IsRegisterOf (past_of journal.now) register.now }
-    requires booked { book.now ≡ book_of (past_of journal.now) }
     requires other { is_edit event.now ≡ false }
-    ensures { GivesOr (TakesMemory (past_of journal.now) event.now) (answered (past_of journal.now) event.now) result }
+    ensures verdict { (settings : Settings) (past : Past) → Legal settings past → settings.network ≡ network → IsKept past kept.old → AreKnownOf past kept.old.tables.lines kept.old.register → ((b : ℕ) → IsListOf (all_actions past b) kept.old.tables.pending b) → place ≡ position past + 1 → Gives (answered settings.network past event.now) result }
+    ensures reads { OnlyReadsIn kept.old kept.new }
+    ensures meter { (settings : Settings) (past : Past) → Legal settings past → AreKnownOf past kept.old.tables.lines kept.old.register → kept.new.tables.lines.meter ≤ kept.old.tables.lines.meter + looked_at past event.now }
 {
     match event {
         Event::Edit(_) => unreachable!(),
-        Event::LinkUp(b) => links::link_up(journal, register, *b),
-        Event::LinkDown(b, generation) => links::link_down(journal, register, *b, *generation),
-        Event::Send(b, generation) => sends::send(alloc, journal, register, book, *b, *generation),
+        Event::Retry(b) => links::retry(&kept.register, *b),
+        Event::LinkUp(b) => links::link_up(&kept.register, *b, place),
+        Event::LinkDown(b, generation) => {
+            links::link_down(kept.links.as_slice(), &kept.register, *b, *generation)
+        }
+        Event::Send(b, generation) => sends::send(alloc, kept, *b, *generation),
+        Event::Ask(b, generation, warning, after) => {
+            queries::ask(alloc, kept, *b, *generation, *warning, *after)
+        }
         Event::Report(b, generation, message) => {
-            reports::report(alloc, journal, register, *b, *generation, message)
+            reports::report(alloc, network, kept, *b, *generation, message)
         }
     }
 }

@@ -1,6 +1,6 @@
 //! What is in flight to one BSC.
 
-use crate::order_maker::InFlight;
+use crate::in_flight::InFlight;
 use cell_register::BscId;
 
 /// What is in flight to the BSC.

@@ -6,6 +6,7 @@ ghost use Rattle.centre_core.specs.Legal.{Legal, Call, after_calls};
 ghost use Rattle.centre_core.specs.Headline.{PendingGivesPlan};
 ghost use Rattle.centre_core.specs.Past.{Past, From};
 ghost use Rattle.centre_core.specs.Settings.{Settings};
+ghost use Rattle.centre_core.specs.Spare.{NoneToSpare, ActsOnce, AwaitedIsPending};
 
 /// After every legal history, the pending orders of each BSC, applied to what it has reported, give its part of the
 /// plan.
@@ -19,4 +20,24 @@ pub fn pending_gives_plan()
 #[tactic(auto, using(crate::proofs::HeadlineLemmas::plan_after_calls))]
 pub fn calls_give_plan()
     ensures { (settings : Settings) (calls : List Call) → PendingGivesPlan (after_calls settings calls (From empty_base)) }
+{}
+
+/// After every legal history, no pending order names a cell to spare: without one of its cells the pending orders leave
+/// its key there otherwise than planned, although the cell is up and nothing holds the key back.
+#[tactic(auto, using(crate::proofs::SpareLemmas::none_to_spare))]
+pub fn no_cell_is_to_spare()
+    ensures { (settings : Settings) (past : Past) → Legal settings past → NoneToSpare past }
+{}
+
+/// After every legal history, no key stands in two of the actions that are to be ordered of a BSC.
+#[tactic(auto, using(crate::proofs::SpareLemmas::acts_once))]
+pub fn no_key_is_ordered_twice()
+    ensures { (settings : Settings) (past : Past) → Legal settings past → ActsOnce past }
+{}
+
+/// After every legal history, the cells that await a warning are those of the pending writes and replaces of its
+/// message identifier and current serial number, and over all BSCs there are as many of the one as of the other.
+#[tactic(auto, using(crate::proofs::AwaitedLemmas::awaited_is_pending))]
+pub fn what_is_awaited_is_pending()
+    ensures { (settings : Settings) (past : Past) → Legal settings past → AwaitedIsPending past }
 {}

@@ -1,29 +1,52 @@
-//! The cell broadcast centre: its events, their journal, and what follows from them.
+//! The cell broadcast centre: its events, their journal, and what is kept beside it.
 //!
-//! A centre is its journal. What is planned for each base station controller (BSC), what each of them has
-//! reported, what is still to be ordered and every number of a board are computed from the entries.
-//! Begin with `event` and `centre`; the rules of each event are in `events`, and the definitions that contracts
-//! cite are in `specs/`, beginning with `Past`.
+//! What is planned for each base station controller (BSC), what each of them has reported, what is still to be ordered
+//! and every number of a board are kept, and changed line by line. Begin with `event` and `centre`; the rules of each
+//! event are in `events`, the lines on which it bears in `reach`, and how these change in `following`. The definitions
+//! that contracts cite are in `specs/`, beginning with `Past` and `IsKept`.
 #![tactic(auto)]
 
 pub mod answer;
 pub mod centre;
-pub mod coverage_board;
-pub mod coverage_plan;
+mod counts;
+mod downs;
+mod effect;
+mod effects;
+mod entering;
 pub mod entry;
 pub mod event;
 mod events;
+mod facts;
+mod finishing;
 mod flight;
 mod flights;
+mod follow_lemmas;
+mod following;
 pub mod headline;
-mod history;
+mod held;
+mod hold_lemmas;
+pub mod in_flight;
+mod kept;
 pub mod laws;
-pub mod mirror;
-pub mod order_maker;
+mod lemmas;
+mod link;
+mod links;
+mod looking;
+pub mod meter;
 pub mod outcome;
+mod outside_lemmas;
+mod questions;
+mod reach;
+mod reached;
+mod reached_warnings;
+mod rebuilding;
 pub mod refusal;
 pub mod replies;
 pub mod reply;
+mod replying;
+pub mod reported;
+mod spots;
+mod stepping;
 
 pub use areas::Selector;
 pub use cell_register::BscId;

@@ -7,7 +7,7 @@ use cbsp_ie::Cause;
 pub enum Outcome {
     /// It was carried out.
     Done,
-    /// It was refused, with this cause. So far no reply that says so is taken.
+    /// It was refused, with this cause (TS 48.049, 8.2.13).
     Refused(Cause),
     /// Nothing was said of it, or the link was lost first.
     Silent,

@@ -26,9 +26,11 @@ pub enum Limit {
 }
 
 /// Why an event or a question is refused, in the order in which the causes are looked at. The first that holds is
-/// the answer; want of memory for an event's entry may stand in the place of any but `JournalFull`.
+/// the answer. `Memory` is the last of them: nothing that decides a refusal takes memory.
 #[derive(Clone, Copy, Debug, PartialEq, Eq, Error)]
 pub enum Refusal {
+    #[error("the centre is stale: memory was wanting while an event was entered")]
+    Stale,
     #[error("the journal is full")]
     JournalFull,
     #[error("no such BSC")]
@@ -92,6 +94,8 @@ pub enum Refusal {
     InFlight,
     #[error("nothing is to be ordered")]
     NothingPending,
+    #[error("the message is on air in no such cell")]
+    NothingToAsk,
     #[error("the message answers no order in flight")]
     NoOrder,
     #[error("a limit would be passed: {which:?}")]
@@ -108,6 +112,7 @@ impl Refusal {
         ensures { result ≡ refusal_number self }
     {
         match self {
+            Refusal::Stale => 1,
             Refusal::JournalFull => 2,
             Refusal::NoSuchBsc => 3,
             Refusal::BscExists => 4,
@@ -138,6 +143,7 @@ impl Refusal {
             Refusal::LinkNotUp => 30,
             Refusal::InFlight => 31,
             Refusal::NothingPending => 32,
+            Refusal::NothingToAsk => 33,
             Refusal::NoOrder => 34,
             Refusal::Limit { which: _ } => 35,
             Refusal::Memory => 36,

@@ -8,6 +8,7 @@ use common::Cell;
 pub struct Reply {
     pub cell: Cell,
     pub outcome: Outcome,
-    /// The number of broadcasts completed: `None` so far, since it is not read from replies.
+    /// The number of broadcasts of the version that was on air there, where the reply gives one (TS 48.049, 8.2.10); none of
+    /// a write.
     pub count: Option<u16>,
 }

@@ -7,4 +7,6 @@ pub mod TextLemmas
 pub mod StopLemmas
 pub mod ReplayLemmas
 pub mod UniqueLemmas
+pub mod SessionLemmas
+pub mod WholeLemmas
 pub mod CommandLineLemmas

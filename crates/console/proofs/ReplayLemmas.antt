@@ -1,39 +1,75 @@
 -- A whole run.
 use Rattle.std.proofs.Common.{◌≡◌, ◌⊎◌, inl, inr, ℕ, ◌+◌, true, false, Option, Some, None, List, [], ◌∷◌, ◌++◌, refl, sym, ap, ◌∙◌, subst, append_assoc, append-nil, take, arith}
 use Rattle.std.specs.Bool.{MatchBool}
+use Rattle.std.specs.Prelude.{IsSomeAnd}
 use Rattle.std.proofs.KnownBytes.{Appends-trans, Consumes-nil, Consumes-trans}
 use Rattle.std.specs.Io.KnownBytes.{Appends, Consumes, IsAtEnd}
 use Rattle.framing.specs.Source.{counted}
+use Rattle.cbsp_messages.specs.declared.message_type.MessageType.{MessageType}
+use Rattle.centre_core.specs.declared.event.Event.{Event}
+use Rattle.centre_core.specs.declared.event.Event.TheVariants as event
 use Rattle.centre_core.specs.declared.refusal.Refusal.TheVariants as refusal
 use Rattle.console.specs.Consoles.{ConsoleState, EndsLine, BreaksInLine, BreaksLine, Stops, Reads, ReadsAndStops, IsWritten}
+use Rattle.console.specs.Generations.{generation_of}
 use Rattle.console.specs.Grammar.{line_of}
+use Rattle.console.specs.HexText.{octets_of}
 use Rattle.console.specs.Replays.{IsLeft, MeetsWant, Replays, BreaksOff}
-use Rattle.console.specs.Sessions.{SessionState, Says, Responds, RespondsOrStarves, IsStarved, Starves, is_comment, AnswersLine, AnswersWords, AnswersOrStarves, LineStarves}
+use Rattle.console.specs.Sessions.{SessionState, Says, report_type, event_of, Responds, RespondsOrStarves, StarvesAt, BodyStarves, OctetsStarve, Starves, is_comment, AnswersLine, AnswersWords, AnswersOrStarves, LineStarves}
 use Rattle.console.specs.Text.{lines_from, lines_of, without_return, IsText, IsTextOrStarves}
 use Rattle.console.specs.Texts.{response_text, refused_text}
 use Rattle.console.specs.Words.{words_of}
 use Rattle.console.specs.declared.fault.ReplayFault.{ReplayFault}
 use Rattle.console.specs.declared.fault.ReplayFault.TheVariants.{ReadFault, WriteFault, Memory, LongLine}
 use Rattle.console.specs.declared.line.Line.{Line}
+use Rattle.console.specs.declared.line.Line.TheVariants as request
 use Rattle.console.specs.declared.response.Response.{Response}
 use Rattle.console.specs.declared.response.Response.TheVariants as response
 use Rattle.console.proofs.PartLemmas.{lines_from_start}
 use Rattle.console.proofs.StopLemmas.{goes_stops, written_after}
 use Rattle.console.proofs.TextLemmas.{text_append, goes_goes, goes_nowhere}
 
+-- that memory was wanting is the answer to an event
+event_starved : (old : SessionState) (e : Event) (r : Response) (new : SessionState) → StarvesAt old e r new → r ≡ response.Refused refusal.Memory
+event_starved old e r new (may, inl same) = same.0
+event_starved old e r new (may, inr left) = left.0
+
+some_starved : (old : SessionState) (e : Option Event) (r : Response) (new : SessionState) → IsSomeAnd e (λ e. StarvesAt old e r new) → r ≡ response.Refused refusal.Memory
+some_starved old None r new h = absurd h
+some_starved old (Some e) r new h = event_starved old e r new h
+
+-- and to a report
+body_starved : (old : SessionState) (b : ℕ) (body : List ℕ) (t : Option MessageType) (r : Response) (new : SessionState)
+    → IsSomeAnd t (λ t. BodyStarves old b t body r new) → r ≡ response.Refused refusal.Memory
+body_starved old b body None r new h = absurd h
+body_starved old b body (Some t) r new (inl same) = same.0
+body_starved old b body (Some t) r new (inr at) = event_starved old (event.Report b (generation_of old.kept b) at.0) r new at.2
+
+octets_starved : (old : SessionState) (b : ℕ) (octets : Option (List ℕ)) (r : Response) (new : SessionState)
+    → IsSomeAnd octets (λ xs. OctetsStarve old b xs r new) → r ≡ response.Refused refusal.Memory
+octets_starved old b None r new h = absurd h
+octets_starved old b (Some xs) r new h = body_starved old b h.0.body (report_type h.0.kind) r new h.2
+
+-- and so to every line
+line_starved : (old : SessionState) (l : Line) (r : Response) (new : SessionState) → Starves old l r new → r ≡ response.Refused refusal.Memory
+line_starved old (request.Report b text) r new h = octets_starved old b (octets_of text) r new h
+line_starved old (request.Pending b) r new h = h.2.0
+line_starved old (request.Table b) r new h = h.2.0
+line_starved old request.Rebuild r new h = h.0
+line_starved old l r new h = some_starved old (event_of old l) r new h
+
 -- a line has its answer, or memory was wanting where it may be
 line_or_want : (old : SessionState) (l : Option Line) (r : Response) (new : SessionState) → AnswersLine RespondsOrStarves old l r new
-    → AnswersLine Responds old l r new ⊎ (AnswersLine Starves old l r new × IsStarved old r new)
+    → AnswersLine Responds old l r new ⊎ (AnswersLine Starves old l r new × (r ≡ response.Refused refusal.Memory))
 line_or_want old None r new h = inl h
-line_or_want old (Some l) r new h = elim h [ inl answered ↦ inl answered | inr want ↦ inr (want, want.1) ]
+line_or_want old (Some l) r new h = elim h [ inl answered ↦ inl answered | inr want ↦ inr (want, line_starved old l r new want) ]
 
 words_or_want : (old : SessionState) (words : List (List ℕ)) (r : Response) (new : SessionState) → AnswersWords RespondsOrStarves old words r new
-    → AnswersWords Responds old words r new ⊎ (AnswersWords Starves old words r new × IsStarved old r new)
+    → AnswersWords Responds old words r new ⊎ (AnswersWords Starves old words r new × (r ≡ response.Refused refusal.Memory))
 words_or_want old [] r new h = inl h
 words_or_want old (first ∷ words) r new h =
     elim (is_comment first) as (λ b. MatchBool b (Says old response.Silence r new) (AnswersLine RespondsOrStarves old (line_of (first ∷ words)) r new)
     → MatchBool b (Says old response.Silence r new) (AnswersLine Responds old (line_of (first ∷ words)) r new)
-    ⊎ (MatchBool b (Says old response.Silence r new) (AnswersLine Starves old (line_of (first ∷ words)) r new) × IsStarved old r new)) [
+    ⊎ (MatchBool b (Says old response.Silence r new) (AnswersLine Starves old (line_of (first ∷ words)) r new) × (r ≡ response.Refused refusal.Memory))) [
       | true ↦ λ same. inl same
       | false ↦ λ answered. line_or_want old (line_of (first ∷ words)) r new answered
     ] h
@@ -52,6 +88,7 @@ text_or_want old (line ∷ lines) new text told =
               line = want.line;
               back = want.back;
               session = want.session;
+              after = want.after;
               answered = response_text told.0 ++ want.answered;
               rest = want.rest;
               cut = ap (λ ls. line ∷ ls) want.cut;
@@ -67,16 +104,15 @@ text_or_want old (line ∷ lines) new text told =
         line = line;
         back = lines;
         session = old;
+        after = told.1;
         answered = [];
         rest = told.2;
         cut = refl;
         told = (refl, refl);
         short = told.3;
-        starved =
-            subst (λ r. LineStarves old (without_return line) r old) starved.1.0
-            (subst (λ session. LineStarves old (without_return line) told.0 session) starved.1.1 starved.0);
-        more = subst (λ session. IsTextOrStarves session lines new told.2) starved.1.1 told.5;
-        text_is = told.6 ∙ ap (λ r. response_text r ++ told.2) starved.1.0;
+        starved = subst (λ r. LineStarves old (without_return line) r told.1) starved.1 starved.0;
+        more = told.5;
+        text_is = told.6 ∙ ap (λ r. response_text r ++ told.2) starved.1;
       })
     ]
 

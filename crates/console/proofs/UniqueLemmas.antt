@@ -1,5 +1,5 @@
 -- A line has one answer, and lines have one text.
-use Rattle.std.proofs.Common.{◌≡◌, inl, inr, ℕ, ◌+◌, true, false, Option, Some, None, Result, Ok, Err, List, [], ◌∷◌, ◌++◌, length, refl, sym, ap, ◌∙◌, subst}
+use Rattle.std.proofs.Common.{◌≡◌, inl, inr, ℕ, ◌+◌, Bool, true, false, Option, Some, None, Result, Ok, Err, List, [], ◌∷◌, ◌++◌, length, refl, sym, ap, ◌∙◌, subst}
 use Rattle.std.specs.Bool.{MatchBool}
 use Rattle.std.specs.Prelude.{MatchOption}
 use Rattle.cbsp_messages.specs.Faults.{IsFaultAs}
@@ -13,19 +13,19 @@ use Rattle.cbsp_messages.specs.declared.message_type.MessageType.TheVariants as 
 use Rattle.cbsp_messages.proofs.UniqueLemmas.{no_fault_if_spelled, not_whole, one_cut_fault, one_message_at_most, one_whole_fault}
 use Rattle.centre_core.specs.Legal.{past}
 use Rattle.centre_core.specs.Links.{is_bsc}
-use Rattle.centre_core.specs.Numbers.{board}
+use Rattle.centre_core.specs.Numbers.{area_board, board}
 use Rattle.centre_core.specs.Pending.{pending}
 use Rattle.centre_core.specs.Table.{table}
-use Rattle.centre_core.specs.Verdict.{verdict}
 use Rattle.centre_core.specs.declared.answer.Answer.{Answer}
 use Rattle.centre_core.specs.declared.event.Event.{Event}
 use Rattle.centre_core.specs.declared.event.Event.TheVariants as event
 use Rattle.centre_core.specs.declared.refusal.Refusal.{Refusal}
 use Rattle.centre_core.specs.declared.refusal.Refusal.TheVariants as refusal
+use Rattle.coverage_board.specs.declared.numbers.Numbers.{Numbers}
 use Rattle.console.specs.Generations.{generation_of}
 use Rattle.console.specs.Grammar.{line_of}
 use Rattle.console.specs.HexText.{octets_of}
-use Rattle.console.specs.Sessions.{SessionState, Says, entered, with_link, Submits, BringsUp, AsksBsc, ReportsBody, ReportsFrame, ReportsOctets, report_type, event_of, SubmitsLine, Responds, is_comment, AnswersLine, AnswersWords}
+use Rattle.console.specs.Sessions.{SessionState, Says, verdict_in, entered, with_link, Submits, BringsUp, AsksBoard, AsksAreaBoard, AsksBsc, AsksWhole, SaysNumbers, ReportsBody, ReportsFrame, ReportsOctets, report_type, event_of, SubmitsLine, Responds, is_comment, AnswersLine, AnswersWords}
 use Rattle.console.specs.Text.{IsText, without_return}
 use Rattle.console.specs.Texts.{response_text}
 use Rattle.console.specs.Words.{words_of}
@@ -52,7 +52,7 @@ session_of old after (Ok a) = after a
 session_of old after (Err r) = old
 
 submits_so : (old : SessionState) (e : Event) (r : Response) (new : SessionState) → Submits old e r new
-    → Same r (answer_of old (verdict old.centre.settings (past old.centre) e)) new (session_of old (entered old e) (verdict old.centre.settings (past old.centre) e))
+    → Same r (answer_of old (verdict_in old e)) new (session_of old (entered old e) (verdict_in old e))
 submits_so old e (response.Accepted number a) new h =
     subst (λ v. Same (response.Accepted number a) (answer_of old v) new (session_of old (entered old e) v)) (sym h.0.0) (ap (λ n. response.Accepted n a) h.0.1, h.1)
 submits_so old e (response.Refused r) new h =
@@ -64,8 +64,8 @@ submits_one old e r s new last h k =
     let one = submits_so old e r new h in let two = submits_so old e s last k in (one.0 ∙ sym two.0, one.1 ∙ sym two.1)
 
 brings_up_so : (old : SessionState) (b : ℕ) (r : Response) (new : SessionState) → BringsUp old b r new
-    → Same r (answer_of old (verdict old.centre.settings (past old.centre) (event.LinkUp b))) new
-    (session_of old (λ a. with_link b a (entered old (event.LinkUp b) a)) (verdict old.centre.settings (past old.centre) (event.LinkUp b)))
+    → Same r (answer_of old (verdict_in old (event.LinkUp b))) new
+    (session_of old (λ a. with_link b a (entered old (event.LinkUp b) a)) (verdict_in old (event.LinkUp b)))
 brings_up_so old b (response.Accepted number a) new h =
     subst (λ v. Same (response.Accepted number a) (answer_of old v) new (session_of old (λ x. with_link b x (entered old (event.LinkUp b) x)) v)) (sym h.0.0) (ap (λ n. response.Accepted n a) h.0.1, h.1)
 brings_up_so old b (response.Refused r) new h =
@@ -138,27 +138,56 @@ reports_one : (old : SessionState) (b : ℕ) (octets : Option (List ℕ)) (r s :
 reports_one old b None r s new last h k = says_one old response.BadHex r s new last h k
 reports_one old b (Some octets) r s new last h k = octets_one old b octets r s new last h k
 
+-- a question has one answer in a stale centre, where it has one in a whole one
+whole_one : (old : SessionState) (asked more : Type 0) (r s : Response) (new last : SessionState) → (asked → more → Same r s new last)
+    → AsksWhole old r new asked → AsksWhole old s last more → Same r s new last
+whole_one old asked more r s new last one h k =
+    elim old.centre.stale as (λ t. MatchBool t (Says old (response.Refused refusal.Stale) r new) asked
+    → MatchBool t (Says old (response.Refused refusal.Stale) s last) more → Same r s new last) [
+      | true ↦ λ x y. says_one old (response.Refused refusal.Stale) r s new last x y
+      | false ↦ λ x y. one x y
+    ] h k
+
 -- a question about a BSC has one answer, for the same thing to say
+bsc_one : (old : SessionState) (there : Bool) (said r s : Response) (new last : SessionState)
+    → MatchBool there (Says old said r new) (Says old (response.Refused refusal.NoSuchBsc) r new)
+    → MatchBool there (Says old said s last) (Says old (response.Refused refusal.NoSuchBsc) s last) → Same r s new last
+bsc_one old true said r s new last h k = says_one old said r s new last h k
+bsc_one old false said r s new last h k = says_one old (response.Refused refusal.NoSuchBsc) r s new last h k
+
 asks_one : (old : SessionState) (b : ℕ) (said r s : Response) (new last : SessionState) → AsksBsc old b said r new → AsksBsc old b said s last → Same r s new last
 asks_one old b said r s new last h k =
-    elim (is_bsc (past old.centre) b) as (λ t. MatchBool t (Says old said r new) (Says old (response.Refused refusal.NoSuchBsc) r new)
-    → MatchBool t (Says old said s last) (Says old (response.Refused refusal.NoSuchBsc) s last) → Same r s new last) [
-      | true ↦ λ x y. says_one old said r s new last x y
-      | false ↦ λ x y. says_one old (response.Refused refusal.NoSuchBsc) r s new last x y
-    ] h k
+    whole_one old _ _ r s new last (bsc_one old (is_bsc (past old.centre) b) said r s new last) h k
+
+-- and so has one about a warning
+board_one : (old : SessionState) (numbers : Option Numbers) (r s : Response) (new last : SessionState)
+    → MatchOption numbers (Says old (response.Refused refusal.NoSuchWarning) r new) (λ n. Says old (response.Board n) r new)
+    → MatchOption numbers (Says old (response.Refused refusal.NoSuchWarning) s last) (λ n. Says old (response.Board n) s last) → Same r s new last
+board_one old None r s new last h k = says_one old (response.Refused refusal.NoSuchWarning) r s new last h k
+board_one old (Some n) r s new last h k = says_one old (response.Board n) r s new last h k
+
+asks_board_one : (old : SessionState) (number : ℕ) (r s : Response) (new last : SessionState) → AsksBoard old number r new → AsksBoard old number s last → Same r s new last
+asks_board_one old number r s new last h k =
+    whole_one old _ _ r s new last (board_one old (board (past old.centre) number) r s new last) h k
+
+-- and about a warning and an area
+numbers_one : (old : SessionState) (numbers : Result Numbers Refusal) (r s : Response) (new last : SessionState) → SaysNumbers old numbers r new → SaysNumbers old numbers s last → Same r s new last
+numbers_one old (Ok n) r s new last h k = says_one old (response.Board n) r s new last h k
+numbers_one old (Err e) r s new last h k = says_one old (response.Refused e) r s new last h k
+
+asks_area_one : (old : SessionState) (number : ℕ) (a : List ℕ) (r s : Response) (new last : SessionState) → AsksAreaBoard old number a r new → AsksAreaBoard old number a s last → Same r s new last
+asks_area_one old number a r s new last h k =
+    whole_one old _ _ r s new last (numbers_one old (area_board (past old.centre) number a) r s new last) h k
 
 responds_one : (old : SessionState) (l : Line) (r s : Response) (new last : SessionState) → Responds old l r new → Responds old l s last → Same r s new last
 responds_one old (line.Up b) r s new last h k = brings_up_one old b r s new last h k
 responds_one old (line.Keep b generation) r s new last h k = (h.0 ∙ sym k.0, h.1 ∙ sym k.1)
 responds_one old (line.Report b text) r s new last h k = reports_one old b (octets_of text) r s new last h k
-responds_one old (line.Board number) r s new last h k =
-    elim (board (past old.centre) number) as (λ o. MatchOption o (Says old (response.Refused refusal.NoSuchWarning) r new) (λ n. Says old (response.Board n) r new)
-    → MatchOption o (Says old (response.Refused refusal.NoSuchWarning) s last) (λ n. Says old (response.Board n) s last) → Same r s new last) [
-      | None ↦ λ x y. says_one old (response.Refused refusal.NoSuchWarning) r s new last x y
-      | Some n ↦ λ x y. says_one old (response.Board n) r s new last x y
-    ] h k
+responds_one old (line.Board number) r s new last h k = asks_board_one old number r s new last h k
+responds_one old (line.AreaBoard number a) r s new last h k = asks_area_one old number a r s new last h k
 responds_one old (line.Pending b) r s new last h k = asks_one old b (response.Pending (pending (past old.centre) b)) r s new last h k
 responds_one old (line.Table b) r s new last h k = asks_one old b (response.Table (table (past old.centre) b)) r s new last h k
+responds_one old line.Rebuild r s new last h k = (h.0 ∙ sym k.0, h.1 ∙ sym k.1)
 responds_one old l r s new last h k = event_one old (event_of old l) r s new last h k
 
 line_one : (old : SessionState) (l : Option Line) (r s : Response) (new last : SessionState) → AnswersLine Responds old l r new → AnswersLine Responds old l s last → Same r s new last

@@ -14,7 +14,7 @@ use Rattle.console.specs.Parts.{parts_of}
 use Rattle.console.specs.declared.content_heading.ContentHeading.{ContentHeading}
 use Rattle.console.specs.declared.heading.Heading.{Heading}
 use Rattle.console.specs.declared.line.Line.{Line}
-use Rattle.console.specs.declared.line.Line.TheVariants.{AddBsc, RemoveBsc, AddCell, MoveCell, RemoveCell, AddArea, DropArea, Put, Cut, Issue, Update, Widen, Narrow, Stop, Forget, Up, Down, Keep, Send, Report, Board, Pending, Table}
+use Rattle.console.specs.declared.line.Line.TheVariants.{AddBsc, RemoveBsc, AddCell, MoveCell, RemoveCell, AddArea, DropArea, Put, Cut, Issue, Update, Widen, Narrow, Stop, Forget, Retry, Up, Down, Keep, Send, Ask, Report, Board, AreaBoard, Pending, Table, Rebuild}
 
 -- f of what is there
 abbrev pub if_some : {A B : Type 0} → Option A → (A → Option B) → Option B
@@ -69,6 +69,14 @@ move_cell lac ci bsc = if_some (cell_of lac ci) (λ c. if_some (bsc_of bsc) (λ 
 abbrev pub keep : List ℕ → List ℕ → Option Line
 keep bsc generation = if_some (bsc_of bsc) (λ b. if_some (link_generation_of generation) (λ g. Some (Keep b g)))
 
+-- B and W of `ask`, where that cell is given or none
+abbrev pub ask : List ℕ → List ℕ → Option Cell → Option Line
+ask bsc warning after = if_some (bsc_of bsc) (λ b. if_some (warning_of warning) (λ w. Some (Ask b w after)))
+
+-- B, W, L and C of `ask B W L C`
+abbrev pub ask_after : List ℕ → List ℕ → List ℕ → List ℕ → Option Line
+ask_after bsc warning lac ci = if_some (cell_of lac ci) (λ c. ask bsc warning (Some c))
+
 -- DCS CAT PERIOD of `issue` and `update`
 abbrev pub content_heading_of : List ℕ → List ℕ → List ℕ → Option ContentHeading
 content_heading_of dcs category period =
@@ -91,8 +99,12 @@ update warning dcs category period pages = if_some (warning_of warning) (λ numb
 
 -- the line of the words, by how many they are; there is no other line
 abbrev pub line_of : List (List ℕ) → Option Line
+line_of (verb ∷ []) =
+    if bytes_eq verb (codes "rebuild") then Some Rebuild
+    else None
 line_of (verb ∷ x ∷ []) =
-    if bytes_eq verb (codes "up") then option_map Up (bsc_of x)
+    if bytes_eq verb (codes "retry") then option_map Retry (bsc_of x)
+    else if bytes_eq verb (codes "up") then option_map Up (bsc_of x)
     else if bytes_eq verb (codes "down") then option_map Down (bsc_of x)
     else if bytes_eq verb (codes "send") then option_map Send (bsc_of x)
     else if bytes_eq verb (codes "stop") then option_map Stop (warning_of x)
@@ -110,6 +122,8 @@ line_of (verb ∷ x ∷ y ∷ []) =
     else if bytes_eq verb (codes "narrow") then option_map (λ number. Narrow number y) (warning_of x)
     else if bytes_eq verb (codes "gen") then keep x y
     else if bytes_eq verb (codes "rx") then option_map (λ b. Report b y) (bsc_of x)
+    else if bytes_eq verb (codes "ask") then ask x y None
+    else if bytes_eq verb (codes "board") then option_map (λ number. AreaBoard number y) (warning_of x)
     else None
 line_of (verb ∷ x ∷ y ∷ z ∷ []) =
     if bytes_eq verb (codes "cell") && bytes_eq x (codes "remove") then option_map RemoveCell (cell_of y z)
@@ -121,6 +135,7 @@ line_of (verb ∷ x ∷ y ∷ z ∷ t ∷ []) =
     else if bytes_eq verb (codes "cell") && bytes_eq x (codes "move") then move_cell y z t
     else if bytes_eq verb (codes "area") && bytes_eq x (codes "put") then option_map (λ c. Put y (selector.Cell c)) (cell_of z t)
     else if bytes_eq verb (codes "area") && bytes_eq x (codes "cut") then option_map (λ c. Cut y (selector.Cell c)) (cell_of z t)
+    else if bytes_eq verb (codes "ask") then ask_after x y z t
     else None
 line_of (verb ∷ warning ∷ dcs ∷ category ∷ period ∷ pages ∷ []) =
     if bytes_eq verb (codes "update") then update warning dcs category period pages

@@ -15,19 +15,20 @@ use Rattle.console.specs.declared.response.Response.TheVariants as response
 abbrev pub new_session : List ℕ → ℕ → SessionState
 new_session plmn limit = record { centre = new_centre plmn limit; kept = [] }
 
--- memory was wanting for a line where it may be: the lines before it have their text, and nothing came of it
+-- memory was wanting for a line where it may be: the lines before it have their text, and it is answered by that
 pub record MeetsWant (old : SessionState) (lines : List (List ℕ)) (new : SessionState) (text : List ℕ) : Type 0 where
   pub front : List (List ℕ)
   pub line : List ℕ
   pub back : List (List ℕ)
   pub session : SessionState
+  pub after : SessionState
   pub answered : List ℕ
   pub rest : List ℕ
   pub cut : lines ≡ front ++ line ∷ back
   pub told : IsText old front session answered
   pub short : length (without_return line) ≤ longest_line
-  pub starved : LineStarves session (without_return line) (response.Refused refusal.Memory) session
-  pub more : IsTextOrStarves session back new rest
+  pub starved : LineStarves session (without_return line) (response.Refused refusal.Memory) after
+  pub more : IsTextOrStarves after back new rest
   pub text_is : text ≡ answered ++ (refused_text refusal.Memory ++ rest)
 
 -- all of the input was read, and its text written

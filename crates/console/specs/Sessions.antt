@@ -1,5 +1,5 @@
 -- How a session answers a line, and what it is then.
-use Rattle.std.specs.Prelude.{◌≡◌, ◌⊎◌, ℕ, ◌+◌, ◌==◌, Bool, true, false, List, [], ◌∷◌, ◌++◌, length, Option, Some, None, Ok, Err, IsSome, IsSomeAnd, MatchOption, option_and_then, option_map, if◌then◌else◌}
+use Rattle.std.specs.Prelude.{◌≡◌, ◌⊎◌, ℕ, ◌+◌, ◌==◌, Bool, true, false, List, [], ◌∷◌, ◌++◌, length, Option, Some, None, Result, Ok, Err, IsSomeAnd, MatchOption, option_and_then, option_map, if◌then◌else◌}
 use Rattle.std.specs.Bool.{MatchBool}
 use Rattle.cbsp_messages.specs.Faults.{IsFaultAs}
 use Rattle.cbsp_messages.specs.MessageType.{code_of, type_with, is_report}
@@ -10,17 +10,19 @@ use Rattle.cbsp_messages.specs.declared.message_type.MessageType.{MessageType}
 use Rattle.centre_core.specs.Kept.{MayStarve}
 use Rattle.centre_core.specs.Legal.{Known, past}
 use Rattle.centre_core.specs.Links.{is_bsc}
-use Rattle.centre_core.specs.Numbers.{board}
+use Rattle.centre_core.specs.Numbers.{area_board, board}
 use Rattle.centre_core.specs.Pending.{pending}
 use Rattle.centre_core.specs.Table.{table}
 use Rattle.centre_core.specs.Verdict.{verdict}
 use Rattle.centre_core.specs.declared.answer.Answer.{Answer}
 use Rattle.centre_core.specs.declared.answer.Answer.TheVariants.{Link}
-use Rattle.centre_core.specs.declared.coverage_plan.edit.Edit.TheVariants as edit
 use Rattle.centre_core.specs.declared.entry.Entry.{Entry}
 use Rattle.centre_core.specs.declared.event.Event.{Event}
 use Rattle.centre_core.specs.declared.event.Event.TheVariants as event
+use Rattle.centre_core.specs.declared.refusal.Refusal.{Refusal}
 use Rattle.centre_core.specs.declared.refusal.Refusal.TheVariants as refusal
+use Rattle.coverage_board.specs.declared.numbers.Numbers.{Numbers}
+use Rattle.coverage_plan.specs.declared.edit.Edit.TheVariants as edit
 use Rattle.framing.specs.declared.frame.Frame.{Frame}
 use Rattle.warning_book.specs.declared.content.Content.{Content}
 use Rattle.warning_book.specs.declared.notice.Notice.{Notice}
@@ -59,20 +61,24 @@ abbrev pub with_link : ℕ → Answer → SessionState → SessionState
 with_link b (Link generation) s = record s { kept = with_generation b generation s.kept }
 with_link b other s = s
 
+-- what an event is answered: a stale centre refuses every event
+abbrev pub verdict_in : SessionState → Event → Result Answer Refusal
+verdict_in s e = if s.centre.stale then Err refusal.Stale else verdict s.centre.settings (past s.centre) e
+
 -- the event is accepted with this answer, as the entry of this number
 abbrev pub Accepts : SessionState → Event → ℕ → Answer → Type 0
-Accepts old e number a = (verdict old.centre.settings (past old.centre) e ≡ Ok a) × (number ≡ length old.centre.journal + 1)
+Accepts old e number a = (verdict_in old e ≡ Ok a) × (number ≡ length old.centre.journal + 1)
 
 -- the event is submitted: accepted, or refused with nothing changed
 abbrev pub Submits : SessionState → Event → Response → SessionState → Type 0
 Submits old e (response.Accepted number a) new = Accepts old e number a × (new ≡ entered old e a)
-Submits old e (response.Refused r) new = (verdict old.centre.settings (past old.centre) e ≡ Err r) × (new ≡ old)
+Submits old e (response.Refused r) new = (verdict_in old e ≡ Err r) × (new ≡ old)
 Submits old e other new = ⊥
 
 -- the link of the BSC comes up
 abbrev pub BringsUp : SessionState → ℕ → Response → SessionState → Type 0
 BringsUp old b (response.Accepted number a) new = Accepts old (event.LinkUp b) number a × (new ≡ with_link b a (entered old (event.LinkUp b) a))
-BringsUp old b (response.Refused r) new = (verdict old.centre.settings (past old.centre) (event.LinkUp b) ≡ Err r) × (new ≡ old)
+BringsUp old b (response.Refused r) new = (verdict_in old (event.LinkUp b) ≡ Err r) × (new ≡ old)
 BringsUp old b other new = ⊥
 
 -- what an operator writes of a version
@@ -83,13 +89,28 @@ content_of h pages = record { dcs = h.dcs; category = h.category; period = h.per
 abbrev pub notice_of : Heading → List (List ℕ) → Notice
 notice_of h pages = record { message_id = h.message_id; scope = h.scope; content = content_of h.content pages }
 
+-- a stale centre refuses every question
+abbrev pub AsksWhole : SessionState → Response → SessionState → Type 0 → Type 0
+AsksWhole old r new asked = MatchBool old.centre.stale (Says old (response.Refused refusal.Stale) r new) asked
+
 -- the board of a warning
 abbrev pub AsksBoard : SessionState → ℕ → Response → SessionState → Type 0
-AsksBoard old warning r new = MatchOption (board (past old.centre) warning) (Says old (response.Refused refusal.NoSuchWarning) r new) (λ n. Says old (response.Board n) r new)
+AsksBoard old warning r new =
+    AsksWhole old r new (MatchOption (board (past old.centre) warning) (Says old (response.Refused refusal.NoSuchWarning) r new) (λ n. Says old (response.Board n) r new))
+
+-- numbers, or why there are none
+abbrev pub SaysNumbers : SessionState → Result Numbers Refusal → Response → SessionState → Type 0
+SaysNumbers old (Ok n) r new = Says old (response.Board n) r new
+SaysNumbers old (Err refused) r new = Says old (response.Refused refused) r new
+
+-- the board of a warning and an area
+abbrev pub AsksAreaBoard : SessionState → ℕ → List ℕ → Response → SessionState → Type 0
+AsksAreaBoard old warning a r new = AsksWhole old r new (SaysNumbers old (area_board (past old.centre) warning a) r new)
 
 -- a question about a BSC is answered, if the BSC is there
 abbrev pub AsksBsc : SessionState → ℕ → Response → Response → SessionState → Type 0
-AsksBsc old b said r new = MatchBool (is_bsc (past old.centre) b) (Says old said r new) (Says old (response.Refused refusal.NoSuchBsc) r new)
+AsksBsc old b said r new =
+    AsksWhole old r new (MatchBool (is_bsc (past old.centre) b) (Says old said r new) (Says old (response.Refused refusal.NoSuchBsc) r new))
 
 -- the pending orders of a BSC
 abbrev pub AsksPending : SessionState → ℕ → Response → SessionState → Type 0
@@ -98,6 +119,14 @@ AsksPending old b r new = AsksBsc old b (response.Pending (pending (past old.cen
 -- what a BSC has reported
 abbrev pub AsksTable : SessionState → ℕ → Response → SessionState → Type 0
 AsksTable old b r new = AsksBsc old b (response.Table (table (past old.centre) b)) r new
+
+-- the centre is whole or stale, with the same journal
+abbrev pub with_stale : Bool → SessionState → SessionState
+with_stale is_stale s = record s { centre = record s.centre { stale = is_stale } }
+
+-- the centre is made whole from its journal
+abbrev pub Rebuilds : SessionState → Response → SessionState → Type 0
+Rebuilds old r new = (r ≡ response.Rebuilt) × (new ≡ with_stale false old)
 
 -- the generation is kept for the BSC, which need not be there
 abbrev pub Keeps : SessionState → ℕ → ℕ → Response → SessionState → Type 0
@@ -146,9 +175,11 @@ event_of old (line.Widen warning a) = Some (event.Edit (edit.Widen warning a))
 event_of old (line.Narrow warning a) = Some (event.Edit (edit.Narrow warning a))
 event_of old (line.Stop warning) = Some (event.Edit (edit.Stop warning))
 event_of old (line.Forget warning) = Some (event.Edit (edit.Forget warning))
+event_of old (line.Retry b) = Some (event.Retry b)
 event_of old (line.Up b) = Some (event.LinkUp b)
 event_of old (line.Down b) = Some (event.LinkDown b (generation_of old.kept b))
 event_of old (line.Send b) = Some (event.Send b (generation_of old.kept b))
+event_of old (line.Ask b warning after) = Some (event.Ask b (generation_of old.kept b) warning after)
 event_of old other = None
 
 -- the event of a line is submitted; where there is none, its pages are no octets
@@ -161,41 +192,58 @@ Responds old (line.Up b) r new = BringsUp old b r new
 Responds old (line.Keep b generation) r new = Keeps old b generation r new
 Responds old (line.Report b text) r new = Reports old b text r new
 Responds old (line.Board warning) r new = AsksBoard old warning r new
+Responds old (line.AreaBoard warning a) r new = AsksAreaBoard old warning a r new
 Responds old (line.Pending b) r new = AsksPending old b r new
 Responds old (line.Table b) r new = AsksTable old b r new
+Responds old line.Rebuild r new = Rebuilds old r new
 Responds old l r new = SubmitsLine old (event_of old l) r new
 
--- memory may be wanting for an event
+-- memory may be wanting for an event: the centre is whole, and may answer so
 abbrev pub MayStarveAt : SessionState → Event → Type 0
-MayStarveAt old e = MayStarve old.centre.settings (past old.centre) e
-
--- memory may be wanting while a message is read: the octets are one frame, of a type that a BSC sends
-abbrev pub ReadsMessage : List ℕ → Type 0
-ReadsMessage octets = (frame : Frame) × IsFrame octets frame × IsSome (report_type frame.kind)
-
--- where a line may be answered that memory is wanting: while the message of an `rx` is read, for a list of a BSC that
--- is there, and at the event that the line stands for
-abbrev pub LineMayStarve : SessionState → Line → Type 0
-LineMayStarve old (line.Report b text) = IsSomeAnd (octets_of text) ReadsMessage
-LineMayStarve old (line.Pending b) = is_bsc (past old.centre) b ≡ true
-LineMayStarve old (line.Table b) = is_bsc (past old.centre) b ≡ true
-LineMayStarve old l = IsSomeAnd (event_of old l) (MayStarveAt old)
+MayStarveAt old e = (old.centre.stale ≡ false) × MayStarve old.centre.settings (past old.centre) e
 
 -- memory was wanting, and nothing changed
 abbrev pub IsStarved : SessionState → Response → SessionState → Type 0
 IsStarved old r new = Says old (response.Refused refusal.Memory) r new
 
--- memory was wanting for an event
+-- memory was wanting, and the centre is stale now
+abbrev pub LeavesStale : SessionState → Response → SessionState → Type 0
+LeavesStale old r new = Says (with_stale true old) (response.Refused refusal.Memory) r new
+
+-- memory was wanting for an event where it may be: nothing changed, or the centre is stale now
 abbrev pub StarvesAt : SessionState → Event → Response → SessionState → Type 0
-StarvesAt old e r new = MayStarveAt old e × IsStarved old r new
+StarvesAt old e r new = MayStarveAt old e × (IsStarved old r new ⊎ LeavesStale old r new)
 
 -- the event is submitted, or memory was wanting where it may be
 abbrev pub SubmitsOrStarves : SessionState → Event → Response → SessionState → Type 0
 SubmitsOrStarves old e r new = Submits old e r new ⊎ StarvesAt old e r new
 
--- memory was wanting for a line
+-- memory was wanting while a message of this type was read, and nothing changed, or for the event of the message
+abbrev pub BodyStarves : SessionState → ℕ → MessageType → List ℕ → Response → SessionState → Type 0
+BodyStarves old b t body r new =
+    IsStarved old r new
+    ⊎ ((m : Message) × Spells (code_of t) body m × StarvesAt old (event.Report b (generation_of old.kept b) m) r new)
+
+-- the frame is of a type that a BSC sends, and memory was wanting for its message
+abbrev pub FrameStarves : SessionState → ℕ → Frame → Response → SessionState → Type 0
+FrameStarves old b frame r new = IsSomeAnd (report_type frame.kind) (λ t. BodyStarves old b t frame.body r new)
+
+-- the octets are one frame, for whose message memory was wanting
+abbrev pub OctetsStarve : SessionState → ℕ → List ℕ → Response → SessionState → Type 0
+OctetsStarve old b octets r new = (frame : Frame) × IsFrame octets frame × FrameStarves old b frame r new
+
+-- memory was wanting for a list of a BSC that is there, of a whole centre
+abbrev pub ListStarves : SessionState → ℕ → Response → SessionState → Type 0
+ListStarves old b r new = (old.centre.stale ≡ false) × (is_bsc (past old.centre) b ≡ true) × IsStarved old r new
+
+-- memory was wanting for a line where it may be: for the message of an `rx`, for a list of a BSC, while the centre was
+-- made whole, and at the event that the line stands for; at an event alone is the centre left stale
 abbrev pub Starves : SessionState → Line → Response → SessionState → Type 0
-Starves old l r new = LineMayStarve old l × IsStarved old r new
+Starves old (line.Report b text) r new = IsSomeAnd (octets_of text) (λ octets. OctetsStarve old b octets r new)
+Starves old (line.Pending b) r new = ListStarves old b r new
+Starves old (line.Table b) r new = ListStarves old b r new
+Starves old line.Rebuild r new = IsStarved old r new
+Starves old l r new = IsSomeAnd (event_of old l) (λ e. StarvesAt old e r new)
 
 -- the line has its answer, or memory was wanting where it may be
 abbrev pub RespondsOrStarves : SessionState → Line → Response → SessionState → Type 0

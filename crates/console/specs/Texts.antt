@@ -2,30 +2,31 @@
 use Rattle.std.specs.Prelude.{ℕ, List, [], ◌∷◌, ◌++◌, length, Option, Some, None, codes, decimal}
 use Rattle.std.specs.Int.{bytes_high_first}
 use Rattle.std.specs.List.{flat_map}
-use Rattle.hex.specs.Hex.{encode_lower, encode_upper}
 use Rattle.cbsp_ie.specs.ElementId.{code_of}
 use Rattle.cbsp_ie.specs.declared.ie_fault.IeFault.TheVariants as element_fault
 use Rattle.cbsp_messages.specs.Faults.{number_of}
 use Rattle.cbsp_messages.specs.Written.{frame_of}
+use Rattle.cbsp_messages.specs.declared.message.Message.{Message}
 use Rattle.cbsp_messages.specs.declared.fault.MessageFault.{MessageFault}
 use Rattle.cbsp_messages.specs.declared.fault.MessageFault.TheVariants as fault
 use Rattle.centre_core.specs.Fits.{AnswerFits}
 use Rattle.centre_core.specs.Refusals.{refusal_number}
 use Rattle.centre_core.specs.declared.answer.Answer.{Answer}
 use Rattle.centre_core.specs.declared.answer.Answer.TheVariants as answer
-use Rattle.centre_core.specs.declared.coverage_board.numbers.Numbers.{Numbers}
-use Rattle.centre_core.specs.declared.mirror.presence.Presence.{Presence}
-use Rattle.centre_core.specs.declared.mirror.presence.Presence.TheVariants.{Absent, OnAir, Unknown}
-use Rattle.centre_core.specs.declared.mirror.reported_key.ReportedKey.{ReportedKey}
-use Rattle.centre_core.specs.declared.order_maker.order.Order.{Order}
-use Rattle.centre_core.specs.declared.order_maker.order_kind.OrderKind.{OrderKind}
-use Rattle.centre_core.specs.declared.order_maker.order_kind.OrderKind.TheVariants.{Write, Replace, Kill}
+use Rattle.centre_core.specs.declared.reported.reported_key.ReportedKey.{ReportedKey}
 use Rattle.centre_core.specs.declared.refusal.Limit.{Limit}
 use Rattle.centre_core.specs.declared.refusal.Limit.TheVariants as limit
 use Rattle.centre_core.specs.declared.refusal.Refusal.{Refusal}
 use Rattle.centre_core.specs.declared.refusal.Refusal.TheVariants as refusal
+use Rattle.coverage_board.specs.declared.numbers.Numbers.{Numbers}
+use Rattle.hex.specs.Hex.{encode_lower, encode_upper}
+use Rattle.mirror.specs.declared.presence.Presence.{Presence}
+use Rattle.mirror.specs.declared.presence.Presence.TheVariants.{Absent, OnAir, Unknown}
+use Rattle.order_maker.specs.declared.order.Order.{Order}
+use Rattle.order_maker.specs.declared.order_kind.OrderKind.{OrderKind}
+use Rattle.order_maker.specs.declared.order_kind.OrderKind.TheVariants.{Write, Replace, Kill}
 use Rattle.console.specs.declared.response.Response.{Response}
-use Rattle.console.specs.declared.response.Response.TheVariants.{Silence, BadLine, BadHex, BadFrame, Skipped, BadMessage, Accepted, Refused, Board, Set, Pending, Table}
+use Rattle.console.specs.declared.response.Response.TheVariants.{Silence, BadLine, BadHex, BadFrame, Skipped, BadMessage, Accepted, Refused, Board, Set, Pending, Table, Rebuilt}
 
 -- the end of a line
 abbrev pub newline : List ℕ
@@ -43,6 +44,7 @@ limit_name limit.Ids = codes "Ids"
 
 -- the name of a refusal
 abbrev pub refusal_name : Refusal → List ℕ
+refusal_name refusal.Stale = codes "Stale"
 refusal_name refusal.JournalFull = codes "JournalFull"
 refusal_name refusal.NoSuchBsc = codes "NoSuchBsc"
 refusal_name refusal.BscExists = codes "BscExists"
@@ -73,6 +75,7 @@ refusal_name (refusal.StaleLink now) = codes "StaleLink"
 refusal_name refusal.LinkNotUp = codes "LinkNotUp"
 refusal_name refusal.InFlight = codes "InFlight"
 refusal_name refusal.NothingPending = codes "NothingPending"
+refusal_name refusal.NothingToAsk = codes "NothingToAsk"
 refusal_name refusal.NoOrder = codes "NoOrder"
 refusal_name (refusal.Limit which) = codes "Limit"
 refusal_name refusal.Memory = codes "Memory"
@@ -91,14 +94,24 @@ refused_text r = codes "no " ++ (decimal (refusal_number r) ++ (codes " " ++ (re
 abbrev pub serial_text : ℕ → List ℕ
 serial_text s = encode_upper (bytes_high_first 2 s)
 
+-- the frame of a message that is sent
+abbrev pub sent_frame : Message → List ℕ
+sent_frame message = codes " tx " ++ (encode_lower (frame_of message) ++ newline)
+
 -- what follows the entry's number
 abbrev pub answer_text : Answer → List ℕ
 answer_text answer.Done = newline
 answer_text (answer.Issued n s) = codes " warning " ++ (decimal n ++ (codes " serial " ++ (serial_text s ++ newline)))
 answer_text (answer.Updated s) = codes " serial " ++ (serial_text s ++ newline)
 answer_text (answer.Link generation) = codes " link " ++ (decimal generation ++ newline)
-answer_text (answer.Sent order message) = codes " tx " ++ (encode_lower (frame_of message) ++ newline)
+answer_text (answer.Sent order message) = sent_frame message
+answer_text (answer.Asked message_id serial cells message) = sent_frame message
 answer_text (answer.Replied replies) = codes " cells " ++ (decimal (length replies) ++ newline)
+answer_text (answer.Listed cells) = codes " cells " ++ (decimal (length cells) ++ newline)
+
+-- an event with which a message is sent
+abbrev pub sent_text : ℕ → Message → List ℕ
+sent_text number message = codes "ok " ++ (decimal number ++ sent_frame message)
 
 -- an event that is accepted: the number of its entry, and its answer
 abbrev pub accepted_text : ℕ → Answer → List ℕ
@@ -192,6 +205,7 @@ response_text (Board numbers) = board_text numbers
 response_text Set = codes "set" ++ newline
 response_text (Pending orders) = pending_text orders
 response_text (Table keys) = table_text keys
+response_text Rebuilt = codes "rebuilt" ++ newline
 
 -- the message of an order that is answered can be written
 abbrev pub ResponseFits : Response → Type 0

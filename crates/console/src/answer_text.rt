@@ -1,17 +1,18 @@
 //! The texts of answers.
 
 ghost use Rattle.std.specs.Prelude.{◌≡◌, IfOk, string_bytes};
+ghost use Rattle.cbsp_messages.specs.Written.{Fits};
 ghost use Rattle.centre_core.specs.Fits.{AnswerFits};
-ghost use Rattle.console.specs.Texts.{limit_name, refusal_name, refused_text, accepted_text, fault_name, fault_value, fault_text, number_text, value_text, board_text, response_text, ResponseFits};
+ghost use Rattle.console.specs.Texts.{limit_name, refusal_name, refused_text, sent_text, accepted_text, fault_name, fault_value, fault_text, number_text, value_text, board_text, response_text, ResponseFits};
 
 use crate::digits::serial_text;
 use crate::list_text::{pending_text, table_text};
 use crate::response::Response;
 use cbsp_ie::IeFault;
-use cbsp_messages::{MessageFault, write};
+use cbsp_messages::{Message, MessageFault, write};
 use centre_core::answer::Answer;
-use centre_core::coverage_board::Numbers;
 use centre_core::refusal::{Limit, Refusal};
+use coverage_board::Numbers;
 use std::alloc::{AllocError, Global};
 
 /// The text of the answer.
@@ -32,7 +33,18 @@ pub fn response_text(alloc: Global, response: Response) -> Result<String, AllocE
         Response::Set => String::from_str(alloc, "set\n"),
         Response::Pending(orders) => pending_text(alloc, orders.as_slice()),
         Response::Table(keys) => table_text(alloc, keys.as_slice()),
+        Response::Rebuilt => String::from_str(alloc, "rebuilt\n"),
     }
+}
+
+/// The number of the entry, and the frame of the message.
+fn sent_text(alloc: Global, number: u64, message: &Message) -> Result<String, AllocError>
+    requires { Fits message.now }
+    ensures { IfOk result (λ text. string_bytes text ≡ sent_text number message.now) }
+{
+    let octets = write(alloc, message)?;
+    let digits = hex::encode(alloc, octets.as_slice())?;
+    format!(in alloc; "ok {number} tx {digits}\n")
 }
 
 fn accepted_text(alloc: Global, number: u64, answer: &Answer) -> Result<String, AllocError>
@@ -51,13 +63,19 @@ fn accepted_text(alloc: Global, number: u64, answer: &Answer) -> Result<String, 
             format!(in alloc; "ok {number} serial {serial}\n")
         }
         Answer::Link(generation) => format!(in alloc; "ok {number} link {generation}\n"),
-        Answer::Sent { order: _, message } => {
-            let octets = write(alloc, message)?;
-            let digits = hex::encode(alloc, octets.as_slice())?;
-            format!(in alloc; "ok {number} tx {digits}\n")
-        }
+        Answer::Sent { order: _, message } => sent_text(alloc, number, message),
+        Answer::Asked {
+            message_id: _,
+            serial: _,
+            cells: _,
+            message,
+        } => sent_text(alloc, number, message),
         Answer::Replied(replies) => {
             let cells = replies.as_slice().len();
+            format!(in alloc; "ok {number} cells {cells}\n")
+        }
+        Answer::Listed(cells) => {
+            let cells = cells.as_slice().len();
             format!(in alloc; "ok {number} cells {cells}\n")
         }
     }
@@ -96,6 +114,7 @@ fn refusal_name(refusal: Refusal) -> &'static str
     ensures { result.now ≡ refusal_name refusal }
 {
     match refusal {
+        Refusal::Stale => "Stale",
         Refusal::JournalFull => "JournalFull",
         Refusal::NoSuchBsc => "NoSuchBsc",
         Refusal::BscExists => "BscExists",
@@ -126,6 +145,7 @@ fn refusal_name(refusal: Refusal) -> &'static str
         Refusal::LinkNotUp => "LinkNotUp",
         Refusal::InFlight => "InFlight",
         Refusal::NothingPending => "NothingPending",
+        Refusal::NothingToAsk => "NothingToAsk",
         Refusal::NoOrder => "NoOrder",
         Refusal::Limit { .. } => "Limit",
         Refusal::Memory => "Memory",

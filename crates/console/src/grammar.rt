@@ -1,7 +1,7 @@
 //! The lines that an operator may write.
 
 ghost use Rattle.std.specs.Prelude.{◌≡◌, [], ◌∷◌, IfOk};
-ghost use Rattle.console.specs.Grammar.{bsc_of, two_octets_of, warning_of, link_generation_of, cell_of, scope_of, category_of, names_of, add_cell, move_cell, keep, content_heading_of, heading_of, line_of};
+ghost use Rattle.console.specs.Grammar.{bsc_of, two_octets_of, warning_of, link_generation_of, cell_of, scope_of, category_of, names_of, add_cell, move_cell, keep, ask, ask_after, content_heading_of, heading_of, line_of};
 
 use crate::content_heading::ContentHeading;
 use crate::heading::Heading;
@@ -21,6 +21,7 @@ pub fn read_line(alloc: Global, words: &[Octets]) -> Result<Option<Line>, AllocE
     ensures { IfOk result (λ line. line ≡ line_of words.now) }
 {
     match words {
+        [verb] => Ok(read_one(verb.as_slice())),
         [verb, x] => Ok(read_two(verb.as_slice(), x.as_slice())),
         [verb, x, y] => read_three(alloc, verb.as_slice(), x.as_slice(), y.as_slice()),
         [verb, x, y, z] => read_four(
@@ -128,11 +129,24 @@ fn read_name(alloc: Global, word: &[u8]) -> Result<Name, AllocError>
     Ok(Name::from_vec(Vec::from_slice(alloc, word)?))
 }
 
-/// `up B`, `down B`, `send B`, `stop W`, `forget W`, `board W`, `pending B`, `table B`
+/// `rebuild`
+fn read_one(verb: &[u8]) -> Option<Line>
+    ensures { result ≡ line_of (verb.now ∷ []) }
+{
+    if is_word(verb, b"rebuild") {
+        Some(Line::Rebuild)
+    } else {
+        None
+    }
+}
+
+/// `retry B`, `up B`, `down B`, `send B`, `stop W`, `forget W`, `board W`, `pending B`, `table B`
 fn read_two(verb: &[u8], x: &[u8]) -> Option<Line>
     ensures { result ≡ line_of (verb.now ∷ x.now ∷ []) }
 {
-    if is_word(verb, b"up") {
+    if is_word(verb, b"retry") {
+        Some(Line::Retry(read_bsc(x)?))
+    } else if is_word(verb, b"up") {
         Some(Line::Up(read_bsc(x)?))
     } else if is_word(verb, b"down") {
         Some(Line::Down(read_bsc(x)?))
@@ -153,7 +167,8 @@ fn read_two(verb: &[u8], x: &[u8]) -> Option<Line>
     }
 }
 
-/// `bsc add B`, `bsc remove B`, `area add N`, `area drop N`, `widen W N`, `narrow W N`, `gen B G`, `rx B HEX`
+/// `bsc add B`, `bsc remove B`, `area add N`, `area drop N`, `widen W N`, `narrow W N`, `gen B G`, `rx B HEX`, `ask B W`,
+/// `board W N`
 fn read_three(alloc: Global, verb: &[u8], x: &[u8], y: &[u8]) -> Result<Option<Line>, AllocError>
     ensures { IfOk result (λ line. line ≡ line_of (verb.now ∷ x.now ∷ y.now ∷ [])) }
 {
@@ -182,6 +197,13 @@ fn read_three(alloc: Global, verb: &[u8], x: &[u8], y: &[u8]) -> Result<Option<L
             Some(bsc) => Ok(Some(Line::Report(bsc, Octets::from_vec(Vec::from_slice(alloc, y)?)))),
             None => Ok(None),
         }
+    } else if is_word(verb, b"ask") {
+        Ok(read_ask(x, y, None))
+    } else if is_word(verb, b"board") {
+        match read_warning(x) {
+            Some(warning) => Ok(Some(Line::AreaBoard(warning, read_name(alloc, y)?))),
+            None => Ok(None),
+        }
     } else {
         Ok(None)
     }
@@ -192,6 +214,20 @@ fn read_keep(bsc: &[u8], generation: &[u8]) -> Option<Line>
 {
     let bsc = read_bsc(bsc)?;
     Some(Line::Keep(bsc, read_generation(generation)?))
+}
+
+fn read_ask(bsc: &[u8], warning: &[u8], after: Option<Cell>) -> Option<Line>
+    ensures { result ≡ ask bsc.now warning.now after }
+{
+    let bsc = read_bsc(bsc)?;
+    Some(Line::Ask(bsc, read_warning(warning)?, after))
+}
+
+fn read_ask_after(bsc: &[u8], warning: &[u8], lac: &[u8], ci: &[u8]) -> Option<Line>
+    ensures { result ≡ ask_after bsc.now warning.now lac.now ci.now }
+{
+    let after = read_cell(lac, ci)?;
+    read_ask(bsc, warning, Some(after))
 }
 
 /// `cell remove L C`, `area put N L`, `area cut N L`
@@ -221,7 +257,7 @@ fn read_four(
     }
 }
 
-/// `cell add L C B`, `cell move L C B`, `area put N L C`, `area cut N L C`
+/// `cell add L C B`, `cell move L C B`, `area put N L C`, `area cut N L C`, `ask B W L C`
 fn read_five(
     alloc: Global,
     verb: &[u8],
@@ -246,6 +282,8 @@ fn read_five(
             Some(cell) => Ok(Some(Line::Cut(read_name(alloc, y)?, Selector::Cell(cell)))),
             None => Ok(None),
         }
+    } else if is_word(verb, b"ask") {
+        Ok(read_ask_after(x, y, z, t))
     } else {
         Ok(None)
     }

@@ -1,12 +1,18 @@
 //! What follows from the definitions. Each function does nothing, and its contract holds of all lines, or of all
 //! messages.
 
-ghost use Rattle.console.specs.Laws.{OneText, WrittenIsCut};
+ghost use Rattle.console.specs.Laws.{OneText, StaysWhole, WrittenIsCut};
 
 /// Lines have one text: what a run writes is determined by what it reads.
 #[tactic(auto, using(crate::proofs::UniqueLemmas::one_text))]
 pub fn one_text()
     ensures { OneText }
+{}
+
+/// A centre is stale only after want of memory: while no line met that, it stays whole, and no line is refused as stale.
+#[tactic(auto, using(crate::proofs::WholeLemmas::stays_whole))]
+pub fn stays_whole()
+    ensures { StaysWhole }
 {}
 
 /// What is written of a message is one frame, as the framer cuts it; that its body is short enough is a promise of

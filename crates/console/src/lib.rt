@@ -30,6 +30,6 @@ mod session;
 mod words;
 
 pub use fault::ReplayFault;
-pub use laws::one_text;
+pub use laws::{one_text, stays_whole};
 pub use replaying::replay;
 pub use running::run;

@@ -49,6 +49,8 @@ pub enum Line {
     Stop(WarningId),
     /// `forget W`
     Forget(WarningId),
+    /// `retry B`
+    Retry(BscId),
     /// `up B`
     Up(BscId),
     /// `down B`
@@ -57,12 +59,18 @@ pub enum Line {
     Keep(BscId, u64),
     /// `send B`
     Send(BscId),
+    /// `ask B W` and `ask B W L C`: after that cell
+    Ask(BscId, WarningId, Option<Cell>),
     /// `rx B HEX`
     Report(BscId, Octets),
     /// `board W`
     Board(WarningId),
+    /// `board W N`
+    AreaBoard(WarningId, Name),
     /// `pending B`
     Pending(BscId),
     /// `table B`
     Table(BscId),
+    /// `rebuild`
+    Rebuild,
 }

@@ -2,10 +2,10 @@
 
 use cbsp_messages::MessageFault;
 use centre_core::answer::Answer;
-use centre_core::coverage_board::Numbers;
-use centre_core::mirror::ReportedKeys;
-use centre_core::order_maker::Orders;
 use centre_core::refusal::Refusal;
+use centre_core::reported::ReportedKeys;
+use coverage_board::Numbers;
+use order_maker::Orders;
 
 /// What a line is answered.
 #[derive(Debug, Drop)]
@@ -26,4 +26,6 @@ pub enum Response {
     Set,
     Pending(Orders),
     Table(ReportedKeys),
+    /// The centre is whole.
+    Rebuilt,
 }

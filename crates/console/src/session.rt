@@ -16,10 +16,10 @@ use cbsp_messages::{MessageFault, MessageType, read_as};
 use cell_register::BscId;
 use centre_core::answer::Answer;
 use centre_core::centre::Centre;
-use centre_core::coverage_plan::Edit;
 use centre_core::event::Event;
 use centre_core::refusal::Refusal;
-use common::Names;
+use common::{Cell, Name, Names};
+use coverage_plan::Edit;
 use framing::Frame;
 use std::alloc::{AllocError, Global};
 use std::marker::Model;
@@ -41,15 +41,15 @@ impl Model for Session {
 
     ghost Value = { SessionState };
 
-    ghost view = { λ s. record { centre = s.centre; kept = s.generations } };
+    ghost view = { λ s. record { centre = s.centre.known; kept = s.generations } };
 }
 
 impl Session {
-    ghost use Rattle.std.specs.Prelude.{◌≡◌, ◌≤◌, ◌⊎◌, IfOk, IsSome};
+    ghost use Rattle.std.specs.Prelude.{◌≡◌, ◌≤◌, ◌⊎◌, IfOk};
     ghost use Rattle.centre_core.specs.declared.event.Event.TheVariants as event;
     ghost use Rattle.console.specs.Texts.{ResponseFits};
     ghost use Rattle.console.specs.Replays.{new_session};
-    ghost use Rattle.console.specs.Sessions.{AnswersOrStarves, IsStarved, ReportsBody, ReportsFrame, RespondsOrStarves, SubmitsOrStarves};
+    ghost use Rattle.console.specs.Sessions.{AnswersOrStarves, BodyStarves, FrameStarves, ReportsBody, ReportsFrame, RespondsOrStarves, SubmitsOrStarves};
     ghost use Rattle.console.specs.declared.line.Line.TheVariants as request;
 
     pub fn new(alloc: Global, plmn: [u8; 3], journal_limit: u32) -> Session
@@ -88,6 +88,16 @@ impl Session {
         ensures fits { ResponseFits result }
     {
         match self.centre.board_total(warning) {
+            Ok(numbers) => Response::Board(numbers),
+            Err(refusal) => Response::Refused(refusal),
+        }
+    }
+
+    fn area_board(&self, warning: WarningId, area: &Name) -> Response
+        ensures answer { RespondsOrStarves self.now (request.AreaBoard warning area.now) result self.now }
+        ensures fits { ResponseFits result }
+    {
+        match self.centre.board_area(warning, area) {
             Ok(numbers) => Response::Board(numbers),
             Err(refusal) => Response::Refused(refusal),
         }
@@ -147,12 +157,31 @@ impl Session {
         }
     }
 
+    /// Makes the centre whole, if it is stale.
+    fn rebuild(&mut self) -> Response
+        ensures answer { RespondsOrStarves self.old request.Rebuild result self.new }
+        ensures fits { ResponseFits result }
+    {
+        match self.centre.rebuild() {
+            Ok(()) => Response::Rebuilt,
+            Err(_) => Response::Refused(Refusal::Memory),
+        }
+    }
+
     fn send(&mut self, bsc: BscId) -> Response
         ensures answer { RespondsOrStarves self.old (request.Send bsc) result self.new }
         ensures fits { ResponseFits result }
     {
         let generation = self.generations.of(bsc);
         self.submit(Event::Send(bsc, generation))
+    }
+
+    fn ask(&mut self, bsc: BscId, warning: WarningId, after: Option<Cell>) -> Response
+        ensures answer { RespondsOrStarves self.old (request.Ask bsc warning after) result self.new }
+        ensures fits { ResponseFits result }
+    {
+        let generation = self.generations.of(bsc);
+        self.submit(Event::Ask(bsc, generation, warning, after))
     }
 
     fn report(&mut self, bsc: BscId, text: &[u8]) -> Result<Response, AllocError>
@@ -169,7 +198,7 @@ impl Session {
     }
 
     fn report_frame(&mut self, bsc: BscId, frame: &Frame) -> Response
-        ensures answer { ReportsFrame self.old bsc frame.now result self.new ⊎ (IsSome (report_type frame.now.kind) × IsStarved self.old result self.new) }
+        ensures answer { ReportsFrame self.old bsc frame.now result self.new ⊎ FrameStarves self.old bsc frame.now result self.new }
         ensures fits { ResponseFits result }
     {
         match report_type(frame.kind) {
@@ -179,7 +208,7 @@ impl Session {
     }
 
     fn report_body(&mut self, bsc: BscId, kind: MessageType, body: &[u8]) -> Response
-        ensures answer { ReportsBody self.old bsc kind body.now result self.new ⊎ IsStarved self.old result self.new }
+        ensures answer { ReportsBody self.old bsc kind body.now result self.new ⊎ BodyStarves self.old bsc kind body.now result self.new }
         ensures fits { ResponseFits result }
     {
         match read_as(self.alloc, kind, body) {
@@ -255,14 +284,18 @@ impl Session {
             Line::Narrow(warning, area) => Ok(self.edit(Edit::Narrow(warning, area))),
             Line::Stop(warning) => Ok(self.edit(Edit::Stop(warning))),
             Line::Forget(warning) => Ok(self.edit(Edit::Forget(warning))),
+            Line::Retry(bsc) => Ok(self.submit(Event::Retry(bsc))),
             Line::Up(bsc) => self.bring_up(bsc),
             Line::Down(bsc) => Ok(self.bring_down(bsc)),
             Line::Keep(bsc, generation) => self.keep(bsc, generation),
             Line::Send(bsc) => Ok(self.send(bsc)),
             Line::Report(bsc, text) => self.report(bsc, text.as_slice()),
+            Line::Ask(bsc, warning, after) => Ok(self.ask(bsc, warning, after)),
             Line::Board(warning) => Ok(self.board(warning)),
+            Line::AreaBoard(warning, area) => Ok(self.area_board(warning, &area)),
             Line::Pending(bsc) => Ok(self.pending(bsc)),
             Line::Table(bsc) => Ok(self.table(bsc)),
+            Line::Rebuild => Ok(self.rebuild()),
         }
     }
 

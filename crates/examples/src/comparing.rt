@@ -9,7 +9,7 @@ use std::alloc::Global;
 const PLMN: [u8; 3] = [0x00, 0xf1, 0x10];
 
 /// What the console answers to the script, with a journal of so many entries at most.
-fn answers_to(alloc: Global, script: &str, journal: u32) -> Result<String> {
+pub fn answers_to(alloc: Global, script: &str, journal: u32) -> Result<String> {
     let mut reader = FromRead::new(script.as_bytes());
     let mut writer = FromWrite::new(Vec::new(alloc));
     let limit = journal.min(4_000_000);

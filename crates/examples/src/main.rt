@@ -3,17 +3,21 @@
 #![tactic(auto)]
 
 mod comparing;
+mod random_scripts;
+mod rebuilding;
 mod rows;
 
 use anyhow::Result;
 use comparing::difference;
+use rebuilding::first_changed;
 use rows::{Row, read_rows};
 use std::fs;
 use std::process::ExitCode;
 use std::rt::Files;
 
 /// Scripts as an operator writes them: NAME.txt, with its answers in NAME.answers.
-const SCRIPTS: [&str; 6] = [
+const SCRIPTS: [&str; 7] = [
+    "day-of-failures",
     "first-warning",
     "flood-two-controllers",
     "link-lost",
@@ -22,12 +26,18 @@ const SCRIPTS: [&str; 6] = [
     "wrong-input",
 ];
 
+/// How many scripts are drawn.
+const SCRIPTS_DRAWN: u64 = 300;
+
 /// Files of rows. A row may begin with one of an earlier file.
-const ROWS: [&str; 5] = [
+const ROWS: [&str; 8] = [
     "first-warning.rows",
     "bad-lines.rows",
     "changes.rows",
     "orders.rows",
+    "failures.rows",
+    "boards.rows",
+    "queries.rows",
     "warnings.rows",
 ];
 
@@ -62,6 +72,20 @@ fn rows_agree<R: Print + AllocGlobal>(rt: &R, file: &str, rows: &[Row]) -> Resul
     Ok(true)
 }
 
+/// Runs drawn scripts with and without rebuilds, prints whether their answers agree, and tells it.
+fn rebuilt_agrees<R: Print + AllocGlobal>(rt: &R) -> Result<bool> {
+    match first_changed(rt.alloc(), SCRIPTS_DRAWN)? {
+        None => {
+            println!(rt; "{SCRIPTS_DRAWN} drawn scripts agree with rebuilds")?;
+            Ok(true)
+        }
+        Some(number) => {
+            println!(rt; "drawn script {number} differs with rebuilds")?;
+            Ok(false)
+        }
+    }
+}
+
 fn main(rt: HostRuntime) -> Result<ExitCode> {
     for name in SCRIPTS {
         if !script_agrees(&rt, name)? {
@@ -78,6 +102,9 @@ fn main(rt: HostRuntime) -> Result<ExitCode> {
         for row in rows {
             before.push(row)?;
         }
+    }
+    if !rebuilt_agrees(&rt)? {
+        return Ok(ExitCode::FAILURE);
     }
     Ok(ExitCode::SUCCESS)
 }

@@ -1,76 +1,40 @@
 //! What no clause says of the centre: that each call can succeed, and what is lent of a flight. What is answered, worked
 //! scripts in the data of `examples` show.
 
+use crate::centre_events::{
+    MESSAGE_ID, PLMN, SEVEN, cells, coast, content, error_indication, failure, first_serial, issue,
+    kill_complete, kill_failure, restart, takes, write_failure,
+};
 use areas::Selector;
+use cbsp_ie::Cause;
 use cbsp_messages::read;
 use cell_register::BscId;
+use centre_core::WarningId;
 use centre_core::answer::Answer;
 use centre_core::centre::Centre;
-use centre_core::coverage_plan::Edit;
 use centre_core::entry::Entry;
 use centre_core::event::Event;
-use centre_core::order_maker::{InFlight, Order, OrderKind, message_of};
+use centre_core::in_flight::InFlight;
 use centre_core::outcome::Outcome;
 use centre_core::refusal::Refusal;
 use centre_core::replies::Replies;
 use centre_core::reply::Reply;
-use centre_core::{Content, ContentPages, Notice, Scope, Serial, WarningId};
-use common::{Cell, Cells, Name, Names, Octets};
+use coverage_plan::Edit;
+use order_maker::{Order, OrderKind, message_of};
 use std::alloc::{AllocError, Global};
 use std::process::Abort;
 use std::test::Fail;
-use warning_book::Category;
-
-const PLMN: [u8; 3] = [0x00, 0xf1, 0x10];
-
-const CELL: Cell = Cell { lac: 100, ci: 7 };
 
 /// The body of the COMPLETE of the first warning.
 const COMPLETE: [u8; 6] = [0x0e, 0x11, 0x12, 0x03, 0xc0, 0x00];
-
-fn coast(alloc: Global) -> Result<Name, AllocError> {
-    Ok(Name::from_vec(Vec::from_slice(alloc, b"Coast")?))
-}
-
-fn content(alloc: Global) -> Result<Content, AllocError> {
-    let page = Octets::from_vec(Vec::from_slice(alloc, &[0xd4, 0xf2, 0x9c, 0x0e])?);
-    let mut pages = Vec::new(alloc);
-    pages.push(page)?;
-    Ok(Content {
-        dcs: 15,
-        category: Category::HighPriority,
-        period: 30,
-        pages: ContentPages::from_vec(pages),
-    })
-}
-
-fn notice(alloc: Global) -> Result<Notice, AllocError> {
-    Ok(Notice {
-        message_id: 4370,
-        scope: Scope::Cell,
-        content: content(alloc)?,
-    })
-}
-
-fn issue(alloc: Global) -> Result<Event, AllocError> {
-    let mut names = Vec::new(alloc);
-    names.push(coast(alloc)?)?;
-    let names = Names::from_vec(names);
-    Ok(Event::Edit(Edit::Issue(notice(alloc)?, names)))
-}
-
-fn takes(rt: &impl Abort, centre: &mut Centre, event: Event) {
-    let is_taken = centre.accept(1, event).is_ok();
-    assert!(rt; is_taken);
-}
 
 /// A BSC with its cell, an area that covers it, a warning there, and the link up, of generation 6.
 fn begun(rt: &impl Abort, alloc: Global, b: BscId) -> Result<Centre, AllocError> {
     let mut centre = Centre::new(alloc, PLMN, 100);
     takes(rt, &mut centre, Event::Edit(Edit::AddBsc(b)));
-    takes(rt, &mut centre, Event::Edit(Edit::AddCell(CELL, b)));
+    takes(rt, &mut centre, Event::Edit(Edit::AddCell(SEVEN, b)));
     takes(rt, &mut centre, Event::Edit(Edit::AddArea(coast(alloc)?)));
-    let put = Edit::Put(coast(alloc)?, Selector::Cell(CELL));
+    let put = Edit::Put(coast(alloc)?, Selector::Cell(SEVEN));
     takes(rt, &mut centre, Event::Edit(put));
     takes(rt, &mut centre, issue(alloc)?);
     takes(rt, &mut centre, Event::LinkUp(b));
@@ -88,7 +52,7 @@ fn completes(rt: &impl Abort, alloc: Global, centre: &mut Centre, b: BscId) -> R
 fn replies(alloc: Global) -> Result<Replies, AllocError> {
     let mut said = Vec::new(alloc);
     said.push(Reply {
-        cell: CELL,
+        cell: SEVEN,
         outcome: Outcome::Done,
         count: None,
     })?;
@@ -110,11 +74,23 @@ fn edit_is_copied(rt: &impl Abort, alloc: Global, edit: &Edit) -> Result<(), All
 fn edits_are_copied(rt: &impl Abort, alloc: Global) -> Result<(), AllocError> {
     let warning = WarningId::new(1);
     edit_is_copied(rt, alloc, &Edit::DropArea(coast(alloc)?))?;
-    edit_is_copied(rt, alloc, &Edit::Cut(coast(alloc)?, Selector::Cell(CELL)))?;
+    edit_is_copied(rt, alloc, &Edit::Cut(coast(alloc)?, Selector::Cell(SEVEN)))?;
     edit_is_copied(rt, alloc, &Edit::Update(warning, content(alloc)?))?;
     edit_is_copied(rt, alloc, &Edit::Widen(warning, coast(alloc)?))?;
     edit_is_copied(rt, alloc, &Edit::Narrow(warning, coast(alloc)?))?;
     Ok(())
+}
+
+/// Reports are copied with what they list.
+fn reports_are_copied(rt: &impl Abort, alloc: Global, b: BscId) -> Result<(), AllocError> {
+    is_copied(rt, alloc, &Event::Report(b, 6, failure(alloc, SEVEN)?))?;
+    is_copied(
+        rt,
+        alloc,
+        &Event::Report(b, 6, restart(alloc, SEVEN, 0, 1)?),
+    )?;
+    is_copied(rt, alloc, &Event::Retry(b))?;
+    is_copied(rt, alloc, &Event::LinkDown(b, 6))
 }
 
 fn replies_are_copied(rt: &impl Abort, alloc: Global) -> Result<(), AllocError> {
@@ -123,17 +99,13 @@ fn replies_are_copied(rt: &impl Abort, alloc: Global) -> Result<(), AllocError> 
     Ok(())
 }
 
-fn cells(alloc: Global) -> Result<Cells, AllocError> {
-    Ok(Cells::from_vec(Vec::from_slice(alloc, &[CELL])?))
-}
-
 /// The order of that kind for the first warning.
 fn order_of(alloc: Global, kind: OrderKind) -> Result<Order, AllocError> {
     Ok(Order {
         kind,
-        message_id: 4370,
-        serial: Serial::from_u16(0xc000),
-        cells: cells(alloc)?,
+        message_id: MESSAGE_ID,
+        serial: first_serial(),
+        cells: cells(alloc, &[SEVEN])?,
     })
 }
 
@@ -151,9 +123,9 @@ fn flight_is_copied(rt: &impl Abort, alloc: Global, flight: &InFlight) -> Result
 
 fn flights_are_copied(rt: &impl Abort, alloc: Global) -> Result<(), AllocError> {
     let query = InFlight::Query {
-        message_id: 4370,
-        serial: Serial::from_u16(0xc000),
-        cells: cells(alloc)?,
+        message_id: MESSAGE_ID,
+        serial: first_serial(),
+        cells: cells(alloc, &[SEVEN])?,
     };
     flight_is_copied(rt, alloc, &query)?;
     flight_is_copied(
@@ -167,9 +139,9 @@ fn flights_are_copied(rt: &impl Abort, alloc: Global) -> Result<(), AllocError> 
 fn a_kill_is_carried(alloc: Global) -> Result<(), AllocError> {
     let order = Order {
         kind: OrderKind::Kill,
-        message_id: 4370,
-        serial: Serial::from_u16(0xc000),
-        cells: cells(alloc)?,
+        message_id: MESSAGE_ID,
+        serial: first_serial(),
+        cells: cells(alloc, &[SEVEN])?,
     };
     message_of(alloc, &order, None)?;
     Ok(())
@@ -220,12 +192,84 @@ fn is_entered(
 fn copies_are_made(rt: HostRuntime) -> Result<(), Fail> {
     let alloc = rt.alloc();
     is_copied(&rt, alloc, &issue(alloc)?)?;
+    reports_are_copied(&rt, alloc, BscId::new(1).ok_or("1 is a BSC")?)?;
     edits_are_copied(&rt, alloc)?;
     replies_are_copied(&rt, alloc)?;
     orders_are_copied(&rt, alloc)?;
     flights_are_copied(&rt, alloc)?;
     a_kill_is_carried(alloc)?;
     Ok(())
+}
+
+/// The cell fails, and comes up again without its message.
+fn indications_are_taken(
+    rt: &impl Abort,
+    alloc: Global,
+    centre: &mut Centre,
+    b: BscId,
+) -> Result<(), AllocError> {
+    takes(rt, centre, Event::Report(b, 6, failure(alloc, SEVEN)?));
+    let restart = restart(alloc, SEVEN, 0, 1)?;
+    takes(rt, centre, Event::Report(b, 6, restart));
+    Ok(())
+}
+
+/// A write is refused in its cell, and the next one as a whole.
+fn refused_writes_are_taken(
+    rt: &impl Abort,
+    alloc: Global,
+    centre: &mut Centre,
+    b: BscId,
+) -> Result<(), AllocError> {
+    takes(rt, centre, Event::Send(b, 6));
+    let refused = write_failure(alloc, SEVEN, Cause::CELL_MEMORY_EXCEEDED, &[])?;
+    takes(rt, centre, Event::Report(b, 6, refused));
+    takes(rt, centre, Event::Retry(b));
+    takes(rt, centre, Event::Send(b, 6));
+    let refused = error_indication(Cause::BSC_CAPACITY_EXCEEDED);
+    takes(rt, centre, Event::Report(b, 6, refused));
+    takes(rt, centre, Event::Retry(b));
+    Ok(())
+}
+
+/// A KILL is refused, and the next one carried out.
+fn kills_are_taken(
+    rt: &impl Abort,
+    alloc: Global,
+    centre: &mut Centre,
+    b: BscId,
+) -> Result<(), AllocError> {
+    takes(rt, centre, Event::Edit(Edit::Stop(WarningId::new(1))));
+    takes(rt, centre, Event::Send(b, 6));
+    let refused = kill_failure(alloc, SEVEN, Cause::UNSPECIFIED_ERROR, &[])?;
+    takes(rt, centre, Event::Report(b, 6, refused));
+    takes(rt, centre, Event::Retry(b));
+    takes(rt, centre, Event::Send(b, 6));
+    takes(rt, centre, Event::Report(b, 6, kill_complete()));
+    Ok(())
+}
+
+/// Reports of each kind, where the message is on air in its cell.
+fn reports_are_taken(
+    rt: &impl Abort,
+    alloc: Global,
+    centre: &mut Centre,
+    b: BscId,
+) -> Result<(), Fail> {
+    indications_are_taken(rt, alloc, centre, b)?;
+    refused_writes_are_taken(rt, alloc, centre, b)?;
+    takes(rt, centre, Event::Send(b, 6));
+    completes(rt, alloc, centre, b)?;
+    kills_are_taken(rt, alloc, centre, b)?;
+    Ok(())
+}
+
+/// The centre is whole, and stays so where it is rebuilt.
+fn is_rebuilt(rt: &impl Abort, centre: &mut Centre) {
+    assert!(rt; !centre.is_stale());
+    assert!(rt; centre.meter().lines > 0);
+    assert_eq!(rt; centre.rebuild(), Ok(()));
+    assert!(rt; !centre.is_stale());
 }
 
 #[test]
@@ -237,8 +281,11 @@ fn every_call_answers(rt: HostRuntime) -> Result<(), Fail> {
     assert_eq!(rt; pending_is_copied(alloc, &centre, b), Ok(1));
     takes(&rt, &mut centre, Event::Send(b, 6));
     completes(&rt, alloc, &mut centre, b)?;
-    is_entered(&rt, alloc, &mut centre, 7)?;
-    is_entered(&rt, alloc, &mut centre, 8)?;
+    reports_are_taken(&rt, alloc, &mut centre, b)?;
+    for place in [7, 8, 9, 12, 21] {
+        is_entered(&rt, alloc, &mut centre, place)?;
+    }
+    is_rebuilt(&rt, &mut centre);
     Ok(())
 }
 

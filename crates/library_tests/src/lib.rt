@@ -5,7 +5,11 @@
 #[cfg(test)]
 mod area_tests;
 #[cfg(test)]
+mod board_tests;
+#[cfg(test)]
 mod book_tests;
+#[cfg(test)]
+mod centre_events;
 #[cfg(test)]
 mod centre_tests;
 #[cfg(test)]
@@ -15,10 +19,24 @@ mod element_tests;
 #[cfg(test)]
 mod frame_tests;
 #[cfg(test)]
+mod kept_tables_tests;
+#[cfg(test)]
+mod line_table_tests;
+#[cfg(test)]
 mod message_tests;
+#[cfg(test)]
+mod order_tests;
+#[cfg(test)]
+mod plan_tests;
 #[cfg(test)]
 mod register_tests;
 #[cfg(test)]
 mod replay_tests;
 #[cfg(test)]
+mod report_tests;
+#[cfg(test)]
 mod serial_tests;
+#[cfg(test)]
+mod stale_script;
+#[cfg(test)]
+mod stale_tests;

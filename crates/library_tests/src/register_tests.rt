@@ -53,6 +53,8 @@ fn every_call_answers(rt: HostRuntime) -> Result<(), Fail> {
     let mut register = begun(rt.alloc())?;
     has_cells_of(&rt, &register, 1, &[FIRST, THIRD])?;
     has_cells_in(&rt, &register, 100, &[FIRST, SECOND])?;
+    let cells = register.all_cells()?;
+    assert!(rt; cells.as_slice() == [FIRST, SECOND, THIRD].as_slice());
     assert_eq!(rt; register.move_cell(FIRST, bsc(2)?), Ok(()));
     assert_eq!(rt; register.remove_cell(THIRD), Ok(()));
     assert_eq!(rt; register.remove_bsc(bsc(1)?), Ok(()));

@@ -1,13 +1,15 @@
-//! How fast messages are read and written, how fast a stream is cut into frames, and how fast a warning is ordered.
+//! How fast messages are read and written, how fast a stream is cut into frames, how fast a warning is ordered, and how
+//! fast a report is taken.
 //!
 //! With no argument it makes one small round of each and prints `ok`. `codec long` and `framing long` make long ones
-//! and print their figures, which depend on the machine and on what else it does; so does `orders`.
+//! and print their figures, which depend on the machine and on what else it does; so do `orders` and `reports`.
 #![tactic(auto)]
 
 mod codec;
 mod codec_frames;
 mod cutting;
 mod orders;
+mod reports;
 mod stopwatch;
 
 use anyhow::{Result, bail};
@@ -21,6 +23,7 @@ fn main(rt: HostRuntime) -> Result<()> {
             codec::rounds(&rt, 0)?;
             cutting::rounds(&rt, 3_000, 2_000)?;
             orders::round(&rt, 20)?;
+            reports::round(&rt, 20, 2)?;
             println!(rt; "ok")?;
         }
         ["codec", "long"] => {
@@ -37,7 +40,13 @@ fn main(rt: HostRuntime) -> Result<()> {
             let figure = orders::round(&rt, 1_001)?;
             println!(rt; "{figure}")?;
         }
-        _ => bail!("the arguments are none, `codec long`, `framing long` or `orders`"),
+        ["reports"] => {
+            for cells in [1_000, 65_536] {
+                let figure = reports::round(&rt, cells, 20_000)?;
+                println!(rt; "{figure}")?;
+            }
+        }
+        _ => bail!("the arguments are none, `codec long`, `framing long`, `orders` or `reports`"),
     }
     Ok(())
 }

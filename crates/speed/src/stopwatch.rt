@@ -33,7 +33,8 @@ impl Stopwatch {
         Ok(self.microseconds(rt)?.checked_div(1_000).unwrap_or(0))
     }
 
-    fn microseconds(&self, rt: &impl Clock) -> io::Result<u64> {
+    /// Microseconds since the start.
+    pub fn microseconds(&self, rt: &impl Clock) -> io::Result<u64> {
         let time: Duration = self.start.elapsed(rt)?;
         Ok(u64::try_from(time.as_micros()).unwrap_or(u64::MAX))
     }

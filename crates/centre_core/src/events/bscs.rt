@@ -1,14 +1,15 @@
 //! Edits of BSCs.
 
-ghost use Rattle.std.specs.Prelude.{◌≡◌, OnOk, OnErr};
+ghost use Rattle.std.specs.Prelude.{◌≡◌, true, OnOk, OnErr, IfOk};
 ghost use Rattle.cell_register.specs.Register.{with_bsc, without_bsc};
-ghost use Rattle.centre_core.specs.Kept.{IsRegisterOf, Gives, IsChecked};
-ghost use Rattle.centre_core.specs.Past.{Past, past_of};
+ghost use Rattle.centre_core.specs.Kept.{IsRegisterOf, Gives, IsChecked, is_plain};
+ghost use Rattle.centre_core.specs.Past.{Past};
+ghost use Rattle.centre_core.specs.State.{AreLinksOf};
 ghost use Rattle.centre_core.specs.Verdict.{add_bsc, remove_bsc};
 
 use crate::answer::Answer;
-use crate::entry::Entry;
-use crate::history::is_up;
+use crate::link::Link;
+use crate::links::is_up;
 use crate::refusal::Refusal;
 use cell_register::{BscId, Register};
 
@@ -28,6 +29,7 @@ pub(crate) fn add_bsc(register: &mut Register, b: BscId) -> Result<Answer, Refus
     ensures verdict { (past : Past) → IsRegisterOf past register.old → Gives (add_bsc past b) result }
     ensures changed { OnOk result (register.new ≡ with_bsc b register.old) }
     ensures unchanged { OnErr result (register.new ≡ register.old) }
+    ensures plain { IfOk result (λ a. is_plain a ≡ true) }
 {
     register.tell_soundness();
     register.add_bsc(b)?;
@@ -36,13 +38,8 @@ pub(crate) fn add_bsc(register: &mut Register, b: BscId) -> Result<Answer, Refus
 
 /// Whether a RemoveBsc is accepted: the BSC has no cells and no link.
 #[tactic(auto, using(crate::proofs::RegisterLemmas::cells_there))]
-pub(crate) fn check_remove_bsc(
-    journal: &[Entry],
-    register: &Register,
-    b: BscId,
-) -> Result<(), Refusal>
-    requires { IsRegisterOf (past_of journal.now) register.now }
-    ensures { IsChecked (remove_bsc (past_of journal.now) b) result }
+pub(crate) fn check_remove_bsc(links: &[Link], register: &Register, b: BscId) -> Result<(), Refusal>
+    ensures { (past : Past) → IsRegisterOf past register.now → AreLinksOf past links.now → IsChecked (remove_bsc past b) result }
 {
     register.tell_soundness();
     if !register.has_bsc(b) {
@@ -51,7 +48,7 @@ pub(crate) fn check_remove_bsc(
     if register.has_cells(b) {
         return Err(Refusal::BscHasCells);
     }
-    if is_up(journal, b) {
+    if is_up(links, b) {
         return Err(Refusal::LinkIsUp);
     }
     Ok(())
@@ -59,16 +56,11 @@ pub(crate) fn check_remove_bsc(
 
 /// RemoveBsc: takes a BSC out that has no cells and no link.
 #[tactic(auto, using(crate::proofs::RegisterLemmas::remove_bsc_refused))]
-pub(crate) fn remove_bsc(
-    journal: &[Entry],
-    register: &mut Register,
-    b: BscId,
-) -> Result<Answer, Refusal>
-    requires registered { IsRegisterOf (past_of journal.now) register.old }
-    requires free { remove_bsc (past_of journal.now) b ≡ Ok Answer.Done }
-    ensures verdict { Gives (remove_bsc (past_of journal.now) b) result }
+pub(crate) fn remove_bsc(register: &mut Register, b: BscId) -> Result<Answer, Refusal>
+    ensures verdict { (past : Past) → IsRegisterOf past register.old → remove_bsc past b ≡ Ok Answer.Done → Gives (remove_bsc past b) result }
     ensures changed { OnOk result (register.new ≡ without_bsc b register.old) }
     ensures unchanged { OnErr result (register.new ≡ register.old) }
+    ensures plain { IfOk result (λ a. is_plain a ≡ true) }
 {
     register.tell_soundness();
     register.remove_bsc(b)?;

@@ -1,8 +1,8 @@
 //! Edits of cells.
 
-ghost use Rattle.std.specs.Prelude.{◌≡◌, OnOk, OnErr};
+ghost use Rattle.std.specs.Prelude.{◌≡◌, true, OnOk, OnErr, IfOk};
 ghost use Rattle.cell_register.specs.Register.{with_cell, moved, without_cell};
-ghost use Rattle.centre_core.specs.Kept.{IsRegisterOf, Gives, IsChecked};
+ghost use Rattle.centre_core.specs.Kept.{IsRegisterOf, Gives, IsChecked, is_plain};
 ghost use Rattle.centre_core.specs.Past.{Past};
 ghost use Rattle.centre_core.specs.Verdict.{add_cell, move_cell, remove_cell};
 
@@ -27,6 +27,7 @@ pub(crate) fn add_cell(register: &mut Register, c: Cell, b: BscId) -> Result<Ans
     ensures verdict { (past : Past) → IsRegisterOf past register.old → Gives (add_cell past c b) result }
     ensures changed { OnOk result (register.new ≡ with_cell c b register.old) }
     ensures unchanged { OnErr result (register.new ≡ register.old) }
+    ensures plain { IfOk result (λ a. is_plain a ≡ true) }
 {
     register.tell_soundness();
     register.add_cell(c, b)?;
@@ -48,6 +49,7 @@ pub(crate) fn move_cell(register: &mut Register, c: Cell, b: BscId) -> Result<An
     ensures verdict { (past : Past) → IsRegisterOf past register.old → Gives (move_cell past c b) result }
     ensures changed { OnOk result (register.new ≡ moved c b register.old) }
     ensures unchanged { OnErr result (register.new ≡ register.old) }
+    ensures plain { IfOk result (λ a. is_plain a ≡ true) }
 {
     register.move_cell(c, b)?;
     Ok(Answer::Done)
@@ -68,6 +70,7 @@ pub(crate) fn remove_cell(register: &mut Register, c: Cell) -> Result<Answer, Re
     ensures verdict { (past : Past) → IsRegisterOf past register.old → Gives (remove_cell past c) result }
     ensures changed { OnOk result (register.new ≡ without_cell c register.old) }
     ensures unchanged { OnErr result (register.new ≡ register.old) }
+    ensures plain { IfOk result (λ a. is_plain a ≡ true) }
 {
     register.remove_cell(c)?;
     Ok(Answer::Done)

@@ -1,8 +1,8 @@
 //! Edits of areas.
 
-ghost use Rattle.std.specs.Prelude.{◌≡◌, OnOk, OnErr};
+ghost use Rattle.std.specs.Prelude.{◌≡◌, true, OnOk, OnErr, IfOk};
 ghost use Rattle.areas.specs.Areas.{with_area, without_area, with_selector, without_selector};
-ghost use Rattle.centre_core.specs.Kept.{AreAreasOf, Gives, IsChecked};
+ghost use Rattle.centre_core.specs.Kept.{AreAreasOf, Gives, IsChecked, is_plain};
 ghost use Rattle.centre_core.specs.Past.{Past};
 ghost use Rattle.centre_core.specs.Verdict.{add_area, drop_area, put, cut};
 ghost use Rattle.centre_core.specs.Warnings.{book_of};
@@ -29,6 +29,7 @@ pub(crate) fn add_area(areas: &mut Areas, a: &Name) -> Result<Answer, Refusal>
     ensures verdict { (past : Past) → AreAreasOf past areas.old → Gives (add_area past a.now) result }
     ensures changed { OnOk result (areas.new ≡ with_area a.now areas.old) }
     ensures unchanged { OnErr result (areas.new ≡ areas.old) }
+    ensures plain { IfOk result (λ a. is_plain a ≡ true) }
 {
     areas.tell_soundness();
     areas.add_area(a)?;
@@ -53,6 +54,7 @@ pub(crate) fn drop_area(book: &Book, areas: &mut Areas, a: &Name) -> Result<Answ
     ensures verdict { (past : Past) → AreAreasOf past areas.old → book.now ≡ book_of past → Gives (drop_area past a.now) result }
     ensures changed { OnOk result (areas.new ≡ without_area a.now areas.old) }
     ensures unchanged { OnErr result (areas.new ≡ areas.old) }
+    ensures plain { IfOk result (λ a. is_plain a ≡ true) }
 {
     check_drop_area(book, areas, a)?;
     areas.drop_area(a)?;
@@ -75,6 +77,7 @@ pub(crate) fn put(areas: &mut Areas, a: &Name, s: Selector) -> Result<Answer, Re
     ensures verdict { (past : Past) → AreAreasOf past areas.old → Gives (put past a.now s) result }
     ensures changed { OnOk result (areas.new ≡ with_selector a.now s areas.old) }
     ensures unchanged { OnErr result (areas.new ≡ areas.old) }
+    ensures plain { IfOk result (λ a. is_plain a ≡ true) }
 {
     areas.tell_soundness();
     areas.put(a, s)?;
@@ -96,6 +99,7 @@ pub(crate) fn cut(areas: &mut Areas, a: &Name, s: Selector) -> Result<Answer, Re
     ensures verdict { (past : Past) → AreAreasOf past areas.old → Gives (cut past a.now s) result }
     ensures changed { OnOk result (areas.new ≡ without_selector a.now s areas.old) }
     ensures unchanged { OnErr result (areas.new ≡ areas.old) }
+    ensures plain { IfOk result (λ a. is_plain a ≡ true) }
 {
     areas.cut(a, s)?;
     Ok(Answer::Done)

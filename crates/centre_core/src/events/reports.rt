@@ -1,111 +1,105 @@
 //! Reports of BSCs.
 
-ghost use Rattle.std.specs.Prelude.{◌≡◌, map, IfOk};
-ghost use Rattle.std.specs.Option.{option_copied, option_map};
-ghost use Rattle.centre_core.specs.InFlight.{agrees, written_by, cleared_by, new_of, old_of, id_of, is_kill, kills, writes, agree, matches, matches_flight, cells_of, completed};
-ghost use Rattle.centre_core.specs.Kept.{IsRegisterOf, Gives};
-ghost use Rattle.centre_core.specs.Past.{past_of};
-ghost use Rattle.centre_core.specs.Verdict.{report, report_answer};
-ghost use Rattle.centre_core.specs.declared.order_maker.in_flight.InFlight.TheVariants as in_flight_is;
+ghost use Rattle.std.specs.Prelude.{◌≡◌, IfOk};
+ghost use Rattle.std.specs.Option.{option_copied};
+ghost use Rattle.centre_core.specs.Idle.{AreKnownOf};
+ghost use Rattle.centre_core.specs.IsKept.{IsKept};
+ghost use Rattle.centre_core.specs.Kept.{Gives};
+ghost use Rattle.centre_core.specs.Legal.{Legal};
+ghost use Rattle.centre_core.specs.Outcomes.{listed_cells};
+ghost use Rattle.centre_core.specs.Past.{Past};
+ghost use Rattle.centre_core.specs.Settings.{Settings};
+ghost use Rattle.centre_core.specs.Verdict.{report, reply_answer, report_answer};
 
 use crate::answer::Answer;
-use crate::entry::Entry;
 use crate::events::Verdict;
 use crate::events::links::check_link;
-use crate::history::in_flight;
-use crate::order_maker::{Order, OrderKind};
-use crate::outcome::Outcome;
+use crate::flights::flight_in;
+use crate::in_flight::InFlight;
+use crate::kept::Kept;
 use crate::refusal::Refusal;
-use crate::replies::Replies;
-use crate::reply::Reply;
+use crate::replying::{failed_ids, is_out_of_place, replies_to};
+use cbsp_ie::CellId;
 use cbsp_messages::Message;
-use cell_register::{BscId, Register};
-use common::Cell;
+use cell_register::BscId;
+use common::Cells;
 use std::alloc::{AllocError, Global};
 
-/// Whether an identifier that is given, and has a counterpart in the order, is that counterpart.
-fn agrees(given: Option<u16>, counterpart: Option<u16>) -> bool
-    ensures { result ≡ agrees given counterpart }
+/// The cells known at the BSC that the identifications of an indication name, in order; none where the indication isn't
+/// about CBS messages (TS 48.049, 8.2.25). The network is the centre's, as its three octets are sent.
+fn listed_cells(
+    alloc: Global,
+    network: [u8; 3],
+    kept: &Kept,
+    b: BscId,
+    kind: u8,
+    ids: &[CellId],
+) -> Result<Cells, AllocError>
+    ensures { (settings : Settings) (past : Past) → Legal settings past → AreKnownOf past kept.now.tables.lines kept.now.register → IfOk result (λ cells. cells ≡ listed_cells network past b kind ids.now) }
 {
-    match (given, counterpart) {
-        (Some(given), Some(counterpart)) => given == counterpart,
-        _ => true,
+    if kind != 0 {
+        return Ok(Cells::from_vec(Vec::new(alloc)));
     }
+    let cells = kept.tables.cells_named(&kept.register, network, b, ids)?;
+    Ok(cells)
 }
 
-/// The serial number that an order writes.
-fn new_of(order: &Order) -> Option<u16>
-    ensures { result ≡ new_of (in_flight_is.Order order.now) }
+/// What a reply to what is in flight is answered.
+fn reply_answer(
+    alloc: Global,
+    network: [u8; 3],
+    message: &Message,
+    flight: Option<&InFlight>,
+) -> Verdict
+    ensures { Gives (reply_answer network message.now (option_copied flight.entry)) result }
 {
-    match order.kind {
-        OrderKind::Write | OrderKind::Replace { old: _ } => Some(order.serial.to_u16()),
-        OrderKind::Kill => None,
-    }
+    let Some(flight) = flight else {
+        return Err(Refusal::NoOrder);
+    };
+    let replies = replies_to(alloc, network, message, flight)?;
+    Ok(Answer::Replied(replies))
 }
 
-/// The serial number that an order takes off the air.
-fn old_of(order: &Order) -> Option<u16>
-    ensures { result ≡ old_of (in_flight_is.Order order.now) }
-{
-    match order.kind {
-        OrderKind::Write => None,
-        OrderKind::Replace { old } => Some(old.to_u16()),
-        OrderKind::Kill => Some(order.serial.to_u16()),
-    }
-}
-
-/// Whether the message answers the order: it is of the order's kind, and no identifier that it gives differs.
-fn matches(message: &Message, order: &Order) -> bool
-    ensures { result ≡ matches message.now (in_flight_is.Order order.now) }
+/// What a message that isn't out of place is answered: an indication lists cells, a reply answers what is in flight.
+fn report_answer(
+    alloc: Global,
+    network: [u8; 3],
+    kept: &Kept,
+    b: BscId,
+    message: &Message,
+    flight: Option<&InFlight>,
+) -> Verdict
+    ensures { (settings : Settings) (past : Past) → Legal settings past → AreKnownOf past kept.now.tables.lines kept.now.register → Gives (report_answer network past b message.now (option_copied flight.entry)) result }
 {
     match message {
-        Message::WriteComplete(said) => {
-            order.kind != OrderKind::Kill
-                && agrees(Some(said.message_id), Some(order.message_id))
-                && agrees(Some(said.serial), new_of(order))
-                && agrees(said.old, old_of(order))
+        Message::Restart(said) => {
+            let cells = listed_cells(alloc, network, kept, b, said.kind, said.cells.ids())?;
+            Ok(Answer::Listed(cells))
         }
-        Message::KillComplete(said) => {
-            order.kind == OrderKind::Kill
-                && agrees(Some(said.message_id), Some(order.message_id))
-                && agrees(Some(said.serial), old_of(order))
+        Message::Failure(said) => {
+            let ids = failed_ids(alloc, &said.failures)?;
+            let cells = listed_cells(alloc, network, kept, b, said.kind, ids.as_slice())?;
+            Ok(Answer::Listed(cells))
         }
-        _ => false,
+        _ => reply_answer(alloc, network, message, flight),
     }
-}
-
-/// What a COMPLETE says of each cell, in their order.
-fn completed(alloc: Global, cells: &[Cell]) -> Result<Replies, AllocError>
-    ensures { IfOk result (λ r. r ≡ completed cells.now) }
-{
-    let mut said = Vec::new(alloc);
-    for cell in cells {
-        said.push(Reply {
-            cell: *cell,
-            outcome: Outcome::Done,
-            count: None,
-        })?;
-    }
-    Ok(Replies::from_vec(said))
 }
 
 /// Report: a message of a BSC, over its link.
 pub(crate) fn report(
     alloc: Global,
-    journal: &[Entry],
-    register: &Register,
+    network: [u8; 3],
+    kept: &Kept,
     b: BscId,
     generation: u64,
     message: &Message,
 ) -> Verdict
-    requires { IsRegisterOf (past_of journal.now) register.now }
-    ensures { Gives (report (past_of journal.now) b generation message.now) result }
+    ensures { (settings : Settings) (past : Past) → Legal settings past → IsKept past kept.now → AreKnownOf past kept.now.tables.lines kept.now.register → Gives (report network past b generation message.now) result }
 {
-    check_link(journal, register, b, generation)?;
-    match in_flight(journal, b) {
-        Some(order) if matches(message, order) => {
-            Ok(Answer::Replied(completed(alloc, order.cells.as_slice())?))
-        }
-        _ => Err(Refusal::NoOrder),
+    check_link(kept.links.as_slice(), &kept.register, b, generation)?;
+    let flight = flight_in(kept.flights.as_slice(), b);
+    if is_out_of_place(message, flight) {
+        return Err(Refusal::NoOrder);
     }
+    report_answer(alloc, network, kept, b, message, flight)
 }

@@ -1,61 +1,64 @@
 //! Sending of orders.
 
-ghost use Rattle.std.specs.Prelude.{◌≡◌, None, IfSome};
-ghost use Rattle.common.specs.Checks.{first_refusal};
+ghost use Rattle.std.specs.Prelude.{◌≡◌, IfSome};
+ghost use Rattle.std.specs.Option.{option_copied};
 ghost use Rattle.warning_book.specs.Book.{content_of};
-ghost use Rattle.centre_core.specs.Grouping.{first};
-ghost use Rattle.centre_core.specs.Kept.{IsRegisterOf, Gives, GivesOr};
-ghost use Rattle.centre_core.specs.OrderMessage.{IsCarriable};
-ghost use Rattle.centre_core.specs.Past.{Past, past_of};
-ghost use Rattle.centre_core.specs.Pending.{pending};
-ghost use Rattle.centre_core.specs.Verdict.{send, send_checks, send_answer};
+ghost use Rattle.order_maker.specs.OrderMessage.{IsCarriable};
+ghost use Rattle.order_maker.specs.Pending.{IsListOf};
+ghost use Rattle.centre_core.specs.IsKept.{IsKept};
+ghost use Rattle.centre_core.specs.Kept.{Gives};
+ghost use Rattle.centre_core.specs.Legal.{Legal};
+ghost use Rattle.centre_core.specs.Past.{Past};
+ghost use Rattle.centre_core.specs.Pending.{all_actions};
+ghost use Rattle.centre_core.specs.Settings.{Settings};
+ghost use Rattle.centre_core.specs.Sending.{is_carriable};
+ghost use Rattle.centre_core.specs.Verdict.{send, send_answer};
 ghost use Rattle.centre_core.specs.Warnings.{book_of};
 
 use crate::answer::Answer;
-use crate::entry::Entry;
 use crate::events::Verdict;
 use crate::events::links::check_link;
-use crate::history::in_flight;
-use crate::order_maker::{Order, first, message_of, pending};
+use crate::flights::flight_in;
+use crate::kept::Kept;
 use crate::refusal::Refusal;
-use cell_register::{BscId, Register};
+use cell_register::BscId;
+use order_maker::{Order, OrderKind, message_of};
 use std::alloc::Global;
-use warning_book::Book;
+use warning_book::{Book, Content};
 
-/// What is answered where that is the first pending order.
-fn send_answer(alloc: Global, book: &Book, order: Option<Order>) -> Verdict
-    requires { IfSome order (λ o. IsCarriable o.kind (content_of o.message_id o.serial book.now.warnings)) }
-    ensures { (past : Past) → book.now ≡ book_of past → Gives (send_answer past order) result }
+/// Whether an order of that kind can be carried: a KILL needs no content.
+fn is_carriable(kind: OrderKind, content: Option<&Content>) -> bool
+    ensures { result ≡ is_carriable kind (option_copied content.entry) }
 {
-    match order {
-        Some(order) => {
-            let content = book.content_of(order.message_id, order.serial);
-            let message = message_of(alloc, &order, content)?;
-            Ok(Answer::Sent { order, message })
-        }
-        None => Err(Refusal::NothingPending),
-    }
+    kind == OrderKind::Kill || content.is_some()
 }
 
-/// Send: takes the first pending order of a BSC, over its link.
-#[tactic(auto, using(crate::proofs::CarriedLemmas::sent_carriable))]
-pub(crate) fn send(
-    alloc: Global,
-    journal: &[Entry],
-    register: &Register,
-    book: &Book,
-    b: BscId,
-    generation: u64,
-) -> Verdict
-    requires registered { IsRegisterOf (past_of journal.now) register.now }
-    requires booked { book.now ≡ book_of (past_of journal.now) }
-    ensures { GivesOr (first_refusal (send_checks (past_of journal.now) b generation) ≡ None) (send (past_of journal.now) b generation) result }
+/// What is answered where that is the first pending order. In every legal past it can be carried.
+fn send_answer(alloc: Global, book: &Book, order: Option<Order>) -> Verdict
+    ensures { (past : Past) → book.now ≡ book_of past → IfSome order (λ o. IsCarriable o.kind (content_of o.message_id o.serial book.now.warnings)) → Gives (send_answer past order) result }
 {
-    check_link(journal, register, b, generation)?;
-    if in_flight(journal, b).is_some() {
+    let Some(order) = order else {
+        return Err(Refusal::NothingPending);
+    };
+    let content = book.content_of(order.message_id, order.serial);
+    if !is_carriable(order.kind, content) {
+        return Err(Refusal::NothingPending);
+    }
+    let message = message_of(alloc, &order, content)?;
+    Ok(Answer::Sent { order, message })
+}
+
+/// Send: takes the first pending order of a BSC, over its link. Whether one is pending is asked before any memory is taken.
+pub(crate) fn send(alloc: Global, kept: &Kept, b: BscId, generation: u64) -> Verdict
+    ensures { (settings : Settings) (past : Past) → Legal settings past → IsKept past kept.now → IsListOf (all_actions past b) kept.now.tables.pending b → Gives (send past b generation) result }
+{
+    check_link(kept.links.as_slice(), &kept.register, b, generation)?;
+    if flight_in(kept.flights.as_slice(), b).is_some() {
         return Err(Refusal::InFlight);
     }
-    let orders = pending(alloc, journal, book.as_slice(), b)?;
-    let order = first(alloc, orders.as_slice())?;
-    send_answer(alloc, book, order)
+    if !kept.tables.has(b) {
+        return Err(Refusal::NothingPending);
+    }
+    let order = kept.tables.first(b)?;
+    send_answer(alloc, &kept.book, order)
 }

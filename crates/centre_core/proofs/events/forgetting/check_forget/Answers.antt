@@ -1,16 +1,17 @@
-use Rattle.std.proofs.Common.{◌≡◌, Some, None, rules}
-use Rattle.common.specs.Checks.{first_refusal}
+use Rattle.std.proofs.Common.{◌≡◌, Some, None, sym, subst, rules}
 use Rattle.warning_book.specs.Book.{warning_of}
-use Rattle.warning_book.specs.Checks.{forget_checks}
-use Rattle.centre_core.proofs.CentreLemmas.{err_kept}
-use Rattle.centre_core.proofs.WarningLemmas.{forget_first}
-use Rattle.centre_core.specs.Past.{past_of}
-use Rattle.centre_core.specs.Verdict.{forget}
-use Rattle.centre_core.specs.Warnings.{book_of}
+use Rattle.centre_core.specs.Kept.{IsChecked}
+use Rattle.centre_core.proofs.WarningLemmas.{forget_found, forget_inactive, forget_missing, found_itself}
 use Rattle.centre_core.proofs.events.forgetting.check_forget.Goals as goal
 
-pub returns-in_err-check_idle : goal.returns-in_err-check_idle
-returns-in_err-check_idle c =
+pub returns-in_default : goal.returns-in_default
+returns-in_default c =
+    let missing : warning_of c.args.book.now c.args.number ≡ None = search rules in
+    λ settings past legal registered booked flying tied. forget_missing past c.args.book.now c.args.number booked missing
+
+pub returns : goal.returns
+returns c =
     let found : warning_of c.args.book.now c.args.number ≡ Some c.in-Some.warning.now = search rules in
-    err_kept (first_refusal (forget_checks (book_of (past_of c.args.journal.now)) c.args.number) ≡ None) (forget (past_of c.args.journal.now) c.args.number) c.from_residual-in_err-check_idle.result c.in_err-check_idle.field-0.0 c.from_residual-in_err-check_idle.ensures.1
-    (forget_first (past_of c.args.journal.now) c.args.book.now c.args.number c.in-Some.warning.now c.in_err-check_idle.field-0.0 c.requires c.tell_soundness.ensures.ordered found c.in_ok-check_forget.ensures.accepted c.in_err-check_idle.ensures.refusal)
+    λ settings past legal registered booked flying tied.
+    subst (λ v. IsChecked v c.check_idle.result) (sym (forget_found past c.args.book.now c.args.number c.in-Some.warning.now booked c.tell_soundness.ensures.ordered found c.in_ok-check_forget.ensures.accepted))
+    (c.check_idle.ensures settings past legal registered flying tied (found_itself past c.args.book.now c.args.number c.in-Some.warning.now booked found) (forget_inactive c.args.book.now c.args.number c.in-Some.warning.now found c.in_ok-check_forget.ensures.accepted))

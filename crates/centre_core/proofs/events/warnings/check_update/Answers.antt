@@ -6,5 +6,5 @@ use Rattle.centre_core.proofs.events.warnings.check_update.Goals as goal
 
 pub returns-in_err-check_update : goal.returns-in_err-check_update
 returns-in_err-check_update c =
-    λ past booked. err_checked ⊥ (update past c.args.number c.args.content.now) c.from_residual.result (of_book c.in_err-check_update.field-0.0) c.from_residual.ensures.1
+    λ past booked. err_checked (update past c.args.number c.args.content.now) c.from_residual.result (of_book c.in_err-check_update.field-0.0) c.from_residual.ensures.1
     (update_first past c.args.book.now c.args.number c.args.content.now c.in_err-check_update.field-0.0 booked c.in_err-check_update.ensures.refused)

@@ -16,5 +16,5 @@ returns-then-names_no_area-clause-verdict c =
 pub returns-in_err-number-clause-verdict : goal.returns-in_err-number-clause-verdict
 returns-in_err-number-clause-verdict c =
     let there : list_any (λ a. not (has_area c.args.areas.now a)) c.args.names.now ≡ false = search rules in
-    λ past tied booked. err_gives ⊥ (issue past c.args.notice.now c.args.names.now) c.from_residual.result (of_book c.in_err-number.field-0.0) c.from_residual.ensures.1
+    λ past tied booked. err_gives (issue past c.args.notice.now c.args.names.now) c.from_residual.result (of_book c.in_err-number.field-0.0) c.from_residual.ensures.1
     (issue_refused past c.args.book.now c.args.notice.now c.args.names.now c.in_err-number.field-0.0 booked (sym (names_there past c.args.areas.now c.args.names.now tied) ∙ there) c.in_err-number.ensures.refused)

@@ -1,0 +1,55 @@
+-- What is kept after an accepted event is what the past with its entry says.
+use Rattle.std.proofs.Common.{◌≡◌, ℕ, ◌+◌, Bool, List, Option, map, refl, sym, ◌∙◌, ap, subst}
+use Rattle.kept_tables.specs.declared.spot.Spot.{Spot}
+use Rattle.centre_core.specs.Flights.{flights_after, up_before}
+use Rattle.centre_core.specs.Following.{Bears, Finishes, flight_kept, flight_before, held_past, keys_of}
+use Rattle.centre_core.specs.Kept.{AreFlightsOf}
+use Rattle.centre_core.specs.Past.{Past, After, position}
+use Rattle.centre_core.specs.Reach.{IsReach, reach_of}
+use Rattle.centre_core.specs.State.{AreLinksOf, links_after}
+use Rattle.centre_core.specs.declared.answer.Answer.{Answer}
+use Rattle.centre_core.specs.declared.entry.Entry.{Entry}
+use Rattle.centre_core.specs.declared.event.Event.{Event}
+use Rattle.centre_core.specs.declared.event.Event.TheVariants as event
+use Rattle.centre_core.specs.declared.flight.Flight.{Flight}
+use Rattle.centre_core.specs.declared.held.Held.{Held}
+use Rattle.centre_core.specs.declared.in_flight.InFlight.{InFlight}
+use Rattle.centre_core.specs.declared.kept.Kept.{Kept}
+use Rattle.centre_core.specs.declared.link.Link.{Link}
+use Rattle.centre_core.proofs.FlightLemmas.{flights_with}
+use Rattle.centre_core.proofs.LinkLemmas.{links_with}
+
+pub flight_is : (past : Past) (fs : List Flight) (e : Event) → AreFlightsOf past fs → flight_kept fs e ≡ flight_before past e
+flight_is past fs (event.Edit x) flying = refl
+flight_is past fs (event.Retry b) flying = flying b
+flight_is past fs (event.LinkUp b) flying = flying b
+flight_is past fs (event.LinkDown b generation) flying = flying b
+flight_is past fs (event.Send b generation) flying = flying b
+flight_is past fs (event.Ask b generation n after) flying = flying b
+flight_is past fs (event.Report b generation message) flying = flying b
+
+-- what is known before the lines are changed
+abbrev pub bears_of : (s : Kept) (e : Event) (a : Answer) (place : ℕ) (up : Bool) (spots same : List Spot) (held : List Held) (f : Option InFlight) (fs : List Flight) → Finishes s e a place up spots held → same ≡ spots → fs ≡ s.flights.items → f ≡ flight_kept fs e → Bears s.register s.areas s.book s.tables (record { event = e; answer = a; up = up; flight = f }) same held
+bears_of s e a place up spots same held f fs x are these is = record {
+  settings = x.settings;
+  past = x.past;
+  desk = x.desk;
+  legal = x.legal;
+  accepted = x.accepted;
+  registered = x.registered;
+  selected = x.selected;
+  booked = x.booked;
+  up = x.is_up;
+  flight = is ∙ ap (λ gs. flight_kept gs e) these ∙ flight_is x.past s.flights.items e x.flying;
+  downs = x.downs;
+  tables = x.tables;
+  numbers = x.reached.numbers;
+  reach = subst (λ ps. IsReach (record { spots = ps; warnings = x.reached.numbers }) (reach_of x.past e a)) (sym are) x.reached.reach;
+  lines = x.reached.lines ∙ ap (λ ps. map (held_past x.past) (keys_of ps x.reached.numbers)) (sym are);
+}
+
+pub links_then : (past : Past) (e : Entry) (place : ℕ) (ls now : List Link) → AreLinksOf past ls → place ≡ position past + 1 → now ≡ links_after e.event place ls → AreLinksOf (After e past) now
+links_then past e place ls now linked at is = subst (AreLinksOf (After e past)) (sym (is ∙ ap (λ p. links_after e.event p ls) at)) (links_with e past ls linked)
+
+pub flights_then : (past : Past) (e : Entry) (up : Bool) (fs now : List Flight) → AreFlightsOf past fs → up ≡ up_before past e.event → now ≡ flights_after e.event e.answer up fs → AreFlightsOf (After e past) now
+flights_then past e up fs now flying was is = subst (AreFlightsOf (After e past)) (sym (is ∙ ap (λ u. flights_after e.event e.answer u fs) was)) (flights_with e past fs flying)

@@ -1,0 +1,131 @@
+-- What is kept is made anew, entry by entry.
+use Rattle.std.specs.Prelude.{OnOk}
+use Rattle.kept_tables.specs.declared.spot.Spot.{Spot}
+use Rattle.coverage_plan.specs.declared.edit.Edit.{Edit}
+use Rattle.std.proofs.Common.{◌≡◌, ℕ, suc, zero, Bool, false, ◌+◌, ◌<◌, List, [], ◌∷◌, ◌++◌, Result, Ok, Err, refl, sym, ◌∙◌, ap, subst, length, get_or, take, drop, reverse, arith}
+use Rattle.std.proofs.lemmas.List.{reverse-append}
+use Rattle.centre_core.specs.Base.{empty_base}
+use Rattle.centre_core.specs.Flights.{up_before}
+use Rattle.centre_core.specs.Following.{Finishes, Follows, IsLegal, WasReached}
+use Rattle.centre_core.specs.IsKept.{IsKept, OnlyReadsIn}
+use Rattle.centre_core.specs.Kept.{is_edit, register_after, areas_after}
+use Rattle.centre_core.specs.Legal.{Legal}
+use Rattle.centre_core.specs.Past.{Past, After, since, past_of}
+use Rattle.centre_core.specs.Settings.{Settings}
+use Rattle.centre_core.specs.State.{AreLinksOf}
+use Rattle.centre_core.specs.Verdict.{answered, edit_answered, verdict}
+use Rattle.centre_core.specs.Warnings.{book_after}
+use Rattle.centre_core.specs.declared.answer.Answer.{Answer}
+use Rattle.centre_core.specs.declared.entry.Entry.{Entry}
+use Rattle.centre_core.specs.declared.event.Event.{Event}
+use Rattle.centre_core.specs.declared.event.Event.TheVariants as event
+use Rattle.centre_core.specs.declared.held.Held.{Held}
+use Rattle.centre_core.specs.declared.kept.Kept.{Kept}
+use Rattle.centre_core.proofs.CentreLemmas.{finishes_edit, finishes_other}
+use Rattle.centre_core.proofs.PastLemmas.{past_more, position_past}
+use Rattle.centre_core.proofs.ReadLemmas.{reads_kept}
+use Rattle.centre_core.proofs.UniqueLemmas.{verdict_answered}
+
+-- the entries before others of a legal past make a legal past
+legal_since : (settings : Settings) (xs ys : List Entry) → Legal settings (since empty_base (xs ++ ys)) → Legal settings (since empty_base ys)
+legal_since settings [] ys h = h
+legal_since settings (x ∷ xs) ys h = legal_since settings xs ys h.1
+
+parted : (xs : List Entry) (i : ℕ) → take i xs ++ drop i xs ≡ xs
+parted [] zero = refl
+parted [] (suc i) = refl
+parted (x ∷ xs) zero = refl
+parted (x ∷ xs) (suc i) = ap (λ ys. x ∷ ys) (parted xs i)
+
+legal_front : (settings : Settings) (xs : List Entry) (i : ℕ) → Legal settings (past_of xs) → Legal settings (past_of (take i xs))
+legal_front settings xs i legal =
+    legal_since settings (reverse (drop i xs)) (reverse (take i xs))
+    (subst (λ ys. Legal settings (since empty_base ys)) (ap reverse (sym (parted xs i)) ∙ reverse-append (take i xs) (drop i xs)) legal)
+
+past_at : (xs : List Entry) (i : ℕ) (d : Entry) → i < length xs → past_of (take (i + 1) xs) ≡ After (get_or xs i d) (past_of (take i xs))
+past_at xs i d h = ap (since empty_base) (past_more xs i d h)
+
+pub entered_at : (settings : Settings) (xs : List Entry) (i : ℕ) (d : Entry) → i < length xs → Legal settings (past_of xs) → (verdict settings (past_of (take i xs)) (get_or xs i d).event ≡ Ok (get_or xs i d).answer) × Legal settings (past_of (take i xs))
+entered_at settings xs i d h legal = subst (Legal settings) (past_at xs i d h) (legal_front settings xs (i + 1) legal)
+
+-- an entry of a legal journal can be followed where those before it were
+abbrev pub follows_at : (journal : List Entry) (x : IsLegal journal) (i : ℕ) (d : Entry) (s : Kept) (place : ℕ) → i < length journal → place ≡ i + 1 → IsKept (past_of (take i journal)) s → Follows s (get_or journal i d) place
+follows_at journal x i d s place h at kept = record {
+  settings = x.settings;
+  past = past_of (take i journal);
+  legal = (entered_at x.settings journal i d h x.legal).1;
+  accepted = (entered_at x.settings journal i d h x.legal).0;
+  kept = kept;
+  is_place = at ∙ ap (λ n. n + 1) (sym (position_past journal i (omega (arith, h))));
+}
+
+-- what is kept then is what the past with it says
+pub kept_at : (journal : List Entry) (i : ℕ) (d : Entry) (s : Kept) → i < length journal → IsKept (After (get_or journal i d) (past_of (take i journal))) s → IsKept (past_of (take (i + 1) journal)) s
+kept_at journal i d s h kept = subst (λ past. IsKept past s) (sym (past_at journal i d h)) kept
+
+-- What is known where an entry is followed.
+
+-- the same past, and an entry of the same desk
+record Finished (s t : Kept) (e : Entry) (v : Event) (place : ℕ) (up : Bool) (spots : List Spot) (held : List Held) (x : Follows s e place) : Type 0 where
+  known : Finishes t v e.answer place up spots held
+  desk : known.desk ≡ e.desk
+  past : known.past ≡ x.past
+
+edit_finished : (r s t : Kept) (e : Entry) (edit : Edit) (place : ℕ) (spots : List Spot) (held : List Held) (x : Follows r e place) → e.event ≡ event.Edit edit → OnlyReadsIn r s → t ≡ record s { register = register_after edit s.register; areas = areas_after edit s.areas; book = book_after edit s.book } → ((settings : Settings) (past : Past) (a : Answer) → Legal settings past → IsKept past r → edit_answered past edit ≡ Ok a → WasReached past (event.Edit edit) a spots held) → Finished r t e e.event place false spots held x
+edit_finished r s t e edit place spots held x is reads made reached =
+    let accepted : verdict x.settings x.past (event.Edit edit) ≡ Ok e.answer = subst (λ v. verdict x.settings x.past v ≡ Ok e.answer) is x.accepted in
+    subst (λ v. Finished r t e v place false spots held x) (sym is) (record {
+      known = finishes_edit x.settings x.past e.desk edit e.answer s t place spots held x.legal accepted (reads_kept x.past r s x.kept reads) made x.is_place (reached x.settings x.past e.answer x.legal x.kept (verdict_answered x.settings x.past (event.Edit edit) e.answer accepted));
+      desk = refl;
+      past = refl;
+    })
+
+other_finished : (r s : Kept) (e : Entry) (place : ℕ) (up : Bool) (spots : List Spot) (held : List Held) (x : Follows r e place) → is_edit e.event ≡ false → OnlyReadsIn r s → up ≡ up_before x.past e.event → ((settings : Settings) (past : Past) → Legal settings past → IsKept past r → answered settings.network past e.event ≡ Ok e.answer → WasReached past e.event e.answer spots held) → Finished r s e e.event place up spots held x
+other_finished r s e place up spots held x other reads up_is reached = record {
+  known = finishes_other x.settings x.past e.desk e.event e.answer s place up spots held x.legal x.accepted (reads_kept x.past r s x.kept reads) other up_is x.is_place (reached x.settings x.past x.legal x.kept (verdict_answered x.settings x.past e.event e.answer x.accepted));
+  desk = refl;
+  past = refl;
+}
+
+pub edit_finishes : (r s t : Kept) (e : Entry) (edit : Edit) (place : ℕ) (spots : List Spot) (held : List Held) → Follows r e place → e.event ≡ event.Edit edit → OnlyReadsIn r s → t ≡ record s { register = register_after edit s.register; areas = areas_after edit s.areas; book = book_after edit s.book } → ((settings : Settings) (past : Past) (a : Answer) → Legal settings past → IsKept past r → edit_answered past edit ≡ Ok a → WasReached past (event.Edit edit) a spots held) → Finishes t e.event e.answer place false spots held
+edit_finishes r s t e edit place spots held x is reads made reached = (edit_finished r s t e edit place spots held x is reads made reached).known
+
+pub other_finishes : (r s : Kept) (e : Entry) (place : ℕ) (up : Bool) (spots : List Spot) (held : List Held) → Follows r e place → is_edit e.event ≡ false → OnlyReadsIn r s → ((past : Past) → AreLinksOf past r.links.items → up ≡ up_before past e.event) → ((settings : Settings) (past : Past) → Legal settings past → IsKept past r → answered settings.network past e.event ≡ Ok e.answer → WasReached past e.event e.answer spots held) → Finishes s e.event e.answer place up spots held
+other_finishes r s e place up spots held x other reads up_is reached = (other_finished r s e place up spots held x other reads (up_is x.past x.kept.linked) reached).known
+
+-- what follows from the end of it
+finished : {E : Type 0} (r t new : Kept) (e : Entry) (place : ℕ) (up : Bool) (spots : List Spot) (held : List Held) (o : Result Unit E) → ((x : Follows r e place) → Finished r t e e.event place up spots held x) → OnOk o ((y : Finishes t e.event e.answer place up spots held) → IsKept (After (record { desk = y.desk; event = e.event; answer = e.answer }) y.past) new) → OnOk o ((x : Follows r e place) → IsKept (After e x.past) new)
+finished r t new e place up spots held (Ok u) f g = λ x.
+    subst (λ past. IsKept (After e past) new) (f x).past
+    (subst (λ d. IsKept (After (record { desk = d; event = e.event; answer = e.answer }) (f x).known.past) new) (f x).desk (g (f x).known))
+finished r t new e place up spots held (Err u) f g = tt
+
+pub edit_followed : {E : Type 0} (r s t new : Kept) (e : Entry) (edit : Edit) (place : ℕ) (spots : List Spot) (held : List Held) (o : Result Unit E) → e.event ≡ event.Edit edit → OnlyReadsIn r s → t ≡ record s { register = register_after edit s.register; areas = areas_after edit s.areas; book = book_after edit s.book } → ((settings : Settings) (past : Past) (a : Answer) → Legal settings past → IsKept past r → edit_answered past edit ≡ Ok a → WasReached past (event.Edit edit) a spots held) → OnOk o ((y : Finishes t e.event e.answer place false spots held) → IsKept (After (record { desk = y.desk; event = e.event; answer = e.answer }) y.past) new) → OnOk o ((x : Follows r e place) → IsKept (After e x.past) new)
+edit_followed r s t new e edit place spots held o is reads made reached g = finished r t new e place false spots held o (λ x. edit_finished r s t e edit place spots held x is reads made reached) g
+
+pub other_followed : {E : Type 0} (r s new : Kept) (e : Entry) (place : ℕ) (up : Bool) (spots : List Spot) (held : List Held) (o : Result Unit E) → is_edit e.event ≡ false → OnlyReadsIn r s → ((past : Past) → AreLinksOf past r.links.items → up ≡ up_before past e.event) → ((settings : Settings) (past : Past) → Legal settings past → IsKept past r → answered settings.network past e.event ≡ Ok e.answer → WasReached past e.event e.answer spots held) → OnOk o ((y : Finishes s e.event e.answer place up spots held) → IsKept (After (record { desk = y.desk; event = e.event; answer = e.answer }) y.past) new) → OnOk o ((x : Follows r e place) → IsKept (After e x.past) new)
+other_followed r s new e place up spots held o other reads up_is reached g = finished r s new e place up spots held o (λ x. other_finished r s e place up spots held x other reads (up_is x.past x.kept.linked) reached) g
+
+-- The walk over the journal.
+
+pub follows_here : (journal : List Entry) (x : IsLegal journal) (i : ℕ) (e : Entry) (s : Kept) (place : ℕ) → i < length journal → e ≡ get_or journal i e → place ≡ i → IsKept (past_of (take i journal)) s → Follows s e (place + 1)
+follows_here journal x i e s place h is at kept = subst (λ d. Follows s d (place + 1)) (sym is) (follows_at journal x i e s (place + 1) h (ap (λ n. n + 1) at) kept)
+
+record Here (s : Kept) (e : Entry) (past : Past) (place : ℕ) : Type 0 where
+  follows : Follows s e place
+  is_past : follows.past ≡ past
+
+here : (journal : List Entry) (x : IsLegal journal) (i : ℕ) (e : Entry) (s : Kept) (place : ℕ) → i < length journal → e ≡ get_or journal i e → place ≡ i → IsKept (past_of (take i journal)) s → Here s e (past_of (take i journal)) (place + 1)
+here journal x i e s place h is at kept = subst (λ d. Here s d (past_of (take i journal)) (place + 1)) (sym is) (record {
+  follows = follows_at journal x i e s (place + 1) h (ap (λ n. n + 1) at) kept;
+  is_past = refl;
+})
+
+pub kept_more : (journal : List Entry) (x : IsLegal journal) (i : ℕ) (e : Entry) (s new : Kept) (place : ℕ) → i < length journal → e ≡ get_or journal i e → place ≡ i → IsKept (past_of (take i journal)) s → ((y : Follows s e (place + 1)) → IsKept (After e y.past) new) → IsKept (past_of (take (i + 1) journal)) new
+kept_more journal x i e s new place h is at kept f =
+    kept_at journal i e new h
+    (subst (λ d. IsKept (After d (past_of (take i journal))) new) is
+    (subst (λ past. IsKept (After e past) new) (here journal x i e s place h is at kept).is_past (f (here journal x i e s place h is at kept).follows)))
+
+pub legal_journal : (settings : Settings) (xs ys : List Entry) → ys ≡ xs → Legal settings (past_of xs) → IsLegal ys
+legal_journal settings xs ys same legal = record { settings = settings; legal = subst (λ zs. Legal settings (past_of zs)) (sym same) legal }

@@ -1,6 +1,0 @@
-use Rattle.std.proofs.Common.{◌≡◌, take}
-use Rattle.centre_core.proofs.order_maker.orders.Orders.copied.Given as goal
-
--- the orders that the walk has passed are copied
-abbrev pub invariant-loop-order : goal.invariant-loop-order
-invariant-loop-order l = l.orders.items ≡ take l.order-index l.all

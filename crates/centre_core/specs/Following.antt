@@ -1,0 +1,192 @@
+-- How what is kept follows an event: the lines on which it bears, as they stand before it and after.
+use Rattle.std.specs.Prelude.{◌≡◌, ℕ, ◌+◌, Bool, true, false, List, Option, Some, None, Ok, map, unwrap_or, if◌then◌else◌}
+use Rattle.std.specs.List.{flat_map, list_any}
+use Rattle.areas.specs.declared.area.Area.{Area}
+use Rattle.cell_register.specs.Register as register
+use Rattle.common.specs.declared.cell.Cell.{Cell}
+use Rattle.kept_tables.specs.Consistent.{Consistent}
+use Rattle.kept_tables.specs.Tables.{Tables, SameTables}
+use Rattle.kept_tables.specs.View.{key_at, spot_eq}
+use Rattle.kept_tables.specs.declared.change.Change.{Change}
+use Rattle.kept_tables.specs.declared.line_facts.LineFacts.{LineFacts}
+use Rattle.kept_tables.specs.declared.spot.Spot.{Spot}
+use Rattle.mirror.specs.Table.{line_at, down_at}
+use Rattle.mirror.specs.declared.line.Line.{Line}
+use Rattle.mirror.specs.declared.line_key.LineKey.{LineKey}
+use Rattle.warning_book.specs.Book as book
+use Rattle.warning_book.specs.Book.{warning_of}
+use Rattle.warning_book.specs.declared.warning.Warning.{Warning}
+use Rattle.centre_core.specs.Counts.{count_mark}
+use Rattle.centre_core.specs.Down.{down_mark, is_down}
+use Rattle.centre_core.specs.Facts.{facts}
+use Rattle.centre_core.specs.Flights.{up_before}
+use Rattle.centre_core.specs.InFlight.{in_flight}
+use Rattle.centre_core.specs.IsKept.{IsKept}
+use Rattle.centre_core.specs.Kept.{IsRegisterOf, AreAreasOf, AreFlightsOf, flight_in}
+use Rattle.centre_core.specs.Legal.{Legal}
+use Rattle.centre_core.specs.Past.{Past, After, position, past_of}
+use Rattle.centre_core.specs.Presence.{effect}
+use Rattle.centre_core.specs.Reach.{IsReach, reach_of}
+use Rattle.centre_core.specs.Settings.{Settings}
+use Rattle.centre_core.specs.State.{AreLinksOf, facts_from}
+use Rattle.centre_core.specs.Stepping.{stepped}
+use Rattle.centre_core.specs.Warnings.{book_of, serials}
+use Rattle.centre_core.specs.Verdict.{verdict}
+use Rattle.centre_core.specs.declared.answer.Answer.{Answer}
+use Rattle.coverage_plan.specs.declared.edit.Edit.TheVariants as edit
+use Rattle.centre_core.specs.declared.event.Event.{Event}
+use Rattle.centre_core.specs.declared.event.Event.TheVariants as event
+use Rattle.centre_core.specs.declared.entry.Entry.{Entry}
+use Rattle.centre_core.specs.declared.flight.Flight.{Flight}
+use Rattle.centre_core.specs.declared.held.Held.{Held}
+use Rattle.centre_core.specs.declared.in_flight.InFlight.{InFlight}
+use Rattle.centre_core.specs.declared.kept.Kept.{Kept}
+
+-- both have the same lines, the same cells down, the same actions pending and the same numbers: nothing but the meter
+-- differs
+pub record AsBefore (t u : Tables) : Type 0 where
+  pub lines : u.lines.lines ≡ t.lines.lines
+  pub downs : u.lines.downs ≡ t.lines.downs
+  pub same : SameTables t u
+
+-- what is read of a line, from what is kept
+abbrev pub facts_in : register.State → List Area → book.State → Tables → LineKey → LineFacts
+facts_in r l st t k = facts_from r l (down_at t.lines k.bsc k.cell) k.bsc k.cell (line_at t.lines k.bsc k.cell k.warning) (warning_of st k.warning)
+
+-- the line as it stands
+abbrev pub held_line : register.State → List Area → book.State → Tables → LineKey → Held
+held_line r l st t k = record { key = k; before = facts_in r l st t k }
+
+-- the lines of each of the warnings at the spot
+abbrev pub held_at : register.State → List Area → book.State → Tables → List ℕ → Spot → List Held
+held_at r l st t ns p = map (λ n. held_line r l st t (key_at p n)) ns
+
+-- at each of the spots
+abbrev pub held_lines : register.State → List Area → book.State → Tables → List Spot → List ℕ → List Held
+held_lines r l st t ps ns = flat_map (held_at r l st t ns) ps
+
+-- what happens at a key of the BSC: the effect by its serial number
+pub record Happens : Type 0 where
+  pub event : Event
+  pub answer : Answer
+  pub up : Bool
+  pub flight : Option InFlight
+
+-- the line after what happens, of a warning in the book, if it has it
+abbrev pub line_now : Happens → List Warning → ℕ → Cell → Option Warning → Line → Line
+line_now h ws b c None line = line
+line_now h ws b c (Some w) line = stepped (λ s. effect b c w.message_id s h.event h.answer h.up h.flight ws) (λ s. count_mark b c w.message_id s h.event h.answer h.flight ws) line (serials w)
+
+-- what is read of it then, from what is kept after the event
+abbrev pub facts_then : Happens → register.State → List Area → book.State → Tables → LineKey → Line → LineFacts
+facts_then h r l st t k line = facts_from r l (down_at t.lines k.bsc k.cell) k.bsc k.cell (line_now h st.warnings k.bsc k.cell (warning_of st k.warning) line) (warning_of st k.warning)
+
+-- the change of the line
+abbrev pub change_of : Happens → register.State → List Area → book.State → Tables → Held → Change
+change_of h r l st t x = record { key = x.key; before = x.before; after = facts_then h r l st t x.key x.before.line }
+
+-- both have the same lines, the same actions pending, the same numbers and the same meter: nothing but the cells that are
+-- down differs
+pub record SameLines (t u : Tables) : Type 0 where
+  pub lines : u.lines.lines ≡ t.lines.lines
+  pub same : SameTables t u
+  pub meter : u.lines.meter ≡ t.lines.meter
+
+-- whether the cell is down at the BSC after the event with that answer, where it bears on these spots
+abbrev pub down_after : Event → Answer → List Spot → ℕ → Cell → Bool → Bool
+down_after e a spots b c was = if list_any (spot_eq (record { bsc = b; cell = c })) spots then unwrap_or (down_mark b c e a) was else was
+
+-- the event forgets a warning
+abbrev pub forgets : Event → Bool
+forgets (event.Edit (edit.Forget n)) = true
+forgets other = false
+
+-- what is in flight to the BSC of an event that is no edit
+abbrev pub flight_before : Past → Event → Option InFlight
+flight_before past (event.Report b generation message) = in_flight past b
+flight_before past (event.LinkUp b) = in_flight past b
+flight_before past (event.LinkDown b generation) = in_flight past b
+flight_before past (event.Retry b) = in_flight past b
+flight_before past (event.Send b generation) = in_flight past b
+flight_before past (event.Ask b generation n after) = in_flight past b
+flight_before past (event.Edit e) = None
+
+-- the entry of what happens
+abbrev pub entry_of : ℕ → Happens → Entry
+entry_of desk h = record { desk = desk; event = h.event; answer = h.answer }
+
+-- the keys of each of the warnings at each of the spots
+abbrev pub keys_of : List Spot → List ℕ → List LineKey
+keys_of ps ns = flat_map (λ p. map (key_at p) ns) ps
+
+-- the line as the past says
+abbrev pub held_past : Past → LineKey → Held
+held_past past k = record { key = k; before = facts past k }
+
+-- what is known where an accepted event has been made, but for the lines: the past before it, that the plan follows it,
+-- and that the lines on which it bears were read
+pub record Bears (r : register.State) (l : List Area) (st : book.State) (t : Tables) (h : Happens) (spots : List Spot) (held : List Held) : Type 0 where
+  pub settings : Settings
+  pub past : Past
+  pub desk : ℕ
+  pub legal : Legal settings past
+  pub accepted : verdict settings past h.event ≡ Ok h.answer
+  pub registered : IsRegisterOf (After (entry_of desk h) past) r
+  pub selected : AreAreasOf (After (entry_of desk h) past) l
+  pub booked : st ≡ book_of (After (entry_of desk h) past)
+  pub up : h.up ≡ up_before past h.event
+  pub flight : h.flight ≡ flight_before past h.event
+  pub downs : (b : ℕ) (c : Cell) → down_at t.lines b c ≡ is_down past b c
+  pub tables : Consistent t (facts past)
+  pub numbers : List ℕ
+  pub reach : IsReach (record { spots = spots; warnings = numbers }) (reach_of past h.event h.answer)
+  pub lines : held ≡ map (held_past past) (keys_of spots numbers)
+
+-- the lines on which an accepted event bears were read before it, at these spots
+pub record WasReached (past : Past) (e : Event) (a : Answer) (spots : List Spot) (held : List Held) : Type 0 where
+  pub numbers : List ℕ
+  pub reach : IsReach (record { spots = spots; warnings = numbers }) (reach_of past e a)
+  pub lines : held ≡ map (held_past past) (keys_of spots numbers)
+
+-- what is known of what is kept where an accepted event has been made, but for the lines, the links and the flights
+pub record Finishes (s : Kept) (e : Event) (a : Answer) (place : ℕ) (up : Bool) (spots : List Spot) (held : List Held) : Type 0 where
+  pub settings : Settings
+  pub past : Past
+  pub desk : ℕ
+  pub legal : Legal settings past
+  pub accepted : verdict settings past e ≡ Ok a
+  pub registered : IsRegisterOf (After (record { desk = desk; event = e; answer = a }) past) s.register
+  pub selected : AreAreasOf (After (record { desk = desk; event = e; answer = a }) past) s.areas
+  pub booked : s.book ≡ book_of (After (record { desk = desk; event = e; answer = a }) past)
+  pub linked : AreLinksOf past s.links.items
+  pub flying : AreFlightsOf past s.flights.items
+  pub is_up : up ≡ up_before past e
+  pub is_place : place ≡ position past + 1
+  pub downs : (b : ℕ) (c : Cell) → down_at s.tables.lines b c ≡ is_down past b c
+  pub tables : Consistent s.tables (facts past)
+  pub reached : WasReached past e a spots held
+
+-- what is in flight to the BSC of an event that is no edit, by the flights
+abbrev pub flight_kept : List Flight → Event → Option InFlight
+flight_kept fs (event.Edit e) = None
+flight_kept fs (event.Retry b) = flight_in fs b
+flight_kept fs (event.LinkUp b) = flight_in fs b
+flight_kept fs (event.LinkDown b generation) = flight_in fs b
+flight_kept fs (event.Send b generation) = flight_in fs b
+flight_kept fs (event.Ask b generation n after) = flight_in fs b
+flight_kept fs (event.Report b generation message) = flight_in fs b
+
+-- what is known where an entry is to be followed: the past before it, which it is legal after, and that what is kept is
+-- what that says
+pub record Follows (s : Kept) (e : Entry) (place : ℕ) : Type 0 where
+  pub settings : Settings
+  pub past : Past
+  pub legal : Legal settings past
+  pub accepted : verdict settings past e.event ≡ Ok e.answer
+  pub kept : IsKept past s
+  pub is_place : place ≡ position past + 1
+
+-- the journal is legal, in a centre that is set up so
+pub record IsLegal (journal : List Entry) : Type 0 where
+  pub settings : Settings
+  pub legal : Legal settings (past_of journal)

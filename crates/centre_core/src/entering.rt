@@ -1,0 +1,93 @@
+//! How an accepted event is entered: what is kept follows it, and its entry becomes the last of the journal.
+
+ghost use Rattle.std.specs.Prelude.{◌≡◌, ◌<◌, ◌≤◌, ◌+◌, ◌++◌, ◌∷◌, [], length, true, IfOk, IsOk, OnOk, OnErr};
+ghost use Rattle.std.specs.Vec.{vec_len, vec_capacity};
+ghost use Rattle.centre_core.specs.Flights.{up_before};
+ghost use Rattle.centre_core.specs.Following.{Finishes};
+ghost use Rattle.centre_core.specs.IsKept.{IsKept};
+ghost use Rattle.centre_core.specs.Kept.{Gives, is_plain, register_after, areas_after};
+ghost use Rattle.centre_core.specs.Past.{Past, After};
+ghost use Rattle.centre_core.specs.State.{AreLinksOf};
+ghost use Rattle.centre_core.specs.Verdict.{edit_answered};
+ghost use Rattle.centre_core.specs.Warnings.{book_after};
+
+use crate::answer::Answer;
+use crate::entry::Entry;
+use crate::event::Event;
+use crate::events::{Verdict, make_edit};
+use crate::finishing::finish;
+use crate::kept::Kept;
+use crate::link::Link;
+use crate::links::is_up;
+use crate::reached::Reached;
+use coverage_plan::Edit;
+use std::alloc::{AllocError, Global};
+
+/// Makes an edit that is accepted. Where memory is wanting nothing changes.
+pub(crate) fn make(kept: &mut Kept, edit: &Edit) -> Verdict
+    ensures verdict { (past : Past) → IsKept past kept.old → IsOk (edit_answered past edit.now) → Gives (edit_answered past edit.now) result }
+    ensures made { OnOk result (kept.new ≡ record kept.old { register = register_after edit.now kept.old.register; areas = areas_after edit.now kept.old.areas; book = book_after edit.now kept.old.book }) }
+    ensures unchanged { OnErr result (kept.new ≡ kept.old) }
+    ensures plain { IfOk result (λ a. is_plain a ≡ true) }
+{
+    make_edit(&mut kept.register, &mut kept.areas, &mut kept.book, edit)
+}
+
+/// Makes an edit that is accepted, whose answer is known.
+pub(crate) fn make_again(kept: &mut Kept, edit: &Edit) -> Result<(), AllocError>
+    ensures made { OnOk result (kept.new ≡ record kept.old { register = register_after edit.now kept.old.register; areas = areas_after edit.now kept.old.areas; book = book_after edit.now kept.old.book }) }
+{
+    match make(kept, edit) {
+        Ok(_) => Ok(()),
+        Err(_) => Err(AllocError),
+    }
+}
+
+/// The entry of an event and of a copy of what it was answered, and that answer. It takes no memory where the answer has no
+/// order, message or list.
+pub(crate) fn with_entry(
+    alloc: Global,
+    desk: u32,
+    event: Event,
+    answer: Answer,
+) -> Result<(Entry, Answer), AllocError>
+    ensures entry { IfOk result (λ both. both.0 ≡ record { desk = desk; event = event; answer = answer }) }
+    ensures answer { IfOk result (λ both. both.1 ≡ answer) }
+    ensures plain { is_plain answer ≡ true → IsOk result }
+{
+    let entry = Entry::of(alloc, desk, event, &answer)?;
+    Ok((entry, answer))
+}
+
+/// Whether the event brings up a link that is up already.
+pub(crate) fn up_before(links: &[Link], event: &Event) -> bool
+    ensures { (past : Past) → AreLinksOf past links.now → result ≡ up_before past event.now }
+{
+    match event {
+        Event::LinkUp(b) => is_up(links, *b),
+        _ => false,
+    }
+}
+
+/// Follows an accepted event and enters it in the journal, which has room for it, as the entry of that number. An edit has
+/// been made. At an `Err` memory was wanting, and what is kept is of no use any more.
+pub(crate) fn enter(
+    alloc: Global,
+    journal: &mut Vec<Entry>,
+    kept: &mut Kept,
+    place: u64,
+    up: bool,
+    reached: Reached,
+    entry: Entry,
+) -> Result<(), AllocError>
+    requires room { vec_len journal.old < vec_capacity journal.old }
+    requires finishes { Finishes kept.old entry.event entry.answer place up reached.spots.items reached.held.items }
+    ensures entry { OnOk result (journal.new.items ≡ journal.old.items ++ entry ∷ []) }
+    ensures entries_stay { OnErr result (journal.new.items ≡ journal.old.items) }
+    ensures kept { OnOk result ((x : Finishes kept.old entry.event entry.answer place up reached.spots.items reached.held.items) → IsKept (After (record { desk = x.desk; event = entry.event; answer = entry.answer }) x.past) kept.new) }
+    ensures meter { kept.new.tables.lines.meter ≤ kept.old.tables.lines.meter + length reached.held.items }
+{
+    finish(alloc, kept, &entry.event, &entry.answer, place, up, reached)?;
+    journal.push(entry)?;
+    Ok(())
+}

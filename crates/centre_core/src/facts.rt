@@ -1,0 +1,119 @@
+//! What is read of one line, from what a centre keeps.
+
+ghost use Rattle.std.specs.Prelude.{◌≡◌, ◌++◌, ◌∷◌, [], filter, map, IfOk, OnOk, if◌then◌else◌};
+ghost use Rattle.std.specs.List.{list_any};
+ghost use Rattle.std.specs.Option.{option_copied};
+ghost use Rattle.areas.specs.Areas.{covers};
+ghost use Rattle.cell_register.specs.Register.{place_in, is_place};
+ghost use Rattle.centre_core.specs.State.{wants_in, wanted_in, facts_from};
+ghost use Rattle.centre_core.specs.Warnings.{serials};
+
+use areas::Areas;
+use cell_register::{BscId, Register};
+use common::{Cell, Name, Names};
+use kept_tables::{LineFacts, Serials};
+use mirror::Line;
+use serials::Serial;
+use std::alloc::{AllocError, Global};
+use warning_book::{Version, Warning};
+
+/// The serial numbers of the versions.
+fn serials_of(alloc: Global, versions: &[Version]) -> Result<Serials, AllocError>
+    ensures { IfOk result (λ s. s ≡ map (λ v. v.serial) versions.now) }
+{
+    let mut numbers = Vec::new(alloc);
+    for version in versions {
+        numbers.push(version.serial)?;
+    }
+    Ok(Serials::from_vec(numbers))
+}
+
+/// Adds the area, if it covers the cell.
+fn add_covering(
+    out: &mut Vec<Name>,
+    alloc: Global,
+    areas: &Areas,
+    name: &Name,
+    c: Cell,
+) -> Result<(), AllocError>
+    ensures { OnOk result (out.new.items ≡ out.old.items ++ (if covers areas.now name.now c then name.now ∷ [] else [])) }
+{
+    if areas.covers(name, c) {
+        out.push(name.copied(alloc)?)?;
+    }
+    Ok(())
+}
+
+/// Those of the areas that cover the cell.
+fn covering(alloc: Global, areas: &Areas, names: &[Name], c: Cell) -> Result<Names, AllocError>
+    ensures { IfOk result (λ n. n ≡ filter (λ a. covers areas.now a c) names.now) }
+{
+    let mut out = Vec::new(alloc);
+    for name in names {
+        add_covering(&mut out, alloc, areas, name, c)?;
+    }
+    Ok(Names::from_vec(out))
+}
+
+/// Whether one of the areas covers the cell.
+pub(crate) fn is_covered(areas: &Areas, names: &[Name], c: Cell) -> bool
+    ensures { result ≡ list_any (λ a. covers areas.now a c) names.now }
+{
+    names.iter().any(|name| areas.covers(name, c))
+}
+
+/// Whether the cell is registered at the BSC.
+pub(crate) fn is_here(register: &Register, b: BscId, c: Cell) -> bool
+    ensures { result ≡ is_place (place_in register.now c) b }
+{
+    match register.bsc_of(c) {
+        Some(other) => other == b,
+        None => false,
+    }
+}
+
+/// The serial number that is wanted in the cell at the BSC.
+pub(crate) fn wanted(
+    register: &Register,
+    areas: &Areas,
+    b: BscId,
+    w: &Warning,
+    c: Cell,
+) -> Option<Serial>
+    ensures { result ≡ wanted_in register.now areas.now b w.now c }
+{
+    if w.is_active() && is_here(register, b, c) && is_covered(areas, w.areas(), c) {
+        w.serial()
+    } else {
+        None
+    }
+}
+
+/// What is read of the line of a warning, if the book has it, in a cell that is down or not.
+pub(crate) fn facts_from(
+    alloc: Global,
+    register: &Register,
+    areas: &Areas,
+    down: bool,
+    b: BscId,
+    c: Cell,
+    line: Line,
+    warning: Option<&Warning>,
+) -> Result<LineFacts, AllocError>
+    ensures { IfOk result (λ f. f ≡ facts_from register.now areas.now down b c line (option_copied warning.entry)) }
+{
+    let here = is_here(register, b, c);
+    match warning {
+        Some(w) => Ok(LineFacts {
+            line,
+            message_id: w.message_id(),
+            versions: serials_of(alloc, w.versions())?,
+            wanted: wanted(register, areas, b, w, c),
+            down,
+            areas: covering(alloc, areas, w.areas(), c)?,
+            here,
+            active: w.is_active(),
+        }),
+        None => Ok(LineFacts::none(alloc, down, here)),
+    }
+}

@@ -1,0 +1,53 @@
+//! What an accepted event makes of what is kept, once an edit has been made: lines, links and what is in flight.
+
+ghost use Rattle.std.specs.Prelude.{◌≡◌, ◌≤◌, ◌+◌, length, OnOk};
+ghost use Rattle.centre_core.specs.Following.{Finishes};
+ghost use Rattle.centre_core.specs.IsKept.{IsKept};
+ghost use Rattle.centre_core.specs.Past.{After};
+
+use crate::answer::Answer;
+use crate::event::Event;
+use crate::flights::{self, flight_of};
+use crate::following::bear;
+use crate::kept::Kept;
+use crate::links;
+use crate::reached::Reached;
+use crate::stepping::Happening;
+use std::alloc::{AllocError, Global};
+
+/// Follows an accepted event, whose entry has that number, from how the lines on which it bears stood. At an `Err` memory
+/// was wanting, and what is kept is of no use any more.
+pub(crate) fn finish<'x>(
+    alloc: Global,
+    kept: &mut Kept,
+    event: &'x Event,
+    answer: &'x Answer,
+    place: u64,
+    up: bool,
+    reached: Reached,
+) -> Result<(), AllocError>
+    requires { Finishes kept.old event.now answer.now place up reached.spots.items reached.held.items }
+    ensures kept { OnOk result ((x : Finishes kept.old event.now answer.now place up reached.spots.items reached.held.items) → IsKept (After (record { desk = x.desk; event = event.now; answer = answer.now }) x.past) kept.new) }
+    ensures meter { kept.new.tables.lines.meter ≤ kept.old.tables.lines.meter + length reached.held.items }
+{
+    let Reached { spots, held } = reached;
+    let h = Happening {
+        event,
+        answer,
+        up,
+        flight: flight_of(kept.flights.as_slice(), event),
+    };
+    bear(
+        alloc,
+        &h,
+        &kept.register,
+        &kept.areas,
+        &kept.book,
+        &mut kept.tables,
+        spots.as_slice(),
+        held,
+    )?;
+    links::follow(&mut kept.links, event, place)?;
+    flights::follow(alloc, &mut kept.flights, event, answer, up)?;
+    Ok(())
+}

@@ -1,0 +1,43 @@
+//! What a centre keeps beside its journal.
+
+use crate::flight::Flight;
+use crate::link::Link;
+use areas::Areas;
+use cell_register::Register;
+use kept_tables::KeptTables;
+use std::alloc::Global;
+use warning_book::Book;
+
+/// What the entries of a journal come to: the plan's parts, the links, what is in flight, and the lines with what is
+/// pending and counted for them.
+#[derive(Drop)]
+pub(crate) struct Kept {
+    pub(crate) register: Register,
+    pub(crate) areas: Areas,
+    pub(crate) book: Book,
+    pub(crate) links: Vec<Link>,
+    pub(crate) flights: Vec<Flight>,
+    pub(crate) tables: KeptTables,
+}
+
+impl Kept {
+    ghost use Rattle.std.specs.Prelude.{◌≡◌};
+    ghost use Rattle.centre_core.specs.Base.{empty_base};
+    ghost use Rattle.centre_core.specs.IsKept.{IsKept};
+    ghost use Rattle.centre_core.specs.Past.{From};
+
+    /// Of a centre without entries.
+    pub(crate) fn new(alloc: Global) -> Kept
+        ensures kept { IsKept (From empty_base) result }
+        ensures meter { result.tables.lines.meter ≡ 0 }
+    {
+        Kept {
+            register: Register::new(alloc),
+            areas: Areas::new(alloc),
+            book: Book::new(alloc),
+            links: Vec::new(alloc),
+            flights: Vec::new(alloc),
+            tables: KeptTables::new(alloc),
+        }
+    }
+}

@@ -1,0 +1,102 @@
+//! The lines on which an event bears, read before it.
+
+ghost use Rattle.std.specs.Prelude.{◌≡◌, ◌≤◌, ◌+◌, false, Ok, IfOk};
+ghost use Rattle.centre_core.specs.Following.{WasReached};
+ghost use Rattle.centre_core.specs.IsKept.{IsKept, OnlyReadsIn};
+ghost use Rattle.centre_core.specs.Kept.{is_edit};
+ghost use Rattle.centre_core.specs.Legal.{Legal};
+ghost use Rattle.centre_core.specs.Past.{Past};
+ghost use Rattle.centre_core.specs.Reach.{edit_reach, reach_of, size};
+ghost use Rattle.centre_core.specs.Settings.{Settings};
+ghost use Rattle.centre_core.specs.Verdict.{answered, edit_answered};
+ghost use Rattle.centre_core.specs.declared.answer.Answer as answer_spec;
+ghost use Rattle.centre_core.specs.declared.event.Event.TheVariants as event;
+
+use crate::answer::Answer;
+use crate::event::Event;
+use crate::flights::flight_of;
+use crate::following::hold;
+use crate::held::Held;
+use crate::kept::Kept;
+use crate::reach::{reach_of_edit, reach_of_other};
+use coverage_plan::Edit;
+use kept_tables::Spot;
+use std::alloc::{AllocError, Global};
+
+/// At which cells an event bears, and its lines as they stood.
+#[derive(Drop)]
+pub(crate) struct Reached {
+    pub(crate) spots: Vec<Spot>,
+    pub(crate) held: Vec<Held>,
+}
+
+/// The lines on which an accepted edit bears, as they stand before it.
+pub(crate) fn reached_by_edit(
+    alloc: Global,
+    kept: &mut Kept,
+    edit: &Edit,
+) -> Result<Reached, AllocError>
+    ensures reached { (settings : Settings) (past : Past) (a : answer_spec.Answer) → Legal settings past → IsKept past kept.old → edit_answered past edit.now ≡ Ok a → IfOk result (λ x. WasReached past (event.Edit edit.now) a x.spots.items x.held.items) }
+    ensures reads { OnlyReadsIn kept.old kept.new }
+    ensures meter { (settings : Settings) (past : Past) (a : answer_spec.Answer) → Legal settings past → IsKept past kept.old → edit_answered past edit.now ≡ Ok a → kept.new.tables.lines.meter ≤ kept.old.tables.lines.meter + size (edit_reach past edit.now) }
+{
+    kept.register.tell_soundness();
+    let reach = reach_of_edit(
+        alloc,
+        &kept.register,
+        kept.register.bscs(),
+        &kept.areas,
+        &kept.book,
+        kept.tables.lines(),
+        edit,
+    )?;
+    let held = hold(
+        alloc,
+        &kept.register,
+        &kept.areas,
+        &kept.book,
+        &mut kept.tables,
+        reach.spots.as_slice(),
+        reach.warnings.as_slice(),
+    )?;
+    Ok(Reached {
+        spots: reach.spots,
+        held,
+    })
+}
+
+/// The lines on which an accepted event bears that is no edit, as they stand before it.
+pub(crate) fn reached_by_other(
+    alloc: Global,
+    kept: &mut Kept,
+    event: &Event,
+    answer: &Answer,
+) -> Result<Reached, AllocError>
+    requires other { is_edit event.now ≡ false }
+    ensures reached { (settings : Settings) (past : Past) → Legal settings past → IsKept past kept.old → answered settings.network past event.now ≡ Ok answer.now → IfOk result (λ x. WasReached past event.now answer.now x.spots.items x.held.items) }
+    ensures reads { OnlyReadsIn kept.old kept.new }
+    ensures meter { (settings : Settings) (past : Past) → Legal settings past → IsKept past kept.old → answered settings.network past event.now ≡ Ok answer.now → kept.new.tables.lines.meter ≤ kept.old.tables.lines.meter + size (reach_of past event.now answer.now) }
+{
+    let reach = reach_of_other(
+        alloc,
+        &kept.register,
+        &kept.book,
+        kept.tables.lines(),
+        event,
+        answer,
+        flight_of(kept.flights.as_slice(), event),
+    )?;
+    let held = hold(
+        alloc,
+        &kept.register,
+        &kept.areas,
+        &kept.book,
+        &mut kept.tables,
+        reach.spots.as_slice(),
+        reach.warnings.as_slice(),
+    )?;
+    Ok(Reached {
+        spots: reach.spots,
+        held,
+    })
+}

@@ -1,0 +1,156 @@
+//! Cells at base station controllers, found from what a centre keeps.
+
+ghost use Rattle.std.specs.Prelude.{◌≡◌, ◌&&◌, ◌∷◌, true, filter, map, nat_eq, IfOk};
+ghost use Rattle.std.specs.List.{list_any, flat_map};
+ghost use Rattle.areas.specs.Areas.{covers};
+ghost use Rattle.cell_register.specs.Register.{place_in};
+ghost use Rattle.common.specs.Order.{each_once};
+ghost use Rattle.centre_core.specs.Reach.{spot, at_bsc, is_named_by};
+ghost use Rattle.centre_core.specs.Reaching.{AreSpots, is_placed, is_known_at, is_known_among};
+
+use crate::facts::is_covered;
+use areas::{Areas, Selector};
+use cell_register::{BscId, Register};
+use common::{Cell, Name};
+use kept_tables::Spot;
+use mirror::LineTable;
+use std::alloc::{AllocError, Global};
+
+/// The cells, each at the BSC.
+pub(crate) fn spots_at(alloc: Global, b: BscId, cells: &[Cell]) -> Result<Vec<Spot>, AllocError>
+    ensures { IfOk result (λ spots. spots.items ≡ map (spot b) cells.now) }
+{
+    let mut spots = Vec::new(alloc);
+    for cell in cells {
+        spots.push(Spot {
+            bsc: b,
+            cell: *cell,
+        })?;
+    }
+    Ok(spots)
+}
+
+/// The cells that are known at the BSC.
+pub(crate) fn known_at(
+    alloc: Global,
+    register: &Register,
+    tables: &LineTable,
+    b: BscId,
+) -> Result<Vec<Spot>, AllocError>
+    ensures { IfOk result (λ spots. AreSpots spots.items (is_known_at tables.now register.now b)) }
+{
+    let cells = tables.known_cells(register, b)?;
+    let spots = spots_at(alloc, b, cells.as_slice())?;
+    Ok(spots)
+}
+
+/// The cells that are known at the BSCs, of which none stands twice.
+pub(crate) fn known_among(
+    alloc: Global,
+    register: &Register,
+    tables: &LineTable,
+    bscs: &[BscId],
+) -> Result<Vec<Spot>, AllocError>
+    ensures { each_once nat_eq bscs.now ≡ true → IfOk result (λ spots. AreSpots spots.items (is_known_among tables.now register.now bscs.now)) }
+{
+    let mut spots = Vec::new(alloc);
+    for bsc in bscs {
+        let known = known_at(alloc, register, tables, *bsc)?;
+        spots.extend_from_slice(known.as_slice())?;
+    }
+    Ok(spots)
+}
+
+/// The cell at its BSC, if it is registered.
+pub(crate) fn placed(alloc: Global, register: &Register, c: Cell) -> Result<Vec<Spot>, AllocError>
+    ensures { IfOk result (λ spots. spots.items ≡ at_bsc c (place_in register.now c)) }
+{
+    let mut spots = Vec::new(alloc);
+    if let Some(bsc) = register.bsc_of(c) {
+        spots.push(Spot { bsc, cell: c })?;
+    }
+    Ok(spots)
+}
+
+/// The cell at that BSC, and at the one where it is registered, if it is.
+pub(crate) fn moved(
+    alloc: Global,
+    register: &Register,
+    c: Cell,
+    to: BscId,
+) -> Result<Vec<Spot>, AllocError>
+    ensures { IfOk result (λ spots. spots.items ≡ spot to c ∷ at_bsc c (place_in register.now c)) }
+{
+    let mut spots = Vec::new(alloc);
+    spots.push(Spot { bsc: to, cell: c })?;
+    if let Some(bsc) = register.bsc_of(c) {
+        spots.push(Spot { bsc, cell: c })?;
+    }
+    Ok(spots)
+}
+
+/// Each of the cells at its BSC, if it is registered.
+fn placed_all(alloc: Global, register: &Register, cells: &[Cell]) -> Result<Vec<Spot>, AllocError>
+    ensures { IfOk result (λ spots. spots.items ≡ flat_map (λ c. at_bsc c (place_in register.now c)) cells.now) }
+{
+    let mut spots = Vec::new(alloc);
+    for cell in cells {
+        if let Some(bsc) = register.bsc_of(*cell) {
+            spots.push(Spot { bsc, cell: *cell })?;
+        }
+    }
+    Ok(spots)
+}
+
+/// The registered cells that the selector names, each at its BSC.
+pub(crate) fn named(
+    alloc: Global,
+    register: &Register,
+    s: Selector,
+) -> Result<Vec<Spot>, AllocError>
+    ensures { IfOk result (λ spots. AreSpots spots.items (λ p. is_placed register.now p && is_named_by s p.cell)) }
+{
+    register.tell_soundness();
+    let spots = match s {
+        Selector::Cell(cell) => placed(alloc, register, cell)?,
+        Selector::Lac(lac) => {
+            let cells = register.cells_in(lac)?;
+            placed_all(alloc, register, cells.as_slice())?
+        }
+    };
+    Ok(spots)
+}
+
+/// Those of the cells that one of the areas covers.
+fn covered_cells(
+    alloc: Global,
+    areas: &Areas,
+    names: &[Name],
+    cells: &[Cell],
+) -> Result<Vec<Cell>, AllocError>
+    ensures { IfOk result (λ covered. covered.items ≡ filter (λ c. list_any (λ a. covers areas.now a c) names.now) cells.now) }
+{
+    let mut covered = Vec::new(alloc);
+    for cell in cells {
+        if is_covered(areas, names, *cell) {
+            covered.push(*cell)?;
+        }
+    }
+    Ok(covered)
+}
+
+/// The registered cells that one of the areas covers, each at its BSC.
+pub(crate) fn covered(
+    alloc: Global,
+    register: &Register,
+    areas: &Areas,
+    names: &[Name],
+) -> Result<Vec<Spot>, AllocError>
+    ensures { IfOk result (λ spots. AreSpots spots.items (λ s. is_placed register.now s && list_any (λ a. covers areas.now a s.cell) names.now)) }
+{
+    register.tell_soundness();
+    let cells = register.all_cells()?;
+    let found = covered_cells(alloc, areas, names, cells.as_slice())?;
+    let spots = placed_all(alloc, register, found.as_slice())?;
+    Ok(spots)
+}

@@ -1,0 +1,58 @@
+-- Events and reports in a whole centre and in a stale one.
+use Rattle.std.proofs.Common.{◌≡◌, ◌⊎◌, inl, inr, ℕ, true, false, Some, Ok, Err, List, [], ◌∷◌, ◌++◌, length, length-append, refl, sym, ap, ◌∙◌}
+use Rattle.cbsp_messages.specs.declared.message_type.MessageType.{MessageType}
+use Rattle.centre_core.specs.Centre.{Leaves, Refuses}
+use Rattle.centre_core.specs.Legal.{Known, past}
+use Rattle.centre_core.specs.Verdict.{verdict}
+use Rattle.centre_core.specs.VerdictLaws.{verdict_is_no_want}
+use Rattle.centre_core.specs.declared.answer.Answer.{Answer}
+use Rattle.centre_core.specs.declared.event.Event.{Event}
+use Rattle.centre_core.specs.declared.refusal.Refusal.{Refusal}
+use Rattle.centre_core.specs.declared.refusal.Refusal.TheVariants as refusal
+use Rattle.framing.specs.declared.frame.Frame.{Frame}
+use Rattle.console.specs.Sessions.{SessionState, verdict_in, entry_of, ReportsBody, ReportsFrame, report_type, SubmitsOrStarves, BodyStarves, FrameStarves}
+use Rattle.console.specs.declared.kept.Kept.{Kept}
+use Rattle.console.specs.declared.response.Response.{Response}
+use Rattle.console.specs.declared.response.Response.TheVariants as response
+
+-- a whole centre answers the verdict, a stale one that it is stale
+pub verdict_whole : (old : SessionState) (e : Event) → old.centre.stale ≡ false → verdict_in old e ≡ verdict old.centre.settings (past old.centre) e
+verdict_whole old e whole = rw whole refl
+
+verdict_stale : (old : SessionState) (e : Event) → old.centre.stale ≡ true → verdict_in old e ≡ Err refusal.Stale
+verdict_stale old e stale = rw stale refl
+
+-- the session of a centre and of generations that are kept
+abbrev session_of : Known → List Kept → SessionState
+session_of centre kept = record { centre = centre; kept = kept }
+
+same_session : (old : SessionState) (new : SessionState) (centre : Known) → new.kept ≡ old.kept → new.centre ≡ centre → new ≡ record old { centre = centre }
+same_session old new centre kept same = ap (λ k. session_of new.centre k) kept ∙ ap (λ c. session_of c old.kept) same
+
+-- an event that is refused: nothing changed, or memory was wanting and the centre is stale now
+pub refused : (old new : SessionState) (e : Event) (r : Refusal) → new.kept ≡ old.kept → Refuses old.centre e r → Leaves old.centre r new.centre
+    → SubmitsOrStarves old e (response.Refused r) new
+refused old new e r kept (inl stale) (inl same) = inl (verdict_stale old e stale.1 ∙ ap Err (sym stale.0), same_session old new old.centre kept same)
+refused old new e r kept (inl stale) (inr left) = absurd (cc (stale.0, left.0))
+refused old new e r kept (inr (whole, inl want)) (inl same) =
+    inr ((whole, want.1), inl (ap response.Refused want.0, same_session old new old.centre kept same))
+refused old new e r kept (inr (whole, inl want)) (inr left) =
+    inr ((whole, want.1), inr (ap response.Refused want.0, same_session old new (record old.centre { stale = true }) kept left.1))
+refused old new e r kept (inr (whole, inr given)) (inl same) = inl (verdict_whole old e whole ∙ given, same_session old new old.centre kept same)
+refused old new e r kept (inr (whole, inr given)) (inr left) =
+    absurd (verdict_is_no_want old.centre.settings (past old.centre) e (given ∙ ap Err left.0))
+
+-- an event that is accepted
+pub accepted : (old new : SessionState) (e : Event) (a : Answer) (number : ℕ) → new.kept ≡ old.kept → verdict old.centre.settings (past old.centre) e ≡ Ok a
+    → old.centre.stale ≡ false → new.centre ≡ record old.centre { journal = old.centre.journal ++ entry_of e a ∷ [] } → number ≡ length new.centre.journal
+    → SubmitsOrStarves old e (response.Accepted number a) new
+accepted old new e a number kept is whole entry count =
+    inl (
+      (verdict_whole old e whole ∙ is, count ∙ ap (λ c. length c.journal) entry ∙ length-append old.centre.journal (entry_of e a ∷ [])),
+      same_session old new (record old.centre { journal = old.centre.journal ++ entry_of e a ∷ [] }) kept entry,
+    )
+
+-- a report, by the body of its frame
+pub frame_told : (old : SessionState) (b : ℕ) (frame : Frame) (t : MessageType) (r : Response) (new : SessionState) → report_type frame.kind ≡ Some t
+    → ReportsBody old b t frame.body r new ⊎ BodyStarves old b t frame.body r new → ReportsFrame old b frame r new ⊎ FrameStarves old b frame r new
+frame_told old b frame t r new is told = rw is told

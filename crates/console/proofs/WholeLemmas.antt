@@ -1,0 +1,159 @@
+-- A whole centre stays whole while memory is not wanting, and refuses nothing as stale.
+use Rattle.std.proofs.Common.{◌≡◌, inl, inr, ℕ, Bool, true, false, Option, Some, None, Result, Ok, Err, List, [], ◌∷◌, if◌then◌else◌, refl, sym, ap, ◌∙◌, subst}
+use Rattle.std.specs.Bool.{MatchBool}
+use Rattle.std.specs.Prelude.{MatchOption}
+use Rattle.cbsp_messages.specs.declared.message_type.MessageType.{MessageType}
+use Rattle.centre_core.specs.Legal.{past}
+use Rattle.centre_core.specs.Links.{is_bsc}
+use Rattle.centre_core.specs.Cover.{is_area}
+use Rattle.centre_core.specs.Numbers.{area_board, area_total, board, warning_area}
+use Rattle.centre_core.specs.Past.{Past}
+use Rattle.centre_core.specs.Pending.{pending}
+use Rattle.centre_core.specs.Table.{table}
+use Rattle.centre_core.specs.Warnings.{book_of}
+use Rattle.centre_core.specs.VerdictLaws.{is_given, verdict_given}
+use Rattle.centre_core.specs.declared.answer.Answer.{Answer}
+use Rattle.centre_core.specs.declared.answer.Answer.TheVariants as answer
+use Rattle.centre_core.specs.declared.event.Event.{Event}
+use Rattle.centre_core.specs.declared.event.Event.TheVariants as event
+use Rattle.centre_core.specs.declared.refusal.Refusal.{Refusal}
+use Rattle.centre_core.specs.declared.refusal.Refusal.TheVariants as refusal
+use Rattle.coverage_board.specs.declared.numbers.Numbers.{Numbers}
+use Rattle.warning_book.specs.Book.{names, warning_of}
+use Rattle.warning_book.specs.declared.warning.Warning.{Warning}
+use Rattle.console.specs.Generations.{generation_of}
+use Rattle.console.specs.Grammar.{line_of}
+use Rattle.console.specs.HexText.{octets_of}
+use Rattle.console.specs.Laws.{StaysWhole}
+use Rattle.console.specs.Sessions.{SessionState, Says, verdict_in, entered, with_link, Submits, BringsUp, AsksBsc, AsksBoard, AsksAreaBoard, AsksWhole, SaysNumbers, ReportsBody, ReportsOctets, report_type, event_of, SubmitsLine, Responds, is_comment, AnswersLine, AnswersWords}
+use Rattle.console.specs.Text.{without_return}
+use Rattle.console.specs.Words.{words_of}
+use Rattle.console.specs.declared.line.Line.{Line}
+use Rattle.console.specs.declared.line.Line.TheVariants as line
+use Rattle.console.specs.declared.response.Response.{Response}
+use Rattle.console.specs.declared.response.Response.TheVariants as response
+use Rattle.console.proofs.SessionLemmas.{verdict_whole}
+
+-- the centre is whole then, and nothing was refused as stale
+abbrev KeepsWhole : Response → SessionState → Type 0
+KeepsWhole r new = (new.centre.stale ≡ false) × (r ≡ response.Refused refusal.Stale → ⊥)
+
+says_whole : (old : SessionState) (said r : Response) (new : SessionState) → old.centre.stale ≡ false → (said ≡ response.Refused refusal.Stale → ⊥) → Says old said r new → KeepsWhole r new
+says_whole old said r new whole other h = (ap (λ s. s.centre.stale) h.1 ∙ whole, λ is. other (sym h.0 ∙ is))
+
+-- a whole centre refuses no event as stale
+refused_whole : (old : SessionState) (e : Event) (r : Refusal) → old.centre.stale ≡ false → verdict_in old e ≡ Err r → r ≡ refusal.Stale → ⊥
+refused_whole old e r whole given stale =
+    cc (sym (verdict_given old.centre.settings (past old.centre) e) ∙ ap is_given (sym (verdict_whole old e whole) ∙ given ∙ ap Err stale))
+
+-- what a refusal is refused with
+abbrev refusal_in : Response → Refusal
+refusal_in (response.Refused r) = r
+refusal_in other = refusal.Memory
+
+submits_whole : (old : SessionState) (e : Event) (r : Response) (new : SessionState) → old.centre.stale ≡ false → Submits old e r new → KeepsWhole r new
+submits_whole old e (response.Accepted number a) new whole h = (ap (λ s. s.centre.stale) h.1 ∙ whole, λ is. cc is)
+submits_whole old e (response.Refused r) new whole h = (ap (λ s. s.centre.stale) h.1 ∙ whole, λ is. refused_whole old e r whole h.0 (ap refusal_in is))
+submits_whole old e _ new whole h = absurd h
+
+link_centre : (b : ℕ) (a : Answer) (s : SessionState) → (with_link b a s).centre ≡ s.centre
+link_centre b (answer.Link generation) s = refl
+link_centre b _ s = refl
+
+brings_up_whole : (old : SessionState) (b : ℕ) (r : Response) (new : SessionState) → old.centre.stale ≡ false → BringsUp old b r new → KeepsWhole r new
+brings_up_whole old b (response.Accepted number a) new whole h =
+    (ap (λ s. s.centre.stale) h.1 ∙ ap (λ c. c.stale) (link_centre b a (entered old (event.LinkUp b) a)) ∙ whole, λ is. cc is)
+brings_up_whole old b (response.Refused r) new whole h = (ap (λ s. s.centre.stale) h.1 ∙ whole, λ is. refused_whole old (event.LinkUp b) r whole h.0 (ap refusal_in is))
+brings_up_whole old b _ new whole h = absurd h
+
+event_whole : (old : SessionState) (e : Option Event) (r : Response) (new : SessionState) → old.centre.stale ≡ false → SubmitsLine old e r new → KeepsWhole r new
+event_whole old None r new whole h = says_whole old response.BadHex r new whole (λ is. cc is) h
+event_whole old (Some e) r new whole h = submits_whole old e r new whole h
+
+body_whole : (old : SessionState) (b : ℕ) (t : MessageType) (body : List ℕ) (r : Response) (new : SessionState) → old.centre.stale ≡ false → ReportsBody old b t body r new → KeepsWhole r new
+body_whole old b t body r new whole (inl h) = submits_whole old (event.Report b (generation_of old.kept b) h.0) r new whole h.2
+body_whole old b t body r new whole (inr h) = says_whole old (response.BadMessage h.0) r new whole (λ is. cc is) h.2
+
+frame_whole : (old : SessionState) (b : ℕ) (body : List ℕ) (kind : Option MessageType) (r : Response) (new : SessionState) → old.centre.stale ≡ false
+    → MatchOption kind (Says old response.Skipped r new) (λ t. ReportsBody old b t body r new) → KeepsWhole r new
+frame_whole old b body (Some t) r new whole h = body_whole old b t body r new whole h
+frame_whole old b body None r new whole h = says_whole old response.Skipped r new whole (λ is. cc is) h
+
+octets_whole : (old : SessionState) (b : ℕ) (octets : List ℕ) (r : Response) (new : SessionState) → old.centre.stale ≡ false → ReportsOctets old b octets r new → KeepsWhole r new
+octets_whole old b octets r new whole (inl h) = frame_whole old b h.0.body (report_type h.0.kind) r new whole h.2
+octets_whole old b octets r new whole (inr h) = says_whole old response.BadFrame r new whole (λ is. cc is) h.1
+
+reports_whole : (old : SessionState) (b : ℕ) (octets : Option (List ℕ)) (r : Response) (new : SessionState) → old.centre.stale ≡ false
+    → MatchOption octets (Says old response.BadHex r new) (λ xs. ReportsOctets old b xs r new) → KeepsWhole r new
+reports_whole old b None r new whole h = says_whole old response.BadHex r new whole (λ is. cc is) h
+reports_whole old b (Some octets) r new whole h = octets_whole old b octets r new whole h
+
+-- a question to a whole centre
+asked_whole : (old : SessionState) (r : Response) (new : SessionState) (asked : Type 0) → old.centre.stale ≡ false → AsksWhole old r new asked → asked
+asked_whole old r new asked whole h = subst (λ t. MatchBool t (Says old (response.Refused refusal.Stale) r new) asked) whole h
+
+bsc_whole : (old : SessionState) (there : Bool) (said r : Response) (new : SessionState) → old.centre.stale ≡ false → (said ≡ response.Refused refusal.Stale → ⊥)
+    → MatchBool there (Says old said r new) (Says old (response.Refused refusal.NoSuchBsc) r new) → KeepsWhole r new
+bsc_whole old true said r new whole other h = says_whole old said r new whole other h
+bsc_whole old false said r new whole other h = says_whole old (response.Refused refusal.NoSuchBsc) r new whole (λ is. cc is) h
+
+board_whole : (old : SessionState) (numbers : Option Numbers) (r : Response) (new : SessionState) → old.centre.stale ≡ false
+    → MatchOption numbers (Says old (response.Refused refusal.NoSuchWarning) r new) (λ n. Says old (response.Board n) r new) → KeepsWhole r new
+board_whole old None r new whole h = says_whole old (response.Refused refusal.NoSuchWarning) r new whole (λ is. cc is) h
+board_whole old (Some n) r new whole h = says_whole old (response.Board n) r new whole (λ is. cc is) h
+
+-- the numbers of a warning and an area are never refused as stale
+named_stale : (past : Past) (a : List ℕ) (w : Warning) (t : Bool) → (if t then Ok (area_total past a w) else Err refusal.AreaNotThere) ≡ Err refusal.Stale → ⊥
+named_stale past a w true h = cc h
+named_stale past a w false h = cc h
+
+warning_stale : (past : Past) (a : List ℕ) (w : Option Warning) → warning_area past a w ≡ Err refusal.Stale → ⊥
+warning_stale past a None h = cc h
+warning_stale past a (Some w) h = named_stale past a w (names a w) h
+
+area_stale : (past : Past) (n : ℕ) (a : List ℕ) (t : Bool) → (if t then warning_area past a (warning_of (book_of past) n) else Err refusal.NoSuchArea) ≡ Err refusal.Stale → ⊥
+area_stale past n a true h = warning_stale past a (warning_of (book_of past) n) h
+area_stale past n a false h = cc h
+
+numbers_whole : (old : SessionState) (numbers : Result Numbers Refusal) (r : Response) (new : SessionState) → old.centre.stale ≡ false → (numbers ≡ Err refusal.Stale → ⊥) → SaysNumbers old numbers r new → KeepsWhole r new
+numbers_whole old (Ok n) r new whole other h = says_whole old (response.Board n) r new whole (λ is. cc is) h
+numbers_whole old (Err e) r new whole other h = says_whole old (response.Refused e) r new whole (λ is. other (ap Err (ap refusal_in is))) h
+
+asks_whole : (old : SessionState) (b : ℕ) (said r : Response) (new : SessionState) → old.centre.stale ≡ false → (said ≡ response.Refused refusal.Stale → ⊥) → AsksBsc old b said r new
+    → KeepsWhole r new
+asks_whole old b said r new whole other h = bsc_whole old (is_bsc (past old.centre) b) said r new whole other (asked_whole old r new _ whole h)
+
+asks_board_whole : (old : SessionState) (n : ℕ) (r : Response) (new : SessionState) → old.centre.stale ≡ false → AsksBoard old n r new → KeepsWhole r new
+asks_board_whole old n r new whole h = board_whole old (board (past old.centre) n) r new whole (asked_whole old r new _ whole h)
+
+asks_area_whole : (old : SessionState) (n : ℕ) (a : List ℕ) (r : Response) (new : SessionState) → old.centre.stale ≡ false → AsksAreaBoard old n a r new → KeepsWhole r new
+asks_area_whole old n a r new whole h = numbers_whole old (area_board (past old.centre) n a) r new whole (area_stale (past old.centre) n a (is_area (past old.centre) a)) (asked_whole old r new _ whole h)
+
+responds_whole : (old : SessionState) (l : Line) (r : Response) (new : SessionState) → old.centre.stale ≡ false → Responds old l r new → KeepsWhole r new
+responds_whole old (line.Up b) r new whole h = brings_up_whole old b r new whole h
+responds_whole old (line.Keep b generation) r new whole h = (ap (λ s. s.centre.stale) h.1 ∙ whole, λ is. cc (sym h.0 ∙ is))
+responds_whole old (line.Report b text) r new whole h = reports_whole old b (octets_of text) r new whole h
+responds_whole old (line.Board n) r new whole h = asks_board_whole old n r new whole h
+responds_whole old (line.AreaBoard n a) r new whole h = asks_area_whole old n a r new whole h
+responds_whole old (line.Pending b) r new whole h = asks_whole old b (response.Pending (pending (past old.centre) b)) r new whole (λ is. cc is) h
+responds_whole old (line.Table b) r new whole h = asks_whole old b (response.Table (table (past old.centre) b)) r new whole (λ is. cc is) h
+responds_whole old line.Rebuild r new whole h = (ap (λ s. s.centre.stale) h.1, λ is. cc (sym h.0 ∙ is))
+responds_whole old l r new whole h = event_whole old (event_of old l) r new whole h
+
+line_whole : (old : SessionState) (l : Option Line) (r : Response) (new : SessionState) → old.centre.stale ≡ false → AnswersLine Responds old l r new → KeepsWhole r new
+line_whole old None r new whole h = says_whole old response.BadLine r new whole (λ is. cc is) h
+line_whole old (Some l) r new whole h = responds_whole old l r new whole h
+
+words_whole : (old : SessionState) (words : List (List ℕ)) (r : Response) (new : SessionState) → old.centre.stale ≡ false → AnswersWords Responds old words r new → KeepsWhole r new
+words_whole old [] r new whole h = says_whole old response.Silence r new whole (λ is. cc is) h
+words_whole old (first ∷ words) r new whole h =
+    elim (is_comment first) as (λ b. MatchBool b (Says old response.Silence r new) (AnswersLine Responds old (line_of (first ∷ words)) r new) → KeepsWhole r new) [
+      | true ↦ λ x. says_whole old response.Silence r new whole (λ is. cc is) x
+      | false ↦ λ x. line_whole old (line_of (first ∷ words)) r new whole x
+    ] h
+
+pub stays_whole : StaysWhole
+stays_whole old [] new text told whole = told
+stays_whole old (l ∷ lines) new text told whole =
+    let kept = words_whole old (words_of (without_return l)) told.0 told.1 whole told.4 in
+    (told.0, told.1, told.2, told.3, (told.4, kept), stays_whole told.1 lines new told.2 told.5 kept.0, told.6)

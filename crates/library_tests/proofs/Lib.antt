@@ -1,0 +1,2 @@
+pub mod KeptTablesLemmas
+pub mod BoardLemmas

@@ -1,0 +1,311 @@
+//! What no clause says of a centre that is rebuilt or for which memory was wanting: that a rebuild succeeds and leaves all
+//! as it was, what the meter counts, and that an event that isn't entered leaves the centre as it was or stale. With ample
+//! memory each event is entered at once; `rt try --test --fail-alloc N` refuses the Nth allocation of each test.
+
+use crate::centre_events::{
+    EIGHT, MESSAGE_ID, PLMN, SEVEN, complete, first_serial, kill_failure, takes, write_failure,
+};
+use crate::stale_script::{AFTER, bsc, first_id, plan, script};
+use cbsp_ie::Cause;
+use cell_register::BscId;
+use centre_core::centre::Centre;
+use centre_core::entry::Entry;
+use centre_core::event::Event;
+use centre_core::in_flight::InFlight;
+use centre_core::refusal::Refusal;
+use centre_core::reported::{Presence, ReportedKey};
+use coverage_plan::Edit;
+use order_maker::{Order, OrderKind};
+use std::alloc::{AllocError, Global};
+use std::process::Abort;
+use std::test::Fail;
+
+/// The numbers of the first warning, none where it isn't in the book.
+fn board(centre: &Centre) -> Result<[u64; 4], Refusal> {
+    match centre.board_total(first_id()) {
+        Ok(n) => Ok([n.awaited, n.on_air, n.failed, n.left]),
+        Err(Refusal::NoSuchWarning) => Ok([0, 0, 0, 0]),
+        Err(refusal) => Err(refusal),
+    }
+}
+
+/// How many orders are pending for the BSC, none where it isn't registered.
+fn pending(centre: &Centre, b: BscId) -> Result<u64, Refusal> {
+    match centre.pending_of(b) {
+        Ok(orders) => Ok(orders.as_slice().len() as u64),
+        Err(Refusal::NoSuchBsc) => Ok(0),
+        Err(refusal) => Err(refusal),
+    }
+}
+
+/// How many keys it has reported.
+fn reported(centre: &mut Centre, b: BscId) -> Result<u64, Refusal> {
+    match centre.table_of(b) {
+        Ok(keys) => Ok(keys.as_slice().len() as u64),
+        Err(Refusal::NoSuchBsc) => Ok(0),
+        Err(refusal) => Err(refusal),
+    }
+}
+
+/// All of these.
+fn state(centre: &mut Centre, b: BscId) -> Result<[u64; 6], Refusal> {
+    let [awaited, on_air, failed, left] = board(centre)?;
+    let orders = pending(centre, b)?;
+    let keys = reported(centre, b)?;
+    Ok([awaited, on_air, failed, left, orders, keys])
+}
+
+/// The centre is whole and says this, once memory is there.
+fn is_whole(rt: &impl Abort, centre: &mut Centre, b: BscId, want: [u64; 6]) {
+    assert!(rt; !centre.is_stale());
+    let said = match state(centre, b) {
+        Err(Refusal::Memory) => state(centre, b),
+        said => said,
+    };
+    assert_eq!(rt; said, Ok(want));
+}
+
+/// The centre is stale, and so answers every question.
+fn is_of_no_use(rt: &impl Abort, centre: &mut Centre, b: BscId) {
+    let stale = Some(Refusal::Stale);
+    assert!(rt; centre.is_stale());
+    assert!(rt; centre.accept(1, Event::Retry(b)).err() == stale);
+    assert!(rt; centre.pending_of(b).err() == stale);
+    assert!(rt; centre.in_flight_of(b).err() == stale);
+    assert!(rt; centre.place_of(SEVEN).err() == stale);
+    assert!(rt; centre.table_of(b).err() == stale);
+    assert!(rt; centre.board_total(first_id()).err() == stale);
+}
+
+/// A stale centre is stale until a rebuild has the memory that it takes.
+fn is_rebuilt(rt: &impl Abort, centre: &mut Centre, b: BscId) {
+    is_of_no_use(rt, centre, b);
+    if centre.rebuild().is_err() {
+        is_of_no_use(rt, centre, b);
+        assert_eq!(rt; centre.rebuild(), Ok(()));
+    }
+}
+
+/// The event is entered, at once or where memory was wanting once: then the centre has no entry more, is whole or
+/// rebuilt, and is as it was before.
+fn enters(
+    rt: &impl Abort,
+    centre: &mut Centre,
+    b: BscId,
+    event: Event,
+    again: Event,
+    before: [u64; 6],
+) {
+    let position = centre.position();
+    if let Err(refusal) = centre.accept(1, event) {
+        assert_eq!(rt; refusal, Refusal::Memory);
+        assert_eq!(rt; centre.position(), position);
+        if centre.is_stale() {
+            is_rebuilt(rt, centre, b);
+        }
+        is_whole(rt, centre, b, before);
+        takes(rt, centre, again);
+    }
+}
+
+/// The same event, once memory is there.
+fn copied(alloc: Global, event: &Event) -> Result<Event, AllocError> {
+    match event.copied(alloc) {
+        Ok(copy) => Ok(copy),
+        Err(_) => event.copied(alloc),
+    }
+}
+
+/// A centre after so many of the events, each of which leaves what it is to leave.
+fn entered(
+    rt: &impl Abort,
+    alloc: Global,
+    script: &[Event],
+    b: BscId,
+) -> Result<Centre, AllocError> {
+    let mut centre = Centre::new(alloc, PLMN, 100);
+    let mut before = [0, 0, 0, 0, 0, 0];
+    for (event, after) in script.iter().zip(&AFTER) {
+        let first = copied(alloc, event)?;
+        let again = copied(alloc, event)?;
+        enters(rt, &mut centre, b, first, again, before);
+        is_whole(rt, &mut centre, b, *after);
+        before = *after;
+    }
+    Ok(centre)
+}
+
+/// The centre has an entry of each of the events, and no others.
+fn has_journal(rt: &impl Abort, centre: &mut Centre, events: &[Event]) {
+    assert_eq!(rt; centre.position(), events.len() as u64);
+    for (index, event) in events.iter().enumerate() {
+        let place = index as u64 + 1;
+        let is_there = match centre.entry(place) {
+            Some(entry) => entry.event.same(event),
+            None => false,
+        };
+        assert!(rt; is_there, "{place}");
+    }
+}
+
+/// Events of every kind.
+#[test]
+fn want_of_memory_leaves_a_centre_whole_or_stale(rt: HostRuntime) -> Result<(), Fail> {
+    let alloc = rt.alloc();
+    let events = script(alloc, true)?;
+    assert_eq!(rt; events.len(), AFTER.len());
+    let mut centre = entered(&rt, alloc, events.as_slice(), bsc(1)?)?;
+    has_journal(&rt, &mut centre, events.as_slice());
+    Ok(())
+}
+
+#[test]
+fn want_of_memory_in_a_rebuild_leaves_a_centre_as_it_was(rt: HostRuntime) -> Result<(), Fail> {
+    let alloc = rt.alloc();
+    let b = bsc(1)?;
+    let events = script(alloc, false)?;
+    let mut centre = entered(&rt, alloc, events.as_slice(), b)?;
+    let narrowed = [1, 0, 0, 2, 2, 2];
+    if centre.rebuild().is_err() {
+        is_whole(&rt, &mut centre, b, narrowed);
+        assert_eq!(rt; centre.rebuild(), Ok(()));
+    }
+    is_whole(&rt, &mut centre, b, narrowed);
+    has_journal(&rt, &mut centre, events.as_slice());
+    Ok(())
+}
+
+/// The first cell refused the first version and is ordered it again, the second has it on air.
+fn begun(rt: &impl Abort, alloc: Global, b: BscId) -> Result<Centre, AllocError> {
+    let mut events = Vec::new(alloc);
+    plan(alloc, &mut events, b)?;
+    events.push(Event::LinkUp(b))?;
+    events.push(Event::Send(b, 7))?;
+    let refused = write_failure(alloc, SEVEN, Cause::CELL_MEMORY_EXCEEDED, &[EIGHT])?;
+    events.push(Event::Report(b, 7, refused))?;
+    events.push(Event::Retry(b))?;
+    events.push(Event::Send(b, 7))?;
+    let mut centre = Centre::new(alloc, PLMN, 100);
+    for event in events {
+        takes(rt, &mut centre, event);
+    }
+    Ok(centre)
+}
+
+/// The order is the write of the first version in the first cell.
+fn is_write(order: &Order) -> bool {
+    order.kind == OrderKind::Write
+        && order.message_id == MESSAGE_ID
+        && order.serial == first_serial()
+        && order.cells.as_slice() == [SEVEN].as_slice()
+}
+
+/// It alone is pending, and it is in flight.
+fn is_ordered(rt: &impl Abort, centre: &Centre, b: BscId) -> Result<(), Refusal> {
+    let orders = centre.pending_of(b)?;
+    assert_eq!(rt; orders.as_slice().len(), 1);
+    for order in orders.as_slice() {
+        assert!(rt; is_write(order));
+    }
+    let is_out = match centre.in_flight_of(b)? {
+        Some(InFlight::Order(order)) => is_write(order),
+        _ => false,
+    };
+    assert!(rt; is_out);
+    Ok(())
+}
+
+/// What is known of a centre that has begun.
+fn is_as_begun(rt: &impl Abort, centre: &mut Centre, b: BscId) -> Result<(), Refusal> {
+    let on_air = ReportedKey {
+        cell: EIGHT,
+        message_id: MESSAGE_ID,
+        serial: first_serial(),
+        presence: Presence::OnAir,
+    };
+    let keys = centre.table_of(b)?;
+    assert!(rt; keys.as_slice() == [on_air].as_slice());
+    assert_eq!(rt; board(centre), Ok([1, 1, 0, 0]));
+    assert_eq!(rt; centre.place_of(SEVEN), Ok(Some(b)));
+    assert_eq!(rt; centre.position(), 11);
+    is_ordered(rt, centre, b)
+}
+
+/// Copies of the entries of its journal.
+fn journal(alloc: Global, centre: &mut Centre) -> Result<Vec<Entry>, AllocError> {
+    let mut entries = Vec::new(alloc);
+    for index in 0..centre.position() {
+        if let Some(entry) = centre.entry(index + 1) {
+            entries.push(entry.copied(alloc)?)?;
+        }
+    }
+    Ok(entries)
+}
+
+/// The journals are the same.
+fn are_same(rt: &impl Abort, before: &[Entry], after: &[Entry]) {
+    assert_eq!(rt; before.len(), after.len());
+    for (entry, other) in before.iter().zip(after) {
+        assert!(rt; entry.same(other), "{entry:?}");
+    }
+}
+
+#[test]
+fn a_rebuilt_centre_is_as_it_was(rt: HostRuntime) -> Result<(), Fail> {
+    let alloc = rt.alloc();
+    let b = bsc(1)?;
+    let mut centre = begun(&rt, alloc, b)?;
+    is_as_begun(&rt, &mut centre, b)?;
+    let before = journal(alloc, &mut centre)?;
+    assert_eq!(rt; centre.rebuild(), Ok(()));
+    is_as_begun(&rt, &mut centre, b)?;
+    let after = journal(alloc, &mut centre)?;
+    are_same(&rt, before.as_slice(), after.as_slice());
+    takes(&rt, &mut centre, Event::Report(b, 7, complete()));
+    assert_eq!(rt; board(&centre), Ok([0, 2, 0, 0]));
+    Ok(())
+}
+
+#[test]
+fn a_new_centre_is_rebuilt(rt: HostRuntime) -> Result<(), Fail> {
+    let alloc = rt.alloc();
+    let b = bsc(1)?;
+    let mut centre = Centre::new(alloc, PLMN, 100);
+    assert_eq!(rt; centre.rebuild(), Ok(()));
+    assert!(rt; !centre.is_stale());
+    assert_eq!(rt; centre.position(), 0);
+    assert_eq!(rt; centre.meter().lines, 0);
+    assert_eq!(rt; centre.pending_of(b).err(), Some(Refusal::NoSuchBsc));
+    takes(&rt, &mut centre, Event::Edit(Edit::AddBsc(b)));
+    assert_eq!(rt; pending(&centre, b), Ok(0));
+    Ok(())
+}
+
+/// Questions but that for the table read no line.
+fn asks(rt: &impl Abort, centre: &Centre, b: BscId) -> Result<(), Refusal> {
+    let before = centre.meter();
+    centre.board_total(first_id())?;
+    centre.pending_of(b)?;
+    centre.in_flight_of(b)?;
+    centre.place_of(SEVEN)?;
+    assert_eq!(rt; centre.meter(), before);
+    Ok(())
+}
+
+/// An event reads and sets a line that it bears on four times at most.
+#[test]
+fn the_meter_counts_lines(rt: HostRuntime) -> Result<(), Fail> {
+    let alloc = rt.alloc();
+    let b = bsc(1)?;
+    let mut centre = begun(&rt, alloc, b)?;
+    asks(&rt, &centre, b)?;
+    let before = centre.meter().lines;
+    let refused = kill_failure(alloc, SEVEN, Cause::UNSPECIFIED_ERROR, &[])?;
+    let refusal = centre.accept(1, Event::Report(b, 7, refused)).err();
+    assert_eq!(rt; refusal, Some(Refusal::NoOrder));
+    assert_eq!(rt; centre.meter().lines, before);
+    takes(&rt, &mut centre, Event::Report(b, 7, complete()));
+    let lines = centre.meter().lines.saturating_sub(before);
+    assert!(rt; 0 < lines && lines <= 4);
+    Ok(())
+}
