@@ -4,8 +4,6 @@ use Rattle.std.proofs.lemmas.Bool.Decides.{nat_tests}
 use Rattle.std.proofs.lemmas.Grind.{common_steps}
 use Rattle.std.specs.BTreeMap.{is_at}
 use Rattle.std.specs.BTreeMap.Range.{range_contains}
-use Rattle.std.specs.Ordering.{is_eq, ordering_then, nat_cmp}
-use Rattle.std.specs.declared.cmp.Ordering.{Ordering}
 use Rattle.std.specs.declared.ops.Bound.TheVariants.{Included, Excluded}
 use Rattle.common.specs.Cell.{cell_eq, cell_lt}
 use Rattle.common.specs.declared.cell.Cell.{Cell}
@@ -14,12 +12,6 @@ use Rattle.mirror.specs.Order.{cell_cmp, slot_cmp, place_cmp, slot_of, least_slo
 use Rattle.mirror.specs.Table.{is_slot, is_that_place}
 use Rattle.mirror.specs.declared.place.Place.{Place}
 use Rattle.mirror.specs.declared.slot.Slot.{Slot}
-
-at_number : (x y : ℕ) → is_eq (nat_cmp x y) ≡ nat_eq x y
-at_number x y = grind (arith, nat_tests, common_steps)
-
-at_both : (r o : Ordering) → is_eq (ordering_then r o) ≡ (is_eq r && is_eq o)
-at_both r o = grind (arith, nat_tests, common_steps)
 
 pub at_cell : (c d : Cell) → is_at (cell_cmp c) d ≡ cell_eq c d
 at_cell c d = grind (arith, nat_tests, common_steps)

@@ -3,3 +3,4 @@ mod KeptLemmas
 mod GatherLemmas
 mod OnAirLemmas
 mod CountLemmas
+mod OwnLemmas

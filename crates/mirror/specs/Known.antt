@@ -1,8 +1,10 @@
 -- Which cells are known at a BSC, and which of them a report names (TS 48.049, 8.2.6).
-use Rattle.std.specs.Prelude.{ℕ, Bool, ◌||◌, List}
-use Rattle.std.specs.List.{list_any}
+use Rattle.std.specs.Prelude.{ℕ, Bool, ◌||◌, List, Option, Some, None}
+use Rattle.std.specs.List.{list_any, list_all}
+use Rattle.std.specs.Option.{is_some}
 use Rattle.cbsp_ie.specs.CellId.{names}
 use Rattle.cbsp_ie.specs.declared.cell_id.CellId.{CellId}
+use Rattle.cbsp_ie.specs.declared.cell_id.CellId.TheVariants as id
 use Rattle.cell_register.specs.Register.{State, place_in, is_place}
 use Rattle.common.specs.declared.cell.Cell.{Cell}
 use Rattle.mirror.specs.Table.{Table, down_at, has_line}
@@ -14,3 +16,16 @@ is_known t r b c = is_place (place_in r c) b || (down_at t b c || has_line t b c
 -- one of the identifications names the cell, where the centre's network is plmn
 abbrev pub is_named : List ℕ → List CellId → Cell → Bool
 is_named plmn ids c = list_any (λ id. names plmn id c) ids
+
+-- the one cell that the identification can name, where it has a location area and a cell identity
+abbrev pub own_cell : CellId → Option Cell
+own_cell (id.Global plmn lac ci) = Some (record { lac = lac; ci = ci })
+own_cell (id.LacCi lac ci) = Some (record { lac = lac; ci = ci })
+own_cell (id.Ci ci) = None
+own_cell (id.Lai plmn lac) = None
+own_cell (id.Lac lac) = None
+own_cell id.All = None
+
+-- each identification can name one cell alone
+abbrev pub are_of_cells : List CellId → Bool
+are_of_cells ids = list_all (λ id. is_some (own_cell id)) ids

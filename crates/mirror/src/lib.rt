@@ -8,6 +8,7 @@
 
 mod gathering;
 mod key_state;
+mod known;
 mod line;
 mod line_key;
 mod line_table;

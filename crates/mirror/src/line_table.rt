@@ -1,6 +1,6 @@
 //! The lines of all BSCs, cells and warnings, and which cells are down.
 
-ghost use Rattle.std.specs.Prelude.{◌≡◌, ◌≤◌, ◌<◌, ◌+◌, ◌-◌, ◌^◌, ◌&&◌, ℕ, true, false, if◌then◌else◌, nat_eq, List, length, take, OnOk, OnErr, IfOk};
+ghost use Rattle.std.specs.Prelude.{◌≡◌, ◌≤◌, ◌<◌, ◌+◌, ◌-◌, ◌^◌, ◌&&◌, ◌||◌, ℕ, true, false, if◌then◌else◌, nat_eq, List, length, take, OnOk, OnErr, IfOk};
 ghost use Rattle.std.specs.List.{list_any};
 ghost use Rattle.common.specs.Cell.{cell_eq, cell_lt};
 ghost use Rattle.common.specs.Order.{is_ascending};
@@ -8,13 +8,14 @@ ghost use Rattle.common.specs.declared.cell.Cell.{Cell};
 ghost use Rattle.mirror.specs.Blank.{is_blank};
 ghost use Rattle.mirror.specs.Line.{blank_line};
 ghost use Rattle.mirror.specs.Table.{line_at, has_line, down_at, counted, is_key};
-ghost use Rattle.mirror.specs.Known.{is_known, is_named};
+ghost use Rattle.mirror.specs.Known.{are_of_cells, is_known, is_named};
 ghost use Rattle.mirror.specs.OnAir.{AreOnAir, line_count};
 
 use crate::gathering::{add_cells, add_downs, add_line_cells, cells_in_order};
+use crate::known::{has_line, is_registered};
 use crate::line::Line;
 use crate::line_key::LineKey;
-use crate::naming::named;
+use crate::naming::{are_of_cells, named, own_cell};
 use crate::on_air::{first_on_air, lines_after};
 use crate::place::Place;
 use crate::slot::Slot;
@@ -205,8 +206,74 @@ impl LineTable {
         ensures order { IfOk result (λ cells. is_ascending cell_lt cells ≡ true) }
         ensures named { IfOk result (λ cells. (c : Cell) → list_any (cell_eq c) cells ≡ (is_known self.now register.now b c && is_named network ids.now c)) }
     {
+        let cells = match are_of_cells(ids) {
+            true => self.own_cells_named(register, network, b, ids),
+            false => self.known_cells_named(register, network, b, ids),
+        }?;
+        Ok(cells)
+    }
+
+    /// Those known cells that the identifications name, found among all known cells of the BSC.
+    fn known_cells_named(
+        &self,
+        register: &Register,
+        network: [u8; 3],
+        b: BscId,
+        ids: &[CellId],
+    ) -> Result<Cells, AllocError>
+        ensures order { IfOk result (λ cells. is_ascending cell_lt cells ≡ true) }
+        ensures named { IfOk result (λ cells. (c : Cell) → list_any (cell_eq c) cells ≡ (is_known self.now register.now b c && is_named network ids.now c)) }
+    {
         let known = self.known_cells(register, b)?;
         let cells = named(self.alloc, network, ids, known.as_slice())?;
         Ok(cells)
+    }
+
+    /// The same, where each identification can name one cell alone: no other cell is looked at.
+    fn own_cells_named(
+        &self,
+        register: &Register,
+        network: [u8; 3],
+        b: BscId,
+        ids: &[CellId],
+    ) -> Result<Cells, AllocError>
+        requires { are_of_cells ids.now ≡ true }
+        ensures order { IfOk result (λ cells. is_ascending cell_lt cells ≡ true) }
+        ensures named { IfOk result (λ cells. (c : Cell) → list_any (cell_eq c) cells ≡ (is_known self.now register.now b c && is_named network ids.now c)) }
+    {
+        let mut gathered = BTreeSet::new(self.alloc);
+        self.add_own_cells(register, network, b, ids, &mut gathered)?;
+        let cells = cells_in_order(self.alloc, &gathered)?;
+        Ok(cells)
+    }
+
+    /// Whether the cell is known at the BSC.
+    fn is_known(&self, register: &Register, b: BscId, c: Cell) -> bool
+        ensures { result ≡ is_known self.now register.now b c }
+    {
+        is_registered(register, b, c) || self.is_down(b, c) || has_line(&self.lines, b, c)
+    }
+
+    /// Puts those known cells that the identifications name among those gathered.
+    fn add_own_cells(
+        &self,
+        register: &Register,
+        network: [u8; 3],
+        b: BscId,
+        ids: &[CellId],
+        gathered: &mut BTreeSet<Cell>,
+    ) -> Result<(), AllocError>
+        requires { are_of_cells ids.now ≡ true }
+        ensures { OnOk result ((c : Cell) → list_any (cell_eq c) gathered.new.keys ≡ ((is_known self.now register.now b c && is_named network ids.now c) || list_any (cell_eq c) gathered.old.keys)) }
+    {
+        for id in ids {
+            let Some(c) = own_cell(id) else {
+                continue;
+            };
+            if id.names(network, c) && self.is_known(register, b, c) {
+                gathered.insert(c)?;
+            }
+        }
+        Ok(())
     }
 }

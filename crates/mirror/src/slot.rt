@@ -4,6 +4,7 @@ ghost use Rattle.std.specs.Prelude.{◌≡◌};
 ghost use Rattle.mirror.specs.Order.{slot_of, least_slot};
 
 use crate::line_key::LineKey;
+use cell_register::BscId;
 use common::Cell;
 
 /// The BSC, the cell and the warning of a line, in this order. The BSC's field is wider than its number, so that the
@@ -33,6 +34,17 @@ impl Slot {
         Slot {
             bsc,
             cell: Cell { lac: 0, ci: 0 },
+            warning: 0,
+        }
+    }
+
+    /// The slot at or after which all those of the BSC and the cell stand.
+    pub(crate) fn first_of(b: BscId, c: Cell) -> Slot
+        ensures { result ≡ slot_of b c 0 }
+    {
+        Slot {
+            bsc: u32::from(b.number()),
+            cell: c,
             warning: 0,
         }
     }

@@ -3,7 +3,7 @@ use Rattle.common.specs.Cell.{cell_lt}
 use Rattle.common.specs.OrderLaws.{ascending_filter}
 use Rattle.mirror.proofs.GatherLemmas.{among_kept}
 use Rattle.mirror.specs.Known.{is_named}
-use Rattle.mirror.proofs.line_table.LineTable.cells_named.Goals as goal
+use Rattle.mirror.proofs.line_table.LineTable.known_cells_named.Goals as goal
 
 pub returns-clause-order : goal.returns-clause-order
 returns-clause-order c =
