@@ -1,14 +1,17 @@
-//! How fast messages are read and written, how fast a stream is cut into frames, how fast a warning is ordered, and how
-//! fast a report is taken.
+//! How fast messages are read and written, how fast a stream is cut into frames, how fast a warning is ordered, how fast
+//! a report is taken, and how fast a question is answered.
 //!
 //! With no argument it makes one small round of each and prints `ok`. `codec long` and `framing long` make long ones
-//! and print their figures, which depend on the machine and on what else it does; so do `orders` and `reports`.
+//! and print their figures, which depend on the machine and on what else it does; so do `orders`, `reports`
+//! and `questions`.
 #![tactic(auto)]
 
 mod codec;
 mod codec_frames;
 mod cutting;
+mod one_cell;
 mod orders;
+mod questions;
 mod reports;
 mod stopwatch;
 
@@ -24,6 +27,7 @@ fn main(rt: HostRuntime) -> Result<()> {
             cutting::rounds(&rt, 3_000, 2_000)?;
             orders::round(&rt, 20)?;
             reports::round(&rt, 20, 2)?;
+            questions::rounds(&rt, 20, 2)?;
             println!(rt; "ok")?;
         }
         ["codec", "long"] => {
@@ -46,7 +50,16 @@ fn main(rt: HostRuntime) -> Result<()> {
                 println!(rt; "{figure}")?;
             }
         }
-        _ => bail!("the arguments are none, `codec long`, `framing long`, `orders` or `reports`"),
+        ["questions"] => {
+            for cells in [1_000, 65_536] {
+                for figure in &questions::rounds(&rt, cells, 100_000)? {
+                    println!(rt; "{figure}")?;
+                }
+            }
+        }
+        _ => bail!(
+            "the arguments are none, `codec long`, `framing long`, `orders`, `reports` or `questions`"
+        ),
     }
     Ok(())
 }
