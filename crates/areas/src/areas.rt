@@ -173,6 +173,14 @@ impl Areas {
         lookups::has_area(self.list.as_slice(), a)
     }
 
+    /// The selectors of the area, in their order; none where there is no such area, which `has_area` tells apart.
+    pub fn selectors_of(&self, a: &Name) -> &[Selector]
+        ensures selectors { result.now ≡ selectors_of self.now a.now }
+        ensures order { is_ascending selector_lt result.now ≡ true }
+    {
+        lookups::selectors_of(self.list.as_slice(), a)
+    }
+
     /// Whether the area has the selector; `false` where there is no such area.
     pub fn has_selector(&self, a: &Name, s: Selector) -> bool
         ensures { result ≡ has_selector self.now a.now s }

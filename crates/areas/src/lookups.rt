@@ -1,46 +1,52 @@
 //! What a list of areas has.
 
-ghost use Rattle.std.specs.Prelude.{◌≡◌, length};
+ghost use Rattle.std.specs.Prelude.{◌≡◌, true, length};
 ghost use Rattle.std.specs.List.{position_or_len};
-ghost use Rattle.areas.specs.Areas.{is_named, has_area, selectors_of, has_selector, selects, covers};
+ghost use Rattle.common.specs.Order.{is_ascending};
+ghost use Rattle.areas.specs.Areas.{is_named, has_area, selectors_of, has_selector, selects, covers, named_lt};
 
 use crate::area::Area;
+use crate::naming::is_before;
 use crate::selector::Selector;
 use common::{Cell, Name};
 
-/// Whether the area is there.
-pub(crate) fn has_area(areas: &[Area], a: &Name) -> bool
-    ensures { result ≡ has_area areas.now a.now }
-{
-    areas.iter().any(|area| area.name == *a)
-}
-
-/// Where the area of that name stands; past the last where there is none.
+/// Where the area of that name stands among areas in order; past the last where there is none.
 pub(crate) fn place_of(areas: &[Area], a: &Name) -> usize
+    requires { is_ascending named_lt areas.now ≡ true }
     ensures { result ≡ position_or_len (is_named a.now) areas.now }
 {
-    for (i, area) in areas.iter().enumerate() {
-        if area.name == *a {
-            return i;
-        }
+    let place = areas.partition_point(|area| is_before(&area.name, a));
+    if place < areas.len() && areas[place].name == *a {
+        place
+    } else {
+        areas.len()
     }
-    areas.len()
+}
+
+/// Whether the area is there.
+pub(crate) fn has_area(areas: &[Area], a: &Name) -> bool
+    requires { is_ascending named_lt areas.now ≡ true }
+    ensures { result ≡ has_area areas.now a.now }
+{
+    place_of(areas, a) < areas.len()
 }
 
 /// The selectors of the area; none where it isn't there.
 pub(crate) fn selectors_of<'a>(areas: &'a [Area], a: &Name) -> &'a [Selector]
+    requires { is_ascending named_lt areas.now ≡ true }
     ensures { result.now ≡ selectors_of areas.now a.now }
 {
-    for area in areas {
-        if area.name == *a {
-            return area.selectors.as_slice();
-        }
+    let place = place_of(areas, a);
+    if place < areas.len() {
+        areas[place].selectors.as_slice()
+    } else {
+        &[]
     }
-    &[]
 }
 
 /// Whether the area has the selector.
 pub(crate) fn has_selector(areas: &[Area], a: &Name, s: Selector) -> bool
+    requires { is_ascending named_lt areas.now ≡ true }
     ensures { result ≡ has_selector areas.now a.now s }
 {
     selectors_of(areas, a).contains(&s)
@@ -48,6 +54,7 @@ pub(crate) fn has_selector(areas: &[Area], a: &Name, s: Selector) -> bool
 
 /// How many selectors the area has.
 pub(crate) fn selector_count(areas: &[Area], a: &Name) -> usize
+    requires { is_ascending named_lt areas.now ≡ true }
     ensures { result ≡ length (selectors_of areas.now a.now) }
 {
     selectors_of(areas, a).len()
@@ -62,6 +69,7 @@ pub(crate) fn selects(selectors: &[Selector], c: Cell) -> bool
 
 /// Whether the area covers the cell.
 pub(crate) fn covers(areas: &[Area], a: &Name, c: Cell) -> bool
+    requires { is_ascending named_lt areas.now ≡ true }
     ensures { result ≡ covers areas.now a.now c }
 {
     selects(selectors_of(areas, a), c)
