@@ -3,3 +3,5 @@ pub mod VersionLemmas
 pub mod AreaLemmas
 pub mod PlaceLemmas
 pub mod CheckLemmas
+pub mod SearchLemmas
+pub mod FoundLemmas

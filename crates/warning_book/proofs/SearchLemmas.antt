@@ -1,0 +1,77 @@
+-- Where a search by halves over warnings in order ends is the place of the number.
+use Rattle.std.proofs.Common.{◌≡◌, ℕ, suc, zero, ◌<◌, ◌≤◌, Bool, true, false, List, [], ◌∷◌, inl, inr, length, get_or, refl, sym, ap, ◌∙◌, ltb, ltb-true, arith}
+use Rattle.std.specs.Prelude.{nat_eq}
+use Rattle.std.specs.List.{position_or_len, list_all}
+use Rattle.std.specs.List.Sorted.{IsNonDecreasingBy, IsPartitionPoint}
+use Rattle.std.proofs.lemmas.Bool.{and_parts, cases_lt}
+use Rattle.std.proofs.lemmas.Bool.Decides.{nat_tests}
+use Rattle.std.proofs.lemmas.Grind.{common_steps}
+use Rattle.std.proofs.lemmas.List.Sums.{position_or_len_is}
+use Rattle.common.specs.Order.{is_ascending}
+use Rattle.warning_book.specs.Book.{has_number, number_lt}
+use Rattle.warning_book.specs.declared.warning.Warning.{Warning}
+
+all_at : (p : Warning → Bool) (l : List Warning) (k : ℕ) (d : Warning) → list_all p l ≡ true → k < length l → p (get_or l k d) ≡ true
+all_at p [] k d h b = absurd (omega arith)
+all_at p (w ∷ l) zero d h b = (and_parts (p w) (list_all p l) h).0
+all_at p (w ∷ l) (suc k) d h b = all_at p l k d (and_parts (p w) (list_all p l) h).1 (omega arith)
+
+-- of two places the later one has the greater number
+number_below : (l : List Warning) (i j : ℕ) (d : Warning) → is_ascending number_lt l ≡ true → i < j → j < length l → (get_or l i d).number < (get_or l j d).number
+number_below [] i j d o h b = absurd (omega arith)
+number_below (w ∷ l) i zero d o h b = absurd (omega arith)
+number_below (w ∷ l) zero (suc j) d o h b = ltb-true w.number (get_or l j d).number (all_at (number_lt w) l j d (and_parts (list_all (number_lt w) l) (is_ascending number_lt l) o).0 (omega arith))
+number_below (w ∷ l) (suc i) (suc j) d o h b = number_below l i j d (and_parts (list_all (number_lt w) l) (is_ascending number_lt l) o).1 (omega arith) (omega arith)
+
+-- the numbers do not fall from one place to a later one
+pub numbers_rise : (l : List Warning) → is_ascending number_lt l ≡ true → IsNonDecreasingBy (λ (w : Warning). w.number) l
+numbers_rise l o i j d h b =
+    elim (cases_lt i j) [
+      | inl under ↦ let less = number_below l i j d o under b in omega arith
+      | inr over ↦
+          let same : i ≡ j = omega arith in
+          let equal : (get_or l i d).number ≡ (get_or l j d).number = ap (λ (k : ℕ). (get_or l k d).number) same in
+          omega arith
+    ]
+
+-- up to this place the numbers are less than n, and from it on they are not
+abbrev pub IsStart : ℕ → List Warning → ℕ → Type 0
+IsStart n l i = IsPartitionPoint (λ (w : Warning). ltb w.number n ≡ true) (λ (w : Warning). ltb w.number n ≡ false) l i
+
+less_is_other : (m n : ℕ) → ltb m n ≡ true → nat_eq m n ≡ false
+less_is_other m n h = grind (arith, nat_tests, common_steps)
+
+greater_is_other : (k m n : ℕ) → ltb m n ≡ false → m < k → nat_eq k n ≡ false
+greater_is_other k m n h b = grind (arith, nat_tests, common_steps)
+
+-- the warning that the search ends at has the number
+pub found_at_start : (n : ℕ) (l : List Warning) (i : ℕ) (w : Warning) → IsStart n l i → i < length l → w ≡ get_or l i w → has_number n w ≡ true → i ≡ position_or_len (has_number n) l
+found_at_start n l i w start within g e =
+    sym (position_or_len_is (has_number n) l i w (omega arith) (λ k b. less_is_other (get_or l k w).number n (start.0 k w (omega arith) b)) (λ b. ap (has_number n) (sym g) ∙ e))
+
+-- it has another number, and so has each of the warnings
+pub none_at_start : (n : ℕ) (l : List Warning) (i : ℕ) (w : Warning) → is_ascending number_lt l ≡ true → IsStart n l i → i < length l → w ≡ get_or l i w → has_number n w ≡ false → length l ≡ position_or_len (has_number n) l
+none_at_start n l i w o start within g e =
+    sym (position_or_len_is (has_number n) l (length l) w (omega arith) each (λ b. absurd (omega arith)))
+  where
+    behind : (k : ℕ) → i ≤ k → k < length l → has_number n (get_or l k w) ≡ false
+    behind k low high =
+        elim (cases_lt i k) [
+          | inl after ↦ greater_is_other (get_or l k w).number (get_or l i w).number n (start.1 i w (omega arith) within) (number_below l i k w o after high)
+          | inr last ↦
+              let same : k ≡ i = omega arith in
+              ap (λ (j : ℕ). has_number n (get_or l j w)) same ∙ ap (has_number n) (sym g) ∙ e
+        ]
+
+    each : (k : ℕ) → k < length l → has_number n (get_or l k w) ≡ false
+    each k b =
+        elim (cases_lt k i) [
+          | inl before ↦ less_is_other (get_or l k w).number n (start.0 k w (omega arith) before)
+          | inr from ↦ behind k from b
+        ]
+
+-- it ends past the last, and each of the warnings has a lesser number
+pub none_past_last : (n : ℕ) (l : List Warning) (i : ℕ) → IsStart n l i → length l ≤ i → length l ≡ position_or_len (has_number n) l
+none_past_last n [] i start h = refl
+none_past_last n (w ∷ l) i start h =
+    sym (position_or_len_is (has_number n) (w ∷ l) (length (w ∷ l)) w (omega arith) (λ k b. less_is_other (get_or (w ∷ l) k w).number n (start.0 k w (omega arith) (omega arith))) (λ b. absurd (omega arith)))
