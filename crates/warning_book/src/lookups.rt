@@ -1,4 +1,5 @@
-//! What a list of warnings tells of one of them. They stand in the order of their numbers, so that a warning is found by halves.
+//! What a list of warnings tells of one of them. They stand in the order of their numbers, so that a warning is found by
+//! halves.
 
 ghost use Rattle.std.specs.Prelude.{◌≡◌, true, false, ltb, find};
 ghost use Rattle.std.specs.List.{position_or_len};
