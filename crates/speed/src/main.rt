@@ -3,12 +3,13 @@
 //!
 //! With no argument it makes one small round of each and prints `ok`. `codec long` and `framing long` make long ones
 //! and print their figures, which depend on the machine and on what else it does; so do `orders`, `reports`
-//! and `questions`.
+//! and `questions`. `limits` reaches each limit of the centre and says whether it is kept.
 #![tactic(auto)]
 
 mod codec;
 mod codec_frames;
 mod cutting;
+mod limits;
 mod one_cell;
 mod orders;
 mod questions;
@@ -50,6 +51,11 @@ fn main(rt: HostRuntime) -> Result<()> {
                 println!(rt; "{figure}")?;
             }
         }
+        ["limits"] => {
+            for figure in &limits::rounds(rt.alloc())? {
+                println!(rt; "{figure}")?;
+            }
+        }
         ["questions"] => {
             for cells in [1_000, 65_536] {
                 for figure in &questions::rounds(&rt, cells, 100_000)? {
@@ -58,7 +64,7 @@ fn main(rt: HostRuntime) -> Result<()> {
             }
         }
         _ => bail!(
-            "the arguments are none, `codec long`, `framing long`, `orders`, `reports` or `questions`"
+            "the arguments are none, `codec long`, `framing long`, `limits`, `orders`, `reports` or `questions`"
         ),
     }
     Ok(())
