@@ -1,6 +1,7 @@
 pub mod CheckLemmas
 pub mod PairLemmas
 pub mod ReachLemmas
+pub mod GatherLemmas
 pub mod FilterLemmas
 pub mod ChangeLemmas
 pub mod CellChangeLemmas

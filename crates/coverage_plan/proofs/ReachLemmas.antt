@@ -6,8 +6,8 @@ use Rattle.std.specs.List.{list_any}
 use Rattle.areas.specs.Areas.{has_selector}
 use Rattle.areas.specs.declared.area.Area.{Area}
 use Rattle.areas.specs.declared.selector.Selector.TheVariants as selector
-use Rattle.cell_register.specs.Laws.{is_some_place_among, cells_in_has, cells_in_ascend}
-use Rattle.cell_register.specs.Register.{State, placed_lt, cell_of, all_cells, cells_in}
+use Rattle.cell_register.specs.Laws.{cells_in_has, cells_in_ascend}
+use Rattle.cell_register.specs.Register.{State, cells_in}
 use Rattle.cell_register.specs.Sound.{IsRegister}
 use Rattle.common.specs.Cell.{cell_eq, cell_lt}
 use Rattle.common.specs.Equality.{cell_decides}
@@ -18,7 +18,6 @@ use Rattle.common.specs.declared.cell.Cell.{Cell}
 use Rattle.warning_book.specs.Book.{has_number, number_lt, is_so, names, numbers, naming, is_there, warning_is}
 use Rattle.warning_book.specs.Book as book
 use Rattle.warning_book.specs.declared.warning.Warning.{Warning}
-use Rattle.coverage_plan.specs.Plan.{is_covered}
 use Rattle.coverage_plan.specs.Reach.{AreCells, AreNumbers, is_registered, is_only_by}
 
 swapped : (a b : Bool) → (a && b) ≡ (b && a)
@@ -42,16 +41,6 @@ filtered test p cs are = record {
   ordered = ascending_filter cell_lt p cs are.ordered;
   exact = λ c. any_filter_same cell_eq cell_decides p c cs ∙ ap (λ t. p c && t) (are.exact c) ∙ swapped (p c) (test c);
 }
-
-registered_cells : (r : State) → IsRegister r → AreCells (is_registered r) (all_cells r)
-registered_cells r sound = record {
-  ordered = ascending_map placed_lt cell_lt cell_of (λ p q h. h) r.cells sound.cells_ascend;
-  exact = λ c. any_map (λ d. cell_eq d c) cell_of r.cells ∙ sym (is_some_place_among c r.cells);
-}
-
--- the registered cells that one of the areas covers
-pub covered_are : (r : State) (l : List Area) (areas : List (List ℕ)) → IsRegister r → AreCells (λ c. is_registered r c && is_covered l areas c) (filter (is_covered l areas) (all_cells r))
-covered_are r l areas sound = filtered (is_registered r) (is_covered l areas) (all_cells r) (registered_cells r sound)
 
 cells_of_lac : (r : State) (lac : ℕ) → IsRegister r → AreCells (λ c. is_registered r c && nat_eq lac c.lac) (cells_in r lac)
 cells_of_lac r lac sound = record {

@@ -1,5 +1,5 @@
 -- The cells and the warnings on which an edit bears, and their pairs.
-use Rattle.std.specs.Prelude.{◌≡◌, ℕ, Bool, true, ◌&&◌, not, List, nat_eq, ltb, map}
+use Rattle.std.specs.Prelude.{◌≡◌, ℕ, Bool, true, ◌&&◌, ◌||◌, not, List, nat_eq, ltb, map}
 use Rattle.std.specs.List.{list_any, flat_map}
 use Rattle.std.specs.Option.{is_some}
 use Rattle.areas.specs.Areas.{has_selector}
@@ -24,6 +24,14 @@ pub record AreCells (test : Cell → Bool) (cells : List Cell) : Type 0 where
 pub record AreNumbers (test : ℕ → Bool) (numbers : List ℕ) : Type 0 where
   pub ordered : is_ascending ltb numbers ≡ true
   pub exact : (n : ℕ) → list_any (λ m. nat_eq m n) numbers ≡ test n
+
+-- the cell is one of them
+abbrev pub is_among : List Cell → Cell → Bool
+is_among cells c = list_any (λ d. cell_eq d c) cells
+
+-- the cells that pass the test have come to those that were there
+abbrev pub AreAdded : (Cell → Bool) → List Cell → List Cell → Type 0
+AreAdded test old new = (c : Cell) → is_among new c ≡ (test c || is_among old c)
 
 -- each warning with the cell
 abbrev pub pairs_with : List ℕ → Cell → List (Cell × ℕ)

@@ -10,6 +10,7 @@ mod checks;
 mod covering;
 mod edit;
 mod edits;
+mod gathering;
 mod pairs;
 mod plan;
 mod plan_item;
@@ -19,6 +20,7 @@ mod reached_pairs;
 mod refusal;
 
 pub use edit::Edit;
+pub use gathering::covered_cells;
 pub use pairs::Pairs;
 pub use plan::Plan;
 pub use plan_item::PlanItem;

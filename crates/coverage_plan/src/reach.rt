@@ -1,12 +1,10 @@
 //! The cells on which an edit bears.
 
-ghost use Rattle.std.specs.Prelude.{◌≡◌, ◌++◌, ◌∷◌, [], ◌&&◌, not, IfOk, OnOk, if◌then◌else◌};
+ghost use Rattle.std.specs.Prelude.{◌≡◌, ◌++◌, ◌∷◌, [], not, IfOk, OnOk, if◌then◌else◌};
 ghost use Rattle.areas.specs.Areas.{has_selector};
 ghost use Rattle.areas.specs.declared.selector.Selector.TheVariants as selector;
-ghost use Rattle.coverage_plan.specs.Plan.{is_covered};
-ghost use Rattle.coverage_plan.specs.Reach.{AreCells, is_registered, is_only_by};
+ghost use Rattle.coverage_plan.specs.Reach.{AreCells, is_only_by};
 
-use crate::covering::is_covered;
 use areas::{Areas, Selector};
 use cell_register::Register;
 use common::{Cell, Cells, Name};
@@ -20,25 +18,6 @@ fn push_if(is_wanted: bool, c: Cell, out: &mut Vec<Cell>) -> Result<(), AllocErr
         out.push(c)?;
     }
     Ok(())
-}
-
-/// The registered cells that one of the areas covers, in ascending order.
-pub(crate) fn covered_cells(
-    alloc: Global,
-    register: &Register,
-    areas: &Areas,
-    names: &[Name],
-) -> Result<Cells, AllocError>
-    ensures { IfOk result (AreCells (λ c. is_registered register.now c && is_covered areas.now names.now c)) }
-{
-    register.tell_soundness();
-    let all = register.all_cells()?;
-    let cells = all.as_slice();
-    let mut found = Vec::new(alloc);
-    for cell in cells {
-        push_if(is_covered(areas, names, *cell), *cell, &mut found)?;
-    }
-    Ok(Cells::from_vec(found))
 }
 
 /// The cell, if it is registered and the area does not select its location area.

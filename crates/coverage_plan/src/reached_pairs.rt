@@ -4,8 +4,9 @@ ghost use Rattle.std.specs.Prelude.{◌≡◌, ◌++◌, IfOk, OnOk};
 ghost use Rattle.coverage_plan.specs.Changes.{ArePairs};
 ghost use Rattle.coverage_plan.specs.Reach.{pairs_with, pairs_of, is_of_cell, is_of_selector, is_of_areas};
 
+use crate::gathering::covered_cells;
 use crate::pairs::Pairs;
-use crate::reach::{cells_only_by, covered_cells};
+use crate::reach::cells_only_by;
 use areas::{Areas, Selector};
 use cell_register::Register;
 use common::{Cell, Name};
