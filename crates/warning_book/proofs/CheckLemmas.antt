@@ -7,6 +7,7 @@ use Rattle.common.specs.Order.{is_ascending}
 use Rattle.warning_book.specs.Book.{State, has_number, number_lt, names, is_full, has_one_area, is_exhausted, is_there, warning_is, warning_of}
 use Rattle.warning_book.specs.Checks.{update_checks, widen_checks, narrow_checks, stop_checks, forget_checks, warning_update_checks, warning_widen_checks, warning_narrow_checks, warning_stop_checks, warning_forget_checks}
 use Rattle.warning_book.specs.Laws.{found_so}
+use Rattle.warning_book.proofs.FoundLemmas.{absent_in}
 use Rattle.warning_book.specs.declared.content.Content.{Content}
 use Rattle.warning_book.specs.declared.warning.Warning.{Warning}
 
@@ -16,14 +17,6 @@ there_in n (v ∷ l) w h = step (there_in n l w) (has_number n v) h
   where
     step : (find (has_number n) l ≡ Some w → list_any (has_number n) l ≡ true) → (t : Bool) → cond t (Some v) (find (has_number n) l) ≡ Some w → (t || list_any (has_number n) l) ≡ true
     step rest true e = refl
-    step rest false e = rest e
-
-absent_in : (n : ℕ) (l : List Warning) → find (has_number n) l ≡ None → list_any (has_number n) l ≡ false
-absent_in n [] h = refl
-absent_in n (v ∷ l) h = step (absent_in n l) (has_number n v) h
-  where
-    step : (find (has_number n) l ≡ None → list_any (has_number n) l ≡ false) → (t : Bool) → cond t (Some v) (find (has_number n) l) ≡ None → (t || list_any (has_number n) l) ≡ false
-    step rest true e = cc
     step rest false e = rest e
 
 pub is_absent : (st : State) (n : ℕ) → warning_of st n ≡ None → is_there st n ≡ false

@@ -1,16 +1,21 @@
 -- What the warning of a number has, where it is found, and what is told where it isn't.
-use Rattle.std.proofs.Common.{◌≡◌, ℕ, Bool, true, false, ◌&&◌, ◌||◌, cond, List, [], ◌∷◌, Some, None, refl, ap}
+use Rattle.std.proofs.Common.{◌≡◌, ℕ, Bool, true, false, ◌||◌, cond, List, [], ◌∷◌, Some, None, refl, ap}
 use Rattle.std.specs.Prelude.{find}
+use Rattle.std.specs.List.{list_any}
 use Rattle.warning_book.specs.Book.{has_number, is_so, areas_of, versions_of}
+use Rattle.warning_book.specs.Laws.{absent_so}
 use Rattle.warning_book.specs.declared.warning.Warning.{Warning}
 
-pub so_absent : (n : ℕ) (f : Warning → Bool) (l : List Warning) → find (has_number n) l ≡ None → is_so n f l ≡ false
-so_absent n f [] h = refl
-so_absent n f (w ∷ l) h = step (so_absent n f l) (has_number n w) h
+pub absent_in : (n : ℕ) (l : List Warning) → find (has_number n) l ≡ None → list_any (has_number n) l ≡ false
+absent_in n [] h = refl
+absent_in n (v ∷ l) h = step (absent_in n l) (has_number n v) h
   where
-    step : (find (has_number n) l ≡ None → is_so n f l ≡ false) → (t : Bool) → cond t (Some w) (find (has_number n) l) ≡ None → ((t && f w) || is_so n f l) ≡ false
+    step : (find (has_number n) l ≡ None → list_any (has_number n) l ≡ false) → (t : Bool) → cond t (Some v) (find (has_number n) l) ≡ None → (t || list_any (has_number n) l) ≡ false
     step rest true e = cc
     step rest false e = rest e
+
+pub so_absent : (n : ℕ) (f : Warning → Bool) (l : List Warning) → find (has_number n) l ≡ None → is_so n f l ≡ false
+so_absent n f l h = absent_so n f l (absent_in n l h)
 
 pub areas_found : (n : ℕ) (l : List Warning) (w : Warning) → find (has_number n) l ≡ Some w → areas_of n l ≡ w.areas
 areas_found n [] w h = cc
