@@ -17,6 +17,7 @@ use Rattle.common.specs.Order.{is_ascending, each_once}
 use Rattle.common.specs.OrderLaws.{ascending_map}
 use Rattle.common.specs.Sums.{count_of}
 use Rattle.common.specs.declared.cell.Cell.{Cell}
+use Rattle.coverage_plan.specs.Reach.{AreCells}
 use Rattle.kept_tables.specs.SpotLaws.{spot_decides}
 use Rattle.kept_tables.specs.View.{spot_eq}
 use Rattle.kept_tables.specs.declared.spot.Spot.{Spot}
@@ -315,12 +316,6 @@ lac_named r lac spots sound is =
     (λ c. any_turned cell_eq cell_decides c (cells_in r lac) ∙ cells_in_has r c lac ∙ ap (λ t. is_some (place_in r c) && t) (turned nat_eq unsigned_Decides c.lac lac)) is
 
 -- the registered cells that pass a test
-pub all_placed : (r : State) (p : Cell → Bool) (cs : List Cell) (spots : List Spot) → IsRegister r → cs ≡ filter p (map cell_of r.cells) → spots ≡ flat_map (λ c. at_bsc c (place_in r c)) cs → AreSpots spots (λ s. is_placed r s && p s.cell)
-all_placed r p cs spots sound these is =
-    listed_placed r cs p spots (ap (each_once cell_eq) these ∙ once_filter cell_eq p (map cell_of r.cells) (ascending_cells (map cell_of r.cells) (ascending_map placed_lt cell_lt cell_of (λ x y h. h) r.cells sound.cells_ascend)))
-    (λ c.
-    ap (list_any (cell_eq c)) these
-    ∙ any_kept p c (map cell_of r.cells)
-    ∙ ap (λ t. p c && t) (any_turned cell_eq cell_decides c (map cell_of r.cells) ∙ cell_among c r.cells ∙ sym (is_some_place_among c r.cells))
-    ∙ and_swapped (p c) (is_some (place_in r c)))
-    is
+pub covered_placed : (r : State) (p : Cell → Bool) (cs : List Cell) (spots : List Spot) → AreCells (λ c. is_some (place_in r c) && p c) cs → spots ≡ flat_map (λ c. at_bsc c (place_in r c)) cs → AreSpots spots (λ s. is_placed r s && p s.cell)
+covered_placed r p cs spots these is =
+    listed_placed r cs p spots (ascending_cells cs these.ordered) (λ c. any_turned cell_eq cell_decides c cs ∙ these.exact c) is

@@ -1,6 +1,6 @@
 //! Cells at base station controllers, found from what a centre keeps.
 
-ghost use Rattle.std.specs.Prelude.{◌≡◌, ◌&&◌, ◌∷◌, true, filter, map, nat_eq, IfOk};
+ghost use Rattle.std.specs.Prelude.{◌≡◌, ◌&&◌, ◌∷◌, true, map, nat_eq, IfOk};
 ghost use Rattle.std.specs.List.{list_any, flat_map};
 ghost use Rattle.areas.specs.Areas.{covers};
 ghost use Rattle.cell_register.specs.Register.{place_in};
@@ -8,10 +8,10 @@ ghost use Rattle.common.specs.Order.{each_once};
 ghost use Rattle.centre_core.specs.Reach.{spot, at_bsc, is_named_by};
 ghost use Rattle.centre_core.specs.Reaching.{AreSpots, is_placed, is_known_at, is_known_among};
 
-use crate::facts::is_covered;
 use areas::{Areas, Selector};
 use cell_register::{BscId, Register};
 use common::{Cell, Name};
+use coverage_plan::covered_cells;
 use kept_tables::Spot;
 use mirror::LineTable;
 use std::alloc::{AllocError, Global};
@@ -121,24 +121,6 @@ pub(crate) fn named(
     Ok(spots)
 }
 
-/// Those of the cells that one of the areas covers.
-fn covered_cells(
-    alloc: Global,
-    areas: &Areas,
-    names: &[Name],
-    cells: &[Cell],
-) -> Result<Vec<Cell>, AllocError>
-    ensures { IfOk result (λ covered. covered.items ≡ filter (λ c. list_any (λ a. covers areas.now a c) names.now) cells.now) }
-{
-    let mut covered = Vec::new(alloc);
-    for cell in cells {
-        if is_covered(areas, names, *cell) {
-            covered.push(*cell)?;
-        }
-    }
-    Ok(covered)
-}
-
 /// The registered cells that one of the areas covers, each at its BSC.
 pub(crate) fn covered(
     alloc: Global,
@@ -148,9 +130,7 @@ pub(crate) fn covered(
 ) -> Result<Vec<Spot>, AllocError>
     ensures { IfOk result (λ spots. AreSpots spots.items (λ s. is_placed register.now s && list_any (λ a. covers areas.now a s.cell) names.now)) }
 {
-    register.tell_soundness();
-    let cells = register.all_cells()?;
-    let found = covered_cells(alloc, areas, names, cells.as_slice())?;
-    let spots = placed_all(alloc, register, found.as_slice())?;
+    let cells = covered_cells(alloc, register, areas, names)?;
+    let spots = placed_all(alloc, register, cells.as_slice())?;
     Ok(spots)
 }
