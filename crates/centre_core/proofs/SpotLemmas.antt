@@ -7,14 +7,13 @@ use Rattle.std.specs.Option.{is_some}
 use Rattle.std.proofs.lemmas.Bool.{and_parts, and_from, or_parts, or_from, or_right, not-true, not_from_false}
 use Rattle.std.proofs.lemmas.List.{take_more}
 use Rattle.std.proofs.lemmas.List.Folds.{list_any-append}
-use Rattle.cell_register.specs.Laws.{is_some_place_among, cells_in_has, cells_in_ascend}
-use Rattle.cell_register.specs.Register.{State, place_in, is_place, cell_of, cells_in, placed_lt}
+use Rattle.cell_register.specs.Laws.{cells_in_has, cells_in_ascend}
+use Rattle.cell_register.specs.Register.{State, place_in, is_place, cells_in}
 use Rattle.cell_register.specs.Sound.{IsRegister}
 use Rattle.common.specs.Cell.{cell_eq, cell_lt}
 use Rattle.common.specs.Equality.{cell_decides}
 use Rattle.common.specs.OnceLaws.{DecidesAll, turned, any_turned, any_filter_same, ascending_once, once_filter, once_key}
 use Rattle.common.specs.Order.{is_ascending, each_once}
-use Rattle.common.specs.OrderLaws.{ascending_map}
 use Rattle.common.specs.Sums.{count_of}
 use Rattle.common.specs.declared.cell.Cell.{Cell}
 use Rattle.coverage_plan.specs.Reach.{AreCells}
@@ -36,7 +35,7 @@ use Rattle.centre_core.proofs.CountLemmas.{same_count, named_once, both_or_it}
 use Rattle.centre_core.proofs.KnownLemmas.{legal_unfolded, known_place}
 use Rattle.centre_core.proofs.MarkLemmas as mark
 use Rattle.centre_core.proofs.PastLemmas.{any_image}
-use Rattle.centre_core.proofs.RegisterLemmas.{cell_apart, cell_among}
+use Rattle.centre_core.proofs.RegisterLemmas.{cell_apart}
 
 -- Two lists of the same things.
 
