@@ -27,6 +27,8 @@ mod message_tests;
 #[cfg(test)]
 mod order_tests;
 #[cfg(test)]
+mod plan_edits_tests;
+#[cfg(test)]
 mod plan_tests;
 #[cfg(test)]
 mod register_tests;

@@ -1,0 +1,302 @@
+//! The pairs that an edit of the plan gives, against a comparison of whole plans: all that a pair depends on is read
+//! before the edit and after it, of every cell and warning that the edits can name.
+
+use areas::Selector;
+use cell_register::BscId;
+use common::{Cell, Name, Names, Octets};
+use coverage_plan::{Edit, Plan};
+use serials::{Scope, Serial};
+use std::alloc::{AllocError, Global};
+use std::process::Abort;
+use std::test::Fail;
+use warning_book::{Category, Content, ContentPages, Notice, WarningId};
+
+/// So many edits are accepted, of so many at most that are drawn.
+const EDITS: u32 = 200;
+
+const DRAWN: u32 = 1_000;
+
+/// The numbers of warnings that are compared, which are more than are issued.
+const WARNINGS: u32 = 64;
+
+/// The cells, in their order.
+const CELLS: [Cell; 6] = [
+    Cell { lac: 100, ci: 7 },
+    Cell { lac: 100, ci: 8 },
+    Cell { lac: 100, ci: 9 },
+    Cell { lac: 101, ci: 7 },
+    Cell { lac: 101, ci: 8 },
+    Cell { lac: 102, ci: 7 },
+];
+
+/// What a pair of a cell and a warning depends on.
+#[derive(Clone, Copy, PartialEq, Eq)]
+struct Part {
+    cell: Cell,
+    warning: WarningId,
+    place: Option<BscId>,
+    is_there: bool,
+    wanted: Option<Serial>,
+    /// The letters of the warning's areas that cover the cell, in the order in which the warning names them.
+    covering: u32,
+}
+
+/// Numbers drawn one after another, the same in each run.
+#[derive(Drop)]
+struct Draw {
+    state: u32,
+}
+
+impl Draw {
+    /// A number below that one, which is above 0.
+    fn below(&mut self, end: u32) -> u32 {
+        self.state = self
+            .state
+            .wrapping_mul(1_664_525)
+            .wrapping_add(1_013_904_223);
+        (self.state >> 8).checked_rem(end).unwrap_or(0)
+    }
+
+    fn bsc(&mut self) -> Result<BscId, Fail> {
+        let number = match self.below(3) {
+            0 => 1,
+            1 => 2,
+            _ => 3,
+        };
+        let b = BscId::new(number).ok_or("the number is a BSC's")?;
+        Ok(b)
+    }
+
+    fn cell(&mut self) -> Cell {
+        let place = self.below(6);
+        CELLS
+            .get(place as usize)
+            .copied()
+            .unwrap_or(Cell { lac: 100, ci: 7 })
+    }
+
+    fn selector(&mut self) -> Selector {
+        let cell = self.cell();
+        match self.below(3) {
+            0 => Selector::Lac(cell.lac),
+            _ => Selector::Cell(cell),
+        }
+    }
+
+    fn name(&mut self, alloc: Global) -> Result<Name, AllocError> {
+        area(alloc, self.below(4))
+    }
+
+    fn warning(&mut self) -> WarningId {
+        WarningId::new(self.below(20).saturating_add(1))
+    }
+}
+
+/// The name of the first, second, third or fourth area: one letter.
+fn area(alloc: Global, place: u32) -> Result<Name, AllocError> {
+    let letter = match place {
+        0 => b'A',
+        1 => b'B',
+        2 => b'C',
+        _ => b'D',
+    };
+    Ok(Name::from_vec(Vec::from_slice(alloc, &[letter])?))
+}
+
+/// A content of one page.
+fn content(alloc: Global) -> Result<Content, AllocError> {
+    let mut pages = Vec::new(alloc);
+    pages.push(Octets::from_vec(Vec::from_slice(alloc, b"A")?))?;
+    Ok(Content {
+        dcs: 0x0f,
+        category: Category::HighPriority,
+        period: 10,
+        pages: ContentPages::from_vec(pages),
+    })
+}
+
+/// An Issue in two areas.
+fn issue(alloc: Global, first: Name, second: Name) -> Result<Edit, AllocError> {
+    let mut names = Vec::new(alloc);
+    names.push(first)?;
+    names.push(second)?;
+    let notice = Notice {
+        message_id: 4370,
+        scope: Scope::Cell,
+        content: content(alloc)?,
+    };
+    Ok(Edit::Issue(notice, Names::from_vec(names)))
+}
+
+fn register_edit(draw: &mut Draw) -> Result<Edit, Fail> {
+    let b = draw.bsc()?;
+    let c = draw.cell();
+    Ok(match draw.below(8) {
+        0 => Edit::AddBsc(b),
+        1 => Edit::RemoveBsc(b),
+        2 => Edit::RemoveCell(c),
+        3 => Edit::MoveCell(c, b),
+        4 => Edit::MoveCell(c, b),
+        _ => Edit::AddCell(c, b),
+    })
+}
+
+fn area_edit(alloc: Global, draw: &mut Draw) -> Result<Edit, AllocError> {
+    let name = draw.name(alloc)?;
+    let selector = draw.selector();
+    Ok(match draw.below(9) {
+        0 => Edit::AddArea(name),
+        1 => Edit::DropArea(name),
+        2 => Edit::Cut(name, selector),
+        3 => Edit::Cut(name, selector),
+        4 => Edit::Cut(name, selector),
+        _ => Edit::Put(name, selector),
+    })
+}
+
+fn warning_edit(alloc: Global, draw: &mut Draw) -> Result<Edit, AllocError> {
+    let number = draw.warning();
+    let name = draw.name(alloc)?;
+    match draw.below(10) {
+        0 => Ok(Edit::Stop(number)),
+        1 => Ok(Edit::Forget(number)),
+        2 => Ok(Edit::Update(number, content(alloc)?)),
+        3 => Ok(Edit::Update(number, content(alloc)?)),
+        4 => Ok(Edit::Narrow(number, name)),
+        5 => Ok(Edit::Narrow(number, name)),
+        6 => issue(alloc, name, draw.name(alloc)?),
+        7 => issue(alloc, name, draw.name(alloc)?),
+        _ => Ok(Edit::Widen(number, name)),
+    }
+}
+
+fn next_edit(alloc: Global, draw: &mut Draw) -> Result<Edit, Fail> {
+    match draw.below(3) {
+        0 => register_edit(draw),
+        1 => Ok(area_edit(alloc, draw)?),
+        _ => Ok(warning_edit(alloc, draw)?),
+    }
+}
+
+/// The letters of the warning's areas that cover the cell.
+fn covering(plan: &Plan, c: Cell, w: WarningId) -> u32 {
+    let mut letters: u32 = 0;
+    for name in plan.book().areas_of(w) {
+        if plan.areas().covers(name, c) {
+            let letter = name.as_slice().first().copied().unwrap_or(0);
+            letters = letters.wrapping_mul(256).wrapping_add(u32::from(letter));
+        }
+    }
+    letters
+}
+
+fn read_part(plan: &Plan, c: Cell, w: WarningId) -> Part {
+    Part {
+        cell: c,
+        warning: w,
+        place: plan.register().bsc_of(c),
+        is_there: plan.book().find(w).is_some(),
+        wanted: plan.wanted(c, w),
+        covering: covering(plan, c, w),
+    }
+}
+
+/// The parts of the cell, by warning.
+fn add_parts(plan: &Plan, c: Cell, parts: &mut Vec<Part>) -> Result<(), AllocError> {
+    for number in 1..=WARNINGS {
+        parts.push(read_part(plan, c, WarningId::new(number)))?;
+    }
+    Ok(())
+}
+
+/// All parts of the plan, by cell and by warning.
+fn parts(alloc: Global, plan: &Plan) -> Result<Vec<Part>, AllocError> {
+    let mut parts = Vec::new(alloc);
+    for cell in CELLS {
+        add_parts(plan, cell, &mut parts)?;
+    }
+    Ok(parts)
+}
+
+/// Whether the pair is registered and in the book on either side, and something of it differs.
+fn is_changed(old: &Part, new: &Part) -> bool {
+    (old.place.is_some() || new.place.is_some())
+        && (old.is_there || new.is_there)
+        && (old.place != new.place || old.wanted != new.wanted || old.covering != new.covering)
+}
+
+/// The pairs that differ.
+fn compared(
+    alloc: Global,
+    before: &[Part],
+    after: &[Part],
+) -> Result<Vec<(Cell, WarningId)>, AllocError> {
+    let mut pairs = Vec::new(alloc);
+    for (old, new) in before.iter().zip(after) {
+        if is_changed(old, new) {
+            pairs.push((new.cell, new.warning))?;
+        }
+    }
+    Ok(pairs)
+}
+
+/// Makes the edit. Its pairs are those that differ; a refused one changes nothing. How many pairs it gives, or none
+/// where it is refused.
+fn make(
+    rt: &impl Abort,
+    alloc: Global,
+    plan: &mut Plan,
+    edit: &Edit,
+) -> Result<Option<usize>, AllocError> {
+    let before = parts(alloc, plan)?;
+    let made = plan.edit(edit).ok();
+    let after = parts(alloc, plan)?;
+    let expected = compared(alloc, before.as_slice(), after.as_slice())?;
+    match made {
+        Some(pairs) => {
+            assert!(rt; pairs.as_slice() == expected.as_slice());
+            Ok(Some(expected.len()))
+        }
+        None => {
+            assert!(rt; before.as_slice() == after.as_slice());
+            Ok(None)
+        }
+    }
+}
+
+/// Three BSCs, all cells at the first, and the four areas.
+fn begun(alloc: Global) -> Result<Plan, Fail> {
+    let mut plan = Plan::new(alloc);
+    let first = BscId::new(1).ok_or("the number is a BSC's")?;
+    plan.make(&Edit::AddBsc(first))?;
+    for cell in CELLS {
+        plan.make(&Edit::AddCell(cell, first))?;
+    }
+    for place in 0..4 {
+        plan.make(&Edit::AddArea(area(alloc, place)?))?;
+    }
+    Ok(plan)
+}
+
+#[test]
+fn edit_as_before(rt: HostRuntime) -> Result<(), Fail> {
+    let alloc = rt.alloc();
+    let mut plan = begun(alloc)?;
+    let mut draw = Draw { state: 1 };
+    let mut accepted: u32 = 0;
+    let mut changed: usize = 0;
+    for _ in 0..DRAWN {
+        let edit = next_edit(alloc, &mut draw)?;
+        if let Some(pairs) = make(&rt, alloc, &mut plan, &edit)? {
+            accepted = accepted.saturating_add(1);
+            changed = changed.saturating_add(pairs);
+        }
+        if accepted == EDITS {
+            break;
+        }
+    }
+    assert!(rt; accepted == EDITS);
+    assert!(rt; changed >= 400);
+    assert!(rt; plan.book().issued() <= WARNINGS);
+    Ok(())
+}
