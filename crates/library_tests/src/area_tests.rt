@@ -41,6 +41,7 @@ fn every_call_answers(rt: HostRuntime) -> Result<(), Fail> {
     areas.add_area(&coast)?;
     areas.put(&coast, Selector::Cell(CELL))?;
     assert!(rt; areas.areas_of(CELL)?.same(&list(alloc, &[b"Coast"])?));
+    assert!(rt; areas.selectors_of(&coast) == [Selector::Cell(CELL)].as_slice());
     areas.check_put(&coast, Selector::Lac(100))?;
     areas.check_cut(&coast, Selector::Cell(CELL))?;
     areas.cut(&coast, Selector::Cell(CELL))?;

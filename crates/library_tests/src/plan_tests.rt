@@ -3,10 +3,11 @@
 use areas::Selector;
 use cell_register::BscId;
 use common::{Cell, Name, Names, Octets};
-use coverage_plan::{Edit, Limit, Plan, PlanItem, Refusal};
+use coverage_plan::{Edit, Limit, Plan, PlanItem, Refusal, covered_cells};
 use serials::{Scope, Serial};
 use std::alloc::{AllocError, Global};
 use std::process::Abort;
+use std::slice;
 use std::test::Fail;
 use warning_book::{Category, Content, ContentPages, Notice, WarningId};
 
@@ -179,8 +180,22 @@ fn parts_are_lent(rt: &impl Abort, plan: &Plan, area: &Name, b: BscId) {
     assert!(rt; plan.wanted(SEVEN, WarningId::new(2)).is_none());
 }
 
+/// The area covers these registered cells.
+fn covers(
+    rt: &impl Abort,
+    alloc: Global,
+    plan: &Plan,
+    area: &Name,
+    cells: &[Cell],
+) -> Result<(), Fail> {
+    let found = covered_cells(alloc, plan.register(), plan.areas(), slice::from_ref(area))?;
+    assert!(rt; found.as_slice() == cells);
+    Ok(())
+}
+
 fn calls_answer(rt: &impl Abort, alloc: Global, plan: &mut Plan) -> Result<(), Fail> {
     let area = name(alloc, b"B")?;
+    covers(rt, alloc, plan, &area, &[SEVEN])?;
     parts_are_lent(rt, plan, &area, bsc(1)?);
     is_planned(rt, plan, &[SEVEN, EIGHT], FIRST_SERIAL)?;
     a_copy_is_issued(rt, alloc, plan)
