@@ -5,7 +5,7 @@ use areas::Selector;
 use cell_register::BscId;
 use common::{Cell, Name, Names, Octets};
 use coverage_plan::{Edit, Plan};
-use serials::{Scope, Serial};
+use serials::Scope;
 use std::alloc::{AllocError, Global};
 use std::process::Abort;
 use std::test::Fail;
@@ -34,9 +34,11 @@ const CELLS: [Cell; 6] = [
 struct Part {
     cell: Cell,
     warning: WarningId,
-    place: Option<BscId>,
+    /// The number of the cell's BSC; 0 where it has none.
+    place: u16,
     is_there: bool,
-    wanted: Option<Serial>,
+    /// The wanted serial number; 65,536 where none is wanted.
+    wanted: u32,
     /// The letters of the warning's areas that cover the cell, in the order in which the warning names them.
     covering: u32,
 }
@@ -190,13 +192,27 @@ fn covering(plan: &Plan, c: Cell, w: WarningId) -> u32 {
     letters
 }
 
+fn place(plan: &Plan, c: Cell) -> u16 {
+    match plan.register().bsc_of(c) {
+        Some(b) => b.number(),
+        None => 0,
+    }
+}
+
+fn wanted(plan: &Plan, c: Cell, w: WarningId) -> u32 {
+    match plan.wanted(c, w) {
+        Some(serial) => u32::from(serial.to_u16()),
+        None => 65_536,
+    }
+}
+
 fn read_part(plan: &Plan, c: Cell, w: WarningId) -> Part {
     Part {
         cell: c,
         warning: w,
-        place: plan.register().bsc_of(c),
+        place: place(plan, c),
         is_there: plan.book().find(w).is_some(),
-        wanted: plan.wanted(c, w),
+        wanted: wanted(plan, c, w),
         covering: covering(plan, c, w),
     }
 }
@@ -220,7 +236,7 @@ fn parts(alloc: Global, plan: &Plan) -> Result<Vec<Part>, AllocError> {
 
 /// Whether the pair is registered and in the book on either side, and something of it differs.
 fn is_changed(old: &Part, new: &Part) -> bool {
-    (old.place.is_some() || new.place.is_some())
+    (old.place != 0 || new.place != 0)
         && (old.is_there || new.is_there)
         && (old.place != new.place || old.wanted != new.wanted || old.covering != new.covering)
 }

@@ -1,5 +1,7 @@
 //! Each limit of the centre, reached and then passed once, as lines of the console.
 
+ghost use Rattle.std.specs.Prelude.{◌≤◌};
+
 use anyhow::{Result, ensure};
 use console::replay;
 use framing::{FromRead, FromWrite};
@@ -9,7 +11,7 @@ use std::alloc::{AllocError, Global};
 const PLMN: [u8; 3] = [0x00, 0xf1, 0x10];
 
 /// How many entries a journal takes where it is not the journal that is filled.
-const ENTRIES: u64 = 4_000_000;
+const ENTRIES: u32 = 4_000_000;
 
 /// An area, and a warning that names it.
 const AREA: &str = "area add One\n";
@@ -20,7 +22,9 @@ const WARNING: &str = "issue 4370 3 15 0 30 d4f29c0e One\n";
 const QUESTIONS: &str = "board 1\ntable 1\npending 1\narea drop One\nbsc remove 1\nup 1\n";
 
 /// What the script writes.
-fn answers(alloc: Global, script: &str, entries: u64) -> Result<Vec<u8>> {
+fn answers(alloc: Global, script: &str, entries: u32) -> Result<Vec<u8>>
+    requires { entries ≤ 4000000 }
+{
     let mut reader = FromRead::new(script.as_bytes());
     let mut writer = FromWrite::new(Vec::new(alloc));
     replay(alloc, &mut reader, &mut writer, PLMN, entries)?;
@@ -28,13 +32,9 @@ fn answers(alloc: Global, script: &str, entries: u64) -> Result<Vec<u8>> {
 }
 
 /// Whether the line is refused so after the script, and everything that is asked then is answered as without it.
-fn is_refused(
-    alloc: Global,
-    script: &str,
-    line: &str,
-    refusal: &str,
-    entries: u64,
-) -> Result<bool> {
+fn is_refused(alloc: Global, script: &str, line: &str, refusal: &str, entries: u32) -> Result<bool>
+    requires { entries ≤ 4000000 }
+{
     let mut refused = String::from_str(alloc, script)?;
     refused.push_str(line)?;
     refused.push_str(QUESTIONS)?;
