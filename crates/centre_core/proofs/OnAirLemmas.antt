@@ -1,6 +1,6 @@
 -- The cells that are asked are found in the tables, and no more lines are read for that than there are cells known at the
 -- BSC.
-use Rattle.std.proofs.Common.{◌≡◌, ℕ, ◌+◌, ◌≤◌, Bool, true, false, ◌&&◌, ◌||◌, List, [], ◌∷◌, Option, Some, None, Result, Ok, Err, filter, length, take, refl, sym, ◌∙◌, ap, subst, arith}
+use Rattle.std.proofs.Common.{◌≡◌, ℕ, ◌+◌, ◌≤◌, Bool, true, false, ◌&&◌, ◌||◌, List, [], ◌∷◌, Option, Some, Ok, Err, filter, length, take, refl, sym, ◌∙◌, ap, subst, arith}
 use Rattle.std.specs.Prelude.{IsOk}
 use Rattle.std.specs.List.{list_any}
 use Rattle.std.proofs.lemmas.Bool.{and_parts, and_from, or_right}
@@ -9,16 +9,13 @@ use Rattle.cbsp_messages.specs.declared.message.Message.{Message}
 use Rattle.cell_register.specs.CellLaws.{cell_lt_follows}
 use Rattle.cell_register.specs.Register.{State, place_in, is_place}
 use Rattle.common.specs.Cell.{cell_eq, cell_lt}
-use Rattle.common.specs.Order.{is_ascending}
 use Rattle.common.specs.OnceLaws.{once_filter}
-use Rattle.common.specs.Sorting.{sorted_by}
 use Rattle.common.specs.SortingLaws.{any_sorted, sorted_ascends}
 use Rattle.common.specs.declared.cell.Cell.{Cell}
 use Rattle.kept_tables.specs.Consistent.{Consistent}
 use Rattle.kept_tables.specs.Tables.{Tables}
 use Rattle.kept_tables.specs.View.{key_of}
 use Rattle.mirror.specs.Blank.{is_blank}
-use Rattle.mirror.specs.Known as kept
 use Rattle.mirror.specs.Line.{state_of}
 use Rattle.mirror.specs.OnAir.{AreOnAir, is_after, is_on_air_at, line_count}
 use Rattle.mirror.specs.Seen.{is_absent, is_on_air}
@@ -45,9 +42,7 @@ use Rattle.centre_core.specs.Reach.{spot, known_at}
 use Rattle.centre_core.specs.Reaching.{TellsLines}
 use Rattle.centre_core.specs.Settings.{Settings}
 use Rattle.centre_core.specs.Warnings.{book_of}
-use Rattle.centre_core.specs.declared.answer.Answer.{Answer}
 use Rattle.centre_core.specs.declared.answer.Answer.TheVariants.{Asked}
-use Rattle.centre_core.specs.declared.refusal.Refusal.{Refusal}
 use Rattle.centre_core.specs.declared.refusal.Refusal.TheVariants.{NothingToAsk}
 use Rattle.centre_core.proofs.CountLemmas.{both_or_it}
 use Rattle.centre_core.proofs.ListedLemmas.{apart, filtered}

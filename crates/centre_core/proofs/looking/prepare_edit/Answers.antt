@@ -1,7 +1,5 @@
-use Rattle.std.proofs.Common.{◌≡◌, Err, refl}
-use Rattle.std.specs.Prelude.{IsOk}
+use Rattle.std.proofs.Common.{refl}
 use Rattle.centre_core.specs.Past.{past_of}
-use Rattle.centre_core.specs.Verdict.{verdict}
 use Rattle.centre_core.specs.declared.event.Event.TheVariants as event
 use Rattle.centre_core.proofs.CentreLemmas.{reached_within, refused_as, starved, starved_as}
 use Rattle.centre_core.proofs.UniqueLemmas.{verdict_answered}

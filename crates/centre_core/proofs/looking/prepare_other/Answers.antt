@@ -1,6 +1,5 @@
-use Rattle.std.proofs.Common.{◌≡◌, ◌≤◌, ◌+◌, Ok, refl}
+use Rattle.std.proofs.Common.{◌≡◌, Ok, refl}
 use Rattle.centre_core.specs.Past.{past_of}
-use Rattle.centre_core.specs.Reach.{looked_at}
 use Rattle.centre_core.specs.Settings.{Settings}
 use Rattle.centre_core.specs.Verdict.{verdict}
 use Rattle.centre_core.proofs.CentreLemmas.{other_within}
