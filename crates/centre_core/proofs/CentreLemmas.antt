@@ -127,11 +127,7 @@ centre_reads settings journal stale s t sound reads = record {
   whole = λ h. reads_kept (past_of journal) s t (sound.whole h) reads;
 }
 
--- What is found before an edit is made, over the entries of the journal.
-
--- what is said over the entries that were lent is said over those of the journal
-pub over_entries : (P : List Entry → Type 0) (settings : Settings) (xs ys : List Entry) (s : Kept) → ys ≡ xs → (IsCentre settings ys false s → P ys) → IsCentre settings xs false s → P xs
-over_entries P settings xs ys s same h = subst (λ zs. IsCentre settings zs false s → P zs) same h
+-- What is found before an edit is made.
 
 -- what the verdict refuses is refused
 pub refused_as : {A : Type 0} (settings : Settings) (journal : List Entry) (e : Event) (r : Result A Refusal) (x : Refusal) → IsErrAnd r (λ y. y ≡ x) → verdict settings (past_of journal) e ≡ Err x → IfErr r (IsRefused settings journal e)

@@ -10,7 +10,6 @@ pub mod OutsideWarningLemmas
 pub mod OutsideLemmas
 pub mod NamingLemmas
 pub mod ListedLemmas
-pub mod OrderLemmas
 pub mod CarriedLemmas
 pub mod FitsLemmas
 pub mod AnyLemmas
@@ -68,4 +67,5 @@ pub mod QuestionLemmas
 pub mod BoardLemmas
 pub mod TableLemmas
 pub mod EmptyLemmas
+pub mod JournalLemmas
 pub mod RebuildLemmas

@@ -1,9 +1,11 @@
 -- What is kept is made anew, entry by entry.
-use Rattle.std.specs.Prelude.{OnOk}
+use Rattle.std.specs.Prelude.{OnOk, Some, None, slice_get, ◌==◌, if◌then◌else◌}
 use Rattle.kept_tables.specs.declared.spot.Spot.{Spot}
 use Rattle.coverage_plan.specs.declared.edit.Edit.{Edit}
-use Rattle.std.proofs.Common.{◌≡◌, ℕ, suc, zero, Bool, false, ◌+◌, ◌<◌, List, [], ◌∷◌, ◌++◌, Result, Ok, Err, refl, sym, ◌∙◌, ap, subst, length, get_or, take, drop, reverse, arith}
+use Rattle.std.proofs.Common.{◌≡◌, ℕ, suc, zero, Bool, false, ◌+◌, ◌-◌, ◌<◌, ◌≤◌, List, [], ◌∷◌, ◌++◌, Result, Ok, Err, refl, sym, ◌∙◌, ap, subst, length, get_or, take, drop, reverse, arith}
+use Rattle.std.proofs.lemmas.Bool.{ne_eqb}
 use Rattle.std.proofs.lemmas.List.{reverse-append}
+use Rattle.std.proofs.lemmas.Option.{get_or_from_slice_get}
 use Rattle.centre_core.specs.Base.{empty_base}
 use Rattle.centre_core.specs.Flights.{up_before}
 use Rattle.centre_core.specs.Following.{Finishes, Follows, IsLegal, WasReached}
@@ -106,26 +108,50 @@ edit_followed r s t new e edit place spots held o is reads made reached g = fini
 pub other_followed : {E : Type 0} (r s new : Kept) (e : Entry) (place : ℕ) (up : Bool) (spots : List Spot) (held : List Held) (o : Result Unit E) → is_edit e.event ≡ false → OnlyReadsIn r s → ((past : Past) → AreLinksOf past r.links.items → up ≡ up_before past e.event) → ((settings : Settings) (past : Past) → Legal settings past → IsKept past r → answered settings.network past e.event ≡ Ok e.answer → WasReached past e.event e.answer spots held) → OnOk o ((y : Finishes s e.event e.answer place up spots held) → IsKept (After (record { desk = y.desk; event = e.event; answer = e.answer }) y.past) new) → OnOk o ((x : Follows r e place) → IsKept (After e x.past) new)
 other_followed r s new e place up spots held o other reads up_is reached g = finished r s new e place up spots held o (λ x. other_finished r s e place up spots held x other reads (up_is x.past x.kept.linked) reached) g
 
--- The walk over the journal.
+-- The walk over the journal, by the numbers of its entries, from 1.
 
-pub follows_here : (journal : List Entry) (x : IsLegal journal) (i : ℕ) (e : Entry) (s : Kept) (place : ℕ) → i < length journal → e ≡ get_or journal i e → place ≡ i → IsKept (past_of (take i journal)) s → Follows s e (place + 1)
-follows_here journal x i e s place h is at kept = subst (λ d. Follows s d (place + 1)) (sym is) (follows_at journal x i e s (place + 1) h (ap (λ n. n + 1) at) kept)
+-- the entry of a number
+numbered : (journal : List Entry) (place : ℕ) → 1 ≤ place → (if place == 0 then None else slice_get journal (place - 1)) ≡ slice_get journal (place - 1)
+numbered journal place h = ap (λ (b : Bool). if b then None else slice_get journal (place - 1)) (ne_eqb place 0 (λ e. omega (arith, h, e)))
+
+something_at : {A : Type 0} (journal : List Entry) (i : ℕ) → i < length journal → None ≡ slice_get journal i → A
+something_at [] i h is = absurd (omega (arith, h))
+something_at (x ∷ xs) zero h is = absurd (let clash : None ≡ Some x = is in cc)
+something_at (x ∷ xs) (suc i) h is = something_at xs i (omega (arith, h)) is
+
+read_at : (journal : List Entry) (place : ℕ) (e : Entry) → 1 ≤ place → Some e ≡ (if place == 0 then None else slice_get journal (place - 1)) → get_or journal (place - 1) e ≡ e
+read_at journal place e first is = get_or_from_slice_get journal (place - 1) e e (sym (is ∙ numbered journal place first))
+
+-- something is read at each of them
+pub something_read : {A : Type 0} (journal : List Entry) (place : ℕ) → 1 ≤ place → place ≤ length journal → None ≡ (if place == 0 then None else slice_get journal (place - 1)) → A
+something_read journal place first last is = something_at journal (place - 1) (omega (arith, first, last)) (is ∙ numbered journal place first)
 
 record Here (s : Kept) (e : Entry) (past : Past) (place : ℕ) : Type 0 where
   follows : Follows s e place
   is_past : follows.past ≡ past
 
-here : (journal : List Entry) (x : IsLegal journal) (i : ℕ) (e : Entry) (s : Kept) (place : ℕ) → i < length journal → e ≡ get_or journal i e → place ≡ i → IsKept (past_of (take i journal)) s → Here s e (past_of (take i journal)) (place + 1)
-here journal x i e s place h is at kept = subst (λ d. Here s d (past_of (take i journal)) (place + 1)) (sym is) (record {
-  follows = follows_at journal x i e s (place + 1) h (ap (λ n. n + 1) at) kept;
-  is_past = refl;
-})
+here : (journal : List Entry) (x : IsLegal journal) (place : ℕ) (e : Entry) (s : Kept) → 1 ≤ place → place ≤ length journal → Some e ≡ (if place == 0 then None else slice_get journal (place - 1)) → IsKept (past_of (take (place - 1) journal)) s → Here s e (past_of (take (place - 1) journal)) place
+here journal x place e s first last is kept =
+    let next : place ≡ place - 1 + 1 = omega (arith, first) in
+    subst (λ d. Here s d (past_of (take (place - 1) journal)) place) (read_at journal place e first is) (record {
+      follows = follows_at journal x (place - 1) e s place (omega (arith, first, last)) next kept;
+      is_past = refl;
+    })
 
-pub kept_more : (journal : List Entry) (x : IsLegal journal) (i : ℕ) (e : Entry) (s new : Kept) (place : ℕ) → i < length journal → e ≡ get_or journal i e → place ≡ i → IsKept (past_of (take i journal)) s → ((y : Follows s e (place + 1)) → IsKept (After e y.past) new) → IsKept (past_of (take (i + 1) journal)) new
-kept_more journal x i e s new place h is at kept f =
-    kept_at journal i e new h
-    (subst (λ d. IsKept (After d (past_of (take i journal))) new) is
-    (subst (λ past. IsKept (After e past) new) (here journal x i e s place h is at kept).is_past (f (here journal x i e s place h is at kept).follows)))
+pub follows_here : (journal : List Entry) (x : IsLegal journal) (place : ℕ) (e : Entry) (s : Kept) → 1 ≤ place → place ≤ length journal → Some e ≡ (if place == 0 then None else slice_get journal (place - 1)) → IsKept (past_of (take (place - 1) journal)) s → Follows s e place
+follows_here journal x place e s first last is kept = (here journal x place e s first last is kept).follows
 
-pub legal_journal : (settings : Settings) (xs ys : List Entry) → ys ≡ xs → Legal settings (past_of xs) → IsLegal ys
-legal_journal settings xs ys same legal = record { settings = settings; legal = subst (λ zs. Legal settings (past_of zs)) (sym same) legal }
+pub kept_more : {E : Type 0} (journal : List Entry) (x : IsLegal journal) (place : ℕ) (e : Entry) (s new : Kept) (o : Result Unit E) → 1 ≤ place → place ≤ length journal → Some e ≡ (if place == 0 then None else slice_get journal (place - 1)) → IsKept (past_of (take (place - 1) journal)) s → OnOk o ((y : Follows s e place) → IsKept (After e y.past) new) → OnOk o (IsKept (past_of (take place journal)) new)
+kept_more journal x place e s new (Ok u) first last is kept f =
+    let next : place - 1 + 1 ≡ place = omega (arith, first) in
+    subst (λ n. IsKept (past_of (take n journal)) new) next
+    (kept_at journal (place - 1) e new (omega (arith, first, last))
+    (subst (λ d. IsKept (After d (past_of (take (place - 1) journal))) new) (sym (read_at journal place e first is))
+    (subst (λ past. IsKept (After e past) new) (here journal x place e s first last is kept).is_past (f (here journal x place e s first last is kept).follows))))
+kept_more journal x place e s new (Err u) first last is kept f = tt
+
+-- what was kept of the entries before one
+pub kept_before : (xs ys : List Entry) (done : ℕ) (s : Kept) → ys ≡ xs → IsKept (past_of (take done xs)) s → IsKept (past_of (take (done + 1 - 1) ys)) s
+kept_before xs ys done s same kept =
+    let back : done + 1 - 1 ≡ done = omega arith in
+    subst (λ n. IsKept (past_of (take n ys)) s) (sym back) (subst (λ zs. IsKept (past_of (take done zs)) s) (sym same) kept)

@@ -20,10 +20,12 @@ pub record Known : Type 0 where
   pub journal : List Entry
   pub stale : Bool
 
--- what contracts see of a centre: what is known of it, and how often its lines were read or set
+-- what contracts see of a centre: what is known of it, how often its lines were read or set, and how often entries of its
+-- journal were read
 pub record CentreState : Type 0 where
   pub known : Known
   pub lines : ℕ
+  pub entries : ℕ
 
 -- a centre of the network without entries
 abbrev pub new_centre : List ℕ → ℕ → Known

@@ -3,6 +3,7 @@ pub mod Replies
 pub mod Equality
 pub mod Base
 pub mod Past
+pub mod Journal
 pub mod Settings
 pub mod Places
 pub mod Cover

@@ -7,6 +7,7 @@ use crate::event::Event;
 use crate::events::tell_known;
 use crate::flights::flight_in;
 use crate::in_flight::InFlight;
+use crate::journal::Journal;
 use crate::kept::Kept;
 use crate::looking::{prepare_edit, prepare_other};
 use crate::meter::Meter;
@@ -25,7 +26,8 @@ use std::marker::Model;
 use warning_book::WarningId;
 
 /// A cell broadcast centre. Contracts see its settings, which are its network and the greatest number of entries of its
-/// journal, its journal, the oldest entry first, whether it is stale, and how often its lines were read or set.
+/// journal, its journal, the oldest entry first, whether it is stale, how often its lines were read or set, and how often
+/// entries of its journal were read.
 ///
 /// A centre is stale after want of memory while an event was entered: its journal is as it was, and what is kept beside it
 /// is of no use until `rebuild` made it anew. While it is stale, every call but `position`, `entry`, `is_stale`, `meter`
@@ -35,7 +37,7 @@ pub struct Centre {
     alloc: Global,
     plmn: [u8; 3],
     limit: u32,
-    journal: Vec<Entry>,
+    journal: Journal,
     stale: bool,
     kept: Kept,
 }
@@ -46,9 +48,9 @@ impl Model for Centre {
 
     ghost Value = { CentreState };
 
-    ghost view = { λ c. record { known = record { settings = record { network = c.plmn; limit = c.limit }; journal = c.journal.items; stale = c.stale }; lines = c.kept.tables.lines.meter } };
+    ghost view = { λ c. record { known = record { settings = record { network = c.plmn; limit = c.limit }; journal = c.journal.entries; stale = c.stale }; lines = c.kept.tables.lines.meter; entries = c.journal.reads } };
 
-    ghost invariant = { λ c. IsCentre (record { network = c.plmn; limit = c.limit }) c.journal.items c.stale c.kept };
+    ghost invariant = { λ c. IsCentre (record { network = c.plmn; limit = c.limit }) c.journal.entries c.stale c.kept };
 }
 
 impl Centre {
@@ -56,10 +58,12 @@ impl Centre {
     ghost use Rattle.std.specs.Borrow.{sem, follows_so};
     ghost use Rattle.std.specs.Option.{option_copied};
     ghost use mathlib.Core.Option.{none};
+    ghost use Rattle.mirror.specs.Table.{counted};
     ghost use Rattle.centre_core.specs.Centre.{Leaves, Refuses};
     ghost use Rattle.centre_core.specs.contracts.centre.Centre.{the_row};
     ghost use Rattle.centre_core.specs.Fits.{AnswerFits, IsCarried};
     ghost use Rattle.centre_core.specs.InFlight.{in_flight};
+    ghost use Rattle.centre_core.specs.Journal.{counted_by};
     ghost use Rattle.centre_core.specs.Kept.{is_edit};
     ghost use Rattle.centre_core.specs.Legal.{Legal, new_centre, past};
     ghost use Rattle.centre_core.specs.Links.{is_bsc};
@@ -74,13 +78,13 @@ impl Centre {
     /// A centre of the network, without entries, whose journal holds so many at most.
     pub fn new(alloc: Global, plmn: [u8; 3], journal_limit: u32) -> Centre
         requires { journal_limit ≤ 4000000 }
-        ensures { result ≡ record { known = new_centre plmn journal_limit; lines = 0 } }
+        ensures { result ≡ record { known = new_centre plmn journal_limit; lines = 0; entries = 0 } }
     {
         Centre {
             alloc,
             plmn,
             limit: journal_limit,
-            journal: Vec::new(alloc),
+            journal: Journal::new(alloc),
             stale: false,
             kept: Kept::new(alloc),
         }
@@ -95,6 +99,7 @@ impl Centre {
         ensures refusal { IfErr result (Refuses self.old.known (event.Edit edit)) }
         ensures left { IfErr result (λ r. Leaves self.old.known r self.new.known) }
         ensures lines { self.new.lines ≤ self.old.lines + 4 * reach (past self.old.known) (event.Edit edit) (verdict self.old.known.settings (past self.old.known) (event.Edit edit)) }
+        ensures entries { self.new.entries ≡ self.old.entries }
     {
         let reached = prepare_edit(
             self.alloc,
@@ -106,7 +111,7 @@ impl Centre {
         let answer = make(&mut self.kept, &edit)?;
         self.stale = true;
         let (entry, answer) = with_entry(self.alloc, desk, Event::Edit(edit), answer)?;
-        let place = self.journal.len() as u64 + 1;
+        let place = self.journal.len() + 1;
         enter(
             self.alloc,
             &mut self.journal,
@@ -130,6 +135,7 @@ impl Centre {
         ensures refusal { IfErr result (Refuses self.old.known event) }
         ensures left { IfErr result (λ r. Leaves self.old.known r self.new.known) }
         ensures lines { self.new.lines ≤ self.old.lines + 4 * reach (past self.old.known) event (verdict self.old.known.settings (past self.old.known) event) }
+        ensures entries { self.new.entries ≡ self.old.entries }
     {
         let found = prepare_other(
             self.alloc,
@@ -141,7 +147,7 @@ impl Centre {
         )?;
         let (entry, given) = with_entry(self.alloc, desk, event, found.answer)?;
         let up = up_before(self.kept.links.as_slice(), &entry.event);
-        let place = self.journal.len() as u64 + 1;
+        let place = self.journal.len() + 1;
         self.stale = true;
         enter(
             self.alloc,
@@ -171,6 +177,7 @@ impl Centre {
         ensures fits { IfOk result AnswerFits }
         ensures carried { IfOk result IsCarried }
         ensures lines { self.new.lines ≤ self.old.lines + 4 * reach (past self.old.known) event (verdict self.old.known.settings (past self.old.known) event) }
+        ensures entries { self.new.entries ≡ self.old.entries }
     {
         self.tell_soundness();
         if self.stale {
@@ -189,24 +196,29 @@ impl Centre {
         self.stale
     }
 
-    /// Makes what is kept beside the journal anew from its entries, which makes a stale centre whole. Where memory is
-    /// wanting the centre is as it was.
+    /// Makes what is kept beside the journal anew from its entries, each of which is read once, which makes a stale centre
+    /// whole. Where memory is wanting the centre is as it was, but for the entries that were read.
     pub fn rebuild(&mut self) -> Result<(), AllocError>
         ensures rebuilt { OnOk result (self.new.known ≡ record self.old.known { stale = false }) }
-        ensures unchanged { OnErr result (self.new ≡ self.old) }
+        ensures unchanged { OnErr result (self.new ≡ record self.old { entries = self.new.entries }) }
+        ensures entries { OnOk result (self.new.entries ≡ counted_by (length self.old.known.journal) self.old.entries) }
+        ensures most { OnErr result (self.new.entries ≤ counted_by (length self.old.known.journal) self.old.entries) }
     {
-        let kept = kept_of(self.alloc, self.journal.as_slice())?;
+        let kept = kept_of(self.alloc, &mut self.journal)?;
         self.kept = kept;
         self.stale = false;
         Ok(())
     }
 
-    /// How often lines were read or set since the centre was made or rebuilt, up to the greatest value, which stays.
+    /// How often lines were read or set since the centre was made or rebuilt, and how often entries were read since it was
+    /// made, each up to the greatest value, which stays.
     pub fn meter(&self) -> Meter
-        ensures { result.lines ≡ self.now.lines }
+        ensures lines { result.lines ≡ self.now.lines }
+        ensures entries { result.entries ≡ self.now.entries }
     {
         Meter {
             lines: self.kept.tables.meter(),
+            entries: self.journal.reads(),
         }
     }
 
@@ -259,6 +271,7 @@ impl Centre {
         ensures whole { OnOk result (self.old.known.stale ≡ false) }
         ensures refusal { IfErr result (λ r. ((r ≡ Refusal.Stale) × (self.old.known.stale ≡ true)) ⊎ ((self.old.known.stale ≡ false) × (((r ≡ Refusal.Memory) × (is_bsc (past self.old.known) b ≡ true)) ⊎ ((r ≡ Refusal.NoSuchBsc) × (is_bsc (past self.old.known) b ≡ false))))) }
         ensures unchanged { self.new.known ≡ self.old.known }
+        ensures entries { self.new.entries ≡ self.old.entries }
     {
         if self.stale {
             return Err(Refusal::Stale);
@@ -314,24 +327,15 @@ impl Centre {
     pub fn position(&self) -> u64
         ensures { result ≡ length self.now.known.journal }
     {
-        self.journal.len() as u64
+        self.journal.len()
     }
 
-    fn nth(&self, n: u64) -> Option<&Entry>
-        ensures { option_copied result ≡ (if n == 0 then None else slice_get self.now.known.journal (n - 1)) }
-    {
-        if n == 0 || n > self.journal.len() as u64 {
-            return None;
-        }
-        self.journal.as_slice().get(n as usize - 1)
-    }
-
-    /// The entry of that number, from 1; `None` past the last.
+    /// The entry of that number, from 1; `None` past the last. Each call is counted.
     pub fn entry(&mut self, n: u64) -> Option<&Entry>
-        ensures* after { sem 𝓛 (follows_so the_row the_row self.entry.ghost_name none (λ _ _. ⊤) (λ c. c ≡ self.old)) }
+        ensures* after { sem 𝓛 (follows_so the_row the_row self.entry.ghost_name none (λ _ _. ⊤) (λ c. c ≡ record self.old { entries = counted self.old.entries })) }
         ensures value { option_copied result ≡ (if n == 0 then None else slice_get self.old.known.journal (n - 1)) }
     {
-        self.nth(n)
+        self.journal.read(n)
     }
 
     /// Tells what always holds of a centre.

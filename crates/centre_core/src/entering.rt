@@ -1,7 +1,6 @@
 //! How an accepted event is entered: what is kept follows it, and its entry becomes the last of the journal.
 
-ghost use Rattle.std.specs.Prelude.{◌≡◌, ◌<◌, ◌≤◌, ◌+◌, ◌++◌, ◌∷◌, [], length, true, IfOk, IsOk, OnOk, OnErr};
-ghost use Rattle.std.specs.Vec.{vec_len, vec_capacity};
+ghost use Rattle.std.specs.Prelude.{◌≡◌, ◌≤◌, ◌+◌, ◌++◌, ◌∷◌, [], length, true, IfOk, IsOk, OnOk, OnErr};
 ghost use Rattle.centre_core.specs.Flights.{up_before};
 ghost use Rattle.centre_core.specs.Following.{Finishes};
 ghost use Rattle.centre_core.specs.IsKept.{IsKept};
@@ -16,6 +15,7 @@ use crate::entry::Entry;
 use crate::event::Event;
 use crate::events::{Verdict, make_edit};
 use crate::finishing::finish;
+use crate::journal::Journal;
 use crate::kept::Kept;
 use crate::link::Link;
 use crate::links::is_up;
@@ -73,21 +73,22 @@ pub(crate) fn up_before(links: &[Link], event: &Event) -> bool
 /// been made. At an `Err` memory was wanting, and what is kept is of no use any more.
 pub(crate) fn enter(
     alloc: Global,
-    journal: &mut Vec<Entry>,
+    journal: &mut Journal,
     kept: &mut Kept,
     place: u64,
     up: bool,
     reached: Reached,
     entry: Entry,
 ) -> Result<(), AllocError>
-    requires room { vec_len journal.old < vec_capacity journal.old }
+    requires room { 1 ≤ journal.old.room }
     requires finishes { Finishes kept.old entry.event entry.answer place up reached.spots.items reached.held.items }
-    ensures entry { OnOk result (journal.new.items ≡ journal.old.items ++ entry ∷ []) }
-    ensures entries_stay { OnErr result (journal.new.items ≡ journal.old.items) }
+    ensures entry { OnOk result (journal.new.entries ≡ journal.old.entries ++ entry ∷ []) }
+    ensures entries_stay { OnErr result (journal.new.entries ≡ journal.old.entries) }
+    ensures unread { journal.new.reads ≡ journal.old.reads }
     ensures kept { OnOk result ((x : Finishes kept.old entry.event entry.answer place up reached.spots.items reached.held.items) → IsKept (After (record { desk = x.desk; event = entry.event; answer = entry.answer }) x.past) kept.new) }
     ensures meter { kept.new.tables.lines.meter ≤ kept.old.tables.lines.meter + length reached.held.items }
 {
     finish(alloc, kept, &entry.event, &entry.answer, place, up, reached)?;
-    journal.push(entry)?;
+    journal.push(entry);
     Ok(())
 }

@@ -26,6 +26,7 @@ pub mod headline;
 mod held;
 mod hold_lemmas;
 pub mod in_flight;
+mod journal;
 mod kept;
 pub mod laws;
 mod lemmas;

@@ -1,8 +1,10 @@
 //! How what is kept beside the journal is made anew from its entries.
 
-ghost use Rattle.std.specs.Prelude.{◌≡◌, false, IfOk, OnOk};
+ghost use Rattle.std.specs.Prelude.{◌≡◌, ◌≤◌, ◌-◌, length, take, false, IfOk, OnOk, OnErr};
+ghost use Rattle.mirror.specs.Table.{counted};
 ghost use Rattle.centre_core.specs.Following.{Follows, IsLegal};
 ghost use Rattle.centre_core.specs.IsKept.{IsKept};
+ghost use Rattle.centre_core.specs.Journal.{counted_by};
 ghost use Rattle.centre_core.specs.Kept.{is_edit};
 ghost use Rattle.centre_core.specs.Past.{After, past_of};
 ghost use Rattle.centre_core.specs.declared.event.Event.TheVariants as event;
@@ -12,6 +14,7 @@ use crate::entry::Entry;
 use crate::event::Event;
 use crate::events::tell_reads;
 use crate::finishing::finish;
+use crate::journal::Journal;
 use crate::kept::Kept;
 use crate::reached::{reached_by_edit, reached_by_other};
 use coverage_plan::Edit;
@@ -66,16 +69,37 @@ fn follow(alloc: Global, kept: &mut Kept, entry: &Entry, place: u64) -> Result<(
     }
 }
 
-/// What the entries of a legal journal come to.
-pub(crate) fn kept_of(alloc: Global, journal: &[Entry]) -> Result<Kept, AllocError>
-    requires { IsLegal journal.now }
-    ensures { IfOk result (IsKept (past_of journal.now)) }
+/// Reads the entry of that number of a legal journal, and follows it from what the entries before it come to.
+fn follow_next(
+    alloc: Global,
+    kept: &mut Kept,
+    journal: &mut Journal,
+    place: u64,
+) -> Result<(), AllocError>
+    requires first { 1 ≤ place }
+    requires last { place ≤ length journal.old.entries }
+    requires legal { IsLegal journal.old.entries }
+    requires kept { IsKept (past_of (take (place - 1) journal.old.entries)) kept.old }
+    ensures kept { OnOk result (IsKept (past_of (take place journal.old.entries)) kept.new) }
+    ensures read { journal.new ≡ record journal.old { reads = counted journal.old.reads } }
+{
+    match journal.read(place) {
+        Some(entry) => follow(alloc, kept, entry, place),
+        None => Ok(()),
+    }
+}
+
+/// What the entries of a legal journal come to. Each is read once, or at most once where memory is wanting.
+pub(crate) fn kept_of(alloc: Global, journal: &mut Journal) -> Result<Kept, AllocError>
+    requires { IsLegal journal.old.entries }
+    ensures kept { IfOk result (IsKept (past_of journal.old.entries)) }
+    ensures entries { journal.new.entries ≡ journal.old.entries }
+    ensures reads { OnOk result (journal.new.reads ≡ counted_by (length journal.old.entries) journal.old.reads) }
+    ensures most { OnErr result (journal.new.reads ≤ counted_by (length journal.old.entries) journal.old.reads) }
 {
     let mut kept = Kept::new(alloc);
-    let mut place: u64 = 0;
-    for entry in journal {
-        place += 1;
-        follow(alloc, &mut kept, entry, place)?;
+    for done in 0..journal.len() {
+        follow_next(alloc, &mut kept, journal, done + 1)?;
     }
     Ok(kept)
 }

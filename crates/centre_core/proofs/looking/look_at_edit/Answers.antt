@@ -5,15 +5,15 @@ use Rattle.centre_core.specs.Settings.{Settings}
 use Rattle.centre_core.specs.declared.event.Event.TheVariants as event
 use Rattle.centre_core.proofs.looking.look_at_edit.Goals as goal
 
-pub returns-then-journal-limit-clause-verdict : goal.returns-then-journal-limit-clause-verdict
-returns-then-journal-limit-clause-verdict c =
-    let many : c.args.limit ≤ length c.args.journal.now = search rules in
-    λ network centre. full (record { network = network; limit = c.args.limit }) c.args.journal.now (event.Edit c.args.edit.now) many
+pub returns-then-len-from-clause-verdict : goal.returns-then-len-from-clause-verdict
+returns-then-len-from-clause-verdict c =
+    let many : c.args.limit ≤ length c.args.journal.now.entries = search rules in
+    λ network centre. full (record { network = network; limit = c.args.limit }) c.args.journal.now.entries (event.Edit c.args.edit.now) many
 
 pub returns-clause-verdict : goal.returns-clause-verdict
 returns-clause-verdict c =
-    let room : length c.args.journal.now < c.args.limit = search rules in
+    let room : length c.args.journal.now.entries < c.args.limit = search rules in
     λ network centre.
     let settings : Settings = record { network = network; limit = c.args.limit } in
-    checked_there settings c.args.journal.now (event.Edit c.args.edit.now) c.check_edit.result room
-    (c.check_edit.ensures settings (past_of c.args.journal.now) centre.legal (centre.whole refl))
+    checked_there settings c.args.journal.now.entries (event.Edit c.args.edit.now) c.check_edit.result room
+    (c.check_edit.ensures settings (past_of c.args.journal.now.entries) centre.legal (centre.whole refl))

@@ -1,50 +1,48 @@
-use Rattle.std.proofs.Common.{◌≡◌, Err, refl}
-use Rattle.std.specs.Prelude.{IsOk}
+use Rattle.std.proofs.Common.{refl}
 use Rattle.centre_core.specs.Past.{past_of}
-use Rattle.centre_core.specs.Verdict.{verdict}
 use Rattle.centre_core.specs.declared.event.Event.TheVariants as event
-use Rattle.centre_core.proofs.CentreLemmas.{over_entries, reached_within, refused_as, starved, starved_as}
+use Rattle.centre_core.proofs.CentreLemmas.{reached_within, refused_as, starved, starved_as}
 use Rattle.centre_core.proofs.UniqueLemmas.{verdict_answered}
 use Rattle.centre_core.proofs.looking.prepare_edit.Goals as goal
 
 pub returns-in_err-look_at_edit-clause-refusal : goal.returns-in_err-look_at_edit-clause-refusal
 returns-in_err-look_at_edit-clause-refusal c =
     λ network centre.
-    refused_as (record { network = network; limit = c.args.limit }) c.args.journal.now.items (event.Edit c.args.edit.now) c.from_residual.result c.in_err-look_at_edit.field-0.0 c.from_residual.ensures.1
-    (over_entries (λ zs. verdict (record { network = network; limit = c.args.limit }) (past_of zs) (event.Edit c.args.edit.now) ≡ Err c.in_err-look_at_edit.field-0.0) (record { network = network; limit = c.args.limit }) c.args.journal.now.items c.as_slice.result.now c.args.kept.now c.as_slice.ensures.value (c.in_err-look_at_edit.ensures.verdict network) centre)
+    refused_as (record { network = network; limit = c.args.limit }) c.args.journal.now.entries (event.Edit c.args.edit.now) c.from_residual.result c.in_err-look_at_edit.field-0.0 c.from_residual.ensures.1
+    (c.in_err-look_at_edit.ensures.verdict network centre)
 
 pub returns-in_err-make_room-clause-refusal : goal.returns-in_err-make_room-clause-refusal
 returns-in_err-make_room-clause-refusal c =
     λ network centre.
-    starved_as (record { network = network; limit = c.args.limit }) c.args.journal.now.items (event.Edit c.args.edit.now) c.from_residual-in_err-make_room.result c.in_err-make_room.field-0.0 c.from_residual-in_err-make_room.ensures.1 c.in_err-make_room.ensures.refusal
-    (over_entries (λ zs. IsOk (verdict (record { network = network; limit = c.args.limit }) (past_of zs) (event.Edit c.args.edit.now))) (record { network = network; limit = c.args.limit }) c.args.journal.now.items c.as_slice.result.now c.args.kept.now c.as_slice.ensures.value (c.in_ok-look_at_edit.ensures.verdict network) centre)
+    starved_as (record { network = network; limit = c.args.limit }) c.args.journal.now.entries (event.Edit c.args.edit.now) c.from_residual-in_err-make_room.result c.in_err-make_room.field-0.0 c.from_residual-in_err-make_room.ensures.1 c.in_err-make_room.ensures.refusal
+    (c.in_ok-look_at_edit.ensures.verdict network centre)
 
 pub returns-in_err-reached-clause-refusal : goal.returns-in_err-reached-clause-refusal
 returns-in_err-reached-clause-refusal c =
     λ network centre.
-    starved (record { network = network; limit = c.args.limit }) c.args.journal.now.items (event.Edit c.args.edit.now) c.from_residual-in_err-reached.result c.from_residual-in_err-reached.ensures.1
-    (over_entries (λ zs. IsOk (verdict (record { network = network; limit = c.args.limit }) (past_of zs) (event.Edit c.args.edit.now))) (record { network = network; limit = c.args.limit }) c.args.journal.now.items c.as_slice.result.now c.args.kept.now c.as_slice.ensures.value (c.in_ok-look_at_edit.ensures.verdict network) centre)
+    starved (record { network = network; limit = c.args.limit }) c.args.journal.now.entries (event.Edit c.args.edit.now) c.from_residual-in_err-reached.result c.from_residual-in_err-reached.ensures.1
+    (c.in_ok-look_at_edit.ensures.verdict network centre)
 
 pub returns-in_err-reached-clause-meter : goal.returns-in_err-reached-clause-meter
 returns-in_err-reached-clause-meter c =
     λ network centre.
-    reached_within (record { network = network; limit = c.args.limit }) c.args.journal.now.items c.args.kept.now c.args.edit.now c.args.kept.now.tables.lines.meter c.reached_by_edit.new.kept.tables.lines.meter
-    (over_entries (λ zs. IsOk (verdict (record { network = network; limit = c.args.limit }) (past_of zs) (event.Edit c.args.edit.now))) (record { network = network; limit = c.args.limit }) c.args.journal.now.items c.as_slice.result.now c.args.kept.now c.as_slice.ensures.value (c.in_ok-look_at_edit.ensures.verdict network) centre)
+    reached_within (record { network = network; limit = c.args.limit }) c.args.journal.now.entries c.args.kept.now c.args.edit.now c.args.kept.now.tables.lines.meter c.reached_by_edit.new.kept.tables.lines.meter
+    (c.in_ok-look_at_edit.ensures.verdict network centre)
     c.reached_by_edit.ensures.meter centre
 
 pub returns-clause-accepted : goal.returns-clause-accepted
 returns-clause-accepted c =
     λ network centre.
-    over_entries (λ zs. IsOk (verdict (record { network = network; limit = c.args.limit }) (past_of zs) (event.Edit c.args.edit.now))) (record { network = network; limit = c.args.limit }) c.args.journal.now.items c.as_slice.result.now c.args.kept.now c.as_slice.ensures.value (c.in_ok-look_at_edit.ensures.verdict network) centre
+    c.in_ok-look_at_edit.ensures.verdict network centre
 
 pub returns-clause-reached : goal.returns-clause-reached
 returns-clause-reached c =
     λ network centre a accepted.
-    c.in_ok-reached.ensures.reached (record { network = network; limit = c.args.limit }) (past_of c.args.journal.now.items) a centre.legal (centre.whole refl) (verdict_answered (record { network = network; limit = c.args.limit }) (past_of c.args.journal.now.items) (event.Edit c.args.edit.now) a accepted)
+    c.in_ok-reached.ensures.reached (record { network = network; limit = c.args.limit }) (past_of c.args.journal.now.entries) a centre.legal (centre.whole refl) (verdict_answered (record { network = network; limit = c.args.limit }) (past_of c.args.journal.now.entries) (event.Edit c.args.edit.now) a accepted)
 
 pub returns-clause-meter : goal.returns-clause-meter
 returns-clause-meter c =
     λ network centre.
-    reached_within (record { network = network; limit = c.args.limit }) c.args.journal.now.items c.args.kept.now c.args.edit.now c.args.kept.now.tables.lines.meter c.reached_by_edit.new.kept.tables.lines.meter
-    (over_entries (λ zs. IsOk (verdict (record { network = network; limit = c.args.limit }) (past_of zs) (event.Edit c.args.edit.now))) (record { network = network; limit = c.args.limit }) c.args.journal.now.items c.as_slice.result.now c.args.kept.now c.as_slice.ensures.value (c.in_ok-look_at_edit.ensures.verdict network) centre)
+    reached_within (record { network = network; limit = c.args.limit }) c.args.journal.now.entries c.args.kept.now c.args.edit.now c.args.kept.now.tables.lines.meter c.reached_by_edit.new.kept.tables.lines.meter
+    (c.in_ok-look_at_edit.ensures.verdict network centre)
     c.reached_by_edit.ensures.meter centre

@@ -1,13 +1,14 @@
-use Rattle.std.proofs.Common.{◌+◌, ap, arith}
-use Rattle.centre_core.proofs.RebuildLemmas.{follows_here, kept_more}
+use Rattle.std.proofs.Common.{◌<◌, ap, length, rules}
+use Rattle.centre_core.specs.Journal.{JournalState}
+use Rattle.centre_core.proofs.JournalLemmas.{read_at_most}
+use Rattle.centre_core.proofs.RebuildLemmas.{kept_before}
 use Rattle.centre_core.proofs.rebuilding.kept_of.Goals as goal
 
-pub follow-requires : goal.follow-requires
-follow-requires c =
-    follows_here c.args.journal.now c.requires c.loop-entry.entry-index c.entry-item.result c.loop-entry.kept c.loop-entry.place (omega arith) c.entry-item.is c.loop-entry.invariant.0 c.loop-entry.invariant.1
+pub follow_next-requires-clause-kept : goal.follow_next-requires-clause-kept
+follow_next-requires-clause-kept c =
+    kept_before c.args.journal.now.entries c.loop-done.journal.entries c.loop-done.done c.loop-done.kept c.loop-done.invariant.same c.loop-done.invariant.kept
 
-pub loop-entry-preserved : goal.loop-entry-preserved
-loop-entry-preserved c = (
-  ap (λ n. n + 1) c.loop-entry.invariant.0,
-  kept_more c.args.journal.now c.requires c.loop-entry.entry-index c.entry-item.result c.loop-entry.kept c.follow.new.kept c.loop-entry.place (omega arith) c.entry-item.is c.loop-entry.invariant.0 c.loop-entry.invariant.1 c.in_ok-follow.ensures,
-)
+pub returns-in_err-follow_next-clause-most : goal.returns-in_err-follow_next-clause-most
+returns-in_err-follow_next-clause-most c =
+    let within : c.loop-done.done < length c.args.journal.now.entries = search rules in
+    read_at_most c.from_residual.result c.loop-done.done (length c.args.journal.now.entries) c.args.journal.now.reads c.loop-done.journal.reads c.follow_next.new.journal.reads within c.loop-done.invariant.counted (ap (λ (j : JournalState). j.reads) c.follow_next.ensures.read)

@@ -1,8 +1,13 @@
 use Rattle.std.proofs.Common.{◌≡◌, take}
 use Rattle.centre_core.specs.IsKept.{IsKept}
+use Rattle.centre_core.specs.Journal.{counted_by}
 use Rattle.centre_core.specs.Past.{past_of}
 use Rattle.centre_core.proofs.rebuilding.kept_of.Given as goal
 
--- the entries passed were followed
-abbrev pub invariant-loop-entry : goal.invariant-loop-entry
-invariant-loop-entry l = (l.place ≡ l.entry-index) × IsKept (past_of (take l.entry-index l.journal)) l.kept
+-- the entries passed were read and followed
+abbrev pub invariant-loop-done : goal.invariant-loop-done
+invariant-loop-done l = record {
+  same : l.journal.entries ≡ l.initial.journal.entries;
+  counted : l.journal.reads ≡ counted_by l.done l.initial.journal.reads;
+  kept : IsKept (past_of (take l.done l.initial.journal.entries)) l.kept;
+}

@@ -1,0 +1,13 @@
+use Rattle.centre_core.proofs.RebuildLemmas.{follows_here, kept_more, something_read}
+use Rattle.centre_core.proofs.rebuilding.follow_next.Goals as goal
+
+pub follow-requires : goal.follow-requires
+follow-requires c =
+    follows_here c.args.journal.now.entries c.requires.legal c.args.place c.in-Some.entry.now c.args.kept.now c.requires.first c.requires.last c.in-Some.ensures.value c.requires.kept
+
+pub returns-in-Some-clause-kept : goal.returns-in-Some-clause-kept
+returns-in-Some-clause-kept c =
+    kept_more c.args.journal.now.entries c.requires.legal c.args.place c.in-Some.entry.now c.args.kept.now c.follow.new.kept c.follow.result c.requires.first c.requires.last c.in-Some.ensures.value c.requires.kept c.follow.ensures
+
+pub returns-in-None-clause-kept : goal.returns-in-None-clause-kept
+returns-in-None-clause-kept c = something_read c.args.journal.now.entries c.args.place c.requires.first c.requires.last c.in-None.ensures.value

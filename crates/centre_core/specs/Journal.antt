@@ -1,0 +1,15 @@
+-- What contracts see of a journal, and how the reads of its entries are counted.
+use Rattle.std.specs.Prelude.{ℕ, zero, suc, List}
+use Rattle.mirror.specs.Table.{counted}
+use Rattle.centre_core.specs.declared.entry.Entry.{Entry}
+
+-- the entries, the oldest first; how often entries were read; for how many more there is room
+pub record JournalState : Type 0 where
+  pub entries : List Entry
+  pub reads : ℕ
+  pub room : ℕ
+
+-- n after k reads more, each counted; the greatest value of 64 bits stays
+abbrev pub counted_by : ℕ → ℕ → ℕ
+counted_by zero n = n
+counted_by (suc k) n = counted (counted_by k n)
