@@ -11,7 +11,7 @@ use Rattle.warning_book.specs.declared.refusal.Refusal as book
 use Rattle.warning_book.specs.declared.refusal.Refusal.TheVariants as book_refusal
 use Rattle.centre_core.specs.declared.refusal.Limit.TheVariants as limit
 use Rattle.centre_core.specs.declared.refusal.Refusal.{Refusal}
-use Rattle.centre_core.specs.declared.refusal.Refusal.TheVariants.{Stale, JournalFull, NoSuchBsc, BscExists, BscHasCells, LinkIsUp, CellExists, NoSuchCell, SameBsc, BadName, AreaExists, NoSuchArea, AreaInUse, SelectorThere, SelectorNotThere, NoSuchWarning, NotActive, StillActive, StillReported, StillInFlight, NoAreas, AreaThere, AreaNotThere, LastArea, BadPages, BadPeriod, UpdatesExhausted, StaleLink, LinkNotUp, InFlight, NothingPending, NothingToAsk, NoOrder, Limit, Memory}
+use Rattle.centre_core.specs.declared.refusal.Refusal.TheVariants.{Stale, JournalFull, NoSuchBsc, BscExists, BscHasCells, LinkIsUp, CellExists, NoSuchCell, SameBsc, BadName, AreaExists, NoSuchArea, AreaInUse, SelectorThere, SelectorNotThere, NoSuchWarning, NotActive, StillActive, StillReported, StillInFlight, NoAreas, AreaThere, AreaNotThere, LastArea, BadPages, BadPeriod, UpdatesExhausted, StaleLink, LinkNotUp, InFlight, NothingPending, NothingToAsk, NoOrder, Limit, Memory, WrongDesk}
 
 -- the number that a refusal is answered with
 abbrev pub refusal_number : Refusal → ℕ
@@ -50,6 +50,7 @@ refusal_number NothingToAsk = 33
 refusal_number NoOrder = 34
 refusal_number (Limit which) = 35
 refusal_number Memory = 36
+refusal_number (WrongDesk position) = 37
 
 -- the refusal that one of the register is
 abbrev pub of_register : register.Refusal → Refusal

@@ -23,10 +23,13 @@ pub enum Limit {
     WarningAreas,
     /// 4,294,967,295 warnings in all.
     Ids,
+    /// 1,024 desks.
+    Desks,
 }
 
 /// Why an event or a question is refused, in the order in which the causes are looked at. The first that holds is
-/// the answer. `Memory` is the last of them: nothing that decides a refusal takes memory.
+/// the answer. `Memory` is the last of them: nothing that decides a refusal takes memory. `WrongDesk` comes from an office
+/// alone, which looks at it before all others.
 #[derive(Clone, Copy, Debug, PartialEq, Eq, Error)]
 pub enum Refusal {
     #[error("the centre is stale: memory was wanting while an event was entered")]
@@ -104,6 +107,11 @@ pub enum Refusal {
     },
     #[error("out of memory")]
     Memory,
+    #[error("the desk is not as the office knows it, after {position} entries")]
+    WrongDesk {
+        /// The number of entries of the centre.
+        position: u64,
+    },
 }
 
 impl Refusal {
@@ -147,6 +155,7 @@ impl Refusal {
             Refusal::NoOrder => 34,
             Refusal::Limit { which: _ } => 35,
             Refusal::Memory => 36,
+            Refusal::WrongDesk { position: _ } => 37,
         }
     }
 }

@@ -41,6 +41,7 @@ limit_name limit.Selectors = codes "Selectors"
 limit_name limit.Warnings = codes "Warnings"
 limit_name limit.WarningAreas = codes "WarningAreas"
 limit_name limit.Ids = codes "Ids"
+limit_name limit.Desks = codes "Desks"
 
 -- the name of a refusal
 abbrev pub refusal_name : Refusal → List ℕ
@@ -79,11 +80,13 @@ refusal_name refusal.NothingToAsk = codes "NothingToAsk"
 refusal_name refusal.NoOrder = codes "NoOrder"
 refusal_name (refusal.Limit which) = codes "Limit"
 refusal_name refusal.Memory = codes "Memory"
+refusal_name (refusal.WrongDesk position) = codes "WrongDesk"
 
--- what follows the name: the latest link's generation, or the limit that would be passed
+-- what follows the name: the latest link's generation, the limit that would be passed, or the number of entries
 abbrev pub refusal_detail : Refusal → List ℕ
 refusal_detail (refusal.StaleLink now) = codes " " ++ (decimal now ++ newline)
 refusal_detail (refusal.Limit which) = codes " " ++ (limit_name which ++ newline)
+refusal_detail (refusal.WrongDesk position) = codes " " ++ (decimal position ++ newline)
 refusal_detail other = newline
 
 -- a refusal: its number, its name, and what follows it

@@ -88,6 +88,7 @@ fn refused_text(alloc: Global, refusal: Refusal) -> Result<String, AllocError>
     let name = refusal_name(refusal);
     match refusal {
         Refusal::StaleLink { now } => format!(in alloc; "no {number} {name} {now}\n"),
+        Refusal::WrongDesk { position } => format!(in alloc; "no {number} {name} {position}\n"),
         Refusal::Limit { which } => {
             let which = limit_name(which);
             format!(in alloc; "no {number} {name} {which}\n")
@@ -107,6 +108,7 @@ fn limit_name(limit: Limit) -> &'static str
         Limit::Warnings => "Warnings",
         Limit::WarningAreas => "WarningAreas",
         Limit::Ids => "Ids",
+        Limit::Desks => "Desks",
     }
 }
 
@@ -149,6 +151,7 @@ fn refusal_name(refusal: Refusal) -> &'static str
         Refusal::NoOrder => "NoOrder",
         Refusal::Limit { .. } => "Limit",
         Refusal::Memory => "Memory",
+        Refusal::WrongDesk { .. } => "WrongDesk",
     }
 }
 
