@@ -309,3 +309,19 @@ fn the_meter_counts_lines(rt: HostRuntime) -> Result<(), Fail> {
     assert!(rt; 0 < lines && lines <= 4);
     Ok(())
 }
+
+/// Entries are read by `entry` and `rebuild` alone.
+#[test]
+fn the_meter_counts_entries(rt: HostRuntime) -> Result<(), Fail> {
+    let alloc = rt.alloc();
+    let b = bsc(1)?;
+    let mut centre = begun(&rt, alloc, b)?;
+    asks(&rt, &centre, b)?;
+    assert_eq!(rt; centre.meter().entries, 0);
+    assert!(rt; centre.entry(1).is_some());
+    assert_eq!(rt; centre.meter().entries, 1);
+    assert_eq!(rt; centre.rebuild(), Ok(()));
+    let read = centre.meter().entries.saturating_sub(1);
+    assert_eq!(rt; read, centre.position());
+    Ok(())
+}
