@@ -123,21 +123,37 @@ fn warning_areas(alloc: Global) -> Result<String, AllocError> {
     Ok(script)
 }
 
-/// A figure for each limit.
-pub fn rounds(alloc: Global) -> Result<Vec<String>> {
-    let mut figures = Vec::new(alloc);
+fn bsc_limit(alloc: Global) -> Result<String> {
     let script = bscs(alloc, 256)?;
-    figures.push(limit(alloc, script.as_str(), "bsc add 257\n", "Bscs")?)?;
+    limit(alloc, script.as_str(), "bsc add 257\n", "Bscs")
+}
+
+fn cell_limit(alloc: Global) -> Result<String> {
     let script = cells(alloc, 65_536)?;
-    figures.push(limit(alloc, script.as_str(), "cell add 2000 1 1\n", "Cells")?)?;
+    limit(alloc, script.as_str(), "cell add 2000 1 1\n", "Cells")
+}
+
+fn area_limit(alloc: Global) -> Result<String> {
     let script = areas(alloc, 4_096)?;
-    figures.push(limit(alloc, script.as_str(), "area add More\n", "Areas")?)?;
+    limit(alloc, script.as_str(), "area add More\n", "Areas")
+}
+
+fn selector_limit(alloc: Global) -> Result<String> {
     let script = selectors(alloc, 4_096)?;
-    figures.push(limit(alloc, script.as_str(), "area put One 201\n", "Selectors")?)?;
+    limit(alloc, script.as_str(), "area put One 201\n", "Selectors")
+}
+
+fn warning_limit(alloc: Global) -> Result<String> {
     let script = warnings(alloc, 256)?;
-    figures.push(limit(alloc, script.as_str(), WARNING, "Warnings")?)?;
+    limit(alloc, script.as_str(), WARNING, "Warnings")
+}
+
+fn warning_area_limit(alloc: Global) -> Result<String> {
     let script = warning_areas(alloc)?;
-    figures.push(limit(alloc, script.as_str(), "widen 1 A16\n", "WarningAreas")?)?;
+    limit(alloc, script.as_str(), "widen 1 A16\n", "WarningAreas")
+}
+
+fn journal_limit(alloc: Global) -> Result<String> {
     let script = bscs(alloc, 100)?;
     ensure!(
         is_refused(
@@ -149,9 +165,18 @@ pub fn rounds(alloc: Global) -> Result<Vec<String>> {
         )?,
         "a full journal is not kept"
     );
-    figures.push(String::from_str(
-        alloc,
-        "a full journal: the next event is refused, and nothing changes",
-    )?)?;
+    Ok(format!(in alloc; "a full journal: the next event is refused, and nothing changes")?)
+}
+
+/// A figure for each limit.
+pub fn rounds(alloc: Global) -> Result<Vec<String>> {
+    let mut figures = Vec::new(alloc);
+    figures.push(bsc_limit(alloc)?)?;
+    figures.push(cell_limit(alloc)?)?;
+    figures.push(area_limit(alloc)?)?;
+    figures.push(selector_limit(alloc)?)?;
+    figures.push(warning_limit(alloc)?)?;
+    figures.push(warning_area_limit(alloc)?)?;
+    figures.push(journal_limit(alloc)?)?;
     Ok(figures)
 }

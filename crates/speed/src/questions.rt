@@ -34,27 +34,39 @@ fn round(
     Ok(format!(in alloc; "{name}: {each} nanoseconds")?)
 }
 
-/// Each figure, at so many cells.
+/// How long the script takes by itself, in microseconds.
+fn time_without(rt: &(impl Clock + AllocGlobal), script: &str) -> Result<u64> {
+    let mut bare = String::from_str(rt.alloc(), script)?;
+    bare.push_str(BOARD)?;
+    time_of(rt, bare.as_str())
+}
+
+/// Puts each figure last.
+fn add_figures(
+    rt: &(impl Clock + AllocGlobal),
+    script: &str,
+    times: u32,
+    figures: &mut Vec<String>,
+) -> Result<()> {
+    let without = time_without(rt, script)?;
+    for (name, lines) in [
+        ("pending", "pending 2\n"),
+        ("board", "board 1\n"),
+        ("board of an area", "board 1 One\n"),
+        ("three refusals", REFUSED),
+        ("restart, order and reply", ORDERED),
+    ] {
+        figures.push(round(rt, script, without, times, name, lines)?)?;
+    }
+    Ok(())
+}
+
+/// The figures at so many cells.
 pub fn rounds(rt: &(impl Clock + AllocGlobal), cells: u32, times: u32) -> Result<Vec<String>> {
     let alloc = rt.alloc();
     let script = setup(alloc, cells)?;
-    let mut bare = String::from_str(alloc, script.as_str())?;
-    bare.push_str(BOARD)?;
-    let without = time_of(rt, bare.as_str())?;
-    let script = script.as_str();
     let mut figures = Vec::new(alloc);
     figures.push(format!(in alloc; "at {cells} cells")?)?;
-    figures.push(round(rt, script, without, times, "pending", "pending 2\n")?)?;
-    figures.push(round(rt, script, without, times, "board", "board 1\n")?)?;
-    figures.push(round(
-        rt,
-        script,
-        without,
-        times,
-        "board of an area",
-        "board 1 One\n",
-    )?)?;
-    figures.push(round(rt, script, without, times, "three refusals", REFUSED)?)?;
-    figures.push(round(rt, script, without, times, "restart, order, reply", ORDERED)?)?;
+    add_figures(rt, script.as_str(), times, &mut figures)?;
     Ok(figures)
 }
