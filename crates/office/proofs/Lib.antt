@@ -1,0 +1,3 @@
+pub mod ReceiptLemmas
+pub mod DeskLemmas
+pub mod HeldLemmas

@@ -1,0 +1,71 @@
+-- What stands under the lock, what always holds of it, and when a desk is as the office knows it.
+use Rattle.std.specs.Prelude.{◌≡◌, ◌≤◌, ◌<◌, ◌+◌, ◌++◌, ◌==◌, ◌&&◌, ℕ, Bool, false, List, [], ◌∷◌, Ok, length, All, nat_lt, nat_le, get_or}
+use Rattle.centre_core.specs.Fits.{AnswerFits}
+use Rattle.centre_core.specs.Legal.{Known, past}
+use Rattle.centre_core.specs.Verdict.{verdict}
+use Rattle.centre_core.specs.declared.answer.Answer.{Answer}
+use Rattle.centre_core.specs.declared.entry.Entry.{Entry}
+use Rattle.centre_core.specs.declared.event.Event.{Event}
+use Rattle.office.specs.Desks.{DeskState}
+use Rattle.office.specs.Receipts.{receipts_of, last_place}
+use Rattle.office.specs.declared.receipt.Receipt.{Receipt}
+use Rattle.office.specs.declared.row.Row.{Row}
+
+-- what stands under the lock: the centre, how many desks were opened, and how many receipts they have, all together
+pub record HeldState : Type 0 where
+  pub centre : Known
+  pub opened : ℕ
+  pub total : ℕ
+
+-- a row without entries
+abbrev pub no_row : Row
+no_row = record { entries = 0; last = 0 }
+
+-- what the journal says of the desk
+abbrev pub row_of : ℕ → List Entry → Row
+row_of desk journal = record { entries = length (receipts_of desk journal); last = last_place (receipts_of desk journal) }
+
+-- each row says what the journal does of its desk; the first is that of desk 1
+abbrev pub RowsFit : List Row → List Entry → Type 0
+RowsFit rows journal = (k : ℕ) → k < length rows → get_or rows k no_row ≡ row_of (k + 1) journal
+
+-- the entry's desk is one of those opened
+abbrev pub IsByOpened : ℕ → Entry → Type 0
+IsByOpened opened e = (0 < e.desk) × (e.desk ≤ opened)
+
+-- the rows are the journal's, every entry is of a desk that was opened, the book has the number of all entries, and the share
+-- kept for desks not yet opened has a part for each of 1,024 desks and one more, and no amount
+pub record IsHeld (rows : List Row) (journal : List Entry) (total parts amount : ℕ) : Type 0 where
+  pub rows_fit : RowsFit rows journal
+  pub opened : All (IsByOpened (length rows)) journal
+  pub counted : total ≡ length journal
+  pub parts_left : parts + length rows ≡ 1025
+  pub few : length rows ≤ 1024
+  pub nothing : amount ≡ 0
+
+-- the desk was opened, and has as many receipts as the journal has entries of it, the last at the last one's place
+abbrev pub fits : ℕ → List Entry → DeskState → Bool
+fits opened journal d = ((nat_lt 0 d.number && nat_le d.number opened) && (length (receipts_of d.number journal) == length d.receipts))
+    && (last_place (receipts_of d.number journal) == last_place d.receipts)
+
+-- the entry of an event that a desk submitted
+abbrev pub entry_of : ℕ → Event → Answer → Entry
+entry_of desk event answer = record { desk = desk; event = event; answer = answer }
+
+-- the receipt of an event
+abbrev pub receipt_at : ℕ → Event → Answer → Receipt
+receipt_at place event answer = record { place = place; event = event; answer = answer }
+
+-- a row with that many entries, the last at that place
+abbrev pub row_at : ℕ → ℕ → Row
+row_at entries last = record { entries = entries; last = last }
+
+-- the event was accepted: it is the one new entry, of that desk, with the verdict as its answer, and the desk has its receipt
+pub record IsEntered (old : Known) (before : DeskState) (event : Event) (new : Known) (after : DeskState) : Type 0 where
+  pub answer : Answer
+  pub is_verdict : verdict old.settings (past old) event ≡ Ok answer
+  pub whole : old.stale ≡ false
+  pub message_fits : AnswerFits answer
+  pub entry : new ≡ record old { journal = old.journal ++ entry_of before.number event answer ∷ [] }
+  pub receipts : after.receipts ≡ before.receipts ++ receipt_at (length old.journal + 1) event answer ∷ []
+  pub number : after.number ≡ before.number

@@ -1,0 +1,4 @@
+pub mod Receipts
+pub mod Desks
+pub mod Helds
+pub mod Questions

@@ -1,0 +1,57 @@
+-- What a question is answered.
+use Rattle.std.specs.Prelude.{◌≡◌, ◌⊎◌, Bool, true, false, Option, Some, None, Result, Ok, Err, IsOk}
+use Rattle.centre_core.specs.InFlight.{in_flight}
+use Rattle.centre_core.specs.Legal.{Known, past}
+use Rattle.centre_core.specs.Links.{is_bsc}
+use Rattle.centre_core.specs.Numbers.{board, area_board}
+use Rattle.centre_core.specs.Past.{Past}
+use Rattle.centre_core.specs.Pending.{pending}
+use Rattle.centre_core.specs.Places.{place}
+use Rattle.centre_core.specs.Table.{table}
+use Rattle.centre_core.specs.declared.refusal.Refusal.{Refusal}
+use Rattle.centre_core.specs.declared.refusal.Refusal.TheVariants as refusal
+use Rattle.coverage_board.specs.declared.numbers.Numbers.{Numbers}
+use Rattle.office.specs.declared.question.Question.{Question}
+use Rattle.office.specs.declared.question.Question.TheVariants as question
+use Rattle.office.specs.declared.seen.SeenValue.{SeenValue}
+use Rattle.office.specs.declared.seen.SeenValue.TheVariants as value
+
+-- the numbers of a warning that the book has
+abbrev pub of_warning : Option Numbers → Result SeenValue Refusal
+of_warning None = Err refusal.NoSuchWarning
+of_warning (Some numbers) = Ok (value.Numbers numbers)
+
+-- the numbers of a warning and an area, or the refusal
+abbrev pub of_area : Result Numbers Refusal → Result SeenValue Refusal
+of_area (Err r) = Err r
+of_area (Ok numbers) = Ok (value.Numbers numbers)
+
+-- the value, where the BSC is registered
+abbrev pub of_bsc : Bool → SeenValue → Result SeenValue Refusal
+of_bsc true v = Ok v
+of_bsc false v = Err refusal.NoSuchBsc
+
+-- what the question is answered after that past
+abbrev pub value_of : Past → Question → Result SeenValue Refusal
+value_of past (question.Total w) = of_warning (board past w)
+value_of past (question.Area w a) = of_area (area_board past w a)
+value_of past (question.Place c) = Ok (value.Place (place past c))
+value_of past (question.Pending b) = of_bsc (is_bsc past b) (value.Pending (pending past b))
+value_of past (question.Table b) = of_bsc (is_bsc past b) (value.Table (table past b))
+value_of past (question.InFlight b) = of_bsc (is_bsc past b) (value.InFlight (in_flight past b))
+
+-- the answer takes memory
+abbrev pub takes_memory : Question → Bool
+takes_memory (question.Total w) = false
+takes_memory (question.Area w a) = false
+takes_memory (question.Place c) = false
+takes_memory other = true
+
+-- why a centre refuses a question: it is stale, memory is wanting for the answer, or the answer is that refusal
+abbrev pub RefusesQuestion : Known → Question → Refusal → Type 0
+RefusesQuestion centre q r = ((r ≡ refusal.Stale) × (centre.stale ≡ true))
+    ⊎ ((centre.stale ≡ false) × (((r ≡ refusal.Memory) × (takes_memory q ≡ true) × IsOk (value_of (past centre) q)) ⊎ (value_of (past centre) q ≡ Err r)))
+
+-- the centre is whole, and that is the answer
+abbrev pub Shows : Known → Question → SeenValue → Type 0
+Shows centre q v = (centre.stale ≡ false) × (value_of (past centre) q ≡ Ok v)

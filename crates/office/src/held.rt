@@ -1,0 +1,148 @@
+//! What stands under the lock of an office.
+
+use crate::desk::Desk;
+use crate::looking::answer;
+use crate::question::Question;
+use crate::row::Row;
+use crate::seen::Seen;
+use centre_core::centre::Centre;
+use centre_core::headline::pending_gives_plan;
+use centre_core::refusal::{Limit, Refusal};
+use std::alloc::{AllocError, Global};
+use std::marker::Model;
+use std::sync::ledger::{Book, Ledger, Share};
+
+/// The most desks that an office opens.
+const DESKS: usize = 1024;
+
+/// A centre, and what is known of each desk. Contracts see what is known of the centre, how many desks were opened, and how
+/// many receipts they have, all together.
+#[derive(Drop)]
+pub struct Held<L: Ledger> {
+    alloc: Global,
+    centre: Centre,
+    rows: Vec<Row>,
+    book: Book<L>,
+    rest: Share<L>,
+}
+
+impl<L: Ledger> Model for Held<L> {
+    ghost use Rattle.std.specs.Prelude.{length};
+    ghost use Rattle.office.specs.Helds.{HeldState, IsHeld};
+
+    ghost Value = { HeldState };
+
+    ghost view = { λ s. record { centre = s.centre.known; opened = length s.rows.items; total = s.book.total } };
+
+    ghost invariant = { λ s. IsHeld s.rows.items s.centre.known.journal s.book.total s.rest.parts s.rest.amount };
+}
+
+impl<L: Ledger> Held<L> {
+    ghost use Rattle.std.specs.Prelude.{◌≡◌, ◌≤◌, ◌<◌, ◌+◌, [], length, true, false, All, Ok, Err, IfOk, IfErr, OnOk, OnErr, MatchBool, nat_lt};
+    ghost use Rattle.centre_core.specs.Headline.{PendingGivesPlan};
+    ghost use Rattle.centre_core.specs.Legal.{Legal, new_centre, past};
+    ghost use Rattle.office.specs.Helds.{IsByOpened, fits};
+    ghost use Rattle.office.specs.Questions.{RefusesQuestion, Shows};
+
+    /// What stands under the lock of a new office: a centre of the network without entries, and no desk.
+    pub(crate) fn new(
+        alloc: Global,
+        plmn: [u8; 3],
+        journal_limit: u32,
+        book: Book<L>,
+        rest: Share<L>,
+    ) -> Held<L>
+        requires few { journal_limit ≤ 4000000 }
+        requires total { book.total ≡ 0 }
+        requires parts { rest.parts ≡ 1025 }
+        requires nothing { rest.amount ≡ 0 }
+        ensures { result ≡ record { centre = new_centre plmn journal_limit; opened = 0; total = 0 } }
+    {
+        Held {
+            alloc,
+            centre: Centre::new(alloc, plmn, journal_limit),
+            rows: Vec::new(alloc),
+            book,
+            rest,
+        }
+    }
+
+    /// Tells what always holds under the lock.
+
+    pub fn tell_soundness(&self)
+        ensures legal { Legal self.now.centre.settings (past self.now.centre) }
+        ensures headline { PendingGivesPlan (past self.now.centre) }
+        ensures counted { self.now.total ≡ length self.now.centre.journal }
+        ensures opened { All (IsByOpened self.now.opened) self.now.centre.journal }
+    {
+        self.centre.tell_soundness();
+        pending_gives_plan();
+        let _ = &self.rows;
+    }
+
+    /// Whether the desk is as this office knows it.
+    fn knows(&self, desk: &Desk<L>) -> bool
+        ensures { result ≡ fits self.now.opened self.now.centre.journal desk.now }
+    {
+        let number = desk.number() as usize;
+        if number == 0 || number > self.rows.len() {
+            return false;
+        }
+        let row = self.rows[number - 1];
+        row.entries == desk.len() && row.last == desk.last()
+    }
+
+    /// Opens one more desk: the first is 1. `Limit` after 1,024 desks, then `Memory`.
+    pub fn open(&mut self) -> Result<Desk<L>, Refusal>
+        ensures number { IfOk result (λ d. d.number ≡ self.old.opened + 1) }
+        ensures receipts { IfOk result (λ d. d.receipts ≡ []) }
+        ensures opened { OnOk result (self.new ≡ record self.old { opened = self.old.opened + 1 }) }
+        ensures refused { IfErr result (λ r. MatchBool (nat_lt self.old.opened 1024) (r ≡ Refusal.Memory) (r ≡ Refusal.Limit Limit.Desks)) }
+        ensures unchanged { OnErr result (self.new ≡ self.old) }
+    {
+        if self.rows.len() >= DESKS {
+            return Err(Refusal::Limit {
+                which: Limit::Desks,
+            });
+        }
+        self.rows.push(Row {
+            entries: 0,
+            last: 0,
+        })?;
+        let share = self.rest.split_off(1, 0);
+        Ok(Desk::new(self.alloc, self.rows.len() as u32, share))
+    }
+
+    /// Puts a question, whose answer is copied. `WrongDesk` where the desk isn't as this office knows it; else what the centre
+    /// refuses, or `Memory`.
+    pub fn look(&mut self, desk: &Desk<L>, question: Question) -> Result<Seen, Refusal>
+        ensures wrong { fits self.old.opened self.old.centre.journal desk.now ≡ false → result ≡ Err (Refusal.WrongDesk (length self.old.centre.journal)) }
+        ensures fitted { OnOk result (fits self.old.opened self.old.centre.journal desk.now ≡ true) }
+        ensures position { IfOk result (λ s. s.position ≡ length self.old.centre.journal) }
+        ensures seen { IfOk result (λ s. Shows self.old.centre question s.value) }
+        ensures refused { IfErr result (λ r. fits self.old.opened self.old.centre.journal desk.now ≡ true → RefusesQuestion self.old.centre question r) }
+        ensures unchanged { self.new ≡ self.old }
+    {
+        let position = self.centre.position();
+        if !self.knows(desk) {
+            return Err(Refusal::WrongDesk { position });
+        }
+        let value = answer(self.alloc, &mut self.centre, &question)?;
+        Ok(Seen { position, value })
+    }
+
+    /// Whether the centre is stale.
+    pub fn is_stale(&self) -> bool
+        ensures { result ≡ self.now.centre.stale }
+    {
+        self.centre.is_stale()
+    }
+
+    /// Makes a stale centre whole.
+    pub fn rebuild(&mut self) -> Result<(), AllocError>
+        ensures rebuilt { OnOk result (self.new ≡ record self.old { centre = record self.old.centre { stale = false } }) }
+        ensures unchanged { OnErr result (self.new ≡ self.old) }
+    {
+        self.centre.rebuild()
+    }
+}

@@ -1,0 +1,90 @@
+//! A question is put to a centre, and what that answers is copied.
+
+ghost use Rattle.std.specs.Prelude.{◌≡◌, IfOk, IfErr};
+ghost use Rattle.std.specs.Option.{option_copied};
+ghost use Rattle.office.specs.Questions.{RefusesQuestion, Shows};
+ghost use Rattle.office.specs.declared.question.Question.TheVariants as question_spec;
+
+use crate::question::Question;
+use crate::seen::SeenValue;
+use cell_register::BscId;
+use centre_core::centre::Centre;
+use centre_core::in_flight::InFlight;
+use centre_core::refusal::Refusal;
+use common::{Cell, Name};
+use std::alloc::{AllocError, Global};
+use warning_book::WarningId;
+
+fn total(centre: &Centre, w: WarningId) -> Result<SeenValue, Refusal>
+    ensures seen { IfOk result (Shows centre.now.known (question_spec.Total w)) }
+    ensures refused { IfErr result (RefusesQuestion centre.now.known (question_spec.Total w)) }
+{
+    Ok(SeenValue::Numbers(centre.board_total(w)?))
+}
+
+fn area(centre: &Centre, w: WarningId, a: &Name) -> Result<SeenValue, Refusal>
+    ensures seen { IfOk result (Shows centre.now.known (question_spec.Area w a.now)) }
+    ensures refused { IfErr result (RefusesQuestion centre.now.known (question_spec.Area w a.now)) }
+{
+    Ok(SeenValue::Numbers(centre.board_area(w, a)?))
+}
+
+fn place(centre: &Centre, c: Cell) -> Result<SeenValue, Refusal>
+    ensures seen { IfOk result (Shows centre.now.known (question_spec.Place c)) }
+    ensures refused { IfErr result (RefusesQuestion centre.now.known (question_spec.Place c)) }
+{
+    Ok(SeenValue::Place(centre.place_of(c)?))
+}
+
+fn pending(centre: &Centre, b: BscId) -> Result<SeenValue, Refusal>
+    ensures seen { IfOk result (Shows centre.now.known (question_spec.Pending b)) }
+    ensures refused { IfErr result (RefusesQuestion centre.now.known (question_spec.Pending b)) }
+{
+    Ok(SeenValue::Pending(centre.pending_of(b)?))
+}
+
+fn table(centre: &mut Centre, b: BscId) -> Result<SeenValue, Refusal>
+    ensures seen { IfOk result (Shows centre.old.known (question_spec.Table b)) }
+    ensures refused { IfErr result (RefusesQuestion centre.old.known (question_spec.Table b)) }
+    ensures unchanged { centre.new.known ≡ centre.old.known }
+{
+    Ok(SeenValue::Table(centre.table_of(b)?))
+}
+
+/// The same in memory of its own.
+fn copied(alloc: Global, flight: Option<&InFlight>) -> Result<Option<InFlight>, AllocError>
+    ensures { IfOk result (λ copy. copy ≡ option_copied flight.entry) }
+{
+    match flight {
+        Some(flight) => Ok(Some(flight.copied(alloc)?)),
+        None => Ok(None),
+    }
+}
+
+fn in_flight(alloc: Global, centre: &Centre, b: BscId) -> Result<SeenValue, Refusal>
+    ensures seen { IfOk result (Shows centre.now.known (question_spec.InFlight b)) }
+    ensures refused { IfErr result (RefusesQuestion centre.now.known (question_spec.InFlight b)) }
+{
+    let flight = centre.in_flight_of(b)?;
+    Ok(SeenValue::InFlight(copied(alloc, flight)?))
+}
+
+/// What the question is answered. Nothing but the centre's meter changes.
+pub(crate) fn answer(
+    alloc: Global,
+    centre: &mut Centre,
+    question: &Question,
+) -> Result<SeenValue, Refusal>
+    ensures seen { IfOk result (Shows centre.old.known question.now) }
+    ensures refused { IfErr result (RefusesQuestion centre.old.known question.now) }
+    ensures unchanged { centre.new.known ≡ centre.old.known }
+{
+    match question {
+        Question::Total(w) => total(centre, *w),
+        Question::Area(w, a) => area(centre, *w, a),
+        Question::Place(c) => place(centre, *c),
+        Question::Pending(b) => pending(centre, *b),
+        Question::Table(b) => table(centre, *b),
+        Question::InFlight(b) => in_flight(alloc, centre, *b),
+    }
+}

@@ -1,0 +1,22 @@
+//! What can be asked of a centre.
+
+use cell_register::BscId;
+use common::{Cell, Name};
+use warning_book::WarningId;
+
+/// A question about a centre, which changes nothing.
+#[derive(Debug, Drop)]
+pub enum Question {
+    /// The numbers of a warning.
+    Total(WarningId),
+    /// The numbers of a warning and one of its areas.
+    Area(WarningId, Name),
+    /// The BSC at which a cell is registered.
+    Place(Cell),
+    /// The pending orders of a BSC.
+    Pending(BscId),
+    /// What a BSC has reported.
+    Table(BscId),
+    /// What is in flight to a BSC.
+    InFlight(BscId),
+}

@@ -1,0 +1,12 @@
+//! What a caller gets for an event that was accepted.
+
+use centre_core::answer::Answer;
+use centre_core::event::Event;
+
+/// An event that was accepted, what it was answered, and the number of its entry.
+#[derive(Debug, PartialEq, Eq, Drop)]
+pub struct Receipt {
+    pub place: u64,
+    pub event: Event,
+    pub answer: Answer,
+}
