@@ -1,11 +1,13 @@
 //! What stands under the lock of an office.
 
 use crate::desk::Desk;
+use crate::entering::enter;
 use crate::looking::answer;
 use crate::question::Question;
 use crate::row::Row;
 use crate::seen::Seen;
 use centre_core::centre::Centre;
+use centre_core::event::Event;
 use centre_core::headline::pending_gives_plan;
 use centre_core::refusal::{Limit, Refusal};
 use std::alloc::{AllocError, Global};
@@ -39,9 +41,10 @@ impl<L: Ledger> Model for Held<L> {
 
 impl<L: Ledger> Held<L> {
     ghost use Rattle.std.specs.Prelude.{◌≡◌, ◌≤◌, ◌<◌, ◌+◌, [], length, true, false, All, Ok, Err, IfOk, IfErr, OnOk, OnErr, MatchBool, nat_lt};
+    ghost use Rattle.centre_core.specs.Centre.{Leaves, Refuses};
     ghost use Rattle.centre_core.specs.Headline.{PendingGivesPlan};
     ghost use Rattle.centre_core.specs.Legal.{Legal, new_centre, past};
-    ghost use Rattle.office.specs.Helds.{IsByOpened, fits};
+    ghost use Rattle.office.specs.Helds.{IsByOpened, IsEntered, fits};
     ghost use Rattle.office.specs.Questions.{RefusesQuestion, Shows};
 
     /// What stands under the lock of a new office: a centre of the network without entries, and no desk.
@@ -111,6 +114,30 @@ impl<L: Ledger> Held<L> {
         })?;
         let share = self.rest.split_off(1, 0);
         Ok(Desk::new(self.alloc, self.rows.len() as u32, share))
+    }
+
+    /// Takes an event that the desk submits, of which the copy is kept on its receipt. `WrongDesk` where the desk isn't as this
+    /// office knows it; else what `accept` answers.
+    pub fn submit(&mut self, desk: &mut Desk<L>, event: Event, copy: Event) -> Result<(), Refusal>
+        requires same { copy ≡ event }
+        requires room { 1 ≤ desk.old.spare }
+        ensures wrong { fits self.old.opened self.old.centre.journal desk.old ≡ false → result ≡ Err (Refusal.WrongDesk (length self.old.centre.journal)) }
+        ensures fitted { OnOk result (fits self.old.opened self.old.centre.journal desk.old ≡ true) }
+        ensures entered { OnOk result (IsEntered self.old.centre desk.old event self.new.centre desk.new) }
+        ensures refused { IfErr result (λ r. fits self.old.opened self.old.centre.journal desk.old ≡ true → Refuses self.old.centre event r) }
+        ensures left { IfErr result (λ r. Leaves self.old.centre r self.new.centre) }
+        ensures unchanged { OnErr result (desk.new ≡ desk.old) }
+        ensures opened { self.new.opened ≡ self.old.opened }
+    {
+        if !self.knows(desk) {
+            return Err(Refusal::WrongDesk {
+                position: self.centre.position(),
+            });
+        }
+        let number = desk.number() as usize;
+        let row = enter(&mut self.centre, &mut self.book, desk, event, copy)?;
+        self.rows[number - 1] = row;
+        Ok(())
     }
 
     /// Puts a question, whose answer is copied. `WrongDesk` where the desk isn't as this office knows it; else what the centre

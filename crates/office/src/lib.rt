@@ -5,6 +5,7 @@
 #![tactic(auto)]
 
 pub mod desk;
+mod entering;
 pub mod held;
 mod looking;
 pub mod question;
