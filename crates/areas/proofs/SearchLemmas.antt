@@ -1,14 +1,14 @@
 -- In a list in order the area of a name stands where the names before that name end.
-use Rattle.std.proofs.Common.{◌≡◌, ℕ, zero, suc, ◌<◌, ◌≤◌, Bool, true, false, ◌||◌, cond, List, [], ◌∷◌, length, get_or, ltb, ltb-true, ltb-false, le-ltb, lt-ltb, refl, sym, ap, ◌∙◌, arith}
-use Rattle.std.specs.List.{position_or_len, list_all}
+use Rattle.std.proofs.Common.{◌≡◌, ℕ, suc, ◌<◌, ◌≤◌, Bool, true, false, ◌||◌, cond, List, [], ◌∷◌, length, get_or, ltb, ltb-true, ltb-false, le-ltb, lt-ltb, refl, sym, ap, ◌∙◌, arith}
+use Rattle.std.specs.List.{position_or_len}
 use Rattle.std.specs.List.Sorted.{IsPartitionPoint, IsPartitionedBy}
-use Rattle.std.proofs.lemmas.Bool.{and_parts, false_from_ne_true}
+use Rattle.std.proofs.lemmas.Bool.{false_from_ne_true}
 use Rattle.std.proofs.lemmas.Bool.Decides.{nat_tests}
-use Rattle.std.proofs.lemmas.List.Folds.{list_all_at}
 use Rattle.std.proofs.lemmas.List.Sums.{position_or_len_is}
 use Rattle.std.proofs.lemmas.Slice.Eq.{bytes_eq-Decides}
 use Rattle.common.specs.Order.{is_ascending}
 use Rattle.areas.proofs.PlaceLemmas.{place_in, place_in-position}
+use Rattle.areas.proofs.RisingLemmas as rising
 use Rattle.areas.specs.Areas.{is_named, has_area, selectors_of, named_lt}
 use Rattle.areas.specs.Laws.{selectors_of_absent}
 use Rattle.areas.specs.Name.{octets_lt}
@@ -19,30 +19,9 @@ use Rattle.areas.specs.declared.area.Area.{Area}
 abbrev pub comes_before : List ℕ → Area → Bool
 comes_before a x = octets_lt x.name a
 
--- what all of a list pass, the one at a place passes
-at_place : (p : Area → Bool) (l : List Area) (j : ℕ) (d : Area) → j < length l → list_all p l ≡ true → p (get_or l j d) ≡ true
-at_place p l j d h all = step (p (get_or l j d)) refl
-  where
-    step : (t : Bool) → p (get_or l j d) ≡ t → t ≡ true
-    step true e = refl
-    step false e = sym (list_all_at p l j d h e) ∙ all
-
--- of two places the first has the name that comes first
-pub rises : (l : List Area) (i j : ℕ) (d : Area) → is_ascending named_lt l ≡ true → i < j → j < length l → named_lt (get_or l i d) (get_or l j d) ≡ true
-rises [] i j d o h g = absurd (omega arith)
-rises (x ∷ l) i zero d o h g = absurd (omega arith)
-rises (x ∷ l) zero (suc j) d o h g =
-    at_place (named_lt x) l j d (omega arith) (and_parts (list_all (named_lt x) l) (is_ascending named_lt l) o).0
-rises (x ∷ l) (suc i) (suc j) d o h g =
-    rises l i j d (and_parts (list_all (named_lt x) l) (is_ascending named_lt l) o).1 (omega arith) (omega arith)
-
 -- an area before one that comes before the name does so too
 pub parted : (a : List ℕ) (l : List Area) → is_ascending named_lt l ≡ true → IsPartitionedBy (comes_before a) l
-parted a l o i j d h g e = step (ltb i j) refl
-  where
-    step : (t : Bool) → ltb i j ≡ t → octets_lt (get_or l i d).name a ≡ true
-    step true k = octets_lt-transitive (get_or l i d).name (get_or l j d).name a (rises l i j d o (ltb-true i j k) g) e
-    step false k = let same : i ≡ j = omega (arith, ltb-false i j k) in ap (λ n. octets_lt (get_or l n d).name a) same ∙ e
+parted a l o = rising.parted named_lt (comes_before a) (λ x y h g. octets_lt-transitive x.name y.name a h g) l o
 
 -- an area that comes before the name has another
 other_before : (a : List ℕ) (x : Area) → comes_before a x ≡ true → is_named a x ≡ false
@@ -68,7 +47,7 @@ none_at_point a l n d o h point e =
     other k g = before (ltb k n) refl
       where
         after : (t : Bool) → ltb n k ≡ t → n ≤ k → is_named a (get_or l k d) ≡ false
-        after true f b = other_after a (get_or l n d) (get_or l k d) (rises l n k d o (ltb-true n k f) g) (point.1 n d (omega arith) (omega arith))
+        after true f b = other_after a (get_or l n d) (get_or l k d) (rising.rises named_lt l n k d o (ltb-true n k f) g) (point.1 n d (omega arith) (omega arith))
         after false f b = let same : k ≡ n = omega (arith, ltb-false n k f) in ap (λ m. is_named a (get_or l m d)) same ∙ e (omega arith)
 
         before : (t : Bool) → ltb k n ≡ t → is_named a (get_or l k d) ≡ false

@@ -1,14 +1,15 @@
 //! What a list of areas has.
 
-ghost use Rattle.std.specs.Prelude.{◌≡◌, true, length};
+ghost use Rattle.std.specs.Prelude.{◌≡◌, true, List, ℕ, length};
 ghost use Rattle.std.specs.List.{position_or_len};
 ghost use Rattle.common.specs.Order.{is_ascending};
-ghost use Rattle.areas.specs.Areas.{is_named, has_area, selectors_of, has_selector, selects, covers, named_lt};
+ghost use Rattle.areas.specs.Areas.{is_named, has_area, selectors_of, has_selector, is_among, selects, covers, named_lt};
+ghost use Rattle.areas.specs.Selector.{selector_lt};
 
 use crate::area::Area;
 use crate::naming::is_before;
 use crate::selector::Selector;
-use common::{Cell, Name};
+use common::{Cell, Name, Ordered};
 
 /// Where the area of that name stands among areas in order; past the last where there is none.
 pub(crate) fn place_of(areas: &[Area], a: &Name) -> usize
@@ -44,12 +45,22 @@ pub(crate) fn selectors_of<'a>(areas: &'a [Area], a: &Name) -> &'a [Selector]
     }
 }
 
+/// Whether the selector is one of those, which stand in their order.
+fn is_among(selectors: &[Selector], s: Selector) -> bool
+    requires { is_ascending selector_lt selectors.now ≡ true }
+    ensures { result ≡ is_among s selectors.now }
+{
+    let place = selectors.partition_point(|other| other.is_before(&s));
+    place < selectors.len() && selectors[place] == s
+}
+
 /// Whether the area has the selector.
 pub(crate) fn has_selector(areas: &[Area], a: &Name, s: Selector) -> bool
-    requires { is_ascending named_lt areas.now ≡ true }
+    requires ascending { is_ascending named_lt areas.now ≡ true }
+    requires ordered { (a : List ℕ) → is_ascending selector_lt (selectors_of areas.now a) ≡ true }
     ensures { result ≡ has_selector areas.now a.now s }
 {
-    selectors_of(areas, a).contains(&s)
+    is_among(selectors_of(areas, a), s)
 }
 
 /// How many selectors the area has.
@@ -60,16 +71,18 @@ pub(crate) fn selector_count(areas: &[Area], a: &Name) -> usize
     selectors_of(areas, a).len()
 }
 
-/// Whether one of the selectors is the cell or its location area.
-pub(crate) fn selects(selectors: &[Selector], c: Cell) -> bool
+/// Whether one of the selectors, which stand in their order, is the cell or its location area.
+fn selects(selectors: &[Selector], c: Cell) -> bool
+    requires { is_ascending selector_lt selectors.now ≡ true }
     ensures { result ≡ selects selectors.now c }
 {
-    selectors.contains(&Selector::Cell(c)) || selectors.contains(&Selector::Lac(c.lac))
+    is_among(selectors, Selector::Cell(c)) || is_among(selectors, Selector::Lac(c.lac))
 }
 
 /// Whether the area covers the cell.
 pub(crate) fn covers(areas: &[Area], a: &Name, c: Cell) -> bool
-    requires { is_ascending named_lt areas.now ≡ true }
+    requires ascending { is_ascending named_lt areas.now ≡ true }
+    requires ordered { (a : List ℕ) → is_ascending selector_lt (selectors_of areas.now a) ≡ true }
     ensures { result ≡ covers areas.now a.now c }
 {
     selects(selectors_of(areas, a), c)

@@ -1,8 +1,7 @@
 -- What a centre answers, and what always holds of it one entry further.
-use Rattle.std.proofs.Common.{◌≡◌, inl, inr, ℕ, ◌+◌, ◌*◌, ◌<◌, ◌≤◌, Bool, true, false, List, [], ◌∷◌, ◌++◌, Result, Ok, Err, length, map, refl, sym, ◌∙◌, ap, subst, arith, length-append}
+use Rattle.std.proofs.Common.{◌≡◌, inl, inr, ℕ, ◌+◌, ◌*◌, ◌<◌, ◌≤◌, Bool, true, false, List, [], ◌∷◌, ◌++◌, Result, Ok, Err, length, refl, sym, ◌∙◌, ap, subst, arith, length-append}
 use Rattle.std.proofs.lemmas.Bool.{lt-leb, le-leb}
 use Rattle.std.proofs.lemmas.List.{reverse-append, length-map}
-use Rattle.kept_tables.specs.View.{key_at}
 use Rattle.std.specs.Prelude.{IsErrAnd, IfErr, IsOk, if◌then◌else◌}
 use Rattle.areas.specs.declared.area.Area.{Area}
 use Rattle.cell_register.specs.Register as register
@@ -12,7 +11,7 @@ use Rattle.mirror.specs.Table.{down_at}
 use Rattle.warning_book.specs.Book as book
 use Rattle.centre_core.specs.Centre.{IsCentre, IsRefused, Leaves, Refuses}
 use Rattle.centre_core.specs.Flights.{up_before}
-use Rattle.centre_core.specs.Following.{Finishes, WasReached, held_past, keys_of}
+use Rattle.centre_core.specs.Following.{Finishes, WasReached, held_past}
 use Rattle.centre_core.specs.IsKept.{IsKept, OnlyReadsIn}
 use Rattle.centre_core.specs.Facts.{facts}
 use Rattle.centre_core.specs.Kept.{Gives, IsChecked, is_edit, register_after, areas_after, register_then, areas_then}
@@ -195,18 +194,10 @@ refuses_starved settings journal stale e (Err y) h whole given = inr (whole, inl
 
 -- The lines that were read or set.
 
-keys_counted : (ps : List Spot) (ns : List ℕ) → length (keys_of ps ns) ≡ length ps * length ns
-keys_counted [] ns = omega arith
-keys_counted (p ∷ ps) ns = omega (arith, length-append (map (key_at p) ns) (keys_of ps ns), length-map ns (key_at p), keys_counted ps ns)
-
--- as many lines were read as the event bears on
-pub held_counted : (past : Past) (e : Event) (a : Answer) (spots : List Spot) (held : List Held) → WasReached past e a spots held → length held ≡ size (reach_of past e a)
+-- no more lines were read than the event bears on
+pub held_counted : (past : Past) (e : Event) (a : Answer) (spots : List Spot) (held : List Held) → WasReached past e a spots held → length held ≤ size (reach_of past e a)
 held_counted past e a spots held was =
-    ap length was.lines
-    ∙ length-map (keys_of spots was.numbers) (held_past past)
-    ∙ keys_counted spots was.numbers
-    ∙ ap (λ n. n * length was.numbers) was.reach.spots_counted
-    ∙ ap (λ n. length (reach_of past e a).spots * n) was.reach.warnings_counted
+    subst (λ n. n ≤ size (reach_of past e a)) (sym (ap length was.lines ∙ length-map was.keys (held_past past))) was.few
 
 pub within_four : (settings : Settings) (journal : List Entry) (e : Event) (old new : ℕ) → new ≤ old + reach (past_of journal) e (verdict settings (past_of journal) e) → new ≤ old + 4 * reach (past_of journal) e (verdict settings (past_of journal) e)
 within_four settings journal e old new h = omega (arith, h)

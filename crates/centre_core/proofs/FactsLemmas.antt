@@ -1,7 +1,8 @@
 -- What is read of a line from what is kept is what the past says of it.
-use Rattle.std.proofs.Common.{◌≡◌, ℕ, Bool, ◌&&◌, ◌||◌, List, [], ◌∷◌, Option, Some, None, filter, cond, refl, ◌∙◌, ap}
+use Rattle.std.proofs.Common.{◌≡◌, ℕ, Bool, ◌&&◌, ◌||◌, List, [], ◌∷◌, Option, Some, None, filter, cond, refl, ◌∙◌, ap, not, nat_eq, length, suc, true, false, arith}
 use Rattle.std.specs.Prelude.{if◌then◌else◌}
 use Rattle.std.specs.List.{list_any}
+use Rattle.std.proofs.lemmas.Bool.Decides.{nat_tests}
 use Rattle.areas.specs.Areas as kept
 use Rattle.areas.specs.declared.area.Area.{Area}
 use Rattle.areas.specs.declared.selector.Selector.TheVariants as selector
@@ -24,7 +25,7 @@ pub filter_pointwise : {A : Type 0} (p q : A → Bool) → ((x : A) → p x ≡ 
 filter_pointwise p q h [] = refl
 filter_pointwise p q h (x ∷ xs) = ap (λ t. cond t (x ∷ filter p xs) (filter p xs)) (h x) ∙ ap (λ l. cond (q x) (x ∷ l) l) (filter_pointwise p q h xs)
 
-any_pointwise : {A : Type 0} (p q : A → Bool) → ((x : A) → p x ≡ q x) → (xs : List A) → list_any p xs ≡ list_any q xs
+pub any_pointwise : {A : Type 0} (p q : A → Bool) → ((x : A) → p x ≡ q x) → (xs : List A) → list_any p xs ≡ list_any q xs
 any_pointwise p q h [] = refl
 any_pointwise p q h (x ∷ xs) = ap (λ t. t || list_any p xs) (h x) ∙ ap (λ t. q x || t) (any_pointwise p q h xs)
 
@@ -49,3 +50,19 @@ facts_same past r l down b c line None registered selected fallen is =
     rw (fallen, here_same past r registered b c) refl
 facts_same past r l down b c line (Some w) registered selected fallen is =
     rw (fallen, is, wanted_same past r l registered selected b w c, here_same past r registered b c, filter_pointwise (λ a. kept.covers l a c) (λ a. covers past a c) (covers_same past l selected c) w.areas) refl
+
+-- what is wanted there, by the areas that cover the cell
+pub wanted_there : (r : register.State) (l : List Area) (b : ℕ) (w : Warning) (c : Cell) (names : List (List ℕ)) → names ≡ filter (λ a. kept.covers l a c) w.areas → (if w.active && (is_place (place_in r c) b && not (nat_eq (length names) 0)) then current_of w else None) ≡ wanted_in r l b w c
+wanted_there r l b w c names are =
+    ap (λ t. if w.active && (is_place (place_in r c) b && t) then current_of w else None) (ap (λ xs. not (nat_eq (length xs) 0)) are ∙ some w.areas)
+  where
+    more : (n : ℕ) → nat_eq (suc n) 0 ≡ false
+    more n = grind (arith, nat_tests)
+
+    some : (xs : List (List ℕ)) → not (nat_eq (length (filter (λ a. kept.covers l a c) xs)) 0) ≡ list_any (λ a. kept.covers l a c) xs
+    some [] = refl
+    some (x ∷ xs) = step (kept.covers l x c) (some xs)
+      where
+        step : (t : Bool) → not (nat_eq (length (filter (λ a. kept.covers l a c) xs)) 0) ≡ list_any (λ a. kept.covers l a c) xs → not (nat_eq (length (cond t (x ∷ filter (λ a. kept.covers l a c) xs) (filter (λ a. kept.covers l a c) xs))) 0) ≡ (t || list_any (λ a. kept.covers l a c) xs)
+        step true rest = ap not (more (length (filter (λ a. kept.covers l a c) xs)))
+        step false rest = rest

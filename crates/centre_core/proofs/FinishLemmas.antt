@@ -1,8 +1,8 @@
 -- What is kept after an accepted event is what the past with its entry says.
-use Rattle.std.proofs.Common.{◌≡◌, ℕ, ◌+◌, Bool, List, Option, map, refl, sym, ◌∙◌, ap, subst}
+use Rattle.std.proofs.Common.{◌≡◌, ℕ, ◌+◌, Bool, List, Option, refl, sym, ◌∙◌, ap, subst}
 use Rattle.kept_tables.specs.declared.spot.Spot.{Spot}
 use Rattle.centre_core.specs.Flights.{flights_after, up_before}
-use Rattle.centre_core.specs.Following.{Bears, Finishes, flight_kept, flight_before, held_past, keys_of}
+use Rattle.centre_core.specs.Following.{Bears, Finishes, flight_kept, flight_before}
 use Rattle.centre_core.specs.Kept.{AreFlightsOf}
 use Rattle.centre_core.specs.Past.{Past, After, position}
 use Rattle.centre_core.specs.Reach.{IsReach, reach_of}
@@ -45,7 +45,10 @@ bears_of s e a place up spots same held f fs x are these is = record {
   tables = x.tables;
   numbers = x.reached.numbers;
   reach = subst (λ ps. IsReach (record { spots = ps; warnings = x.reached.numbers }) (reach_of x.past e a)) (sym are) x.reached.reach;
-  lines = x.reached.lines ∙ ap (λ ps. map (held_past x.past) (keys_of ps x.reached.numbers)) (sym are);
+  keys = x.reached.keys;
+  lines = x.reached.lines;
+  once = x.reached.once;
+  rest = x.reached.rest x.settings x.desk x.legal x.accepted;
 }
 
 pub links_then : (past : Past) (e : Entry) (place : ℕ) (ls now : List Link) → AreLinksOf past ls → place ≡ position past + 1 → now ≡ links_after e.event place ls → AreLinksOf (After e past) now

@@ -1,13 +1,20 @@
 -- What is read of the lines on which an event bears is what the past says of them.
-use Rattle.std.proofs.Common.{◌≡◌, ℕ, ◌+◌, ◌*◌, ◌≤◌, false, ◌||◌, nat_eq, List, [], ◌∷◌, ◌++◌, Option, Some, None, length, map, refl, sym, ◌∙◌, ap, subst}
-use Rattle.std.specs.List.{list_any}
+use Rattle.std.proofs.Common.{◌≡◌, ℕ, ◌+◌, ◌*◌, ◌≤◌, Bool, true, false, ◌&&◌, ◌||◌, not, nat_eq, List, [], ◌∷◌, ◌++◌, Option, Some, None, Ok, cond, filter, length, map, refl, sym, ◌∙◌, ap, subst, arith}
+use Rattle.std.specs.Prelude.{if◌then◌else◌}
+use Rattle.std.specs.List.{flat_map, list_any}
+use Rattle.std.proofs.Math.Bool.{not-not}
+use Rattle.std.proofs.lemmas.Bool.{and_parts}
+use Rattle.std.proofs.lemmas.List.Elements.{filter-append}
+use Rattle.std.proofs.lemmas.List.Filters.{length-filter_both}
 use Rattle.std.specs.Cmp.{unsigned_Decides}
 use Rattle.cell_register.specs.Register as register
 use Rattle.cell_register.specs.Register.{has_bsc}
 use Rattle.cell_register.specs.Sound.{IsRegister}
-use Rattle.common.specs.OnceLaws.{turned, ascending_once}
+use Rattle.common.specs.OnceLaws.{turned, any_turned, any_filter_same, ascending_once, once_filter}
+use Rattle.kept_tables.specs.Same.{SamePart}
+use Rattle.kept_tables.specs.SpotLaws.{key_decides}
 use Rattle.kept_tables.specs.Tables.{Tables}
-use Rattle.kept_tables.specs.View.{key_at}
+use Rattle.kept_tables.specs.View.{key_at, key_eq}
 use Rattle.kept_tables.specs.declared.line_facts.LineFacts.{LineFacts}
 use Rattle.kept_tables.specs.declared.spot.Spot.{Spot}
 use Rattle.mirror.specs.Table.{line_at, down_at}
@@ -15,15 +22,17 @@ use Rattle.mirror.specs.declared.line_key.LineKey.{LineKey}
 use Rattle.warning_book.specs.Book.{warning_of}
 use Rattle.warning_book.specs.declared.warning.Warning.{Warning}
 use Rattle.centre_core.specs.Facts.{IsLineOf, facts_of, facts}
-use Rattle.centre_core.specs.Following.{AsBefore, flight_kept, facts_in, held_at, held_lines, held_past, keys_of, WasReached}
+use Rattle.centre_core.specs.Flights.{up_before}
+use Rattle.centre_core.specs.Following.{AsBefore, Happens, flight_before, flight_kept, facts_in, held_line, held_lines, changing_lines, is_idle, leaves_cover, stays, held_past, keys_of, WasReached}
 use Rattle.centre_core.specs.Idle.{OnlyReads}
 use Rattle.centre_core.specs.IsKept.{IsKept}
 use Rattle.centre_core.specs.Kept.{AreFlightsOf, is_edit}
 use Rattle.centre_core.specs.Legal.{Legal}
-use Rattle.centre_core.specs.Past.{Past}
+use Rattle.centre_core.specs.Past.{Past, After}
 use Rattle.centre_core.specs.Reach.{Reach, IsReach, reach_of, size}
 use Rattle.centre_core.specs.Reaching.{AreBscs, Told, IsFlightOf, bsc_of}
 use Rattle.centre_core.specs.Settings.{Settings}
+use Rattle.centre_core.specs.Verdict.{verdict}
 use Rattle.centre_core.specs.Warnings.{book_of}
 use Rattle.centre_core.specs.declared.answer.Answer.{Answer}
 use Rattle.centre_core.specs.declared.event.Event.{Event}
@@ -32,8 +41,12 @@ use Rattle.centre_core.specs.declared.flight.Flight.{Flight}
 use Rattle.centre_core.specs.declared.held.Held.{Held}
 use Rattle.centre_core.specs.declared.in_flight.InFlight.{InFlight}
 use Rattle.centre_core.specs.declared.kept.Kept.{Kept}
+use Rattle.coverage_plan.specs.declared.edit.Edit.{Edit}
 use Rattle.centre_core.proofs.FactsLemmas.{facts_same}
+use Rattle.centre_core.proofs.OutsideLemmas.{outside}
 use Rattle.centre_core.proofs.RegisterLemmas.{nat_apart}
+use Rattle.centre_core.proofs.StayLemmas.{idle_same, stays_same}
+use Rattle.centre_core.proofs.TellLemmas.{bears_of, keys_counted, keys_once}
 
 -- what is read of a line is what the past says
 pub facts_kept : (past : Past) (s : Kept) → IsKept past s → (k : LineKey) → facts_in s.register s.areas s.book s.tables k ≡ facts past k
@@ -50,18 +63,64 @@ map_append : {A B : Type 0} (f : A → B) (xs ys : List A) → map f (xs ++ ys) 
 map_append f [] ys = refl
 map_append f (x ∷ xs) ys = ap (λ zs. f x ∷ zs) (map_append f xs ys)
 
-at_spot : (past : Past) (s : Kept) → IsKept past s → (ns : List ℕ) (p : Spot) → held_at s.register s.areas s.book s.tables ns p ≡ map (held_past past) (map (key_at p) ns)
-at_spot past s kept [] p = refl
-at_spot past s kept (n ∷ ns) p =
-    ap (λ (f : LineFacts). (let h : Held = record { key = key_at p n; before = f } in h) ∷ held_at s.register s.areas s.book s.tables ns p) (facts_kept past s kept (key_at p n))
-    ∙ ap (λ hs. held_past past (key_at p n) ∷ hs) (at_spot past s kept ns p)
+-- Lines that are held but for those that pass a test, at spots and of warnings.
 
-pub held_kept : (past : Past) (s : Kept) → IsKept past s → (ps : List Spot) (ns : List ℕ) → held_lines s.register s.areas s.book s.tables ps ns ≡ map (held_past past) (keys_of ps ns)
-held_kept past s kept [] ns = refl
-held_kept past s kept (p ∷ ps) ns =
-    ap (λ hs. hs ++ held_lines s.register s.areas s.book s.tables ps ns) (at_spot past s kept ns p)
-    ∙ ap (λ hs. map (held_past past) (map (key_at p) ns) ++ hs) (held_kept past s kept ps ns)
-    ∙ sym (map_append (held_past past) (map (key_at p) ns) (keys_of ps ns))
+-- the line, if it does not pass
+abbrev unless : (LineKey → Bool) → (LineKey → Held) → LineKey → List Held
+unless passes line k = if passes k then [] else line k ∷ []
+
+-- the lines that do not pass
+abbrev failing : (LineKey → Bool) → List LineKey → List LineKey
+failing passes ks = filter (λ k. not (passes k)) ks
+
+failing_at : (passes : LineKey → Bool) (line was : LineKey → Held) → ((k : LineKey) → line k ≡ was k) → (p : Spot) (ns : List ℕ) → flat_map (λ n. unless passes line (key_at p n)) ns ≡ map was (failing passes (map (key_at p) ns))
+failing_at passes line was same p [] = refl
+failing_at passes line was same p (n ∷ ns) = step (passes (key_at p n)) (failing_at passes line was same p ns)
+  where
+    step : (t : Bool) → flat_map (λ m. unless passes line (key_at p m)) ns ≡ map was (failing passes (map (key_at p) ns)) → (if t then [] else line (key_at p n) ∷ []) ++ flat_map (λ m. unless passes line (key_at p m)) ns ≡ map was (cond (not t) (key_at p n ∷ failing passes (map (key_at p) ns)) (failing passes (map (key_at p) ns)))
+    step true rest = rest
+    step false rest = λ i. same (key_at p n) i ∷ rest i
+
+failing_lines : (passes : LineKey → Bool) (line was : LineKey → Held) → ((k : LineKey) → line k ≡ was k) → (ps : List Spot) (ns : List ℕ) → flat_map (λ p. flat_map (λ n. unless passes line (key_at p n)) ns) ps ≡ map was (failing passes (keys_of ps ns))
+failing_lines passes line was same [] ns = refl
+failing_lines passes line was same (p ∷ ps) ns =
+    (λ i. failing_at passes line was same p ns i ++ failing_lines passes line was same ps ns i)
+    ∙ sym (map_append was (failing passes (map (key_at p) ns)) (failing passes (keys_of ps ns)))
+    ∙ ap (map was) (sym (filter-append (λ k. not (passes k)) (map (key_at p) ns) (keys_of ps ns)))
+
+held_as : (past : Past) (s : Kept) → IsKept past s → (k : LineKey) → held_line s.register s.areas s.book s.tables k ≡ held_past past k
+held_as past s kept k = ap (λ (f : LineFacts). let h : Held = record { key = k; before = f } in h) (facts_kept past s kept k)
+
+-- a line of the reach that does not fail the test passes it
+passed : (passes : LineKey → Bool) (k : LineKey) (ks : List LineKey) → list_any (key_eq k) (failing passes ks) ≡ false → list_any (key_eq k) ks ≡ true → passes k ≡ true
+passed passes k ks out among = step (passes k) refl
+  where
+    step : (t : Bool) → passes k ≡ t → t ≡ true
+    step true e = refl
+    step false e =
+        let there : list_any (key_eq k) (failing passes ks) ≡ true = any_turned key_eq key_decides k (failing passes ks) ∙ any_filter_same key_eq key_decides (λ q. not (passes q)) k ks ∙ rw (e, sym (any_turned key_eq key_decides k ks) ∙ among) refl in
+        sym out ∙ there
+
+-- such lines were read, if each that passes has the same part after the event
+was_held : (past : Past) (e : Event) (a : Answer) (spots : List Spot) (numbers : List ℕ) (passes : LineKey → Bool) (held : List Held) → IsReach (record { spots = spots; warnings = numbers }) (reach_of past e a) → held ≡ map (held_past past) (failing passes (keys_of spots numbers)) → ((settings : Settings) (desk : ℕ) → Legal settings past → verdict settings past e ≡ Ok a → (k : LineKey) → passes k ≡ true → SamePart (facts past k) (facts (After (record { desk = desk; event = e; answer = a }) past) k)) → WasReached past e a spots held
+was_held past e a spots numbers passes held reach are same = record {
+  numbers = numbers;
+  reach = reach;
+  keys = failing passes (keys_of spots numbers);
+  lines = are;
+  once = once_filter key_eq (λ k. not (passes k)) (keys_of spots numbers) (keys_once spots numbers reach.spots_once reach.warnings_once);
+  few = few;
+  rest = λ settings desk legal accepted k out. step settings desk legal accepted k out (list_any (key_eq k) (keys_of spots numbers)) refl;
+}
+  where
+    few : length (failing passes (keys_of spots numbers)) ≤ size (reach_of past e a)
+    few =
+        omega (arith, length-filter_both (λ k. not (passes k)) passes (λ k. sym (not-not (passes k))) (keys_of spots numbers), keys_counted spots numbers ∙ ap (λ n. n * length numbers) reach.spots_counted ∙ ap (λ n. length (reach_of past e a).spots * n) reach.warnings_counted)
+
+    step : (settings : Settings) (desk : ℕ) → Legal settings past → verdict settings past e ≡ Ok a → (k : LineKey) → list_any (key_eq k) (failing passes (keys_of spots numbers)) ≡ false → (t : Bool) → list_any (key_eq k) (keys_of spots numbers) ≡ t → SamePart (facts past k) (facts (After (record { desk = desk; event = e; answer = a }) past) k)
+    step settings desk legal accepted k out true among = same settings desk legal accepted k (passed passes k (keys_of spots numbers) out among)
+    step settings desk legal accepted k out false away =
+        outside settings past legal (record { desk = desk; event = e; answer = a }) accepted k (sym (bears_of k spots numbers (reach_of past e a) reach) ∙ away)
 
 -- the register's BSCs are those that are registered, each once
 pub listed_bscs : (r : register.State) → IsRegister r → AreBscs r r.bscs
@@ -77,8 +136,22 @@ listed_bscs r sound = record {
 pub told_kept : (settings : Settings) (past : Past) (s : Kept) → Legal settings past → IsKept past s → Told settings past s.register s.book s.tables.lines
 told_kept settings past s legal kept = record { legal = legal; registered = kept.registered; booked = kept.booked; downs = kept.downs; lines = kept.tables.lines }
 
-pub was_reached : (past : Past) (s : Kept) (e : Event) (a : Answer) (spots : List Spot) (numbers : List ℕ) (held : List Held) → IsKept past s → IsReach (record { spots = spots; warnings = numbers }) (reach_of past e a) → held ≡ held_lines s.register s.areas s.book s.tables spots numbers → WasReached past e a spots held
-was_reached past s e a spots numbers held kept reach are = record { numbers = numbers; reach = reach; lines = are ∙ held_kept past s kept spots numbers }
+-- before an edit that has been accepted
+pub edit_was_reached : (past : Past) (s : Kept) (e : Edit) (a : Answer) (spots : List Spot) (numbers : List ℕ) (held : List Held) → IsKept past s → IsReach (record { spots = spots; warnings = numbers }) (reach_of past (event.Edit e) a) → held ≡ held_lines (leaves_cover e) s.register s.areas s.book s.tables spots numbers → WasReached past (event.Edit e) a spots held
+edit_was_reached past s e a spots numbers held kept reach are =
+    was_held past (event.Edit e) a spots numbers idle held reach
+    (are ∙ failing_lines idle (held_line s.register s.areas s.book s.tables) (held_past past) (held_as past s kept) spots numbers)
+    (λ settings desk legal accepted k h. let parts = and_parts (leaves_cover e) (is_idle s.areas (warning_of s.book k.warning) k.cell (line_at s.tables.lines k.bsc k.cell k.warning)) h in idle_same past desk e a parts.0 s kept k parts.1)
+  where
+    idle : LineKey → Bool
+    idle k = leaves_cover e && is_idle s.areas (warning_of s.book k.warning) k.cell (line_at s.tables.lines k.bsc k.cell k.warning)
+
+-- before another event
+pub other_was_reached : (past : Past) (s : Kept) (h : Happens) (spots : List Spot) (numbers : List ℕ) (held : List Held) → IsKept past s → is_edit h.event ≡ false → h.up ≡ up_before past h.event → h.flight ≡ flight_before past h.event → IsReach (record { spots = spots; warnings = numbers }) (reach_of past h.event h.answer) → held ≡ changing_lines h s.register s.areas s.book s.tables spots numbers → WasReached past h.event h.answer spots held
+other_was_reached past s h spots numbers held kept other up flight reach are =
+    was_held past h.event h.answer spots numbers (stays h s.areas s.book s.tables) held reach
+    (are ∙ failing_lines (stays h s.areas s.book s.tables) (held_line s.register s.areas s.book s.tables) (held_past past) (held_as past s kept) spots numbers)
+    (λ settings desk legal accepted k g. stays_same settings past legal desk h accepted other s kept up flight k g)
 
 pub reads_as : (t u : Tables) → AsBefore t u → OnlyReads t u
 reads_as t u h = record { lines = h.lines; downs = h.downs; same = h.same }

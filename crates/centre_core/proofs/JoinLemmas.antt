@@ -19,7 +19,7 @@ use Rattle.kept_tables.specs.Consistent.{Consistent}
 use Rattle.kept_tables.specs.ConsistentLaws.{same_parts, same_tables}
 use Rattle.kept_tables.specs.Same.{SamePart}
 use Rattle.kept_tables.specs.Tables.{Tables}
-use Rattle.kept_tables.specs.View.{spot_of, spot_eq}
+use Rattle.kept_tables.specs.View.{key_eq, spot_eq}
 use Rattle.kept_tables.specs.declared.change.Change.{Change}
 use Rattle.kept_tables.specs.declared.line_facts.LineFacts.{LineFacts}
 use Rattle.kept_tables.specs.declared.spot.Spot.{Spot}
@@ -33,10 +33,10 @@ use Rattle.warning_book.specs.declared.warning.Warning.{Warning}
 use Rattle.centre_core.specs.Down.{down_mark, listed_down, is_down}
 use Rattle.centre_core.specs.Effects.{is_among}
 use Rattle.centre_core.specs.Facts.{facts_of, facts}
-use Rattle.centre_core.specs.Following.{SameLines, Happens, Bears, change_of, held_past, keys_of, entry_of, down_after}
+use Rattle.centre_core.specs.Following.{SameLines, Happens, Bears, change_of, held_past, entry_of, down_after}
 use Rattle.centre_core.specs.Legal.{Legal}
 use Rattle.centre_core.specs.Past.{Past, After}
-use Rattle.centre_core.specs.Reach.{bears, reach_of, spot}
+use Rattle.centre_core.specs.Reach.{reach_of, spot}
 use Rattle.centre_core.specs.Known.{is_known}
 use Rattle.centre_core.specs.Settings.{Settings}
 use Rattle.centre_core.specs.Warnings.{book_of, warnings_of, has_key, serials}
@@ -49,10 +49,9 @@ use Rattle.centre_core.specs.declared.event.Event.TheVariants as event
 use Rattle.centre_core.specs.declared.held.Held.{Held}
 use Rattle.centre_core.proofs.BookLemmas.{wider, owner_of, owner_is, wide_before, wide_after}
 use Rattle.centre_core.proofs.LineLemmas.{not_down}
-use Rattle.centre_core.proofs.OutsideLemmas.{outside}
 use Rattle.centre_core.proofs.OwnedLemmas.{owned}
 use Rattle.centre_core.proofs.ReachLemmas.{spot_among, known_there}
-use Rattle.centre_core.proofs.TellLemmas.{from_to, any_changes, tells_keys, any_keys, keys_once}
+use Rattle.centre_core.proofs.TellLemmas.{from_to, any_changes, tells_keys}
 use Rattle.centre_core.proofs.ThenLemmas.{then_is}
 use Rattle.centre_core.proofs.UniqueLemmas.{unique}
 use Rattle.centre_core.proofs.WarningLemmas.{legal_sound}
@@ -137,12 +136,12 @@ facts_few settings past legal k = step (warning_of (book_of past) k.warning) ref
         omega (arith, few, long)
 
 -- the changes are from the past to the past with the entry
-pub changes_are : {r : register.State} {l : List Area} {st : book.State} {t : Tables} {h : Happens} {spots : List Spot} {held : List Held} (x : Bears r l st t h spots held) (u : Tables) → ((b : ℕ) (c : Cell) → down_at u.lines b c ≡ is_down (After (entry_of x.desk h) x.past) b c) → map (change_of h r l st u) held ≡ map (from_to (facts x.past) (facts (After (entry_of x.desk h) x.past))) (keys_of spots x.numbers)
+pub changes_are : {r : register.State} {l : List Area} {st : book.State} {t : Tables} {h : Happens} {spots : List Spot} {held : List Held} (x : Bears r l st t h spots held) (u : Tables) → ((b : ℕ) (c : Cell) → down_at u.lines b c ≡ is_down (After (entry_of x.desk h) x.past) b c) → map (change_of h r l st u) held ≡ map (from_to (facts x.past) (facts (After (entry_of x.desk h) x.past))) x.keys
 changes_are {r = r} {l = l} {st = st} {h = h} {spots = spots} x u downs =
     ap (map (change_of h r l st u)) x.lines
     ∙ map_twice (held_past x.past) (change_of h r l st u) (from_to (facts x.past) (facts (After (entry_of x.desk h) x.past)))
     (λ k. ap (λ (f : LineFacts). let y : Change = record { key = k; before = facts x.past k; after = f } in y) (then_is x.settings x.past x.legal x.desk h x.accepted x.up x.flight r l st u x.registered x.selected x.booked downs k))
-    (keys_of spots x.numbers)
+    x.keys
 
 abbrev pub begins : {r : register.State} {l : List Area} {st : book.State} {t : Tables} {h : Happens} {spots : List Spot} {held : List Held} (x : Bears r l st t h spots held) (u : Tables) → SameLines t u → ((b : ℕ) (c : Cell) → down_at u.lines b c ≡ down_after h.event h.answer spots b c (down_at t.lines b c)) → Begins u (map (change_of h r l st u) held)
 begins {r = r} {l = l} {st = st} {t = t} {h = h} {spots = spots} {held = held} x u same downs = record {
@@ -156,7 +155,7 @@ begins {r = r} {l = l} {st = st} {t = t} {h = h} {spots = spots} {held = held} x
   placed_to = facts_placed new;
   few_from = facts_few x.settings x.past x.legal;
   few_to = facts_few x.settings new legal_new;
-  tells = subst (Tells (facts x.past) (facts new)) (sym (changes_are x u (λ b c. downs b c ∙ downs_then x b c))) (tells_keys (facts x.past) (facts new) (keys_of spots x.numbers) (keys_once spots x.numbers x.reach.spots_once x.reach.warnings_once));
+  tells = subst (Tells (facts x.past) (facts new)) (sym (changes_are x u (λ b c. downs b c ∙ downs_then x b c))) (tells_keys (facts x.past) (facts new) x.keys x.once);
 }
   where
     new : Past
@@ -185,17 +184,12 @@ joined {r = r} {l = l} {st = st} {h = h} {spots = spots} {held = held} x u v dow
     itself : (f : LineFacts) → SamePart f f
     itself f = record { line = refl; deeds = refl; total = refl; area = λ a. refl }
 
-    reached : (k : LineKey) → changes_key k (map (change_of h r l st u) held) ≡ bears (reach_of x.past h.event h.answer) k
-    reached k =
-        ap (changes_key k) (changes_are x u (λ b c. downs b c ∙ downs_then x b c))
-        ∙ any_changes (facts x.past) (facts new) k (keys_of spots x.numbers)
-        ∙ any_keys k spots x.numbers
-        ∙ ap (λ t. t && list_any (nat_eq k.warning) x.numbers) (x.reach.spots (spot_of k))
-        ∙ ap (λ t. list_any (spot_eq (spot_of k)) (reach_of x.past h.event h.answer).spots && t) (x.reach.warnings k.warning)
+    read : (k : LineKey) → changes_key k (map (change_of h r l st u) held) ≡ list_any (key_eq k) x.keys
+    read k = ap (changes_key k) (changes_are x u (λ b c. downs b c ∙ downs_then x b c)) ∙ any_changes (facts x.past) (facts new) k x.keys
 
     each : (k : LineKey) (t : Bool) → changes_key k (map (change_of h r l st u) held) ≡ t → SamePart (if t then facts new k else facts x.past k) (facts new k)
     each k true e = itself (facts new k)
-    each k false e = outside x.settings x.past x.legal (entry_of x.desk h) x.accepted k (sym (reached k) ∙ e)
+    each k false e = x.rest k (sym (read k) ∙ e)
 
 pub settled : {r : register.State} {l : List Area} {st : book.State} {t : Tables} {h : Happens} {spots : List Spot} {held : List Held} (x : Bears r l st t h spots held) (u v : Tables) (xs : List Change) → xs ≡ map (change_of h r l st u) held → SameLines t u → ((b : ℕ) (c : Cell) → down_at u.lines b c ≡ down_after h.event h.answer spots b c (down_at t.lines b c)) → ((y : Begins u xs) → Consistent v (mixed y.from y.to xs)) → Consistent v (facts (After (entry_of x.desk h) x.past))
 settled {r = r} {l = l} {st = st} {h = h} {spots = spots} {held = held} x u v xs are same downs done =

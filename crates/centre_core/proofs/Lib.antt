@@ -38,6 +38,9 @@ pub mod WasLemmas
 pub mod ThenLemmas
 pub mod TellLemmas
 pub mod JoinLemmas
+pub mod StayLemmas
+pub mod BlankLineLemmas
+pub mod EffectLemmas
 pub mod HoldLemmas
 pub mod FinishLemmas
 pub mod MarkedLineLemmas

@@ -125,7 +125,7 @@ pub same_none : (past new : Past) (b : ℕ) (c : Cell) → SamePart (facts_of pa
 same_none past new b c = same_blank (facts_of past b c None) (facts_of new b c None) refl refl refl refl
 
 -- what is not wanted there
-not_wanted : (past : Past) (b : ℕ) (c : Cell) (w : Warning) → wants past b w c ≡ false → wanted past b w c ≡ None
+pub not_wanted : (past : Past) (b : ℕ) (c : Cell) (w : Warning) → wants past b w c ≡ false → wanted past b w c ≡ None
 not_wanted past b c w h = ap (λ t. if t then current_of w else None) h
 
 -- nothing is wanted in a cell away from its BSC, or that no area covers

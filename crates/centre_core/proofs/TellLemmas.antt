@@ -1,7 +1,8 @@
 -- The changes of the lines on which an event bears lead from what the past says to what it says with the entry.
-use Rattle.std.proofs.Common.{◌≡◌, ℕ, Bool, true, false, ◌&&◌, ◌||◌, not, nat_eq, List, [], ◌∷◌, ◌++◌, map, refl, sym, ◌∙◌, ap, eqb-true, eq-eqb}
+use Rattle.std.proofs.Common.{◌≡◌, ℕ, Bool, true, false, ◌&&◌, ◌||◌, not, nat_eq, List, [], ◌∷◌, ◌++◌, map, refl, sym, ◌∙◌, ap, eqb-true, eq-eqb, ◌*◌, length, arith, length-append}
 use Rattle.std.specs.List.{list_any}
 use Rattle.std.proofs.lemmas.Bool.{and_parts, and_from, not-true, or_right}
+use Rattle.std.proofs.lemmas.List.{length-map}
 use Rattle.std.proofs.lemmas.List.Folds.{list_any-append}
 use Rattle.areas.specs.declared.area.Area.{Area}
 use Rattle.cell_register.specs.Register as register
@@ -17,7 +18,7 @@ use Rattle.warning_book.specs.Book as book
 use Rattle.centre_core.specs.Facts.{facts}
 use Rattle.centre_core.specs.Following.{Happens, Bears, keys_of, entry_of}
 use Rattle.centre_core.specs.Past.{After}
-use Rattle.centre_core.specs.Reach.{bears}
+use Rattle.centre_core.specs.Reach.{Reach, IsReach, bears}
 use Rattle.centre_core.specs.declared.held.Held.{Held}
 
 -- the change of a line from one view to another
@@ -64,6 +65,18 @@ any_keys k (p ∷ ps) ns =
     table true false true = refl
     table true false false = refl
     table false y z = refl
+
+-- they are those on which an event bears
+pub bears_of : (k : LineKey) (ps : List Spot) (ns : List ℕ) (r : Reach) → IsReach (record { spots = ps; warnings = ns }) r → list_any (key_eq k) (keys_of ps ns) ≡ bears r k
+bears_of k ps ns r reach =
+    any_keys k ps ns
+    ∙ ap (λ t. t && list_any (nat_eq k.warning) ns) (reach.spots (spot_of k))
+    ∙ ap (λ t. list_any (spot_eq (spot_of k)) r.spots && t) (reach.warnings k.warning)
+
+-- and as many
+pub keys_counted : (ps : List Spot) (ns : List ℕ) → length (keys_of ps ns) ≡ length ps * length ns
+keys_counted [] ns = omega arith
+keys_counted (p ∷ ps) ns = omega (arith, length-append (map (key_at p) ns) (keys_of ps ns), length-map ns (key_at p), keys_counted ps ns)
 
 once_join : (xs ys : List LineKey) → each_once key_eq xs ≡ true → each_once key_eq ys ≡ true → ((k : LineKey) → list_any (key_eq k) xs ≡ true → list_any (key_eq k) ys ≡ false) → each_once key_eq (xs ++ ys) ≡ true
 once_join [] ys h g apart = g

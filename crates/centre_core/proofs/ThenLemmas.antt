@@ -147,7 +147,7 @@ stepped_same f g n p (s ∷ ss) line same counted =
     here = ap (λ t. t || list_any (nat_eq s) ss) (eq-eqb s s refl)
 
 -- the line that is kept then is the one that the past with the entry says
-line_then : (settings : Settings) (past : Past) → Legal settings past → (desk : ℕ) (h : Happens) → verdict settings past h.event ≡ Ok h.answer → h.up ≡ up_before past h.event → h.flight ≡ flight_before past h.event → (k : LineKey) (o : Option Warning) → warning_of (book_of (After (entry_of desk h) past)) k.warning ≡ o → IsLineOf (After (entry_of desk h) past) k.bsc k.cell (line_now h (book_of (After (entry_of desk h) past)).warnings k.bsc k.cell o (facts past k).line) o
+pub line_then : (settings : Settings) (past : Past) → Legal settings past → (desk : ℕ) (h : Happens) → verdict settings past h.event ≡ Ok h.answer → h.up ≡ up_before past h.event → h.flight ≡ flight_before past h.event → (k : LineKey) (o : Option Warning) → warning_of (book_of (After (entry_of desk h) past)) k.warning ≡ o → IsLineOf (After (entry_of desk h) past) k.bsc k.cell (line_now h (book_of (After (entry_of desk h) past)).warnings k.bsc k.cell o (facts past k).line) o
 line_then settings past legal desk h accepted up flight k None found = tt
 line_then settings past legal desk h accepted up flight k (Some w) found =
     stepped_same (λ s. effect k.bsc k.cell w.message_id s h.event h.answer h.up h.flight (book_of (After (entry_of desk h) past)).warnings) (λ s. effect_at k.bsc k.cell w.message_id s (entry_of desk h) past)

@@ -1,15 +1,19 @@
 -- How what is kept follows an event: the lines on which it bears, as they stand before it and after.
-use Rattle.std.specs.Prelude.{◌≡◌, ℕ, ◌+◌, Bool, true, false, List, Option, Some, None, Ok, map, unwrap_or, if◌then◌else◌}
+use Rattle.std.specs.Prelude.{◌≡◌, ℕ, ◌+◌, ◌≤◌, Bool, true, false, ◌&&◌, ◌||◌, not, List, [], ◌∷◌, Option, Some, None, Ok, length, map, unwrap_or, if◌then◌else◌}
 use Rattle.std.specs.List.{flat_map, list_any}
+use Rattle.areas.specs.Areas.{covers}
 use Rattle.areas.specs.declared.area.Area.{Area}
 use Rattle.cell_register.specs.Register as register
+use Rattle.common.specs.Order.{each_once}
 use Rattle.common.specs.declared.cell.Cell.{Cell}
 use Rattle.kept_tables.specs.Consistent.{Consistent}
+use Rattle.kept_tables.specs.Same.{SamePart}
 use Rattle.kept_tables.specs.Tables.{Tables, SameTables}
-use Rattle.kept_tables.specs.View.{key_at, spot_eq}
+use Rattle.kept_tables.specs.View.{key_at, key_eq, spot_eq}
 use Rattle.kept_tables.specs.declared.change.Change.{Change}
 use Rattle.kept_tables.specs.declared.line_facts.LineFacts.{LineFacts}
 use Rattle.kept_tables.specs.declared.spot.Spot.{Spot}
+use Rattle.mirror.specs.Blank.{is_blank, line_eq}
 use Rattle.mirror.specs.Table.{line_at, down_at}
 use Rattle.mirror.specs.declared.line.Line.{Line}
 use Rattle.mirror.specs.declared.line_key.LineKey.{LineKey}
@@ -26,13 +30,15 @@ use Rattle.centre_core.specs.Kept.{IsRegisterOf, AreAreasOf, AreFlightsOf, fligh
 use Rattle.centre_core.specs.Legal.{Legal}
 use Rattle.centre_core.specs.Past.{Past, After, position, past_of}
 use Rattle.centre_core.specs.Presence.{effect}
-use Rattle.centre_core.specs.Reach.{IsReach, reach_of}
+use Rattle.centre_core.specs.Reach.{IsReach, reach_of, size}
 use Rattle.centre_core.specs.Settings.{Settings}
 use Rattle.centre_core.specs.State.{AreLinksOf, facts_from}
 use Rattle.centre_core.specs.Stepping.{stepped}
 use Rattle.centre_core.specs.Warnings.{book_of, serials}
 use Rattle.centre_core.specs.Verdict.{verdict}
 use Rattle.centre_core.specs.declared.answer.Answer.{Answer}
+use Rattle.centre_core.specs.declared.answer.Answer.TheVariants.{Listed}
+use Rattle.coverage_plan.specs.declared.edit.Edit.{Edit}
 use Rattle.coverage_plan.specs.declared.edit.Edit.TheVariants as edit
 use Rattle.centre_core.specs.declared.event.Event.{Event}
 use Rattle.centre_core.specs.declared.event.Event.TheVariants as event
@@ -57,13 +63,30 @@ facts_in r l st t k = facts_from r l (down_at t.lines k.bsc k.cell) k.bsc k.cell
 abbrev pub held_line : register.State → List Area → book.State → Tables → LineKey → Held
 held_line r l st t k = record { key = k; before = facts_in r l st t k }
 
+-- nothing is kept of the line, and no area of its warning covers the cell, if the book has the warning
+abbrev pub is_idle : List Area → Option Warning → Cell → Line → Bool
+is_idle l None c line = true
+is_idle l (Some w) c line = is_blank line && not (list_any (λ a. covers l a c) w.areas)
+
+-- the edit leaves what each area covers, and which areas a warning has: a line that is idle before it has no part after it
+abbrev pub leaves_cover : Edit → Bool
+leaves_cover (edit.RemoveBsc b) = true
+leaves_cover (edit.AddCell c b) = true
+leaves_cover (edit.MoveCell c b) = true
+leaves_cover (edit.RemoveCell c) = true
+leaves_cover other = false
+
+-- the line as it stands, if it is not idle where idle ones are passed over
+abbrev pub held_unless : Bool → register.State → List Area → book.State → Tables → LineKey → List Held
+held_unless passes r l st t k = if passes && is_idle l (warning_of st k.warning) k.cell (line_at t.lines k.bsc k.cell k.warning) then [] else held_line r l st t k ∷ []
+
 -- the lines of each of the warnings at the spot
-abbrev pub held_at : register.State → List Area → book.State → Tables → List ℕ → Spot → List Held
-held_at r l st t ns p = map (λ n. held_line r l st t (key_at p n)) ns
+abbrev pub held_at : Bool → register.State → List Area → book.State → Tables → List ℕ → Spot → List Held
+held_at passes r l st t ns p = flat_map (λ n. held_unless passes r l st t (key_at p n)) ns
 
 -- at each of the spots
-abbrev pub held_lines : register.State → List Area → book.State → Tables → List Spot → List ℕ → List Held
-held_lines r l st t ps ns = flat_map (held_at r l st t ns) ps
+abbrev pub held_lines : Bool → register.State → List Area → book.State → Tables → List Spot → List ℕ → List Held
+held_lines passes r l st t ps ns = flat_map (held_at passes r l st t ns) ps
 
 -- what happens at a key of the BSC: the effect by its serial number
 pub record Happens : Type 0 where
@@ -80,6 +103,36 @@ line_now h ws b c (Some w) line = stepped (λ s. effect b c w.message_id s h.eve
 -- what is read of it then, from what is kept after the event
 abbrev pub facts_then : Happens → register.State → List Area → book.State → Tables → LineKey → Line → LineFacts
 facts_then h r l st t k line = facts_from r l (down_at t.lines k.bsc k.cell) k.bsc k.cell (line_now h st.warnings k.bsc k.cell (warning_of st k.warning) line) (warning_of st k.warning)
+
+-- what brings a cell down, or up, leaves it as it was
+abbrev pub keeps_down : Option Bool → Bool → Bool
+keeps_down None was = true
+keeps_down (Some true) was = was
+keeps_down (Some false) was = not was
+
+-- what happens leaves the line as it is, and either leaves the cell down, or up, as it was, or the line is idle
+abbrev pub stays : Happens → List Area → book.State → Tables → LineKey → Bool
+stays h l st t k =
+    line_eq (line_now h st.warnings k.bsc k.cell (warning_of st k.warning) (line_at t.lines k.bsc k.cell k.warning)) (line_at t.lines k.bsc k.cell k.warning)
+    && (keeps_down (down_mark k.bsc k.cell h.event h.answer) (down_at t.lines k.bsc k.cell) || is_idle l (warning_of st k.warning) k.cell (line_at t.lines k.bsc k.cell k.warning))
+
+-- an indication or a Retry, which leaves a blank line blank
+abbrev pub leaves_blank : Event → Answer → Bool
+leaves_blank (event.Retry b) answer = true
+leaves_blank (event.Report b generation message) (Listed cells) = true
+leaves_blank e answer = false
+
+-- the line as it stands, if it does not stay so
+abbrev pub changing_line : Happens → register.State → List Area → book.State → Tables → LineKey → List Held
+changing_line h r l st t k = if stays h l st t k then [] else held_line r l st t k ∷ []
+
+-- those of each of the warnings at the spot
+abbrev pub changing_at : Happens → register.State → List Area → book.State → Tables → List ℕ → Spot → List Held
+changing_at h r l st t ns p = flat_map (λ n. changing_line h r l st t (key_at p n)) ns
+
+-- at each of the spots
+abbrev pub changing_lines : Happens → register.State → List Area → book.State → Tables → List Spot → List ℕ → List Held
+changing_lines h r l st t ps ns = flat_map (changing_at h r l st t ns) ps
 
 -- the change of the line
 abbrev pub change_of : Happens → register.State → List Area → book.State → Tables → Held → Change
@@ -140,13 +193,21 @@ pub record Bears (r : register.State) (l : List Area) (st : book.State) (t : Tab
   pub tables : Consistent t (facts past)
   pub numbers : List ℕ
   pub reach : IsReach (record { spots = spots; warnings = numbers }) (reach_of past h.event h.answer)
-  pub lines : held ≡ map (held_past past) (keys_of spots numbers)
+  pub keys : List LineKey
+  pub lines : held ≡ map (held_past past) keys
+  pub once : each_once key_eq keys ≡ true
+  pub rest : (k : LineKey) → list_any (key_eq k) keys ≡ false → SamePart (facts past k) (facts (After (entry_of desk h) past) k)
 
--- the lines on which an accepted event bears were read before it, at these spots
+-- the lines that an accepted event changes were read before it, at the spots on which it bears; each other line has the
+-- same part after it
 pub record WasReached (past : Past) (e : Event) (a : Answer) (spots : List Spot) (held : List Held) : Type 0 where
   pub numbers : List ℕ
   pub reach : IsReach (record { spots = spots; warnings = numbers }) (reach_of past e a)
-  pub lines : held ≡ map (held_past past) (keys_of spots numbers)
+  pub keys : List LineKey
+  pub lines : held ≡ map (held_past past) keys
+  pub once : each_once key_eq keys ≡ true
+  pub few : length keys ≤ size (reach_of past e a)
+  pub rest : (settings : Settings) (desk : ℕ) → Legal settings past → verdict settings past e ≡ Ok a → (k : LineKey) → list_any (key_eq k) keys ≡ false → SamePart (facts past k) (facts (After (record { desk = desk; event = e; answer = a }) past) k)
 
 -- what is known of what is kept where an accepted event has been made, but for the lines, the links and the flights
 pub record Finishes (s : Kept) (e : Event) (a : Answer) (place : ℕ) (up : Bool) (spots : List Spot) (held : List Held) : Type 0 where

@@ -34,6 +34,11 @@ abbrev pub names_serial : InFlight → ℕ → Bool
 names_serial (flight.Order order) s = nat_eq order.serial s || replaces order.kind s
 names_serial (flight.Query message_id serial cells) s = nat_eq serial s
 
+-- what is in flight, if anything is, names the version of that message identifier and serial number
+abbrev pub names_version : Option InFlight → ℕ → ℕ → Bool
+names_version None m s = false
+names_version (Some f) m s = nat_eq (id_of f) m && names_serial f s
+
 -- it names a version of the warning
 abbrev pub names_warning : InFlight → Warning → Bool
 names_warning f w = nat_eq (id_of f) w.message_id && list_any (λ v. names_serial f v.serial) w.versions

@@ -7,6 +7,7 @@ ghost use Rattle.warning_book.specs.Book.{has_number};
 ghost use Rattle.centre_core.specs.Down.{says_down, listed_down, edit_down, down_mark};
 ghost use Rattle.centre_core.specs.Effects.{is_among, write_refused, replace_refused, kill_refused, new_effect, old_refused, old_effect, query_effect, replaces, key_effect, order_effect, flight_effect, outcome_in, said_effect, restart_effect, indicated_effect, report_effect, presence_mark, hold_mark, state_after};
 ghost use Rattle.centre_core.specs.Presence.{edit_effect, effect};
+ghost use Rattle.centre_core.specs.Reported.{names_version};
 ghost use Rattle.centre_core.specs.Warnings.{has_key, is_version};
 
 use crate::answer::Answer;
@@ -14,7 +15,9 @@ use crate::effect::Effect;
 use crate::event::Event;
 use crate::in_flight::InFlight;
 use crate::outcome::Outcome;
+use crate::reached_warnings::names_serial;
 use crate::reply::Reply;
+use crate::replying::id_of;
 use cbsp_ie::Cause;
 use cbsp_messages::Message;
 use cell_register::BscId;
@@ -172,6 +175,33 @@ fn indicated_effect(message: &Message) -> Effect
     }
 }
 
+/// Whether what is in flight, if anything is, names the version of that message identifier and serial number.
+fn names_version(flight: Option<&InFlight>, message_id: u16, serial: Serial) -> bool
+    ensures { result ≡ names_version (option_copied flight.entry) message_id serial }
+{
+    match flight {
+        Some(flight) => id_of(flight) == message_id && names_serial(flight, serial),
+        None => false,
+    }
+}
+
+/// What the replies do at a key. They are looked through only where what is in flight names the version.
+#[tactic(auto, using(crate::proofs::EffectLemmas::unnamed))]
+fn replied_effect(
+    replies: &[Reply],
+    flight: Option<&InFlight>,
+    c: Cell,
+    message_id: u16,
+    serial: Serial,
+) -> Effect
+    ensures { result ≡ said_effect (outcome_in c replies.now) (option_copied flight.entry) c message_id serial }
+{
+    if !names_version(flight, message_id, serial) {
+        return Effect::Leaves;
+    }
+    said_effect(outcome_in(c, replies), flight, c, message_id, serial)
+}
+
 /// What a report that was answered so does at a key of its BSC.
 pub(crate) fn report_effect(
     message: &Message,
@@ -185,8 +215,7 @@ pub(crate) fn report_effect(
 {
     match answer {
         Answer::Replied(replies) => {
-            let said = outcome_in(c, replies.as_slice());
-            said_effect(said, flight, c, message_id, serial)
+            replied_effect(replies.as_slice(), flight, c, message_id, serial)
         }
         Answer::Listed(cells) if is_among(c, cells.as_slice()) => indicated_effect(message),
         _ => Effect::Leaves,

@@ -1,11 +1,12 @@
 //! What is read of one line, from what a centre keeps.
 
-ghost use Rattle.std.specs.Prelude.{◌≡◌, ◌++◌, ◌∷◌, [], filter, map, IfOk, OnOk, if◌then◌else◌};
+ghost use Rattle.std.specs.Prelude.{◌≡◌, ◌&&◌, ◌++◌, ◌∷◌, [], Some, None, filter, map, IfOk, OnOk, if◌then◌else◌};
 ghost use Rattle.std.specs.List.{list_any};
 ghost use Rattle.std.specs.Option.{option_copied};
 ghost use Rattle.areas.specs.Areas.{covers};
 ghost use Rattle.cell_register.specs.Register.{place_in, is_place};
-ghost use Rattle.centre_core.specs.State.{wants_in, wanted_in, facts_from};
+ghost use Rattle.warning_book.specs.Book.{current_of};
+ghost use Rattle.centre_core.specs.State.{facts_from};
 ghost use Rattle.centre_core.specs.Warnings.{serials};
 
 use areas::Areas;
@@ -72,21 +73,44 @@ pub(crate) fn is_here(register: &Register, b: BscId, c: Cell) -> bool
     }
 }
 
-/// The serial number that is wanted in the cell at the BSC.
-pub(crate) fn wanted(
-    register: &Register,
-    areas: &Areas,
-    b: BscId,
-    w: &Warning,
-    c: Cell,
-) -> Option<Serial>
-    ensures { result ≡ wanted_in register.now areas.now b w.now c }
+/// The serial number that is wanted in a cell that is registered at the BSC or isn't, and covered or isn't.
+fn wanted(w: &Warning, here: bool, covered: bool) -> Option<Serial>
+    ensures { result ≡ (if w.now.active && (here && covered) then current_of w.now else None) }
 {
-    if w.is_active() && is_here(register, b, c) && is_covered(areas, w.areas(), c) {
+    if w.is_active() && here && covered {
         w.serial()
     } else {
         None
     }
+}
+
+/// What is read of the line of a warning in a cell that is down or not.
+fn facts_of(
+    alloc: Global,
+    register: &Register,
+    areas: &Areas,
+    down: bool,
+    b: BscId,
+    c: Cell,
+    line: Line,
+    w: &Warning,
+) -> Result<LineFacts, AllocError>
+    ensures { IfOk result (λ f. f ≡ facts_from register.now areas.now down b c line (Some w.now)) }
+{
+    let here = is_here(register, b, c);
+    let versions = serials_of(alloc, w.versions())?;
+    let covering = covering(alloc, areas, w.areas(), c)?;
+    let wanted = wanted(w, here, !covering.as_slice().is_empty());
+    Ok(LineFacts {
+        line,
+        message_id: w.message_id(),
+        versions,
+        wanted,
+        down,
+        areas: covering,
+        here,
+        active: w.is_active(),
+    })
 }
 
 /// What is read of the line of a warning, if the book has it, in a cell that is down or not.
@@ -102,18 +126,8 @@ pub(crate) fn facts_from(
 ) -> Result<LineFacts, AllocError>
     ensures { IfOk result (λ f. f ≡ facts_from register.now areas.now down b c line (option_copied warning.entry)) }
 {
-    let here = is_here(register, b, c);
     match warning {
-        Some(w) => Ok(LineFacts {
-            line,
-            message_id: w.message_id(),
-            versions: serials_of(alloc, w.versions())?,
-            wanted: wanted(register, areas, b, w, c),
-            down,
-            areas: covering(alloc, areas, w.areas(), c)?,
-            here,
-            active: w.is_active(),
-        }),
-        None => Ok(LineFacts::none(alloc, down, here)),
+        Some(w) => facts_of(alloc, register, areas, down, b, c, line, w),
+        None => Ok(LineFacts::none(alloc, down, is_here(register, b, c))),
     }
 }

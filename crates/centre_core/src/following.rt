@@ -1,16 +1,15 @@
-//! How what is kept follows an event: the lines on which it bears are read before it, and changed after it.
+//! How what is kept follows an event: the lines that it changes are changed after it.
 
-ghost use Rattle.std.specs.Prelude.{◌≡◌, ℕ, ◌≤◌, ◌+◌, ◌*◌, ◌++◌, length, map, IfOk, OnOk};
+ghost use Rattle.std.specs.Prelude.{◌≡◌, ℕ, ◌≤◌, ◌+◌, length, map, IfOk, OnOk};
 ghost use Rattle.common.specs.declared.cell.Cell.{Cell};
 ghost use Rattle.kept_tables.specs.Consistent.{Consistent};
 ghost use Rattle.mirror.specs.Table.{down_at};
 ghost use Rattle.centre_core.specs.Down.{is_down};
 ghost use Rattle.centre_core.specs.Facts.{facts};
 ghost use Rattle.centre_core.specs.Past.{After};
-ghost use Rattle.std.specs.Option.{option_copied};
-ghost use Rattle.kept_tables.specs.Tables.{Tables};
 ghost use Rattle.kept_tables.specs.View.{key_of};
-ghost use Rattle.centre_core.specs.Following.{AsBefore, Bears, entry_of, facts_in, held_line, held_at, held_lines, line_now, facts_then, change_of};
+ghost use Rattle.std.specs.Option.{option_copied};
+ghost use Rattle.centre_core.specs.Following.{Bears, entry_of, line_now, facts_then, change_of};
 
 use crate::downs::mark_downs;
 use crate::facts::facts_from;
@@ -20,118 +19,12 @@ use areas::Areas;
 use cell_register::{BscId, Register};
 use common::Cell;
 use kept_tables::{Change, KeptTables, LineFacts, Spot};
-use mirror::{Line, LineKey};
+use mirror::Line;
 use std::alloc::{AllocError, Global};
 use warning_book::{Book, Warning, WarningId};
 
-/// The line of the BSC, the cell and the warning.
-pub(crate) fn key_of(b: BscId, c: Cell, n: WarningId) -> LineKey
-    ensures { result ≡ key_of b c n }
-{
-    LineKey {
-        bsc: b,
-        cell: c,
-        warning: n,
-    }
-}
-
-/// What is read of a line.
-#[tactic(auto, using(crate::proofs::FollowLemmas::facts_as, crate::proofs::FollowLemmas::as_read))]
-fn facts_in(
-    alloc: Global,
-    register: &Register,
-    areas: &Areas,
-    book: &Book,
-    tables: &mut KeptTables,
-    b: BscId,
-    c: Cell,
-    n: WarningId,
-) -> Result<LineFacts, AllocError>
-    ensures facts { (t : Tables) → AsBefore t tables.old → IfOk result (λ f. f ≡ facts_in register.now areas.now book.now t (key_of b c n)) }
-    ensures kept { (t : Tables) → AsBefore t tables.old → AsBefore t tables.new }
-    ensures meter { tables.new.lines.meter ≤ tables.old.lines.meter + 1 }
-{
-    let line = tables.read_line(key_of(b, c, n));
-    let down = tables.is_down(b, c);
-    facts_from(alloc, register, areas, down, b, c, line, book.find(n))
-}
-
-/// A line as it stood.
-fn held_of(b: BscId, c: Cell, n: WarningId, before: LineFacts) -> Held
-    ensures { result ≡ record { key = key_of b c n; before = before } }
-{
-    Held {
-        key: key_of(b, c, n),
-        before,
-    }
-}
-
-/// Reads a line.
-fn hold_line(
-    alloc: Global,
-    register: &Register,
-    areas: &Areas,
-    book: &Book,
-    tables: &mut KeptTables,
-    b: BscId,
-    c: Cell,
-    n: WarningId,
-) -> Result<Held, AllocError>
-    ensures held { (t : Tables) → AsBefore t tables.old → IfOk result (λ h. h ≡ held_line register.now areas.now book.now t (key_of b c n)) }
-    ensures kept { (t : Tables) → AsBefore t tables.old → AsBefore t tables.new }
-    ensures meter { tables.new.lines.meter ≤ tables.old.lines.meter + 1 }
-{
-    let before = facts_in(alloc, register, areas, book, tables, b, c, n)?;
-    Ok(held_of(b, c, n, before))
-}
-
-/// Reads the lines of the warnings in the cell at the BSC.
-fn hold_spot(
-    out: &mut Vec<Held>,
-    alloc: Global,
-    register: &Register,
-    areas: &Areas,
-    book: &Book,
-    tables: &mut KeptTables,
-    b: BscId,
-    c: Cell,
-    warnings: &[WarningId],
-) -> Result<(), AllocError>
-    ensures held { (t : Tables) → AsBefore t tables.old → OnOk result (out.new.items ≡ out.old.items ++ held_at register.now areas.now book.now t warnings.now (record { bsc = b; cell = c })) }
-    ensures kept { (t : Tables) → AsBefore t tables.old → AsBefore t tables.new }
-    ensures meter { tables.new.lines.meter ≤ tables.old.lines.meter + length warnings.now }
-{
-    for warning in warnings {
-        out.push(hold_line(alloc, register, areas, book, tables, b, c, *warning)?)?;
-    }
-    Ok(())
-}
-
-/// Reads the lines of each of the warnings at each of the spots.
-pub(crate) fn hold(
-    alloc: Global,
-    register: &Register,
-    areas: &Areas,
-    book: &Book,
-    tables: &mut KeptTables,
-    spots: &[Spot],
-    warnings: &[WarningId],
-) -> Result<Vec<Held>, AllocError>
-    ensures held { (t : Tables) → AsBefore t tables.old → IfOk result (λ v. v.items ≡ held_lines register.now areas.now book.now t spots.now warnings.now) }
-    ensures kept { (t : Tables) → AsBefore t tables.old → AsBefore t tables.new }
-    ensures meter { tables.new.lines.meter ≤ tables.old.lines.meter + length spots.now * length warnings.now }
-{
-    let mut out = Vec::new(alloc);
-    for spot in spots {
-        hold_spot(
-            &mut out, alloc, register, areas, book, tables, spot.bsc, spot.cell, warnings,
-        )?;
-    }
-    Ok(out)
-}
-
 /// The line after what happens, of a warning if the book has it.
-fn line_now(
+pub(crate) fn line_now(
     h: &Happening<'_, '_>,
     warnings: &[Warning],
     b: BscId,

@@ -1,16 +1,19 @@
 //! Lemmas of the lines that are read before an event, as the contracts of calls that do nothing.
 
-ghost use Rattle.std.specs.Prelude.{◌≡◌, List, ℕ};
+ghost use Rattle.std.specs.Prelude.{◌≡◌, List, ℕ, false};
 ghost use Rattle.cell_register.specs.Register as register;
 ghost use Rattle.cell_register.specs.Sound.{IsRegister};
 ghost use Rattle.kept_tables.specs.declared.spot.Spot.{Spot};
-ghost use Rattle.centre_core.specs.Following.{held_lines, WasReached};
+ghost use Rattle.centre_core.specs.Flights.{up_before};
+ghost use Rattle.centre_core.specs.Following.{Happens, WasReached, changing_lines, flight_before, held_lines, leaves_cover};
 ghost use Rattle.centre_core.specs.IsKept.{IsKept};
+ghost use Rattle.centre_core.specs.Kept.{is_edit};
 ghost use Rattle.centre_core.specs.Past.{Past};
 ghost use Rattle.centre_core.specs.Reach.{IsReach, reach_of};
 ghost use Rattle.centre_core.specs.Reaching.{AreBscs};
 ghost use Rattle.centre_core.specs.declared.answer.Answer.{Answer};
-ghost use Rattle.centre_core.specs.declared.event.Event.{Event};
+ghost use Rattle.centre_core.specs.declared.event.Event.TheVariants as event;
+ghost use Rattle.coverage_plan.specs.declared.edit.Edit.{Edit};
 ghost use Rattle.centre_core.specs.declared.held.Held.{Held};
 ghost use Rattle.centre_core.specs.declared.kept.Kept.{Kept};
 
@@ -19,7 +22,12 @@ fn listed_bscs()
     ensures { (r : register.State) → IsRegister r → AreBscs r r.bscs }
 {}
 
-#[tactic(auto, using(crate::proofs::HoldLemmas::was_reached))]
-fn was_reached()
-    ensures { (past : Past) (s : Kept) (e : Event) (a : Answer) (spots : List Spot) (numbers : List ℕ) (held : List Held) → IsKept past s → IsReach (record { spots = spots; warnings = numbers }) (reach_of past e a) → held ≡ held_lines s.register s.areas s.book s.tables spots numbers → WasReached past e a spots held }
+#[tactic(auto, using(crate::proofs::HoldLemmas::edit_was_reached))]
+fn edit_was_reached()
+    ensures { (past : Past) (s : Kept) (e : Edit) (a : Answer) (spots : List Spot) (numbers : List ℕ) (held : List Held) → IsKept past s → IsReach (record { spots = spots; warnings = numbers }) (reach_of past (event.Edit e) a) → held ≡ held_lines (leaves_cover e) s.register s.areas s.book s.tables spots numbers → WasReached past (event.Edit e) a spots held }
+{}
+
+#[tactic(auto, using(crate::proofs::HoldLemmas::other_was_reached))]
+fn other_was_reached()
+    ensures { (past : Past) (s : Kept) (h : Happens) (spots : List Spot) (numbers : List ℕ) (held : List Held) → IsKept past s → is_edit h.event ≡ false → h.up ≡ up_before past h.event → h.flight ≡ flight_before past h.event → IsReach (record { spots = spots; warnings = numbers }) (reach_of past h.event h.answer) → held ≡ changing_lines h s.register s.areas s.book s.tables spots numbers → WasReached past h.event h.answer spots held }
 {}

@@ -25,6 +25,7 @@ mod following;
 pub mod headline;
 mod held;
 mod hold_lemmas;
+mod holding;
 pub mod in_flight;
 mod journal;
 mod kept;

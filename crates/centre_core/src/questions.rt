@@ -20,7 +20,7 @@ ghost use Rattle.centre_core.specs.Settings.{Settings};
 ghost use Rattle.centre_core.specs.Table.{key_if, keys_in, keys_of, keys_over, table};
 ghost use Rattle.centre_core.specs.Warnings.{book_of, warnings_of};
 
-use crate::following::key_of;
+use crate::holding::key_of;
 use crate::refusal::Refusal;
 use crate::reported::{ReportedKey, ReportedKeys};
 use areas::Areas;

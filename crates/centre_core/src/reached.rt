@@ -1,7 +1,7 @@
 //! The lines on which an event bears, read before it.
 
 ghost use Rattle.std.specs.Prelude.{◌≡◌, ◌≤◌, ◌+◌, false, Ok, IfOk};
-ghost use Rattle.centre_core.specs.Following.{WasReached};
+ghost use Rattle.centre_core.specs.Following.{WasReached, leaves_cover};
 ghost use Rattle.centre_core.specs.IsKept.{IsKept, OnlyReadsIn};
 ghost use Rattle.centre_core.specs.Kept.{is_edit};
 ghost use Rattle.centre_core.specs.Legal.{Legal};
@@ -13,24 +13,37 @@ ghost use Rattle.centre_core.specs.declared.answer.Answer as answer_spec;
 ghost use Rattle.centre_core.specs.declared.event.Event.TheVariants as event;
 
 use crate::answer::Answer;
+use crate::entering::up_before;
 use crate::event::Event;
 use crate::flights::flight_of;
-use crate::following::hold;
 use crate::held::Held;
+use crate::holding::{hold, hold_changing};
 use crate::kept::Kept;
 use crate::reach::{reach_of_edit, reach_of_other};
+use crate::stepping::Happening;
 use coverage_plan::Edit;
 use kept_tables::Spot;
 use std::alloc::{AllocError, Global};
 
-/// At which cells an event bears, and its lines as they stood.
+/// At which cells an event bears, and the lines that it may change, as they stood.
 #[derive(Drop)]
 pub(crate) struct Reached {
     pub(crate) spots: Vec<Spot>,
     pub(crate) held: Vec<Held>,
 }
 
-/// The lines on which an accepted edit bears, as they stand before it.
+/// Whether the edit leaves what each area covers, and which areas a warning has.
+fn leaves_cover(edit: &Edit) -> bool
+    ensures { result ≡ leaves_cover edit.now }
+{
+    matches!(
+        edit,
+        Edit::RemoveBsc(_) | Edit::AddCell(_, _) | Edit::MoveCell(_, _) | Edit::RemoveCell(_)
+    )
+}
+
+/// The lines that an accepted edit may change, as they stand before it: those on which it bears, but for idle ones that
+/// it leaves idle.
 pub(crate) fn reached_by_edit(
     alloc: Global,
     kept: &mut Kept,
@@ -58,6 +71,7 @@ pub(crate) fn reached_by_edit(
         &mut kept.tables,
         reach.spots.as_slice(),
         reach.warnings.as_slice(),
+        leaves_cover(edit),
     )?;
     Ok(Reached {
         spots: reach.spots,
@@ -65,12 +79,12 @@ pub(crate) fn reached_by_edit(
     })
 }
 
-/// The lines on which an accepted event bears that is no edit, as they stand before it.
-pub(crate) fn reached_by_other(
+/// The lines that an accepted event changes which is no edit, as they stand before it.
+pub(crate) fn reached_by_other<'x>(
     alloc: Global,
     kept: &mut Kept,
-    event: &Event,
-    answer: &Answer,
+    event: &'x Event,
+    answer: &'x Answer,
 ) -> Result<Reached, AllocError>
     requires other { is_edit event.now ≡ false }
     ensures reached { (settings : Settings) (past : Past) → Legal settings past → IsKept past kept.old → answered settings.network past event.now ≡ Ok answer.now → IfOk result (λ x. WasReached past event.now answer.now x.spots.items x.held.items) }
@@ -86,8 +100,15 @@ pub(crate) fn reached_by_other(
         answer,
         flight_of(kept.flights.as_slice(), event),
     )?;
-    let held = hold(
+    let h = Happening {
+        event,
+        answer,
+        up: up_before(kept.links.as_slice(), event),
+        flight: flight_of(kept.flights.as_slice(), event),
+    };
+    let held = hold_changing(
         alloc,
+        &h,
         &kept.register,
         &kept.areas,
         &kept.book,

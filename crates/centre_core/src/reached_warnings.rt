@@ -58,7 +58,7 @@ pub(crate) fn of_edit(alloc: Global, book: &Book, edit: &Edit) -> Result<Vec<War
 }
 
 /// Whether it writes, replaces, kills or asks for the version of that serial number.
-fn names_serial(flight: &InFlight, serial: Serial) -> bool
+pub(crate) fn names_serial(flight: &InFlight, serial: Serial) -> bool
     ensures { result ≡ names_serial flight.now serial }
 {
     match flight {

@@ -25,6 +25,8 @@ mod line_table_tests;
 #[cfg(test)]
 mod message_tests;
 #[cfg(test)]
+mod office_tests;
+#[cfg(test)]
 mod order_tests;
 #[cfg(test)]
 mod plan_edits_tests;

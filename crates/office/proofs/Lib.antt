@@ -1,3 +1,5 @@
 pub mod ReceiptLemmas
 pub mod DeskLemmas
 pub mod HeldLemmas
+pub mod ShuffleLemmas
+pub mod OfficeLemmas

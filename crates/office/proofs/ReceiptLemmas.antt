@@ -26,7 +26,7 @@ if_one : {X : Type 0} (b : Bool) (x : X) → b ≡ true → (if b then x ∷ [] 
 if_one true x is = refl
 if_one false x is = absurd (true≢false (sym is))
 
-if_none : {X : Type 0} (b : Bool) (x : X) (xs : List X) → b ≡ false → xs ≡ [] → (if b then x ∷ xs else xs) ≡ []
+pub if_none : {X : Type 0} (b : Bool) (x : X) (xs : List X) → b ≡ false → xs ≡ [] → (if b then x ∷ xs else xs) ≡ []
 if_none true x xs is none = absurd (true≢false is)
 if_none false x xs is none = none
 

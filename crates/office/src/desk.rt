@@ -30,7 +30,7 @@ impl<L: Ledger> Model for Desk<L> {
 }
 
 impl<L: Ledger> Desk<L> {
-    ghost use Rattle.std.specs.Prelude.{◌≡◌, ◌≤◌, ◌+◌, ◌++◌, ◌∷◌, [], length, All, OnOk};
+    ghost use Rattle.std.specs.Prelude.{◌≡◌, ◌≤◌, ◌+◌, ◌-◌, ◌++◌, ◌∷◌, [], length, slice_get, All, OnOk};
     ghost use Rattle.office.specs.Receipts.{last_place};
 
     /// A desk without receipts.
@@ -61,6 +61,14 @@ impl<L: Ledger> Desk<L> {
         ensures { result.now ≡ self.now.receipts }
     {
         self.receipts.as_slice()
+    }
+
+    /// The latest receipt.
+    pub fn latest(&self) -> &Receipt
+        requires some { 1 ≤ length self.now.receipts }
+        ensures { slice_get self.now.receipts (length self.now.receipts - 1) ≡ Some result.now }
+    {
+        &self.receipts[self.receipts.len() - 1]
     }
 
     /// How many receipts there are.

@@ -2,10 +2,12 @@
 
 use crate::desk::Desk;
 use crate::entering::enter;
+use crate::fault::{Fault, Unsettled};
 use crate::looking::answer;
 use crate::question::Question;
 use crate::row::Row;
 use crate::seen::Seen;
+use crate::settling::{mismatch, missing};
 use centre_core::centre::Centre;
 use centre_core::event::Event;
 use centre_core::headline::pending_gives_plan;
@@ -46,6 +48,7 @@ impl<L: Ledger> Held<L> {
     ghost use Rattle.centre_core.specs.Legal.{Legal, new_centre, past};
     ghost use Rattle.office.specs.Helds.{IsByOpened, IsEntered, fits};
     ghost use Rattle.office.specs.Questions.{RefusesQuestion, Shows};
+    ghost use Rattle.office.specs.Shuffles.{IsFault, IsShuffle};
 
     /// What stands under the lock of a new office: a centre of the network without entries, and no desk.
     pub(crate) fn new(
@@ -71,7 +74,6 @@ impl<L: Ledger> Held<L> {
     }
 
     /// Tells what always holds under the lock.
-
     pub fn tell_soundness(&self)
         ensures legal { Legal self.now.centre.settings (past self.now.centre) }
         ensures headline { PendingGivesPlan (past self.now.centre) }
@@ -98,6 +100,7 @@ impl<L: Ledger> Held<L> {
     /// Opens one more desk: the first is 1. `Limit` after 1,024 desks, then `Memory`.
     pub fn open(&mut self) -> Result<Desk<L>, Refusal>
         ensures number { IfOk result (λ d. d.number ≡ self.old.opened + 1) }
+        ensures few { self.new.opened ≤ 1024 }
         ensures receipts { IfOk result (λ d. d.receipts ≡ []) }
         ensures opened { OnOk result (self.new ≡ record self.old { opened = self.old.opened + 1 }) }
         ensures refused { IfErr result (λ r. MatchBool (nat_lt self.old.opened 1024) (r ≡ Refusal.Memory) (r ≡ Refusal.Limit Limit.Desks)) }
@@ -171,5 +174,34 @@ impl<L: Ledger> Held<L> {
         ensures unchanged { OnErr result (self.new ≡ self.old) }
     {
         self.centre.rebuild()
+    }
+
+    /// Compares the receipts of the desks with the journal, and hands out the centre where the journal is a shuffle of them.
+    /// `Mismatch` comes before `MissingDesk`. This takes no memory.
+    pub fn settle(self, desks: Vec<Desk<L>>) -> Result<Centre, Unsettled<L>>
+        ensures settled { IfOk result (λ c. IsShuffle self.opened self.centre.journal desks.items) }
+        ensures centre { IfOk result (λ c. c.known ≡ self.centre) }
+        ensures fault { IfErr result (λ u. IsFault self.opened u.centre.known.journal desks.items u.fault) }
+        ensures kept { IfErr result (λ u. u.centre.known ≡ self.centre) }
+        ensures desks { IfErr result (λ u. u.desks ≡ desks) }
+    {
+        let opened = self.rows.len() as u32;
+        let rows = self.rows;
+        let mut centre = self.centre;
+        if let Some(desk) = mismatch(&mut centre, rows.as_slice(), desks.as_slice()) {
+            return Err(Unsettled {
+                fault: Fault::Mismatch { desk },
+                centre,
+                desks,
+            });
+        }
+        match missing(opened, desks.as_slice()) {
+            Some(desk) => Err(Unsettled {
+                fault: Fault::MissingDesk { desk },
+                centre,
+                desks,
+            }),
+            None => Ok(centre),
+        }
     }
 }

@@ -1,14 +1,20 @@
 //! One centre for many callers: each has a desk, which gets a receipt for each event that is accepted.
 //!
-//! Begin with `receipt` and `held`. What a desk's receipts are is said in `specs/Receipts.antt`, when a desk is as the office
-//! knows it in `specs/Helds.antt`, and what a question is answered in `specs/Questions.antt`.
+//! Begin with `office`, then `held`, which is what stands under its lock. What a desk's receipts are is defined in
+//! `specs/Receipts.antt`, when a desk is as the office knows it in `specs/Helds.antt`, what a question is answered in
+//! `specs/Questions.antt`, what a call promises whatever other desks do in `specs/Offices.antt`, and when a journal is a shuffle
+//! of receipts in `specs/Shuffles.antt`.
 #![tactic(auto)]
 
 pub mod desk;
 mod entering;
+pub mod fault;
 pub mod held;
 mod looking;
+pub mod office;
 pub mod question;
 pub mod receipt;
 mod row;
 pub mod seen;
+mod settling;
+mod submitting;

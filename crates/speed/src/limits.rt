@@ -21,6 +21,16 @@ const WARNING: &str = "issue 4370 3 15 0 30 d4f29c0e One\n";
 /// What is asked after a refusal and without it; the last line is an edit, whose answer tells the number of entries.
 const QUESTIONS: &str = "board 1\ntable 1\npending 1\narea drop One\nbsc remove 1\nup 1\n";
 
+/// The limits, and the line that passes each of them.
+const LIMITS: [(&str, &str); 6] = [
+    ("Bscs", "bsc add 257\n"),
+    ("Cells", "cell add 2000 1 1\n"),
+    ("Areas", "area add More\n"),
+    ("Selectors", "area put One 201\n"),
+    ("Warnings", WARNING),
+    ("WarningAreas", "widen 1 A16\n"),
+];
+
 /// What the script writes.
 fn answers(alloc: Global, script: &str, entries: u32) -> Result<Vec<u8>>
     requires { entries ≤ 4000000 }
@@ -123,60 +133,44 @@ fn warning_areas(alloc: Global) -> Result<String, AllocError> {
     Ok(script)
 }
 
-fn bsc_limit(alloc: Global) -> Result<String> {
-    let script = bscs(alloc, 256)?;
-    limit(alloc, script.as_str(), "bsc add 257\n", "Bscs")
+/// What reaches the limit of that name.
+fn script_of(alloc: Global, which: &str) -> Result<String, AllocError> {
+    match which {
+        "Bscs" => bscs(alloc, 256),
+        "Cells" => cells(alloc, 65_536),
+        "Areas" => areas(alloc, 4_096),
+        "Selectors" => selectors(alloc, 4_096),
+        "Warnings" => warnings(alloc, 256),
+        _ => warning_areas(alloc),
+    }
 }
 
-fn cell_limit(alloc: Global) -> Result<String> {
-    let script = cells(alloc, 65_536)?;
-    limit(alloc, script.as_str(), "cell add 2000 1 1\n", "Cells")
+/// The figure of the limit of that name.
+fn round(alloc: Global, which: &str, line: &str) -> Result<String> {
+    let script = script_of(alloc, which)?;
+    limit(alloc, script.as_str(), line, which)
 }
 
-fn area_limit(alloc: Global) -> Result<String> {
-    let script = areas(alloc, 4_096)?;
-    limit(alloc, script.as_str(), "area add More\n", "Areas")
-}
-
-fn selector_limit(alloc: Global) -> Result<String> {
-    let script = selectors(alloc, 4_096)?;
-    limit(alloc, script.as_str(), "area put One 201\n", "Selectors")
-}
-
-fn warning_limit(alloc: Global) -> Result<String> {
-    let script = warnings(alloc, 256)?;
-    limit(alloc, script.as_str(), WARNING, "Warnings")
-}
-
-fn warning_area_limit(alloc: Global) -> Result<String> {
-    let script = warning_areas(alloc)?;
-    limit(alloc, script.as_str(), "widen 1 A16\n", "WarningAreas")
-}
-
-fn journal_limit(alloc: Global) -> Result<String> {
+/// The figure of the limit of entries.
+fn journal_round(alloc: Global) -> Result<String> {
     let script = bscs(alloc, 100)?;
-    ensure!(
-        is_refused(
-            alloc,
-            script.as_str(),
-            "bsc add 101\n",
-            "no 2 JournalFull\n",
-            100
-        )?,
-        "a full journal is not kept"
-    );
+    let is_kept = is_refused(
+        alloc,
+        script.as_str(),
+        "bsc add 101\n",
+        "no 2 JournalFull\n",
+        100,
+    )?;
+    ensure!(is_kept, "a full journal is not kept");
     Ok(format!(in alloc; "a full journal: the next event is refused, and nothing changes")?)
 }
 
 /// A figure for each limit.
 pub fn rounds(alloc: Global) -> Result<Vec<String>> {
     let mut figures = Vec::new(alloc);
-    figures.push(bsc_limit(alloc)?)?;
-    figures.push(cell_limit(alloc)?)?;
-    figures.push(area_limit(alloc)?)?;
-    figures.push(selector_limit(alloc)?)?;
-    figures.push(warning_limit(alloc)?)?;
-    figures.push(warning_area_limit(alloc)?)?;
-    figures.push(journal_limit(alloc)?)?;
+    for (which, line) in LIMITS {
+        figures.push(round(alloc, which, line)?)?;
+    }
+    figures.push(journal_round(alloc)?)?;
     Ok(figures)
 }

@@ -18,54 +18,49 @@ mod stopwatch;
 
 use anyhow::{Result, bail};
 use std::env;
+use std::rt::Clock;
 
-fn main(rt: HostRuntime) -> Result<()> {
-    let words: Vec<String> = env::args(&rt)?.skip(1).collect(rt.alloc())?;
-    let words: Vec<&str> = words.iter().map(|word| word.as_str()).collect(rt.alloc())?;
-    match words.as_slice() {
-        [] => {
-            codec::rounds(&rt, 0)?;
-            cutting::rounds(&rt, 3_000, 2_000)?;
-            orders::round(&rt, 20)?;
-            reports::round(&rt, 20, 2)?;
-            questions::rounds(&rt, 20, 2)?;
-            println!(rt; "ok")?;
-        }
-        ["codec", "long"] => {
-            for figure in &codec::rounds(&rt, 1_000_000_000)? {
-                println!(rt; "{figure}")?;
-            }
-        }
-        ["framing", "long"] => {
-            for figure in &cutting::rounds(&rt, 16_777_216, 200_000)? {
-                println!(rt; "{figure}")?;
-            }
-        }
-        ["orders"] => {
-            let figure = orders::round(&rt, 1_001)?;
-            println!(rt; "{figure}")?;
-        }
-        ["reports"] => {
-            for cells in [1_000, 65_536] {
-                let figure = reports::round(&rt, cells, 20_000)?;
-                println!(rt; "{figure}")?;
-            }
-        }
-        ["limits"] => {
-            for figure in &limits::rounds(rt.alloc())? {
-                println!(rt; "{figure}")?;
-            }
-        }
-        ["questions"] => {
-            for cells in [1_000, 65_536] {
-                for figure in &questions::rounds(&rt, cells, 100_000)? {
-                    println!(rt; "{figure}")?;
-                }
-            }
-        }
+/// One small round of each.
+fn small_rounds(rt: &(impl Clock + AllocGlobal)) -> Result<()> {
+    codec::rounds(rt, 0)?;
+    cutting::rounds(rt, 3_000, 2_000)?;
+    orders::rounds(rt, 20)?;
+    reports::rounds(rt, &[20], 2)?;
+    questions::rounds(rt, &[20], 2)?;
+    Ok(())
+}
+
+/// The figures that the words ask for.
+fn figures(rt: &(impl Clock + AllocGlobal), words: &[&str]) -> Result<Vec<String>> {
+    match words {
+        ["codec", "long"] => codec::rounds(rt, 1_000_000_000),
+        ["framing", "long"] => cutting::rounds(rt, 16_777_216, 200_000),
+        ["orders"] => orders::rounds(rt, 1_001),
+        ["reports"] => reports::rounds(rt, &[1_000, 65_536], 20_000),
+        ["limits"] => limits::rounds(rt.alloc()),
+        ["questions"] => questions::rounds(rt, &[1_000, 65_536], 100_000),
         _ => bail!(
             "the arguments are none, `codec long`, `framing long`, `limits`, `orders`, `reports` or `questions`"
         ),
     }
+}
+
+/// Prints each figure on a line of its own.
+fn print(rt: &impl Print, figures: &[String]) -> Result<()> {
+    for figure in figures {
+        println!(rt; "{figure}")?;
+    }
     Ok(())
+}
+
+fn main(rt: HostRuntime) -> Result<()> {
+    let words: Vec<String> = env::args(&rt)?.skip(1).collect(rt.alloc())?;
+    let words: Vec<&str> = words.iter().map(|word| word.as_str()).collect(rt.alloc())?;
+    if words.is_empty() {
+        small_rounds(&rt)?;
+        println!(rt; "ok")?;
+        return Ok(());
+    }
+    let figures = figures(&rt, words.as_slice())?;
+    print(&rt, figures.as_slice())
 }

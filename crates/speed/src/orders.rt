@@ -37,7 +37,7 @@ fn script(alloc: Global, cells: u32) -> Result<String, AllocError> {
 }
 
 /// Runs the script with so many cells, and answers how long it took.
-pub fn round(rt: &(impl Clock + AllocGlobal), cells: u32) -> Result<String> {
+fn round(rt: &(impl Clock + AllocGlobal), cells: u32) -> Result<String> {
     let alloc = rt.alloc();
     let script = script(alloc, cells)?;
     let mut reader = FromRead::new(script.as_bytes());
@@ -52,4 +52,11 @@ pub fn round(rt: &(impl Clock + AllocGlobal), cells: u32) -> Result<String> {
         "not all cells are on air"
     );
     Ok(format!(in alloc; "{cells} cells ordered: {time} milliseconds")?)
+}
+
+/// The figure at so many cells.
+pub fn rounds(rt: &(impl Clock + AllocGlobal), cells: u32) -> Result<Vec<String>> {
+    let mut figures = Vec::new(rt.alloc());
+    figures.push(round(rt, cells)?)?;
+    Ok(figures)
 }

@@ -1,6 +1,7 @@
 //! Speed of questions, refusals and orders that bear on one line each, as lines of the console.
 
-use crate::one_cell::{BOARD, setup, time_of};
+use crate::one_cell::setup;
+use crate::reports::time_with;
 use anyhow::Result;
 use std::rt::Clock;
 
@@ -12,8 +13,17 @@ const ORDERED: &str = "rx 1 1300000c0400050100c8000016000d01\n\
      send 1\n\
      rx 1 020000060e111203c000\n";
 
-/// Runs the script with so many cells and so many times those lines, and answers what one time took, where the script
-/// without them takes so many microseconds.
+/// What is timed: its name, and its lines.
+const LINES: [(&str, &str); 5] = [
+    ("pending", "pending 2\n"),
+    ("board", "board 1\n"),
+    ("board of an area", "board 1 One\n"),
+    ("three refusals", REFUSED),
+    ("restart, order and reply", ORDERED),
+];
+
+/// Runs the script and so many times those lines, and answers what one time took, where the script without them takes so
+/// many microseconds.
 fn round(
     rt: &(impl Clock + AllocGlobal),
     script: &str,
@@ -22,51 +32,43 @@ fn round(
     name: &str,
     lines: &str,
 ) -> Result<String> {
-    let alloc = rt.alloc();
-    let mut asked = String::from_str(alloc, script)?;
-    for _ in 0..times {
-        asked.push_str(lines)?;
-    }
-    asked.push_str(BOARD)?;
-    let with = time_of(rt, asked.as_str())?;
+    let with = time_with(rt, script, lines, times)?;
     let taken = with.saturating_sub(without).saturating_mul(1_000);
     let each = taken.checked_div(times as u64).unwrap_or(0);
-    Ok(format!(in alloc; "{name}: {each} nanoseconds")?)
+    Ok(format!(in rt.alloc(); "{name}: {each} nanoseconds")?)
 }
 
-/// How long the script takes by itself, in microseconds.
-fn time_without(rt: &(impl Clock + AllocGlobal), script: &str) -> Result<u64> {
-    let mut bare = String::from_str(rt.alloc(), script)?;
-    bare.push_str(BOARD)?;
-    time_of(rt, bare.as_str())
-}
-
-/// Puts each figure last.
+/// Puts each figure at so many cells last.
 fn add_figures(
     rt: &(impl Clock + AllocGlobal),
-    script: &str,
+    cells: u32,
     times: u32,
     figures: &mut Vec<String>,
 ) -> Result<()> {
-    let without = time_without(rt, script)?;
-    for (name, lines) in [
-        ("pending", "pending 2\n"),
-        ("board", "board 1\n"),
-        ("board of an area", "board 1 One\n"),
-        ("three refusals", REFUSED),
-        ("restart, order and reply", ORDERED),
-    ] {
-        figures.push(round(rt, script, without, times, name, lines)?)?;
+    let script = setup(rt.alloc(), cells)?;
+    let without = time_with(rt, script.as_str(), "", 0)?;
+    for (name, lines) in LINES {
+        figures.push(round(rt, script.as_str(), without, times, name, lines)?)?;
     }
     Ok(())
 }
 
-/// The figures at so many cells.
-pub fn rounds(rt: &(impl Clock + AllocGlobal), cells: u32, times: u32) -> Result<Vec<String>> {
-    let alloc = rt.alloc();
-    let script = setup(alloc, cells)?;
-    let mut figures = Vec::new(alloc);
-    figures.push(format!(in alloc; "at {cells} cells")?)?;
-    add_figures(rt, script.as_str(), times, &mut figures)?;
+/// The number of cells, and then the figures at so many.
+fn add_round(
+    rt: &(impl Clock + AllocGlobal),
+    cells: u32,
+    times: u32,
+    figures: &mut Vec<String>,
+) -> Result<()> {
+    figures.push(format!(in rt.alloc(); "at {cells} cells")?)?;
+    add_figures(rt, cells, times, figures)
+}
+
+/// The figures at each number of cells.
+pub fn rounds(rt: &(impl Clock + AllocGlobal), counts: &[u32], times: u32) -> Result<Vec<String>> {
+    let mut figures = Vec::new(rt.alloc());
+    for cells in counts {
+        add_round(rt, *cells, times, &mut figures)?;
+    }
     Ok(figures)
 }

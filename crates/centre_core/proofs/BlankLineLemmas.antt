@@ -1,0 +1,81 @@
+-- An indication and a Retry leave a blank line blank.
+use Rattle.std.proofs.Common.{◌≡◌, ℕ, zero, suc, Bool, true, false, nat_eq, List, [], ◌∷◌, Option, Some, None, replicate, refl, sym, ◌∙◌, ap}
+use Rattle.std.specs.Prelude.{slice_set, if◌then◌else◌}
+use Rattle.cbsp_messages.specs.declared.message.Message.{Message}
+use Rattle.cbsp_messages.specs.declared.message.Message.TheVariants.{Restart}
+use Rattle.common.specs.declared.cell.Cell.{Cell}
+use Rattle.mirror.specs.Blank.{is_blank, line_eq}
+use Rattle.mirror.specs.BlankLaws.{blank_decides, line_decides}
+use Rattle.mirror.specs.Line.{blank, blank_line, with_state}
+use Rattle.mirror.specs.declared.key_state.KeyState.{KeyState}
+use Rattle.mirror.specs.declared.line.Line.{Line}
+use Rattle.mirror.specs.declared.presence.Presence.TheVariants.{Absent}
+use Rattle.serials.specs.Serials.{update_of}
+use Rattle.warning_book.specs.declared.warning.Warning.{Warning}
+use Rattle.centre_core.specs.Counts.{count_mark}
+use Rattle.centre_core.specs.Effects.{indicated_effect, is_among, state_after}
+use Rattle.centre_core.specs.Following.{Happens, leaves_blank, line_now}
+use Rattle.centre_core.specs.Presence.{effect}
+use Rattle.centre_core.specs.Stepping.{stepped}
+use Rattle.centre_core.specs.Warnings.{serials}
+use Rattle.centre_core.specs.declared.answer.Answer.{Answer}
+use Rattle.centre_core.specs.declared.answer.Answer.TheVariants.{Listed}
+use Rattle.centre_core.specs.declared.effect.Effect.{Effect}
+use Rattle.centre_core.specs.declared.effect.Effect.TheVariants.{Sets, Frees, Leaves}
+use Rattle.centre_core.specs.declared.event.Event.{Event}
+use Rattle.centre_core.specs.declared.event.Event.TheVariants as event
+use Rattle.centre_core.specs.declared.in_flight.InFlight.{InFlight}
+use Rattle.centre_core.proofs.PartLemmas.{blank_state}
+
+set_same : (n i : ℕ) → slice_set (replicate n blank) i blank ≡ replicate n blank
+set_same zero i = refl
+set_same (suc n) zero = refl
+set_same (suc n) (suc i) = ap (λ ks. blank ∷ ks) (set_same n i)
+
+with_blank : (s : ℕ) → with_state blank_line s blank ≡ blank_line
+with_blank s = ap (λ (ks : List KeyState). let line : Line = record { states = ks } in line) (set_same 16 (update_of s))
+
+stepped_blank : (f : ℕ → Effect) (n : ℕ → Option ℕ) → ((s : ℕ) → state_after (f s) (n s) blank ≡ blank) → (ss : List ℕ) → stepped f n blank_line ss ≡ blank_line
+stepped_blank f n stays [] = refl
+stepped_blank f n stays (s ∷ ss) =
+    ap (λ line. stepped f n line ss) (ap (λ k. with_state blank_line s (state_after (f s) (n s) k)) (blank_state s) ∙ ap (with_state blank_line s) (stays s) ∙ with_blank s)
+    ∙ stepped_blank f n stays ss
+
+indicated : (m : Message) → state_after (indicated_effect m) None blank ≡ blank
+indicated (Restart r) = step (nat_eq r.recovery 0)
+  where
+    step : (t : Bool) → state_after (if t then Frees else Sets Absent) None blank ≡ blank
+    step true = refl
+    step false = refl
+indicated other = refl
+
+-- a blank key stays blank
+key_blank : (b : ℕ) (c : Cell) (m s : ℕ) (e : Event) (a : Answer) (up : Bool) (f : Option InFlight) (ws : List Warning) → leaves_blank e a ≡ true → state_after (effect b c m s e a up f ws) (count_mark b c m s e a f ws) blank ≡ blank
+key_blank b c m s (event.Retry other) a up f ws h = step (nat_eq other b)
+  where
+    step : (t : Bool) → state_after (if t then Frees else Leaves) None blank ≡ blank
+    step true = refl
+    step false = refl
+key_blank b c m s (event.Report other g message) (Listed cells) up f ws h = step (nat_eq other b) (is_among c cells)
+  where
+    step : (t u : Bool) → state_after (if t then (if u then indicated_effect message else Leaves) else Leaves) (if t then None else None) blank ≡ blank
+    step true true = indicated message
+    step true false = refl
+    step false u = refl
+key_blank b c m s (event.Report other g message) a up f ws h = cc
+key_blank b c m s (event.Edit e) a up f ws h = cc
+key_blank b c m s (event.LinkUp other) a up f ws h = cc
+key_blank b c m s (event.LinkDown other g) a up f ws h = cc
+key_blank b c m s (event.Send other g) a up f ws h = cc
+key_blank b c m s (event.Ask other g n after) a up f ws h = cc
+
+-- and so does the line
+now_blank : (h : Happens) (ws : List Warning) (b : ℕ) (c : Cell) (o : Option Warning) → leaves_blank h.event h.answer ≡ true → line_now h ws b c o blank_line ≡ blank_line
+now_blank h ws b c None e = refl
+now_blank h ws b c (Some w) e =
+    stepped_blank (λ s. effect b c w.message_id s h.event h.answer h.up h.flight ws) (λ s. count_mark b c w.message_id s h.event h.answer h.flight ws) (λ s. key_blank b c w.message_id s h.event h.answer h.up h.flight ws e) (serials w)
+
+pub blank_left : (h : Happens) (ws : List Warning) (b : ℕ) (c : Cell) (o : Option Warning) (line : Line) → leaves_blank h.event h.answer ≡ true → is_blank line ≡ true → true ≡ line_eq (line_now h ws b c o line) line
+blank_left h ws b c o line e blanks =
+    let same : line ≡ blank_line = (blank_decides line).0 blanks in
+    sym ((line_decides (line_now h ws b c o line) line).1 (ap (line_now h ws b c o) same ∙ now_blank h ws b c o e ∙ sym same))

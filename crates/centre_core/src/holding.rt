@@ -1,0 +1,259 @@
+//! The lines on which an event bears, read before it.
+
+ghost use Rattle.std.specs.Prelude.{◌≡◌, ℕ, ◌≤◌, ◌+◌, ◌*◌, ◌++◌, ◌&&◌, ◌||◌, length, IfOk, OnOk};
+ghost use Rattle.std.specs.Option.{option_copied};
+ghost use Rattle.kept_tables.specs.Tables.{Tables};
+ghost use Rattle.kept_tables.specs.View.{key_of};
+ghost use Rattle.mirror.specs.Blank.{line_eq};
+ghost use Rattle.warning_book.specs.Book.{warning_of};
+ghost use Rattle.centre_core.specs.Down.{down_mark};
+ghost use Rattle.centre_core.specs.Following.{AsBefore, held_unless, held_at, held_lines, is_idle, keeps_down, leaves_blank, line_now, changing_line, changing_at, changing_lines};
+
+use crate::answer::Answer;
+use crate::effects::down_mark;
+use crate::event::Event;
+use crate::facts::{facts_from, is_covered};
+use crate::following::line_now;
+use crate::held::Held;
+use crate::stepping::Happening;
+use areas::Areas;
+use cell_register::{BscId, Register};
+use common::Cell;
+use kept_tables::{KeptTables, LineFacts, Spot};
+use mirror::{Line, LineKey};
+use std::alloc::{AllocError, Global};
+use warning_book::{Book, Warning, WarningId};
+
+/// The line of the BSC, the cell and the warning.
+pub(crate) fn key_of(b: BscId, c: Cell, n: WarningId) -> LineKey
+    ensures { result ≡ key_of b c n }
+{
+    LineKey {
+        bsc: b,
+        cell: c,
+        warning: n,
+    }
+}
+
+/// A line as it stood.
+fn held_of(b: BscId, c: Cell, n: WarningId, before: LineFacts) -> Held
+    ensures { result ≡ record { key = key_of b c n; before = before } }
+{
+    Held {
+        key: key_of(b, c, n),
+        before,
+    }
+}
+
+/// Whether nothing is kept of the line of a warning, and none of its areas covers the cell.
+fn is_idle(areas: &Areas, warning: Option<&Warning>, c: Cell, line: &Line) -> bool
+    ensures { result ≡ is_idle areas.now (option_copied warning.entry) c line.now }
+{
+    match warning {
+        Some(w) => line.is_blank() && !is_covered(areas, w.areas(), c),
+        None => true,
+    }
+}
+
+/// Reads a line, and holds it, but for an idle one where idle ones are passed over.
+#[tactic(auto, using(crate::proofs::FollowLemmas::facts_as, crate::proofs::FollowLemmas::as_read))]
+fn hold_line(
+    out: &mut Vec<Held>,
+    alloc: Global,
+    register: &Register,
+    areas: &Areas,
+    book: &Book,
+    tables: &mut KeptTables,
+    b: BscId,
+    c: Cell,
+    n: WarningId,
+    passes: bool,
+) -> Result<(), AllocError>
+    ensures held { (t : Tables) → AsBefore t tables.old → OnOk result (out.new.items ≡ out.old.items ++ held_unless passes register.now areas.now book.now t (key_of b c n)) }
+    ensures kept { (t : Tables) → AsBefore t tables.old → AsBefore t tables.new }
+    ensures meter { tables.new.lines.meter ≤ tables.old.lines.meter + 1 }
+{
+    let line = tables.read_line(key_of(b, c, n));
+    if passes && is_idle(areas, book.find(n), c, &line) {
+        return Ok(());
+    }
+    let down = tables.is_down(b, c);
+    let before = facts_from(alloc, register, areas, down, b, c, line, book.find(n))?;
+    out.push(held_of(b, c, n, before))?;
+    Ok(())
+}
+
+/// Reads the lines of the warnings in the cell at the BSC.
+fn hold_spot(
+    out: &mut Vec<Held>,
+    alloc: Global,
+    register: &Register,
+    areas: &Areas,
+    book: &Book,
+    tables: &mut KeptTables,
+    b: BscId,
+    c: Cell,
+    warnings: &[WarningId],
+    passes: bool,
+) -> Result<(), AllocError>
+    ensures held { (t : Tables) → AsBefore t tables.old → OnOk result (out.new.items ≡ out.old.items ++ held_at passes register.now areas.now book.now t warnings.now (record { bsc = b; cell = c })) }
+    ensures kept { (t : Tables) → AsBefore t tables.old → AsBefore t tables.new }
+    ensures meter { tables.new.lines.meter ≤ tables.old.lines.meter + length warnings.now }
+{
+    for warning in warnings {
+        hold_line(
+            out, alloc, register, areas, book, tables, b, c, *warning, passes,
+        )?;
+    }
+    Ok(())
+}
+
+/// Reads the lines of each of the warnings at each of the spots, and holds them, but for idle ones where these are passed
+/// over.
+pub(crate) fn hold(
+    alloc: Global,
+    register: &Register,
+    areas: &Areas,
+    book: &Book,
+    tables: &mut KeptTables,
+    spots: &[Spot],
+    warnings: &[WarningId],
+    passes: bool,
+) -> Result<Vec<Held>, AllocError>
+    ensures held { (t : Tables) → AsBefore t tables.old → IfOk result (λ v. v.items ≡ held_lines passes register.now areas.now book.now t spots.now warnings.now) }
+    ensures kept { (t : Tables) → AsBefore t tables.old → AsBefore t tables.new }
+    ensures meter { tables.new.lines.meter ≤ tables.old.lines.meter + length spots.now * length warnings.now }
+{
+    let mut out = Vec::new(alloc);
+    for spot in spots {
+        hold_spot(
+            &mut out, alloc, register, areas, book, tables, spot.bsc, spot.cell, warnings, passes,
+        )?;
+    }
+    Ok(out)
+}
+
+/// Whether what happens leaves the cell down, or up, as it was.
+fn keeps_down(h: &Happening<'_, '_>, b: BscId, c: Cell, was: bool) -> bool
+    ensures { result ≡ keeps_down (down_mark b c h.now.event.now h.now.answer.now) was }
+{
+    match down_mark(b, c, h.event, h.answer) {
+        Some(down) => down == was,
+        None => true,
+    }
+}
+
+/// Whether what happens is an indication or a Retry, which leaves a blank line blank.
+fn leaves_blank(h: &Happening<'_, '_>) -> bool
+    ensures { result ≡ leaves_blank h.now.event.now h.now.answer.now }
+{
+    match (h.event, h.answer) {
+        (Event::Retry(_), _) => true,
+        (Event::Report(_, _, _), Answer::Listed(_)) => true,
+        _ => false,
+    }
+}
+
+/// Whether what happens leaves the line as it is.
+#[tactic(auto, using(crate::proofs::BlankLineLemmas::blank_left))]
+fn is_left(h: &Happening<'_, '_>, book: &Book, b: BscId, c: Cell, n: WarningId, line: Line) -> bool
+    ensures { result ≡ line_eq (line_now (record { event = h.now.event.now; answer = h.now.answer.now; up = h.now.up; flight = option_copied h.now.flight }) book.now.warnings b c (warning_of book.now n) line) line }
+{
+    if leaves_blank(h) && line.is_blank() {
+        return true;
+    }
+    line_now(h, book.as_slice(), b, c, book.find(n), line) == line
+}
+
+/// Whether what happens leaves the line as it is, and the cell down, or up, as it was; an idle line stays so in any case.
+fn stays(
+    h: &Happening<'_, '_>,
+    areas: &Areas,
+    book: &Book,
+    b: BscId,
+    c: Cell,
+    n: WarningId,
+    line: Line,
+    down: bool,
+) -> bool
+    ensures { result ≡ (line_eq (line_now (record { event = h.now.event.now; answer = h.now.answer.now; up = h.now.up; flight = option_copied h.now.flight }) book.now.warnings b c (warning_of book.now n) line) line && (keeps_down (down_mark b c h.now.event.now h.now.answer.now) down || is_idle areas.now (warning_of book.now n) c line)) }
+{
+    is_left(h, book, b, c, n, line)
+        && (keeps_down(h, b, c, down) || is_idle(areas, book.find(n), c, &line))
+}
+
+/// Reads a line, and holds it if what happens does not leave it as it is.
+#[tactic(auto, using(crate::proofs::FollowLemmas::facts_as, crate::proofs::FollowLemmas::as_read))]
+fn hold_changing_line(
+    out: &mut Vec<Held>,
+    alloc: Global,
+    h: &Happening<'_, '_>,
+    register: &Register,
+    areas: &Areas,
+    book: &Book,
+    tables: &mut KeptTables,
+    b: BscId,
+    c: Cell,
+    n: WarningId,
+) -> Result<(), AllocError>
+    ensures held { (t : Tables) → AsBefore t tables.old → OnOk result (out.new.items ≡ out.old.items ++ changing_line (record { event = h.now.event.now; answer = h.now.answer.now; up = h.now.up; flight = option_copied h.now.flight }) register.now areas.now book.now t (key_of b c n)) }
+    ensures kept { (t : Tables) → AsBefore t tables.old → AsBefore t tables.new }
+    ensures meter { tables.new.lines.meter ≤ tables.old.lines.meter + 1 }
+{
+    let line = tables.read_line(key_of(b, c, n));
+    let down = tables.is_down(b, c);
+    if stays(h, areas, book, b, c, n, line, down) {
+        return Ok(());
+    }
+    let before = facts_from(alloc, register, areas, down, b, c, line, book.find(n))?;
+    out.push(held_of(b, c, n, before))?;
+    Ok(())
+}
+
+/// Reads the lines of the warnings in the cell at the BSC, and holds those that what happens does not leave as they are.
+fn hold_changing_spot(
+    out: &mut Vec<Held>,
+    alloc: Global,
+    h: &Happening<'_, '_>,
+    register: &Register,
+    areas: &Areas,
+    book: &Book,
+    tables: &mut KeptTables,
+    b: BscId,
+    c: Cell,
+    warnings: &[WarningId],
+) -> Result<(), AllocError>
+    ensures held { (t : Tables) → AsBefore t tables.old → OnOk result (out.new.items ≡ out.old.items ++ changing_at (record { event = h.now.event.now; answer = h.now.answer.now; up = h.now.up; flight = option_copied h.now.flight }) register.now areas.now book.now t warnings.now (record { bsc = b; cell = c })) }
+    ensures kept { (t : Tables) → AsBefore t tables.old → AsBefore t tables.new }
+    ensures meter { tables.new.lines.meter ≤ tables.old.lines.meter + length warnings.now }
+{
+    for warning in warnings {
+        hold_changing_line(out, alloc, h, register, areas, book, tables, b, c, *warning)?;
+    }
+    Ok(())
+}
+
+/// Reads the lines of each of the warnings at each of the spots, and holds those that what happens does not leave as they
+/// are.
+pub(crate) fn hold_changing(
+    alloc: Global,
+    h: &Happening<'_, '_>,
+    register: &Register,
+    areas: &Areas,
+    book: &Book,
+    tables: &mut KeptTables,
+    spots: &[Spot],
+    warnings: &[WarningId],
+) -> Result<Vec<Held>, AllocError>
+    ensures held { (t : Tables) → AsBefore t tables.old → IfOk result (λ v. v.items ≡ changing_lines (record { event = h.now.event.now; answer = h.now.answer.now; up = h.now.up; flight = option_copied h.now.flight }) register.now areas.now book.now t spots.now warnings.now) }
+    ensures kept { (t : Tables) → AsBefore t tables.old → AsBefore t tables.new }
+    ensures meter { tables.new.lines.meter ≤ tables.old.lines.meter + length spots.now * length warnings.now }
+{
+    let mut out = Vec::new(alloc);
+    for spot in spots {
+        hold_changing_spot(
+            &mut out, alloc, h, register, areas, book, tables, spot.bsc, spot.cell, warnings,
+        )?;
+    }
+    Ok(out)
+}

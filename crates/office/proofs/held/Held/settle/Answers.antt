@@ -1,0 +1,15 @@
+use Rattle.std.proofs.Common.{rules, ◌≡◌, ◌<◌, ◌≤◌, ℕ, List, length, All, Any, subst, refl, arith}
+use Rattle.office.specs.Desks.{DeskState}
+use Rattle.office.specs.Helds.{HeldState}
+use Rattle.office.specs.Shuffles.{HasItsEntries, IsShuffle}
+use Rattle.office.proofs.held.Held.settle.Goals as goal
+
+pub returns-clause-settled : goal.returns-clause-settled
+returns-clause-settled g c =
+    let lists : All (HasItsEntries c.self.inside.centre.known.journal) c.args.desks.items = search rules in
+    let there : c.as_slice-3.result.now ≡ c.args.desks.items = search rules in
+    let long : c.len-opened.result ≡ length c.self.inside.rows.items = search rules in
+    let every : (n : ℕ) → 0 < n → n ≤ length c.self.inside.rows.items → Any (λ (d : DeskState). d.number ≡ n) c.args.desks.items = λ n first last.
+    subst (λ (xs : List DeskState). Any (λ (d : DeskState). d.number ≡ n) xs) there (c.in-None.ensures.none refl n first (omega (arith, last, long))) in
+    let shuffle : IsShuffle (length c.self.inside.rows.items) c.self.inside.centre.known.journal c.args.desks.items = record { entries = c.self.invariant.opened; lists = lists; every = every } in
+    subst (λ (v : HeldState). IsShuffle v.opened v.centre.journal c.args.desks.items) c.self.view_is shuffle

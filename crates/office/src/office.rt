@@ -1,0 +1,93 @@
+//! An office: one centre under one lock, for many callers.
+
+ghost use Rattle.std.specs.Prelude.{◌≡◌, ◌≤◌, ◌<◌, ◌⊎◌, [], IfOk, IfErr, OnOk, OnErr};
+ghost use Rattle.centre_core.specs.Legal.{Legal, past};
+ghost use Rattle.office.specs.Offices.{IsRefusedSomewhere, IsSeenSomewhere, IsSubmitted, IsUnseenSomewhere};
+ghost use Rattle.office.specs.Shuffles.{IsSettled, IsUnsettled};
+
+use crate::desk::Desk;
+use crate::fault::Unsettled;
+use crate::held::Held;
+use crate::question::Question;
+use crate::seen::Seen;
+use centre_core::centre::Centre;
+use centre_core::event::Event;
+use centre_core::refusal::{Limit, Refusal};
+use std::alloc::{AllocError, Global};
+use std::sync::ledger::{Blank, Ledger};
+use std::sync::{Mutex, Wait};
+
+/// One centre, for as many callers as it opens desks for. Each call takes the one lock, and does under it what `Held` does.
+#[derive(Drop)]
+pub struct Office<L: Ledger> {
+    alloc: Global,
+    held: Mutex<Held<L>>,
+}
+
+impl<L: Ledger> Office<L> {
+    /// An office over a centre without entries. The blank has a part for each desk that may be opened, and one more.
+    pub fn new(alloc: Global, blank: Blank, plmn: [u8; 3], journal_limit: u32) -> Office<L>
+        requires name { blank.name ≡ L.name }
+        requires parts { blank.parts ≡ L.parts }
+        requires desks { blank.parts ≡ 1025 }
+        requires limit { journal_limit ≤ 4000000 }
+    {
+        let (book, rest) = blank.open::<L>();
+        Office {
+            alloc,
+            held: Mutex::new(Held::new(alloc, plmn, journal_limit, book, rest)),
+        }
+    }
+
+    /// Opens one more desk: the first is 1. `Limit` after 1,024 desks, then `Memory`.
+    pub fn open_desk<R: Wait>(&self, rt: &R) -> Result<Desk<L>, Refusal>
+        ensures number { IfOk result (λ d. (0 < d.number) × (d.number ≤ 1024)) }
+        ensures receipts { IfOk result (λ d. d.receipts ≡ []) }
+        ensures refused { IfErr result (λ r. (r ≡ Refusal.Memory) ⊎ (r ≡ Refusal.Limit Limit.Desks)) }
+    {
+        self.held.lock(rt).open()
+    }
+
+    /// Takes an event that the desk submits. Where it is accepted, the desk gets its receipt; where it is refused, the desk is as
+    /// it was, but for its room. `Memory` may come before the centre looked at the event.
+    pub fn submit<R: Wait>(&self, rt: &R, desk: &mut Desk<L>, event: Event) -> Result<(), Refusal>
+        ensures submitted { OnOk result (IsSubmitted desk.old event desk.new) }
+        ensures refused { IfErr result (IsRefusedSomewhere desk.old event) }
+        ensures unchanged { OnErr result (desk.new ≡ record desk.old { spare = desk.new.spare }) }
+    {
+        desk.reserve()?;
+        let copy = event.copied(self.alloc)?;
+        let mut guard = self.held.lock(rt);
+        guard.tell_soundness();
+        guard.submit(desk, event, copy)
+    }
+
+    /// Puts a question of the desk's caller, whose answer is copied.
+    pub fn look<R: Wait>(&self, rt: &R, desk: &Desk<L>, question: Question) -> Result<Seen, Refusal>
+        ensures seen { IfOk result (IsSeenSomewhere desk.now question) }
+        ensures refused { IfErr result (IsUnseenSomewhere desk.now question) }
+    {
+        let mut guard = self.held.lock(rt);
+        guard.tell_soundness();
+        guard.look(desk, question)
+    }
+
+    /// Makes a stale centre whole.
+    pub fn rebuild<R: Wait>(&self, rt: &R) -> Result<(), AllocError> {
+        self.held.lock(rt).rebuild()
+    }
+
+    /// Ends the office, once all desks are handed in: the journal of its centre is a shuffle of their receipts. Else the centre
+    /// and the desks are handed back, with what is wrong. This takes no memory and no lock.
+    pub fn settle(self, desks: Vec<Desk<L>>) -> Result<Centre, Unsettled<L>>
+        ensures settled { IfOk result (λ c. IsSettled c.known.journal desks.items) }
+        ensures legal { IfOk result (λ c. Legal c.known.settings (past c.known)) }
+        ensures fault { IfErr result (λ u. IsUnsettled u.centre.known.journal desks.items u.fault) }
+        ensures legal_fault { IfErr result (λ u. Legal u.centre.known.settings (past u.centre.known)) }
+        ensures desks { IfErr result (λ u. u.desks ≡ desks) }
+    {
+        let held = self.held.into_inner();
+        held.tell_soundness();
+        held.settle(desks)
+    }
+}
