@@ -11,15 +11,15 @@ use Rattle.common.specs.OnceLaws.{turned}
 use Rattle.common.specs.declared.cell.Cell.{Cell}
 use Rattle.warning_book.specs.declared.warning.Warning.{Warning}
 use Rattle.order_maker.specs.Actions.{in_cell, deed, needs, is_replaceable, newest, replaced, replaced_for, fresh_kind, fresh, is_to_kill, kills, deeds}
-use Rattle.centre_core.specs.Effects.{is_among}
+use Rattle.centre_events.specs.Effects.{is_among}
 use Rattle.centre_core.specs.Headline.{clears_serial}
-use Rattle.centre_core.specs.InFlight.{is_kill}
-use Rattle.centre_core.specs.Lines.{seen}
-use Rattle.centre_core.specs.Past.{Past}
-use Rattle.centre_core.specs.Pending.{actions, actions_in, all_actions}
-use Rattle.centre_core.specs.Places.{cells}
+use Rattle.centre_events.specs.InFlight.{is_kill}
+use Rattle.centre_events.specs.Lines.{seen}
+use Rattle.centre_events.specs.Past.{Past}
+use Rattle.centre_events.specs.Pending.{actions, actions_in, all_actions}
+use Rattle.centre_events.specs.Places.{cells}
 use Rattle.mirror.specs.Seen.{Seen, is_absent, is_on_air, is_the}
-use Rattle.centre_core.specs.Warnings.{warnings_of}
+use Rattle.centre_events.specs.Warnings.{warnings_of}
 use Rattle.mirror.specs.declared.presence.Presence.{Presence}
 use Rattle.mirror.specs.declared.presence.Presence.TheVariants.{Absent, OnAir, Unknown}
 use Rattle.order_maker.specs.declared.deed.Deed.{Deed}
@@ -27,7 +27,7 @@ use Rattle.order_maker.specs.declared.order_kind.OrderKind.{OrderKind}
 use Rattle.order_maker.specs.declared.order_kind.OrderKind.TheVariants.{Kill}
 use Rattle.centre_core.proofs.AnyLemmas.{or_none, and_none, and_over_or, any_same, any_never, any_flat, any_reverse}
 use Rattle.centre_core.proofs.GroupingLemmas.{touches}
-use Rattle.centre_core.proofs.PastLemmas.{any_image}
+use Rattle.centre_events.proofs.PastLemmas.{any_image}
 
 -- what the write does, by g
 abbrev pub writes_by : (OrderKind → ℕ → Bool) → Seen → Option ℕ → Bool

@@ -21,19 +21,19 @@ use Rattle.areas.specs.declared.area.Area.{Area}
 use Rattle.areas.specs.declared.refusal.Refusal as areas_refusal
 use Rattle.areas.specs.declared.refusal.Refusal.TheVariants as areas_refusal_is
 use Rattle.areas.specs.declared.selector.Selector.{Selector}
-use Rattle.centre_core.specs.Cover.{area_mark, is_area, areas, area_count, added_area, selector_mark, has_selector, selectors, selector_count, put_selector}
-use Rattle.centre_core.specs.Kept.{AreAreasOf, Gives, areas_after, areas_then}
-use Rattle.centre_core.specs.Base.{Base, empty_base}
-use Rattle.centre_core.specs.Past.{Past, From, After, IsUnfolded, by_edit, with_new}
-use Rattle.centre_core.specs.Refusals.{of_areas}
-use Rattle.centre_core.specs.Verdict.{translated, answered, edit_answered, unless, add_area, add_area_checks, put, put_checks, cut, cut_checks}
-use Rattle.centre_core.specs.declared.answer.Answer.{Answer}
-use Rattle.centre_core.specs.declared.answer.Answer.TheVariants as answer
+use Rattle.centre_events.specs.Cover.{area_mark, is_area, areas, area_count, added_area, selector_mark, has_selector, selectors, selector_count, put_selector}
+use Rattle.centre_events.specs.Kept.{AreAreasOf, Gives, areas_after, areas_then}
+use Rattle.centre_events.specs.Base.{Base, empty_base}
+use Rattle.centre_events.specs.Past.{Past, From, After, IsUnfolded, by_edit, with_new}
+use Rattle.centre_events.specs.Refusals.{of_areas}
+use Rattle.centre_events.specs.Verdict.{translated, answered, edit_answered, unless, add_area, add_area_checks, put, put_checks, cut, cut_checks}
+use Rattle.centre_events.specs.declared.answer.Answer.{Answer}
+use Rattle.centre_events.specs.declared.answer.Answer.TheVariants as answer
 use Rattle.coverage_plan.specs.declared.edit.Edit.{Edit}
 use Rattle.coverage_plan.specs.declared.edit.Edit.TheVariants as edit
-use Rattle.centre_core.specs.declared.entry.Entry.{Entry}
-use Rattle.centre_core.specs.declared.event.Event.{Event}
-use Rattle.centre_core.specs.declared.event.Event.TheVariants as event
+use Rattle.centre_events.specs.declared.entry.Entry.{Entry}
+use Rattle.centre_events.specs.declared.event.Event.{Event}
+use Rattle.centre_events.specs.declared.event.Event.TheVariants as event
 use Rattle.centre_core.proofs.AnyLemmas.{any_same}
 use Rattle.centre_core.proofs.CheckLemmas.{no_check, taken, refused, given}
 use Rattle.centre_core.proofs.CountLemmas.{same_count, named_once, among_more, among_new, both_or_it}

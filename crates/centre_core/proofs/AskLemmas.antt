@@ -6,17 +6,17 @@ use Rattle.common.specs.declared.cell.Cell.{Cell}
 use Rattle.order_maker.specs.OrderMessage.{query_message}
 use Rattle.warning_book.specs.Book.{current_of, warning_of}
 use Rattle.warning_book.specs.declared.warning.Warning.{Warning}
-use Rattle.centre_core.specs.Asking.{asked_cells, query_of, version_query, warning_query}
-use Rattle.centre_core.specs.InFlight.{in_flight}
-use Rattle.centre_core.specs.Kept.{Gives}
-use Rattle.centre_core.specs.Links.{is_bsc}
-use Rattle.centre_core.specs.Past.{Past}
-use Rattle.centre_core.specs.Verdict.{ask, ask_checks, link_checks, send_checks, unless}
-use Rattle.centre_core.specs.Warnings.{book_of}
-use Rattle.centre_core.specs.declared.answer.Answer.{Answer}
-use Rattle.centre_core.specs.declared.answer.Answer.TheVariants.{Asked}
-use Rattle.centre_core.specs.declared.refusal.Refusal.{Refusal}
-use Rattle.centre_core.specs.declared.refusal.Refusal.TheVariants.{InFlight, NoSuchBsc, NoSuchWarning}
+use Rattle.centre_events.specs.Asking.{asked_cells, query_of, version_query, warning_query}
+use Rattle.centre_events.specs.InFlight.{in_flight}
+use Rattle.centre_events.specs.Kept.{Gives}
+use Rattle.centre_events.specs.Links.{is_bsc}
+use Rattle.centre_events.specs.Past.{Past}
+use Rattle.centre_events.specs.Verdict.{ask, ask_checks, link_checks, send_checks, unless}
+use Rattle.centre_events.specs.Warnings.{book_of}
+use Rattle.centre_events.specs.declared.answer.Answer.{Answer}
+use Rattle.centre_events.specs.declared.answer.Answer.TheVariants.{Asked}
+use Rattle.centre_events.specs.declared.refusal.Refusal.{Refusal}
+use Rattle.centre_events.specs.declared.refusal.Refusal.TheVariants.{InFlight, NoSuchBsc, NoSuchWarning}
 use Rattle.centre_core.proofs.CheckLemmas.{none_before, past_check, unless_ok}
 
 -- the answer is the query of the current version of a warning in the book, in cells at the BSC in which it is on air

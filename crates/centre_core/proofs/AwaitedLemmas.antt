@@ -22,22 +22,22 @@ use Rattle.order_maker.specs.declared.order_kind.OrderKind.TheVariants.{Kill}
 use Rattle.warning_book.specs.Book.{current_of, has_number, warning_of}
 use Rattle.warning_book.specs.VersionLaws.{current_among}
 use Rattle.warning_book.specs.declared.warning.Warning.{Warning}
-use Rattle.centre_core.specs.Cover.{is_covered}
-use Rattle.centre_core.specs.Effects.{is_among}
+use Rattle.centre_events.specs.Cover.{is_covered}
+use Rattle.centre_events.specs.Effects.{is_among}
 use Rattle.centre_core.specs.Headline.{airs}
-use Rattle.centre_core.specs.InFlight.{is_kill}
+use Rattle.centre_events.specs.InFlight.{is_kill}
 use Rattle.centre_core.specs.Legal.{Legal}
-use Rattle.centre_core.specs.Lines.{seen, stand}
-use Rattle.centre_core.specs.Links.{bscs}
+use Rattle.centre_events.specs.Lines.{seen, stand}
+use Rattle.centre_events.specs.Links.{bscs}
 use Rattle.centre_core.specs.Numbers.{number_at}
-use Rattle.centre_core.specs.Past.{Past, IsUnfolded}
-use Rattle.centre_core.specs.Pending.{actions, actions_in, actions_over, all_actions, pending}
-use Rattle.centre_core.specs.Places.{place, cells}
-use Rattle.centre_core.specs.Plan.{wants, wanted, planned}
-use Rattle.centre_core.specs.Presence.{presence}
-use Rattle.centre_core.specs.Settings.{Settings}
+use Rattle.centre_events.specs.Past.{Past, IsUnfolded}
+use Rattle.centre_events.specs.Pending.{actions, actions_in, actions_over, all_actions, pending}
+use Rattle.centre_events.specs.Places.{place, cells}
+use Rattle.centre_events.specs.Plan.{wants, wanted, planned}
+use Rattle.centre_events.specs.Presence.{presence}
+use Rattle.centre_events.specs.Settings.{Settings}
 use Rattle.centre_core.specs.Spare.{brings, brought, is_brought, AwaitedIsPending}
-use Rattle.centre_core.specs.Warnings.{book_of, warnings_of, is_version, has_key}
+use Rattle.centre_events.specs.Warnings.{book_of, warnings_of, is_version, has_key}
 use Rattle.centre_core.proofs.AnyLemmas.{and_none, any_same, any_never, all_flat, contrary}
 use Rattle.centre_core.proofs.GroupingLemmas.{kind_same}
 use Rattle.centre_core.proofs.HeadlineLemmas.{plans, is_free, airs_pending, key_of_plan}

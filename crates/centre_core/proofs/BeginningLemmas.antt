@@ -18,25 +18,25 @@ use Rattle.warning_book.specs.declared.version.Version.{Version}
 use Rattle.warning_book.specs.declared.warning.Warning.{Warning}
 use Rattle.order_maker.specs.Actions.{deed, deeds, kills, in_cell}
 use Rattle.centre_core.specs.Beginning.{IsAtBeginning, AreTheCells, CountsNoOther, IsBscAtBeginning, AreTheBscs, CountsNoOtherBsc}
-use Rattle.centre_core.specs.Counts.{count}
-use Rattle.centre_core.specs.Cover.{is_covered}
-use Rattle.centre_core.specs.Down.{is_down}
-use Rattle.centre_core.specs.Effects.{is_among}
+use Rattle.centre_events.specs.Counts.{count}
+use Rattle.centre_events.specs.Cover.{is_covered}
+use Rattle.centre_events.specs.Down.{is_down}
+use Rattle.centre_events.specs.Effects.{is_among}
 use Rattle.order_maker.specs.Grouping.{in_order, grouped, action_lt}
 use Rattle.centre_core.specs.Legal.{Legal}
-use Rattle.centre_core.specs.Lines.{seen, stand}
-use Rattle.centre_core.specs.Links.{is_bsc, added_bsc, bscs}
+use Rattle.centre_events.specs.Lines.{seen, stand}
+use Rattle.centre_events.specs.Links.{is_bsc, added_bsc, bscs}
 use Rattle.centre_core.specs.Numbers.{number_at, broadcasts_in, broadcasts_at}
-use Rattle.centre_core.specs.Past.{Past}
-use Rattle.centre_core.specs.Pending.{actions, pending}
-use Rattle.centre_core.specs.Places.{place, added_cell, cells}
-use Rattle.centre_core.specs.Plan.{wanted}
-use Rattle.centre_core.specs.Presence.{presence, is_held}
+use Rattle.centre_events.specs.Past.{Past}
+use Rattle.centre_events.specs.Pending.{actions, pending}
+use Rattle.centre_events.specs.Places.{place, added_cell, cells}
+use Rattle.centre_events.specs.Plan.{wanted}
+use Rattle.centre_events.specs.Presence.{presence, is_held}
 use Rattle.mirror.specs.Seen.{Seen, is_absent}
-use Rattle.centre_core.specs.Settings.{Settings}
+use Rattle.centre_events.specs.Settings.{Settings}
 use Rattle.coverage_board.specs.Standings.{Stand, stands, standing, is_way, is_left, is_unwanted}
 use Rattle.centre_core.specs.Table.{key_of, keys_in, keys_over, key_lt, table}
-use Rattle.centre_core.specs.Warnings.{warnings_of, serials}
+use Rattle.centre_events.specs.Warnings.{warnings_of, serials}
 use Rattle.coverage_board.specs.declared.way.Way.{Way}
 use Rattle.coverage_board.specs.declared.way.Way.TheVariants as way
 use Rattle.mirror.specs.declared.presence.Presence.{Presence}
@@ -49,7 +49,7 @@ use Rattle.centre_core.proofs.CountLemmas.{named_once}
 use Rattle.centre_core.proofs.MarkLemmas.{known_presence, unknown_bsc_presence}
 use Rattle.centre_core.proofs.KnownLemmas.{known_place, legal_unfolded}
 use Rattle.centre_core.proofs.OrderingLemmas.{IsOrder, action_same, action_order, action_decides, Key, bare_lt, bare_same, bare_order, bare_decides, sorted_map}
-use Rattle.centre_core.proofs.PastLemmas.{map_joined}
+use Rattle.centre_events.proofs.PastLemmas.{map_joined}
 
 -- A line where nothing is wanted and nothing on air, whatever is held there and be the cell down or not.
 

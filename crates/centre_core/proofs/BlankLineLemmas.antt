@@ -12,19 +12,19 @@ use Rattle.mirror.specs.declared.line.Line.{Line}
 use Rattle.mirror.specs.declared.presence.Presence.TheVariants.{Absent}
 use Rattle.serials.specs.Serials.{update_of}
 use Rattle.warning_book.specs.declared.warning.Warning.{Warning}
-use Rattle.centre_core.specs.Counts.{count_mark}
-use Rattle.centre_core.specs.Effects.{indicated_effect, is_among, state_after}
+use Rattle.centre_events.specs.Counts.{count_mark}
+use Rattle.centre_events.specs.Effects.{indicated_effect, is_among, state_after}
 use Rattle.centre_core.specs.Following.{Happens, leaves_blank, line_now}
-use Rattle.centre_core.specs.Presence.{effect}
-use Rattle.centre_core.specs.Stepping.{stepped}
-use Rattle.centre_core.specs.Warnings.{serials}
-use Rattle.centre_core.specs.declared.answer.Answer.{Answer}
-use Rattle.centre_core.specs.declared.answer.Answer.TheVariants.{Listed}
-use Rattle.centre_core.specs.declared.effect.Effect.{Effect}
-use Rattle.centre_core.specs.declared.effect.Effect.TheVariants.{Sets, Frees, Leaves}
-use Rattle.centre_core.specs.declared.event.Event.{Event}
-use Rattle.centre_core.specs.declared.event.Event.TheVariants as event
-use Rattle.centre_core.specs.declared.in_flight.InFlight.{InFlight}
+use Rattle.centre_events.specs.Presence.{effect}
+use Rattle.centre_events.specs.Stepping.{stepped}
+use Rattle.centre_events.specs.Warnings.{serials}
+use Rattle.centre_events.specs.declared.answer.Answer.{Answer}
+use Rattle.centre_events.specs.declared.answer.Answer.TheVariants.{Listed}
+use Rattle.centre_events.specs.declared.effect.Effect.{Effect}
+use Rattle.centre_events.specs.declared.effect.Effect.TheVariants.{Sets, Frees, Leaves}
+use Rattle.centre_events.specs.declared.event.Event.{Event}
+use Rattle.centre_events.specs.declared.event.Event.TheVariants as event
+use Rattle.centre_events.specs.declared.in_flight.InFlight.{InFlight}
 use Rattle.centre_core.proofs.PartLemmas.{blank_state}
 
 set_same : (n i : ℕ) → slice_set (replicate n blank) i blank ≡ replicate n blank

@@ -32,27 +32,27 @@ use Rattle.kept_tables.specs.View.{key_at, spot_eq, is_spot}
 use Rattle.kept_tables.specs.declared.spot.Spot.{Spot}
 use Rattle.warning_book.specs.Book.{State, has_number, names, warning_of}
 use Rattle.warning_book.specs.declared.warning.Warning.{Warning}
-use Rattle.centre_core.specs.Counts.{count}
-use Rattle.centre_core.specs.Cover.{covers, is_covered}
-use Rattle.centre_core.specs.Effects.{is_among}
-use Rattle.centre_core.specs.Facts.{facts}
-use Rattle.centre_core.specs.Kept.{AreAreasOf}
+use Rattle.centre_events.specs.Counts.{count}
+use Rattle.centre_events.specs.Cover.{covers, is_covered}
+use Rattle.centre_events.specs.Effects.{is_among}
+use Rattle.centre_events.specs.Facts.{facts}
+use Rattle.centre_events.specs.Kept.{AreAreasOf}
 use Rattle.centre_core.specs.Legal.{Legal}
-use Rattle.centre_core.specs.Lines.{stand}
-use Rattle.centre_core.specs.Links.{added_bsc, bscs}
+use Rattle.centre_events.specs.Lines.{stand}
+use Rattle.centre_events.specs.Links.{added_bsc, bscs}
 use Rattle.centre_core.specs.Numbers.{number, broadcasts_in, broadcasts, total, board, area_number, area_broadcasts_in, area_broadcasts, area_total, named_area, warning_area, area_board}
-use Rattle.centre_core.specs.Past.{Past}
-use Rattle.centre_core.specs.Places.{added_cell, cells, place}
+use Rattle.centre_events.specs.Past.{Past}
+use Rattle.centre_events.specs.Places.{added_cell, cells, place}
 use Rattle.centre_core.specs.Reach.{spot}
-use Rattle.centre_core.specs.Settings.{Settings}
-use Rattle.centre_core.specs.Warnings.{book_of, warnings_of, serials}
-use Rattle.centre_core.specs.declared.refusal.Refusal.{Refusal}
-use Rattle.centre_core.specs.declared.refusal.Refusal.TheVariants.{NoSuchArea, NoSuchWarning, AreaNotThere}
+use Rattle.centre_events.specs.Settings.{Settings}
+use Rattle.centre_events.specs.Warnings.{book_of, warnings_of, serials}
+use Rattle.centre_events.specs.declared.refusal.Refusal.{Refusal}
+use Rattle.centre_events.specs.declared.refusal.Refusal.TheVariants.{NoSuchArea, NoSuchWarning, AreaNotThere}
 use Rattle.centre_core.proofs.AnyLemmas.{and_none, any_flat, any_never, any_pulled, any_same}
 use Rattle.centre_core.proofs.BeginningLemmas.{IsBlank, seen_blank, at_cell, cell_outside, bsc_outside, not_counted}
 use Rattle.centre_core.proofs.CountLemmas.{named_once}
 use Rattle.centre_core.proofs.KnownLemmas.{legal_unfolded}
-use Rattle.centre_core.proofs.PastLemmas.{any_image}
+use Rattle.centre_events.proofs.PastLemmas.{any_image}
 use Rattle.centre_core.proofs.SeenLemmas.{counted, total_seen, area_counted, area_seen}
 
 -- Cells at BSCs.

@@ -11,24 +11,24 @@ use Rattle.common.specs.Cell.{cell_eq}
 use Rattle.common.specs.Equality.{cell_decides}
 use Rattle.common.specs.declared.cell.Cell.{Cell}
 use Rattle.warning_book.specs.Book.{warning_of}
-use Rattle.centre_core.specs.Asking.{warning_query}
-use Rattle.centre_core.specs.Base.{Base, empty_base}
+use Rattle.centre_events.specs.Asking.{warning_query}
+use Rattle.centre_events.specs.Base.{Base, empty_base}
 use Rattle.order_maker.specs.Grouping.{first}
-use Rattle.centre_core.specs.InFlight.{in_flight, flight_mark, sent_flight, asked_flight, is_replied}
+use Rattle.centre_events.specs.InFlight.{in_flight, flight_mark, sent_flight, asked_flight, is_replied}
 use Rattle.centre_core.specs.Legal.{Legal}
-use Rattle.centre_core.specs.Links.{is_bsc, bsc_mark, added_bsc, bscs, is_up, first_down, up_mark}
-use Rattle.centre_core.specs.Past.{Past, From, After, IsUnfolded, by_edit, with_new, position}
-use Rattle.centre_core.specs.Pending.{pending}
-use Rattle.centre_core.specs.Places.{place, place_mark, cells}
-use Rattle.centre_core.specs.Settings.{Settings}
-use Rattle.centre_core.specs.Verdict.{answered, edit_answered, has_cells, add_bsc_checks, remove_bsc_checks, add_cell_checks, move_cell_checks, link_up_checks, send_checks, send_answer, ask_checks}
-use Rattle.centre_core.specs.Warnings.{book_of}
-use Rattle.centre_core.specs.declared.answer.Answer.{Answer}
-use Rattle.centre_core.specs.declared.answer.Answer.TheVariants as answer
+use Rattle.centre_events.specs.Links.{is_bsc, bsc_mark, added_bsc, bscs, is_up, first_down, up_mark}
+use Rattle.centre_events.specs.Past.{Past, From, After, IsUnfolded, by_edit, with_new, position}
+use Rattle.centre_events.specs.Pending.{pending}
+use Rattle.centre_events.specs.Places.{place, place_mark, cells}
+use Rattle.centre_events.specs.Settings.{Settings}
+use Rattle.centre_events.specs.Verdict.{answered, edit_answered, has_cells, add_bsc_checks, remove_bsc_checks, add_cell_checks, move_cell_checks, link_up_checks, send_checks, send_answer, ask_checks}
+use Rattle.centre_events.specs.Warnings.{book_of}
+use Rattle.centre_events.specs.declared.answer.Answer.{Answer}
+use Rattle.centre_events.specs.declared.answer.Answer.TheVariants as answer
 use Rattle.coverage_plan.specs.declared.edit.Edit.{Edit}
 use Rattle.coverage_plan.specs.declared.edit.Edit.TheVariants as edit
-use Rattle.centre_core.specs.declared.event.Event.{Event}
-use Rattle.centre_core.specs.declared.event.Event.TheVariants as event
+use Rattle.centre_events.specs.declared.event.Event.{Event}
+use Rattle.centre_events.specs.declared.event.Event.TheVariants as event
 use Rattle.centre_core.proofs.AnyLemmas.{any_at}
 use Rattle.centre_core.proofs.CheckLemmas.{no_check}
 use Rattle.centre_core.proofs.CountLemmas.{among_more, among_new}

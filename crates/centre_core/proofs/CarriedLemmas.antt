@@ -15,22 +15,22 @@ use Rattle.warning_book.specs.declared.content.Content.{Content}
 use Rattle.warning_book.specs.declared.warning.Warning.{Warning}
 use Rattle.order_maker.specs.Actions.{in_cell, deed, needs, replaced, is_to_kill, fresh_kind, fresh, kills}
 use Rattle.order_maker.specs.Grouping.{first}
-use Rattle.centre_core.specs.InFlight.{is_kill}
-use Rattle.centre_core.specs.Lines.{seen}
+use Rattle.centre_events.specs.InFlight.{is_kill}
+use Rattle.centre_events.specs.Lines.{seen}
 use Rattle.order_maker.specs.OrderMessage.{IsCarriable}
-use Rattle.centre_core.specs.Past.{Past}
-use Rattle.centre_core.specs.Pending.{actions, actions_in, pending}
-use Rattle.centre_core.specs.Places.{cells}
-use Rattle.centre_core.specs.Plan.{wants, wanted}
+use Rattle.centre_events.specs.Past.{Past}
+use Rattle.centre_events.specs.Pending.{actions, actions_in, pending}
+use Rattle.centre_events.specs.Places.{cells}
+use Rattle.centre_events.specs.Plan.{wants, wanted}
 use Rattle.mirror.specs.Seen.{Seen}
-use Rattle.centre_core.specs.Warnings.{book_of, warnings_of, serials}
+use Rattle.centre_events.specs.Warnings.{book_of, warnings_of, serials}
 use Rattle.order_maker.specs.declared.action.Action.{Action}
 use Rattle.order_maker.specs.declared.order.Order.{Order}
 use Rattle.order_maker.specs.declared.order_kind.OrderKind.{OrderKind}
 use Rattle.order_maker.specs.declared.order_kind.OrderKind.TheVariants.{Write, Replace, Kill}
 use Rattle.centre_core.proofs.AnyLemmas.{all_joined}
 use Rattle.centre_core.proofs.GroupingLemmas.{all_pending}
-use Rattle.centre_core.proofs.PastLemmas.{map_joined}
+use Rattle.centre_events.proofs.PastLemmas.{map_joined}
 
 -- contents of the book
 

@@ -13,26 +13,26 @@ use Rattle.centre_core.specs.Centre.{IsCentre, IsRefused, Leaves, Refuses}
 use Rattle.centre_core.specs.Flights.{up_before}
 use Rattle.centre_core.specs.Following.{Finishes, WasReached, held_past}
 use Rattle.centre_core.specs.IsKept.{IsKept, OnlyReadsIn}
-use Rattle.centre_core.specs.Facts.{facts}
-use Rattle.centre_core.specs.Kept.{Gives, IsChecked, is_edit, register_after, areas_after, register_then, areas_then}
+use Rattle.centre_events.specs.Facts.{facts}
+use Rattle.centre_events.specs.Kept.{Gives, IsChecked, is_edit, register_after, areas_after, register_then, areas_then}
 use Rattle.centre_core.specs.Legal.{Known, Legal}
-use Rattle.centre_core.specs.Past.{Past, After, past_of, entry_count, position}
+use Rattle.centre_events.specs.Past.{Past, After, past_of, entry_count, position}
 use Rattle.centre_core.specs.Reach.{edit_reach, looked_at, size, reach, reach_of}
-use Rattle.centre_core.specs.Settings.{Settings}
+use Rattle.centre_events.specs.Settings.{Settings}
 use Rattle.centre_core.specs.State.{AreLinksOf}
-use Rattle.centre_core.specs.Verdict.{verdict, answered, edit_answered}
-use Rattle.centre_core.specs.Warnings.{book_after, book_then}
-use Rattle.centre_core.specs.declared.answer.Answer.{Answer}
+use Rattle.centre_events.specs.Verdict.{verdict, answered, edit_answered}
+use Rattle.centre_events.specs.Warnings.{book_after, book_then}
+use Rattle.centre_events.specs.declared.answer.Answer.{Answer}
 use Rattle.coverage_plan.specs.declared.edit.Edit.{Edit}
-use Rattle.centre_core.specs.declared.entry.Entry.{Entry}
-use Rattle.centre_core.specs.declared.event.Event.{Event}
-use Rattle.centre_core.specs.declared.event.Event.TheVariants as event
+use Rattle.centre_events.specs.declared.entry.Entry.{Entry}
+use Rattle.centre_events.specs.declared.event.Event.{Event}
+use Rattle.centre_events.specs.declared.event.Event.TheVariants as event
 use Rattle.centre_core.specs.declared.held.Held.{Held}
 use Rattle.centre_core.specs.declared.kept.Kept.{Kept}
-use Rattle.centre_core.specs.declared.refusal.Refusal.{Refusal}
-use Rattle.centre_core.specs.declared.refusal.Refusal.TheVariants.{JournalFull, Memory}
+use Rattle.centre_events.specs.declared.refusal.Refusal.{Refusal}
+use Rattle.centre_events.specs.declared.refusal.Refusal.TheVariants.{JournalFull, Memory}
 use Rattle.centre_core.proofs.AreaLemmas.{areas_with}
-use Rattle.centre_core.proofs.PastLemmas.{count_journal, position_journal}
+use Rattle.centre_events.proofs.PastLemmas.{count_journal, position_journal}
 use Rattle.centre_core.proofs.ReadLemmas.{reads_kept}
 use Rattle.centre_core.proofs.RegisterLemmas.{register_with}
 use Rattle.centre_core.proofs.UniqueLemmas.{verdict_answered}

@@ -3,11 +3,11 @@ use Rattle.std.proofs.Common.{◌≡◌, ◌⊎◌, inl, inr, Bool, true, false,
 use Rattle.std.specs.Prelude.{IsOk}
 use Rattle.common.specs.CheckLaws.{NoneHolds}
 use Rattle.common.specs.Checks.{first_refusal}
-use Rattle.centre_core.specs.Kept.{Gives}
-use Rattle.centre_core.specs.Verdict.{unless, translated}
-use Rattle.centre_core.specs.declared.answer.Answer.{Answer}
-use Rattle.centre_core.specs.declared.refusal.Refusal.{Refusal}
-use Rattle.centre_core.specs.declared.refusal.Refusal.TheVariants.{Memory}
+use Rattle.centre_events.specs.Kept.{Gives}
+use Rattle.centre_events.specs.Verdict.{unless, translated}
+use Rattle.centre_events.specs.declared.answer.Answer.{Answer}
+use Rattle.centre_events.specs.declared.refusal.Refusal.{Refusal}
+use Rattle.centre_events.specs.declared.refusal.Refusal.TheVariants.{Memory}
 
 -- an answer that is none of the refusals comes after all checks
 pub unless_ok : (checks : List (Bool × Refusal)) (r : Result Answer Refusal) (a : Answer) → unless checks r ≡ Ok a → r ≡ Ok a

@@ -4,8 +4,8 @@ use Rattle.std.proofs.lemmas.Bool.{and_parts, not-true, or_right}
 use Rattle.std.specs.List.{list_any}
 use Rattle.common.specs.OnceLaws.{DecidesAll, turned, any_turned, any_without_key, once_filter, length_without_same}
 use Rattle.common.specs.Order.{each_once}
-use Rattle.centre_core.specs.Base.{Base, empty_base}
-use Rattle.centre_core.specs.Past.{Past, From, After, IsUnfolded, by_edit, with_new, named}
+use Rattle.centre_events.specs.Base.{Base, empty_base}
+use Rattle.centre_events.specs.Past.{Past, From, After, IsUnfolded, by_edit, with_new, named}
 use Rattle.common.specs.Sums.{one, count_of}
 use Rattle.coverage_plan.specs.declared.edit.Edit.{Edit}
 

@@ -4,10 +4,10 @@ use Rattle.cell_register.specs.Register as register
 use Rattle.kept_tables.specs.ConsistentLaws.{empty_consistent}
 use Rattle.kept_tables.specs.Tables.{IsEmpty}
 use Rattle.warning_book.specs.Book as book
-use Rattle.centre_core.specs.Base.{empty_base}
-use Rattle.centre_core.specs.Facts.{facts}
+use Rattle.centre_events.specs.Base.{empty_base}
+use Rattle.centre_events.specs.Facts.{facts}
 use Rattle.centre_core.specs.IsKept.{IsKept}
-use Rattle.centre_core.specs.Past.{From}
+use Rattle.centre_events.specs.Past.{From}
 use Rattle.centre_core.specs.declared.kept.Kept.{Kept}
 
 pub empty_kept : (s : Kept) → s.register ≡ register.empty → s.areas ≡ [] → s.book ≡ book.empty → s.links.items ≡ [] → s.flights.items ≡ [] → IsEmpty s.tables → IsKept (From empty_base) s

@@ -12,13 +12,13 @@ use Rattle.common.specs.declared.cell.Cell.{Cell}
 use Rattle.mirror.specs.declared.line.Line.{Line}
 use Rattle.warning_book.specs.Book.{current_of}
 use Rattle.warning_book.specs.declared.warning.Warning.{Warning}
-use Rattle.centre_core.specs.Cover.{has_selector, covers}
-use Rattle.centre_core.specs.Facts.{IsLineOf, facts_of}
-use Rattle.centre_core.specs.Kept.{IsRegisterOf, AreAreasOf}
-use Rattle.centre_core.specs.Past.{Past}
-use Rattle.centre_core.specs.Places.{place}
-use Rattle.centre_core.specs.Plan.{wants, wanted}
-use Rattle.centre_core.specs.Down.{is_down}
+use Rattle.centre_events.specs.Cover.{has_selector, covers}
+use Rattle.centre_events.specs.Facts.{IsLineOf, facts_of}
+use Rattle.centre_events.specs.Kept.{IsRegisterOf, AreAreasOf}
+use Rattle.centre_events.specs.Past.{Past}
+use Rattle.centre_events.specs.Places.{place}
+use Rattle.centre_events.specs.Plan.{wants, wanted}
+use Rattle.centre_events.specs.Down.{is_down}
 use Rattle.centre_core.specs.State.{wants_in, wanted_in, facts_from}
 
 pub filter_pointwise : {A : Type 0} (p q : A → Bool) → ((x : A) → p x ≡ q x) → (xs : List A) → filter p xs ≡ filter q xs

@@ -3,17 +3,17 @@ use Rattle.std.proofs.Common.{◌≡◌, ℕ, ◌+◌, Bool, List, Option, refl,
 use Rattle.kept_tables.specs.declared.spot.Spot.{Spot}
 use Rattle.centre_core.specs.Flights.{flights_after, up_before}
 use Rattle.centre_core.specs.Following.{Bears, Finishes, flight_kept, flight_before}
-use Rattle.centre_core.specs.Kept.{AreFlightsOf}
-use Rattle.centre_core.specs.Past.{Past, After, position}
+use Rattle.centre_events.specs.Kept.{AreFlightsOf}
+use Rattle.centre_events.specs.Past.{Past, After, position}
 use Rattle.centre_core.specs.Reach.{IsReach, reach_of}
 use Rattle.centre_core.specs.State.{AreLinksOf, links_after}
-use Rattle.centre_core.specs.declared.answer.Answer.{Answer}
-use Rattle.centre_core.specs.declared.entry.Entry.{Entry}
-use Rattle.centre_core.specs.declared.event.Event.{Event}
-use Rattle.centre_core.specs.declared.event.Event.TheVariants as event
-use Rattle.centre_core.specs.declared.flight.Flight.{Flight}
+use Rattle.centre_events.specs.declared.answer.Answer.{Answer}
+use Rattle.centre_events.specs.declared.entry.Entry.{Entry}
+use Rattle.centre_events.specs.declared.event.Event.{Event}
+use Rattle.centre_events.specs.declared.event.Event.TheVariants as event
+use Rattle.centre_events.specs.declared.flight.Flight.{Flight}
 use Rattle.centre_core.specs.declared.held.Held.{Held}
-use Rattle.centre_core.specs.declared.in_flight.InFlight.{InFlight}
+use Rattle.centre_events.specs.declared.in_flight.InFlight.{InFlight}
 use Rattle.centre_core.specs.declared.kept.Kept.{Kept}
 use Rattle.centre_core.specs.declared.link.Link.{Link}
 use Rattle.centre_core.proofs.FlightLemmas.{flights_with}

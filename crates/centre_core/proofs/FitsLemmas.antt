@@ -24,29 +24,29 @@ use Rattle.centre_core.proofs.CarriedLemmas.{sent_carriable}
 use Rattle.centre_core.proofs.CheckLemmas.{unless_ok}
 use Rattle.centre_core.proofs.UniqueLemmas.{verdict_answered}
 use Rattle.centre_core.proofs.WarningLemmas.{content_has_pages, legal_sound}
-use Rattle.centre_core.specs.Asking.{asked_cells, on_air_after}
+use Rattle.centre_events.specs.Asking.{asked_cells, on_air_after}
 use Rattle.centre_core.specs.Fits.{AnswerFits, IsCarried}
 use Rattle.order_maker.specs.Grouping.{first, most_cells}
-use Rattle.centre_core.specs.InFlight.{in_flight, is_kill}
+use Rattle.centre_events.specs.InFlight.{in_flight, is_kill}
 use Rattle.centre_core.specs.Legal.{Legal}
 use Rattle.order_maker.specs.OrderMessage.{IsCarriable, listed, message_by}
-use Rattle.centre_core.specs.Past.{Past, position}
-use Rattle.centre_core.specs.Pending.{pending}
-use Rattle.centre_core.specs.Settings.{Settings}
-use Rattle.centre_core.specs.Verdict.{unless, answered, edit_answered, verdict, add_bsc_checks, remove_bsc_checks, add_cell_checks, move_cell_checks, remove_cell_checks, add_area_checks, drop_area_checks, put_checks, cut_checks, issue_checks, issue_answer, update_checks, update_answer, widen_checks, narrow_checks, stop_checks, forget_checks, retry_checks, link_up_checks, link_checks, send_checks, send_answer, report_checks, reply_answer, report_answer}
-use Rattle.centre_core.specs.Warnings.{book_of, warnings_of}
-use Rattle.centre_core.specs.declared.answer.Answer.{Answer}
-use Rattle.centre_core.specs.declared.answer.Answer.TheVariants.{Done, Link, Issued, Updated, Replied, Listed}
+use Rattle.centre_events.specs.Past.{Past, position}
+use Rattle.centre_events.specs.Pending.{pending}
+use Rattle.centre_events.specs.Settings.{Settings}
+use Rattle.centre_events.specs.Verdict.{unless, answered, edit_answered, verdict, add_bsc_checks, remove_bsc_checks, add_cell_checks, move_cell_checks, remove_cell_checks, add_area_checks, drop_area_checks, put_checks, cut_checks, issue_checks, issue_answer, update_checks, update_answer, widen_checks, narrow_checks, stop_checks, forget_checks, retry_checks, link_up_checks, link_checks, send_checks, send_answer, report_checks, reply_answer, report_answer}
+use Rattle.centre_events.specs.Warnings.{book_of, warnings_of}
+use Rattle.centre_events.specs.declared.answer.Answer.{Answer}
+use Rattle.centre_events.specs.declared.answer.Answer.TheVariants.{Done, Link, Issued, Updated, Replied, Listed}
 use Rattle.coverage_plan.specs.declared.edit.Edit.{Edit}
 use Rattle.coverage_plan.specs.declared.edit.Edit.TheVariants as edit
-use Rattle.centre_core.specs.declared.event.Event.{Event}
-use Rattle.centre_core.specs.declared.event.Event.TheVariants as event
-use Rattle.centre_core.specs.declared.in_flight.InFlight.{InFlight}
+use Rattle.centre_events.specs.declared.event.Event.{Event}
+use Rattle.centre_events.specs.declared.event.Event.TheVariants as event
+use Rattle.centre_events.specs.declared.in_flight.InFlight.{InFlight}
 use Rattle.order_maker.specs.declared.order.Order.{Order}
 use Rattle.order_maker.specs.declared.order_kind.OrderKind.{OrderKind}
 use Rattle.order_maker.specs.declared.order_kind.OrderKind.TheVariants.{Write, Replace, Kill}
-use Rattle.centre_core.specs.declared.refusal.Refusal.{Refusal}
-use Rattle.centre_core.specs.declared.reply.Reply.{Reply}
+use Rattle.centre_events.specs.declared.refusal.Refusal.{Refusal}
+use Rattle.centre_events.specs.declared.reply.Reply.{Reply}
 
 -- a cell takes four octets of a list
 listed_length : (cells : List Cell) → length (flat_map id_octets (map id_of_cell cells)) ≡ 4 * length cells

@@ -3,16 +3,16 @@ use Rattle.std.proofs.Common.{◌≡◌, ℕ, Bool, true, false, ◌&&◌, not, 
 use Rattle.std.specs.Prelude.{find, if◌then◌else◌}
 use Rattle.std.specs.Option.{option_map}
 use Rattle.centre_core.specs.Flights.{with_flight, flights_after, up_before}
-use Rattle.centre_core.specs.InFlight.{in_flight, flight_mark, sent_flight, asked_flight, is_replied}
-use Rattle.centre_core.specs.Kept.{AreFlightsOf, is_of, flight_in, without_flight}
-use Rattle.centre_core.specs.Links.{is_up}
-use Rattle.centre_core.specs.Past.{Past, After}
-use Rattle.centre_core.specs.declared.answer.Answer.{Answer}
-use Rattle.centre_core.specs.declared.entry.Entry.{Entry}
-use Rattle.centre_core.specs.declared.event.Event.{Event}
-use Rattle.centre_core.specs.declared.event.Event.TheVariants as event
-use Rattle.centre_core.specs.declared.flight.Flight.{Flight}
-use Rattle.centre_core.specs.declared.in_flight.InFlight.{InFlight}
+use Rattle.centre_events.specs.InFlight.{in_flight, flight_mark, sent_flight, asked_flight, is_replied}
+use Rattle.centre_events.specs.Kept.{AreFlightsOf, is_of, flight_in, without_flight}
+use Rattle.centre_events.specs.Links.{is_up}
+use Rattle.centre_events.specs.Past.{Past, After}
+use Rattle.centre_events.specs.declared.answer.Answer.{Answer}
+use Rattle.centre_events.specs.declared.entry.Entry.{Entry}
+use Rattle.centre_events.specs.declared.event.Event.{Event}
+use Rattle.centre_events.specs.declared.event.Event.TheVariants as event
+use Rattle.centre_events.specs.declared.flight.Flight.{Flight}
+use Rattle.centre_events.specs.declared.in_flight.InFlight.{InFlight}
 
 -- one more flight, at the front
 abbrev flight_if : ℕ → Flight → Option InFlight → Option InFlight

@@ -12,9 +12,9 @@ use Rattle.kept_tables.specs.declared.spot.Spot.{Spot}
 use Rattle.mirror.specs.declared.line_key.LineKey.{LineKey}
 use Rattle.warning_book.specs.Book as book
 use Rattle.warning_book.specs.Book.{warning_of}
-use Rattle.centre_core.specs.Down.{down_mark}
-use Rattle.centre_core.specs.declared.answer.Answer.{Answer}
-use Rattle.centre_core.specs.declared.event.Event.{Event}
+use Rattle.centre_events.specs.Down.{down_mark}
+use Rattle.centre_events.specs.declared.answer.Answer.{Answer}
+use Rattle.centre_events.specs.declared.event.Event.{Event}
 use Rattle.centre_core.specs.Following.{AsBefore, SameLines, facts_in, down_after}
 
 pub same_trans : (t u v : Tables) → SameTables t u → SameTables u v → SameTables t v

@@ -14,15 +14,15 @@ use Rattle.warning_book.specs.Sound.{IsSound, was_issued}
 use Rattle.warning_book.specs.declared.notice.Notice.{Notice}
 use Rattle.warning_book.specs.declared.warning.Warning.{Warning}
 use Rattle.centre_core.specs.Issued.{edit_makes}
-use Rattle.centre_core.specs.Past.{Past, by_edit}
-use Rattle.centre_core.specs.Verdict.{answered, edit_answered, issue, issue_checks, issue_answer}
-use Rattle.centre_core.specs.Warnings.{book_of, warnings_of, book_after, book_then, with_issue}
-use Rattle.centre_core.specs.declared.answer.Answer.{Answer}
-use Rattle.centre_core.specs.declared.answer.Answer.TheVariants as answer
+use Rattle.centre_events.specs.Past.{Past, by_edit}
+use Rattle.centre_events.specs.Verdict.{answered, edit_answered, issue, issue_checks, issue_answer}
+use Rattle.centre_events.specs.Warnings.{book_of, warnings_of, book_after, book_then, with_issue}
+use Rattle.centre_events.specs.declared.answer.Answer.{Answer}
+use Rattle.centre_events.specs.declared.answer.Answer.TheVariants as answer
 use Rattle.coverage_plan.specs.declared.edit.Edit.{Edit}
 use Rattle.coverage_plan.specs.declared.edit.Edit.TheVariants as edit
-use Rattle.centre_core.specs.declared.event.Event.{Event}
-use Rattle.centre_core.specs.declared.event.Event.TheVariants as event
+use Rattle.centre_events.specs.declared.event.Event.{Event}
+use Rattle.centre_events.specs.declared.event.Event.TheVariants as event
 use Rattle.centre_core.proofs.CheckLemmas.{unless_ok}
 
 -- The warning of a number after each edit.

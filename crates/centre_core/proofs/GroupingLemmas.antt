@@ -7,9 +7,9 @@ use Rattle.common.specs.Cell.{cell_eq}
 use Rattle.common.specs.declared.cell.Cell.{Cell}
 use Rattle.centre_core.specs.Headline.{names_cell}
 use Rattle.order_maker.specs.Grouping.{kind_eq, action_lt, in_order, alone, fits, joined, grouped}
-use Rattle.centre_core.specs.Past.{Past}
-use Rattle.centre_core.specs.Pending.{all_actions, pending}
-use Rattle.centre_core.specs.Effects.{is_among}
+use Rattle.centre_events.specs.Past.{Past}
+use Rattle.centre_events.specs.Pending.{all_actions, pending}
+use Rattle.centre_events.specs.Effects.{is_among}
 use Rattle.common.specs.SortingLaws.{any_sorted, all_sorted}
 use Rattle.order_maker.specs.declared.action.Action.{Action}
 use Rattle.order_maker.specs.declared.order.Order.{Order}

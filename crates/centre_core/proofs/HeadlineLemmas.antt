@@ -9,34 +9,34 @@ use Rattle.warning_book.specs.Book.{current_of}
 use Rattle.warning_book.specs.VersionLaws.{current_among}
 use Rattle.warning_book.specs.declared.version.Version.{Version}
 use Rattle.warning_book.specs.declared.warning.Warning.{Warning}
-use Rattle.centre_core.specs.Base.{empty_base}
-use Rattle.centre_core.specs.Cover.{is_covered}
-use Rattle.centre_core.specs.Down.{is_down}
-use Rattle.centre_core.specs.Effects.{is_among}
+use Rattle.centre_events.specs.Base.{empty_base}
+use Rattle.centre_events.specs.Cover.{is_covered}
+use Rattle.centre_events.specs.Down.{is_down}
+use Rattle.centre_events.specs.Effects.{is_among}
 use Rattle.centre_core.specs.Headline.{airs, clears, applied, Agrees, PendingGivesPlan}
 use Rattle.centre_core.specs.Legal.{Legal, Call, with_verdict, after_calls}
-use Rattle.centre_core.specs.Lines.{seen}
-use Rattle.centre_core.specs.Past.{Past, From, IsUnfolded}
-use Rattle.centre_core.specs.Pending.{pending}
-use Rattle.centre_core.specs.Places.{place, cells}
-use Rattle.centre_core.specs.Plan.{wants, wanted, planned}
-use Rattle.centre_core.specs.Presence.{presence, is_held}
+use Rattle.centre_events.specs.Lines.{seen}
+use Rattle.centre_events.specs.Past.{Past, From, IsUnfolded}
+use Rattle.centre_events.specs.Pending.{pending}
+use Rattle.centre_events.specs.Places.{place, cells}
+use Rattle.centre_events.specs.Plan.{wants, wanted, planned}
+use Rattle.centre_events.specs.Presence.{presence, is_held}
 use Rattle.mirror.specs.Seen.{is_absent, is_on_air, is_the}
-use Rattle.centre_core.specs.Settings.{Settings}
-use Rattle.centre_core.specs.Verdict.{verdict}
-use Rattle.centre_core.specs.Warnings.{book_of, warnings_of, is_version, has_key, is_key}
-use Rattle.centre_core.specs.declared.answer.Answer.{Answer}
-use Rattle.centre_core.specs.declared.event.Event.{Event}
+use Rattle.centre_events.specs.Settings.{Settings}
+use Rattle.centre_events.specs.Verdict.{verdict}
+use Rattle.centre_events.specs.Warnings.{book_of, warnings_of, is_version, has_key, is_key}
+use Rattle.centre_events.specs.declared.answer.Answer.{Answer}
+use Rattle.centre_events.specs.declared.event.Event.{Event}
 use Rattle.mirror.specs.declared.presence.Presence.{Presence}
 use Rattle.mirror.specs.declared.presence.Presence.TheVariants.{Absent, OnAir, Unknown}
-use Rattle.centre_core.specs.declared.refusal.Refusal.{Refusal}
+use Rattle.centre_events.specs.declared.refusal.Refusal.{Refusal}
 use Rattle.centre_core.proofs.AnyLemmas.{and_none, any_same, any_pulled}
 use Rattle.centre_core.proofs.ApplyingLemmas.{applied_airs, applied_clears}
 use Rattle.centre_core.proofs.ActingLemmas.{does, any_all, airing, clearing, is_surplus, does_airing, does_clearing}
 use Rattle.centre_core.proofs.GroupingLemmas.{any_pending}
 use Rattle.centre_core.proofs.MarkLemmas.{known_presence}
 use Rattle.centre_core.proofs.KnownLemmas.{legal_unfolded, known_place}
-use Rattle.centre_core.proofs.PastLemmas.{any_image}
+use Rattle.centre_events.proofs.PastLemmas.{any_image}
 use Rattle.centre_core.proofs.UniqueLemmas.{unique, one_other}
 use Rattle.centre_core.proofs.WarningLemmas.{legal_sound}
 

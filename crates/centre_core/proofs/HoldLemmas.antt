@@ -21,25 +21,25 @@ use Rattle.mirror.specs.Table.{line_at, down_at}
 use Rattle.mirror.specs.declared.line_key.LineKey.{LineKey}
 use Rattle.warning_book.specs.Book.{warning_of}
 use Rattle.warning_book.specs.declared.warning.Warning.{Warning}
-use Rattle.centre_core.specs.Facts.{IsLineOf, facts_of, facts}
+use Rattle.centre_events.specs.Facts.{IsLineOf, facts_of, facts}
 use Rattle.centre_core.specs.Flights.{up_before}
 use Rattle.centre_core.specs.Following.{AsBefore, Happens, flight_before, flight_kept, facts_in, held_line, held_lines, changing_lines, is_idle, leaves_cover, stays, held_past, keys_of, WasReached}
 use Rattle.centre_core.specs.Idle.{OnlyReads}
 use Rattle.centre_core.specs.IsKept.{IsKept}
-use Rattle.centre_core.specs.Kept.{AreFlightsOf, is_edit}
+use Rattle.centre_events.specs.Kept.{AreFlightsOf, is_edit}
 use Rattle.centre_core.specs.Legal.{Legal}
-use Rattle.centre_core.specs.Past.{Past, After}
+use Rattle.centre_events.specs.Past.{Past, After}
 use Rattle.centre_core.specs.Reach.{Reach, IsReach, reach_of, size}
 use Rattle.centre_core.specs.Reaching.{AreBscs, Told, IsFlightOf, bsc_of}
-use Rattle.centre_core.specs.Settings.{Settings}
-use Rattle.centre_core.specs.Verdict.{verdict}
-use Rattle.centre_core.specs.Warnings.{book_of}
-use Rattle.centre_core.specs.declared.answer.Answer.{Answer}
-use Rattle.centre_core.specs.declared.event.Event.{Event}
-use Rattle.centre_core.specs.declared.event.Event.TheVariants as event
-use Rattle.centre_core.specs.declared.flight.Flight.{Flight}
+use Rattle.centre_events.specs.Settings.{Settings}
+use Rattle.centre_events.specs.Verdict.{verdict}
+use Rattle.centre_events.specs.Warnings.{book_of}
+use Rattle.centre_events.specs.declared.answer.Answer.{Answer}
+use Rattle.centre_events.specs.declared.event.Event.{Event}
+use Rattle.centre_events.specs.declared.event.Event.TheVariants as event
+use Rattle.centre_events.specs.declared.flight.Flight.{Flight}
 use Rattle.centre_core.specs.declared.held.Held.{Held}
-use Rattle.centre_core.specs.declared.in_flight.InFlight.{InFlight}
+use Rattle.centre_events.specs.declared.in_flight.InFlight.{InFlight}
 use Rattle.centre_core.specs.declared.kept.Kept.{Kept}
 use Rattle.coverage_plan.specs.declared.edit.Edit.{Edit}
 use Rattle.centre_core.proofs.FactsLemmas.{facts_same}

@@ -20,29 +20,29 @@ use Rattle.mirror.specs.Seen.{is_absent, is_the}
 use Rattle.warning_book.specs.Book.{current_of, warning_of}
 use Rattle.warning_book.specs.declared.version.Version.{Version}
 use Rattle.warning_book.specs.declared.warning.Warning.{Warning}
-use Rattle.centre_core.specs.Cover.{is_covered}
-use Rattle.centre_core.specs.Facts.{facts}
+use Rattle.centre_events.specs.Cover.{is_covered}
+use Rattle.centre_events.specs.Facts.{facts}
 use Rattle.centre_core.specs.Idle.{is_flying}
-use Rattle.centre_core.specs.InFlight.{in_flight}
-use Rattle.centre_core.specs.Kept.{IsRegisterOf, AreFlightsOf, flight_in}
+use Rattle.centre_events.specs.InFlight.{in_flight}
+use Rattle.centre_events.specs.Kept.{IsRegisterOf, AreFlightsOf, flight_in}
 use Rattle.centre_core.specs.Legal.{Legal}
-use Rattle.centre_core.specs.Lines.{seen}
-use Rattle.centre_core.specs.Links.{bscs, is_bsc}
+use Rattle.centre_events.specs.Lines.{seen}
+use Rattle.centre_events.specs.Links.{bscs, is_bsc}
 use Rattle.centre_core.specs.Numbers.{number, number_at}
-use Rattle.centre_core.specs.Past.{Past}
-use Rattle.centre_core.specs.Places.{cells, place}
-use Rattle.centre_core.specs.Plan.{wanted}
-use Rattle.centre_core.specs.Presence.{presence}
-use Rattle.centre_core.specs.Reported.{is_present, is_reported_in, is_reported_at, is_reported, flight_names, is_in_flight}
-use Rattle.centre_core.specs.Settings.{Settings}
-use Rattle.centre_core.specs.Warnings.{book_of}
-use Rattle.centre_core.specs.declared.flight.Flight.{Flight}
-use Rattle.centre_core.specs.declared.in_flight.InFlight.{InFlight}
+use Rattle.centre_events.specs.Past.{Past}
+use Rattle.centre_events.specs.Places.{cells, place}
+use Rattle.centre_events.specs.Plan.{wanted}
+use Rattle.centre_events.specs.Presence.{presence}
+use Rattle.centre_events.specs.Reported.{is_present, is_reported_in, is_reported_at, is_reported, flight_names, is_in_flight}
+use Rattle.centre_events.specs.Settings.{Settings}
+use Rattle.centre_events.specs.Warnings.{book_of}
+use Rattle.centre_events.specs.declared.flight.Flight.{Flight}
+use Rattle.centre_events.specs.declared.in_flight.InFlight.{InFlight}
 use Rattle.centre_core.proofs.AnyLemmas.{any_at, any_gives, any_same}
 use Rattle.centre_core.proofs.BoardLemmas.{board_is}
 use Rattle.centre_core.proofs.BscLemmas.{bsc_named, flight_bsc}
 use Rattle.centre_core.proofs.KnownLemmas.{legal_unfolded}
-use Rattle.centre_core.proofs.PastLemmas.{any_image}
+use Rattle.centre_events.proofs.PastLemmas.{any_image}
 
 -- Lists.
 

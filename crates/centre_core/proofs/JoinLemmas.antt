@@ -30,22 +30,22 @@ use Rattle.warning_book.specs.Book as book
 use Rattle.warning_book.specs.Book.{has_number, warning_of}
 use Rattle.warning_book.specs.Sound.{has_versions}
 use Rattle.warning_book.specs.declared.warning.Warning.{Warning}
-use Rattle.centre_core.specs.Down.{down_mark, listed_down, is_down}
-use Rattle.centre_core.specs.Effects.{is_among}
-use Rattle.centre_core.specs.Facts.{facts_of, facts}
+use Rattle.centre_events.specs.Down.{down_mark, listed_down, is_down}
+use Rattle.centre_events.specs.Effects.{is_among}
+use Rattle.centre_events.specs.Facts.{facts_of, facts}
 use Rattle.centre_core.specs.Following.{SameLines, Happens, Bears, change_of, held_past, entry_of, down_after}
 use Rattle.centre_core.specs.Legal.{Legal}
-use Rattle.centre_core.specs.Past.{Past, After}
+use Rattle.centre_events.specs.Past.{Past, After}
 use Rattle.centre_core.specs.Reach.{reach_of, spot}
-use Rattle.centre_core.specs.Known.{is_known}
-use Rattle.centre_core.specs.Settings.{Settings}
-use Rattle.centre_core.specs.Warnings.{book_of, warnings_of, has_key, serials}
-use Rattle.centre_core.specs.Places.{place}
-use Rattle.centre_core.specs.declared.answer.Answer.{Answer}
-use Rattle.centre_core.specs.declared.answer.Answer.TheVariants.{Listed}
+use Rattle.centre_events.specs.Known.{is_known}
+use Rattle.centre_events.specs.Settings.{Settings}
+use Rattle.centre_events.specs.Warnings.{book_of, warnings_of, has_key, serials}
+use Rattle.centre_events.specs.Places.{place}
+use Rattle.centre_events.specs.declared.answer.Answer.{Answer}
+use Rattle.centre_events.specs.declared.answer.Answer.TheVariants.{Listed}
 use Rattle.coverage_plan.specs.declared.edit.Edit.TheVariants as edit
-use Rattle.centre_core.specs.declared.event.Event.{Event}
-use Rattle.centre_core.specs.declared.event.Event.TheVariants as event
+use Rattle.centre_events.specs.declared.event.Event.{Event}
+use Rattle.centre_events.specs.declared.event.Event.TheVariants as event
 use Rattle.centre_core.specs.declared.held.Held.{Held}
 use Rattle.centre_core.proofs.BookLemmas.{wider, owner_of, owner_is, wide_before, wide_after}
 use Rattle.centre_core.proofs.LineLemmas.{not_down}

@@ -20,33 +20,33 @@ use Rattle.warning_book.specs.declared.version.Version.{Version}
 use Rattle.warning_book.specs.declared.warning.Warning.{Warning}
 use Rattle.cbsp_ie.specs.declared.cause.Cause.{Cause}
 use Rattle.order_maker.specs.Actions.{in_cell, deed, needs, is_replaceable, newest, replaced, fresh_kind, fresh, is_to_kill, kills}
-use Rattle.centre_core.specs.Counts.{count, count_mark}
-use Rattle.centre_core.specs.Effects.{is_among, replaces}
-use Rattle.centre_core.specs.declared.effect.Effect.TheVariants.{Frees, Leaves}
+use Rattle.centre_events.specs.Counts.{count, count_mark}
+use Rattle.centre_events.specs.Effects.{is_among, replaces}
+use Rattle.centre_events.specs.declared.effect.Effect.TheVariants.{Frees, Leaves}
 use Rattle.order_maker.specs.Grouping.{first}
-use Rattle.centre_core.specs.InFlight.{in_flight, flight_mark, asked_flight, id_of, cells_of}
-use Rattle.centre_core.specs.Known.{is_marked}
+use Rattle.centre_events.specs.InFlight.{in_flight, flight_mark, asked_flight, id_of, cells_of}
+use Rattle.centre_events.specs.Known.{is_marked}
 use Rattle.centre_core.specs.Legal.{Legal}
-use Rattle.centre_core.specs.Lines.{seen}
-use Rattle.centre_core.specs.Links.{bscs, is_up}
-use Rattle.centre_core.specs.Past.{Past, From, After}
-use Rattle.centre_core.specs.Pending.{actions, actions_in, pending}
-use Rattle.centre_core.specs.Places.{cells}
-use Rattle.centre_core.specs.Plan.{wanted}
-use Rattle.centre_core.specs.Presence.{presence, hold, effect}
-use Rattle.centre_core.specs.Reported.{names_serial, flight_names, is_in_flight, is_present, is_reported_in, is_reported_at, is_reported}
-use Rattle.centre_core.specs.Settings.{Settings}
-use Rattle.centre_core.specs.Verdict.{verdict, answered, forget_checks}
-use Rattle.centre_core.specs.Warnings.{warnings_of, book_of, book_after, book_then, with_issue, serials, is_version, has_key, is_key}
-use Rattle.centre_core.specs.declared.answer.Answer.{Answer}
-use Rattle.centre_core.specs.declared.answer.Answer.TheVariants as answer
+use Rattle.centre_events.specs.Lines.{seen}
+use Rattle.centre_events.specs.Links.{bscs, is_up}
+use Rattle.centre_events.specs.Past.{Past, From, After}
+use Rattle.centre_events.specs.Pending.{actions, actions_in, pending}
+use Rattle.centre_events.specs.Places.{cells}
+use Rattle.centre_events.specs.Plan.{wanted}
+use Rattle.centre_events.specs.Presence.{presence, hold, effect}
+use Rattle.centre_events.specs.Reported.{names_serial, flight_names, is_in_flight, is_present, is_reported_in, is_reported_at, is_reported}
+use Rattle.centre_events.specs.Settings.{Settings}
+use Rattle.centre_events.specs.Verdict.{verdict, answered, forget_checks}
+use Rattle.centre_events.specs.Warnings.{warnings_of, book_of, book_after, book_then, with_issue, serials, is_version, has_key, is_key}
+use Rattle.centre_events.specs.declared.answer.Answer.{Answer}
+use Rattle.centre_events.specs.declared.answer.Answer.TheVariants as answer
 use Rattle.coverage_plan.specs.declared.edit.Edit.{Edit}
 use Rattle.coverage_plan.specs.declared.edit.Edit.TheVariants as edit
-use Rattle.centre_core.specs.declared.event.Event.{Event}
-use Rattle.centre_core.specs.declared.event.Event.TheVariants as event
+use Rattle.centre_events.specs.declared.event.Event.{Event}
+use Rattle.centre_events.specs.declared.event.Event.TheVariants as event
 use Rattle.order_maker.specs.declared.action.Action.{Action}
-use Rattle.centre_core.specs.declared.in_flight.InFlight.{InFlight}
-use Rattle.centre_core.specs.declared.in_flight.InFlight.TheVariants as flight
+use Rattle.centre_events.specs.declared.in_flight.InFlight.{InFlight}
+use Rattle.centre_events.specs.declared.in_flight.InFlight.TheVariants as flight
 use Rattle.order_maker.specs.declared.order.Order.{Order}
 use Rattle.order_maker.specs.declared.order_kind.OrderKind.{OrderKind}
 use Rattle.order_maker.specs.declared.order_kind.OrderKind.TheVariants.{Write, Replace, Kill}
@@ -60,7 +60,7 @@ use Rattle.centre_core.proofs.HeadlineLemmas.{wanted_version}
 use Rattle.centre_core.proofs.KnownLemmas.{legal_unfolded, flight_from, flight_none}
 use Rattle.centre_core.proofs.LineLemmas.{found_passes}
 use Rattle.centre_core.proofs.MarkLemmas.{marks_after, event_marks, no_mark, no_presence, no_hold, no_count, marked_bsc, present_marked, known_presence}
-use Rattle.centre_core.proofs.PastLemmas.{map_joined, any_image}
+use Rattle.centre_events.proofs.PastLemmas.{map_joined, any_image}
 use Rattle.centre_core.proofs.ReportedLemmas.{names_it}
 use Rattle.centre_core.proofs.UniqueLemmas.{verdict_answered}
 

@@ -10,29 +10,29 @@ use Rattle.common.specs.SortingLaws.{any_sorted}
 use Rattle.common.specs.declared.cell.Cell.{Cell}
 use Rattle.warning_book.specs.Book.{content_of}
 use Rattle.warning_book.specs.declared.warning.Warning.{Warning}
-use Rattle.centre_core.specs.Asking.{is_asked, on_air_after}
-use Rattle.centre_core.specs.Base.{Base, empty_base}
-use Rattle.centre_core.specs.Effects.{is_among}
+use Rattle.centre_events.specs.Asking.{is_asked, on_air_after}
+use Rattle.centre_events.specs.Base.{Base, empty_base}
+use Rattle.centre_events.specs.Effects.{is_among}
 use Rattle.order_maker.specs.Grouping.{first, most_cells}
-use Rattle.centre_core.specs.InFlight.{in_flight, flight_mark, sent_flight, asked_flight, is_replied, cells_of}
+use Rattle.centre_events.specs.InFlight.{in_flight, flight_mark, sent_flight, asked_flight, is_replied, cells_of}
 use Rattle.centre_core.specs.Legal.{Legal}
-use Rattle.centre_core.specs.Lines.{seen}
-use Rattle.centre_core.specs.Links.{is_up}
+use Rattle.centre_events.specs.Lines.{seen}
+use Rattle.centre_events.specs.Links.{is_up}
 use Rattle.order_maker.specs.OrderMessage.{order_message}
-use Rattle.centre_core.specs.Past.{Past, From, After, IsUnfolded, by_edit, with_new}
-use Rattle.centre_core.specs.Pending.{pending}
-use Rattle.centre_core.specs.Places.{place, place_mark, added_cell, cells}
-use Rattle.centre_core.specs.Settings.{Settings}
-use Rattle.centre_core.specs.Verdict.{verdict, send_checks, send_answer}
-use Rattle.centre_core.specs.Warnings.{warnings_of}
-use Rattle.centre_core.specs.declared.answer.Answer.{Answer}
-use Rattle.centre_core.specs.declared.answer.Answer.TheVariants.{Sent}
+use Rattle.centre_events.specs.Past.{Past, From, After, IsUnfolded, by_edit, with_new}
+use Rattle.centre_events.specs.Pending.{pending}
+use Rattle.centre_events.specs.Places.{place, place_mark, added_cell, cells}
+use Rattle.centre_events.specs.Settings.{Settings}
+use Rattle.centre_events.specs.Verdict.{verdict, send_checks, send_answer}
+use Rattle.centre_events.specs.Warnings.{warnings_of}
+use Rattle.centre_events.specs.declared.answer.Answer.{Answer}
+use Rattle.centre_events.specs.declared.answer.Answer.TheVariants.{Sent}
 use Rattle.coverage_plan.specs.declared.edit.Edit.{Edit}
 use Rattle.coverage_plan.specs.declared.edit.Edit.TheVariants as edit
-use Rattle.centre_core.specs.declared.event.Event.{Event}
-use Rattle.centre_core.specs.declared.event.Event.TheVariants as event
-use Rattle.centre_core.specs.declared.in_flight.InFlight.{InFlight}
-use Rattle.centre_core.specs.declared.in_flight.InFlight.TheVariants as flight
+use Rattle.centre_events.specs.declared.event.Event.{Event}
+use Rattle.centre_events.specs.declared.event.Event.TheVariants as event
+use Rattle.centre_events.specs.declared.in_flight.InFlight.{InFlight}
+use Rattle.centre_events.specs.declared.in_flight.InFlight.TheVariants as flight
 use Rattle.order_maker.specs.declared.order.Order.{Order}
 use Rattle.order_maker.specs.declared.order_kind.OrderKind.{OrderKind}
 use Rattle.centre_core.proofs.ActingLemmas.{does, any_all}

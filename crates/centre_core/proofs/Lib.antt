@@ -1,4 +1,3 @@
-pub mod PastLemmas
 pub mod PartLemmas
 pub mod LineLemmas
 pub mod ReachLemmas
@@ -40,7 +39,6 @@ pub mod TellLemmas
 pub mod JoinLemmas
 pub mod StayLemmas
 pub mod BlankLineLemmas
-pub mod EffectLemmas
 pub mod HoldLemmas
 pub mod FinishLemmas
 pub mod MarkedLineLemmas

@@ -20,22 +20,22 @@ use Rattle.serials.specs.Serials.{update_of}
 use Rattle.warning_book.specs.Book.{has_number, current_of, warning_of}
 use Rattle.warning_book.specs.declared.version.Version.{Version}
 use Rattle.warning_book.specs.declared.warning.Warning.{Warning}
-use Rattle.centre_core.specs.Counts.{count}
-use Rattle.centre_core.specs.Cover.{covers, is_covered}
-use Rattle.centre_core.specs.Down.{is_down}
-use Rattle.centre_core.specs.Facts.{key_state, version_at, version_state, line_of, facts_of, facts}
-use Rattle.centre_core.specs.Known.{is_marked, has_mark, is_known}
-use Rattle.centre_core.specs.Past.{Past, After}
-use Rattle.centre_core.specs.Places.{place}
-use Rattle.centre_core.specs.Plan.{wants, wanted}
-use Rattle.centre_core.specs.Presence.{presence, hold}
+use Rattle.centre_events.specs.Counts.{count}
+use Rattle.centre_events.specs.Cover.{covers, is_covered}
+use Rattle.centre_events.specs.Down.{is_down}
+use Rattle.centre_events.specs.Facts.{key_state, version_at, version_state, line_of, facts_of, facts}
+use Rattle.centre_events.specs.Known.{is_marked, has_mark, is_known}
+use Rattle.centre_events.specs.Past.{Past, After}
+use Rattle.centre_events.specs.Places.{place}
+use Rattle.centre_events.specs.Plan.{wants, wanted}
+use Rattle.centre_events.specs.Presence.{presence, hold}
 use Rattle.centre_core.specs.Reach.{bears, reach_of}
-use Rattle.centre_core.specs.Warnings.{book_of, warnings_of, is_version, serials}
-use Rattle.centre_core.specs.declared.answer.Answer.{Answer}
-use Rattle.centre_core.specs.declared.entry.Entry.{Entry}
-use Rattle.centre_core.specs.declared.event.Event.{Event}
+use Rattle.centre_events.specs.Warnings.{book_of, warnings_of, is_version, serials}
+use Rattle.centre_events.specs.declared.answer.Answer.{Answer}
+use Rattle.centre_events.specs.declared.entry.Entry.{Entry}
+use Rattle.centre_events.specs.declared.event.Event.{Event}
 use Rattle.centre_core.proofs.AnyLemmas.{and_none, contrary, any_implies}
-use Rattle.centre_core.proofs.PastLemmas.{any_image, map_joined}
+use Rattle.centre_events.proofs.PastLemmas.{any_image, map_joined}
 use Rattle.centre_core.proofs.PartLemmas.{aired, unaired, same_when, same_unwanted, same_blank}
 
 -- Keys.

@@ -1,14 +1,14 @@
 -- The links that a centre keeps are those of the past, one entry further.
 use Rattle.std.proofs.Common.{◌≡◌, ℕ, ◌+◌, Bool, true, false, not, List, [], ◌∷◌, ◌++◌, Option, Some, None, unwrap_or, nat_eq, cond, refl, sym, ◌∙◌, ap, eqb-true}
 use Rattle.std.specs.Prelude.{if◌then◌else◌}
-use Rattle.centre_core.specs.Links.{is_up, up_mark, last_link, generation_mark}
-use Rattle.centre_core.specs.Past.{Past, After, position}
+use Rattle.centre_events.specs.Links.{is_up, up_mark, last_link, generation_mark}
+use Rattle.centre_events.specs.Past.{Past, After, position}
 use Rattle.centre_core.specs.State.{AreLinksOf, is_link_of, link_in, up_of, generation_of, without_link, with_link, links_edited, links_after}
 use Rattle.coverage_plan.specs.declared.edit.Edit.{Edit}
 use Rattle.coverage_plan.specs.declared.edit.Edit.TheVariants as edit
-use Rattle.centre_core.specs.declared.entry.Entry.{Entry}
-use Rattle.centre_core.specs.declared.event.Event.{Event}
-use Rattle.centre_core.specs.declared.event.Event.TheVariants as event
+use Rattle.centre_events.specs.declared.entry.Entry.{Entry}
+use Rattle.centre_events.specs.declared.event.Event.{Event}
+use Rattle.centre_events.specs.declared.event.Event.TheVariants as event
 use Rattle.centre_core.specs.declared.link.Link.{Link}
 
 -- without what is kept of a BSC's link

@@ -14,14 +14,14 @@ use Rattle.common.specs.SortingLaws.{any_sorted, same_ascending, sorted_ascends}
 use Rattle.common.specs.declared.cell.Cell.{Cell}
 use Rattle.mirror.specs.Known as kept
 use Rattle.mirror.specs.Table.{Table}
-use Rattle.centre_core.specs.Effects.{is_among}
+use Rattle.centre_events.specs.Effects.{is_among}
 use Rattle.centre_core.specs.Idle.{AreKnownOf}
-use Rattle.centre_core.specs.Known.{is_known, is_named, known_named}
+use Rattle.centre_events.specs.Known.{is_known, is_named, known_named}
 use Rattle.centre_core.specs.Legal.{Legal}
-use Rattle.centre_core.specs.Outcomes.{listed_cells}
-use Rattle.centre_core.specs.Past.{Past}
-use Rattle.centre_core.specs.Places.{added_cell, cells}
-use Rattle.centre_core.specs.Settings.{Settings}
+use Rattle.centre_events.specs.Outcomes.{listed_cells}
+use Rattle.centre_events.specs.Past.{Past}
+use Rattle.centre_events.specs.Places.{added_cell, cells}
+use Rattle.centre_events.specs.Settings.{Settings}
 use Rattle.centre_core.proofs.CountLemmas.{both_or_it, named_once}
 use Rattle.centre_core.proofs.KnownLemmas.{legal_unfolded}
 use Rattle.centre_core.proofs.MarkLemmas.{known_cell}

@@ -18,34 +18,34 @@ use Rattle.mirror.specs.declared.presence.Presence.{Presence}
 use Rattle.mirror.specs.declared.presence.Presence.TheVariants.{Absent, OnAir, Unknown}
 use Rattle.warning_book.specs.Book.{has_number}
 use Rattle.warning_book.specs.declared.warning.Warning.{Warning}
-use Rattle.centre_core.specs.Base.{Base, empty_base}
-use Rattle.centre_core.specs.Counts.{count, replied_count, report_count, edit_count, count_mark}
-use Rattle.centre_core.specs.Down.{is_down, edit_down, down_mark, listed_down, says_down}
-use Rattle.centre_core.specs.Effects.{is_among, presence_mark, hold_mark, new_effect, old_effect, replaces, query_effect, flight_effect, outcome_in, said_effect, indicated_effect, report_effect}
-use Rattle.centre_core.specs.declared.effect.Effect.{Effect}
-use Rattle.centre_core.specs.declared.effect.Effect.TheVariants.{Sets, Frees, Leaves}
-use Rattle.centre_core.specs.InFlight.{in_flight, id_of, cells_of}
-use Rattle.centre_core.specs.Known.{is_marked, has_mark, is_known, is_named}
+use Rattle.centre_events.specs.Base.{Base, empty_base}
+use Rattle.centre_events.specs.Counts.{count, replied_count, report_count, edit_count, count_mark}
+use Rattle.centre_events.specs.Down.{is_down, edit_down, down_mark, listed_down, says_down}
+use Rattle.centre_events.specs.Effects.{is_among, presence_mark, hold_mark, new_effect, old_effect, replaces, query_effect, flight_effect, outcome_in, said_effect, indicated_effect, report_effect}
+use Rattle.centre_events.specs.declared.effect.Effect.{Effect}
+use Rattle.centre_events.specs.declared.effect.Effect.TheVariants.{Sets, Frees, Leaves}
+use Rattle.centre_events.specs.InFlight.{in_flight, id_of, cells_of}
+use Rattle.centre_events.specs.Known.{is_marked, has_mark, is_known, is_named}
 use Rattle.centre_core.specs.Legal.{Legal}
-use Rattle.centre_core.specs.Links.{bscs, is_bsc, bsc_mark, is_up}
-use Rattle.centre_core.specs.Outcomes.{failed_ids, listed_cells}
-use Rattle.centre_core.specs.Past.{Past, From, After, by_edit}
-use Rattle.centre_core.specs.Places.{place, cells}
-use Rattle.centre_core.specs.Presence.{presence, hold, is_held, effect, edit_effect}
-use Rattle.centre_core.specs.Reported.{names_serial}
-use Rattle.centre_core.specs.Settings.{Settings}
-use Rattle.centre_core.specs.Verdict.{answered, report_checks, report_answer}
-use Rattle.centre_core.specs.Warnings.{warnings_of, serials, has_key}
-use Rattle.centre_core.specs.declared.answer.Answer.{Answer}
-use Rattle.centre_core.specs.declared.answer.Answer.TheVariants.{Replied, Listed}
+use Rattle.centre_events.specs.Links.{bscs, is_bsc, bsc_mark, is_up}
+use Rattle.centre_events.specs.Outcomes.{failed_ids, listed_cells}
+use Rattle.centre_events.specs.Past.{Past, From, After, by_edit}
+use Rattle.centre_events.specs.Places.{place, cells}
+use Rattle.centre_events.specs.Presence.{presence, hold, is_held, effect, edit_effect}
+use Rattle.centre_events.specs.Reported.{names_serial}
+use Rattle.centre_events.specs.Settings.{Settings}
+use Rattle.centre_events.specs.Verdict.{answered, report_checks, report_answer}
+use Rattle.centre_events.specs.Warnings.{warnings_of, serials, has_key}
+use Rattle.centre_events.specs.declared.answer.Answer.{Answer}
+use Rattle.centre_events.specs.declared.answer.Answer.TheVariants.{Replied, Listed}
 use Rattle.coverage_plan.specs.declared.edit.Edit.{Edit}
 use Rattle.coverage_plan.specs.declared.edit.Edit.TheVariants as edit
-use Rattle.centre_core.specs.declared.event.Event.{Event}
-use Rattle.centre_core.specs.declared.event.Event.TheVariants as event
-use Rattle.centre_core.specs.declared.in_flight.InFlight.{InFlight}
-use Rattle.centre_core.specs.declared.in_flight.InFlight.TheVariants as flight
-use Rattle.centre_core.specs.declared.outcome.Outcome.{Outcome}
-use Rattle.centre_core.specs.declared.outcome.Outcome.TheVariants.{Silent}
+use Rattle.centre_events.specs.declared.event.Event.{Event}
+use Rattle.centre_events.specs.declared.event.Event.TheVariants as event
+use Rattle.centre_events.specs.declared.in_flight.InFlight.{InFlight}
+use Rattle.centre_events.specs.declared.in_flight.InFlight.TheVariants as flight
+use Rattle.centre_events.specs.declared.outcome.Outcome.{Outcome}
+use Rattle.centre_events.specs.declared.outcome.Outcome.TheVariants.{Silent}
 use Rattle.centre_core.proofs.AnyLemmas.{contrary, any_gives, any_filter}
 use Rattle.centre_core.proofs.BscLemmas.{asked, bsc_named, flight_bsc, place_bsc}
 use Rattle.centre_core.proofs.CheckLemmas.{no_check, unless_ok}

@@ -25,19 +25,19 @@ use Rattle.warning_book.specs.Book.{has_number, number_lt, warning_of}
 use Rattle.warning_book.specs.Sound.{IsCounted, are_counted, counts_updates}
 use Rattle.warning_book.specs.declared.version.Version.{Version}
 use Rattle.warning_book.specs.declared.warning.Warning.{Warning}
-use Rattle.centre_core.specs.Counts.{count}
-use Rattle.centre_core.specs.Down.{is_down}
-use Rattle.centre_core.specs.Facts.{key_state, version_at, version_state, line_of, facts_of}
-use Rattle.centre_core.specs.Known.{is_marked, has_mark, is_known}
-use Rattle.centre_core.specs.Past.{Past}
-use Rattle.centre_core.specs.Places.{place}
-use Rattle.centre_core.specs.Presence.{presence, hold}
+use Rattle.centre_events.specs.Counts.{count}
+use Rattle.centre_events.specs.Down.{is_down}
+use Rattle.centre_events.specs.Facts.{key_state, version_at, version_state, line_of, facts_of}
+use Rattle.centre_events.specs.Known.{is_marked, has_mark, is_known}
+use Rattle.centre_events.specs.Past.{Past}
+use Rattle.centre_events.specs.Places.{place}
+use Rattle.centre_events.specs.Presence.{presence, hold}
 use Rattle.centre_core.specs.Reaching.{Told, TellsLines}
-use Rattle.centre_core.specs.Settings.{Settings}
-use Rattle.centre_core.specs.Stepping.{at_update}
-use Rattle.centre_core.specs.Warnings.{warnings_of, book_of}
+use Rattle.centre_events.specs.Settings.{Settings}
+use Rattle.centre_events.specs.Stepping.{at_update}
+use Rattle.centre_events.specs.Warnings.{warnings_of, book_of}
 use Rattle.centre_core.proofs.MarkLemmas.{marks, no_presence, no_hold, no_count}
-use Rattle.centre_core.proofs.PastLemmas.{any_image}
+use Rattle.centre_events.proofs.PastLemmas.{any_image}
 use Rattle.centre_core.proofs.StepLemmas.{line_at_update}
 use Rattle.centre_core.proofs.WarningLemmas.{legal_counted}
 

@@ -19,28 +19,28 @@ use Rattle.warning_book.specs.Book.{current_of, code_in}
 use Rattle.warning_book.specs.Sound.{has_one_code, key_of, is_same_code, is_same_key}
 use Rattle.warning_book.specs.declared.version.Version.{Version}
 use Rattle.warning_book.specs.declared.warning.Warning.{Warning}
-use Rattle.centre_core.specs.Effects.{replaces}
-use Rattle.centre_core.specs.InFlight.{in_flight, asked_flight, id_of}
+use Rattle.centre_events.specs.Effects.{replaces}
+use Rattle.centre_events.specs.InFlight.{in_flight, asked_flight, id_of}
 use Rattle.centre_core.specs.Legal.{Legal}
-use Rattle.centre_core.specs.Lines.{seen}
-use Rattle.centre_core.specs.Past.{Past, From, After}
-use Rattle.centre_core.specs.Pending.{actions, actions_in, pending}
-use Rattle.centre_core.specs.Places.{cells}
-use Rattle.centre_core.specs.Plan.{wants, wanted}
+use Rattle.centre_events.specs.Lines.{seen}
+use Rattle.centre_events.specs.Past.{Past, From, After}
+use Rattle.centre_events.specs.Pending.{actions, actions_in, pending}
+use Rattle.centre_events.specs.Places.{cells}
+use Rattle.centre_events.specs.Plan.{wants, wanted}
 use Rattle.centre_core.specs.Reach.{numbers_where}
-use Rattle.centre_core.specs.Reported.{names_serial, names_warning}
-use Rattle.centre_core.specs.Settings.{Settings}
-use Rattle.centre_core.specs.Warnings.{book_of, warnings_of, serials}
-use Rattle.centre_core.specs.declared.answer.Answer.{Answer}
-use Rattle.centre_core.specs.declared.in_flight.InFlight.{InFlight}
-use Rattle.centre_core.specs.declared.in_flight.InFlight.TheVariants as flight
+use Rattle.centre_events.specs.Reported.{names_serial, names_warning}
+use Rattle.centre_events.specs.Settings.{Settings}
+use Rattle.centre_events.specs.Warnings.{book_of, warnings_of, serials}
+use Rattle.centre_events.specs.declared.answer.Answer.{Answer}
+use Rattle.centre_events.specs.declared.in_flight.InFlight.{InFlight}
+use Rattle.centre_events.specs.declared.in_flight.InFlight.TheVariants as flight
 use Rattle.centre_core.proofs.ActingLemmas.{has_serial}
 use Rattle.centre_core.proofs.AnyLemmas.{all_flat, all_joined}
 use Rattle.centre_core.proofs.AskLemmas.{IsQuery}
 use Rattle.centre_core.proofs.GroupingLemmas.{all_pending}
 use Rattle.centre_core.proofs.KeyLemmas.{replaced_version}
 use Rattle.centre_core.proofs.KnownLemmas.{flight_from, flight_none}
-use Rattle.centre_core.proofs.PastLemmas.{any_image, map_joined}
+use Rattle.centre_events.proofs.PastLemmas.{any_image, map_joined}
 use Rattle.centre_core.proofs.UniqueLemmas.{code_among, unique_by}
 use Rattle.centre_core.proofs.WarningLemmas.{legal_sound}
 

@@ -17,19 +17,19 @@ use Rattle.warning_book.specs.declared.content.Content.{Content}
 use Rattle.warning_book.specs.declared.notice.Notice.{Notice}
 use Rattle.warning_book.specs.declared.version.Version.{Version}
 use Rattle.warning_book.specs.declared.warning.Warning.{Warning}
-use Rattle.centre_core.specs.Facts.{version_at}
+use Rattle.centre_events.specs.Facts.{version_at}
 use Rattle.centre_core.specs.Legal.{Legal}
-use Rattle.centre_core.specs.Past.{Past, After}
-use Rattle.centre_core.specs.Settings.{Settings}
-use Rattle.centre_core.specs.Verdict.{verdict}
-use Rattle.centre_core.specs.Warnings.{book_of, warnings_of, with_issue, is_version, has_key, is_key}
-use Rattle.centre_core.specs.declared.answer.Answer.{Answer}
+use Rattle.centre_events.specs.Past.{Past, After}
+use Rattle.centre_events.specs.Settings.{Settings}
+use Rattle.centre_events.specs.Verdict.{verdict}
+use Rattle.centre_events.specs.Warnings.{book_of, warnings_of, with_issue, is_version, has_key, is_key}
+use Rattle.centre_events.specs.declared.answer.Answer.{Answer}
 use Rattle.coverage_plan.specs.declared.edit.Edit.TheVariants as edit
-use Rattle.centre_core.specs.declared.event.Event.TheVariants as event
+use Rattle.centre_events.specs.declared.event.Event.TheVariants as event
 use Rattle.centre_core.proofs.AnyLemmas.{and_none, contrary, any_implies}
 use Rattle.centre_core.proofs.FoundLemmas.{view_edited}
 use Rattle.centre_core.proofs.LineLemmas.{found_passes, entry_of}
-use Rattle.centre_core.proofs.PastLemmas.{any_image}
+use Rattle.centre_events.proofs.PastLemmas.{any_image}
 use Rattle.centre_core.proofs.UniqueLemmas.{any_none, unique}
 use Rattle.centre_core.proofs.WarningLemmas.{legal_counted}
 

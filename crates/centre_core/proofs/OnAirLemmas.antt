@@ -29,21 +29,21 @@ use Rattle.order_maker.specs.OrderMessage.{query_message}
 use Rattle.warning_book.specs.Book.{current_of, warning_of}
 use Rattle.warning_book.specs.VersionLaws.{current_among}
 use Rattle.warning_book.specs.declared.warning.Warning.{Warning}
-use Rattle.centre_core.specs.Asking.{is_asked, on_air_after, asked_cells, query_of, version_query}
-use Rattle.centre_core.specs.Effects.{is_among}
-use Rattle.centre_core.specs.Facts.{facts, facts_of}
+use Rattle.centre_events.specs.Asking.{is_asked, on_air_after, asked_cells, query_of, version_query}
+use Rattle.centre_events.specs.Effects.{is_among}
+use Rattle.centre_events.specs.Facts.{facts, facts_of}
 use Rattle.centre_core.specs.Idle.{AreKnownOf}
-use Rattle.centre_core.specs.Known.{is_known}
+use Rattle.centre_events.specs.Known.{is_known}
 use Rattle.centre_core.specs.Legal.{Legal}
-use Rattle.centre_core.specs.Past.{Past}
-use Rattle.centre_core.specs.Places.{cells}
-use Rattle.centre_core.specs.Presence.{presence}
+use Rattle.centre_events.specs.Past.{Past}
+use Rattle.centre_events.specs.Places.{cells}
+use Rattle.centre_events.specs.Presence.{presence}
 use Rattle.centre_core.specs.Reach.{spot, known_at}
 use Rattle.centre_core.specs.Reaching.{TellsLines}
-use Rattle.centre_core.specs.Settings.{Settings}
-use Rattle.centre_core.specs.Warnings.{book_of}
-use Rattle.centre_core.specs.declared.answer.Answer.TheVariants.{Asked}
-use Rattle.centre_core.specs.declared.refusal.Refusal.TheVariants.{NothingToAsk}
+use Rattle.centre_events.specs.Settings.{Settings}
+use Rattle.centre_events.specs.Warnings.{book_of}
+use Rattle.centre_events.specs.declared.answer.Answer.TheVariants.{Asked}
+use Rattle.centre_events.specs.declared.refusal.Refusal.TheVariants.{NothingToAsk}
 use Rattle.centre_core.proofs.CountLemmas.{both_or_it}
 use Rattle.centre_core.proofs.ListedLemmas.{apart, filtered}
 use Rattle.centre_core.proofs.MarkLemmas.{known_cell, known_presence}

@@ -19,23 +19,23 @@ use Rattle.warning_book.specs.VersionLaws.{one_version}
 use Rattle.warning_book.specs.declared.version.Version.{Version}
 use Rattle.warning_book.specs.declared.warning.Warning.{Warning}
 use Rattle.order_maker.specs.Actions.{in_cell, deed, needs, replaced, replaced_for, fresh_kind, fresh, is_to_kill, kills, deeds}
-use Rattle.centre_core.specs.Effects.{is_among}
+use Rattle.centre_events.specs.Effects.{is_among}
 use Rattle.order_maker.specs.Grouping.{action_lt, in_order, alone, fits, kind_eq, joined, grouped, first, most_cells}
-use Rattle.centre_core.specs.Asking.{is_asked}
-use Rattle.centre_core.specs.InFlight.{in_flight, asked_flight, cells_of}
+use Rattle.centre_events.specs.Asking.{is_asked}
+use Rattle.centre_events.specs.InFlight.{in_flight, asked_flight, cells_of}
 use Rattle.centre_core.specs.Legal.{Legal}
-use Rattle.centre_core.specs.Lines.{seen}
-use Rattle.centre_core.specs.Past.{Past, From, After}
-use Rattle.centre_core.specs.Pending.{actions, actions_in, all_actions, pending}
-use Rattle.centre_core.specs.Places.{added_cell, cells}
-use Rattle.centre_core.specs.Plan.{wanted}
-use Rattle.centre_core.specs.Settings.{Settings}
-use Rattle.centre_core.specs.Warnings.{book_of, warnings_of, serials, is_version, has_key}
-use Rattle.centre_core.specs.declared.answer.Answer.{Answer}
+use Rattle.centre_events.specs.Lines.{seen}
+use Rattle.centre_events.specs.Past.{Past, From, After}
+use Rattle.centre_events.specs.Pending.{actions, actions_in, all_actions, pending}
+use Rattle.centre_events.specs.Places.{added_cell, cells}
+use Rattle.centre_events.specs.Plan.{wanted}
+use Rattle.centre_events.specs.Settings.{Settings}
+use Rattle.centre_events.specs.Warnings.{book_of, warnings_of, serials, is_version, has_key}
+use Rattle.centre_events.specs.declared.answer.Answer.{Answer}
 use Rattle.order_maker.specs.declared.action.Action.{Action}
 use Rattle.order_maker.specs.declared.deed.Deed.{Deed}
-use Rattle.centre_core.specs.declared.in_flight.InFlight.{InFlight}
-use Rattle.centre_core.specs.declared.in_flight.InFlight.TheVariants as flight
+use Rattle.centre_events.specs.declared.in_flight.InFlight.{InFlight}
+use Rattle.centre_events.specs.declared.in_flight.InFlight.TheVariants as flight
 use Rattle.order_maker.specs.declared.order.Order.{Order}
 use Rattle.order_maker.specs.declared.order_kind.OrderKind.{OrderKind}
 use Rattle.order_maker.specs.declared.order_kind.OrderKind.TheVariants.{Kill}
@@ -46,7 +46,7 @@ use Rattle.centre_core.proofs.CountLemmas.{named_once}
 use Rattle.centre_core.proofs.GroupingLemmas.{tests, touches, any_grouped}
 use Rattle.centre_core.proofs.HeadlineLemmas.{wanted_version}
 use Rattle.centre_core.proofs.KnownLemmas.{legal_unfolded, flight_from, flight_none, among_front}
-use Rattle.centre_core.proofs.PastLemmas.{any_image}
+use Rattle.centre_events.proofs.PastLemmas.{any_image}
 use Rattle.centre_core.proofs.UniqueLemmas.{unique, count_none, any_none}
 use Rattle.centre_core.proofs.WarningLemmas.{legal_sound}
 

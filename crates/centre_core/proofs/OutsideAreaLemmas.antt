@@ -15,23 +15,23 @@ use Rattle.kept_tables.specs.View.{spot_eq}
 use Rattle.mirror.specs.declared.line_key.LineKey.{LineKey}
 use Rattle.warning_book.specs.Book.{has_number, names, warning_of}
 use Rattle.warning_book.specs.declared.warning.Warning.{Warning}
-use Rattle.centre_core.specs.Base.{Base, empty_base}
-use Rattle.centre_core.specs.Cover.{is_area, area_mark, has_selector, selector_mark, covers}
-use Rattle.centre_core.specs.Down.{is_down}
-use Rattle.centre_core.specs.Facts.{key_state, facts_of}
+use Rattle.centre_events.specs.Base.{Base, empty_base}
+use Rattle.centre_events.specs.Cover.{is_area, area_mark, has_selector, selector_mark, covers}
+use Rattle.centre_events.specs.Down.{is_down}
+use Rattle.centre_events.specs.Facts.{key_state, facts_of}
 use Rattle.centre_core.specs.Legal.{Legal}
-use Rattle.centre_core.specs.Past.{Past, From, After, by_edit}
-use Rattle.centre_core.specs.Places.{place}
+use Rattle.centre_events.specs.Past.{Past, From, After, by_edit}
+use Rattle.centre_events.specs.Places.{place}
 use Rattle.centre_core.specs.Reach.{Reach, bears, spot, is_named_by, placed_where, numbers_where}
-use Rattle.centre_core.specs.Settings.{Settings}
-use Rattle.centre_core.specs.Verdict.{answered, edit_answered, add_area_checks, drop_area_checks, put_checks}
-use Rattle.centre_core.specs.Warnings.{book_of, warnings_of}
-use Rattle.centre_core.specs.declared.answer.Answer.{Answer}
-use Rattle.centre_core.specs.declared.answer.Answer.TheVariants as answer
+use Rattle.centre_events.specs.Settings.{Settings}
+use Rattle.centre_events.specs.Verdict.{answered, edit_answered, add_area_checks, drop_area_checks, put_checks}
+use Rattle.centre_events.specs.Warnings.{book_of, warnings_of}
+use Rattle.centre_events.specs.declared.answer.Answer.{Answer}
+use Rattle.centre_events.specs.declared.answer.Answer.TheVariants as answer
 use Rattle.coverage_plan.specs.declared.edit.Edit.{Edit}
 use Rattle.coverage_plan.specs.declared.edit.Edit.TheVariants as edit
-use Rattle.centre_core.specs.declared.event.Event.{Event}
-use Rattle.centre_core.specs.declared.event.Event.TheVariants as event
+use Rattle.centre_events.specs.declared.event.Event.{Event}
+use Rattle.centre_events.specs.declared.event.Event.TheVariants as event
 use Rattle.centre_core.proofs.AnyLemmas.{contrary}
 use Rattle.centre_core.proofs.CheckLemmas.{no_check}
 use Rattle.centre_core.proofs.FactsLemmas.{filter_pointwise}

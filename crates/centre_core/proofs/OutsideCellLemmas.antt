@@ -13,22 +13,22 @@ use Rattle.kept_tables.specs.View.{spot_eq}
 use Rattle.mirror.specs.declared.presence.Presence.TheVariants.{Absent}
 use Rattle.warning_book.specs.Book.{warning_of}
 use Rattle.warning_book.specs.declared.warning.Warning.{Warning}
-use Rattle.centre_core.specs.Down.{is_down}
-use Rattle.centre_core.specs.Effects.{state_after}
-use Rattle.centre_core.specs.Facts.{key_state, facts_of}
-use Rattle.centre_core.specs.Known.{is_known}
+use Rattle.centre_events.specs.Down.{is_down}
+use Rattle.centre_events.specs.Effects.{state_after}
+use Rattle.centre_events.specs.Facts.{key_state, facts_of}
+use Rattle.centre_events.specs.Known.{is_known}
 use Rattle.centre_core.specs.Legal.{Legal}
-use Rattle.centre_core.specs.Past.{Past, After}
-use Rattle.centre_core.specs.Places.{place, is_registered}
+use Rattle.centre_events.specs.Past.{Past, After}
+use Rattle.centre_events.specs.Places.{place, is_registered}
 use Rattle.centre_core.specs.Reach.{spot, at_bsc, reach_of}
-use Rattle.centre_core.specs.Settings.{Settings}
-use Rattle.centre_core.specs.Verdict.{edit_answered, add_cell_checks}
-use Rattle.centre_core.specs.Warnings.{book_of, is_version}
-use Rattle.centre_core.specs.declared.answer.Answer.{Answer}
-use Rattle.centre_core.specs.declared.answer.Answer.TheVariants as answer
+use Rattle.centre_events.specs.Settings.{Settings}
+use Rattle.centre_events.specs.Verdict.{edit_answered, add_cell_checks}
+use Rattle.centre_events.specs.Warnings.{book_of, is_version}
+use Rattle.centre_events.specs.declared.answer.Answer.{Answer}
+use Rattle.centre_events.specs.declared.answer.Answer.TheVariants as answer
 use Rattle.coverage_plan.specs.declared.edit.Edit.TheVariants as edit
-use Rattle.centre_core.specs.declared.effect.Effect.TheVariants.{Sets, Leaves}
-use Rattle.centre_core.specs.declared.event.Event.TheVariants as event
+use Rattle.centre_events.specs.declared.effect.Effect.TheVariants.{Sets, Leaves}
+use Rattle.centre_events.specs.declared.event.Event.TheVariants as event
 use Rattle.centre_core.proofs.AnyLemmas.{contrary}
 use Rattle.centre_core.proofs.CheckLemmas.{no_check}
 use Rattle.centre_core.proofs.LineLemmas.{same_kept, same_none, unknown_blank, not_down, entry_of, Outside}

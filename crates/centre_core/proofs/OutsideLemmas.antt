@@ -2,18 +2,18 @@
 use Rattle.std.proofs.Common.{◌≡◌, ℕ, false, Ok}
 use Rattle.kept_tables.specs.Same.{SamePart}
 use Rattle.mirror.specs.declared.line_key.LineKey.{LineKey}
-use Rattle.centre_core.specs.Facts.{facts}
+use Rattle.centre_events.specs.Facts.{facts}
 use Rattle.centre_core.specs.Legal.{Legal}
-use Rattle.centre_core.specs.Past.{Past, After}
+use Rattle.centre_events.specs.Past.{Past, After}
 use Rattle.centre_core.specs.Reach.{bears, reach_of}
-use Rattle.centre_core.specs.Settings.{Settings}
-use Rattle.centre_core.specs.Verdict.{verdict}
-use Rattle.centre_core.specs.declared.answer.Answer.{Answer}
+use Rattle.centre_events.specs.Settings.{Settings}
+use Rattle.centre_events.specs.Verdict.{verdict}
+use Rattle.centre_events.specs.declared.answer.Answer.{Answer}
 use Rattle.coverage_plan.specs.declared.edit.Edit.{Edit}
 use Rattle.coverage_plan.specs.declared.edit.Edit.TheVariants as edit
-use Rattle.centre_core.specs.declared.entry.Entry.{Entry}
-use Rattle.centre_core.specs.declared.event.Event.{Event}
-use Rattle.centre_core.specs.declared.event.Event.TheVariants as event
+use Rattle.centre_events.specs.declared.entry.Entry.{Entry}
+use Rattle.centre_events.specs.declared.event.Event.{Event}
+use Rattle.centre_events.specs.declared.event.Event.TheVariants as event
 use Rattle.centre_core.proofs.LineLemmas.{Outside}
 use Rattle.centre_core.proofs.OutsideAreaLemmas.{outside_add_area, outside_drop_area, outside_put, outside_cut}
 use Rattle.centre_core.proofs.OutsideCellLemmas.{outside_add_bsc, outside_remove_bsc, outside_add_cell, outside_move_cell, outside_remove_cell}

@@ -14,28 +14,28 @@ use Rattle.mirror.specs.declared.line_key.LineKey.{LineKey}
 use Rattle.warning_book.specs.Book.{warning_of}
 use Rattle.warning_book.specs.declared.version.Version.{Version}
 use Rattle.warning_book.specs.declared.warning.Warning.{Warning}
-use Rattle.centre_core.specs.Counts.{replied_count, report_count}
-use Rattle.centre_core.specs.Down.{is_down, says_down, listed_down}
-use Rattle.centre_core.specs.Effects.{is_among, new_effect, old_effect, replaces, query_effect, flight_effect, outcome_in, said_effect, indicated_effect, report_effect, state_after}
-use Rattle.centre_core.specs.Facts.{key_state, facts_of}
-use Rattle.centre_core.specs.InFlight.{in_flight, id_of, cells_of}
-use Rattle.centre_core.specs.Known.{is_known}
+use Rattle.centre_events.specs.Counts.{replied_count, report_count}
+use Rattle.centre_events.specs.Down.{is_down, says_down, listed_down}
+use Rattle.centre_events.specs.Effects.{is_among, new_effect, old_effect, replaces, query_effect, flight_effect, outcome_in, said_effect, indicated_effect, report_effect, state_after}
+use Rattle.centre_events.specs.Facts.{key_state, facts_of}
+use Rattle.centre_events.specs.InFlight.{in_flight, id_of, cells_of}
+use Rattle.centre_events.specs.Known.{is_known}
 use Rattle.centre_core.specs.Legal.{Legal}
-use Rattle.centre_core.specs.Links.{is_up}
-use Rattle.centre_core.specs.Past.{Past, After}
+use Rattle.centre_events.specs.Links.{is_up}
+use Rattle.centre_events.specs.Past.{Past, After}
 use Rattle.centre_core.specs.Reach.{bears, spot, numbers_where, flight_reach, report_reach}
-use Rattle.centre_core.specs.Reported.{names_serial, names_warning}
-use Rattle.centre_core.specs.Settings.{Settings}
-use Rattle.centre_core.specs.Warnings.{book_of, is_version}
-use Rattle.centre_core.specs.declared.answer.Answer.{Answer}
-use Rattle.centre_core.specs.declared.answer.Answer.TheVariants.{Replied, Listed}
-use Rattle.centre_core.specs.declared.effect.Effect.TheVariants.{Frees, Leaves}
-use Rattle.centre_core.specs.declared.event.Event.TheVariants as event
-use Rattle.centre_core.specs.declared.in_flight.InFlight.{InFlight}
-use Rattle.centre_core.specs.declared.in_flight.InFlight.TheVariants as flight
-use Rattle.centre_core.specs.declared.outcome.Outcome.{Outcome}
-use Rattle.centre_core.specs.declared.outcome.Outcome.TheVariants.{Silent}
-use Rattle.centre_core.specs.declared.reply.Reply.{Reply}
+use Rattle.centre_events.specs.Reported.{names_serial, names_warning}
+use Rattle.centre_events.specs.Settings.{Settings}
+use Rattle.centre_events.specs.Warnings.{book_of, is_version}
+use Rattle.centre_events.specs.declared.answer.Answer.{Answer}
+use Rattle.centre_events.specs.declared.answer.Answer.TheVariants.{Replied, Listed}
+use Rattle.centre_events.specs.declared.effect.Effect.TheVariants.{Frees, Leaves}
+use Rattle.centre_events.specs.declared.event.Event.TheVariants as event
+use Rattle.centre_events.specs.declared.in_flight.InFlight.{InFlight}
+use Rattle.centre_events.specs.declared.in_flight.InFlight.TheVariants as flight
+use Rattle.centre_events.specs.declared.outcome.Outcome.{Outcome}
+use Rattle.centre_events.specs.declared.outcome.Outcome.TheVariants.{Silent}
+use Rattle.centre_events.specs.declared.reply.Reply.{Reply}
 use Rattle.centre_core.proofs.AnyLemmas.{contrary, any_implies}
 use Rattle.centre_core.proofs.LineLemmas.{same_kept, same_none, unknown_blank, entry_of, Outside}
 use Rattle.centre_core.proofs.ReachLemmas.{not_there, number_there, spot_among, not_known}

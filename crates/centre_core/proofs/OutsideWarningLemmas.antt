@@ -20,22 +20,22 @@ use Rattle.warning_book.specs.Laws.{KeepsNumber, found_without, found_issued}
 use Rattle.warning_book.specs.declared.content.Content.{Content}
 use Rattle.warning_book.specs.declared.notice.Notice.{Notice}
 use Rattle.warning_book.specs.declared.warning.Warning.{Warning}
-use Rattle.centre_core.specs.Cover.{covers, is_covered}
-use Rattle.centre_core.specs.Effects.{state_after}
-use Rattle.centre_core.specs.Facts.{key_state, facts_of, facts}
-use Rattle.centre_core.specs.Known.{is_known}
+use Rattle.centre_events.specs.Cover.{covers, is_covered}
+use Rattle.centre_events.specs.Effects.{state_after}
+use Rattle.centre_events.specs.Facts.{key_state, facts_of, facts}
+use Rattle.centre_events.specs.Known.{is_known}
 use Rattle.centre_core.specs.Legal.{Legal}
-use Rattle.centre_core.specs.Links.{bscs}
-use Rattle.centre_core.specs.Past.{Past, After}
-use Rattle.centre_core.specs.Places.{place}
+use Rattle.centre_events.specs.Links.{bscs}
+use Rattle.centre_events.specs.Past.{Past, After}
+use Rattle.centre_events.specs.Places.{place}
 use Rattle.centre_core.specs.Reach.{Reach, bears, spot, placed_where, known_at, reach_of}
-use Rattle.centre_core.specs.Settings.{Settings}
-use Rattle.centre_core.specs.Verdict.{verdict}
-use Rattle.centre_core.specs.Warnings.{book_of, warnings_of, with_issue, is_version, has_key, is_key}
-use Rattle.centre_core.specs.declared.answer.Answer.{Answer}
+use Rattle.centre_events.specs.Settings.{Settings}
+use Rattle.centre_events.specs.Verdict.{verdict}
+use Rattle.centre_events.specs.Warnings.{book_of, warnings_of, with_issue, is_version, has_key, is_key}
+use Rattle.centre_events.specs.declared.answer.Answer.{Answer}
 use Rattle.coverage_plan.specs.declared.edit.Edit.TheVariants as edit
-use Rattle.centre_core.specs.declared.effect.Effect.TheVariants.{Frees, Leaves}
-use Rattle.centre_core.specs.declared.event.Event.TheVariants as event
+use Rattle.centre_events.specs.declared.effect.Effect.TheVariants.{Frees, Leaves}
+use Rattle.centre_events.specs.declared.event.Event.TheVariants as event
 use Rattle.centre_core.proofs.AnyLemmas.{and_none, contrary, any_same, any_at, any_flat}
 use Rattle.centre_core.proofs.FoundLemmas.{view_edited}
 use Rattle.centre_core.proofs.KeyLemmas.{unknown_key_presence, unknown_key_hold, unknown_key_count}

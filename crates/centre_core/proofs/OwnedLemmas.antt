@@ -21,15 +21,15 @@ use Rattle.warning_book.specs.Book.{current_of, warning_of}
 use Rattle.warning_book.specs.VersionLaws.{current_among}
 use Rattle.warning_book.specs.declared.version.Version.{Version}
 use Rattle.warning_book.specs.declared.warning.Warning.{Warning}
-use Rattle.centre_core.specs.Down.{is_down}
+use Rattle.centre_events.specs.Down.{is_down}
 use Rattle.cell_register.specs.Register.{is_place}
-use Rattle.centre_core.specs.Facts.{facts_of, facts}
+use Rattle.centre_events.specs.Facts.{facts_of, facts}
 use Rattle.centre_core.specs.Legal.{Legal}
-use Rattle.centre_core.specs.Past.{Past}
-use Rattle.centre_core.specs.Places.{place}
-use Rattle.centre_core.specs.Plan.{wants, wanted}
-use Rattle.centre_core.specs.Settings.{Settings}
-use Rattle.centre_core.specs.Warnings.{book_of, warnings_of, is_version, has_key, serials}
+use Rattle.centre_events.specs.Past.{Past}
+use Rattle.centre_events.specs.Places.{place}
+use Rattle.centre_events.specs.Plan.{wants, wanted}
+use Rattle.centre_events.specs.Settings.{Settings}
+use Rattle.centre_events.specs.Warnings.{book_of, warnings_of, is_version, has_key, serials}
 use Rattle.centre_core.proofs.BookLemmas.{keyed, found_keyed, owner_of}
 use Rattle.centre_core.proofs.WarningLemmas.{legal_sound}
 

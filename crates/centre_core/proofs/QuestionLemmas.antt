@@ -22,16 +22,16 @@ use Rattle.order_maker.specs.declared.action.Action.{Action}
 use Rattle.order_maker.specs.declared.deed.Deed.{Deed}
 use Rattle.warning_book.specs.Book.{has_number, numbers, warning_of}
 use Rattle.warning_book.specs.declared.warning.Warning.{Warning}
-use Rattle.centre_core.specs.Down.{is_down}
-use Rattle.centre_core.specs.Effects.{is_among}
-use Rattle.centre_core.specs.Facts.{facts_of, facts}
+use Rattle.centre_events.specs.Down.{is_down}
+use Rattle.centre_events.specs.Effects.{is_among}
+use Rattle.centre_events.specs.Facts.{facts_of, facts}
 use Rattle.centre_core.specs.Legal.{Legal}
-use Rattle.centre_core.specs.Lines.{seen}
-use Rattle.centre_core.specs.Past.{Past}
-use Rattle.centre_core.specs.Pending.{actions, actions_in, all_actions}
-use Rattle.centre_core.specs.Places.{place, cells}
-use Rattle.centre_core.specs.Settings.{Settings}
-use Rattle.centre_core.specs.Warnings.{book_of, warnings_of}
+use Rattle.centre_events.specs.Lines.{seen}
+use Rattle.centre_events.specs.Past.{Past}
+use Rattle.centre_events.specs.Pending.{actions, actions_in, all_actions}
+use Rattle.centre_events.specs.Places.{place, cells}
+use Rattle.centre_events.specs.Settings.{Settings}
+use Rattle.centre_events.specs.Warnings.{book_of, warnings_of}
 use Rattle.centre_core.proofs.AnyLemmas.{and_none, any_flat, any_gives, any_pulled, any_same}
 use Rattle.centre_core.proofs.BeginningLemmas.{at_cell, cell_outside, no_deeds}
 use Rattle.centre_core.proofs.BookLemmas.{owned_by, owner_of}

@@ -13,18 +13,18 @@ use Rattle.kept_tables.specs.View.{spot_eq}
 use Rattle.mirror.specs.declared.line_key.LineKey.{LineKey}
 use Rattle.warning_book.specs.Book.{has_number, warning_of}
 use Rattle.warning_book.specs.declared.warning.Warning.{Warning}
-use Rattle.centre_core.specs.Effects.{is_among}
-use Rattle.centre_core.specs.Known.{is_known}
+use Rattle.centre_events.specs.Effects.{is_among}
+use Rattle.centre_events.specs.Known.{is_known}
 use Rattle.centre_core.specs.Legal.{Legal}
-use Rattle.centre_core.specs.Past.{Past}
-use Rattle.centre_core.specs.Places.{place, cells}
+use Rattle.centre_events.specs.Past.{Past}
+use Rattle.centre_events.specs.Places.{place, cells}
 use Rattle.centre_core.specs.Reach.{Reach, bears, spot, at_bsc, placed_where, known_at, numbers_where, all_numbers}
-use Rattle.centre_core.specs.Settings.{Settings}
-use Rattle.centre_core.specs.Warnings.{book_of}
+use Rattle.centre_events.specs.Settings.{Settings}
+use Rattle.centre_events.specs.Warnings.{book_of}
 use Rattle.centre_core.proofs.AnyLemmas.{contrary, any_at, any_pulled, any_flat}
 use Rattle.centre_core.proofs.KnownLemmas.{known_place, legal_unfolded}
 use Rattle.centre_core.proofs.MarkLemmas.{known_cell}
-use Rattle.centre_core.proofs.PastLemmas.{any_image}
+use Rattle.centre_events.proofs.PastLemmas.{any_image}
 
 -- The line's cell at its BSC is none of the spots where its warning is one of the warnings, and the other way round.
 

@@ -4,14 +4,14 @@ use Rattle.std.proofs.Common.{refl, sym, ◌∙◌, ap, subst}
 use Rattle.std.specs.List.{list_any}
 use Rattle.kept_tables.specs.ConsistentLaws.{same_tables}
 use Rattle.mirror.specs.Table.{is_that_place}
-use Rattle.centre_core.specs.Facts.{facts}
+use Rattle.centre_events.specs.Facts.{facts}
 use Rattle.centre_core.specs.Idle.{AreKnownOf}
 use Rattle.centre_core.specs.IsKept.{IsKept, OnlyReadsIn}
-use Rattle.centre_core.specs.Kept.{AreFlightsOf, AreAreasOf, IsRegisterOf}
+use Rattle.centre_events.specs.Kept.{AreFlightsOf, AreAreasOf, IsRegisterOf}
 use Rattle.centre_core.specs.Legal.{Legal}
-use Rattle.centre_core.specs.Past.{Past}
+use Rattle.centre_events.specs.Past.{Past}
 use Rattle.centre_core.specs.Reaching.{Told, TellsLines}
-use Rattle.centre_core.specs.Settings.{Settings}
+use Rattle.centre_events.specs.Settings.{Settings}
 use Rattle.centre_core.specs.State.{AreLinksOf}
 use Rattle.centre_core.specs.declared.kept.Kept.{Kept}
 use Rattle.centre_core.proofs.MarkedLineLemmas.{known_same}

@@ -6,25 +6,25 @@ use Rattle.std.proofs.Common.{◌≡◌, ℕ, suc, zero, Bool, false, ◌+◌, �
 use Rattle.std.proofs.lemmas.Bool.{ne_eqb}
 use Rattle.std.proofs.lemmas.List.{reverse-append}
 use Rattle.std.proofs.lemmas.Option.{get_or_from_slice_get}
-use Rattle.centre_core.specs.Base.{empty_base}
+use Rattle.centre_events.specs.Base.{empty_base}
 use Rattle.centre_core.specs.Flights.{up_before}
 use Rattle.centre_core.specs.Following.{Finishes, Follows, IsLegal, WasReached}
 use Rattle.centre_core.specs.IsKept.{IsKept, OnlyReadsIn}
-use Rattle.centre_core.specs.Kept.{is_edit, register_after, areas_after}
+use Rattle.centre_events.specs.Kept.{is_edit, register_after, areas_after}
 use Rattle.centre_core.specs.Legal.{Legal}
-use Rattle.centre_core.specs.Past.{Past, After, since, past_of}
-use Rattle.centre_core.specs.Settings.{Settings}
+use Rattle.centre_events.specs.Past.{Past, After, since, past_of}
+use Rattle.centre_events.specs.Settings.{Settings}
 use Rattle.centre_core.specs.State.{AreLinksOf}
-use Rattle.centre_core.specs.Verdict.{answered, edit_answered, verdict}
-use Rattle.centre_core.specs.Warnings.{book_after}
-use Rattle.centre_core.specs.declared.answer.Answer.{Answer}
-use Rattle.centre_core.specs.declared.entry.Entry.{Entry}
-use Rattle.centre_core.specs.declared.event.Event.{Event}
-use Rattle.centre_core.specs.declared.event.Event.TheVariants as event
+use Rattle.centre_events.specs.Verdict.{answered, edit_answered, verdict}
+use Rattle.centre_events.specs.Warnings.{book_after}
+use Rattle.centre_events.specs.declared.answer.Answer.{Answer}
+use Rattle.centre_events.specs.declared.entry.Entry.{Entry}
+use Rattle.centre_events.specs.declared.event.Event.{Event}
+use Rattle.centre_events.specs.declared.event.Event.TheVariants as event
 use Rattle.centre_core.specs.declared.held.Held.{Held}
 use Rattle.centre_core.specs.declared.kept.Kept.{Kept}
 use Rattle.centre_core.proofs.CentreLemmas.{finishes_edit, finishes_other}
-use Rattle.centre_core.proofs.PastLemmas.{past_more, position_past}
+use Rattle.centre_events.proofs.PastLemmas.{past_more, position_past}
 use Rattle.centre_core.proofs.ReadLemmas.{reads_kept}
 use Rattle.centre_core.proofs.UniqueLemmas.{verdict_answered}
 

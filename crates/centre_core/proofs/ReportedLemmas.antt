@@ -7,13 +7,13 @@ use Rattle.common.specs.declared.cell.Cell.{Cell}
 use Rattle.mirror.specs.Seen.{is_the}
 use Rattle.order_maker.specs.declared.order_kind.OrderKind.{OrderKind}
 use Rattle.order_maker.specs.declared.order_kind.OrderKind.TheVariants.{Write, Replace, Kill}
-use Rattle.centre_core.specs.Counts.{reported_in, is_counted_key, replied_count}
-use Rattle.centre_core.specs.Effects.{is_among, replaces}
-use Rattle.centre_core.specs.InFlight.{cleared_by, id_of, old_of, cells_of}
-use Rattle.centre_core.specs.Reported.{names_serial}
-use Rattle.centre_core.specs.declared.in_flight.InFlight.{InFlight}
-use Rattle.centre_core.specs.declared.in_flight.InFlight.TheVariants as flight
-use Rattle.centre_core.specs.declared.reply.Reply.{Reply}
+use Rattle.centre_events.specs.Counts.{reported_in, is_counted_key, replied_count}
+use Rattle.centre_events.specs.Effects.{is_among, replaces}
+use Rattle.centre_events.specs.InFlight.{cleared_by, id_of, old_of, cells_of}
+use Rattle.centre_events.specs.Reported.{names_serial}
+use Rattle.centre_events.specs.declared.in_flight.InFlight.{InFlight}
+use Rattle.centre_events.specs.declared.in_flight.InFlight.TheVariants as flight
+use Rattle.centre_events.specs.declared.reply.Reply.{Reply}
 
 -- what is in flight names the cell and the key
 abbrev pub names_it : Option InFlight → Cell → ℕ → ℕ → Bool

@@ -27,17 +27,17 @@ use Rattle.order_maker.specs.Actions.{needs, is_replaceable, newest, replaced, r
 use Rattle.order_maker.specs.declared.order_kind.OrderKind.TheVariants.{Kill}
 use Rattle.warning_book.specs.Book.{names, warning_of}
 use Rattle.warning_book.specs.declared.warning.Warning.{Warning}
-use Rattle.centre_core.specs.Counts.{count}
-use Rattle.centre_core.specs.Cover.{covers, is_covered}
-use Rattle.centre_core.specs.Facts.{key_state, line_of, facts_of, facts}
+use Rattle.centre_events.specs.Counts.{count}
+use Rattle.centre_events.specs.Cover.{covers, is_covered}
+use Rattle.centre_events.specs.Facts.{key_state, line_of, facts_of, facts}
 use Rattle.centre_core.specs.Legal.{Legal}
-use Rattle.centre_core.specs.Lines.{seen, stand}
+use Rattle.centre_events.specs.Lines.{seen, stand}
 use Rattle.centre_core.specs.Numbers.{broadcasts_in, area_broadcasts_in}
-use Rattle.centre_core.specs.Past.{Past}
-use Rattle.centre_core.specs.Places.{place}
-use Rattle.centre_core.specs.Presence.{presence, is_held}
-use Rattle.centre_core.specs.Settings.{Settings}
-use Rattle.centre_core.specs.Warnings.{book_of, serials}
+use Rattle.centre_events.specs.Past.{Past}
+use Rattle.centre_events.specs.Places.{place}
+use Rattle.centre_events.specs.Presence.{presence, is_held}
+use Rattle.centre_events.specs.Settings.{Settings}
+use Rattle.centre_events.specs.Warnings.{book_of, serials}
 use Rattle.centre_core.proofs.AnyLemmas.{and_none, any_implies, any_reverse}
 use Rattle.centre_core.proofs.LineLemmas.{covered_by}
 use Rattle.centre_core.proofs.OwnedLemmas.{turned_any, wanted_among}

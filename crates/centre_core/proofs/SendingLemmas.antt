@@ -5,14 +5,14 @@ use Rattle.std.specs.Option.{is_some}
 use Rattle.common.specs.Checks.{first_refusal}
 use Rattle.order_maker.specs.Grouping.{first}
 use Rattle.order_maker.specs.declared.order.Order.{Order}
-use Rattle.centre_core.specs.InFlight.{in_flight}
-use Rattle.centre_core.specs.Kept.{Gives}
-use Rattle.centre_core.specs.Past.{Past}
-use Rattle.centre_core.specs.Pending.{pending}
-use Rattle.centre_core.specs.Verdict.{link_checks, send, send_answer, send_checks}
-use Rattle.centre_core.specs.declared.answer.Answer.{Answer}
-use Rattle.centre_core.specs.declared.refusal.Refusal.{Refusal}
-use Rattle.centre_core.specs.declared.refusal.Refusal.TheVariants.{InFlight, NothingPending}
+use Rattle.centre_events.specs.InFlight.{in_flight}
+use Rattle.centre_events.specs.Kept.{Gives}
+use Rattle.centre_events.specs.Past.{Past}
+use Rattle.centre_events.specs.Pending.{pending}
+use Rattle.centre_events.specs.Verdict.{link_checks, send, send_answer, send_checks}
+use Rattle.centre_events.specs.declared.answer.Answer.{Answer}
+use Rattle.centre_events.specs.declared.refusal.Refusal.{Refusal}
+use Rattle.centre_events.specs.declared.refusal.Refusal.TheVariants.{InFlight, NothingPending}
 use Rattle.centre_core.proofs.CheckLemmas.{none_left}
 
 -- with one more check that does not hold

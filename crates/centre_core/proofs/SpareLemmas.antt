@@ -23,20 +23,20 @@ use Rattle.warning_book.specs.Sound.{has_serials, IsSound}
 use Rattle.warning_book.specs.VersionLaws.{one_version}
 use Rattle.warning_book.specs.declared.version.Version.{Version}
 use Rattle.warning_book.specs.declared.warning.Warning.{Warning}
-use Rattle.centre_core.specs.Down.{is_down}
-use Rattle.centre_core.specs.Effects.{is_among, replaces}
+use Rattle.centre_events.specs.Down.{is_down}
+use Rattle.centre_events.specs.Effects.{is_among, replaces}
 use Rattle.centre_core.specs.Headline.{airs, clears_serial, clears, applied, Agrees}
-use Rattle.centre_core.specs.InFlight.{is_kill}
+use Rattle.centre_events.specs.InFlight.{is_kill}
 use Rattle.centre_core.specs.Legal.{Legal}
-use Rattle.centre_core.specs.Lines.{seen}
-use Rattle.centre_core.specs.Past.{Past}
-use Rattle.centre_core.specs.Pending.{actions, actions_in, all_actions, pending}
-use Rattle.centre_core.specs.Places.{added_cell, cells}
-use Rattle.centre_core.specs.Plan.{wanted, planned}
-use Rattle.centre_core.specs.Presence.{presence, is_held}
-use Rattle.centre_core.specs.Settings.{Settings}
+use Rattle.centre_events.specs.Lines.{seen}
+use Rattle.centre_events.specs.Past.{Past}
+use Rattle.centre_events.specs.Pending.{actions, actions_in, all_actions, pending}
+use Rattle.centre_events.specs.Places.{added_cell, cells}
+use Rattle.centre_events.specs.Plan.{wanted, planned}
+use Rattle.centre_events.specs.Presence.{presence, is_held}
+use Rattle.centre_events.specs.Settings.{Settings}
 use Rattle.centre_core.specs.Spare.{without_cell, Misses, NoneToSpare, acts_on, ActsOnce}
-use Rattle.centre_core.specs.Warnings.{book_of, warnings_of, serials, is_version, has_key, is_key}
+use Rattle.centre_events.specs.Warnings.{book_of, warnings_of, serials, is_version, has_key, is_key}
 use Rattle.centre_core.proofs.ActingLemmas.{does, writes_by, any_deeds, has_serial}
 use Rattle.centre_core.proofs.AnyLemmas.{or_none, any_implies, contrary}
 use Rattle.centre_core.proofs.ApplyingLemmas.{applied_airs}
@@ -46,7 +46,7 @@ use Rattle.centre_core.proofs.HeadlineLemmas.{is_free, the_some, wanted_version,
 use Rattle.centre_core.proofs.KeyLemmas.{keyed, order_keyed, pending_keyed, replaced_version}
 use Rattle.centre_core.proofs.KnownLemmas.{legal_unfolded}
 use Rattle.centre_core.proofs.OnceLemmas.{count_one, sum_below, all_true, count_map, count_sorted, count_implied, cells_below}
-use Rattle.centre_core.proofs.PastLemmas.{any_image}
+use Rattle.centre_events.proofs.PastLemmas.{any_image}
 use Rattle.centre_core.proofs.UniqueLemmas.{unique, any_none}
 use Rattle.centre_core.proofs.WarningLemmas.{legal_sound}
 

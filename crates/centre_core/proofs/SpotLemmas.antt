@@ -22,19 +22,19 @@ use Rattle.kept_tables.specs.View.{spot_eq}
 use Rattle.kept_tables.specs.declared.spot.Spot.{Spot}
 use Rattle.mirror.specs.Known as kept
 use Rattle.mirror.specs.Table.{Table}
-use Rattle.centre_core.specs.Known.{is_known}
+use Rattle.centre_events.specs.Known.{is_known}
 use Rattle.centre_core.specs.Legal.{Legal}
-use Rattle.centre_core.specs.Links.{bscs, added_bsc}
-use Rattle.centre_core.specs.Past.{Past}
-use Rattle.centre_core.specs.Places.{place, cells, added_cell}
+use Rattle.centre_events.specs.Links.{bscs, added_bsc}
+use Rattle.centre_events.specs.Past.{Past}
+use Rattle.centre_events.specs.Places.{place, cells, added_cell}
 use Rattle.centre_core.specs.Reach.{spot, at_bsc, placed_where, known_at}
 use Rattle.centre_core.specs.Reaching.{AreSpots, AreThose, is_placed, is_known_at, is_known_among}
-use Rattle.centre_core.specs.Settings.{Settings}
+use Rattle.centre_events.specs.Settings.{Settings}
 use Rattle.centre_core.proofs.AnyLemmas.{or_none, and_none, and_over_or, any_same, any_pulled, any_flat}
 use Rattle.centre_core.proofs.CountLemmas.{same_count, named_once, both_or_it}
 use Rattle.centre_core.proofs.KnownLemmas.{legal_unfolded, known_place}
 use Rattle.centre_core.proofs.MarkLemmas as mark
-use Rattle.centre_core.proofs.PastLemmas.{any_image}
+use Rattle.centre_events.proofs.PastLemmas.{any_image}
 use Rattle.centre_core.proofs.RegisterLemmas.{cell_apart}
 
 -- Two lists of the same things.

@@ -27,27 +27,27 @@ use Rattle.warning_book.specs.Book as book
 use Rattle.warning_book.specs.Book.{number_lt, areas_of, names}
 use Rattle.warning_book.specs.declared.content.Content.{Content}
 use Rattle.warning_book.specs.declared.warning.Warning.{Warning}
-use Rattle.centre_core.specs.Cover.{covers, is_covered}
-use Rattle.centre_core.specs.InFlight.{in_flight, cells_of}
-use Rattle.centre_core.specs.Known.{is_known, is_named}
+use Rattle.centre_events.specs.Cover.{covers, is_covered}
+use Rattle.centre_events.specs.InFlight.{in_flight, cells_of}
+use Rattle.centre_events.specs.Known.{is_known, is_named}
 use Rattle.centre_core.specs.Legal.{Legal}
-use Rattle.centre_core.specs.Links.{is_bsc, bscs}
-use Rattle.centre_core.specs.Outcomes.{listed_cells, failed_ids}
-use Rattle.centre_core.specs.Past.{Past}
-use Rattle.centre_core.specs.Places.{place, cells}
+use Rattle.centre_events.specs.Links.{is_bsc, bscs}
+use Rattle.centre_events.specs.Outcomes.{listed_cells, failed_ids}
+use Rattle.centre_events.specs.Past.{Past}
+use Rattle.centre_events.specs.Places.{place, cells}
 use Rattle.centre_core.specs.Reach.{Reach, IsReach, spot, at_bsc, is_named_by, placed_where, known_at, numbers_where, flight_reach, edit_reach, report_reach, reach_of}
 use Rattle.centre_core.specs.Reaching.{AreSpots, AreThose, AreBscs, Told, TellsLines, EditTold, IsFlightOf, bsc_of, is_placed, is_known_at, is_known_among}
-use Rattle.centre_core.specs.Reported.{names_warning}
-use Rattle.centre_core.specs.Settings.{Settings}
-use Rattle.centre_core.specs.Verdict.{answered, move_cell_checks, report_checks, report_answer}
-use Rattle.centre_core.specs.Warnings.{warnings_of}
-use Rattle.centre_core.specs.declared.answer.Answer.{Answer}
-use Rattle.centre_core.specs.declared.answer.Answer.TheVariants as answer
+use Rattle.centre_events.specs.Reported.{names_warning}
+use Rattle.centre_events.specs.Settings.{Settings}
+use Rattle.centre_events.specs.Verdict.{answered, move_cell_checks, report_checks, report_answer}
+use Rattle.centre_events.specs.Warnings.{warnings_of}
+use Rattle.centre_events.specs.declared.answer.Answer.{Answer}
+use Rattle.centre_events.specs.declared.answer.Answer.TheVariants as answer
 use Rattle.coverage_plan.specs.declared.edit.Edit.{Edit}
 use Rattle.coverage_plan.specs.declared.edit.Edit.TheVariants as edit
-use Rattle.centre_core.specs.declared.event.Event.{Event}
-use Rattle.centre_core.specs.declared.event.Event.TheVariants as event
-use Rattle.centre_core.specs.declared.in_flight.InFlight.{InFlight}
+use Rattle.centre_events.specs.declared.event.Event.{Event}
+use Rattle.centre_events.specs.declared.event.Event.TheVariants as event
+use Rattle.centre_events.specs.declared.in_flight.InFlight.{InFlight}
 use Rattle.centre_core.proofs.AnyLemmas.{or_none, and_none, any_same}
 use Rattle.centre_core.proofs.CheckLemmas.{unless_ok, no_check}
 use Rattle.centre_core.proofs.CountLemmas.{both_or_it}

@@ -19,25 +19,25 @@ use Rattle.mirror.specs.declared.presence.Presence.TheVariants.{Absent}
 use Rattle.warning_book.specs.Book as book
 use Rattle.warning_book.specs.Book.{warning_of}
 use Rattle.warning_book.specs.declared.warning.Warning.{Warning}
-use Rattle.centre_core.specs.Cover.{covers, is_covered}
-use Rattle.centre_core.specs.Down.{down_mark, is_down}
-use Rattle.centre_core.specs.Effects.{state_after}
-use Rattle.centre_core.specs.Facts.{facts_of, facts, key_state, line_of, IsLineOf}
+use Rattle.centre_events.specs.Cover.{covers, is_covered}
+use Rattle.centre_events.specs.Down.{down_mark, is_down}
+use Rattle.centre_events.specs.Effects.{state_after}
+use Rattle.centre_events.specs.Facts.{facts_of, facts, key_state, line_of, IsLineOf}
 use Rattle.centre_core.specs.Flights.{up_before}
 use Rattle.centre_core.specs.Following.{Happens, entry_of, flight_before, is_idle, keeps_down, leaves_cover, line_now, stays}
 use Rattle.centre_core.specs.IsKept.{IsKept}
-use Rattle.centre_core.specs.Kept.{IsRegisterOf, AreAreasOf, is_edit}
+use Rattle.centre_events.specs.Kept.{IsRegisterOf, AreAreasOf, is_edit}
 use Rattle.centre_core.specs.Legal.{Legal}
-use Rattle.centre_core.specs.Past.{Past, After}
-use Rattle.centre_core.specs.Places.{place}
-use Rattle.centre_core.specs.Settings.{Settings}
+use Rattle.centre_events.specs.Past.{Past, After}
+use Rattle.centre_events.specs.Places.{place}
+use Rattle.centre_events.specs.Settings.{Settings}
 use Rattle.centre_core.specs.State.{facts_from}
-use Rattle.centre_core.specs.Verdict.{verdict}
-use Rattle.centre_core.specs.Warnings.{book_of}
-use Rattle.centre_core.specs.declared.answer.Answer.{Answer}
-use Rattle.centre_core.specs.declared.effect.Effect.TheVariants.{Sets, Leaves}
-use Rattle.centre_core.specs.declared.event.Event.{Event}
-use Rattle.centre_core.specs.declared.event.Event.TheVariants as event
+use Rattle.centre_events.specs.Verdict.{verdict}
+use Rattle.centre_events.specs.Warnings.{book_of}
+use Rattle.centre_events.specs.declared.answer.Answer.{Answer}
+use Rattle.centre_events.specs.declared.effect.Effect.TheVariants.{Sets, Leaves}
+use Rattle.centre_events.specs.declared.event.Event.{Event}
+use Rattle.centre_events.specs.declared.event.Event.TheVariants as event
 use Rattle.centre_core.specs.declared.kept.Kept.{Kept}
 use Rattle.coverage_plan.specs.declared.edit.Edit.{Edit}
 use Rattle.coverage_plan.specs.declared.edit.Edit.TheVariants as edit

@@ -11,14 +11,14 @@ use Rattle.mirror.specs.declared.line.Line.{Line}
 use Rattle.serials.specs.Serials.{update_of}
 use Rattle.warning_book.specs.declared.version.Version.{Version}
 use Rattle.warning_book.specs.declared.warning.Warning.{Warning}
-use Rattle.centre_core.specs.Counts.{count_at}
-use Rattle.centre_core.specs.Effects.{state_after}
-use Rattle.centre_core.specs.Facts.{key_state, version_at, version_state, line_of}
-use Rattle.centre_core.specs.Past.{Past, After}
-use Rattle.centre_core.specs.Presence.{effect_at}
-use Rattle.centre_core.specs.Stepping.{stepped, same_update, updates_once, at_update, WasLine}
-use Rattle.centre_core.specs.declared.effect.Effect.{Effect}
-use Rattle.centre_core.specs.declared.entry.Entry.{Entry}
+use Rattle.centre_events.specs.Counts.{count_at}
+use Rattle.centre_events.specs.Effects.{state_after}
+use Rattle.centre_events.specs.Facts.{key_state, version_at, version_state, line_of}
+use Rattle.centre_events.specs.Past.{Past, After}
+use Rattle.centre_events.specs.Presence.{effect_at}
+use Rattle.centre_events.specs.Stepping.{stepped, same_update, updates_once, at_update, WasLine}
+use Rattle.centre_events.specs.declared.effect.Effect.{Effect}
+use Rattle.centre_events.specs.declared.entry.Entry.{Entry}
 
 update_small : (s : ℕ) → update_of s < 16
 update_small s = omega arith

@@ -21,25 +21,25 @@ use Rattle.warning_book.specs.Book.{has_number, number_lt, warning_of}
 use Rattle.warning_book.specs.declared.version.Version.{Version}
 use Rattle.warning_book.specs.declared.warning.Warning.{Warning}
 use Rattle.centre_core.specs.Asked.{Tells}
-use Rattle.centre_core.specs.Counts.{count}
-use Rattle.centre_core.specs.Down.{is_down}
-use Rattle.centre_core.specs.Facts.{key_state, line_of, facts_of}
+use Rattle.centre_events.specs.Counts.{count}
+use Rattle.centre_events.specs.Down.{is_down}
+use Rattle.centre_events.specs.Facts.{key_state, line_of, facts_of}
 use Rattle.centre_core.specs.Following.{AsBefore}
-use Rattle.centre_core.specs.Known.{is_marked, has_mark, is_known}
+use Rattle.centre_events.specs.Known.{is_marked, has_mark, is_known}
 use Rattle.centre_core.specs.Legal.{Legal}
-use Rattle.centre_core.specs.Past.{Past}
-use Rattle.centre_core.specs.Places.{place}
-use Rattle.centre_core.specs.Presence.{presence, hold}
-use Rattle.centre_core.specs.Settings.{Settings}
+use Rattle.centre_events.specs.Past.{Past}
+use Rattle.centre_events.specs.Places.{place}
+use Rattle.centre_events.specs.Presence.{presence, hold}
+use Rattle.centre_events.specs.Settings.{Settings}
 use Rattle.centre_core.specs.Table.{key_if, keys_in, keys_over, key_lt, table}
-use Rattle.centre_core.specs.Warnings.{book_of, warnings_of, is_version, has_key}
+use Rattle.centre_events.specs.Warnings.{book_of, warnings_of, is_version, has_key}
 use Rattle.centre_core.specs.declared.reported.reported_key.ReportedKey.{ReportedKey}
 use Rattle.centre_core.proofs.AnyLemmas.{any_implies, contrary}
 use Rattle.centre_core.proofs.BeginningLemmas.{table_over}
 use Rattle.centre_core.proofs.KeyLemmas.{marked_key}
 use Rattle.centre_core.proofs.MarkLemmas.{no_presence}
 use Rattle.centre_core.proofs.NumberLemmas.{number_at}
-use Rattle.centre_core.proofs.PastLemmas.{any_image}
+use Rattle.centre_events.proofs.PastLemmas.{any_image}
 use Rattle.centre_core.proofs.RegisterLemmas.{cell_apart}
 use Rattle.centre_core.proofs.VersionLemmas.{legal_updates, version_state_is}
 use Rattle.centre_core.proofs.WarningLemmas.{legal_sound}

@@ -15,9 +15,9 @@ use Rattle.kept_tables.specs.declared.change.Change.{Change}
 use Rattle.kept_tables.specs.declared.spot.Spot.{Spot}
 use Rattle.mirror.specs.declared.line_key.LineKey.{LineKey}
 use Rattle.warning_book.specs.Book as book
-use Rattle.centre_core.specs.Facts.{facts}
+use Rattle.centre_events.specs.Facts.{facts}
 use Rattle.centre_core.specs.Following.{Happens, Bears, keys_of, entry_of}
-use Rattle.centre_core.specs.Past.{After}
+use Rattle.centre_events.specs.Past.{After}
 use Rattle.centre_core.specs.Reach.{Reach, IsReach, bears}
 use Rattle.centre_core.specs.declared.held.Held.{Held}
 

@@ -15,30 +15,30 @@ use Rattle.warning_book.specs.Book as book
 use Rattle.warning_book.specs.Book.{has_number, warning_of, without}
 use Rattle.warning_book.specs.Laws.{found_without, so_without}
 use Rattle.warning_book.specs.declared.warning.Warning.{Warning}
-use Rattle.centre_core.specs.Counts.{report_count, edit_count, count_mark, count_at}
-use Rattle.centre_core.specs.Down.{is_down}
-use Rattle.centre_core.specs.Effects.{state_after, report_effect, flight_effect}
-use Rattle.centre_core.specs.Facts.{facts, IsLineOf}
+use Rattle.centre_events.specs.Counts.{report_count, edit_count, count_mark, count_at}
+use Rattle.centre_events.specs.Down.{is_down}
+use Rattle.centre_events.specs.Effects.{state_after, report_effect, flight_effect}
+use Rattle.centre_events.specs.Facts.{facts, IsLineOf}
 use Rattle.centre_core.specs.Flights.{up_before}
 use Rattle.centre_core.specs.Following.{Happens, line_now, facts_then, flight_before, entry_of}
-use Rattle.centre_core.specs.InFlight.{in_flight}
-use Rattle.centre_core.specs.Kept.{IsRegisterOf, AreAreasOf}
+use Rattle.centre_events.specs.InFlight.{in_flight}
+use Rattle.centre_events.specs.Kept.{IsRegisterOf, AreAreasOf}
 use Rattle.centre_core.specs.Legal.{Legal}
-use Rattle.centre_core.specs.Links.{is_up}
-use Rattle.centre_core.specs.Past.{Past, After}
-use Rattle.centre_core.specs.Presence.{effect, effect_at, edit_effect}
-use Rattle.centre_core.specs.Settings.{Settings}
-use Rattle.centre_core.specs.Stepping.{stepped}
-use Rattle.centre_core.specs.Verdict.{verdict}
-use Rattle.centre_core.specs.Warnings.{book_of, book_then, warnings_of, has_key, serials, is_version}
-use Rattle.centre_core.specs.declared.answer.Answer.{Answer}
+use Rattle.centre_events.specs.Links.{is_up}
+use Rattle.centre_events.specs.Past.{Past, After}
+use Rattle.centre_events.specs.Presence.{effect, effect_at, edit_effect}
+use Rattle.centre_events.specs.Settings.{Settings}
+use Rattle.centre_events.specs.Stepping.{stepped}
+use Rattle.centre_events.specs.Verdict.{verdict}
+use Rattle.centre_events.specs.Warnings.{book_of, book_then, warnings_of, has_key, serials, is_version}
+use Rattle.centre_events.specs.declared.answer.Answer.{Answer}
 use Rattle.coverage_plan.specs.declared.edit.Edit.{Edit}
 use Rattle.coverage_plan.specs.declared.edit.Edit.TheVariants as edit
-use Rattle.centre_core.specs.declared.effect.Effect.{Effect}
-use Rattle.centre_core.specs.declared.effect.Effect.TheVariants.{Frees, Leaves}
-use Rattle.centre_core.specs.declared.event.Event.{Event}
-use Rattle.centre_core.specs.declared.event.Event.TheVariants as event
-use Rattle.centre_core.specs.declared.outcome.Outcome.TheVariants.{Silent}
+use Rattle.centre_events.specs.declared.effect.Effect.{Effect}
+use Rattle.centre_events.specs.declared.effect.Effect.TheVariants.{Frees, Leaves}
+use Rattle.centre_events.specs.declared.event.Event.{Event}
+use Rattle.centre_events.specs.declared.event.Event.TheVariants as event
+use Rattle.centre_events.specs.declared.outcome.Outcome.TheVariants.{Silent}
 use Rattle.centre_core.proofs.FactsLemmas.{facts_same}
 use Rattle.centre_core.proofs.OutsideWarningLemmas.{kept_key}
 use Rattle.centre_core.proofs.OwnedLemmas.{turned_any}

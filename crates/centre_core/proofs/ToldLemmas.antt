@@ -14,19 +14,19 @@ use Rattle.warning_book.specs.declared.version.Version.{Version}
 use Rattle.warning_book.specs.declared.warning.Warning.{Warning}
 use Rattle.centre_core.specs.Issued.{active_mark, is_active_by, edit_makes, but, areas_then, areas_by, continued, versions_then, versions_by, message_mark, message_by, issues_then, issued_by, number_given, numbers_then, numbers_by}
 use Rattle.centre_core.specs.Legal.{Legal}
-use Rattle.centre_core.specs.Past.{Past, From, After}
-use Rattle.centre_core.specs.Settings.{Settings}
-use Rattle.centre_core.specs.Verdict.{answered, edit_answered, update, update_checks, update_answer, widen, widen_checks}
-use Rattle.centre_core.specs.Warnings.{book_of, warnings_of, book_after, book_then, with_issue}
-use Rattle.centre_core.specs.declared.answer.Answer.{Answer}
-use Rattle.centre_core.specs.declared.answer.Answer.TheVariants as answer
+use Rattle.centre_events.specs.Past.{Past, From, After}
+use Rattle.centre_events.specs.Settings.{Settings}
+use Rattle.centre_events.specs.Verdict.{answered, edit_answered, update, update_checks, update_answer, widen, widen_checks}
+use Rattle.centre_events.specs.Warnings.{book_of, warnings_of, book_after, book_then, with_issue}
+use Rattle.centre_events.specs.declared.answer.Answer.{Answer}
+use Rattle.centre_events.specs.declared.answer.Answer.TheVariants as answer
 use Rattle.coverage_plan.specs.declared.edit.Edit.{Edit}
 use Rattle.coverage_plan.specs.declared.edit.Edit.TheVariants as edit
-use Rattle.centre_core.specs.declared.event.Event.{Event}
-use Rattle.centre_core.specs.declared.event.Event.TheVariants as event
+use Rattle.centre_events.specs.declared.event.Event.{Event}
+use Rattle.centre_events.specs.declared.event.Event.TheVariants as event
 use Rattle.centre_core.proofs.CheckLemmas.{unless_ok, no_check}
 use Rattle.centre_core.proofs.FoundLemmas.{found_any, view_edited, view_without, view_kept, issue_told, view_issued, mark_cond, view_then, mark_then}
-use Rattle.centre_core.proofs.PastLemmas.{map_joined}
+use Rattle.centre_events.proofs.PastLemmas.{map_joined}
 use Rattle.centre_core.proofs.UniqueLemmas.{verdict_answered}
 use Rattle.centre_core.proofs.WarningLemmas.{legal_sound}
 

@@ -9,13 +9,13 @@ use Rattle.warning_book.specs.Sound.{shares_code, has_one_code, key_of, is_same_
 use Rattle.warning_book.specs.declared.version.Version.{Version}
 use Rattle.warning_book.specs.declared.warning.Warning.{Warning}
 use Rattle.common.specs.Sums.{one, count_of}
-use Rattle.centre_core.specs.Past.{Past, entry_count}
-use Rattle.centre_core.specs.Settings.{Settings}
-use Rattle.centre_core.specs.Verdict.{verdict, answered}
-use Rattle.centre_core.specs.Warnings.{has_key, is_version}
-use Rattle.centre_core.specs.declared.answer.Answer.{Answer}
-use Rattle.centre_core.specs.declared.event.Event.{Event}
-use Rattle.centre_core.specs.declared.refusal.Refusal.TheVariants as refusal
+use Rattle.centre_events.specs.Past.{Past, entry_count}
+use Rattle.centre_events.specs.Settings.{Settings}
+use Rattle.centre_events.specs.Verdict.{verdict, answered}
+use Rattle.centre_events.specs.Warnings.{has_key, is_version}
+use Rattle.centre_events.specs.declared.answer.Answer.{Answer}
+use Rattle.centre_events.specs.declared.event.Event.{Event}
+use Rattle.centre_events.specs.declared.refusal.Refusal.TheVariants as refusal
 use Rattle.centre_core.proofs.AnyLemmas.{any_implies}
 use Rattle.centre_core.proofs.CheckLemmas.{unless_ok}
 

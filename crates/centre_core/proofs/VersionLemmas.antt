@@ -11,12 +11,12 @@ use Rattle.warning_book.specs.Book.{has_number, warning_of}
 use Rattle.warning_book.specs.Sound.{are_counted, counts_updates}
 use Rattle.warning_book.specs.declared.version.Version.{Version}
 use Rattle.warning_book.specs.declared.warning.Warning.{Warning}
-use Rattle.centre_core.specs.Facts.{key_state, version_at, version_state, line_of}
+use Rattle.centre_events.specs.Facts.{key_state, version_at, version_state, line_of}
 use Rattle.centre_core.specs.Legal.{Legal}
-use Rattle.centre_core.specs.Past.{Past}
-use Rattle.centre_core.specs.Settings.{Settings}
-use Rattle.centre_core.specs.Stepping.{same_update, updates_once}
-use Rattle.centre_core.specs.Warnings.{book_of, warnings_of, is_version}
+use Rattle.centre_events.specs.Past.{Past}
+use Rattle.centre_events.specs.Settings.{Settings}
+use Rattle.centre_events.specs.Stepping.{same_update, updates_once}
+use Rattle.centre_events.specs.Warnings.{book_of, warnings_of, is_version}
 use Rattle.centre_core.proofs.AnyLemmas.{any_implies, contrary}
 use Rattle.centre_core.proofs.StepLemmas.{line_at_update}
 use Rattle.centre_core.proofs.WarningLemmas.{legal_counted}

@@ -22,24 +22,24 @@ use Rattle.warning_book.specs.declared.refusal.Refusal as book_refusal
 use Rattle.warning_book.specs.declared.refusal.Refusal.TheVariants as book_refusal_is
 use Rattle.warning_book.specs.declared.version.Version.{Version}
 use Rattle.warning_book.specs.declared.warning.Warning.{Warning}
-use Rattle.centre_core.specs.Base.{Base}
-use Rattle.centre_core.specs.Cover.{is_area}
-use Rattle.centre_core.specs.Kept.{Gives}
+use Rattle.centre_events.specs.Base.{Base}
+use Rattle.centre_events.specs.Cover.{is_area}
+use Rattle.centre_events.specs.Kept.{Gives}
 use Rattle.centre_core.specs.Legal.{Legal}
-use Rattle.centre_core.specs.Past.{Past, From, After}
-use Rattle.centre_core.specs.Refusals.{of_book}
-use Rattle.centre_core.specs.Reported.{is_reported, is_in_flight}
-use Rattle.centre_core.specs.Settings.{Settings}
-use Rattle.centre_core.specs.Verdict.{unless, answered, edit_answered, by_book, issue, issue_answer, update, update_answer, widen, narrow, stop, forget, idle_checks}
-use Rattle.centre_core.specs.Warnings.{book_of, book_after, book_then, with_issue}
-use Rattle.centre_core.specs.declared.answer.Answer.{Answer}
-use Rattle.centre_core.specs.declared.answer.Answer.TheVariants as answer
+use Rattle.centre_events.specs.Past.{Past, From, After}
+use Rattle.centre_events.specs.Refusals.{of_book}
+use Rattle.centre_events.specs.Reported.{is_reported, is_in_flight}
+use Rattle.centre_events.specs.Settings.{Settings}
+use Rattle.centre_events.specs.Verdict.{unless, answered, edit_answered, by_book, issue, issue_answer, update, update_answer, widen, narrow, stop, forget, idle_checks}
+use Rattle.centre_events.specs.Warnings.{book_of, book_after, book_then, with_issue}
+use Rattle.centre_events.specs.declared.answer.Answer.{Answer}
+use Rattle.centre_events.specs.declared.answer.Answer.TheVariants as answer
 use Rattle.coverage_plan.specs.declared.edit.Edit.{Edit}
 use Rattle.coverage_plan.specs.declared.edit.Edit.TheVariants as edit
-use Rattle.centre_core.specs.declared.event.Event.{Event}
-use Rattle.centre_core.specs.declared.event.Event.TheVariants as event
-use Rattle.centre_core.specs.declared.refusal.Refusal.{Refusal}
-use Rattle.centre_core.specs.declared.refusal.Refusal.TheVariants as refusal
+use Rattle.centre_events.specs.declared.event.Event.{Event}
+use Rattle.centre_events.specs.declared.event.Event.TheVariants as event
+use Rattle.centre_events.specs.declared.refusal.Refusal.{Refusal}
+use Rattle.centre_events.specs.declared.refusal.Refusal.TheVariants as refusal
 use Rattle.centre_core.proofs.CheckLemmas.{taken, refused, refused_first, passed, given, ok_after, none_held, past_check, past_given, past_ok, checked_after}
 use Rattle.centre_core.proofs.FoundLemmas.{found_number}
 use Rattle.centre_core.proofs.UniqueLemmas.{verdict_answered}

@@ -16,19 +16,19 @@ use Rattle.warning_book.specs.declared.content.Content.{Content}
 use Rattle.warning_book.specs.declared.notice.Notice.{Notice}
 use Rattle.warning_book.specs.declared.version.Version.{Version}
 use Rattle.warning_book.specs.declared.warning.Warning.{Warning}
-use Rattle.centre_core.specs.Facts.{key_state, version_at, version_state, facts_of, facts}
+use Rattle.centre_events.specs.Facts.{key_state, version_at, version_state, facts_of, facts}
 use Rattle.centre_core.specs.Following.{forgets}
 use Rattle.centre_core.specs.Legal.{Legal}
-use Rattle.centre_core.specs.Past.{Past, After}
-use Rattle.centre_core.specs.Settings.{Settings}
-use Rattle.centre_core.specs.Stepping.{at_update, WasLine}
-use Rattle.centre_core.specs.Verdict.{verdict}
-use Rattle.centre_core.specs.Warnings.{with_issue, book_after, book_then, book_of, warnings_of, is_version, has_key, is_key}
+use Rattle.centre_events.specs.Past.{Past, After}
+use Rattle.centre_events.specs.Settings.{Settings}
+use Rattle.centre_events.specs.Stepping.{at_update, WasLine}
+use Rattle.centre_events.specs.Verdict.{verdict}
+use Rattle.centre_events.specs.Warnings.{with_issue, book_after, book_then, book_of, warnings_of, is_version, has_key, is_key}
 use Rattle.coverage_plan.specs.declared.edit.Edit.{Edit}
 use Rattle.coverage_plan.specs.declared.edit.Edit.TheVariants as edit
-use Rattle.centre_core.specs.declared.entry.Entry.{Entry}
-use Rattle.centre_core.specs.declared.event.Event.{Event}
-use Rattle.centre_core.specs.declared.event.Event.TheVariants as event
+use Rattle.centre_events.specs.declared.entry.Entry.{Entry}
+use Rattle.centre_events.specs.declared.event.Event.{Event}
+use Rattle.centre_events.specs.declared.event.Event.TheVariants as event
 use Rattle.centre_core.proofs.BookLemmas.{keyed, keys_stay, found_keyed, owned_by, owner_of}
 use Rattle.centre_core.proofs.KeyLemmas.{unknown_key_presence, unknown_key_hold, unknown_key_count}
 use Rattle.centre_core.proofs.StepLemmas.{line_at_update, line_long}

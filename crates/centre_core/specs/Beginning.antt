@@ -10,13 +10,13 @@ use Rattle.common.specs.Sorting.{sorted_by}
 use Rattle.common.specs.Sums.{sum_of}
 use Rattle.common.specs.declared.cell.Cell.{Cell}
 use Rattle.warning_book.specs.declared.warning.Warning.{Warning}
-use Rattle.centre_core.specs.Effects.{is_among}
+use Rattle.centre_events.specs.Effects.{is_among}
 use Rattle.order_maker.specs.Grouping.{in_order, grouped}
 use Rattle.centre_core.specs.Numbers.{number_at, number, broadcasts_at, broadcasts}
-use Rattle.centre_core.specs.Past.{Past}
-use Rattle.centre_core.specs.Pending.{actions_over, pending}
-use Rattle.centre_core.specs.Places.{place, cells}
-use Rattle.centre_core.specs.Presence.{presence}
+use Rattle.centre_events.specs.Past.{Past}
+use Rattle.centre_events.specs.Pending.{actions_over, pending}
+use Rattle.centre_events.specs.Places.{place, cells}
+use Rattle.centre_events.specs.Presence.{presence}
 use Rattle.centre_core.specs.Table.{key_lt, keys_over, table}
 use Rattle.coverage_board.specs.declared.way.Way.{Way}
 use Rattle.mirror.specs.declared.presence.Presence.TheVariants.{Absent}

@@ -3,9 +3,9 @@ use Rattle.std.specs.Prelude.{◌≡◌, if◌then◌else◌}
 use Rattle.cbsp_messages.specs.Message.{type_of}
 use Rattle.cbsp_messages.specs.Written.{Fits}
 use Rattle.cbsp_messages.specs.declared.message_type.MessageType.TheVariants.{WriteReplace, Kill, StatusQuery}
-use Rattle.centre_core.specs.InFlight.{is_kill}
-use Rattle.centre_core.specs.declared.answer.Answer.{Answer}
-use Rattle.centre_core.specs.declared.answer.Answer.TheVariants.{Sent, Asked}
+use Rattle.centre_events.specs.InFlight.{is_kill}
+use Rattle.centre_events.specs.declared.answer.Answer.{Answer}
+use Rattle.centre_events.specs.declared.answer.Answer.TheVariants.{Sent, Asked}
 
 -- the message of an answer, if it has one, fits
 abbrev pub AnswerFits : Answer → Type 0

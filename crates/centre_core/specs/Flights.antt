@@ -1,14 +1,14 @@
 -- What is in flight to each BSC, after an event.
 use Rattle.std.specs.Prelude.{ℕ, Bool, false, List, [], ◌∷◌, ◌++◌, Option, Some, None, if◌then◌else◌}
-use Rattle.centre_core.specs.InFlight.{sent_flight, asked_flight, is_replied}
-use Rattle.centre_core.specs.Kept.{without_flight}
-use Rattle.centre_core.specs.Links.{is_up}
-use Rattle.centre_core.specs.Past.{Past}
-use Rattle.centre_core.specs.declared.answer.Answer.{Answer}
-use Rattle.centre_core.specs.declared.event.Event.{Event}
-use Rattle.centre_core.specs.declared.event.Event.TheVariants.{LinkUp, LinkDown, Send, Ask, Report}
-use Rattle.centre_core.specs.declared.flight.Flight.{Flight}
-use Rattle.centre_core.specs.declared.in_flight.InFlight.{InFlight}
+use Rattle.centre_events.specs.InFlight.{sent_flight, asked_flight, is_replied}
+use Rattle.centre_events.specs.Kept.{without_flight}
+use Rattle.centre_events.specs.Links.{is_up}
+use Rattle.centre_events.specs.Past.{Past}
+use Rattle.centre_events.specs.declared.answer.Answer.{Answer}
+use Rattle.centre_events.specs.declared.event.Event.{Event}
+use Rattle.centre_events.specs.declared.event.Event.TheVariants.{LinkUp, LinkDown, Send, Ask, Report}
+use Rattle.centre_events.specs.declared.flight.Flight.{Flight}
+use Rattle.centre_events.specs.declared.in_flight.InFlight.{InFlight}
 
 -- that is in flight to the BSC, in the place of what was; nothing is, where there is nothing
 abbrev pub with_flight : ℕ → Option InFlight → List Flight → List Flight

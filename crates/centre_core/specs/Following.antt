@@ -20,32 +20,32 @@ use Rattle.mirror.specs.declared.line_key.LineKey.{LineKey}
 use Rattle.warning_book.specs.Book as book
 use Rattle.warning_book.specs.Book.{warning_of}
 use Rattle.warning_book.specs.declared.warning.Warning.{Warning}
-use Rattle.centre_core.specs.Counts.{count_mark}
-use Rattle.centre_core.specs.Down.{down_mark, is_down}
-use Rattle.centre_core.specs.Facts.{facts}
+use Rattle.centre_events.specs.Counts.{count_mark}
+use Rattle.centre_events.specs.Down.{down_mark, is_down}
+use Rattle.centre_events.specs.Facts.{facts}
 use Rattle.centre_core.specs.Flights.{up_before}
-use Rattle.centre_core.specs.InFlight.{in_flight}
+use Rattle.centre_events.specs.InFlight.{in_flight}
 use Rattle.centre_core.specs.IsKept.{IsKept}
-use Rattle.centre_core.specs.Kept.{IsRegisterOf, AreAreasOf, AreFlightsOf, flight_in}
+use Rattle.centre_events.specs.Kept.{IsRegisterOf, AreAreasOf, AreFlightsOf, flight_in}
 use Rattle.centre_core.specs.Legal.{Legal}
-use Rattle.centre_core.specs.Past.{Past, After, position, past_of}
-use Rattle.centre_core.specs.Presence.{effect}
+use Rattle.centre_events.specs.Past.{Past, After, position, past_of}
+use Rattle.centre_events.specs.Presence.{effect}
 use Rattle.centre_core.specs.Reach.{IsReach, reach_of, size}
-use Rattle.centre_core.specs.Settings.{Settings}
+use Rattle.centre_events.specs.Settings.{Settings}
 use Rattle.centre_core.specs.State.{AreLinksOf, facts_from}
-use Rattle.centre_core.specs.Stepping.{stepped}
-use Rattle.centre_core.specs.Warnings.{book_of, serials}
-use Rattle.centre_core.specs.Verdict.{verdict}
-use Rattle.centre_core.specs.declared.answer.Answer.{Answer}
-use Rattle.centre_core.specs.declared.answer.Answer.TheVariants.{Listed}
+use Rattle.centre_events.specs.Stepping.{stepped}
+use Rattle.centre_events.specs.Warnings.{book_of, serials}
+use Rattle.centre_events.specs.Verdict.{verdict}
+use Rattle.centre_events.specs.declared.answer.Answer.{Answer}
+use Rattle.centre_events.specs.declared.answer.Answer.TheVariants.{Listed}
 use Rattle.coverage_plan.specs.declared.edit.Edit.{Edit}
 use Rattle.coverage_plan.specs.declared.edit.Edit.TheVariants as edit
-use Rattle.centre_core.specs.declared.event.Event.{Event}
-use Rattle.centre_core.specs.declared.event.Event.TheVariants as event
-use Rattle.centre_core.specs.declared.entry.Entry.{Entry}
-use Rattle.centre_core.specs.declared.flight.Flight.{Flight}
+use Rattle.centre_events.specs.declared.event.Event.{Event}
+use Rattle.centre_events.specs.declared.event.Event.TheVariants as event
+use Rattle.centre_events.specs.declared.entry.Entry.{Entry}
+use Rattle.centre_events.specs.declared.flight.Flight.{Flight}
 use Rattle.centre_core.specs.declared.held.Held.{Held}
-use Rattle.centre_core.specs.declared.in_flight.InFlight.{InFlight}
+use Rattle.centre_events.specs.declared.in_flight.InFlight.{InFlight}
 use Rattle.centre_core.specs.declared.kept.Kept.{Kept}
 
 -- both have the same lines, the same cells down, the same actions pending and the same numbers: nothing but the meter

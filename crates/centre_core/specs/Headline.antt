@@ -1,14 +1,14 @@
 -- The headline: the pending orders of each BSC, applied to what it has reported, give its part of the plan.
 use Rattle.std.specs.Prelude.{◌≡◌, ℕ, Bool, true, false, ◌&&◌, not, List, [], ◌∷◌, nat_eq, if◌then◌else◌}
 use Rattle.common.specs.declared.cell.Cell.{Cell}
-use Rattle.centre_core.specs.Down.{is_down}
-use Rattle.centre_core.specs.Effects.{is_among}
-use Rattle.centre_core.specs.InFlight.{is_kill}
-use Rattle.centre_core.specs.Past.{Past}
-use Rattle.centre_core.specs.Pending.{pending}
-use Rattle.centre_core.specs.Plan.{planned}
-use Rattle.centre_core.specs.Presence.{presence, is_held}
-use Rattle.centre_core.specs.Warnings.{is_key}
+use Rattle.centre_events.specs.Down.{is_down}
+use Rattle.centre_events.specs.Effects.{is_among}
+use Rattle.centre_events.specs.InFlight.{is_kill}
+use Rattle.centre_events.specs.Past.{Past}
+use Rattle.centre_events.specs.Pending.{pending}
+use Rattle.centre_events.specs.Plan.{planned}
+use Rattle.centre_events.specs.Presence.{presence, is_held}
+use Rattle.centre_events.specs.Warnings.{is_key}
 use Rattle.mirror.specs.declared.presence.Presence.{Presence}
 use Rattle.mirror.specs.declared.presence.Presence.TheVariants.{Absent, OnAir}
 use Rattle.order_maker.specs.declared.order.Order.{Order}

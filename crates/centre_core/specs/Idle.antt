@@ -7,11 +7,11 @@ use Rattle.kept_tables.specs.Tables.{SameTables, Tables}
 use Rattle.mirror.specs.Known as kept
 use Rattle.mirror.specs.Table.{Table}
 use Rattle.warning_book.specs.declared.warning.Warning.{Warning}
-use Rattle.centre_core.specs.Kept.{flight_in}
-use Rattle.centre_core.specs.Known.{is_known}
-use Rattle.centre_core.specs.Past.{Past}
-use Rattle.centre_core.specs.Reported.{flight_names}
-use Rattle.centre_core.specs.declared.flight.Flight.{Flight}
+use Rattle.centre_events.specs.Kept.{flight_in}
+use Rattle.centre_events.specs.Known.{is_known}
+use Rattle.centre_events.specs.Past.{Past}
+use Rattle.centre_events.specs.Reported.{flight_names}
+use Rattle.centre_events.specs.declared.flight.Flight.{Flight}
 
 -- what is in flight to one of these BSCs names a version of the warning
 abbrev pub is_flying : List Flight → Warning → List ℕ → Bool

@@ -3,13 +3,13 @@ use Rattle.std.specs.Prelude.{◌≡◌, ℕ}
 use Rattle.common.specs.declared.cell.Cell.{Cell}
 use Rattle.kept_tables.specs.Consistent.{Consistent}
 use Rattle.mirror.specs.Table.{down_at}
-use Rattle.centre_core.specs.Down.{is_down}
-use Rattle.centre_core.specs.Facts.{facts}
+use Rattle.centre_events.specs.Down.{is_down}
+use Rattle.centre_events.specs.Facts.{facts}
 use Rattle.centre_core.specs.Idle.{OnlyReads}
-use Rattle.centre_core.specs.Kept.{IsRegisterOf, AreAreasOf, AreFlightsOf}
-use Rattle.centre_core.specs.Past.{Past}
+use Rattle.centre_events.specs.Kept.{IsRegisterOf, AreAreasOf, AreFlightsOf}
+use Rattle.centre_events.specs.Past.{Past}
 use Rattle.centre_core.specs.State.{AreLinksOf}
-use Rattle.centre_core.specs.Warnings.{book_of}
+use Rattle.centre_events.specs.Warnings.{book_of}
 use Rattle.centre_core.specs.declared.kept.Kept.{Kept}
 
 -- What is kept tells what the past says: the register, the areas, the links, what is in flight and which cells are down

@@ -7,16 +7,16 @@ use Rattle.warning_book.specs.Book.{is_active, areas_of, versions_of, message_id
 use Rattle.warning_book.specs.declared.content.Content.{Content}
 use Rattle.warning_book.specs.declared.notice.Notice.{Notice}
 use Rattle.warning_book.specs.declared.version.Version.{Version}
-use Rattle.centre_core.specs.Base.{Base}
-use Rattle.centre_core.specs.Past.{Past, From, After, latest, by_edit}
+use Rattle.centre_events.specs.Base.{Base}
+use Rattle.centre_events.specs.Past.{Past, From, After, latest, by_edit}
 use Rattle.mirror.specs.Seen.{is_the}
-use Rattle.centre_core.specs.Warnings.{book_of, warnings_of}
-use Rattle.centre_core.specs.declared.answer.Answer.{Answer}
-use Rattle.centre_core.specs.declared.answer.Answer.TheVariants.{Issued, Updated}
+use Rattle.centre_events.specs.Warnings.{book_of, warnings_of}
+use Rattle.centre_events.specs.declared.answer.Answer.{Answer}
+use Rattle.centre_events.specs.declared.answer.Answer.TheVariants.{Issued, Updated}
 use Rattle.coverage_plan.specs.declared.edit.Edit.{Edit}
 use Rattle.coverage_plan.specs.declared.edit.Edit.TheVariants.{Issue, Update, Widen, Narrow, Stop, Forget}
-use Rattle.centre_core.specs.declared.event.Event.{Event}
-use Rattle.centre_core.specs.declared.event.Event.TheVariants as event
+use Rattle.centre_events.specs.declared.event.Event.{Event}
+use Rattle.centre_events.specs.declared.event.Event.TheVariants as event
 
 -- the answer gives that number to a new warning
 abbrev pub gives_number : ℕ → Answer → Bool

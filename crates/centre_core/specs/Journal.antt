@@ -1,7 +1,7 @@
 -- What contracts see of a journal, and how the reads of its entries are counted.
 use Rattle.std.specs.Prelude.{ℕ, zero, suc, List}
 use Rattle.mirror.specs.Table.{counted}
-use Rattle.centre_core.specs.declared.entry.Entry.{Entry}
+use Rattle.centre_events.specs.declared.entry.Entry.{Entry}
 
 -- the entries, the oldest first; how often entries were read; for how many more there is room
 pub record JournalState : Type 0 where

@@ -1,13 +1,13 @@
 -- A legal past: nothing was folded into its base, and each entry has the answer that the past before it gives its event.
 use Rattle.std.specs.Prelude.{◌≡◌, ℕ, Bool, false, List, [], ◌∷◌, Result, Ok, Err}
-use Rattle.centre_core.specs.Base.{empty_base}
-use Rattle.centre_core.specs.Past.{Past, From, After, past_of}
-use Rattle.centre_core.specs.Settings.{Settings}
-use Rattle.centre_core.specs.Verdict.{verdict}
-use Rattle.centre_core.specs.declared.answer.Answer.{Answer}
-use Rattle.centre_core.specs.declared.entry.Entry.{Entry}
-use Rattle.centre_core.specs.declared.event.Event.{Event}
-use Rattle.centre_core.specs.declared.refusal.Refusal.{Refusal}
+use Rattle.centre_events.specs.Base.{empty_base}
+use Rattle.centre_events.specs.Past.{Past, From, After, past_of}
+use Rattle.centre_events.specs.Settings.{Settings}
+use Rattle.centre_events.specs.Verdict.{verdict}
+use Rattle.centre_events.specs.declared.answer.Answer.{Answer}
+use Rattle.centre_events.specs.declared.entry.Entry.{Entry}
+use Rattle.centre_events.specs.declared.event.Event.{Event}
+use Rattle.centre_events.specs.declared.refusal.Refusal.{Refusal}
 
 -- each answer is the verdict
 abbrev pub Legal : Settings → Past → Type 0

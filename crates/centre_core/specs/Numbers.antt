@@ -6,18 +6,18 @@ use Rattle.common.specs.Sums.{sum_of, count_of}
 use Rattle.common.specs.declared.cell.Cell.{Cell}
 use Rattle.warning_book.specs.Book.{names, warning_of}
 use Rattle.warning_book.specs.declared.warning.Warning.{Warning}
-use Rattle.centre_core.specs.Counts.{count}
-use Rattle.centre_core.specs.Cover.{covers, is_area, is_covered}
-use Rattle.centre_core.specs.Lines.{stand}
-use Rattle.centre_core.specs.Links.{bscs}
-use Rattle.centre_core.specs.Past.{Past}
-use Rattle.centre_core.specs.Places.{cells, place}
+use Rattle.centre_events.specs.Counts.{count}
+use Rattle.centre_events.specs.Cover.{covers, is_area, is_covered}
+use Rattle.centre_events.specs.Lines.{stand}
+use Rattle.centre_events.specs.Links.{bscs}
+use Rattle.centre_events.specs.Past.{Past}
+use Rattle.centre_events.specs.Places.{cells, place}
 use Rattle.coverage_board.specs.Standings.{stands}
-use Rattle.centre_core.specs.Warnings.{book_of, serials}
+use Rattle.centre_events.specs.Warnings.{book_of, serials}
 use Rattle.coverage_board.specs.declared.numbers.Numbers.{Numbers}
 use Rattle.coverage_board.specs.declared.way.Way.{Way}
-use Rattle.centre_core.specs.declared.refusal.Refusal.{Refusal}
-use Rattle.centre_core.specs.declared.refusal.Refusal.TheVariants.{NoSuchArea, NoSuchWarning, AreaNotThere}
+use Rattle.centre_events.specs.declared.refusal.Refusal.{Refusal}
+use Rattle.centre_events.specs.declared.refusal.Refusal.TheVariants.{NoSuchArea, NoSuchWarning, AreaNotThere}
 use Rattle.coverage_board.specs.declared.way.Way.TheVariants.{Awaited, OnAir, Failed, Left}
 
 -- how many of the cells at the BSC are counted in that way

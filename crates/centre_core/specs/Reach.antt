@@ -11,22 +11,22 @@ use Rattle.kept_tables.specs.declared.spot.Spot.{Spot}
 use Rattle.mirror.specs.declared.line_key.LineKey.{LineKey}
 use Rattle.warning_book.specs.Book.{names, areas_of}
 use Rattle.warning_book.specs.declared.warning.Warning.{Warning}
-use Rattle.centre_core.specs.Cover.{covers, is_covered}
-use Rattle.centre_core.specs.InFlight.{in_flight, cells_of}
-use Rattle.centre_core.specs.Known.{is_known}
-use Rattle.centre_core.specs.Links.{bscs}
-use Rattle.centre_core.specs.Past.{Past}
-use Rattle.centre_core.specs.Places.{place, cells}
-use Rattle.centre_core.specs.Reported.{names_warning}
-use Rattle.centre_core.specs.Warnings.{book_of, warnings_of}
-use Rattle.centre_core.specs.declared.answer.Answer.{Answer}
-use Rattle.centre_core.specs.declared.answer.Answer.TheVariants.{Done, Listed, Replied}
+use Rattle.centre_events.specs.Cover.{covers, is_covered}
+use Rattle.centre_events.specs.InFlight.{in_flight, cells_of}
+use Rattle.centre_events.specs.Known.{is_known}
+use Rattle.centre_events.specs.Links.{bscs}
+use Rattle.centre_events.specs.Past.{Past}
+use Rattle.centre_events.specs.Places.{place, cells}
+use Rattle.centre_events.specs.Reported.{names_warning}
+use Rattle.centre_events.specs.Warnings.{book_of, warnings_of}
+use Rattle.centre_events.specs.declared.answer.Answer.{Answer}
+use Rattle.centre_events.specs.declared.answer.Answer.TheVariants.{Done, Listed, Replied}
 use Rattle.coverage_plan.specs.declared.edit.Edit.{Edit}
 use Rattle.coverage_plan.specs.declared.edit.Edit.TheVariants as edit
-use Rattle.centre_core.specs.declared.event.Event.{Event}
-use Rattle.centre_core.specs.declared.event.Event.TheVariants as event
-use Rattle.centre_core.specs.declared.in_flight.InFlight.{InFlight}
-use Rattle.centre_core.specs.declared.refusal.Refusal.{Refusal}
+use Rattle.centre_events.specs.declared.event.Event.{Event}
+use Rattle.centre_events.specs.declared.event.Event.TheVariants as event
+use Rattle.centre_events.specs.declared.in_flight.InFlight.{InFlight}
+use Rattle.centre_events.specs.declared.refusal.Refusal.{Refusal}
 
 -- each of the spots, which are cells at BSCs, for each of the warnings
 pub record Reach : Type 0 where

@@ -15,20 +15,20 @@ use Rattle.mirror.specs.Line.{blank_line}
 use Rattle.mirror.specs.Table.{Table, line_at, has_line, down_at}
 use Rattle.mirror.specs.declared.line_key.LineKey.{LineKey}
 use Rattle.warning_book.specs.Book as book
-use Rattle.centre_core.specs.Down.{is_down}
-use Rattle.centre_core.specs.Facts.{facts}
-use Rattle.centre_core.specs.InFlight.{in_flight}
-use Rattle.centre_core.specs.Kept.{IsRegisterOf, AreAreasOf}
+use Rattle.centre_events.specs.Down.{is_down}
+use Rattle.centre_events.specs.Facts.{facts}
+use Rattle.centre_events.specs.InFlight.{in_flight}
+use Rattle.centre_events.specs.Kept.{IsRegisterOf, AreAreasOf}
 use Rattle.centre_core.specs.Legal.{Legal}
-use Rattle.centre_core.specs.Past.{Past}
-use Rattle.centre_core.specs.Settings.{Settings}
-use Rattle.centre_core.specs.Verdict.{answered, edit_answered}
-use Rattle.centre_core.specs.Warnings.{book_of}
-use Rattle.centre_core.specs.declared.answer.Answer.{Answer}
+use Rattle.centre_events.specs.Past.{Past}
+use Rattle.centre_events.specs.Settings.{Settings}
+use Rattle.centre_events.specs.Verdict.{answered, edit_answered}
+use Rattle.centre_events.specs.Warnings.{book_of}
+use Rattle.centre_events.specs.declared.answer.Answer.{Answer}
 use Rattle.coverage_plan.specs.declared.edit.Edit.{Edit}
-use Rattle.centre_core.specs.declared.event.Event.{Event}
-use Rattle.centre_core.specs.declared.event.Event.TheVariants as event
-use Rattle.centre_core.specs.declared.in_flight.InFlight.{InFlight}
+use Rattle.centre_events.specs.declared.event.Event.{Event}
+use Rattle.centre_events.specs.declared.event.Event.TheVariants as event
+use Rattle.centre_events.specs.declared.in_flight.InFlight.{InFlight}
 
 -- the cells at BSCs that pass the test, each once, and no others
 pub record AreSpots (spots : List Spot) (p : Spot → Bool) : Type 0 where

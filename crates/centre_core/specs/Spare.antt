@@ -12,18 +12,18 @@ use Rattle.order_maker.specs.declared.action.Action.{Action}
 use Rattle.order_maker.specs.declared.order.Order.{Order}
 use Rattle.warning_book.specs.Book.{current_of, warning_of}
 use Rattle.warning_book.specs.declared.warning.Warning.{Warning}
-use Rattle.centre_core.specs.Down.{is_down}
-use Rattle.centre_core.specs.Effects.{is_among, replaces}
+use Rattle.centre_events.specs.Down.{is_down}
+use Rattle.centre_events.specs.Effects.{is_among, replaces}
 use Rattle.centre_core.specs.Headline.{applied, Agrees}
-use Rattle.centre_core.specs.InFlight.{is_kill}
-use Rattle.centre_core.specs.Lines.{stand}
-use Rattle.centre_core.specs.Links.{bscs}
+use Rattle.centre_events.specs.InFlight.{is_kill}
+use Rattle.centre_events.specs.Lines.{stand}
+use Rattle.centre_events.specs.Links.{bscs}
 use Rattle.centre_core.specs.Numbers.{number}
-use Rattle.centre_core.specs.Past.{Past}
-use Rattle.centre_core.specs.Pending.{all_actions, pending}
-use Rattle.centre_core.specs.Plan.{planned}
-use Rattle.centre_core.specs.Presence.{presence, is_held}
-use Rattle.centre_core.specs.Warnings.{book_of, is_key}
+use Rattle.centre_events.specs.Past.{Past}
+use Rattle.centre_events.specs.Pending.{all_actions, pending}
+use Rattle.centre_events.specs.Plan.{planned}
+use Rattle.centre_events.specs.Presence.{presence, is_held}
+use Rattle.centre_events.specs.Warnings.{book_of, is_key}
 
 -- the order without the cell
 abbrev pub without_cell : Cell → Order → Order

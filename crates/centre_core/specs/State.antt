@@ -11,13 +11,13 @@ use Rattle.kept_tables.specs.declared.line_facts.LineFacts.{LineFacts}
 use Rattle.mirror.specs.declared.line.Line.{Line}
 use Rattle.warning_book.specs.Book.{current_of}
 use Rattle.warning_book.specs.declared.warning.Warning.{Warning}
-use Rattle.centre_core.specs.Links.{is_up, last_link}
-use Rattle.centre_core.specs.Past.{Past}
-use Rattle.centre_core.specs.Warnings.{serials}
+use Rattle.centre_events.specs.Links.{is_up, last_link}
+use Rattle.centre_events.specs.Past.{Past}
+use Rattle.centre_events.specs.Warnings.{serials}
 use Rattle.coverage_plan.specs.declared.edit.Edit.{Edit}
 use Rattle.coverage_plan.specs.declared.edit.Edit.TheVariants.{AddBsc}
-use Rattle.centre_core.specs.declared.event.Event.{Event}
-use Rattle.centre_core.specs.declared.event.Event.TheVariants as event
+use Rattle.centre_events.specs.declared.event.Event.{Event}
+use Rattle.centre_events.specs.declared.event.Event.TheVariants as event
 use Rattle.centre_core.specs.declared.link.Link.{Link}
 
 -- the link is the BSC's

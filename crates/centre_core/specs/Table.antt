@@ -5,12 +5,12 @@ use Rattle.common.specs.Cell.{cell_eq, cell_lt}
 use Rattle.common.specs.declared.cell.Cell.{Cell}
 use Rattle.warning_book.specs.declared.version.Version.{Version}
 use Rattle.warning_book.specs.declared.warning.Warning.{Warning}
-use Rattle.centre_core.specs.Places.{cells}
-use Rattle.centre_core.specs.Past.{Past}
-use Rattle.centre_core.specs.Presence.{presence}
+use Rattle.centre_events.specs.Places.{cells}
+use Rattle.centre_events.specs.Past.{Past}
+use Rattle.centre_events.specs.Presence.{presence}
 use Rattle.mirror.specs.Seen.{is_absent}
 use Rattle.common.specs.Sorting.{comes_before, sorted_by}
-use Rattle.centre_core.specs.Warnings.{warnings_of}
+use Rattle.centre_events.specs.Warnings.{warnings_of}
 use Rattle.mirror.specs.declared.presence.Presence.{Presence}
 use Rattle.centre_core.specs.declared.reported.reported_key.ReportedKey.{ReportedKey}
 

@@ -3,22 +3,22 @@ use Rattle.std.proofs.Common.{◌≡◌, ℕ, ◌+◌, Bool, true, false, ◌&&�
 use Rattle.cbsp_messages.specs.declared.message.Message.{Message}
 use Rattle.cbsp_messages.specs.declared.message.Message.TheVariants as message
 use Rattle.common.specs.declared.cell.Cell.{Cell}
-use Rattle.centre_core.specs.Asking.{asked_cells, query_of, version_query, warning_query}
-use Rattle.centre_core.specs.InFlight.{in_flight}
-use Rattle.centre_core.specs.Past.{Past, entry_count, position}
-use Rattle.centre_core.specs.Pending.{pending}
-use Rattle.centre_core.specs.Settings.{Settings}
-use Rattle.centre_core.specs.Verdict.{add_area_checks, add_bsc_checks, add_cell_checks, answered, ask_checks, cut_checks, drop_area_checks, edit_answered, forget_checks, issue_answer, issue_checks, link_checks, link_up_checks, move_cell_checks, narrow_checks, put_checks, remove_bsc_checks, remove_cell_checks, reply_answer, report_answer, report_checks, retry_checks, send_answer, send_checks, stop_checks, unless, update_answer, update_checks, verdict, widen_checks}
-use Rattle.centre_core.specs.Warnings.{book_of}
-use Rattle.centre_core.specs.declared.answer.Answer.{Answer}
-use Rattle.centre_core.specs.declared.answer.Answer.TheVariants as answer
+use Rattle.centre_events.specs.Asking.{asked_cells, query_of, version_query, warning_query}
+use Rattle.centre_events.specs.InFlight.{in_flight}
+use Rattle.centre_events.specs.Past.{Past, entry_count, position}
+use Rattle.centre_events.specs.Pending.{pending}
+use Rattle.centre_events.specs.Settings.{Settings}
+use Rattle.centre_events.specs.Verdict.{add_area_checks, add_bsc_checks, add_cell_checks, answered, ask_checks, cut_checks, drop_area_checks, edit_answered, forget_checks, issue_answer, issue_checks, link_checks, link_up_checks, move_cell_checks, narrow_checks, put_checks, remove_bsc_checks, remove_cell_checks, reply_answer, report_answer, report_checks, retry_checks, send_answer, send_checks, stop_checks, unless, update_answer, update_checks, verdict, widen_checks}
+use Rattle.centre_events.specs.Warnings.{book_of}
+use Rattle.centre_events.specs.declared.answer.Answer.{Answer}
+use Rattle.centre_events.specs.declared.answer.Answer.TheVariants as answer
 use Rattle.coverage_plan.specs.declared.edit.Edit.{Edit}
 use Rattle.coverage_plan.specs.declared.edit.Edit.TheVariants as edit
-use Rattle.centre_core.specs.declared.event.Event.{Event}
-use Rattle.centre_core.specs.declared.event.Event.TheVariants as event
-use Rattle.centre_core.specs.declared.in_flight.InFlight.{InFlight}
-use Rattle.centre_core.specs.declared.refusal.Refusal.{Refusal}
-use Rattle.centre_core.specs.declared.refusal.Refusal.TheVariants as refusal
+use Rattle.centre_events.specs.declared.event.Event.{Event}
+use Rattle.centre_events.specs.declared.event.Event.TheVariants as event
+use Rattle.centre_events.specs.declared.in_flight.InFlight.{InFlight}
+use Rattle.centre_events.specs.declared.refusal.Refusal.{Refusal}
+use Rattle.centre_events.specs.declared.refusal.Refusal.TheVariants as refusal
 use Rattle.order_maker.specs.Grouping.{first}
 use Rattle.order_maker.specs.declared.order.Order.{Order}
 use Rattle.warning_book.specs.Book.{current_of, new_serial, next_serial, warning_of}

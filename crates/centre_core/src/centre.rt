@@ -1,12 +1,8 @@
 //! The centre: its journal, what is kept beside it, and the questions that are answered from there.
 
-use crate::answer::Answer;
 use crate::entering::{enter, make, up_before, with_entry};
-use crate::entry::Entry;
-use crate::event::Event;
 use crate::events::tell_known;
 use crate::flights::flight_in;
-use crate::in_flight::InFlight;
 use crate::journal::Journal;
 use crate::kept::Kept;
 use crate::looking::{prepare_edit, prepare_other};
@@ -14,9 +10,13 @@ use crate::meter::Meter;
 use crate::questions;
 use crate::reach::tell_lines;
 use crate::rebuilding::kept_of;
-use crate::refusal::Refusal;
 use crate::reported::ReportedKeys;
 use cell_register::BscId;
+use centre_events::answer::Answer;
+use centre_events::entry::Entry;
+use centre_events::event::Event;
+use centre_events::in_flight::InFlight;
+use centre_events::refusal::Refusal;
 use common::{Cell, Name};
 use coverage_board::Numbers;
 use coverage_plan::Edit;
@@ -62,18 +62,18 @@ impl Centre {
     ghost use Rattle.centre_core.specs.Centre.{Leaves, Refuses};
     ghost use Rattle.centre_core.specs.contracts.centre.Centre.{the_row};
     ghost use Rattle.centre_core.specs.Fits.{AnswerFits, IsCarried};
-    ghost use Rattle.centre_core.specs.InFlight.{in_flight};
+    ghost use Rattle.centre_events.specs.InFlight.{in_flight};
     ghost use Rattle.centre_core.specs.Journal.{counted_by};
-    ghost use Rattle.centre_core.specs.Kept.{is_edit};
+    ghost use Rattle.centre_events.specs.Kept.{is_edit};
     ghost use Rattle.centre_core.specs.Legal.{Legal, new_centre, past};
-    ghost use Rattle.centre_core.specs.Links.{is_bsc};
+    ghost use Rattle.centre_events.specs.Links.{is_bsc};
     ghost use Rattle.centre_core.specs.Numbers.{board, area_board};
-    ghost use Rattle.centre_core.specs.Pending.{pending};
-    ghost use Rattle.centre_core.specs.Places.{place};
+    ghost use Rattle.centre_events.specs.Pending.{pending};
+    ghost use Rattle.centre_events.specs.Places.{place};
     ghost use Rattle.centre_core.specs.Reach.{reach};
     ghost use Rattle.centre_core.specs.Table.{table};
-    ghost use Rattle.centre_core.specs.Verdict.{verdict};
-    ghost use Rattle.centre_core.specs.declared.event.Event.TheVariants as event;
+    ghost use Rattle.centre_events.specs.Verdict.{verdict};
+    ghost use Rattle.centre_events.specs.declared.event.Event.TheVariants as event;
 
     /// A centre of the network, without entries, whose journal holds so many at most.
     pub fn new(alloc: Global, plmn: [u8; 3], journal_limit: u32) -> Centre

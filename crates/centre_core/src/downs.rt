@@ -6,10 +6,10 @@ ghost use Rattle.kept_tables.specs.Tables.{Tables};
 ghost use Rattle.mirror.specs.Table.{down_at};
 ghost use Rattle.centre_core.specs.Following.{SameLines, down_after};
 
-use crate::answer::Answer;
-use crate::effects::down_mark;
-use crate::event::Event;
 use cell_register::BscId;
+use centre_events::answer::Answer;
+use centre_events::effects::down_mark;
+use centre_events::event::Event;
 use common::Cell;
 use kept_tables::{KeptTables, Spot};
 use std::alloc::AllocError;

@@ -4,15 +4,12 @@ ghost use Rattle.std.specs.Prelude.{◌≡◌, ◌≤◌, ◌+◌, ◌++◌, ◌
 ghost use Rattle.centre_core.specs.Flights.{up_before};
 ghost use Rattle.centre_core.specs.Following.{Finishes};
 ghost use Rattle.centre_core.specs.IsKept.{IsKept};
-ghost use Rattle.centre_core.specs.Kept.{Gives, is_plain, register_after, areas_after};
-ghost use Rattle.centre_core.specs.Past.{Past, After};
+ghost use Rattle.centre_events.specs.Kept.{Gives, is_plain, register_after, areas_after};
+ghost use Rattle.centre_events.specs.Past.{Past, After};
 ghost use Rattle.centre_core.specs.State.{AreLinksOf};
-ghost use Rattle.centre_core.specs.Verdict.{edit_answered};
-ghost use Rattle.centre_core.specs.Warnings.{book_after};
+ghost use Rattle.centre_events.specs.Verdict.{edit_answered};
+ghost use Rattle.centre_events.specs.Warnings.{book_after};
 
-use crate::answer::Answer;
-use crate::entry::Entry;
-use crate::event::Event;
 use crate::events::{Verdict, make_edit};
 use crate::finishing::finish;
 use crate::journal::Journal;
@@ -20,6 +17,9 @@ use crate::kept::Kept;
 use crate::link::Link;
 use crate::links::is_up;
 use crate::reached::Reached;
+use centre_events::answer::Answer;
+use centre_events::entry::Entry;
+use centre_events::event::Event;
 use coverage_plan::Edit;
 use std::alloc::{AllocError, Global};
 

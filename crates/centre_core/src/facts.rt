@@ -7,7 +7,7 @@ ghost use Rattle.areas.specs.Areas.{covers};
 ghost use Rattle.cell_register.specs.Register.{place_in, is_place};
 ghost use Rattle.warning_book.specs.Book.{current_of};
 ghost use Rattle.centre_core.specs.State.{facts_from};
-ghost use Rattle.centre_core.specs.Warnings.{serials};
+ghost use Rattle.centre_events.specs.Warnings.{serials};
 
 use areas::Areas;
 use cell_register::{BscId, Register};

@@ -3,16 +3,16 @@
 ghost use Rattle.std.specs.Prelude.{◌≡◌, ◌≤◌, ◌+◌, length, OnOk};
 ghost use Rattle.centre_core.specs.Following.{Finishes};
 ghost use Rattle.centre_core.specs.IsKept.{IsKept};
-ghost use Rattle.centre_core.specs.Past.{After};
+ghost use Rattle.centre_events.specs.Past.{After};
 
-use crate::answer::Answer;
-use crate::event::Event;
 use crate::flights::{self, flight_of};
 use crate::following::bear;
 use crate::kept::Kept;
 use crate::links;
 use crate::reached::Reached;
-use crate::stepping::Happening;
+use centre_events::answer::Answer;
+use centre_events::event::Event;
+use centre_events::stepping::Happening;
 use std::alloc::{AllocError, Global};
 
 /// Follows an accepted event, whose entry has that number, from how the lines on which it bears stood. At an `Err` memory

@@ -5,14 +5,14 @@ ghost use Rattle.std.specs.Vec.{vec_len, vec_capacity};
 ghost use Rattle.std.specs.Option.{option_copied, option_map};
 ghost use Rattle.centre_core.specs.Flights.{with_flight, flights_after};
 ghost use Rattle.centre_core.specs.Following.{flight_kept};
-ghost use Rattle.centre_core.specs.InFlight.{sent_flight, asked_flight, is_replied};
-ghost use Rattle.centre_core.specs.Kept.{is_of, is_edit, flight_in, without_flight};
+ghost use Rattle.centre_events.specs.InFlight.{sent_flight, asked_flight, is_replied};
+ghost use Rattle.centre_events.specs.Kept.{is_of, is_edit, flight_in, without_flight};
 
-use crate::answer::Answer;
-use crate::event::Event;
-use crate::flight::Flight;
-use crate::in_flight::InFlight;
 use cell_register::BscId;
+use centre_events::answer::Answer;
+use centre_events::event::Event;
+use centre_events::flight::Flight;
+use centre_events::in_flight::InFlight;
 use std::alloc::{AllocError, Global};
 
 /// What is in flight to the BSC.

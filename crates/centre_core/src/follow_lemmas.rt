@@ -16,18 +16,18 @@ ghost use Rattle.kept_tables.specs.Tables.{Tables};
 ghost use Rattle.mirror.specs.Table.{down_at};
 ghost use Rattle.mirror.specs.declared.line_key.LineKey.{LineKey};
 ghost use Rattle.warning_book.specs.Book as book;
-ghost use Rattle.centre_core.specs.Down.{is_down};
+ghost use Rattle.centre_events.specs.Down.{is_down};
 ghost use Rattle.centre_core.specs.Flights.{up_before};
 ghost use Rattle.centre_core.specs.Following.{SameLines, Happens, Bears, change_of, down_after, entry_of, facts_then, flight_before, keys_of};
-ghost use Rattle.centre_core.specs.Kept.{IsRegisterOf, AreAreasOf};
-ghost use Rattle.centre_core.specs.Facts.{facts};
+ghost use Rattle.centre_events.specs.Kept.{IsRegisterOf, AreAreasOf};
+ghost use Rattle.centre_events.specs.Facts.{facts};
 ghost use Rattle.centre_core.specs.Legal.{Legal};
-ghost use Rattle.centre_core.specs.Past.{Past, After};
-ghost use Rattle.centre_core.specs.Settings.{Settings};
-ghost use Rattle.centre_core.specs.Stepping.{WasLine};
-ghost use Rattle.centre_core.specs.Verdict.{verdict};
-ghost use Rattle.centre_core.specs.Warnings.{book_of, warnings_of, has_key};
-ghost use Rattle.centre_core.specs.declared.entry.Entry.{Entry};
+ghost use Rattle.centre_events.specs.Past.{Past, After};
+ghost use Rattle.centre_events.specs.Settings.{Settings};
+ghost use Rattle.centre_events.specs.Stepping.{WasLine};
+ghost use Rattle.centre_events.specs.Verdict.{verdict};
+ghost use Rattle.centre_events.specs.Warnings.{book_of, warnings_of, has_key};
+ghost use Rattle.centre_events.specs.declared.entry.Entry.{Entry};
 ghost use Rattle.centre_core.specs.declared.held.Held.{Held};
 
 fn owned()

@@ -4,9 +4,9 @@ ghost use Rattle.std.specs.Prelude.{◌≡◌, ℕ, ◌≤◌, ◌+◌, length, 
 ghost use Rattle.common.specs.declared.cell.Cell.{Cell};
 ghost use Rattle.kept_tables.specs.Consistent.{Consistent};
 ghost use Rattle.mirror.specs.Table.{down_at};
-ghost use Rattle.centre_core.specs.Down.{is_down};
-ghost use Rattle.centre_core.specs.Facts.{facts};
-ghost use Rattle.centre_core.specs.Past.{After};
+ghost use Rattle.centre_events.specs.Down.{is_down};
+ghost use Rattle.centre_events.specs.Facts.{facts};
+ghost use Rattle.centre_events.specs.Past.{After};
 ghost use Rattle.kept_tables.specs.View.{key_of};
 ghost use Rattle.std.specs.Option.{option_copied};
 ghost use Rattle.centre_core.specs.Following.{Bears, entry_of, line_now, facts_then, change_of};
@@ -14,9 +14,9 @@ ghost use Rattle.centre_core.specs.Following.{Bears, entry_of, line_now, facts_t
 use crate::downs::mark_downs;
 use crate::facts::facts_from;
 use crate::held::Held;
-use crate::stepping::{Happening, stepped};
 use areas::Areas;
 use cell_register::{BscId, Register};
+use centre_events::stepping::{Happening, stepped};
 use common::Cell;
 use kept_tables::{Change, KeptTables, LineFacts, Spot};
 use mirror::Line;

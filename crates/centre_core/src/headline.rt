@@ -1,11 +1,11 @@
 //! The headline, as the contract of a call.
 
 ghost use Rattle.std.specs.Prelude.{List};
-ghost use Rattle.centre_core.specs.Base.{empty_base};
+ghost use Rattle.centre_events.specs.Base.{empty_base};
 ghost use Rattle.centre_core.specs.Legal.{Legal, Call, after_calls};
 ghost use Rattle.centre_core.specs.Headline.{PendingGivesPlan};
-ghost use Rattle.centre_core.specs.Past.{Past, From};
-ghost use Rattle.centre_core.specs.Settings.{Settings};
+ghost use Rattle.centre_events.specs.Past.{Past, From};
+ghost use Rattle.centre_events.specs.Settings.{Settings};
 ghost use Rattle.centre_core.specs.Spare.{NoneToSpare, ActsOnce, AwaitedIsPending};
 
 /// After every legal history, the pending orders of each BSC, applied to what it has reported, give its part of the

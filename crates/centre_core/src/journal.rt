@@ -7,7 +7,7 @@ ghost use mathlib.Core.Option.{none};
 ghost use Rattle.mirror.specs.Table.{counted};
 ghost use Rattle.centre_core.specs.contracts.journal.Journal.{the_row};
 
-use crate::entry::Entry;
+use centre_events::entry::Entry;
 use std::alloc::{AllocError, Global};
 use std::marker::Model;
 

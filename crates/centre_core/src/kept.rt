@@ -1,9 +1,9 @@
 //! What a centre keeps beside its journal.
 
-use crate::flight::Flight;
 use crate::link::Link;
 use areas::Areas;
 use cell_register::Register;
+use centre_events::flight::Flight;
 use kept_tables::KeptTables;
 use std::alloc::Global;
 use warning_book::Book;
@@ -22,9 +22,9 @@ pub(crate) struct Kept {
 
 impl Kept {
     ghost use Rattle.std.specs.Prelude.{◌≡◌};
-    ghost use Rattle.centre_core.specs.Base.{empty_base};
+    ghost use Rattle.centre_events.specs.Base.{empty_base};
     ghost use Rattle.centre_core.specs.IsKept.{IsKept};
-    ghost use Rattle.centre_core.specs.Past.{From};
+    ghost use Rattle.centre_events.specs.Past.{From};
 
     /// Of a centre without entries.
     pub(crate) fn new(alloc: Global) -> Kept

@@ -8,23 +8,23 @@ ghost use Rattle.common.specs.Order.{each_once};
 ghost use Rattle.common.specs.declared.cell.Cell.{Cell};
 ghost use Rattle.mirror.specs.declared.presence.Presence.TheVariants.{Absent};
 ghost use Rattle.centre_core.specs.Beginning.{AreTheCells, CountsNoOther, AreTheBscs, CountsNoOtherBsc};
-ghost use Rattle.centre_core.specs.Counts.{count};
-ghost use Rattle.centre_core.specs.Down.{is_down};
-ghost use Rattle.centre_core.specs.Effects.{is_among};
-ghost use Rattle.centre_core.specs.InFlight.{in_flight, id_of, cells_of};
+ghost use Rattle.centre_events.specs.Counts.{count};
+ghost use Rattle.centre_events.specs.Down.{is_down};
+ghost use Rattle.centre_events.specs.Effects.{is_among};
+ghost use Rattle.centre_events.specs.InFlight.{in_flight, id_of, cells_of};
 ghost use Rattle.centre_core.specs.Issued.{IsBookOf};
-ghost use Rattle.centre_core.specs.Known.{is_known};
+ghost use Rattle.centre_events.specs.Known.{is_known};
 ghost use Rattle.centre_core.specs.Legal.{Legal};
-ghost use Rattle.centre_core.specs.Links.{bscs, is_bsc};
-ghost use Rattle.centre_core.specs.Past.{Past};
-ghost use Rattle.centre_core.specs.Pending.{all_actions};
-ghost use Rattle.centre_core.specs.Places.{cells};
-ghost use Rattle.centre_core.specs.Presence.{presence, hold, is_held};
-ghost use Rattle.centre_core.specs.Reported.{names_serial};
-ghost use Rattle.centre_core.specs.Settings.{Settings};
-ghost use Rattle.centre_core.specs.Warnings.{is_key};
+ghost use Rattle.centre_events.specs.Links.{bscs, is_bsc};
+ghost use Rattle.centre_events.specs.Past.{Past};
+ghost use Rattle.centre_events.specs.Pending.{all_actions};
+ghost use Rattle.centre_events.specs.Places.{cells};
+ghost use Rattle.centre_events.specs.Presence.{presence, hold, is_held};
+ghost use Rattle.centre_events.specs.Reported.{names_serial};
+ghost use Rattle.centre_events.specs.Settings.{Settings};
+ghost use Rattle.centre_events.specs.Warnings.{is_key};
 ghost use Rattle.order_maker.specs.declared.action.Action.{Action};
-ghost use Rattle.centre_core.specs.declared.in_flight.InFlight.{InFlight};
+ghost use Rattle.centre_events.specs.declared.in_flight.InFlight.{InFlight};
 
 /// Lemma: after every legal history the book has the warnings that were issued and not forgotten, in the order of issue.
 /// A warning is active where its last Issue, Stop or Forget is the Issue. Its areas are those of its Issue, with each

@@ -9,18 +9,18 @@ ghost use Rattle.mirror.specs.Line.{state_of};
 ghost use Rattle.mirror.specs.declared.line.Line.{Line};
 ghost use Rattle.warning_book.specs.Book.{warning_of};
 ghost use Rattle.warning_book.specs.declared.warning.Warning.{Warning};
-ghost use Rattle.centre_core.specs.Counts.{count_at};
-ghost use Rattle.centre_core.specs.Down.{is_down};
-ghost use Rattle.centre_core.specs.Facts.{IsLineOf, facts_of, key_state, line_of};
+ghost use Rattle.centre_events.specs.Counts.{count_at};
+ghost use Rattle.centre_events.specs.Down.{is_down};
+ghost use Rattle.centre_events.specs.Facts.{IsLineOf, facts_of, key_state, line_of};
 ghost use Rattle.centre_core.specs.Legal.{Legal};
-ghost use Rattle.centre_core.specs.Kept.{IsRegisterOf, AreAreasOf};
-ghost use Rattle.centre_core.specs.Past.{Past, After, position};
-ghost use Rattle.centre_core.specs.Presence.{effect_at};
-ghost use Rattle.centre_core.specs.Settings.{Settings};
-ghost use Rattle.centre_core.specs.Warnings.{book_of, is_version};
-ghost use Rattle.centre_core.specs.Stepping.{stepped, updates_once, WasLine};
+ghost use Rattle.centre_events.specs.Kept.{IsRegisterOf, AreAreasOf};
+ghost use Rattle.centre_events.specs.Past.{Past, After, position};
+ghost use Rattle.centre_events.specs.Presence.{effect_at};
+ghost use Rattle.centre_events.specs.Settings.{Settings};
+ghost use Rattle.centre_events.specs.Warnings.{book_of, is_version};
+ghost use Rattle.centre_events.specs.Stepping.{stepped, updates_once, WasLine};
 ghost use Rattle.centre_core.specs.State.{AreLinksOf, links_after, facts_from};
-ghost use Rattle.centre_core.specs.declared.entry.Entry.{Entry};
+ghost use Rattle.centre_events.specs.declared.entry.Entry.{Entry};
 ghost use Rattle.centre_core.specs.declared.link.Link.{Link};
 
 #[tactic(auto, using(crate::proofs::LinkLemmas::links_with))]

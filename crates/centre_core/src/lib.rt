@@ -6,19 +6,12 @@
 //! that contracts cite are in `specs/`, beginning with `Past` and `IsKept`.
 #![tactic(auto)]
 
-pub mod answer;
 pub mod centre;
-mod counts;
 mod downs;
-mod effect;
-mod effects;
 mod entering;
-pub mod entry;
-pub mod event;
 mod events;
 mod facts;
 mod finishing;
-mod flight;
 mod flights;
 mod follow_lemmas;
 mod following;
@@ -26,7 +19,6 @@ pub mod headline;
 mod held;
 mod hold_lemmas;
 mod holding;
-pub mod in_flight;
 mod journal;
 mod kept;
 pub mod laws;
@@ -35,20 +27,14 @@ mod link;
 mod links;
 mod looking;
 pub mod meter;
-pub mod outcome;
 mod outside_lemmas;
 mod questions;
 mod reach;
 mod reached;
 mod reached_warnings;
 mod rebuilding;
-pub mod refusal;
-pub mod replies;
-pub mod reply;
-mod replying;
 pub mod reported;
 mod spots;
-mod stepping;
 
 pub use areas::Selector;
 pub use cell_register::BscId;

@@ -3,9 +3,9 @@
 ghost use Rattle.std.specs.Prelude.{◌≡◌, OnOk};
 ghost use Rattle.centre_core.specs.State.{link_in, up_of, generation_of, without_link, with_link, links_edited, links_after};
 
-use crate::event::Event;
 use crate::link::Link;
 use cell_register::BscId;
+use centre_events::event::Event;
 use coverage_plan::Edit;
 use std::alloc::AllocError;
 

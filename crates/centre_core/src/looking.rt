@@ -5,21 +5,21 @@ ghost use Rattle.std.specs.Prelude.{◌≡◌, ◌<◌, ◌≤◌, ◌+◌, List
 ghost use Rattle.centre_core.specs.Centre.{IsCentre, IsRefused};
 ghost use Rattle.centre_core.specs.Following.{WasReached};
 ghost use Rattle.centre_core.specs.IsKept.{OnlyReadsIn};
-ghost use Rattle.centre_core.specs.Kept.{Gives, IsChecked, is_edit};
-ghost use Rattle.centre_core.specs.Past.{past_of};
+ghost use Rattle.centre_events.specs.Kept.{Gives, IsChecked, is_edit};
+ghost use Rattle.centre_events.specs.Past.{past_of};
 ghost use Rattle.centre_core.specs.Reach.{edit_reach, looked_at, reach, size};
-ghost use Rattle.centre_core.specs.Verdict.{verdict};
-ghost use Rattle.centre_core.specs.declared.answer.Answer as answer_spec;
-ghost use Rattle.centre_core.specs.declared.event.Event.TheVariants as event;
+ghost use Rattle.centre_events.specs.Verdict.{verdict};
+ghost use Rattle.centre_events.specs.declared.answer.Answer as answer_spec;
+ghost use Rattle.centre_events.specs.declared.event.Event.TheVariants as event;
 
-use crate::answer::Answer;
-use crate::event::Event;
 use crate::events::{self, Verdict, check_edit, tell_known};
 use crate::journal::Journal;
 use crate::kept::Kept;
 use crate::reach::tell_lines;
 use crate::reached::{Reached, reached_by_edit, reached_by_other};
-use crate::refusal::Refusal;
+use centre_events::answer::Answer;
+use centre_events::event::Event;
+use centre_events::refusal::Refusal;
 use coverage_plan::Edit;
 use std::alloc::Global;
 

@@ -3,16 +3,16 @@
 ghost use Rattle.std.specs.Prelude.{◌≡◌, ◌≤◌, ℕ, false, Some, Ok, length};
 ghost use Rattle.kept_tables.specs.Same.{SamePart};
 ghost use Rattle.mirror.specs.declared.line_key.LineKey.{LineKey};
-ghost use Rattle.centre_core.specs.Facts.{facts};
-ghost use Rattle.centre_core.specs.InFlight.{in_flight};
+ghost use Rattle.centre_events.specs.Facts.{facts};
+ghost use Rattle.centre_events.specs.InFlight.{in_flight};
 ghost use Rattle.centre_core.specs.Legal.{Legal};
-ghost use Rattle.centre_core.specs.Past.{Past, After};
+ghost use Rattle.centre_events.specs.Past.{Past, After};
 ghost use Rattle.centre_core.specs.Reach.{bears, reach_of, numbers_where};
-ghost use Rattle.centre_core.specs.Reported.{names_warning};
-ghost use Rattle.centre_core.specs.Settings.{Settings};
-ghost use Rattle.centre_core.specs.Verdict.{verdict};
-ghost use Rattle.centre_core.specs.declared.entry.Entry.{Entry};
-ghost use Rattle.centre_core.specs.declared.in_flight.InFlight.{InFlight};
+ghost use Rattle.centre_events.specs.Reported.{names_warning};
+ghost use Rattle.centre_events.specs.Settings.{Settings};
+ghost use Rattle.centre_events.specs.Verdict.{verdict};
+ghost use Rattle.centre_events.specs.declared.entry.Entry.{Entry};
+ghost use Rattle.centre_events.specs.declared.in_flight.InFlight.{InFlight};
 
 #[tactic(auto, using(crate::proofs::OutsideLemmas::outside))]
 fn outside()

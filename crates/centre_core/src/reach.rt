@@ -2,20 +2,20 @@
 
 ghost use Rattle.std.specs.Prelude.{◌≡◌, IfOk};
 ghost use Rattle.std.specs.Option.{option_copied};
-ghost use Rattle.centre_core.specs.InFlight.{in_flight};
-ghost use Rattle.centre_core.specs.Past.{Past};
+ghost use Rattle.centre_events.specs.InFlight.{in_flight};
+ghost use Rattle.centre_events.specs.Past.{Past};
 ghost use Rattle.centre_core.specs.Reach.{IsReach, flight_reach, edit_reach, report_reach, reach_of};
 ghost use Rattle.centre_core.specs.Reaching.{AreThose, TellsLines, EditTold, EventTold};
-ghost use Rattle.centre_core.specs.Settings.{Settings};
+ghost use Rattle.centre_events.specs.Settings.{Settings};
 
-use crate::answer::Answer;
-use crate::event::Event;
-use crate::in_flight::InFlight;
 use crate::reached_warnings;
-use crate::replying::cells_of;
 use crate::spots::{covered, known_among, known_at, moved, named, placed, spots_at};
 use areas::Areas;
 use cell_register::{BscId, Register};
+use centre_events::answer::Answer;
+use centre_events::event::Event;
+use centre_events::in_flight::InFlight;
+use centre_events::replying::cells_of;
 use coverage_plan::Edit;
 use kept_tables::Spot;
 use mirror::LineTable;

@@ -1,26 +1,24 @@
 //! The warnings on whose lines an event bears.
 
 ghost use Rattle.std.specs.Prelude.{◌≡◌, ◌+◌, ◌<◌, ◌∷◌, [], ℕ, filter, map, Ok, IfOk};
-ghost use Rattle.std.specs.List.{list_any};
 ghost use Rattle.std.specs.Option.{option_copied};
-ghost use Rattle.centre_core.specs.InFlight.{in_flight};
-ghost use Rattle.centre_core.specs.Past.{Past};
+ghost use Rattle.centre_events.specs.InFlight.{in_flight};
+ghost use Rattle.centre_events.specs.Past.{Past};
 ghost use Rattle.centre_core.specs.Reach.{flight_reach, edit_reach, report_reach, reach_of};
 ghost use Rattle.centre_core.specs.Reaching.{IsFlightOf, bsc_of};
-ghost use Rattle.centre_core.specs.Reported.{names_serial, names_warning};
-ghost use Rattle.centre_core.specs.Verdict.{edit_answered};
-ghost use Rattle.centre_core.specs.Warnings.{book_of};
-ghost use Rattle.centre_core.specs.declared.answer.Answer.{Answer};
+ghost use Rattle.centre_events.specs.Reported.{names_warning};
+ghost use Rattle.centre_events.specs.Verdict.{edit_answered};
+ghost use Rattle.centre_events.specs.Warnings.{book_of};
+ghost use Rattle.centre_events.specs.declared.answer.Answer.{Answer};
 
-use crate::answer::Answer;
-use crate::event::Event;
-use crate::in_flight::InFlight;
-use crate::replying::id_of;
+use centre_events::answer::Answer;
+use centre_events::event::Event;
+use centre_events::in_flight::InFlight;
+use centre_events::naming::names_one;
+use centre_events::replying::id_of;
 use coverage_plan::Edit;
-use order_maker::OrderKind;
-use serials::Serial;
 use std::alloc::{AllocError, Global};
-use warning_book::{Book, Version, Warning, WarningId};
+use warning_book::{Book, Warning, WarningId};
 
 /// The number that the next warning gets, while one is left.
 fn next_number(book: &Book) -> WarningId
@@ -55,28 +53,6 @@ pub(crate) fn of_edit(alloc: Global, book: &Book, edit: &Edit) -> Result<Vec<War
         Edit::AddBsc(_) | Edit::AddArea(_) | Edit::DropArea(_) => Vec::new(alloc),
     };
     Ok(numbers)
-}
-
-/// Whether it writes, replaces, kills or asks for the version of that serial number.
-pub(crate) fn names_serial(flight: &InFlight, serial: Serial) -> bool
-    ensures { result ≡ names_serial flight.now serial }
-{
-    match flight {
-        InFlight::Order(order) => match order.kind {
-            OrderKind::Replace { old } => order.serial == serial || old == serial,
-            OrderKind::Write | OrderKind::Kill => order.serial == serial,
-        },
-        InFlight::Query { serial: asked, .. } => *asked == serial,
-    }
-}
-
-/// Whether it names one of the versions.
-fn names_one(flight: &InFlight, versions: &[Version]) -> bool
-    ensures { result ≡ list_any (λ v. names_serial flight.now v.serial) versions.now }
-{
-    versions
-        .iter()
-        .any(|version| names_serial(flight, version.serial))
 }
 
 /// Whether it names a version of the warning.

@@ -5,18 +5,18 @@ ghost use Rattle.mirror.specs.Table.{counted};
 ghost use Rattle.centre_core.specs.Following.{Follows, IsLegal};
 ghost use Rattle.centre_core.specs.IsKept.{IsKept};
 ghost use Rattle.centre_core.specs.Journal.{counted_by};
-ghost use Rattle.centre_core.specs.Kept.{is_edit};
-ghost use Rattle.centre_core.specs.Past.{After, past_of};
-ghost use Rattle.centre_core.specs.declared.event.Event.TheVariants as event;
+ghost use Rattle.centre_events.specs.Kept.{is_edit};
+ghost use Rattle.centre_events.specs.Past.{After, past_of};
+ghost use Rattle.centre_events.specs.declared.event.Event.TheVariants as event;
 
 use crate::entering::{make_again, up_before};
-use crate::entry::Entry;
-use crate::event::Event;
 use crate::events::tell_reads;
 use crate::finishing::finish;
 use crate::journal::Journal;
 use crate::kept::Kept;
 use crate::reached::{reached_by_edit, reached_by_other};
+use centre_events::entry::Entry;
+use centre_events::event::Event;
 use coverage_plan::Edit;
 use std::alloc::{AllocError, Global};
 

@@ -2,11 +2,11 @@
 use Rattle.std.proofs.Common.{◌≡◌, inl, ℕ, true, false, List, refl, sym, ap, subst}
 use Rattle.std.specs.Bool.{MatchBool}
 use Rattle.centre_core.specs.Legal.{past}
-use Rattle.centre_core.specs.Links.{is_bsc}
-use Rattle.centre_core.specs.Pending.{pending}
+use Rattle.centre_events.specs.Links.{is_bsc}
+use Rattle.centre_events.specs.Pending.{pending}
 use Rattle.centre_core.specs.Table.{table}
 use Rattle.centre_core.specs.declared.reported.reported_key.ReportedKey.{ReportedKey}
-use Rattle.centre_core.specs.declared.refusal.Refusal.TheVariants as refusal
+use Rattle.centre_events.specs.declared.refusal.Refusal.TheVariants as refusal
 use Rattle.order_maker.specs.declared.order.Order.{Order}
 use Rattle.console.specs.Sessions.{SessionState, Says, AsksBsc, RespondsOrStarves}
 use Rattle.console.specs.declared.line.Line.TheVariants as line

@@ -6,9 +6,9 @@ use Rattle.std.proofs.KnownBytes.{Appends-trans, Consumes-nil, Consumes-trans}
 use Rattle.std.specs.Io.KnownBytes.{Appends, Consumes, IsAtEnd}
 use Rattle.framing.specs.Source.{counted}
 use Rattle.cbsp_messages.specs.declared.message_type.MessageType.{MessageType}
-use Rattle.centre_core.specs.declared.event.Event.{Event}
-use Rattle.centre_core.specs.declared.event.Event.TheVariants as event
-use Rattle.centre_core.specs.declared.refusal.Refusal.TheVariants as refusal
+use Rattle.centre_events.specs.declared.event.Event.{Event}
+use Rattle.centre_events.specs.declared.event.Event.TheVariants as event
+use Rattle.centre_events.specs.declared.refusal.Refusal.TheVariants as refusal
 use Rattle.console.specs.Consoles.{ConsoleState, EndsLine, BreaksInLine, BreaksLine, Stops, Reads, ReadsAndStops, IsWritten}
 use Rattle.console.specs.Generations.{generation_of}
 use Rattle.console.specs.Grammar.{line_of}

@@ -3,12 +3,12 @@ use Rattle.std.proofs.Common.{◌≡◌, ◌⊎◌, inl, inr, ℕ, true, false, 
 use Rattle.cbsp_messages.specs.declared.message_type.MessageType.{MessageType}
 use Rattle.centre_core.specs.Centre.{Leaves, Refuses}
 use Rattle.centre_core.specs.Legal.{Known, past}
-use Rattle.centre_core.specs.Verdict.{verdict}
+use Rattle.centre_events.specs.Verdict.{verdict}
 use Rattle.centre_core.specs.VerdictLaws.{verdict_is_no_want}
-use Rattle.centre_core.specs.declared.answer.Answer.{Answer}
-use Rattle.centre_core.specs.declared.event.Event.{Event}
-use Rattle.centre_core.specs.declared.refusal.Refusal.{Refusal}
-use Rattle.centre_core.specs.declared.refusal.Refusal.TheVariants as refusal
+use Rattle.centre_events.specs.declared.answer.Answer.{Answer}
+use Rattle.centre_events.specs.declared.event.Event.{Event}
+use Rattle.centre_events.specs.declared.refusal.Refusal.{Refusal}
+use Rattle.centre_events.specs.declared.refusal.Refusal.TheVariants as refusal
 use Rattle.framing.specs.declared.frame.Frame.{Frame}
 use Rattle.console.specs.Sessions.{SessionState, verdict_in, entry_of, ReportsBody, ReportsFrame, report_type, SubmitsOrStarves, BodyStarves, FrameStarves}
 use Rattle.console.specs.declared.kept.Kept.{Kept}

@@ -12,15 +12,15 @@ use Rattle.cbsp_messages.specs.declared.message_type.MessageType.{MessageType}
 use Rattle.cbsp_messages.specs.declared.message_type.MessageType.TheVariants as type
 use Rattle.cbsp_messages.proofs.UniqueLemmas.{no_fault_if_spelled, not_whole, one_cut_fault, one_message_at_most, one_whole_fault}
 use Rattle.centre_core.specs.Legal.{past}
-use Rattle.centre_core.specs.Links.{is_bsc}
+use Rattle.centre_events.specs.Links.{is_bsc}
 use Rattle.centre_core.specs.Numbers.{area_board, board}
-use Rattle.centre_core.specs.Pending.{pending}
+use Rattle.centre_events.specs.Pending.{pending}
 use Rattle.centre_core.specs.Table.{table}
-use Rattle.centre_core.specs.declared.answer.Answer.{Answer}
-use Rattle.centre_core.specs.declared.event.Event.{Event}
-use Rattle.centre_core.specs.declared.event.Event.TheVariants as event
-use Rattle.centre_core.specs.declared.refusal.Refusal.{Refusal}
-use Rattle.centre_core.specs.declared.refusal.Refusal.TheVariants as refusal
+use Rattle.centre_events.specs.declared.answer.Answer.{Answer}
+use Rattle.centre_events.specs.declared.event.Event.{Event}
+use Rattle.centre_events.specs.declared.event.Event.TheVariants as event
+use Rattle.centre_events.specs.declared.refusal.Refusal.{Refusal}
+use Rattle.centre_events.specs.declared.refusal.Refusal.TheVariants as refusal
 use Rattle.coverage_board.specs.declared.numbers.Numbers.{Numbers}
 use Rattle.console.specs.Generations.{generation_of}
 use Rattle.console.specs.Grammar.{line_of}

@@ -4,20 +4,20 @@ use Rattle.std.specs.Bool.{MatchBool}
 use Rattle.std.specs.Prelude.{MatchOption}
 use Rattle.cbsp_messages.specs.declared.message_type.MessageType.{MessageType}
 use Rattle.centre_core.specs.Legal.{past}
-use Rattle.centre_core.specs.Links.{is_bsc}
-use Rattle.centre_core.specs.Cover.{is_area}
+use Rattle.centre_events.specs.Links.{is_bsc}
+use Rattle.centre_events.specs.Cover.{is_area}
 use Rattle.centre_core.specs.Numbers.{area_board, area_total, board, warning_area}
-use Rattle.centre_core.specs.Past.{Past}
-use Rattle.centre_core.specs.Pending.{pending}
+use Rattle.centre_events.specs.Past.{Past}
+use Rattle.centre_events.specs.Pending.{pending}
 use Rattle.centre_core.specs.Table.{table}
-use Rattle.centre_core.specs.Warnings.{book_of}
+use Rattle.centre_events.specs.Warnings.{book_of}
 use Rattle.centre_core.specs.VerdictLaws.{is_given, verdict_given}
-use Rattle.centre_core.specs.declared.answer.Answer.{Answer}
-use Rattle.centre_core.specs.declared.answer.Answer.TheVariants as answer
-use Rattle.centre_core.specs.declared.event.Event.{Event}
-use Rattle.centre_core.specs.declared.event.Event.TheVariants as event
-use Rattle.centre_core.specs.declared.refusal.Refusal.{Refusal}
-use Rattle.centre_core.specs.declared.refusal.Refusal.TheVariants as refusal
+use Rattle.centre_events.specs.declared.answer.Answer.{Answer}
+use Rattle.centre_events.specs.declared.answer.Answer.TheVariants as answer
+use Rattle.centre_events.specs.declared.event.Event.{Event}
+use Rattle.centre_events.specs.declared.event.Event.TheVariants as event
+use Rattle.centre_events.specs.declared.refusal.Refusal.{Refusal}
+use Rattle.centre_events.specs.declared.refusal.Refusal.TheVariants as refusal
 use Rattle.coverage_board.specs.declared.numbers.Numbers.{Numbers}
 use Rattle.warning_book.specs.Book.{names, warning_of}
 use Rattle.warning_book.specs.declared.warning.Warning.{Warning}

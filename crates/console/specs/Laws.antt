@@ -6,7 +6,7 @@ use Rattle.cbsp_messages.specs.Message.{type_of}
 use Rattle.cbsp_messages.specs.MessageType.{code_of}
 use Rattle.cbsp_messages.specs.Written.{frame_of, written}
 use Rattle.cbsp_messages.specs.declared.message.Message.{Message}
-use Rattle.centre_core.specs.declared.refusal.Refusal.TheVariants as refusal
+use Rattle.centre_events.specs.declared.refusal.Refusal.TheVariants as refusal
 use Rattle.framing.specs.Streams.{Cuts}
 use Rattle.framing.specs.declared.frame.Frame.{Frame}
 use Rattle.console.specs.Sessions.{SessionState, Answers}

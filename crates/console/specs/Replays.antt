@@ -2,7 +2,7 @@
 use Rattle.std.specs.Prelude.{◌≡◌, ◌⊎◌, ℕ, ◌≤◌, List, [], ◌∷◌, ◌++◌, length, Option}
 use Rattle.std.specs.Io.KnownBytes.{Appends, Consumes, IsAtEnd}
 use Rattle.centre_core.specs.Legal.{new_centre}
-use Rattle.centre_core.specs.declared.refusal.Refusal.TheVariants as refusal
+use Rattle.centre_events.specs.declared.refusal.Refusal.TheVariants as refusal
 use Rattle.console.specs.Consoles.{BeginsLong, IsWritten}
 use Rattle.console.specs.Sessions.{SessionState, LineStarves}
 use Rattle.console.specs.Text.{longest_line, without_return, lines_of, IsText, IsTextOrStarves}

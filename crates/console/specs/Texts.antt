@@ -10,14 +10,14 @@ use Rattle.cbsp_messages.specs.declared.message.Message.{Message}
 use Rattle.cbsp_messages.specs.declared.fault.MessageFault.{MessageFault}
 use Rattle.cbsp_messages.specs.declared.fault.MessageFault.TheVariants as fault
 use Rattle.centre_core.specs.Fits.{AnswerFits}
-use Rattle.centre_core.specs.Refusals.{refusal_number}
-use Rattle.centre_core.specs.declared.answer.Answer.{Answer}
-use Rattle.centre_core.specs.declared.answer.Answer.TheVariants as answer
+use Rattle.centre_events.specs.Refusals.{refusal_number}
+use Rattle.centre_events.specs.declared.answer.Answer.{Answer}
+use Rattle.centre_events.specs.declared.answer.Answer.TheVariants as answer
 use Rattle.centre_core.specs.declared.reported.reported_key.ReportedKey.{ReportedKey}
-use Rattle.centre_core.specs.declared.refusal.Limit.{Limit}
-use Rattle.centre_core.specs.declared.refusal.Limit.TheVariants as limit
-use Rattle.centre_core.specs.declared.refusal.Refusal.{Refusal}
-use Rattle.centre_core.specs.declared.refusal.Refusal.TheVariants as refusal
+use Rattle.centre_events.specs.declared.refusal.Limit.{Limit}
+use Rattle.centre_events.specs.declared.refusal.Limit.TheVariants as limit
+use Rattle.centre_events.specs.declared.refusal.Refusal.{Refusal}
+use Rattle.centre_events.specs.declared.refusal.Refusal.TheVariants as refusal
 use Rattle.coverage_board.specs.declared.numbers.Numbers.{Numbers}
 use Rattle.hex.specs.Hex.{encode_lower, encode_upper}
 use Rattle.mirror.specs.declared.presence.Presence.{Presence}

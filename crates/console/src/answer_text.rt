@@ -10,8 +10,8 @@ use crate::list_text::{pending_text, table_text};
 use crate::response::Response;
 use cbsp_ie::IeFault;
 use cbsp_messages::{Message, MessageFault, write};
-use centre_core::answer::Answer;
-use centre_core::refusal::{Limit, Refusal};
+use centre_events::answer::Answer;
+use centre_events::refusal::{Limit, Refusal};
 use coverage_board::Numbers;
 use std::alloc::{AllocError, Global};
 

@@ -14,10 +14,10 @@ use crate::response::Response;
 use crate::words::split_words;
 use cbsp_messages::{MessageFault, MessageType, read_as};
 use cell_register::BscId;
-use centre_core::answer::Answer;
 use centre_core::centre::Centre;
-use centre_core::event::Event;
-use centre_core::refusal::Refusal;
+use centre_events::answer::Answer;
+use centre_events::event::Event;
+use centre_events::refusal::Refusal;
 use common::{Cell, Name, Names};
 use coverage_plan::Edit;
 use framing::Frame;
@@ -46,7 +46,7 @@ impl Model for Session {
 
 impl Session {
     ghost use Rattle.std.specs.Prelude.{◌≡◌, ◌≤◌, ◌⊎◌, IfOk};
-    ghost use Rattle.centre_core.specs.declared.event.Event.TheVariants as event;
+    ghost use Rattle.centre_events.specs.declared.event.Event.TheVariants as event;
     ghost use Rattle.console.specs.Texts.{ResponseFits};
     ghost use Rattle.console.specs.Replays.{new_session};
     ghost use Rattle.console.specs.Sessions.{AnswersOrStarves, BodyStarves, FrameStarves, ReportsBody, ReportsFrame, RespondsOrStarves, SubmitsOrStarves};

@@ -6,8 +6,8 @@ use cbsp_messages::{
     WriteComplete, WriteFailure,
 };
 use centre_core::centre::Centre;
-use centre_core::event::Event;
 use centre_core::{Content, ContentPages, Notice, Scope, Serial};
+use centre_events::event::Event;
 use common::{Cell, Cells, Name, Names, Octets};
 use coverage_plan::Edit;
 use std::alloc::{AllocError, Global};

@@ -5,9 +5,9 @@ ghost use Rattle.std.specs.Prelude.{◌≡◌};
 
 use crate::centre_events::{PLMN, SEVEN, coast};
 use cell_register::BscId;
-use centre_core::answer::Answer;
-use centre_core::event::Event;
-use centre_core::refusal::{Limit, Refusal};
+use centre_events::answer::Answer;
+use centre_events::event::Event;
+use centre_events::refusal::{Limit, Refusal};
 use common::Cell;
 use coverage_plan::Edit;
 use office::desk::Desk;

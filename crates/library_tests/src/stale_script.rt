@@ -8,7 +8,7 @@ use areas::Selector;
 use cbsp_ie::Cause;
 use cell_register::BscId;
 use centre_core::WarningId;
-use centre_core::event::Event;
+use centre_events::event::Event;
 use coverage_plan::Edit;
 use std::alloc::{AllocError, Global};
 use std::test::Fail;

@@ -4,7 +4,7 @@ use Rattle.std.proofs.lemmas.Bool.{and_parts, cases_eq}
 use Rattle.std.proofs.lemmas.Bool.Decides.{nat_tests}
 use Rattle.std.proofs.lemmas.List.{length-append, length-set, get_or_append_left, get_or-append-add, get_or-set_same, get_or-set_other}
 use Rattle.std.proofs.lemmas.List.Elements.{All-push, All-weaker}
-use Rattle.centre_core.specs.declared.entry.Entry.{Entry}
+use Rattle.centre_events.specs.declared.entry.Entry.{Entry}
 use Rattle.office.specs.Desks.{DeskState}
 use Rattle.office.specs.Helds.{IsByOpened, IsHeld, RowsFit, fits, no_row, row_of}
 use Rattle.office.specs.Receipts.{receipt_of, receipts_of, last_place}

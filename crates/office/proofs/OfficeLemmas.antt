@@ -3,9 +3,9 @@ use Rattle.std.proofs.Common.{◌≡◌, ℕ, Bool, true, false, Result, Ok, Err
 use Rattle.centre_core.specs.Centre.{Refuses}
 use Rattle.centre_core.specs.Headline.{PendingGivesPlan}
 use Rattle.centre_core.specs.Legal.{Known, Legal, past}
-use Rattle.centre_core.specs.declared.event.Event.{Event}
-use Rattle.centre_core.specs.declared.refusal.Refusal.{Refusal}
-use Rattle.centre_core.specs.declared.refusal.Refusal.TheVariants as refusal
+use Rattle.centre_events.specs.declared.event.Event.{Event}
+use Rattle.centre_events.specs.declared.refusal.Refusal.{Refusal}
+use Rattle.centre_events.specs.declared.refusal.Refusal.TheVariants as refusal
 use Rattle.office.specs.Desks.{DeskState}
 use Rattle.office.specs.Helds.{IsEntered, fits}
 use Rattle.office.specs.Offices.{IsRefusedSomewhere, IsSeenSomewhere, IsSubmitted, IsUnseenSomewhere, Meets}

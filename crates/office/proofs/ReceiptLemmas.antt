@@ -2,7 +2,7 @@
 use Rattle.std.proofs.Common.{◌≡◌, ℕ, ◌+◌, ◌<◌, ◌≤◌, ◌==◌, Bool, true, false, List, [], ◌∷◌, ◌++◌, length, refl, sym, ap, ◌∙◌, arith, All, if◌then◌else◌, true≢false, append-nil}
 use Rattle.std.proofs.lemmas.Bool.Decides.{nat_tests}
 use Rattle.std.proofs.lemmas.List.Elements.{All-head, All-tail}
-use Rattle.centre_core.specs.declared.entry.Entry.{Entry}
+use Rattle.centre_events.specs.declared.entry.Entry.{Entry}
 use Rattle.office.specs.Helds.{IsByOpened}
 use Rattle.office.specs.Receipts.{receipt_of, receipts_from, receipts_of, last_place, last_place_or}
 use Rattle.office.specs.declared.receipt.Receipt.{Receipt}

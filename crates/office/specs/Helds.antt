@@ -2,10 +2,10 @@
 use Rattle.std.specs.Prelude.{◌≡◌, ◌≤◌, ◌<◌, ◌+◌, ◌++◌, ◌==◌, ◌&&◌, ℕ, Bool, false, List, [], ◌∷◌, Ok, length, All, nat_lt, nat_le, get_or}
 use Rattle.centre_core.specs.Fits.{AnswerFits}
 use Rattle.centre_core.specs.Legal.{Known, past}
-use Rattle.centre_core.specs.Verdict.{verdict}
-use Rattle.centre_core.specs.declared.answer.Answer.{Answer}
-use Rattle.centre_core.specs.declared.entry.Entry.{Entry}
-use Rattle.centre_core.specs.declared.event.Event.{Event}
+use Rattle.centre_events.specs.Verdict.{verdict}
+use Rattle.centre_events.specs.declared.answer.Answer.{Answer}
+use Rattle.centre_events.specs.declared.entry.Entry.{Entry}
+use Rattle.centre_events.specs.declared.event.Event.{Event}
 use Rattle.office.specs.Desks.{DeskState}
 use Rattle.office.specs.Receipts.{receipts_of, last_place}
 use Rattle.office.specs.declared.receipt.Receipt.{Receipt}

@@ -5,11 +5,11 @@ use Rattle.centre_core.specs.Centre.{Refuses}
 use Rattle.centre_core.specs.Fits.{AnswerFits}
 use Rattle.centre_core.specs.Headline.{PendingGivesPlan}
 use Rattle.centre_core.specs.Legal.{Known, Legal, past}
-use Rattle.centre_core.specs.Verdict.{verdict}
-use Rattle.centre_core.specs.declared.answer.Answer.{Answer}
-use Rattle.centre_core.specs.declared.event.Event.{Event}
-use Rattle.centre_core.specs.declared.refusal.Refusal.{Refusal}
-use Rattle.centre_core.specs.declared.refusal.Refusal.TheVariants as refusal
+use Rattle.centre_events.specs.Verdict.{verdict}
+use Rattle.centre_events.specs.declared.answer.Answer.{Answer}
+use Rattle.centre_events.specs.declared.event.Event.{Event}
+use Rattle.centre_events.specs.declared.refusal.Refusal.{Refusal}
+use Rattle.centre_events.specs.declared.refusal.Refusal.TheVariants as refusal
 use Rattle.office.specs.Desks.{DeskState}
 use Rattle.office.specs.Helds.{receipt_at}
 use Rattle.office.specs.Questions.{RefusesQuestion, Shows}

@@ -1,6 +1,6 @@
 -- The receipts of a desk: its entries in the journal, in their order, with their places.
 use Rattle.std.specs.Prelude.{ℕ, ◌+◌, ◌==◌, List, [], ◌∷◌, if◌then◌else◌}
-use Rattle.centre_core.specs.declared.entry.Entry.{Entry}
+use Rattle.centre_events.specs.declared.entry.Entry.{Entry}
 use Rattle.office.specs.declared.receipt.Receipt.{Receipt}
 
 -- the receipt of an entry at its place

@@ -1,6 +1,6 @@
 -- When a journal is a shuffle of what the desks have as receipts, and why an office can't be settled.
 use Rattle.std.specs.Prelude.{◌≡◌, ◌≢◌, ◌<◌, ◌≤◌, ◌-◌, ℕ, List, [], ◌∷◌, Some, slice_get, All, Any}
-use Rattle.centre_core.specs.declared.entry.Entry.{Entry}
+use Rattle.centre_events.specs.declared.entry.Entry.{Entry}
 use Rattle.office.specs.Desks.{DeskState}
 use Rattle.office.specs.Helds.{IsByOpened, entry_of}
 use Rattle.office.specs.Receipts.{receipts_of}

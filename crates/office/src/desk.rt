@@ -1,8 +1,8 @@
 //! A desk: the receipts of one caller.
 
 use crate::receipt::Receipt;
-use centre_core::answer::Answer;
-use centre_core::event::Event;
+use centre_events::answer::Answer;
+use centre_events::event::Event;
 use std::alloc::{AllocError, Global};
 use std::marker::Model;
 use std::sync::ledger::{Book, Ledger, Share};

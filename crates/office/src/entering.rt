@@ -8,8 +8,8 @@ ghost use Rattle.office.specs.Receipts.{last_place};
 use crate::desk::Desk;
 use crate::row::Row;
 use centre_core::centre::Centre;
-use centre_core::event::Event;
-use centre_core::refusal::Refusal;
+use centre_events::event::Event;
+use centre_events::refusal::Refusal;
 use std::sync::ledger::{Book, Ledger};
 
 /// Takes an event that the desk submits, of which the copy is kept on its receipt. A refused one changes nothing, but that the

@@ -1,7 +1,7 @@
 //! What a caller gets for an event that was accepted.
 
-use centre_core::answer::Answer;
-use centre_core::event::Event;
+use centre_events::answer::Answer;
+use centre_events::event::Event;
 
 /// An event that was accepted, what it was answered, and the number of its entry.
 #[derive(Debug, PartialEq, Eq, Drop)]

@@ -1,7 +1,7 @@
 //! The receipts of desks are compared with a journal.
 
 ghost use Rattle.std.specs.Prelude.{◌≡◌, ◌↔◌, ◌<◌, ◌≤◌, ℕ, List, length, All, Any, IsTrue, IfSome, IsNone};
-ghost use Rattle.centre_core.specs.declared.entry.Entry.{Entry};
+ghost use Rattle.centre_events.specs.declared.entry.Entry.{Entry};
 ghost use Rattle.office.specs.Desks.{DeskState};
 ghost use Rattle.office.specs.Helds.{IsByOpened, RowsFit};
 ghost use Rattle.office.specs.Receipts.{receipts_of};

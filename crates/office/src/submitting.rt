@@ -3,8 +3,8 @@
 use crate::desk::Desk;
 use crate::office::Office;
 use crate::receipt::Receipt;
-use centre_core::event::Event;
-use centre_core::refusal::Refusal;
+use centre_events::event::Event;
+use centre_events::refusal::Refusal;
 use std::sync::Wait;
 use std::sync::ledger::Ledger;
 

@@ -2,16 +2,16 @@
 
 ghost use Rattle.std.specs.Prelude.{◌≡◌, true, OnOk, OnErr, IfOk};
 ghost use Rattle.cell_register.specs.Register.{with_bsc, without_bsc};
-ghost use Rattle.centre_core.specs.Kept.{IsRegisterOf, Gives, IsChecked, is_plain};
-ghost use Rattle.centre_core.specs.Past.{Past};
+ghost use Rattle.centre_events.specs.Kept.{IsRegisterOf, Gives, IsChecked, is_plain};
+ghost use Rattle.centre_events.specs.Past.{Past};
 ghost use Rattle.centre_core.specs.State.{AreLinksOf};
-ghost use Rattle.centre_core.specs.Verdict.{add_bsc, remove_bsc};
+ghost use Rattle.centre_events.specs.Verdict.{add_bsc, remove_bsc};
 
-use crate::answer::Answer;
 use crate::link::Link;
 use crate::links::is_up;
-use crate::refusal::Refusal;
 use cell_register::{BscId, Register};
+use centre_events::answer::Answer;
+use centre_events::refusal::Refusal;
 
 /// Whether an AddBsc is accepted: the BSC is not there.
 #[tactic(auto, using(crate::proofs::RegisterLemmas::add_bsc_free, crate::proofs::RegisterLemmas::add_bsc_first))]

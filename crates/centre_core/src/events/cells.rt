@@ -2,13 +2,13 @@
 
 ghost use Rattle.std.specs.Prelude.{◌≡◌, true, OnOk, OnErr, IfOk};
 ghost use Rattle.cell_register.specs.Register.{with_cell, moved, without_cell};
-ghost use Rattle.centre_core.specs.Kept.{IsRegisterOf, Gives, IsChecked, is_plain};
-ghost use Rattle.centre_core.specs.Past.{Past};
-ghost use Rattle.centre_core.specs.Verdict.{add_cell, move_cell, remove_cell};
+ghost use Rattle.centre_events.specs.Kept.{IsRegisterOf, Gives, IsChecked, is_plain};
+ghost use Rattle.centre_events.specs.Past.{Past};
+ghost use Rattle.centre_events.specs.Verdict.{add_cell, move_cell, remove_cell};
 
-use crate::answer::Answer;
-use crate::refusal::Refusal;
 use cell_register::{BscId, Register};
+use centre_events::answer::Answer;
+use centre_events::refusal::Refusal;
 use common::Cell;
 
 /// Whether an AddCell is accepted: the BSC is there, and the cell is not.

@@ -1,32 +1,29 @@
 //! Forget, the last edit of a warning.
 
 ghost use Rattle.std.specs.Prelude.{◌≡◌, Some, Ok, false, true, OnOk, OnErr, IfOk};
-ghost use Rattle.std.specs.List.{list_any};
 ghost use Rattle.std.specs.Option.{option_copied};
 ghost use Rattle.warning_book.specs.Book.{after_forget, warning_of};
 ghost use Rattle.kept_tables.specs.Consistent.{Consistent};
-ghost use Rattle.centre_core.specs.Effects.{replaces};
-ghost use Rattle.centre_core.specs.Facts.{facts};
+ghost use Rattle.centre_events.specs.Facts.{facts};
 ghost use Rattle.centre_core.specs.Idle.{is_flying};
-ghost use Rattle.centre_core.specs.Kept.{AreFlightsOf, IsRegisterOf, Gives, IsChecked, is_plain};
+ghost use Rattle.centre_events.specs.Kept.{AreFlightsOf, IsRegisterOf, Gives, IsChecked, is_plain};
 ghost use Rattle.centre_core.specs.Legal.{Legal};
-ghost use Rattle.centre_core.specs.Past.{Past};
-ghost use Rattle.centre_core.specs.Reported.{is_reported, names_serial, flight_names, is_in_flight};
-ghost use Rattle.centre_core.specs.Settings.{Settings};
-ghost use Rattle.centre_core.specs.Verdict.{unless, idle_checks, forget};
-ghost use Rattle.centre_core.specs.Warnings.{book_of};
+ghost use Rattle.centre_events.specs.Past.{Past};
+ghost use Rattle.centre_events.specs.Reported.{is_reported, flight_names, is_in_flight};
+ghost use Rattle.centre_events.specs.Settings.{Settings};
+ghost use Rattle.centre_events.specs.Verdict.{unless, idle_checks, forget};
+ghost use Rattle.centre_events.specs.Warnings.{book_of};
 
-use crate::answer::Answer;
-use crate::flight::Flight;
 use crate::flights::flight_in;
-use crate::in_flight::InFlight;
-use crate::refusal::Refusal;
-use crate::replying::id_of;
 use cell_register::{BscId, Register};
+use centre_events::answer::Answer;
+use centre_events::flight::Flight;
+use centre_events::in_flight::InFlight;
+use centre_events::naming::names_one;
+use centre_events::refusal::Refusal;
+use centre_events::replying::id_of;
 use kept_tables::KeptTables;
-use order_maker::OrderKind;
-use serials::Serial;
-use warning_book::{Book, Version, Warning, WarningId};
+use warning_book::{Book, Warning, WarningId};
 
 /// Whether a version of the warning is on air anywhere, or may be. The warning isn't active, so none of its versions is
 /// wanted, and the board counts each line on which one is on air, or may be, as left.
@@ -35,35 +32,6 @@ fn is_reported(tables: &KeptTables, w: &Warning) -> bool
     ensures { (settings : Settings) (past : Past) → Legal settings past → Consistent tables.now (facts past) → warning_of (book_of past) w.now.number ≡ Some w.now → w.now.active ≡ false → result ≡ is_reported past w.now }
 {
     tables.total(w.number()).left > 0
-}
-
-/// Whether an order of that kind replaces the version of that serial number.
-fn replaces(kind: OrderKind, serial: Serial) -> bool
-    ensures { result ≡ replaces kind serial }
-{
-    match kind {
-        OrderKind::Replace { old } => old == serial,
-        OrderKind::Write | OrderKind::Kill => false,
-    }
-}
-
-/// Whether what is in flight writes, replaces, kills or asks for the version of that serial number.
-fn names_serial(flight: &InFlight, serial: Serial) -> bool
-    ensures { result ≡ names_serial flight.now serial }
-{
-    match flight {
-        InFlight::Order(order) => order.serial == serial || replaces(order.kind, serial),
-        InFlight::Query { serial: asked, .. } => *asked == serial,
-    }
-}
-
-/// Whether it names one of the versions.
-fn names_one(flight: &InFlight, versions: &[Version]) -> bool
-    ensures { result ≡ list_any (λ v. names_serial flight.now v.serial) versions.now }
-{
-    versions
-        .iter()
-        .any(|version| names_serial(flight, version.serial))
 }
 
 /// Whether what is in flight, if anything is, names a version of the warning.

@@ -2,17 +2,17 @@
 
 ghost use Rattle.std.specs.Prelude.{◌≡◌, ◌+◌, Some, None, OnOk, IfErr};
 ghost use Rattle.common.specs.Checks.{first_refusal};
-ghost use Rattle.centre_core.specs.Kept.{IsRegisterOf};
-ghost use Rattle.centre_core.specs.Past.{Past, position};
+ghost use Rattle.centre_events.specs.Kept.{IsRegisterOf};
+ghost use Rattle.centre_events.specs.Past.{Past, position};
 ghost use Rattle.centre_core.specs.State.{AreLinksOf};
-ghost use Rattle.centre_core.specs.Verdict.{retry, link_up, link_checks, link_down};
+ghost use Rattle.centre_events.specs.Verdict.{retry, link_up, link_checks, link_down};
 
-use crate::answer::Answer;
 use crate::events::Verdict;
 use crate::link::Link;
 use crate::links::{generation as last_link, is_up};
-use crate::refusal::Refusal;
 use cell_register::{BscId, Register};
+use centre_events::answer::Answer;
+use centre_events::refusal::Refusal;
 
 /// Retry: orders again what a BSC refused.
 pub(crate) fn retry(register: &Register, b: BscId) -> Verdict

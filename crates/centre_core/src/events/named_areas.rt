@@ -2,14 +2,14 @@
 
 ghost use Rattle.std.specs.Prelude.{◌≡◌, true, OnOk, OnErr, IfOk};
 ghost use Rattle.areas.specs.Areas.{with_area, without_area, with_selector, without_selector};
-ghost use Rattle.centre_core.specs.Kept.{AreAreasOf, Gives, IsChecked, is_plain};
-ghost use Rattle.centre_core.specs.Past.{Past};
-ghost use Rattle.centre_core.specs.Verdict.{add_area, drop_area, put, cut};
-ghost use Rattle.centre_core.specs.Warnings.{book_of};
+ghost use Rattle.centre_events.specs.Kept.{AreAreasOf, Gives, IsChecked, is_plain};
+ghost use Rattle.centre_events.specs.Past.{Past};
+ghost use Rattle.centre_events.specs.Verdict.{add_area, drop_area, put, cut};
+ghost use Rattle.centre_events.specs.Warnings.{book_of};
 
-use crate::answer::Answer;
-use crate::refusal::Refusal;
 use areas::{Areas, Selector};
+use centre_events::answer::Answer;
+use centre_events::refusal::Refusal;
 use common::Name;
 use warning_book::Book;
 

@@ -4,14 +4,14 @@ ghost use Rattle.std.specs.Prelude.{◌≡◌, not, true, OnOk, OnErr, IfOk};
 ghost use Rattle.std.specs.List.{list_any};
 ghost use Rattle.areas.specs.Areas.{has_area};
 ghost use Rattle.warning_book.specs.Book.{new_serial, after_update, after_widen, after_narrow, after_stop};
-ghost use Rattle.centre_core.specs.Kept.{AreAreasOf, Gives, IsChecked, is_plain};
-ghost use Rattle.centre_core.specs.Past.{Past};
-ghost use Rattle.centre_core.specs.Verdict.{issue, update, widen, narrow, stop};
-ghost use Rattle.centre_core.specs.Warnings.{book_of, with_issue};
+ghost use Rattle.centre_events.specs.Kept.{AreAreasOf, Gives, IsChecked, is_plain};
+ghost use Rattle.centre_events.specs.Past.{Past};
+ghost use Rattle.centre_events.specs.Verdict.{issue, update, widen, narrow, stop};
+ghost use Rattle.centre_events.specs.Warnings.{book_of, with_issue};
 
-use crate::answer::Answer;
-use crate::refusal::Refusal;
 use areas::Areas;
+use centre_events::answer::Answer;
+use centre_events::refusal::Refusal;
 use common::Name;
 use warning_book::{Book, Content, Notice, WarningId};
 

@@ -1,5 +1,5 @@
 use Rattle.std.specs.Option.{option_copied}
-use Rattle.centre_core.specs.declared.entry.Entry.{Entry}
+use Rattle.centre_events.specs.declared.entry.Entry.{Entry}
 use Rattle.centre_core.proofs.FinishLemmas.{bears_of, links_then, flights_then}
 use Rattle.centre_core.proofs.finishing.finish.Goals as goal
 

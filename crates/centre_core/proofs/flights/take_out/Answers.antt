@@ -1,6 +1,6 @@
 use Rattle.std.proofs.Common.{not, rules}
 use Rattle.std.proofs.lemmas.Fn.{filter_same}
-use Rattle.centre_core.specs.Kept.{is_of}
+use Rattle.centre_events.specs.Kept.{is_of}
 use Rattle.centre_core.proofs.flights.take_out.Goals as goal
 
 pub returns-clause-left : goal.returns-clause-left

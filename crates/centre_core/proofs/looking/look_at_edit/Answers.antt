@@ -1,8 +1,8 @@
 use Rattle.std.proofs.Common.{◌<◌, ◌≤◌, length, refl, rules}
 use Rattle.centre_core.proofs.CentreLemmas.{checked_there, full}
-use Rattle.centre_core.specs.Past.{past_of}
-use Rattle.centre_core.specs.Settings.{Settings}
-use Rattle.centre_core.specs.declared.event.Event.TheVariants as event
+use Rattle.centre_events.specs.Past.{past_of}
+use Rattle.centre_events.specs.Settings.{Settings}
+use Rattle.centre_events.specs.declared.event.Event.TheVariants as event
 use Rattle.centre_core.proofs.looking.look_at_edit.Goals as goal
 
 pub returns-then-len-from-clause-verdict : goal.returns-then-len-from-clause-verdict

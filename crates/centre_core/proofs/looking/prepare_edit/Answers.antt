@@ -1,6 +1,6 @@
 use Rattle.std.proofs.Common.{refl}
-use Rattle.centre_core.specs.Past.{past_of}
-use Rattle.centre_core.specs.declared.event.Event.TheVariants as event
+use Rattle.centre_events.specs.Past.{past_of}
+use Rattle.centre_events.specs.declared.event.Event.TheVariants as event
 use Rattle.centre_core.proofs.CentreLemmas.{reached_within, refused_as, starved, starved_as}
 use Rattle.centre_core.proofs.UniqueLemmas.{verdict_answered}
 use Rattle.centre_core.proofs.looking.prepare_edit.Goals as goal

@@ -1,7 +1,7 @@
 use Rattle.std.proofs.Common.{◌≡◌, Ok, refl}
-use Rattle.centre_core.specs.Past.{past_of}
-use Rattle.centre_core.specs.Settings.{Settings}
-use Rattle.centre_core.specs.Verdict.{verdict}
+use Rattle.centre_events.specs.Past.{past_of}
+use Rattle.centre_events.specs.Settings.{Settings}
+use Rattle.centre_events.specs.Verdict.{verdict}
 use Rattle.centre_core.proofs.CentreLemmas.{other_within}
 use Rattle.centre_core.proofs.ReadLemmas.{reads_kept, reads_then}
 use Rattle.centre_core.proofs.UniqueLemmas.{verdict_answered}

@@ -3,9 +3,9 @@ use Rattle.kept_tables.specs.Tables.{Tables}
 use Rattle.warning_book.specs.Book.{warning_of}
 use Rattle.centre_core.specs.Asked.{Tells}
 use Rattle.centre_core.specs.Following.{AsBefore}
-use Rattle.centre_core.specs.Past.{Past}
+use Rattle.centre_events.specs.Past.{Past}
 use Rattle.centre_core.specs.Table.{keys_of}
-use Rattle.centre_core.specs.Warnings.{book_of}
+use Rattle.centre_events.specs.Warnings.{book_of}
 use Rattle.centre_core.proofs.questions.add_keys_of.Given as goal
 
 -- what is reported of the warning in the cells passed is added, and nothing kept changes

@@ -3,9 +3,9 @@ use Rattle.std.specs.List.{flat_map}
 use Rattle.kept_tables.specs.Tables.{Tables}
 use Rattle.centre_core.specs.Asked.{Tells}
 use Rattle.centre_core.specs.Following.{AsBefore}
-use Rattle.centre_core.specs.Past.{Past}
+use Rattle.centre_events.specs.Past.{Past}
 use Rattle.centre_core.specs.Table.{keys_of}
-use Rattle.centre_core.specs.Warnings.{warnings_of}
+use Rattle.centre_events.specs.Warnings.{warnings_of}
 use Rattle.centre_core.proofs.questions.keys_among.Given as goal
 
 -- what is reported of the warnings passed is there, and nothing kept changes

@@ -1,4 +1,4 @@
-use Rattle.centre_core.specs.Pending.{all_actions}
+use Rattle.centre_events.specs.Pending.{all_actions}
 use Rattle.centre_core.proofs.QuestionLemmas.{pending_list}
 use Rattle.centre_core.proofs.questions.pending.Goals as goal
 

@@ -1,5 +1,5 @@
 use Rattle.std.proofs.Common.{◌≡◌, filter, map, take}
-use Rattle.centre_core.specs.Reported.{names_warning}
+use Rattle.centre_events.specs.Reported.{names_warning}
 use Rattle.centre_core.proofs.reached_warnings.named.Given as goal
 
 -- those of the warnings passed

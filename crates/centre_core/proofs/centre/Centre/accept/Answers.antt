@@ -1,5 +1,5 @@
 use Rattle.centre_core.specs.Legal.{past}
-use Rattle.centre_core.specs.declared.event.Event.TheVariants as event
+use Rattle.centre_events.specs.declared.event.Event.TheVariants as event
 use Rattle.centre_core.proofs.FitsLemmas.{carried_if, fits_if}
 use Rattle.centre_core.proofs.centre.Centre.accept.Goals as goal
 

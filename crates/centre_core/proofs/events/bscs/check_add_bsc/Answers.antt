@@ -1,7 +1,7 @@
 use Rattle.centre_core.proofs.RegisterLemmas.{add_bsc_first}
 use Rattle.centre_core.proofs.CentreLemmas.{err_checked}
-use Rattle.centre_core.specs.Refusals.{of_register}
-use Rattle.centre_core.specs.Verdict.{add_bsc}
+use Rattle.centre_events.specs.Refusals.{of_register}
+use Rattle.centre_events.specs.Verdict.{add_bsc}
 use Rattle.centre_core.proofs.events.bscs.check_add_bsc.Goals as goal
 
 pub returns-in_err-check_add_bsc : goal.returns-in_err-check_add_bsc

@@ -1,6 +1,6 @@
 use Rattle.std.proofs.Common.{◌≡◌, Some, None, sym, subst, rules}
 use Rattle.warning_book.specs.Book.{warning_of}
-use Rattle.centre_core.specs.Kept.{IsChecked}
+use Rattle.centre_events.specs.Kept.{IsChecked}
 use Rattle.centre_core.proofs.WarningLemmas.{forget_found, forget_inactive, forget_missing, found_itself}
 use Rattle.centre_core.proofs.events.forgetting.check_forget.Goals as goal
 

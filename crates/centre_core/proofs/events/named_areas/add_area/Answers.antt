@@ -1,7 +1,7 @@
 use Rattle.centre_core.proofs.AreaLemmas.{add_area_refused}
 use Rattle.centre_core.proofs.CentreLemmas.{err_gives}
-use Rattle.centre_core.specs.Refusals.{of_areas}
-use Rattle.centre_core.specs.Verdict.{add_area}
+use Rattle.centre_events.specs.Refusals.{of_areas}
+use Rattle.centre_events.specs.Verdict.{add_area}
 use Rattle.centre_core.proofs.events.named_areas.add_area.Goals as goal
 
 pub returns-in_err-add_area-clause-verdict : goal.returns-in_err-add_area-clause-verdict

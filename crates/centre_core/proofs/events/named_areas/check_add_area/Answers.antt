@@ -1,7 +1,7 @@
 use Rattle.centre_core.proofs.AreaLemmas.{add_area_first}
 use Rattle.centre_core.proofs.CentreLemmas.{err_checked}
-use Rattle.centre_core.specs.Refusals.{of_areas}
-use Rattle.centre_core.specs.Verdict.{add_area}
+use Rattle.centre_events.specs.Refusals.{of_areas}
+use Rattle.centre_events.specs.Verdict.{add_area}
 use Rattle.centre_core.proofs.events.named_areas.check_add_area.Goals as goal
 
 pub returns-in_err-check_add_area : goal.returns-in_err-check_add_area

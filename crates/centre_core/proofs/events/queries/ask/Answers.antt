@@ -1,9 +1,9 @@
 use Rattle.std.proofs.Common.{◌≡◌, ◌∙◌, Some, true, false, sym, ap, subst, eqb-true, rules}
 use Rattle.std.specs.Option.{is_some}
 use Rattle.warning_book.specs.Book.{current_of, warning_of}
-use Rattle.centre_core.specs.Kept.{flight_in}
+use Rattle.centre_events.specs.Kept.{flight_in}
 use Rattle.centre_core.specs.State.{AreLinksOf}
-use Rattle.centre_core.specs.Warnings.{book_of}
+use Rattle.centre_events.specs.Warnings.{book_of}
 use Rattle.cell_register.specs.Register.{has_bsc}
 use Rattle.centre_core.proofs.AskLemmas.{ask_given}
 use Rattle.centre_core.proofs.FoundLemmas.{found_number}

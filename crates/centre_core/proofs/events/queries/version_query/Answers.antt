@@ -1,7 +1,7 @@
 use Rattle.std.proofs.Common.{◌≡◌, ◌≤◌, ◌∙◌, inl, inr, Some, Ok, length, refl, ap, subst, sym, rules}
 use Rattle.std.specs.Prelude.{IsOk}
-use Rattle.centre_core.specs.Asking.{version_query}
-use Rattle.centre_core.specs.declared.refusal.Refusal.TheVariants.{Memory}
+use Rattle.centre_events.specs.Asking.{version_query}
+use Rattle.centre_events.specs.declared.refusal.Refusal.TheVariants.{Memory}
 use Rattle.centre_core.proofs.CentreLemmas.{err_gives}
 use Rattle.centre_core.proofs.OnAirLemmas.{asked_as, asks_some, found_none, found_some, reads_few}
 use Rattle.centre_core.proofs.events.queries.version_query.Goals as goal

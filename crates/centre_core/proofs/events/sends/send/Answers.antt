@@ -1,10 +1,10 @@
 use Rattle.std.proofs.Common.{◌≡◌, ◌∙◌, inl, inr, true, false, refl, sym, ap, subst, rules}
 use Rattle.std.specs.Option.{is_some}
-use Rattle.centre_core.specs.Kept.{flight_in}
-use Rattle.centre_core.specs.Pending.{all_actions, pending}
+use Rattle.centre_events.specs.Kept.{flight_in}
+use Rattle.centre_events.specs.Pending.{all_actions, pending}
 use Rattle.centre_core.specs.State.{AreLinksOf}
-use Rattle.centre_core.specs.Verdict.{send}
-use Rattle.centre_core.specs.declared.refusal.Refusal.TheVariants.{Memory}
+use Rattle.centre_events.specs.Verdict.{send}
+use Rattle.centre_events.specs.declared.refusal.Refusal.TheVariants.{Memory}
 use Rattle.centre_core.proofs.CarriedLemmas.{sent_carriable}
 use Rattle.centre_core.proofs.CentreLemmas.{err_gives}
 use Rattle.centre_core.proofs.SendingLemmas.{send_given, send_nothing, send_something}

@@ -4,8 +4,8 @@ use Rattle.areas.specs.Areas.{has_area}
 use Rattle.centre_core.proofs.AreaLemmas.{names_there}
 use Rattle.centre_core.proofs.CentreLemmas.{err_checked}
 use Rattle.centre_core.proofs.WarningLemmas.{issue_elsewhere, issue_free, issue_first}
-use Rattle.centre_core.specs.Refusals.{of_book}
-use Rattle.centre_core.specs.Verdict.{issue}
+use Rattle.centre_events.specs.Refusals.{of_book}
+use Rattle.centre_events.specs.Verdict.{issue}
 use Rattle.centre_core.proofs.events.warnings.check_issue.Goals as goal
 
 pub returns-then-names_no_area : goal.returns-then-names_no_area

@@ -2,8 +2,8 @@ use Rattle.std.proofs.Common.{◌≡◌, ◌∙◌, true, sym, rules}
 use Rattle.areas.specs.Areas.{has_area}
 use Rattle.centre_core.proofs.CentreLemmas.{err_checked}
 use Rattle.centre_core.proofs.WarningLemmas.{narrow_first}
-use Rattle.centre_core.specs.Refusals.{of_book}
-use Rattle.centre_core.specs.Verdict.{narrow}
+use Rattle.centre_events.specs.Refusals.{of_book}
+use Rattle.centre_events.specs.Verdict.{narrow}
 use Rattle.centre_core.proofs.events.warnings.check_narrow.Goals as goal
 
 pub returns-in_err-check_narrow : goal.returns-in_err-check_narrow

@@ -1,7 +1,7 @@
 use Rattle.centre_core.proofs.WarningLemmas.{update_first}
 use Rattle.centre_core.proofs.CentreLemmas.{err_checked}
-use Rattle.centre_core.specs.Refusals.{of_book}
-use Rattle.centre_core.specs.Verdict.{update}
+use Rattle.centre_events.specs.Refusals.{of_book}
+use Rattle.centre_events.specs.Verdict.{update}
 use Rattle.centre_core.proofs.events.warnings.check_update.Goals as goal
 
 pub returns-in_err-check_update : goal.returns-in_err-check_update

@@ -2,8 +2,8 @@ use Rattle.std.proofs.Common.{◌≡◌, ◌∙◌, true, sym, rules}
 use Rattle.areas.specs.Areas.{has_area}
 use Rattle.centre_core.proofs.CentreLemmas.{err_checked}
 use Rattle.centre_core.proofs.WarningLemmas.{widen_first}
-use Rattle.centre_core.specs.Refusals.{of_book}
-use Rattle.centre_core.specs.Verdict.{widen}
+use Rattle.centre_events.specs.Refusals.{of_book}
+use Rattle.centre_events.specs.Verdict.{widen}
 use Rattle.centre_core.proofs.events.warnings.check_widen.Goals as goal
 
 pub returns-in_err-check_widen : goal.returns-in_err-check_widen

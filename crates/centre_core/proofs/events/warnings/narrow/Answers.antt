@@ -2,8 +2,8 @@ use Rattle.std.proofs.Common.{◌≡◌, ◌∙◌, inr, true, sym, rules}
 use Rattle.areas.specs.Areas.{has_area}
 use Rattle.centre_core.proofs.CentreLemmas.{err_gives}
 use Rattle.centre_core.proofs.WarningLemmas.{narrow_refused}
-use Rattle.centre_core.specs.Refusals.{of_book}
-use Rattle.centre_core.specs.Verdict.{narrow}
+use Rattle.centre_events.specs.Refusals.{of_book}
+use Rattle.centre_events.specs.Verdict.{narrow}
 use Rattle.centre_core.proofs.events.warnings.narrow.Goals as goal
 
 pub returns-in_err-narrow-clause-verdict : goal.returns-in_err-narrow-clause-verdict

@@ -1,6 +1,0 @@
-use Rattle.common.specs.Equality.{answered}
-use Rattle.centre_core.specs.Equality.{replies_decide}
-use Rattle.centre_core.proofs.replies.Replies.same.Goals as goal
-
-pub returns : goal.returns
-returns c = answered c.eq.ensures (replies_decide c.args.self.now c.args.other.now)

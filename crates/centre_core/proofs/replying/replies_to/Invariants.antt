@@ -1,8 +1,0 @@
-use Rattle.std.proofs.Common.{◌≡◌, map, take}
-use Rattle.centre_core.specs.InFlight.{cells_of}
-use Rattle.centre_core.specs.Outcomes.{reply_of}
-use Rattle.centre_core.proofs.replying.replies_to.Given as goal
-
--- what is said of the cells passed
-abbrev pub invariant-loop-cell : goal.invariant-loop-cell
-invariant-loop-cell l = l.said.items ≡ map (reply_of l.network l.message l.flight) (take l.cell-index (cells_of l.flight))

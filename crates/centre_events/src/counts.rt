@@ -1,0 +1,160 @@
+//! How often messages were broadcast: what a reply says of it, and what an event makes of what is kept (TS 48.049,
+//! 8.2.10).
+
+ghost use Rattle.std.specs.Prelude.{◌≡◌, find};
+ghost use Rattle.std.specs.Option.{option_copied};
+ghost use Rattle.common.specs.Cell.{cell_eq};
+ghost use Rattle.centre_events.specs.Counts.{gives_number, last_number, number_in, numbers_of, number_of, reported_in, is_counted_key, replied_count, edit_count, count_mark};
+
+use crate::answer::Answer;
+use crate::effects::{is_among, is_of_warning};
+use crate::event::Event;
+use crate::in_flight::InFlight;
+use crate::reply::Reply;
+use crate::replying::{cells_of, id_of, old_of};
+use cbsp_ie::{CountEntry, Counts};
+use cbsp_messages::Message;
+use cell_register::BscId;
+use common::Cell;
+use coverage_plan::Edit;
+use serials::Serial;
+use warning_book::Warning;
+
+/// Whether the entry gives a valid number of broadcasts of the cell.
+fn gives_number(network: [u8; 3], c: Cell, entry: &CountEntry) -> bool
+    ensures { result ≡ gives_number network c entry.now }
+{
+    entry.info == 0 && entry.id.names(network, c)
+}
+
+/// The last number that the entries give of the cell.
+#[tactic(auto, using(crate::proofs::PastLemmas::past_more))]
+fn last_number(network: [u8; 3], entries: &[CountEntry], c: Cell) -> Option<u16>
+    ensures { result ≡ last_number network entries.now c }
+{
+    let mut number = None;
+    for entry in entries {
+        if gives_number(network, c, entry) {
+            number = Some(entry.number);
+        }
+    }
+    number
+}
+
+/// The last number that the list gives of the cell, where there is such a list.
+fn number_in(network: [u8; 3], list: Option<&Counts>, c: Cell) -> Option<u16>
+    ensures { result ≡ number_in network (option_copied list.entry) c }
+{
+    match list {
+        Some(list) => last_number(network, list.entries(), c),
+        None => None,
+    }
+}
+
+/// The numbers of broadcasts that the reply gives.
+fn numbers_of(message: &Message) -> Option<&Counts>
+    ensures { option_copied result ≡ numbers_of message.now }
+{
+    match message {
+        Message::WriteComplete(said) => said.counts.as_ref(),
+        Message::WriteFailure(said) => said.counts.as_ref(),
+        Message::KillComplete(said) => said.counts.as_ref(),
+        Message::KillFailure(said) => said.counts.as_ref(),
+        Message::StatusComplete(said) => Some(&said.counts),
+        Message::StatusFailure(said) => said.counts.as_ref(),
+        _ => None,
+    }
+}
+
+/// The number that is taken from a reply of the cell, where `old` is the serial number of the version that was on air. The
+/// centre's network is these three octets (TS 24.008, 10.5.1.3).
+pub fn number_of(network: [u8; 3], message: &Message, old: Option<u16>, c: Cell) -> Option<u16>
+    ensures { result ≡ number_of network message.now old c }
+{
+    match old {
+        Some(_) => number_in(network, numbers_of(message), c),
+        None => None,
+    }
+}
+
+/// The reply of the cell.
+fn reply_in(c: Cell, replies: &[Reply]) -> Option<&Reply>
+    ensures { option_copied result ≡ find (λ r. cell_eq c r.cell) replies.now }
+{
+    replies.iter().find(|reply| c == reply.cell)
+}
+
+/// What the replies report of the cell.
+fn reported_in(c: Cell, replies: &[Reply]) -> Option<u16>
+    ensures { result ≡ reported_in c replies.now }
+{
+    match reply_in(c, replies) {
+        Some(reply) => reply.count,
+        None => None,
+    }
+}
+
+/// Whether the key is that of the version which was on air before what is in flight, in one of its cells.
+fn is_counted_key(flight: &InFlight, c: Cell, message_id: u16, serial: Serial) -> bool
+    ensures { result ≡ is_counted_key flight.now c message_id serial }
+{
+    id_of(flight) == message_id
+        && old_of(flight) == Some(serial.to_u16())
+        && is_among(c, cells_of(flight))
+}
+
+/// What the replies report of a key of the BSC to which that is in flight.
+fn replied_count(
+    flight: Option<&InFlight>,
+    replies: &[Reply],
+    c: Cell,
+    message_id: u16,
+    serial: Serial,
+) -> Option<u16>
+    ensures { result ≡ replied_count (option_copied flight.entry) replies.now c message_id serial }
+{
+    match flight {
+        Some(flight) if is_counted_key(flight, c, message_id, serial) => { reported_in(c, replies) }
+        _ => None,
+    }
+}
+
+/// What an edit sets of a key of the BSC, from the warnings in the book before it.
+fn edit_count(
+    b: BscId,
+    message_id: u16,
+    serial: Serial,
+    edit: &Edit,
+    warnings: &[Warning],
+) -> Option<u16>
+    ensures { result ≡ edit_count b message_id serial edit.now warnings.now }
+{
+    match edit {
+        Edit::RemoveBsc(other) if *other == b => Some(0),
+        Edit::Forget(number) if is_of_warning(*number, message_id, serial, warnings) => Some(0),
+        _ => None,
+    }
+}
+
+/// The number of broadcasts that the event sets of a key of the BSC, by its answer, what was in flight, and the warnings in
+/// the book before it.
+pub fn count_mark(
+    b: BscId,
+    c: Cell,
+    message_id: u16,
+    serial: Serial,
+    event: &Event,
+    answer: &Answer,
+    flight: Option<&InFlight>,
+    warnings: &[Warning],
+) -> Option<u16>
+    ensures { result ≡ count_mark b c message_id serial event.now answer.now (option_copied flight.entry) warnings.now }
+{
+    match (event, answer) {
+        (Event::Edit(edit), _) => edit_count(b, message_id, serial, edit, warnings),
+        (Event::Report(other, _, _), Answer::Replied(replies)) if *other == b => {
+            replied_count(flight, replies.as_slice(), c, message_id, serial)
+        }
+        _ => None,
+    }
+}

@@ -1,0 +1,357 @@
+//! What an event does to a key: a message in a cell of a BSC.
+
+ghost use Rattle.std.specs.Prelude.{◌≡◌, ◌&&◌, None};
+ghost use Rattle.std.specs.List.{list_any};
+ghost use Rattle.std.specs.Option.{option_copied};
+ghost use Rattle.warning_book.specs.Book.{has_number};
+ghost use Rattle.centre_events.specs.Down.{says_down, listed_down, edit_down, down_mark};
+ghost use Rattle.centre_events.specs.Effects.{is_among, write_refused, replace_refused, kill_refused, new_effect, old_refused, old_effect, query_effect, replaces, key_effect, order_effect, flight_effect, outcome_in, said_effect, restart_effect, indicated_effect, report_effect, presence_mark, hold_mark, state_after};
+ghost use Rattle.centre_events.specs.Presence.{edit_effect, effect};
+ghost use Rattle.centre_events.specs.Reported.{names_version};
+ghost use Rattle.centre_events.specs.Warnings.{has_key, is_version};
+
+use crate::answer::Answer;
+use crate::effect::Effect;
+use crate::event::Event;
+use crate::in_flight::InFlight;
+use crate::naming::names_serial;
+use crate::outcome::Outcome;
+use crate::reply::Reply;
+use crate::replying::id_of;
+use cbsp_ie::Cause;
+use cbsp_messages::Message;
+use cell_register::BscId;
+use common::Cell;
+use coverage_plan::Edit;
+use mirror::{KeyState, Presence};
+use order_maker::{Order, OrderKind};
+use serials::Serial;
+use warning_book::{Version, Warning, WarningId};
+
+/// Whether the cell is one of the list.
+pub fn is_among(c: Cell, cells: &[Cell]) -> bool
+    ensures { result ≡ is_among c cells.now }
+{
+    cells.iter().any(|d| c == *d)
+}
+
+/// What an order that was refused does at the key of its serial number.
+fn new_refused(kind: OrderKind, cause: Cause) -> Effect
+    ensures { result ≡ new_effect kind (Outcome.Refused cause) }
+{
+    match (kind, cause.0) {
+        (OrderKind::Write | OrderKind::Replace { old: _ }, 13) => Effect::Sets(Presence::OnAir),
+        (OrderKind::Replace { old: _ }, 2) => Effect::Leaves,
+        (OrderKind::Kill, 2 | 3) => Effect::Sets(Presence::Absent),
+        _ => Effect::Holds(cause),
+    }
+}
+
+/// What an order that was carried out does at the key of its serial number.
+fn new_done(kind: OrderKind) -> Effect
+    ensures { result ≡ new_effect kind Outcome.Done }
+{
+    match kind {
+        OrderKind::Write | OrderKind::Replace { old: _ } => Effect::Sets(Presence::OnAir),
+        OrderKind::Kill => Effect::Sets(Presence::Absent),
+    }
+}
+
+/// What an order of the kind with that outcome does at the key of its serial number.
+pub fn new_effect(kind: OrderKind, outcome: Outcome) -> Effect
+    ensures { result ≡ new_effect kind outcome }
+{
+    match outcome {
+        Outcome::Done => new_done(kind),
+        Outcome::Refused(cause) => new_refused(kind, cause),
+        Outcome::Silent => Effect::Sets(Presence::Unknown),
+    }
+}
+
+/// What a replace with that outcome does at the key of its Old Serial Number.
+pub fn old_effect(outcome: Outcome) -> Effect
+    ensures { result ≡ old_effect outcome }
+{
+    match outcome {
+        Outcome::Done | Outcome::Refused(Cause(2)) => Effect::Sets(Presence::Absent),
+        Outcome::Silent | Outcome::Refused(Cause(13)) => Effect::Sets(Presence::Unknown),
+        Outcome::Refused(_) => Effect::Leaves,
+    }
+}
+
+/// What a query with that outcome does at its key.
+pub fn query_effect(outcome: Outcome) -> Effect
+    ensures { result ≡ query_effect outcome }
+{
+    match outcome {
+        Outcome::Refused(Cause(2)) => Effect::Sets(Presence::Absent),
+        _ => Effect::Leaves,
+    }
+}
+
+/// What an order does at the key of that serial number, of its message identifier and in one of its cells.
+pub fn key_effect(order: &Order, outcome: Outcome, serial: Serial) -> Effect
+    ensures { result ≡ key_effect order.now outcome serial }
+{
+    if order.serial == serial {
+        return new_effect(order.kind, outcome);
+    }
+    match order.kind {
+        OrderKind::Replace { old } if old == serial => old_effect(outcome),
+        _ => Effect::Leaves,
+    }
+}
+
+/// What an order does at a key of its BSC.
+fn order_effect(order: &Order, outcome: Outcome, c: Cell, message_id: u16, serial: Serial) -> Effect
+    ensures { result ≡ order_effect order.now outcome c message_id serial }
+{
+    if order.message_id == message_id && is_among(c, order.cells.as_slice()) {
+        key_effect(order, outcome, serial)
+    } else {
+        Effect::Leaves
+    }
+}
+
+/// What comes of what is in flight, if anything is, at a key of its BSC.
+pub fn flight_effect(
+    flight: Option<&InFlight>,
+    outcome: Outcome,
+    c: Cell,
+    message_id: u16,
+    serial: Serial,
+) -> Effect
+    ensures { result ≡ flight_effect (option_copied flight.entry) outcome c message_id serial }
+{
+    match flight {
+        Some(InFlight::Order(order)) => order_effect(order, outcome, c, message_id, serial),
+        Some(
+            InFlight::Query {
+                message_id: asked,
+                serial: version,
+                cells,
+            },
+        ) if *asked == message_id && is_among(c, cells.as_slice()) && *version == serial => {
+            query_effect(outcome)
+        }
+        _ => Effect::Leaves,
+    }
+}
+
+/// What the replies say of the cell.
+pub fn outcome_in(c: Cell, replies: &[Reply]) -> Option<Outcome>
+    ensures { result ≡ outcome_in c replies.now }
+{
+    replies
+        .iter()
+        .find(|reply| c == reply.cell)
+        .map(|reply| reply.outcome)
+}
+
+/// What a reply that says this of the cell, or nothing, does at a key.
+pub fn said_effect(
+    said: Option<Outcome>,
+    flight: Option<&InFlight>,
+    c: Cell,
+    message_id: u16,
+    serial: Serial,
+) -> Effect
+    ensures { result ≡ said_effect said (option_copied flight.entry) c message_id serial }
+{
+    match said {
+        Some(outcome) => flight_effect(flight, outcome, c, message_id, serial),
+        None => Effect::Leaves,
+    }
+}
+
+/// What an indication does at each key of a cell that it lists.
+fn indicated_effect(message: &Message) -> Effect
+    ensures { result ≡ indicated_effect message.now }
+{
+    match message {
+        Message::Restart(restart) if restart.recovery == 0 => Effect::Frees,
+        Message::Restart(_) => Effect::Sets(Presence::Absent),
+        _ => Effect::Leaves,
+    }
+}
+
+/// Whether what is in flight, if anything is, names the version of that message identifier and serial number.
+fn names_version(flight: Option<&InFlight>, message_id: u16, serial: Serial) -> bool
+    ensures { result ≡ names_version (option_copied flight.entry) message_id serial }
+{
+    match flight {
+        Some(flight) => id_of(flight) == message_id && names_serial(flight, serial),
+        None => false,
+    }
+}
+
+/// What the replies do at a key. They are looked through only where what is in flight names the version.
+#[tactic(auto, using(crate::proofs::EffectLemmas::unnamed))]
+fn replied_effect(
+    replies: &[Reply],
+    flight: Option<&InFlight>,
+    c: Cell,
+    message_id: u16,
+    serial: Serial,
+) -> Effect
+    ensures { result ≡ said_effect (outcome_in c replies.now) (option_copied flight.entry) c message_id serial }
+{
+    if !names_version(flight, message_id, serial) {
+        return Effect::Leaves;
+    }
+    said_effect(outcome_in(c, replies), flight, c, message_id, serial)
+}
+
+/// What a report that was answered so does at a key of its BSC.
+pub fn report_effect(
+    message: &Message,
+    answer: &Answer,
+    flight: Option<&InFlight>,
+    c: Cell,
+    message_id: u16,
+    serial: Serial,
+) -> Effect
+    ensures { result ≡ report_effect message.now answer.now (option_copied flight.entry) c message_id serial }
+{
+    match answer {
+        Answer::Replied(replies) => {
+            replied_effect(replies.as_slice(), flight, c, message_id, serial)
+        }
+        Answer::Listed(cells) if is_among(c, cells.as_slice()) => indicated_effect(message),
+        _ => Effect::Leaves,
+    }
+}
+
+/// Whether one of the versions has this serial number.
+fn has_version(serial: Serial, versions: &[Version]) -> bool
+    ensures { result ≡ list_any (is_version serial) versions.now }
+{
+    versions.iter().any(|version| version.serial == serial)
+}
+
+/// Whether a version of the warning has this message identifier and serial number.
+fn has_key(message_id: u16, serial: Serial, w: &Warning) -> bool
+    ensures { result ≡ has_key message_id serial w.now }
+{
+    w.message_id() == message_id && has_version(serial, w.versions())
+}
+
+/// Whether a version of the warning of this number has this message identifier and serial number.
+pub fn is_of_warning(
+    number: WarningId,
+    message_id: u16,
+    serial: Serial,
+    warnings: &[Warning],
+) -> bool
+    ensures { result ≡ list_any (λ w. has_number number w && has_key message_id serial w) warnings.now }
+{
+    warnings
+        .iter()
+        .any(|w| w.number() == number && has_key(message_id, serial, w))
+}
+
+/// What an edit does at a key of the BSC, from the warnings in the book before it.
+pub fn edit_effect(
+    b: BscId,
+    message_id: u16,
+    serial: Serial,
+    edit: &Edit,
+    warnings: &[Warning],
+) -> Effect
+    ensures { result ≡ edit_effect b message_id serial edit.now warnings.now }
+{
+    match edit {
+        Edit::RemoveBsc(other) if *other == b => Effect::Sets(Presence::Absent),
+        Edit::Forget(number) if is_of_warning(*number, message_id, serial, warnings) => {
+            Effect::Frees
+        }
+        _ => Effect::Leaves,
+    }
+}
+
+/// What the event does at a key of the BSC, by its answer, whether the link was up, what was in flight, and the warnings
+/// in the book before it.
+pub fn effect(
+    b: BscId,
+    c: Cell,
+    message_id: u16,
+    serial: Serial,
+    event: &Event,
+    answer: &Answer,
+    up: bool,
+    flight: Option<&InFlight>,
+    warnings: &[Warning],
+) -> Effect
+    ensures { result ≡ effect b c message_id serial event.now answer.now up (option_copied flight.entry) warnings.now }
+{
+    match event {
+        Event::Edit(edit) => edit_effect(b, message_id, serial, edit, warnings),
+        Event::Report(other, _, message) if *other == b => {
+            report_effect(message, answer, flight, c, message_id, serial)
+        }
+        Event::LinkUp(other) if *other == b && up => {
+            flight_effect(flight, Outcome::Silent, c, message_id, serial)
+        }
+        Event::LinkDown(other, _) if *other == b => {
+            flight_effect(flight, Outcome::Silent, c, message_id, serial)
+        }
+        Event::Retry(other) if *other == b => Effect::Frees,
+        _ => Effect::Leaves,
+    }
+}
+
+/// What is known of the message after the effect, and what holds an order for it back.
+fn marked(effect: Effect, state: KeyState) -> KeyState
+    ensures { result ≡ state_after effect None state }
+{
+    match effect {
+        Effect::Sets(presence) => KeyState {
+            presence,
+            hold: None,
+            ..state
+        },
+        Effect::Holds(cause) => KeyState {
+            hold: Some(cause),
+            ..state
+        },
+        Effect::Frees => KeyState {
+            hold: None,
+            ..state
+        },
+        Effect::Leaves => state,
+    }
+}
+
+/// What is kept of a key after the effect on it, where that number of broadcasts is reported, if one is.
+pub fn state_after(effect: Effect, count: Option<u16>, state: KeyState) -> KeyState
+    ensures { result ≡ state_after effect count state }
+{
+    let marked = marked(effect, state);
+    match count {
+        Some(count) => KeyState { count, ..marked },
+        None => marked,
+    }
+}
+
+/// Whether the message says that the cells it lists are down, or up.
+fn says_down(message: &Message) -> Option<bool>
+    ensures { result ≡ says_down message.now }
+{
+    match message {
+        Message::Failure(_) => Some(true),
+        Message::Restart(_) => Some(false),
+        _ => None,
+    }
+}
+
+/// Whether the event, answered so, brings the cell down at the BSC (`Some(true)`), or up (`Some(false)`).
+pub fn down_mark(b: BscId, c: Cell, event: &Event, answer: &Answer) -> Option<bool>
+    ensures { result ≡ down_mark b c event.now answer.now }
+{
+    match (event, answer) {
+        (Event::Edit(Edit::RemoveBsc(other)), _) if *other == b => Some(false),
+        (Event::Report(other, _, message), Answer::Listed(cells))
+            if *other == b && is_among(c, cells.as_slice()) => { says_down(message) }
+        _ => None,
+    }
+}

@@ -1,0 +1,50 @@
+//! One entry of the journal.
+
+ghost use Rattle.std.specs.Prelude.{◌≡◌, ◌↔◌, true, IsTrue, IfOk, IsOk};
+ghost use Rattle.centre_events.specs.Kept.{is_plain};
+
+use crate::answer::Answer;
+use crate::event::Event;
+use std::alloc::{AllocError, Global};
+
+/// An accepted event: who submitted it, and what it was answered.
+#[derive(Debug, PartialEq, Eq, Drop)]
+pub struct Entry {
+    /// The number of the desk, from 1.
+    pub desk: u32,
+    pub event: Event,
+    pub answer: Answer,
+}
+
+impl Entry {
+    /// The entry of an event and a copy of what it was answered. It takes no memory where the answer has no
+    /// order, message or list.
+    pub fn of(alloc: Global, desk: u32, event: Event, answer: &Answer) -> Result<Entry, AllocError>
+        ensures entry { IfOk result (λ e. e ≡ record { desk = desk; event = event; answer = answer.now }) }
+        ensures plain { is_plain answer.now ≡ true → IsOk result }
+    {
+        let answer = answer.copied(alloc)?;
+        Ok(Entry {
+            desk,
+            event,
+            answer,
+        })
+    }
+
+    /// The same entry in memory of its own.
+    pub fn copied(&self, alloc: Global) -> Result<Entry, AllocError>
+        ensures { IfOk result (λ copy. copy ≡ self.now) }
+    {
+        Ok(Entry {
+            desk: self.desk,
+            event: self.event.copied(alloc)?,
+            answer: self.answer.copied(alloc)?,
+        })
+    }
+
+    pub fn same(&self, other: &Entry) -> bool
+        ensures { IsTrue result ↔ (self.now ≡ other.now) }
+    {
+        self.desk == other.desk && self.event.same(&other.event) && self.answer.same(&other.answer)
+    }
+}

@@ -1,0 +1,22 @@
+//! What a cell broadcast centre accepts, and what each event does to what is stored of one version in one cell.
+//!
+//! Begin with `event`, `answer` and `refusal`; what an event makes of a presence is in `effects`, of a count in `counts`,
+//! and both together in `stepping`. The definitions over the past that contracts cite are in `specs/`, beginning with
+//! `Past`.
+#![tactic(auto)]
+
+pub mod answer;
+pub mod counts;
+pub mod effect;
+pub mod effects;
+pub mod entry;
+pub mod event;
+pub mod flight;
+pub mod in_flight;
+pub mod naming;
+pub mod outcome;
+pub mod refusal;
+pub mod replies;
+pub mod reply;
+pub mod replying;
+pub mod stepping;

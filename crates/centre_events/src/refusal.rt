@@ -1,0 +1,274 @@
+//! Why an event or a question is refused.
+
+ghost use Rattle.std.specs.Prelude.{◌≡◌};
+ghost use Rattle.centre_events.specs.Refusals.{refusal_number};
+
+use std::alloc::{AllocError, AllocFailed};
+use thiserror::Error;
+
+/// A number that would be passed.
+#[derive(Clone, Copy, Debug, PartialEq, Eq)]
+pub enum Limit {
+    /// 256 BSCs.
+    Bscs,
+    /// 65,536 registered cells.
+    Cells,
+    /// 4,096 areas.
+    Areas,
+    /// 4,096 selectors of one area.
+    Selectors,
+    /// 256 warnings in the book.
+    Warnings,
+    /// 16 areas of one warning.
+    WarningAreas,
+    /// 4,294,967,295 warnings in all.
+    Ids,
+    /// 1,024 desks.
+    Desks,
+}
+
+/// Why an event or a question is refused, in the order in which the causes are looked at. The first that holds is
+/// the answer. `Memory` is the last of them: nothing that decides a refusal takes memory. `WrongDesk` comes from an office
+/// alone, which looks at it before all others.
+#[derive(Clone, Copy, Debug, PartialEq, Eq, Error)]
+pub enum Refusal {
+    #[error("the centre is stale: memory was wanting while an event was entered")]
+    Stale,
+    #[error("the journal is full")]
+    JournalFull,
+    #[error("no such BSC")]
+    NoSuchBsc,
+    #[error("the BSC is registered already")]
+    BscExists,
+    #[error("cells are registered at the BSC")]
+    BscHasCells,
+    #[error("the link of the BSC is up")]
+    LinkIsUp,
+    #[error("the cell is registered already")]
+    CellExists,
+    #[error("no such cell")]
+    NoSuchCell,
+    #[error("the cell is registered at this BSC already")]
+    SameBsc,
+    #[error("a name is 1 to 32 letters, digits or hyphens")]
+    BadName,
+    #[error("the area is there already")]
+    AreaExists,
+    #[error("no such area")]
+    NoSuchArea,
+    #[error("a warning names the area")]
+    AreaInUse,
+    #[error("the area has this selector already")]
+    SelectorThere,
+    #[error("the area has no such selector")]
+    SelectorNotThere,
+    #[error("no such warning")]
+    NoSuchWarning,
+    #[error("the warning was stopped")]
+    NotActive,
+    #[error("the warning is active")]
+    StillActive,
+    #[error("a message of the warning is on air, or may be")]
+    StillReported,
+    #[error("an order for the warning is in flight")]
+    StillInFlight,
+    #[error("a warning names one area at least")]
+    NoAreas,
+    #[error("the warning names the area already, or it is named twice")]
+    AreaThere,
+    #[error("the warning does not name the area")]
+    AreaNotThere,
+    #[error("the warning names no other area")]
+    LastArea,
+    #[error("a content has 1 to 15 pages of 1 to 82 octets")]
+    BadPages,
+    #[error("a repetition period is 1 to 1,024")]
+    BadPeriod,
+    #[error("the warning had its last update")]
+    UpdatesExhausted,
+    #[error("the link has ended; the latest is {now}")]
+    StaleLink {
+        /// The generation of the latest link, 0 where there was none.
+        now: u64,
+    },
+    #[error("the link is down")]
+    LinkNotUp,
+    #[error("an order is in flight")]
+    InFlight,
+    #[error("nothing is to be ordered")]
+    NothingPending,
+    #[error("the message is on air in no such cell")]
+    NothingToAsk,
+    #[error("the message answers no order in flight")]
+    NoOrder,
+    #[error("a limit would be passed: {which:?}")]
+    Limit {
+        which: Limit,
+    },
+    #[error("out of memory")]
+    Memory,
+    #[error("the desk is not as the office knows it, after {position} entries")]
+    WrongDesk {
+        /// The number of entries of the centre.
+        position: u64,
+    },
+}
+
+impl Refusal {
+    /// The number that operators see. A number is never given to another cause.
+    pub fn number(self) -> u8
+        ensures { result ≡ refusal_number self }
+    {
+        match self {
+            Refusal::Stale => 1,
+            Refusal::JournalFull => 2,
+            Refusal::NoSuchBsc => 3,
+            Refusal::BscExists => 4,
+            Refusal::BscHasCells => 5,
+            Refusal::LinkIsUp => 6,
+            Refusal::CellExists => 7,
+            Refusal::NoSuchCell => 8,
+            Refusal::SameBsc => 9,
+            Refusal::BadName => 10,
+            Refusal::AreaExists => 11,
+            Refusal::NoSuchArea => 12,
+            Refusal::AreaInUse => 13,
+            Refusal::SelectorThere => 14,
+            Refusal::SelectorNotThere => 15,
+            Refusal::NoSuchWarning => 16,
+            Refusal::NotActive => 17,
+            Refusal::StillActive => 18,
+            Refusal::StillReported => 19,
+            Refusal::StillInFlight => 20,
+            Refusal::NoAreas => 21,
+            Refusal::AreaThere => 22,
+            Refusal::AreaNotThere => 23,
+            Refusal::LastArea => 24,
+            Refusal::BadPages => 25,
+            Refusal::BadPeriod => 26,
+            Refusal::UpdatesExhausted => 28,
+            Refusal::StaleLink { now: _ } => 29,
+            Refusal::LinkNotUp => 30,
+            Refusal::InFlight => 31,
+            Refusal::NothingPending => 32,
+            Refusal::NothingToAsk => 33,
+            Refusal::NoOrder => 34,
+            Refusal::Limit { which: _ } => 35,
+            Refusal::Memory => 36,
+            Refusal::WrongDesk { position: _ } => 37,
+        }
+    }
+}
+
+impl From<cell_register::Refusal> for Refusal {
+    ghost use Rattle.std.specs.Prelude.{◌≡◌};
+    ghost use Rattle.centre_events.specs.Refusals.{of_register};
+
+    ghost from_gives = { λ r e. e ≡ of_register r };
+
+    fn from(refusal: cell_register::Refusal) -> Refusal {
+        match refusal {
+            cell_register::Refusal::NoSuchBsc => Refusal::NoSuchBsc,
+            cell_register::Refusal::BscExists => Refusal::BscExists,
+            cell_register::Refusal::BscHasCells => Refusal::BscHasCells,
+            cell_register::Refusal::CellExists => Refusal::CellExists,
+            cell_register::Refusal::NoSuchCell => Refusal::NoSuchCell,
+            cell_register::Refusal::SameBsc => Refusal::SameBsc,
+            cell_register::Refusal::Limit {
+                which: cell_register::Limit::Bscs,
+            } => Refusal::Limit { which: Limit::Bscs },
+            cell_register::Refusal::Limit {
+                which: cell_register::Limit::Cells,
+            } => Refusal::Limit {
+                which: Limit::Cells,
+            },
+            cell_register::Refusal::Memory => Refusal::Memory,
+        }
+    }
+}
+
+impl From<areas::Refusal> for Refusal {
+    ghost use Rattle.std.specs.Prelude.{◌≡◌};
+    ghost use Rattle.centre_events.specs.Refusals.{of_areas};
+
+    ghost from_gives = { λ r e. e ≡ of_areas r };
+
+    fn from(refusal: areas::Refusal) -> Refusal {
+        match refusal {
+            areas::Refusal::BadName => Refusal::BadName,
+            areas::Refusal::AreaExists => Refusal::AreaExists,
+            areas::Refusal::NoSuchArea => Refusal::NoSuchArea,
+            areas::Refusal::SelectorThere => Refusal::SelectorThere,
+            areas::Refusal::SelectorNotThere => Refusal::SelectorNotThere,
+            areas::Refusal::Limit {
+                which: areas::Limit::Areas,
+            } => Refusal::Limit {
+                which: Limit::Areas,
+            },
+            areas::Refusal::Limit {
+                which: areas::Limit::Selectors,
+            } => Refusal::Limit {
+                which: Limit::Selectors,
+            },
+            areas::Refusal::Memory => Refusal::Memory,
+        }
+    }
+}
+
+impl From<warning_book::Refusal> for Refusal {
+    ghost use Rattle.std.specs.Prelude.{◌≡◌};
+    ghost use Rattle.centre_events.specs.Refusals.{of_book};
+
+    ghost from_gives = { λ r e. e ≡ of_book r };
+
+    fn from(refusal: warning_book::Refusal) -> Refusal {
+        match refusal {
+            warning_book::Refusal::NoSuchWarning => Refusal::NoSuchWarning,
+            warning_book::Refusal::NotActive => Refusal::NotActive,
+            warning_book::Refusal::StillActive => Refusal::StillActive,
+            warning_book::Refusal::NoAreas => Refusal::NoAreas,
+            warning_book::Refusal::AreaThere => Refusal::AreaThere,
+            warning_book::Refusal::AreaNotThere => Refusal::AreaNotThere,
+            warning_book::Refusal::LastArea => Refusal::LastArea,
+            warning_book::Refusal::BadPages => Refusal::BadPages,
+            warning_book::Refusal::BadPeriod => Refusal::BadPeriod,
+            warning_book::Refusal::UpdatesExhausted => Refusal::UpdatesExhausted,
+            warning_book::Refusal::Limit {
+                which: warning_book::Limit::Warnings,
+            } => Refusal::Limit {
+                which: Limit::Warnings,
+            },
+            warning_book::Refusal::Limit {
+                which: warning_book::Limit::WarningAreas,
+            } => Refusal::Limit {
+                which: Limit::WarningAreas,
+            },
+            warning_book::Refusal::Limit {
+                which: warning_book::Limit::Ids,
+            } => Refusal::Limit { which: Limit::Ids },
+            warning_book::Refusal::Memory => Refusal::Memory,
+        }
+    }
+}
+
+impl From<AllocError> for Refusal {
+    ghost use Rattle.std.specs.Prelude.{◌≡◌};
+    ghost use Rattle.centre_events.specs.declared.refusal.Refusal.TheVariants as refusal;
+
+    ghost from_gives = { λ _ e. e ≡ refusal.Memory };
+
+    fn from(_: AllocError) -> Refusal {
+        Refusal::Memory
+    }
+}
+
+impl<T: Drop> From<AllocFailed<T>> for Refusal {
+    ghost use Rattle.std.specs.Prelude.{◌≡◌};
+    ghost use Rattle.centre_events.specs.declared.refusal.Refusal.TheVariants as refusal;
+
+    ghost from_gives = { λ _ e. e ≡ refusal.Memory };
+
+    fn from(_: AllocFailed<T>) -> Refusal {
+        Refusal::Memory
+    }
+}
