@@ -2,7 +2,10 @@
 
 use crate::value::Value;
 use cbsp_ie::{CellIds, Counts, Failures};
-use cbsp_messages::{Message, Page};
+use cbsp_messages::{
+    ErrorIndication, Failure, Kill, KillComplete, KillFailure, Message, Page, Restart,
+    StatusComplete, StatusFailure, StatusQuery, WriteComplete, WriteFailure, WriteReplace,
+};
 use std::alloc::{AllocError, Global};
 
 /// A field: its name and its value.
@@ -76,81 +79,105 @@ impl<'m> Fields<'m> {
         Ok(())
     }
 
+    fn put_write_replace(&mut self, m: &'m WriteReplace) -> Result<(), AllocError> {
+        self.put_names(m.message_id, m.serial, m.old)?;
+        self.put_cells(Some(&m.cells))?;
+        self.put_octet("category", m.category)?;
+        self.put("period", Value::Number(m.period))?;
+        self.put("requested", Value::Number(m.requested))?;
+        self.put_octet("dcs", m.dcs)?;
+        self.put_channel(m.channel)?;
+        self.put_pages(m.pages.as_slice())
+    }
+
+    fn put_write_complete(&mut self, m: &'m WriteComplete) -> Result<(), AllocError> {
+        self.put_names(m.message_id, m.serial, m.old)?;
+        self.put_counts(m.counts.as_ref())?;
+        self.put_cells(m.cells.as_ref())?;
+        self.put_channel(m.channel)
+    }
+
+    fn put_write_failure(&mut self, m: &'m WriteFailure) -> Result<(), AllocError> {
+        self.put_names(m.message_id, m.serial, m.old)?;
+        self.put_failures(&m.failures)?;
+        self.put_counts(m.counts.as_ref())?;
+        self.put_cells(m.cells.as_ref())?;
+        self.put_channel(m.channel)
+    }
+
+    fn put_kill(&mut self, m: &'m Kill) -> Result<(), AllocError> {
+        self.put_names(m.message_id, m.serial, None)?;
+        self.put_cells(Some(&m.cells))?;
+        self.put_channel(m.channel)
+    }
+
+    fn put_kill_complete(&mut self, m: &'m KillComplete) -> Result<(), AllocError> {
+        self.put_names(m.message_id, m.serial, None)?;
+        self.put_counts(m.counts.as_ref())?;
+        self.put_cells(m.cells.as_ref())?;
+        self.put_channel(m.channel)
+    }
+
+    fn put_kill_failure(&mut self, m: &'m KillFailure) -> Result<(), AllocError> {
+        self.put_names(m.message_id, m.serial, None)?;
+        self.put_failures(&m.failures)?;
+        self.put_counts(m.counts.as_ref())?;
+        self.put_cells(m.cells.as_ref())?;
+        self.put_channel(m.channel)
+    }
+
+    fn put_status_query(&mut self, m: &'m StatusQuery) -> Result<(), AllocError> {
+        self.put_names(m.message_id, m.serial, None)?;
+        self.put_cells(Some(&m.cells))?;
+        self.put_channel(m.channel)
+    }
+
+    fn put_status_complete(&mut self, m: &'m StatusComplete) -> Result<(), AllocError> {
+        self.put_names(m.message_id, m.serial, None)?;
+        self.put_counts(Some(&m.counts))?;
+        self.put_channel(m.channel)
+    }
+
+    fn put_status_failure(&mut self, m: &'m StatusFailure) -> Result<(), AllocError> {
+        self.put_names(m.message_id, m.serial, None)?;
+        self.put_failures(&m.failures)?;
+        self.put_counts(m.counts.as_ref())?;
+        self.put_channel(m.channel)
+    }
+
+    fn put_restart(&mut self, m: &'m Restart) -> Result<(), AllocError> {
+        self.put_cells(Some(&m.cells))?;
+        self.put_octet("kind", m.kind)?;
+        self.put_octet("recovery", m.recovery)
+    }
+
+    fn put_failure(&mut self, m: &'m Failure) -> Result<(), AllocError> {
+        self.put_failures(&m.failures)?;
+        self.put_octet("kind", m.kind)
+    }
+
+    fn put_error_indication(&mut self, m: &'m ErrorIndication) -> Result<(), AllocError> {
+        self.put_octet("cause", m.cause.0)?;
+        self.put_number("message_id", m.message_id)?;
+        self.put_number("serial", m.serial)?;
+        self.put_number("old", m.old)?;
+        self.put_channel(m.channel)
+    }
+
     fn put_message(&mut self, message: &'m Message) -> Result<(), AllocError> {
         match message {
-            Message::WriteReplace(m) => {
-                self.put_names(m.message_id, m.serial, m.old)?;
-                self.put_cells(Some(&m.cells))?;
-                self.put_octet("category", m.category)?;
-                self.put("period", Value::Number(m.period))?;
-                self.put("requested", Value::Number(m.requested))?;
-                self.put_octet("dcs", m.dcs)?;
-                self.put_channel(m.channel)?;
-                self.put_pages(m.pages.as_slice())
-            }
-            Message::WriteComplete(m) => {
-                self.put_names(m.message_id, m.serial, m.old)?;
-                self.put_counts(m.counts.as_ref())?;
-                self.put_cells(m.cells.as_ref())?;
-                self.put_channel(m.channel)
-            }
-            Message::WriteFailure(m) => {
-                self.put_names(m.message_id, m.serial, m.old)?;
-                self.put_failures(&m.failures)?;
-                self.put_counts(m.counts.as_ref())?;
-                self.put_cells(m.cells.as_ref())?;
-                self.put_channel(m.channel)
-            }
-            Message::Kill(m) => {
-                self.put_names(m.message_id, m.serial, None)?;
-                self.put_cells(Some(&m.cells))?;
-                self.put_channel(m.channel)
-            }
-            Message::KillComplete(m) => {
-                self.put_names(m.message_id, m.serial, None)?;
-                self.put_counts(m.counts.as_ref())?;
-                self.put_cells(m.cells.as_ref())?;
-                self.put_channel(m.channel)
-            }
-            Message::KillFailure(m) => {
-                self.put_names(m.message_id, m.serial, None)?;
-                self.put_failures(&m.failures)?;
-                self.put_counts(m.counts.as_ref())?;
-                self.put_cells(m.cells.as_ref())?;
-                self.put_channel(m.channel)
-            }
-            Message::StatusQuery(m) => {
-                self.put_names(m.message_id, m.serial, None)?;
-                self.put_cells(Some(&m.cells))?;
-                self.put_channel(m.channel)
-            }
-            Message::StatusComplete(m) => {
-                self.put_names(m.message_id, m.serial, None)?;
-                self.put_counts(Some(&m.counts))?;
-                self.put_channel(m.channel)
-            }
-            Message::StatusFailure(m) => {
-                self.put_names(m.message_id, m.serial, None)?;
-                self.put_failures(&m.failures)?;
-                self.put_counts(m.counts.as_ref())?;
-                self.put_channel(m.channel)
-            }
-            Message::Restart(m) => {
-                self.put_cells(Some(&m.cells))?;
-                self.put_octet("kind", m.kind)?;
-                self.put_octet("recovery", m.recovery)
-            }
-            Message::Failure(m) => {
-                self.put_failures(&m.failures)?;
-                self.put_octet("kind", m.kind)
-            }
-            Message::ErrorIndication(m) => {
-                self.put_octet("cause", m.cause.0)?;
-                self.put_number("message_id", m.message_id)?;
-                self.put_number("serial", m.serial)?;
-                self.put_number("old", m.old)?;
-                self.put_channel(m.channel)
-            }
+            Message::WriteReplace(m) => self.put_write_replace(m),
+            Message::WriteComplete(m) => self.put_write_complete(m),
+            Message::WriteFailure(m) => self.put_write_failure(m),
+            Message::Kill(m) => self.put_kill(m),
+            Message::KillComplete(m) => self.put_kill_complete(m),
+            Message::KillFailure(m) => self.put_kill_failure(m),
+            Message::StatusQuery(m) => self.put_status_query(m),
+            Message::StatusComplete(m) => self.put_status_complete(m),
+            Message::StatusFailure(m) => self.put_status_failure(m),
+            Message::Restart(m) => self.put_restart(m),
+            Message::Failure(m) => self.put_failure(m),
+            Message::ErrorIndication(m) => self.put_error_indication(m),
         }
     }
 }

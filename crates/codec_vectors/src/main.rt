@@ -18,7 +18,21 @@ use anyhow::{Context, Result};
 use outcome::difference;
 use std::process::ExitCode;
 use std::{env, fs};
-use vectors::vectors_in;
+use vectors::{Vector, vectors_in};
+
+/// Prints what comes of a frame, and says whether it agrees with the file.
+fn agrees(rt: &(impl Print + AllocGlobal), vector: &Vector<'_>) -> Result<bool> {
+    let name = vector.name;
+    match difference(rt.alloc(), vector) {
+        Ok(None) => {
+            println!(rt; "{name} agrees")?;
+            return Ok(true);
+        }
+        Ok(Some(line)) => println!(rt; "{name} differs: {line}")?,
+        Err(error) => println!(rt; "{name} differs: {error}")?,
+    }
+    Ok(false)
+}
 
 fn main(rt: HostRuntime) -> Result<ExitCode> {
     let name = env::args(&rt)?
@@ -27,17 +41,8 @@ fn main(rt: HostRuntime) -> Result<ExitCode> {
     let text = fs::read_to_string(&rt, name.as_str())?;
     let mut status = ExitCode::SUCCESS;
     for vector in &vectors_in(rt.alloc(), text.as_str())? {
-        let name = vector.name;
-        match difference(rt.alloc(), vector) {
-            Ok(None) => println!(rt; "{name} agrees")?,
-            Ok(Some(line)) => {
-                status = ExitCode::FAILURE;
-                println!(rt; "{name} differs: {line}")?;
-            }
-            Err(error) => {
-                status = ExitCode::FAILURE;
-                println!(rt; "{name} differs: {error}")?;
-            }
+        if !agrees(&rt, vector)? {
+            status = ExitCode::FAILURE;
         }
     }
     Ok(status)
