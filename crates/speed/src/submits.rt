@@ -4,27 +4,69 @@ ghost use Rattle.std.specs.Prelude.{◌≡◌};
 
 use crate::stopwatch::Stopwatch;
 use anyhow::{Context, Result, bail};
+use areas::Selector;
 use cell_register::BscId;
 use centre_core::centre::Centre;
 use centre_events::event::Event;
 use centre_events::refusal::Refusal;
-use common::Cell;
+use common::{Cell, Name, Names, Octets};
 use coverage_plan::Edit;
 use office::desk::Desk;
 use office::office::Office;
-use std::alloc::Global;
+use serials::Scope;
+use std::alloc::{AllocError, Global};
 use std::marker::Brand;
 use std::rt::Clock;
 use std::sync::Wait;
 use std::sync::ledger::{Blank, Ledger};
 use std::thread;
 use std::thread::Threads;
+use warning_book::{Category, Content, ContentPages, Notice};
 
 /// The network: country 262, network 01.
 const PLMN: [u8; 3] = [0x62, 0xf2, 0x10];
 
 /// How many entries the journal holds.
 const LIMIT: u32 = 1_000_000;
+
+/// The name of the area.
+fn coast(alloc: Global) -> Result<Name, AllocError> {
+    Ok(Name::from_vec(Vec::from_slice(alloc, b"Coast")?))
+}
+
+/// The warning of the area: one page, which has one octet.
+fn issue(alloc: Global) -> Result<Event, AllocError> {
+    let mut pages = Vec::new(alloc);
+    pages.push(Octets::from_vec(Vec::from_slice(alloc, b"A")?))?;
+    let content = Content {
+        dcs: 0x0f,
+        category: Category::HighPriority,
+        period: 10,
+        pages: ContentPages::from_vec(pages),
+    };
+    let notice = Notice {
+        message_id: 4370,
+        scope: Scope::Cell,
+        content,
+    };
+    let mut names = Vec::new(alloc);
+    names.push(coast(alloc)?)?;
+    Ok(Event::Edit(Edit::Issue(notice, Names::from_vec(names))))
+}
+
+/// How many events are submitted before the edits.
+const STEPS: u16 = 12;
+
+/// What the edits stand on, in so many steps: a BSC, an area with the location areas of the desks and of the loop, and a
+/// warning there. So an edit bears on one line.
+fn step(alloc: Global, b: BscId, step: u16) -> Result<Event, AllocError> {
+    Ok(match step {
+        0 => Event::Edit(Edit::AddBsc(b)),
+        1 => Event::Edit(Edit::AddArea(coast(alloc)?)),
+        2..11 => Event::Edit(Edit::Put(coast(alloc)?, Selector::Lac(step - 1))),
+        _ => issue(alloc)?,
+    })
+}
 
 /// One of a pair of edits, which the next takes back: the location area has one cell, which is registered and taken out.
 fn edit(lac: u16, index: u32, b: BscId) -> Event {
@@ -173,21 +215,30 @@ fn time_eight<L: Ledger + Send + Sync, R: Threads + Wait + Clock + Sync>(
     Ok((watch.microseconds(rt)?, is_done))
 }
 
-/// The BSC at which the edits register their cells.
-fn register<L: Ledger, R: Wait>(rt: &R, office: &Office<L>, b: BscId) -> Result<(), Refusal> {
+/// A desk of its own submits what the edits stand on.
+fn begin<L: Ledger, R: Wait>(
+    rt: &R,
+    alloc: Global,
+    office: &Office<L>,
+    b: BscId,
+) -> Result<(), Refusal> {
     let mut desk = office.open_desk(rt)?;
-    office.submit(rt, &mut desk, Event::Edit(Edit::AddBsc(b)))
+    for index in 0..STEPS {
+        office.submit(rt, &mut desk, step(alloc, b, index)?)?;
+    }
+    Ok(())
 }
 
 /// The microseconds that so many desks in threads of their own take for so many edits each, and whether all were taken.
 fn time_desks<L: Ledger + Send + Sync, R: Threads + Wait + Clock + Sync>(
     rt: &R,
+    alloc: Global,
     office: &Office<L>,
     desks: u32,
     count: u32,
 ) -> Result<(u64, bool)> {
     let b = BscId::new(1).context("1 is a BSC")?;
-    register(rt, office, b)?;
+    begin(rt, alloc, office, b)?;
     match desks {
         1 => time_one(rt, office, b, count),
         2 => time_two(rt, office, b, count),
@@ -209,7 +260,7 @@ fn time_office<L: Ledger + Send + Sync, R: Threads + Wait + Clock + Sync>(
     requires desks { blank.parts ≡ 1025 }
 {
     let office = Office::<L>::new(alloc, blank, PLMN, LIMIT);
-    time_desks(rt, &office, desks, count)
+    time_desks(rt, alloc, &office, desks, count)
 }
 
 fn run_office<R: Threads + Wait + Clock + Sync>(
@@ -231,19 +282,32 @@ fn accept_edits(centre: &mut Centre, b: BscId, count: u32) -> bool {
     true
 }
 
+/// Has the centre take what the edits stand on.
+fn accept_beginning(alloc: Global, centre: &mut Centre, b: BscId) -> Result<(), Refusal> {
+    for index in 0..STEPS {
+        centre.accept(1, step(alloc, b, index)?)?;
+    }
+    Ok(())
+}
+
 /// The microseconds that the centre takes for so many edits in one loop, and whether all were taken.
-fn time_edits(rt: &impl Clock, centre: &mut Centre, count: u32) -> Result<(u64, bool)> {
+fn time_edits(
+    rt: &impl Clock,
+    alloc: Global,
+    centre: &mut Centre,
+    count: u32,
+) -> Result<(u64, bool)> {
     let b = BscId::new(1).context("1 is a BSC")?;
-    let is_there = centre.accept(1, Event::Edit(Edit::AddBsc(b))).is_ok();
+    accept_beginning(alloc, centre, b)?;
     let watch = Stopwatch::start(rt)?;
     let is_done = accept_edits(centre, b, count);
-    Ok((watch.microseconds(rt)?, is_there && is_done))
+    Ok((watch.microseconds(rt)?, is_done))
 }
 
 /// Those of a centre of its own.
 fn time_loop(rt: &(impl Clock + AllocGlobal), count: u32) -> Result<(u64, bool)> {
     let mut centre = Centre::new(rt.alloc(), PLMN, LIMIT);
-    time_edits(rt, &mut centre, count)
+    time_edits(rt, rt.alloc(), &mut centre, count)
 }
 
 /// The figure of so many edits in so many microseconds.
