@@ -44,3 +44,5 @@ mod serial_tests;
 mod stale_script;
 #[cfg(test)]
 mod stale_tests;
+#[cfg(test)]
+mod values;
