@@ -63,13 +63,18 @@ fn pages_are_copied(rt: &impl Abort, alloc: Global) {
 
 fn message_is_copied(rt: &impl Abort, alloc: Global, message: &Message) {
     let copy = message.copied(alloc).expect(rt, "memory");
-    assert!(rt; copy.same(message));
+    let is_same = copy.same(message);
+    drop(copy);
+    assert!(rt; is_same);
 }
 
 /// The body of that message is read as one of its type.
 fn is_read_as(rt: &impl Abort, alloc: Global, message: &Message) {
     let other = read_as(alloc, MessageType::Kill, &KILL);
-    assert!(rt; other.expect(rt, "the body is read").same(message));
+    let other = other.expect(rt, "the body is read");
+    let is_same = other.same(message);
+    drop(other);
+    assert!(rt; is_same);
 }
 
 fn is_written(rt: &impl Abort, alloc: Global, message: &Message) {
@@ -87,4 +92,5 @@ fn every_call_answers(rt: HostRuntime) {
     message_is_copied(&rt, alloc, &message);
     is_read_as(&rt, alloc, &message);
     is_written(&rt, alloc, &message);
+    drop(message);
 }

@@ -113,7 +113,9 @@ fn groups(rt: &impl Abort, pending: &Pending, b: BscId) -> Vec<Order> {
 #[test]
 fn a_query_is_carried(rt: HostRuntime) {
     let message = query_of(rt.alloc(), 4370, current(), &[FIRST]).expect(&rt, "memory");
-    assert!(rt; matches!(message, Message::StatusQuery(_)));
+    let is_query = matches!(message, Message::StatusQuery(_));
+    drop(message);
+    assert!(rt; is_query);
 }
 
 /// A version that is wanted is to be written.
@@ -147,7 +149,9 @@ fn a_write_is_carried(rt: &impl Abort, alloc: Global, order: &Order) {
     assert!(rt; is_order(order, OrderKind::Write, current(), &[FIRST]));
     let content = content(rt, alloc, &[0x41]);
     let message = message_of(alloc, order, Some(&content)).expect(rt, "memory");
-    assert!(rt; matches!(message, Message::WriteReplace(_)));
+    let is_write = matches!(message, Message::WriteReplace(_));
+    drop(message);
+    assert!(rt; is_write);
 }
 
 #[test]

@@ -260,20 +260,21 @@ fn make(rt: &impl Abort, alloc: Global, plan: &mut Plan, edit: &Edit) -> Option<
     }
 }
 
-fn makes(rt: &impl Abort, plan: &mut Plan, edit: &Edit) {
-    assert!(rt; plan.make(edit) == Ok(()));
+fn makes(rt: &impl Abort, plan: &mut Plan, edit: Edit) {
+    assert!(rt; plan.make(&edit) == Ok(()));
+    drop(edit);
 }
 
 /// Three BSCs, all cells at the first, and the four areas.
 fn begun(rt: &impl Abort, alloc: Global) -> Plan {
     let mut plan = Plan::new(alloc);
     let first = bsc(rt, 1);
-    makes(rt, &mut plan, &Edit::AddBsc(first));
+    makes(rt, &mut plan, Edit::AddBsc(first));
     for cell in &CELLS {
-        makes(rt, &mut plan, &Edit::AddCell(*cell, first));
+        makes(rt, &mut plan, Edit::AddCell(*cell, first));
     }
     for place in 0..4 {
-        makes(rt, &mut plan, &Edit::AddArea(area(rt, alloc, place)));
+        makes(rt, &mut plan, Edit::AddArea(area(rt, alloc, place)));
     }
     plan
 }
@@ -291,6 +292,7 @@ fn edit_as_before(rt: HostRuntime) {
             accepted = accepted.saturating_add(1);
             changed = changed.saturating_add(pairs);
         }
+        drop(edit);
         if accepted == EDITS {
             break;
         }

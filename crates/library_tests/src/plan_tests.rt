@@ -32,26 +32,27 @@ fn issue(rt: &impl Abort, alloc: Global, areas: &[&[u8]]) -> Edit {
     Edit::Issue(notice, names(rt, alloc, areas))
 }
 
-fn make(rt: &impl Abort, plan: &mut Plan, edit: &Edit) {
-    assert!(rt; plan.make(edit) == Ok(()));
+fn make(rt: &impl Abort, plan: &mut Plan, edit: Edit) {
+    assert!(rt; plan.make(&edit) == Ok(()));
+    drop(edit);
 }
 
 /// The first BSC, and both cells there.
 fn register(rt: &impl Abort, plan: &mut Plan) {
     let b = bsc(rt, 1);
-    make(rt, plan, &Edit::AddBsc(b));
-    make(rt, plan, &Edit::AddCell(SEVEN, b));
-    make(rt, plan, &Edit::AddCell(EIGHT, b));
+    make(rt, plan, Edit::AddBsc(b));
+    make(rt, plan, Edit::AddCell(SEVEN, b));
+    make(rt, plan, Edit::AddCell(EIGHT, b));
 }
 
 /// An area of that name.
 fn add_area(rt: &impl Abort, alloc: Global, plan: &mut Plan, area: &[u8]) {
-    make(rt, plan, &Edit::AddArea(name(rt, alloc, area)));
+    make(rt, plan, Edit::AddArea(name(rt, alloc, area)));
 }
 
 /// The selector in the area of that name.
 fn put(rt: &impl Abort, alloc: Global, plan: &mut Plan, area: &[u8], selector: Selector) {
-    make(rt, plan, &Edit::Put(name(rt, alloc, area), selector));
+    make(rt, plan, Edit::Put(name(rt, alloc, area), selector));
 }
 
 /// Two cells at BSC 1. Area A has their location area and the first cell, area B has the first cell. Warning 1 names
@@ -64,7 +65,7 @@ fn begun(rt: &impl Abort, alloc: Global) -> Plan {
     put(rt, alloc, &mut plan, b"A", Selector::Lac(100));
     put(rt, alloc, &mut plan, b"A", Selector::Cell(SEVEN));
     put(rt, alloc, &mut plan, b"B", Selector::Cell(SEVEN));
-    make(rt, &mut plan, &issue(rt, alloc, &[b"A", b"B"]));
+    make(rt, &mut plan, issue(rt, alloc, &[b"A", b"B"]));
     plan
 }
 
@@ -77,9 +78,10 @@ fn are_pairs(rt: &impl Abort, found: &[(Cell, WarningId)], cells: &[Cell]) {
 }
 
 /// Makes the edit, which changes the first warning in these cells and no other pair.
-fn changes(rt: &impl Abort, plan: &mut Plan, edit: &Edit, cells: &[Cell]) {
-    assert!(rt; plan.check(edit) == Ok(()));
-    let pairs = plan.edit(edit).expect(rt, "the edit is made");
+fn changes(rt: &impl Abort, plan: &mut Plan, edit: Edit, cells: &[Cell]) {
+    assert!(rt; plan.check(&edit) == Ok(()));
+    let pairs = plan.edit(&edit).expect(rt, "the edit is made");
+    drop(edit);
     are_pairs(rt, pairs.as_slice(), cells);
 }
 
@@ -93,7 +95,7 @@ fn puts(
     cells: &[Cell],
 ) {
     let edit = Edit::Put(name(rt, alloc, area), selector);
-    changes(rt, plan, &edit, cells);
+    changes(rt, plan, edit, cells);
 }
 
 /// The selector is cut out of the area, which changes the first warning in these cells.
@@ -106,14 +108,16 @@ fn cuts(
     cells: &[Cell],
 ) {
     let edit = Edit::Cut(name(rt, alloc, area), selector);
-    changes(rt, plan, &edit, cells);
+    changes(rt, plan, edit, cells);
 }
 
 /// The edit is refused so, each time.
-fn refuses(rt: &impl Abort, plan: &mut Plan, edit: &Edit, want: Refusal) {
-    assert!(rt; plan.check(edit) == Err(want));
-    assert!(rt; plan.make(edit) == Err(want));
-    assert!(rt; plan.edit(edit).err() == Some(want));
+fn refuses(rt: &impl Abort, plan: &mut Plan, edit: Edit, want: Refusal) {
+    assert!(rt; plan.check(&edit) == Err(want));
+    assert!(rt; plan.make(&edit) == Err(want));
+    let refusal = plan.edit(&edit).err();
+    drop(edit);
+    assert!(rt; refusal == Some(want));
 }
 
 /// At BSC 1 the first warning is planned in these cells, with this serial number.
@@ -141,8 +145,11 @@ fn is_item(rt: &impl Abort, plan: &Plan, item: &PlanItem, cell: Cell, serial: Se
 fn a_copy_is_issued(rt: &impl Abort, alloc: Global, plan: &mut Plan) {
     let edit = issue(rt, alloc, &[b"B"]);
     let copy = edit.copied(alloc).expect(rt, "memory");
-    assert!(rt; copy.same(&edit));
+    let is_same = copy.same(&edit);
+    drop(edit);
+    assert!(rt; is_same);
     let pairs = plan.edit(&copy).expect(rt, "the warning is issued");
+    drop(copy);
     let want = [(SEVEN, WarningId::new(2))];
     assert!(rt; pairs.as_slice() == want.as_slice());
 }
@@ -185,17 +192,17 @@ fn a_cut_changes_what_nothing_else_covers(rt: HostRuntime) {
     is_planned(&rt, &plan, &[SEVEN], FIRST_SERIAL);
     cuts(&rt, alloc, &mut plan, b"B", seven, &[SEVEN]);
     is_planned(&rt, &plan, &[], FIRST_SERIAL);
-    changes(&rt, &mut plan, &Edit::AddBsc(bsc(&rt, 2)), &[]);
+    changes(&rt, &mut plan, Edit::AddBsc(bsc(&rt, 2)), &[]);
 }
 
 /// A cell is registered at the second BSC, the first cell moves there, and the second is taken out.
 fn cells_change(rt: &impl Abort, plan: &mut Plan, added: Cell, b: BscId) {
-    changes(rt, plan, &Edit::AddBsc(b), &[]);
-    changes(rt, plan, &Edit::AddCell(added, b), &[added]);
-    changes(rt, plan, &Edit::MoveCell(SEVEN, b), &[SEVEN]);
+    changes(rt, plan, Edit::AddBsc(b), &[]);
+    changes(rt, plan, Edit::AddCell(added, b), &[added]);
+    changes(rt, plan, Edit::MoveCell(SEVEN, b), &[SEVEN]);
     is_planned(rt, plan, &[EIGHT], FIRST_SERIAL);
-    changes(rt, plan, &Edit::RemoveCell(EIGHT), &[EIGHT]);
-    changes(rt, plan, &Edit::RemoveBsc(bsc(rt, 1)), &[]);
+    changes(rt, plan, Edit::RemoveCell(EIGHT), &[EIGHT]);
+    changes(rt, plan, Edit::RemoveBsc(bsc(rt, 1)), &[]);
 }
 
 #[test]
@@ -221,32 +228,32 @@ fn a_put_changes_what_was_not_covered(rt: HostRuntime) {
 /// A third area, which no warning names, is made, filled and dropped.
 fn unused_areas_change_nothing(rt: &impl Abort, alloc: Global, plan: &mut Plan) {
     let add = Edit::AddArea(name(rt, alloc, b"C"));
-    changes(rt, plan, &add, &[]);
+    changes(rt, plan, add, &[]);
     puts(rt, alloc, plan, b"C", Selector::Lac(100), &[]);
     let drop = Edit::DropArea(name(rt, alloc, b"C"));
-    changes(rt, plan, &drop, &[]);
+    changes(rt, plan, drop, &[]);
 }
 
 /// The first warning has a second version.
 fn a_warning_is_updated(rt: &impl Abort, alloc: Global, plan: &mut Plan) {
     let update = Edit::Update(first_id(), content(rt, alloc, b"A"));
-    changes(rt, plan, &update, &[SEVEN, EIGHT]);
+    changes(rt, plan, update, &[SEVEN, EIGHT]);
     is_planned(rt, plan, &[SEVEN, EIGHT], FIRST_SERIAL + 1);
 }
 
 /// The first warning loses area B, and has it again.
 fn areas_of_a_warning_change(rt: &impl Abort, alloc: Global, plan: &mut Plan) {
     let narrow = Edit::Narrow(first_id(), name(rt, alloc, b"B"));
-    changes(rt, plan, &narrow, &[SEVEN]);
+    changes(rt, plan, narrow, &[SEVEN]);
     let widen = Edit::Widen(first_id(), name(rt, alloc, b"B"));
-    changes(rt, plan, &widen, &[SEVEN]);
+    changes(rt, plan, widen, &[SEVEN]);
 }
 
 /// The first warning is stopped and forgotten.
 fn a_warning_ends(rt: &impl Abort, plan: &mut Plan, cells: &[Cell]) {
-    changes(rt, plan, &Edit::Stop(first_id()), cells);
+    changes(rt, plan, Edit::Stop(first_id()), cells);
     is_planned(rt, plan, &[], FIRST_SERIAL);
-    changes(rt, plan, &Edit::Forget(first_id()), cells);
+    changes(rt, plan, Edit::Forget(first_id()), cells);
 }
 
 #[test]
@@ -261,23 +268,23 @@ fn a_warning_changes_in_its_areas(rt: HostRuntime) {
 
 fn issues_are_refused(rt: &impl Abort, alloc: Global, plan: &mut Plan) {
     let no_area = issue(rt, alloc, &[b"C", b"C"]);
-    refuses(rt, plan, &no_area, Refusal::NoSuchArea);
+    refuses(rt, plan, no_area, Refusal::NoSuchArea);
     let twice = issue(rt, alloc, &[b"A", b"A"]);
-    refuses(rt, plan, &twice, Refusal::AreaThere);
+    refuses(rt, plan, twice, Refusal::AreaThere);
 }
 
 fn missing_areas_come_first(rt: &impl Abort, alloc: Global, plan: &mut Plan) {
     let unknown = WarningId::new(2);
     let widen = Edit::Widen(unknown, name(rt, alloc, b"C"));
-    refuses(rt, plan, &widen, Refusal::NoSuchArea);
+    refuses(rt, plan, widen, Refusal::NoSuchArea);
     let narrow = Edit::Narrow(unknown, name(rt, alloc, b"A"));
-    refuses(rt, plan, &narrow, Refusal::NoSuchWarning);
+    refuses(rt, plan, narrow, Refusal::NoSuchWarning);
 }
 
 fn what_is_in_use_stays(rt: &impl Abort, alloc: Global, plan: &mut Plan) {
     let drop = Edit::DropArea(name(rt, alloc, b"A"));
-    refuses(rt, plan, &drop, Refusal::AreaInUse);
-    refuses(rt, plan, &Edit::Forget(first_id()), Refusal::StillActive);
+    refuses(rt, plan, drop, Refusal::AreaInUse);
+    refuses(rt, plan, Edit::Forget(first_id()), Refusal::StillActive);
 }
 
 #[test]
