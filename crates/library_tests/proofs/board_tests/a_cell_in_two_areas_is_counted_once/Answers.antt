@@ -1,7 +1,7 @@
 use Rattle.std.proofs.Common.{None, arith}
 use Rattle.mirror.specs.declared.presence.Presence.TheVariants.{OnAir}
 use Rattle.library_tests.proofs.BoardLemmas.{same_count}
-use Rattle.library_tests.proofs.board_tests.is_counted.Goals as goal
+use Rattle.library_tests.proofs.board_tests.a_cell_in_two_areas_is_counted_once.Goals as goal
 
 pub numbers_with-requires : goal.numbers_with-requires
 numbers_with-requires g c =
