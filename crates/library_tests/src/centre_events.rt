@@ -30,8 +30,15 @@ pub(crate) fn first_serial() -> Serial {
 
 /// The centre accepts the event.
 pub(crate) fn takes(rt: &impl Abort, centre: &mut Centre, event: Event) {
-    let is_taken = centre.accept(1, event).is_ok();
+    let answer = centre.accept(1, event);
+    let is_taken = answer.is_ok();
+    drop(answer);
     assert!(rt; is_taken);
+}
+
+/// The centre accepts the edit.
+pub(crate) fn edits(rt: &impl Abort, centre: &mut Centre, edit: Edit) {
+    takes(rt, centre, Event::Edit(edit));
 }
 
 pub(crate) fn name(alloc: Global, octets: &[u8]) -> Result<Name, AllocError> {

@@ -1,12 +1,14 @@
 //! What no clause says: the frames of one stream however it comes, streams that fail, end early or are
 //! interrupted, and that each call can succeed.
 
+ghost use Rattle.std.specs.Prelude.{◌≤◌};
+
 use framing::faulty::{EndsAtRead, FailsAfter, FailsAtRead, InPieces};
 use framing::{Failed, FrameFault, Framer, FromRead, FromWrite, Sink, Source, write_all};
+use std::alloc::Global;
 use std::io;
 use std::io::{ErrorKind, Read, Write};
 use std::process::Abort;
-use std::test::Fail;
 
 /// A WRITE-REPLACE COMPLETE, a type that is not in use, and a RESTART, one after another.
 const STREAM: [u8; 38] = [
@@ -33,51 +35,79 @@ fn gives_the_stream(rt: &impl Abort, framer: &mut Framer, cuts: &[usize]) {
     assert_eq!(rt; framer.rest(), 0, "cut at {cuts:?}");
 }
 
+fn feed(rt: &impl Abort, framer: &mut Framer, octets: &[u8]) {
+    assert_eq!(rt; framer.feed(octets), Ok(()));
+}
+
+/// The stream is fed in three pieces, cut at these places.
+fn is_cut(rt: &impl Abort, alloc: Global, first: usize, second: usize)
+    requires ordered { first ≤ second }
+    requires within { second ≤ 38 }
+{
+    let mut framer = Framer::new(alloc);
+    feed(rt, &mut framer, &STREAM[..first]);
+    feed(rt, &mut framer, &STREAM[first..second]);
+    feed(rt, &mut framer, &STREAM[second..]);
+    gives_the_stream(rt, &mut framer, &[first, second]);
+}
+
 #[test]
-fn the_frames_are_the_same_however_the_stream_is_cut(rt: HostRuntime) -> Result<(), Fail> {
+fn the_frames_are_the_same_however_the_stream_is_cut(rt: HostRuntime) {
     for first in 0..=STREAM.len() {
         for second in first..=STREAM.len() {
-            let mut framer = Framer::new(rt.alloc());
-            framer.feed(&STREAM[..first])?;
-            framer.feed(&STREAM[first..second])?;
-            framer.feed(&STREAM[second..])?;
-            gives_the_stream(&rt, &mut framer, &[first, second]);
+            is_cut(&rt, rt.alloc(), first, second);
         }
     }
     let mut framer = Framer::new(rt.alloc());
     for octet in &STREAM {
-        framer.feed(&[*octet])?;
+        feed(&rt, &mut framer, &[*octet]);
     }
     gives_the_stream(&rt, &mut framer, &[]);
-    Ok(())
 }
 
-#[test]
-fn a_body_is_read_up_to_262144_octets(rt: HostRuntime) -> Result<(), Fail> {
-    let too_long = Err(FrameFault::TooLong { length: 262_145 });
-    let mut framer = Framer::new(rt.alloc());
-    framer.feed(&STREAM[..20])?;
-    assert_eq!(rt; framer.feed(&[0x02, 0x04, 0x00]), Ok(()));
-    assert_eq!(rt; framer.feed(&[0x01, 0x0e]), too_long);
+/// The frame that is begun is refused, and so are these octets.
+fn is_too_long(rt: &impl Abort, framer: &mut Framer, octets: &[u8]) {
+    let too_long = FrameFault::TooLong { length: 262_145 };
+    assert_eq!(rt; framer.feed(octets), Err(too_long));
     assert_eq!(rt; framer.rest(), 4);
-    assert_eq!(rt; framer.feed(&STREAM), too_long);
-    assert_eq!(rt; framer.next().expect(&rt, "the frame before").kind, 0x02);
-    assert!(rt; framer.next().is_none());
-    assert_eq!(rt; framer.feed(&[]), too_long);
-    assert_eq!(rt; framer.rest(), 4);
+}
 
-    let mut framer = Framer::new(rt.alloc());
-    assert_eq!(rt; framer.feed(&[0x02, 0x04, 0x00, 0x00]), Ok(()));
-    assert_eq!(rt; framer.rest(), 4);
+/// No frame is ready, and so many octets wait for the rest of theirs.
+fn waits(rt: &impl Abort, framer: &mut Framer, rest: usize) {
+    assert!(rt; framer.next().is_none());
+    assert_eq!(rt; framer.rest(), rest);
+}
+
+fn a_longer_body_is_refused(rt: &impl Abort, alloc: Global) {
+    let mut framer = Framer::new(alloc);
+    feed(rt, &mut framer, &STREAM[..20]);
+    feed(rt, &mut framer, &[0x02, 0x04, 0x00]);
+    is_too_long(rt, &mut framer, &[0x01, 0x0e]);
+    is_too_long(rt, &mut framer, &STREAM);
+    let frame = framer.next().expect(rt, "the frame before");
+    assert_eq!(rt; frame.kind, 0x02);
+    waits(rt, &mut framer, 4);
+    is_too_long(rt, &mut framer, &[]);
+}
+
+fn the_longest_body_is_read(rt: &impl Abort, alloc: Global) {
+    let mut framer = Framer::new(alloc);
+    feed(rt, &mut framer, &[0x02, 0x04, 0x00, 0x00]);
+    waits(rt, &mut framer, 4);
     let piece = [0x55; 4096];
     for _ in 0..64 {
         assert!(rt; framer.next().is_none());
-        framer.feed(&piece)?;
+        feed(rt, &mut framer, &piece);
     }
-    let frame = framer.next().expect(&rt, "the longest frame");
+    let frame = framer.next().expect(rt, "the longest frame");
     assert_eq!(rt; frame.body.as_slice().len(), 262_144);
     assert_eq!(rt; framer.rest(), 0);
-    Ok(())
+}
+
+#[test]
+fn a_body_is_read_up_to_262144_octets(rt: HostRuntime) {
+    a_longer_body_is_refused(&rt, rt.alloc());
+    the_longest_body_is_read(&rt, rt.alloc());
 }
 
 /// Reads to the end, or to a failure.
@@ -95,35 +125,53 @@ fn read_octets(source: &mut impl Source, gave: &mut Vec<u8>) -> Result<(), Faile
     Ok(())
 }
 
-#[test]
-fn sources_of_a_test_fail_and_end_where_they_are_told(rt: HostRuntime) -> Result<(), Fail> {
-    let octets = [1, 2, 3, 4, 5];
-    let mut source = FailsAtRead::new(InPieces::new(FromRead::new(octets.as_slice()), 2), 2);
-    let mut gave = Vec::new(rt.alloc());
-    assert_eq!(rt; read_octets(&mut source, &mut gave), Err(Failed));
-    assert_eq!(rt; gave.as_slice(), [1, 2].as_slice());
-    assert_eq!(rt; read_octets(&mut source, &mut gave), Ok(()));
-    assert_eq!(rt; gave.as_slice(), octets.as_slice());
+/// Reading on ends so, and these octets have come by then.
+fn reads(
+    rt: &impl Abort,
+    source: &mut impl Source,
+    gave: &mut Vec<u8>,
+    ended: Result<(), Failed>,
+    octets: &[u8],
+) {
+    assert_eq!(rt; read_octets(source, gave), ended);
+    assert!(rt; gave.as_slice() == octets);
+}
 
+fn a_source_fails(rt: &impl Abort, alloc: Global, octets: &[u8; 5]) {
+    let mut source = FailsAtRead::new(InPieces::new(FromRead::new(octets.as_slice()), 2), 2);
+    let mut gave = Vec::new(alloc);
+    reads(rt, &mut source, &mut gave, Err(Failed), &[1, 2]);
+    reads(rt, &mut source, &mut gave, Ok(()), octets);
+}
+
+fn a_source_ends(rt: &impl Abort, alloc: Global, octets: &[u8; 5]) {
     let mut source = EndsAtRead::new(InPieces::new(FromRead::new(octets.as_slice()), 1), 4);
-    let mut gave = Vec::new(rt.alloc());
-    assert_eq!(rt; read_octets(&mut source, &mut gave), Ok(()));
-    assert_eq!(rt; gave.as_slice(), [1, 2, 3].as_slice());
-    assert_eq!(rt; read_octets(&mut source, &mut gave), Ok(()));
-    assert_eq!(rt; gave.as_slice(), [1, 2, 3].as_slice());
-    Ok(())
+    let mut gave = Vec::new(alloc);
+    reads(rt, &mut source, &mut gave, Ok(()), &[1, 2, 3]);
+    reads(rt, &mut source, &mut gave, Ok(()), &[1, 2, 3]);
 }
 
 #[test]
-fn a_front_is_written_where_a_write_fails(rt: HostRuntime) -> Result<(), Fail> {
-    let mut room = Vec::with_capacity(rt.alloc(), STREAM.len())?;
+fn sources_of_a_test_fail_and_end_where_they_are_told(rt: HostRuntime) {
+    let octets = [1, 2, 3, 4, 5];
+    a_source_fails(&rt, rt.alloc(), &octets);
+    a_source_ends(&rt, rt.alloc(), &octets);
+}
+
+/// Writing all of these octets ends so.
+fn writes(rt: &impl Abort, sink: &mut impl Sink, octets: &[u8], ended: Result<(), Failed>) {
+    assert_eq!(rt; write_all(sink, octets), ended);
+}
+
+#[test]
+fn a_front_is_written_where_a_write_fails(rt: HostRuntime) {
+    let mut room = Vec::with_capacity(rt.alloc(), STREAM.len()).expect(&rt, "memory");
     let mut sink = FailsAfter::new(InPieces::new(FromWrite::new(room), 3), 10);
-    assert_eq!(rt; write_all(&mut sink, &STREAM[..4]), Ok(()));
-    assert_eq!(rt; write_all(&mut sink, &STREAM[4..]), Err(Failed));
+    writes(&rt, &mut sink, &STREAM[..4], Ok(()));
+    writes(&rt, &mut sink, &STREAM[4..], Err(Failed));
     assert_eq!(rt; sink.write(&[1]), Err(Failed));
     room = sink.into_inner().into_inner().into_inner();
     assert_eq!(rt; room.as_slice(), &STREAM[..10]);
-    Ok(())
 }
 
 /// A stream whose first calls fail, all for one cause.
@@ -161,26 +209,26 @@ impl Write for Disturbed {
     }
 }
 
-#[test]
-fn an_interrupted_call_is_made_again(rt: HostRuntime) {
-    for (calls_left, cause, want) in [
-        (3, ErrorKind::Interrupted, Ok(1)),
-        (1, ErrorKind::ConnectionReset, Err(Failed)),
-    ] {
-        let mut source = FromRead::new(Disturbed { calls_left, cause });
-        assert_eq!(rt; source.read(&mut [0]), want);
-        let mut sink = FromWrite::new(Disturbed { calls_left, cause });
-        assert_eq!(rt; sink.write(&[0]), want);
-    }
+/// A read and a write that are disturbed so both answer that.
+fn is_disturbed(rt: &impl Abort, calls_left: u8, cause: ErrorKind, want: Result<usize, Failed>) {
+    let mut source = FromRead::new(Disturbed { calls_left, cause });
+    assert_eq!(rt; source.read(&mut [0]), want);
+    let mut sink = FromWrite::new(Disturbed { calls_left, cause });
+    assert_eq!(rt; sink.write(&[0]), want);
 }
 
 #[test]
-fn every_call_answers(rt: HostRuntime) -> Result<(), Fail> {
+fn an_interrupted_call_is_made_again(rt: HostRuntime) {
+    is_disturbed(&rt, 3, ErrorKind::Interrupted, Ok(1));
+    is_disturbed(&rt, 1, ErrorKind::ConnectionReset, Err(Failed));
+}
+
+#[test]
+fn every_call_answers(rt: HostRuntime) {
     let mut framer = Framer::new(rt.alloc());
-    assert_eq!(rt; framer.feed(&STREAM), Ok(()));
+    feed(&rt, &mut framer, &STREAM);
     let mut sink = FromWrite::new(Vec::new(rt.alloc()));
-    assert_eq!(rt; write_all(&mut sink, &STREAM), Ok(()));
+    writes(&rt, &mut sink, &STREAM, Ok(()));
     let mut source = FromRead::new(STREAM.as_slice());
     assert_eq!(rt; source.read(&mut [0; 40]), Ok(38));
-    Ok(())
 }

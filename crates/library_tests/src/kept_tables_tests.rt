@@ -1,18 +1,18 @@
 //! What no clause says of the tables of a centre: that each call can succeed, and one warning, worked by hand.
 
-ghost use Rattle.std.specs.Prelude.{◌≤◌, length, IfOk};
+ghost use Rattle.std.specs.Prelude.{◌≤◌, length};
 
+use crate::values::{bsc, name, names};
 use cbsp_ie::CellId;
 use cell_register::{BscId, Register};
-use common::{Cell, Name, Names};
+use common::Cell;
 use coverage_board::Numbers;
 use kept_tables::{Change, KeptTables, LineFacts, Serials};
 use mirror::{Line, LineKey};
 use order_maker::OrderKind;
 use serials::Serial;
-use std::alloc::{AllocError, Global};
+use std::alloc::Global;
 use std::process::Abort;
-use std::test::Fail;
 use warning_book::WarningId;
 
 const NETWORK: [u8; 3] = [0x00, 0xf1, 0x10];
@@ -21,44 +21,40 @@ const CELL: Cell = Cell { lac: 100, ci: 7 };
 
 const FAR: Cell = Cell { lac: 200, ci: 1 };
 
-fn bsc(number: u16) -> Result<BscId, Fail> {
-    let b = BscId::new(number).ok_or("the number is a BSC's")?;
-    Ok(b)
-}
-
-fn name(alloc: Global, octets: &[u8]) -> Result<Name, AllocError> {
-    Ok(Name::from_vec(Vec::from_slice(alloc, octets)?))
+fn versions(rt: &impl Abort, alloc: Global) -> Serials
+    ensures { length result ≤ 16 }
+{
+    let serial = Serial::from_u16(0xc000);
+    let versions = Vec::from_slice(alloc, &[serial]).expect(rt, "memory");
+    Serials::from_vec(versions)
 }
 
 /// A line on which a version is wanted, in the area Coast, and of which nothing was reported.
-fn wanted(alloc: Global) -> Result<LineFacts, AllocError>
-    ensures { IfOk result (λ facts. length facts.versions ≤ 16) }
+fn wanted(rt: &impl Abort, alloc: Global) -> LineFacts
+    ensures { length result.versions ≤ 16 }
 {
-    let serial = Serial::from_u16(0xc000);
-    let mut areas = Vec::new(alloc);
-    areas.push(name(alloc, b"Coast")?)?;
-    Ok(LineFacts {
+    LineFacts {
         line: Line::blank(),
         message_id: 4370,
-        versions: Serials::from_vec(Vec::from_slice(alloc, &[serial])?),
-        wanted: Some(serial),
+        versions: versions(rt, alloc),
+        wanted: Some(Serial::from_u16(0xc000)),
         down: false,
-        areas: Names::from_vec(areas),
+        areas: names(rt, alloc, &[b"Coast"]),
         here: true,
         active: true,
-    })
+    }
 }
 
 /// Tables in which a version is wanted on that line, and on no other.
-fn issued(alloc: Global, key: LineKey) -> Result<KeptTables, AllocError> {
+fn issued(rt: &impl Abort, alloc: Global, key: LineKey) -> KeptTables {
     let mut tables = KeptTables::new(alloc);
     let change = Change {
         key,
         before: LineFacts::none(alloc, false, true),
-        after: wanted(alloc)?,
+        after: wanted(rt, alloc),
     };
-    tables.settle(&[change])?;
-    Ok(tables)
+    tables.settle(&[change]).expect(rt, "memory");
+    tables
 }
 
 /// The numbers of the warning, and of its area Coast, while so many cells await it.
@@ -81,68 +77,78 @@ fn key(b: BscId) -> LineKey {
 }
 
 #[test]
-fn every_call_answers(rt: HostRuntime) -> Result<(), Fail> {
-    let b = bsc(1)?;
-    let mut tables = issued(rt.alloc(), key(b))?;
+fn every_call_answers(rt: HostRuntime) {
+    let b = bsc(&rt, 1);
+    let mut tables = issued(&rt, rt.alloc(), key(b));
     assert!(rt; tables.read_line(key(b)).is_blank());
     assert_eq!(rt; tables.meter(), 2);
     assert_eq!(rt; tables.set_down(b, FAR, true), Ok(()));
     assert!(rt; tables.is_down(b, FAR));
-    Ok(())
 }
 
 #[test]
-fn no_cell_is_on_air_before_it_is_reported(rt: HostRuntime) -> Result<(), Fail> {
-    let b = bsc(1)?;
-    let mut tables = issued(rt.alloc(), key(b))?;
+fn no_cell_is_on_air_before_it_is_reported(rt: HostRuntime) {
+    let b = bsc(&rt, 1);
+    let mut tables = issued(&rt, rt.alloc(), key(b));
     let version = Serial::from_u16(0xc000);
-    let cells = tables.cells_on_air(b, key(b).warning, version, None, 1000)?;
-    assert!(rt; cells.as_slice().is_empty());
-    Ok(())
+    let cells = tables.cells_on_air(b, key(b).warning, version, None, 1000);
+    assert!(rt; cells.expect(&rt, "memory").as_slice().is_empty());
 }
 
-#[test]
-fn a_cell_that_is_down_is_known(rt: HostRuntime) -> Result<(), Fail> {
-    let b = bsc(1)?;
-    let register = Register::new(rt.alloc());
-    let mut tables = issued(rt.alloc(), key(b))?;
-    tables.set_down(b, FAR, true)?;
-    let known = tables.known_cells(&register, b)?;
+/// The cell that is down is the only one that is known, and is named.
+fn is_known(rt: &impl Abort, tables: &KeptTables, register: &Register, b: BscId) {
+    let known = tables.known_cells(register, b).expect(rt, "memory");
     assert!(rt; known.as_slice() == [FAR].as_slice());
-    let named = tables.cells_named(&register, NETWORK, b, &[CellId::All])?;
-    assert!(rt; named.as_slice() == [FAR].as_slice());
-    Ok(())
+    let named = tables.cells_named(register, NETWORK, b, &[CellId::All]);
+    assert!(rt; named.expect(rt, "memory").as_slice() == [FAR].as_slice());
 }
 
 #[test]
-fn what_is_wanted_is_pending(rt: HostRuntime) -> Result<(), Fail> {
-    let b = bsc(1)?;
-    let tables = issued(rt.alloc(), key(b))?;
+fn a_cell_that_is_down_is_known(rt: HostRuntime) {
+    let b = bsc(&rt, 1);
+    let register = Register::new(rt.alloc());
+    let mut tables = issued(&rt, rt.alloc(), key(b));
+    tables.set_down(b, FAR, true).expect(&rt, "memory");
+    is_known(&rt, &tables, &register, b);
+}
+
+#[test]
+fn what_is_wanted_is_pending(rt: HostRuntime) {
+    let b = bsc(&rt, 1);
+    let tables = issued(&rt, rt.alloc(), key(b));
     assert!(rt; tables.has(b));
-    assert_eq!(rt; tables.groups(b)?.as_slice().len(), 1);
-    let order = tables.first(b)?.ok_or("an order is pending")?;
+    let orders = tables.groups(b).expect(&rt, "memory");
+    assert_eq!(rt; orders.as_slice().len(), 1);
+    is_write(&rt, &tables, b);
+}
+
+/// The first order is the write in the cell.
+fn is_write(rt: &impl Abort, tables: &KeptTables, b: BscId) {
+    let order = tables.first(b).expect(rt, "memory");
+    let order = order.expect(rt, "an order is pending");
     assert_eq!(rt; order.kind, OrderKind::Write);
     assert!(rt; order.cells.as_slice() == [CELL].as_slice());
-    Ok(())
+}
+
+/// So many cells of the area await the first warning.
+fn is_awaited(rt: &impl Abort, alloc: Global, tables: &KeptTables, area: &[u8], cells: u64) {
+    let area = name(rt, alloc, area);
+    assert_eq!(rt; tables.area(WarningId::new(1), &area), awaited(cells));
 }
 
 #[test]
-fn what_is_wanted_is_awaited(rt: HostRuntime) -> Result<(), Fail> {
+fn what_is_wanted_is_awaited(rt: HostRuntime) {
     let alloc = rt.alloc();
-    let tables = issued(alloc, key(bsc(1)?))?;
+    let tables = issued(&rt, alloc, key(bsc(&rt, 1)));
     assert_eq!(rt; tables.total(WarningId::new(1)), awaited(1));
     assert_eq!(rt; tables.total(WarningId::new(2)), awaited(0));
-    for (area, cells) in [(b"Coast", 1), (b"Hills", 0)] {
-        let area = name(alloc, area)?;
-        assert_eq!(rt; tables.area(WarningId::new(1), &area), awaited(cells));
-    }
-    Ok(())
+    is_awaited(&rt, alloc, &tables, b"Coast", 1);
+    is_awaited(&rt, alloc, &tables, b"Hills", 0);
 }
 
 #[test]
-fn serial_numbers_are_copied(rt: HostRuntime) -> Result<(), Fail> {
-    let facts = wanted(rt.alloc())?;
-    let copy = facts.versions.copied(rt.alloc())?;
-    assert!(rt; copy.as_slice() == facts.versions.as_slice());
-    Ok(())
+fn serial_numbers_are_copied(rt: HostRuntime) {
+    let versions = versions(&rt, rt.alloc());
+    let copy = versions.copied(rt.alloc()).expect(&rt, "memory");
+    assert!(rt; copy.as_slice() == versions.as_slice());
 }

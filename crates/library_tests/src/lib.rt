@@ -1,5 +1,8 @@
 //! Tests of all libraries: what their contracts don't say. A crate with tests is proved twice, so the libraries have
 //! none of their own. What a script or a frame can show stands in the data of `examples` and `codec_vectors`.
+//!
+//! A test demands an answer by `expect` and not by `?`, and lets a value of a large enum go by `drop`. Either is a call to
+//! the prover; an early return, or the end of such a value's block, is a case for each value that may be dropped there.
 #![tactic(auto)]
 
 #[cfg(test)]
@@ -44,3 +47,5 @@ mod serial_tests;
 mod stale_script;
 #[cfg(test)]
 mod stale_tests;
+#[cfg(test)]
+mod values;

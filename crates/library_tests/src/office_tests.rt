@@ -3,7 +3,8 @@
 
 ghost use Rattle.std.specs.Prelude.{◌≡◌};
 
-use crate::centre_events::{PLMN, SEVEN, coast};
+use crate::centre_events::{PLMN, SEVEN};
+use crate::values::{bsc, name};
 use cell_register::BscId;
 use centre_events::answer::Answer;
 use centre_events::event::Event;
@@ -14,12 +15,13 @@ use office::desk::Desk;
 use office::fault::Fault;
 use office::office::Office;
 use office::question::Question;
+use office::receipt::Receipt;
 use office::seen::{Seen, SeenValue};
 use std::alloc::Global;
 use std::marker::Brand;
+use std::process::Abort;
 use std::sync::Wait;
 use std::sync::ledger::{Blank, Ledger};
-use std::test::Fail;
 use std::thread;
 use std::thread::Threads;
 use warning_book::WarningId;
@@ -81,7 +83,7 @@ fn registers<L: Ledger, R: Wait>(
 
 /// Two desks register cells of two location areas at the same time, each so many. Hands back the desks, and whether all is as
 /// it has to be.
-fn both_register<L: Ledger + Send + Sync, R: Threads + Wait + Sync>(
+fn both_register<L: Ledger + Send + Sync, R: Threads + Wait + Abort + Sync>(
     rt: &R,
     office: &Office<L>,
     desks: (Desk<L>, Desk<L>),
@@ -109,178 +111,169 @@ fn settled<L: Ledger>(office: Office<L>, desks: Vec<Desk<L>>) -> Result<u64, Fau
 }
 
 /// Two desks submit 100 events between them.
-fn two_desks<L: Ledger + Send + Sync, R: Threads + Wait + Sync>(
+fn two_desks<L: Ledger + Send + Sync, R: Threads + Wait + Abort + Sync>(
     rt: &R,
     alloc: Global,
     blank: Blank,
-) -> Result<Result<u64, Fault>, Fail>
+) -> Result<u64, Fault>
     requires name { blank.name ≡ L.name }
     requires parts { blank.parts ≡ L.parts }
     requires desks { blank.parts ≡ 1025 }
 {
-    let b = BscId::new(1).ok_or("1 is a BSC")?;
+    let b = bsc(rt, 1);
     let office = new_office::<L>(alloc, blank);
-    let mut first = office.open_desk(rt)?;
-    let second = office.open_desk(rt)?;
-    office.submit(rt, &mut first, Event::Edit(Edit::AddBsc(b)))?;
+    let mut first = office.open_desk(rt).expect(rt, "a desk is opened");
+    let second = office.open_desk(rt).expect(rt, "a desk is opened");
+    office
+        .submit(rt, &mut first, Event::Edit(Edit::AddBsc(b)))
+        .expect(rt, "the event is entered");
     let (first, second, right) = both_register(rt, &office, (first, second), b, 100, (49, 50));
-    if !right {
-        return Err(Fail::from("a cell is not registered"));
-    }
-    let desks = vec![in alloc; first, second]?;
-    Ok(settled(office, desks))
+    assert!(rt; right, "a cell is not registered");
+    let desks = vec![in alloc; first, second].expect(rt, "memory");
+    settled(office, desks)
 }
 
-fn run_two_desks<R: Threads + Wait + Sync>(
-    rt: &R,
-    alloc: Global,
-) -> Result<Result<u64, Fault>, Fail> {
+fn run_two_desks<R: Threads + Wait + Abort + Sync>(rt: &R, alloc: Global) -> Result<u64, Fault> {
     two_desks::<Brand, R>(rt, alloc, Blank::new(1025))
 }
 
 #[test]
-fn two_desks_submit_at_the_same_time(rt: HostRuntime) -> Result<(), Fail> {
-    assert_eq!(rt; run_two_desks(&rt, rt.alloc())?, Ok(100));
-    Ok(())
+fn two_desks_submit_at_the_same_time(rt: HostRuntime) {
+    assert_eq!(rt; run_two_desks(&rt, rt.alloc()), Ok(100));
 }
 
 /// Four desks in threads of their own submit 25 events each.
-fn four_desks<L: Ledger + Send + Sync, R: Threads + Wait + Sync>(
+fn four_desks<L: Ledger + Send + Sync, R: Threads + Wait + Abort + Sync>(
     rt: &R,
     alloc: Global,
     blank: Blank,
-) -> Result<Result<u64, Fault>, Fail>
+) -> Result<u64, Fault>
     requires name { blank.name ≡ L.name }
     requires parts { blank.parts ≡ L.parts }
     requires desks { blank.parts ≡ 1025 }
 {
-    let b = BscId::new(1).ok_or("1 is a BSC")?;
+    let b = bsc(rt, 1);
     let office = new_office::<L>(alloc, blank);
     let shared = &office;
-    let mut first = office.open_desk(rt)?;
-    let second = office.open_desk(rt)?;
-    let third = office.open_desk(rt)?;
-    let fourth = office.open_desk(rt)?;
-    office.submit(rt, &mut first, Event::Edit(Edit::AddBsc(b)))?;
+    let mut first = office.open_desk(rt).expect(rt, "a desk is opened");
+    let second = office.open_desk(rt).expect(rt, "a desk is opened");
+    let third = office.open_desk(rt).expect(rt, "a desk is opened");
+    let fourth = office.open_desk(rt).expect(rt, "a desk is opened");
+    office
+        .submit(rt, &mut first, Event::Edit(Edit::AddBsc(b)))
+        .expect(rt, "the event is entered");
     let (one, two) = thread::join(
         rt,
         move || both_register(rt, shared, (first, second), b, 100, (24, 25)),
         move || both_register(rt, shared, (third, fourth), b, 200, (25, 25)),
     );
-    if !(one.2 && two.2) {
-        return Err(Fail::from("a cell is not registered"));
-    }
-    let desks = vec![in alloc; one.0, one.1, two.0, two.1]?;
-    Ok(settled(office, desks))
+    assert!(rt; one.2 && two.2, "a cell is not registered");
+    let desks = vec![in alloc; one.0, one.1, two.0, two.1].expect(rt, "memory");
+    settled(office, desks)
 }
 
-fn run_four_desks<R: Threads + Wait + Sync>(
-    rt: &R,
-    alloc: Global,
-) -> Result<Result<u64, Fault>, Fail> {
+fn run_four_desks<R: Threads + Wait + Abort + Sync>(rt: &R, alloc: Global) -> Result<u64, Fault> {
     four_desks::<Brand, R>(rt, alloc, Blank::new(1025))
 }
 
 #[test]
-fn four_desks_submit_at_the_same_time(rt: HostRuntime) -> Result<(), Fail> {
-    assert_eq!(rt; run_four_desks(&rt, rt.alloc())?, Ok(100));
-    Ok(())
+fn four_desks_submit_at_the_same_time(rt: HostRuntime) {
+    assert_eq!(rt; run_four_desks(&rt, rt.alloc()), Ok(100));
 }
 
-/// Opens every desk, and says what one more is answered; none where a number is wrong.
-fn every_desk<L: Ledger, R: Wait>(
-    rt: &R,
-    alloc: Global,
-    blank: Blank,
-) -> Result<Option<Refusal>, Fail>
+/// Opens every desk, each by its number, and says what one more is answered.
+fn every_desk<L: Ledger, R: Wait + Abort>(rt: &R, alloc: Global, blank: Blank) -> Option<Refusal>
     requires name { blank.name ≡ L.name }
     requires parts { blank.parts ≡ L.parts }
     requires desks { blank.parts ≡ 1025 }
 {
     let office = new_office::<L>(alloc, blank);
     for before in 0..DESKS {
-        if office.open_desk(rt)?.number() != before + 1 {
-            return Ok(None);
-        }
+        let desk = office.open_desk(rt).expect(rt, "a desk is opened");
+        assert_eq!(rt; desk.number(), before + 1);
     }
-    Ok(office.open_desk(rt).err())
+    office.open_desk(rt).err()
 }
 
-fn run_every_desk<R: Wait>(rt: &R, alloc: Global) -> Result<Option<Refusal>, Fail> {
+fn run_every_desk<R: Wait + Abort>(rt: &R, alloc: Global) -> Option<Refusal> {
     every_desk::<Brand, R>(rt, alloc, Blank::new(1025))
 }
 
 #[test]
-fn an_office_opens_1024_desks(rt: HostRuntime) -> Result<(), Fail> {
+fn an_office_opens_1024_desks(rt: HostRuntime) {
     let limit = Refusal::Limit {
         which: Limit::Desks,
     };
-    assert_eq!(rt; run_every_desk(&rt, rt.alloc())?, Some(limit));
-    Ok(())
+    assert_eq!(rt; run_every_desk(&rt, rt.alloc()), Some(limit));
 }
 
 /// Settles without desk 2 of two.
-fn without_a_desk<L: Ledger, R: Wait>(
+fn without_a_desk<L: Ledger, R: Wait + Abort>(
     rt: &R,
     alloc: Global,
     blank: Blank,
-) -> Result<Result<u64, Fault>, Fail>
+) -> Result<u64, Fault>
     requires name { blank.name ≡ L.name }
     requires parts { blank.parts ≡ L.parts }
     requires desks { blank.parts ≡ 1025 }
 {
     let office = new_office::<L>(alloc, blank);
-    let first = office.open_desk(rt)?;
-    let _second = office.open_desk(rt)?;
-    let desks = vec![in alloc; first]?;
-    Ok(settled(office, desks))
+    let first = office.open_desk(rt).expect(rt, "a desk is opened");
+    let _second = office.open_desk(rt).expect(rt, "a desk is opened");
+    let desks = vec![in alloc; first].expect(rt, "memory");
+    settled(office, desks)
 }
 
-fn run_without_a_desk<R: Wait>(rt: &R, alloc: Global) -> Result<Result<u64, Fault>, Fail> {
+fn run_without_a_desk<R: Wait + Abort>(rt: &R, alloc: Global) -> Result<u64, Fault> {
     without_a_desk::<Brand, R>(rt, alloc, Blank::new(1025))
 }
 
 #[test]
-fn a_missing_desk_is_named(rt: HostRuntime) -> Result<(), Fail> {
+fn a_missing_desk_is_named(rt: HostRuntime) {
     let missing = Fault::MissingDesk { desk: 2 };
-    assert_eq!(rt; run_without_a_desk(&rt, rt.alloc())?, Err(missing));
-    Ok(())
+    assert_eq!(rt; run_without_a_desk(&rt, rt.alloc()), Err(missing));
+}
+
+/// Whether it is the receipt of the first entry, of which nothing more is told.
+fn is_first(receipt: &Receipt) -> bool {
+    receipt.place == 1 && receipt.answer.same(&Answer::Done)
 }
 
 /// What the calls of an office answer: the place and the answer of a receipt that is lent, what the same event is refused with
 /// the next time, and how many receipts there are then.
-fn each_call<L: Ledger, R: Wait>(
+fn each_call<L: Ledger, R: Wait + Abort>(
     rt: &R,
     alloc: Global,
     blank: Blank,
-) -> Result<(bool, Option<Refusal>, usize), Fail>
+) -> (bool, Option<Refusal>, usize)
     requires name { blank.name ≡ L.name }
     requires parts { blank.parts ≡ L.parts }
     requires desks { blank.parts ≡ 1025 }
 {
-    let b = BscId::new(1).ok_or("1 is a BSC")?;
+    let b = bsc(rt, 1);
     let office = new_office::<L>(alloc, blank);
-    let mut desk = office.open_desk(rt)?;
-    let receipt = desk.submit(rt, &office, Event::Edit(Edit::AddBsc(b)))?;
-    let lent = receipt.place == 1 && receipt.answer.same(&Answer::Done);
+    let mut desk = office.open_desk(rt).expect(rt, "a desk is opened");
+    let receipt = desk.submit(rt, &office, Event::Edit(Edit::AddBsc(b)));
+    let lent = is_first(receipt.expect(rt, "the event is entered"));
     let again = desk.submit(rt, &office, Event::Edit(Edit::AddBsc(b))).err();
-    office.rebuild(rt)?;
-    office.submit(rt, &mut desk, Event::Edit(Edit::AddCell(SEVEN, b)))?;
+    office.rebuild(rt).expect(rt, "the centre is rebuilt");
+    office
+        .submit(rt, &mut desk, Event::Edit(Edit::AddCell(SEVEN, b)))
+        .expect(rt, "the event is entered");
     let found = finds(rt, &office, &desk, SEVEN, b);
-    Ok((lent && found, again, desk.receipts().len()))
+    (lent && found, again, desk.receipts().len())
 }
 
-fn run_each_call<R: Wait>(rt: &R, alloc: Global) -> Result<(bool, Option<Refusal>, usize), Fail> {
+fn run_each_call<R: Wait + Abort>(rt: &R, alloc: Global) -> (bool, Option<Refusal>, usize) {
     each_call::<Brand, R>(rt, alloc, Blank::new(1025))
 }
 
 #[test]
-fn every_call_answers(rt: HostRuntime) -> Result<(), Fail> {
-    let (right, again, receipts) = run_each_call(&rt, rt.alloc())?;
+fn every_call_answers(rt: HostRuntime) {
+    let (right, again, receipts) = run_each_call(&rt, rt.alloc());
     assert!(rt; right);
     assert_eq!(rt; again, Some(Refusal::BscExists));
     assert_eq!(rt; receipts, 2);
-    Ok(())
 }
 
 /// Whether it is an answer without orders, after so many entries.
@@ -307,39 +300,50 @@ fn is_idle(seen: &Seen) -> bool {
     }
 }
 
-/// Whether each question about a BSC without a cell is answered as it has to be.
-fn answered<L: Ledger, R: Wait>(rt: &R, alloc: Global, blank: Blank) -> Result<[bool; 5], Fail>
+/// Whether the three questions about a BSC without a cell are answered as they have to be.
+fn lists<L: Ledger, R: Wait + Abort>(
+    rt: &R,
+    office: &Office<L>,
+    desk: &Desk<L>,
+    b: BscId,
+) -> [bool; 3] {
+    let pending = office.look(rt, desk, Question::Pending(b));
+    let table = office.look(rt, desk, Question::Table(b));
+    let flight = office.look(rt, desk, Question::InFlight(b));
+    [
+        is_without_orders(&pending.expect(rt, "an answer"), 1),
+        is_without_keys(&table.expect(rt, "an answer")),
+        is_idle(&flight.expect(rt, "an answer")),
+    ]
+}
+
+/// Whether each question is answered as it has to be, at a BSC without a cell.
+fn answered<L: Ledger, R: Wait + Abort>(rt: &R, alloc: Global, blank: Blank) -> [bool; 5]
     requires name { blank.name ≡ L.name }
     requires parts { blank.parts ≡ L.parts }
     requires desks { blank.parts ≡ 1025 }
 {
-    let b = BscId::new(1).ok_or("1 is a BSC")?;
+    let b = bsc(rt, 1);
     let first = WarningId::new(1);
     let office = new_office::<L>(alloc, blank);
-    let mut desk = office.open_desk(rt)?;
-    office.submit(rt, &mut desk, Event::Edit(Edit::AddBsc(b)))?;
-    let pending = office.look(rt, &desk, Question::Pending(b))?;
-    let table = office.look(rt, &desk, Question::Table(b))?;
-    let flight = office.look(rt, &desk, Question::InFlight(b))?;
+    let mut desk = office.open_desk(rt).expect(rt, "a desk is opened");
+    office
+        .submit(rt, &mut desk, Event::Edit(Edit::AddBsc(b)))
+        .expect(rt, "the event is entered");
+    let [orders, keys, idle] = lists(rt, &office, &desk, b);
     let total = office.look(rt, &desk, Question::Total(first)).err();
-    let area = office
-        .look(rt, &desk, Question::Area(first, coast(alloc)?))
-        .err();
-    Ok([
-        is_without_orders(&pending, 1),
-        is_without_keys(&table),
-        is_idle(&flight),
-        total == Some(Refusal::NoSuchWarning),
-        area == Some(Refusal::NoSuchArea),
-    ])
+    let coast = name(rt, alloc, b"Coast");
+    let area = office.look(rt, &desk, Question::Area(first, coast)).err();
+    let no_warning = total == Some(Refusal::NoSuchWarning);
+    let no_area = area == Some(Refusal::NoSuchArea);
+    [orders, keys, idle, no_warning, no_area]
 }
 
-fn run_answered<R: Wait>(rt: &R, alloc: Global) -> Result<[bool; 5], Fail> {
+fn run_answered<R: Wait + Abort>(rt: &R, alloc: Global) -> [bool; 5] {
     answered::<Brand, R>(rt, alloc, Blank::new(1025))
 }
 
 #[test]
-fn every_question_is_answered(rt: HostRuntime) -> Result<(), Fail> {
-    assert_eq!(rt; run_answered(&rt, rt.alloc())?, [true; 5]);
-    Ok(())
+fn every_question_is_answered(rt: HostRuntime) {
+    assert_eq!(rt; run_answered(&rt, rt.alloc()), [true; 5]);
 }

@@ -1,15 +1,14 @@
 //! What no clause says of orders: that each call can succeed, and the orders of one BSC, worked by hand.
 
+use crate::values::{bsc, content};
 use cbsp_messages::Message;
 use cell_register::BscId;
-use common::{Cell, Octets};
+use common::Cell;
 use mirror::{KeyState, Line, Presence, Sight};
-use order_maker::{Deed, Order, OrderKind, Orders, Pending, actions, message_of, query_of};
+use order_maker::{Deed, Order, OrderKind, Pending, actions, message_of, query_of};
 use serials::Serial;
-use std::alloc::{AllocError, Global};
+use std::alloc::Global;
 use std::process::Abort;
-use std::test::Fail;
-use warning_book::{Category, Content, ContentPages};
 
 const FIRST: Cell = Cell { lac: 100, ci: 7 };
 
@@ -18,11 +17,6 @@ const SECOND: Cell = Cell { lac: 100, ci: 8 };
 const THIRD: Cell = Cell { lac: 100, ci: 9 };
 
 const FAR: Cell = Cell { lac: 200, ci: 1 };
-
-fn bsc(number: u16) -> Result<BscId, Fail> {
-    let b = BscId::new(number).ok_or("the number is a BSC's")?;
-    Ok(b)
-}
 
 /// The serial number of the warning's outdated version.
 fn outdated() -> Serial {
@@ -59,28 +53,43 @@ fn sight(line: Line, versions: &[Serial], wanted: Option<Serial>) -> Sight<'_> {
     }
 }
 
+/// What is to be ordered on a line changes from the first to the second.
+fn shift(
+    rt: &impl Abort,
+    pending: &mut Pending,
+    b: BscId,
+    cell: Cell,
+    before: &Sight<'_>,
+    after: &Sight<'_>,
+) {
+    pending.shift(b, cell, before, after).expect(rt, "memory");
+}
+
 /// Puts in what is to be ordered on a line.
 fn begin(
+    rt: &impl Abort,
     pending: &mut Pending,
     b: BscId,
     cell: Cell,
     line: Line,
     wanted: Option<Serial>,
-) -> Result<(), AllocError> {
+) {
     let versions = versions();
     let before = sight(Line::blank(), &versions, None);
-    pending.shift(b, cell, &before, &sight(line, &versions, wanted))
+    let after = sight(line, &versions, wanted);
+    shift(rt, pending, b, cell, &before, &after);
 }
 
 /// The first cell has the outdated version, the second and the third have none, and all three are to have the current
 /// one; the far cell has the outdated version and is to have none.
-fn begun(alloc: Global, b: BscId) -> Result<Pending, AllocError> {
+fn begun(rt: &impl Abort, alloc: Global, b: BscId) -> Pending {
     let mut pending = Pending::new(alloc);
-    begin(&mut pending, b, THIRD, Line::blank(), Some(current()))?;
-    begin(&mut pending, b, FAR, on_air(outdated()), None)?;
-    begin(&mut pending, b, FIRST, on_air(outdated()), Some(current()))?;
-    begin(&mut pending, b, SECOND, Line::blank(), Some(current()))?;
-    Ok(pending)
+    begin(rt, &mut pending, b, THIRD, Line::blank(), Some(current()));
+    begin(rt, &mut pending, b, FAR, on_air(outdated()), None);
+    let first = on_air(outdated());
+    begin(rt, &mut pending, b, FIRST, first, Some(current()));
+    begin(rt, &mut pending, b, SECOND, Line::blank(), Some(current()));
+    pending
 }
 
 fn is_order(order: &Order, kind: OrderKind, serial: Serial, cells: &[Cell]) -> bool {
@@ -90,115 +99,145 @@ fn is_order(order: &Order, kind: OrderKind, serial: Serial, cells: &[Cell]) -> b
         && order.cells.as_slice() == cells
 }
 
-fn content(alloc: Global) -> Result<Content, AllocError> {
-    let mut pages = Vec::new(alloc);
-    pages.push(Octets::from_vec(Vec::from_slice(alloc, &[0x41])?))?;
-    Ok(Content {
-        dcs: 0x0f,
-        category: Category::HighPriority,
-        period: 10,
-        pages: ContentPages::from_vec(pages),
-    })
+/// The first order that is pending for the BSC.
+fn first(rt: &impl Abort, pending: &Pending, b: BscId) -> Order {
+    let order = pending.first(b).expect(rt, "memory");
+    order.expect(rt, "an order is pending")
 }
 
-fn are_copied(rt: &impl Abort, alloc: Global, orders: Orders) -> Result<(), AllocError> {
-    let copy = orders.copied(alloc)?;
-    assert_eq!(rt; copy.as_slice().len(), 1);
-    for order in orders.into_vec() {
-        assert!(rt; order.copied(alloc)?.same(&order));
-    }
-    Ok(())
+/// All orders that are pending for the BSC.
+fn groups(rt: &impl Abort, pending: &Pending, b: BscId) -> Vec<Order> {
+    pending.groups(b).expect(rt, "memory").into_vec()
 }
 
 #[test]
-fn a_query_is_carried(rt: HostRuntime) -> Result<(), Fail> {
-    let message = query_of(rt.alloc(), 4370, current(), &[FIRST])?;
-    assert!(rt; matches!(message, Message::StatusQuery(_)));
-    Ok(())
+fn a_query_is_carried(rt: HostRuntime) {
+    let message = query_of(rt.alloc(), 4370, current(), &[FIRST]).expect(&rt, "memory");
+    let is_query = matches!(message, Message::StatusQuery(_));
+    drop(message);
+    assert!(rt; is_query);
 }
 
-#[test]
-fn every_call_answers(rt: HostRuntime) -> Result<(), Fail> {
-    let alloc = rt.alloc();
+/// A version that is wanted is to be written.
+fn a_write_is_told(rt: &impl Abort, alloc: Global) {
     let serials = versions();
     let wanted = sight(Line::blank(), &serials, Some(current()));
-    let deeds = actions(alloc, &wanted)?;
+    let deeds = actions(alloc, &wanted).expect(rt, "memory");
     let write = Deed {
         kind: OrderKind::Write,
         message_id: 4370,
         serial: current(),
     };
     assert!(rt; deeds.as_slice() == [write].as_slice());
+}
+
+fn is_copied(rt: &impl Abort, alloc: Global, order: &Order) {
+    let copy = order.copied(alloc).expect(rt, "memory");
+    assert!(rt; copy.same(order));
+}
+
+fn orders_are_copied(rt: &impl Abort, alloc: Global, pending: &Pending, b: BscId) {
+    let orders = pending.groups(b).expect(rt, "memory");
+    let copy = orders.copied(alloc).expect(rt, "memory");
+    assert_eq!(rt; copy.as_slice().len(), 1);
+    for order in orders.as_slice() {
+        is_copied(rt, alloc, order);
+    }
+}
+
+fn a_write_is_carried(rt: &impl Abort, alloc: Global, order: &Order) {
+    assert!(rt; is_order(order, OrderKind::Write, current(), &[FIRST]));
+    let content = content(rt, alloc, &[0x41]);
+    let message = message_of(alloc, order, Some(&content)).expect(rt, "memory");
+    let is_write = matches!(message, Message::WriteReplace(_));
+    drop(message);
+    assert!(rt; is_write);
+}
+
+#[test]
+fn every_call_answers(rt: HostRuntime) {
+    let alloc = rt.alloc();
+    let b = bsc(&rt, 1);
+    a_write_is_told(&rt, alloc);
     let mut pending = Pending::new(alloc);
-    assert!(rt; !pending.has(bsc(1)?));
-    assert!(rt; pending.first(bsc(1)?)?.is_none());
-    begin(&mut pending, bsc(1)?, FIRST, Line::blank(), Some(current()))?;
-    assert!(rt; pending.has(bsc(1)?));
-    are_copied(&rt, alloc, pending.groups(bsc(1)?)?)?;
-    let order = pending.first(bsc(1)?)?.ok_or("an order is pending")?;
-    assert!(rt; is_order(&order, OrderKind::Write, current(), &[FIRST]));
-    let message = message_of(alloc, &order, Some(&content(alloc)?))?;
-    assert!(rt; matches!(message, Message::WriteReplace(_)));
-    Ok(())
+    assert!(rt; !pending.has(b));
+    assert!(rt; pending.first(b).expect(&rt, "memory").is_none());
+    begin(&rt, &mut pending, b, FIRST, Line::blank(), Some(current()));
+    assert!(rt; pending.has(b));
+    orders_are_copied(&rt, alloc, &pending, b);
+    a_write_is_carried(&rt, alloc, &first(&rt, &pending, b));
 }
 
-#[test]
-fn writes_and_replaces_come_before_kills(rt: HostRuntime) -> Result<(), Fail> {
-    let pending = begun(rt.alloc(), bsc(2)?)?;
+/// Nothing is pending for the BSC.
+fn has_none(rt: &impl Abort, pending: &Pending, number: u16) {
+    let b = bsc(rt, number);
+    assert!(rt; !pending.has(b), "{number}");
+    assert!(rt; groups(rt, pending, b).is_empty(), "{number}");
+}
+
+/// The orders of a BSC at which the orders have begun; the first of them is that one.
+fn are_begun(rt: &impl Abort, orders: &[Order], first: &Order) {
+    assert_eq!(rt; orders.len(), 3, "there are three orders");
     let replace = OrderKind::Replace { old: outdated() };
-    let orders = pending.groups(bsc(2)?)?.into_vec();
-    let [write, moved, kill] = orders.as_slice() else {
-        return Err(Fail::new("there are three orders"));
-    };
-    assert!(rt; is_order(write, OrderKind::Write, current(), &[SECOND, THIRD]));
-    assert!(rt; is_order(moved, replace, current(), &[FIRST]));
-    assert!(rt; is_order(kill, OrderKind::Kill, outdated(), &[FAR]));
-    let first = pending.first(bsc(2)?)?.ok_or("an order is pending")?;
-    assert!(rt; first.same(write));
-    for number in [1, 3] {
-        assert!(rt; !pending.has(bsc(number)?), "{number}");
-        assert!(rt;
-            pending.groups(bsc(number)?)?.as_slice().is_empty(),
-            "{number}"
-        );
-    }
-    Ok(())
+    let cells = [SECOND, THIRD];
+    assert!(rt; is_order(&orders[0], OrderKind::Write, current(), &cells));
+    assert!(rt; is_order(&orders[1], replace, current(), &[FIRST]));
+    assert!(rt; is_order(&orders[2], OrderKind::Kill, outdated(), &[FAR]));
+    assert!(rt; first.same(&orders[0]));
 }
 
-/// The write went on air in the second and the third cell, and the far cell is down.
 #[test]
-fn actions_leave_with_their_lines(rt: HostRuntime) -> Result<(), Fail> {
-    let mut pending = begun(rt.alloc(), bsc(2)?)?;
+fn writes_and_replaces_come_before_kills(rt: HostRuntime) {
+    let b = bsc(&rt, 2);
+    let pending = begun(&rt, rt.alloc(), b);
+    let orders = groups(&rt, &pending, b);
+    are_begun(&rt, orders.as_slice(), &first(&rt, &pending, b));
+    has_none(&rt, &pending, 1);
+    has_none(&rt, &pending, 3);
+}
+
+/// The current version goes on air in the cell.
+fn goes_on_air(rt: &impl Abort, pending: &mut Pending, b: BscId, cell: Cell) {
     let versions = versions();
-    for cell in [SECOND, THIRD] {
-        let before = sight(Line::blank(), &versions, Some(current()));
-        let after = sight(on_air(current()), &versions, Some(current()));
-        pending.shift(bsc(2)?, cell, &before, &after)?;
-    }
+    let before = sight(Line::blank(), &versions, Some(current()));
+    let after = sight(on_air(current()), &versions, Some(current()));
+    shift(rt, pending, b, cell, &before, &after);
+}
+
+/// The far cell, which has the outdated version, goes down.
+fn goes_down(rt: &impl Abort, pending: &mut Pending, b: BscId) {
+    let versions = versions();
     let before = sight(on_air(outdated()), &versions, None);
     let after = Sight {
         down: true,
         ..before
     };
-    pending.shift(bsc(2)?, FAR, &before, &after)?;
+    shift(rt, pending, b, FAR, &before, &after);
+}
+
+/// The write went on air in the second and the third cell, and the far cell is down.
+#[test]
+fn actions_leave_with_their_lines(rt: HostRuntime) {
+    let b = bsc(&rt, 2);
+    let mut pending = begun(&rt, rt.alloc(), b);
+    goes_on_air(&rt, &mut pending, b, SECOND);
+    goes_on_air(&rt, &mut pending, b, THIRD);
+    goes_down(&rt, &mut pending, b);
     let replace = OrderKind::Replace { old: outdated() };
-    let orders = pending.groups(bsc(2)?)?.into_vec();
-    assert_eq!(rt; orders.as_slice().len(), 1);
-    let first = pending.first(bsc(2)?)?.ok_or("an order is pending")?;
-    assert!(rt; is_order(&first, replace, current(), &[FIRST]));
-    Ok(())
+    assert_eq!(rt; groups(&rt, &pending, b).len(), 1);
+    let order = first(&rt, &pending, b);
+    assert!(rt; is_order(&order, replace, current(), &[FIRST]));
 }
 
 #[test]
-fn an_order_names_1000_cells_at_most(rt: HostRuntime) -> Result<(), Fail> {
+fn an_order_names_1000_cells_at_most(rt: HostRuntime) {
+    let b = bsc(&rt, 1);
     let mut pending = Pending::new(rt.alloc());
     for ci in 0..1001 {
         let cell = Cell { lac: 200, ci };
-        begin(&mut pending, bsc(1)?, cell, Line::blank(), Some(current()))?;
+        begin(&rt, &mut pending, b, cell, Line::blank(), Some(current()));
     }
-    let first = pending.first(bsc(1)?)?.ok_or("an order is pending")?;
-    assert_eq!(rt; first.cells.as_slice().len(), 1000);
-    let orders = pending.groups(bsc(1)?)?.into_vec();
-    assert_eq!(rt; orders.as_slice().len(), 1);
-    Ok(())
+    let order = first(&rt, &pending, b);
+    assert_eq!(rt; order.cells.as_slice().len(), 1000);
+    assert_eq!(rt; groups(&rt, &pending, b).len(), 1);
 }

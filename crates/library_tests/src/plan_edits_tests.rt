@@ -1,15 +1,15 @@
 //! The pairs that an edit of the plan gives, against a comparison of whole plans: all that a pair depends on is read
 //! before the edit and after it, of every cell and warning that the edits can name.
 
+use crate::values::{bsc, content, name};
 use areas::Selector;
 use cell_register::BscId;
-use common::{Cell, Name, Names, Octets};
+use common::{Cell, Name, Names};
 use coverage_plan::{Edit, Plan};
 use serials::Scope;
 use std::alloc::{AllocError, Global};
 use std::process::Abort;
-use std::test::Fail;
-use warning_book::{Category, Content, ContentPages, Notice, WarningId};
+use warning_book::{Notice, WarningId};
 
 /// So many edits are accepted, of so many at most that are drawn.
 const EDITS: u32 = 200;
@@ -59,14 +59,13 @@ impl Draw {
         (self.state >> 8).checked_rem(end).unwrap_or(0)
     }
 
-    fn bsc(&mut self) -> Result<BscId, Fail> {
+    fn bsc(&mut self, rt: &impl Abort) -> BscId {
         let number = match self.below(3) {
             0 => 1,
             1 => 2,
             _ => 3,
         };
-        let b = BscId::new(number).ok_or("the number is a BSC's")?;
-        Ok(b)
+        bsc(rt, number)
     }
 
     fn cell(&mut self) -> Cell {
@@ -85,8 +84,8 @@ impl Draw {
         }
     }
 
-    fn name(&mut self, alloc: Global) -> Result<Name, AllocError> {
-        area(alloc, self.below(4))
+    fn name(&mut self, rt: &impl Abort, alloc: Global) -> Name {
+        area(rt, alloc, self.below(4))
     }
 
     fn warning(&mut self) -> WarningId {
@@ -95,88 +94,73 @@ impl Draw {
 }
 
 /// The name of the first, second, third or fourth area: one letter.
-fn area(alloc: Global, place: u32) -> Result<Name, AllocError> {
+fn area(rt: &impl Abort, alloc: Global, place: u32) -> Name {
     let letter = match place {
         0 => b'A',
         1 => b'B',
         2 => b'C',
         _ => b'D',
     };
-    Ok(Name::from_vec(Vec::from_slice(alloc, &[letter])?))
+    name(rt, alloc, &[letter])
 }
 
-/// A content of one page.
-fn content(alloc: Global) -> Result<Content, AllocError> {
-    let mut pages = Vec::new(alloc);
-    pages.push(Octets::from_vec(Vec::from_slice(alloc, b"A")?))?;
-    Ok(Content {
-        dcs: 0x0f,
-        category: Category::HighPriority,
-        period: 10,
-        pages: ContentPages::from_vec(pages),
-    })
-}
-
-/// An Issue in two areas.
-fn issue(alloc: Global, first: Name, second: Name) -> Result<Edit, AllocError> {
-    let mut names = Vec::new(alloc);
-    names.push(first)?;
-    names.push(second)?;
+/// An Issue in that area and in one that is drawn.
+fn issue(rt: &impl Abort, alloc: Global, draw: &mut Draw, first: Name) -> Edit {
+    let second = draw.name(rt, alloc);
     let notice = Notice {
         message_id: 4370,
         scope: Scope::Cell,
-        content: content(alloc)?,
+        content: content(rt, alloc, b"A"),
     };
-    Ok(Edit::Issue(notice, Names::from_vec(names)))
+    Edit::Issue(notice, two_names(rt, alloc, first, second))
 }
 
-fn register_edit(draw: &mut Draw) -> Result<Edit, Fail> {
-    let b = draw.bsc()?;
+fn two_names(rt: &impl Abort, alloc: Global, first: Name, second: Name) -> Names {
+    let names = vec![in alloc; first, second].expect(rt, "memory");
+    Names::from_vec(names)
+}
+
+fn register_edit(rt: &impl Abort, draw: &mut Draw) -> Edit {
+    let b = draw.bsc(rt);
     let c = draw.cell();
-    Ok(match draw.below(8) {
+    match draw.below(8) {
         0 => Edit::AddBsc(b),
         1 => Edit::RemoveBsc(b),
         2 => Edit::RemoveCell(c),
-        3 => Edit::MoveCell(c, b),
-        4 => Edit::MoveCell(c, b),
+        3 | 4 => Edit::MoveCell(c, b),
         _ => Edit::AddCell(c, b),
-    })
-}
-
-fn area_edit(alloc: Global, draw: &mut Draw) -> Result<Edit, AllocError> {
-    let name = draw.name(alloc)?;
-    let selector = draw.selector();
-    Ok(match draw.below(9) {
-        0 => Edit::AddArea(name),
-        1 => Edit::DropArea(name),
-        2 => Edit::Cut(name, selector),
-        3 => Edit::Cut(name, selector),
-        4 => Edit::Cut(name, selector),
-        _ => Edit::Put(name, selector),
-    })
-}
-
-fn warning_edit(alloc: Global, draw: &mut Draw) -> Result<Edit, AllocError> {
-    let number = draw.warning();
-    let name = draw.name(alloc)?;
-    match draw.below(10) {
-        0 => Ok(Edit::Stop(number)),
-        1 => Ok(Edit::Forget(number)),
-        2 => Ok(Edit::Update(number, content(alloc)?)),
-        3 => Ok(Edit::Update(number, content(alloc)?)),
-        4 => Ok(Edit::Narrow(number, name)),
-        5 => Ok(Edit::Narrow(number, name)),
-        6 => issue(alloc, name, draw.name(alloc)?),
-        7 => issue(alloc, name, draw.name(alloc)?),
-        _ => Ok(Edit::Widen(number, name)),
     }
 }
 
-fn next_edit(alloc: Global, draw: &mut Draw) -> Result<Edit, Fail> {
+fn area_edit(rt: &impl Abort, alloc: Global, draw: &mut Draw) -> Edit {
+    let name = draw.name(rt, alloc);
+    let selector = draw.selector();
+    match draw.below(9) {
+        0 => Edit::AddArea(name),
+        1 => Edit::DropArea(name),
+        2..=4 => Edit::Cut(name, selector),
+        _ => Edit::Put(name, selector),
+    }
+}
+
+fn warning_edit(rt: &impl Abort, alloc: Global, draw: &mut Draw) -> Edit {
+    let number = draw.warning();
+    let name = draw.name(rt, alloc);
+    match draw.below(10) {
+        0 => Edit::Stop(number),
+        1 => Edit::Forget(number),
+        2 | 3 => Edit::Update(number, content(rt, alloc, b"A")),
+        4 | 5 => Edit::Narrow(number, name),
+        6 | 7 => issue(rt, alloc, draw, name),
+        _ => Edit::Widen(number, name),
+    }
+}
+
+fn next_edit(rt: &impl Abort, alloc: Global, draw: &mut Draw) -> Edit {
     match draw.below(3) {
-        0 => register_edit(draw),
-        1 => Ok(area_edit(alloc, draw)?),
-        _ => Ok(warning_edit(alloc, draw)?),
+        0 => register_edit(rt, draw),
+        1 => area_edit(rt, alloc, draw),
+        _ => warning_edit(rt, alloc, draw),
     }
 }
 
@@ -228,8 +212,8 @@ fn add_parts(plan: &Plan, c: Cell, parts: &mut Vec<Part>) -> Result<(), AllocErr
 /// All parts of the plan, by cell and by warning.
 fn parts(alloc: Global, plan: &Plan) -> Result<Vec<Part>, AllocError> {
     let mut parts = Vec::new(alloc);
-    for cell in CELLS {
-        add_parts(plan, cell, &mut parts)?;
+    for cell in &CELLS {
+        add_parts(plan, *cell, &mut parts)?;
     }
     Ok(parts)
 }
@@ -258,55 +242,57 @@ fn compared(
 
 /// Makes the edit. Its pairs are those that differ; a refused one changes nothing. How many pairs it gives, or none
 /// where it is refused.
-fn make(
-    rt: &impl Abort,
-    alloc: Global,
-    plan: &mut Plan,
-    edit: &Edit,
-) -> Result<Option<usize>, AllocError> {
-    let before = parts(alloc, plan)?;
-    let made = plan.edit(edit).ok();
-    let after = parts(alloc, plan)?;
-    let expected = compared(alloc, before.as_slice(), after.as_slice())?;
+fn make(rt: &impl Abort, alloc: Global, plan: &mut Plan, edit: &Edit) -> Option<usize> {
+    let before = parts(alloc, plan).expect(rt, "memory");
+    let made = plan.edit(edit);
+    let after = parts(alloc, plan).expect(rt, "memory");
     match made {
-        Some(pairs) => {
+        Ok(pairs) => {
+            let expected = compared(alloc, before.as_slice(), after.as_slice());
+            let expected = expected.expect(rt, "memory");
             assert!(rt; pairs.as_slice() == expected.as_slice());
-            Ok(Some(expected.len()))
+            Some(expected.len())
         }
-        None => {
+        Err(_) => {
             assert!(rt; before.as_slice() == after.as_slice());
-            Ok(None)
+            None
         }
     }
+}
+
+fn makes(rt: &impl Abort, plan: &mut Plan, edit: Edit) {
+    assert!(rt; plan.make(&edit) == Ok(()));
+    drop(edit);
 }
 
 /// Three BSCs, all cells at the first, and the four areas.
-fn begun(alloc: Global) -> Result<Plan, Fail> {
+fn begun(rt: &impl Abort, alloc: Global) -> Plan {
     let mut plan = Plan::new(alloc);
-    let first = BscId::new(1).ok_or("the number is a BSC's")?;
-    plan.make(&Edit::AddBsc(first))?;
-    for cell in CELLS {
-        plan.make(&Edit::AddCell(cell, first))?;
+    let first = bsc(rt, 1);
+    makes(rt, &mut plan, Edit::AddBsc(first));
+    for cell in &CELLS {
+        makes(rt, &mut plan, Edit::AddCell(*cell, first));
     }
     for place in 0..4 {
-        plan.make(&Edit::AddArea(area(alloc, place)?))?;
+        makes(rt, &mut plan, Edit::AddArea(area(rt, alloc, place)));
     }
-    Ok(plan)
+    plan
 }
 
 #[test]
-fn edit_as_before(rt: HostRuntime) -> Result<(), Fail> {
+fn edit_as_before(rt: HostRuntime) {
     let alloc = rt.alloc();
-    let mut plan = begun(alloc)?;
+    let mut plan = begun(&rt, alloc);
     let mut draw = Draw { state: 1 };
     let mut accepted: u32 = 0;
     let mut changed: usize = 0;
     for _ in 0..DRAWN {
-        let edit = next_edit(alloc, &mut draw)?;
-        if let Some(pairs) = make(&rt, alloc, &mut plan, &edit)? {
+        let edit = next_edit(&rt, alloc, &mut draw);
+        if let Some(pairs) = make(&rt, alloc, &mut plan, &edit) {
             accepted = accepted.saturating_add(1);
             changed = changed.saturating_add(pairs);
         }
+        drop(edit);
         if accepted == EDITS {
             break;
         }
@@ -314,5 +300,4 @@ fn edit_as_before(rt: HostRuntime) -> Result<(), Fail> {
     assert!(rt; accepted == EDITS);
     assert!(rt; changed >= 400);
     assert!(rt; plan.book().issued() <= WARNINGS);
-    Ok(())
 }

@@ -5,7 +5,7 @@ use console::{ReplayFault, replay};
 use framing::faulty::{EndsAtRead, FailsAfter, FailsAtRead, InPieces};
 use framing::{FromRead, FromWrite, Sink};
 use std::alloc::{AllocError, Global};
-use std::test::Fail;
+use std::process::Abort;
 
 /// The network code 001-01.
 const PLMN: [u8; 3] = [0x00, 0xf1, 0x10];
@@ -18,16 +18,27 @@ fn answered(alloc: Global, script: &[u8]) -> (Result<(), ReplayFault>, Vec<u8>) 
     (ended, writer.into_inner())
 }
 
+/// The run of the script ends so, and answers this.
+fn answers(
+    rt: &impl Abort,
+    alloc: Global,
+    script: &[u8],
+    ended: Result<(), ReplayFault>,
+    answers: &str,
+) {
+    let (how, wrote) = answered(alloc, script);
+    assert_eq!(rt; how, ended, "{answers:?}");
+    assert_eq!(rt; wrote.as_slice(), answers.as_bytes());
+}
+
 #[test]
 fn every_call_answers(rt: HostRuntime) {
-    let (ended, wrote) = answered(rt.alloc(), b"bsc add 1\n");
-    assert_eq!(rt; ended, Ok(()));
-    assert_eq!(rt; wrote.as_slice(), b"ok 1\n".as_slice());
+    answers(&rt, rt.alloc(), b"bsc add 1\n", Ok(()), "ok 1\n");
 }
 
 #[test]
 fn lines_end_with_or_without_a_carriage_return(rt: HostRuntime) {
-    for (script, answers) in [
+    for (script, want) in &[
         (
             "fly\r\nfly\r\r\n\r\n\r\r\nboard 1\r",
             "bad line\nbad line\nbad line\nno 16 NoSuchWarning\n",
@@ -37,49 +48,55 @@ fn lines_end_with_or_without_a_carriage_return(rt: HostRuntime) {
             "ok 1\nok 2\n",
         ),
     ] {
-        let (ended, wrote) = answered(rt.alloc(), script.as_bytes());
-        assert_eq!(rt; ended, Ok(()), "{script:?}");
-        assert_eq!(rt; wrote.as_slice(), answers.as_bytes(), "{script:?}");
+        answers(&rt, rt.alloc(), script.as_bytes(), Ok(()), want);
     }
 }
 
 const SCRIPT: &[u8] = b"bsc add 1\nbsc add 2\nbsc add 3\n";
 
+/// The text, the other text so often, and then the end.
+fn repeated(
+    alloc: Global,
+    text: &str,
+    other: &str,
+    times: u32,
+    end: &str,
+) -> Result<String, AllocError> {
+    let mut script = String::from_str(alloc, text)?;
+    for _ in 0..times {
+        script.push_str(other)?;
+    }
+    script.push_str(end)?;
+    Ok(script)
+}
+
+/// The run of a script that has a line of so many octets ends so, and answers this.
+fn long_line_answers(
+    rt: &impl Abort,
+    alloc: Global,
+    octets: u32,
+    end: &str,
+    ended: Result<(), ReplayFault>,
+    want: &str,
+) {
+    let script = repeated(alloc, "bsc add 1\n", " ", octets, end);
+    let script = script.expect(rt, "memory");
+    answers(rt, alloc, script.as_bytes(), ended, want);
+}
+
 #[test]
-fn a_long_line_ends_the_run(rt: HostRuntime) -> Result<(), Fail> {
-    let alloc = rt.alloc();
-    for (octets, end, ended, answers) in [
+fn a_long_line_ends_the_run(rt: HostRuntime) {
+    let long = ReplayFault::LongLine;
+    for (octets, end, ended, want) in &[
         (600_000, "\nbsc add 2\n", Ok(()), "ok 1\nok 2\n"),
         (600_000, "\r\nbsc add 2", Ok(()), "ok 1\nok 2\n"),
-        (
-            600_001,
-            "\nbsc add 2\n",
-            Err(ReplayFault::LongLine),
-            "ok 1\n",
-        ),
-        (
-            600_001,
-            "\r\nbsc add 2\n",
-            Err(ReplayFault::LongLine),
-            "ok 1\n",
-        ),
-        (600_001, "", Err(ReplayFault::LongLine), "ok 1\n"),
+        (600_001, "\nbsc add 2\n", Err(long), "ok 1\n"),
+        (600_001, "\r\nbsc add 2\n", Err(long), "ok 1\n"),
+        (600_001, "", Err(long), "ok 1\n"),
         (600_000, "\r", Ok(()), "ok 1\n"),
     ] {
-        let mut script = String::from_str(alloc, "bsc add 1\n")?;
-        for _ in 0..octets {
-            script.push(' ')?;
-        }
-        script.push_str(end)?;
-        let (how, wrote) = answered(alloc, script.as_bytes());
-        assert_eq!(rt; how, ended, "{octets} octets and {end:?}");
-        assert_eq!(rt;
-            wrote.as_slice(),
-            answers.as_bytes(),
-            "{octets} octets and {end:?}"
-        );
+        long_line_answers(&rt, rt.alloc(), *octets, end, *ended, want);
     }
-    Ok(())
 }
 
 #[test]
@@ -116,21 +133,24 @@ fn a_failed_write_ends_the_run(rt: HostRuntime) {
     assert_eq!(rt; wrote.as_slice(), b"ok 1\nok".as_slice());
 }
 
+/// Adds a line to the text.
+fn add_line(rt: &impl Abort, text: &mut String, line: Result<String, AllocError>) {
+    let line = line.expect(rt, "memory");
+    text.push_str(line.as_str()).expect(rt, "memory");
+}
+
 #[test]
-fn a_257th_controller_is_refused(rt: HostRuntime) -> Result<(), Fail> {
+fn a_257th_controller_is_refused(rt: HostRuntime) {
     let alloc = rt.alloc();
     let mut script = String::new(alloc);
-    let mut answers = String::new(alloc);
+    let mut want = String::new(alloc);
     for bsc in 1..257u32 {
-        script.push_str(format!(in alloc; "bsc add {bsc}\n")?.as_str())?;
-        answers.push_str(format!(in alloc; "ok {bsc}\n")?.as_str())?;
+        add_line(&rt, &mut script, format!(in alloc; "bsc add {bsc}\n"));
+        add_line(&rt, &mut want, format!(in alloc; "ok {bsc}\n"));
     }
-    script.push_str("bsc add 257\n")?;
-    answers.push_str("no 35 Limit Bscs\n")?;
-    let (ended, wrote) = answered(alloc, script.as_bytes());
-    assert_eq!(rt; ended, Ok(()));
-    assert_eq!(rt; wrote.as_slice(), answers.as_bytes());
-    Ok(())
+    script.push_str("bsc add 257\n").expect(&rt, "memory");
+    want.push_str("no 35 Limit Bscs\n").expect(&rt, "memory");
+    answers(&rt, alloc, script.as_bytes(), Ok(()), want.as_str());
 }
 
 /// A line, and how its answer begins.
@@ -187,57 +207,53 @@ static AFTER_CELLS: [Step; 11] = [
     },
 ];
 
-fn add_cell(alloc: Global, script: &mut String, ci: u32) -> Result<(), AllocError> {
-    let line = format!(in alloc; "cell add 200 {ci} 1\n")?;
-    script.push_str(line.as_str())
+/// A BSC with 1,001 cells, and the steps after them.
+fn many_cells(rt: &impl Abort, alloc: Global) -> String {
+    let mut script = String::new(alloc);
+    script.push_str("bsc add 1\n").expect(rt, "memory");
+    for ci in 1..1002u32 {
+        let line = format!(in alloc; "cell add 200 {ci} 1\n");
+        add_line(rt, &mut script, line);
+    }
+    for step in &AFTER_CELLS {
+        script.push_str(step.script).expect(rt, "memory");
+    }
+    script
 }
 
-/// A BSC with 1,001 cells, and the steps after them.
-fn many_cells(alloc: Global) -> Result<String, AllocError> {
-    let mut script = String::from_str(alloc, "bsc add 1\n")?;
-    for ci in 1..1002u32 {
-        add_cell(alloc, &mut script, ci)?;
+/// The answers begin as those of the steps.
+fn are_after_cells(rt: &impl Abort, answers: &[u8]) {
+    let mut answers = answers.split(|octet| *octet == b'\n').skip(1002);
+    for step in &AFTER_CELLS {
+        let answer = answers.next().unwrap_or(&[]);
+        assert!(rt;
+            answer.starts_with(step.answer.as_bytes()),
+            "{}",
+            step.script
+        );
     }
-    for line in &AFTER_CELLS {
-        script.push_str(line.script)?;
-    }
-    Ok(script)
 }
 
 /// An order has 1,000 cells at most; the last cell goes out in a second one.
 #[test]
-fn many_cells_are_ordered_in_turn(rt: HostRuntime) -> Result<(), Fail> {
-    let alloc = rt.alloc();
-    let script = many_cells(alloc)?;
-    let (ended, wrote) = answered(alloc, script.as_bytes());
+fn many_cells_are_ordered_in_turn(rt: HostRuntime) {
+    let script = many_cells(&rt, rt.alloc());
+    let (ended, wrote) = answered(rt.alloc(), script.as_bytes());
     assert_eq!(rt; ended, Ok(()));
-    let mut answers = wrote.as_slice().split(|octet| *octet == b'\n').skip(1002);
-    for line in &AFTER_CELLS {
-        let answer = answers.next().unwrap_or(&[]);
-        assert!(rt;
-            answer.starts_with(line.answer.as_bytes()),
-            "{}",
-            line.script
-        );
-    }
-    Ok(())
+    are_after_cells(&rt, wrote.as_slice());
+}
+
+/// A frame of so many octets, of which the header tells, is answered so.
+fn frame_answers(rt: &impl Abort, alloc: Global, begin: &str, octets: u32, want: &str) {
+    let script = repeated(alloc, begin, "00", octets, "").expect(rt, "memory");
+    answers(rt, alloc, script.as_bytes(), Ok(()), want);
 }
 
 /// A frame's length is at most 262,144.
 #[test]
-fn a_frame_may_be_long(rt: HostRuntime) -> Result<(), Fail> {
+fn a_frame_may_be_long(rt: HostRuntime) {
     let alloc = rt.alloc();
-    for (header, octets, answer) in [
-        ("02040000", 262_144, "bad message 2 UnknownElement 00\n"),
-        ("02040001", 262_145, "bad frame\n"),
-    ] {
-        let mut script = format!(in alloc; "rx 1 {header}")?;
-        for _ in 0..octets {
-            script.push_str("00")?;
-        }
-        let (ended, wrote) = answered(alloc, script.as_bytes());
-        assert_eq!(rt; ended, Ok(()), "{octets} octets");
-        assert_eq!(rt; wrote.as_slice(), answer.as_bytes(), "{octets} octets");
-    }
-    Ok(())
+    let unknown = "bad message 2 UnknownElement 00\n";
+    frame_answers(&rt, alloc, "rx 1 02040000", 262_144, unknown);
+    frame_answers(&rt, alloc, "rx 1 02040001", 262_145, "bad frame\n");
 }

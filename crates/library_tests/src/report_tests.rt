@@ -2,9 +2,10 @@
 //! which nothing is known (TS 48.049, 8.1.3, with the causes of 8.2.13).
 
 use crate::centre_events::{
-    EIGHT, MESSAGE_ID, PLMN, SEVEN, coast, complete, error_indication, failure, first_serial,
+    EIGHT, MESSAGE_ID, PLMN, SEVEN, complete, edits, error_indication, failure, first_serial,
     issue, kill_complete, kill_failure, restart, status_failure, takes, write_failure,
 };
+use crate::values::{bsc, name};
 use areas::Selector;
 use cbsp_ie::Cause;
 use cbsp_messages::Message;
@@ -20,33 +21,51 @@ use centre_events::reply::Reply;
 use common::Cell;
 use coverage_board::Numbers;
 use coverage_plan::Edit;
-use order_maker::OrderKind;
-use std::alloc::{AllocError, Global};
+use order_maker::{Order, OrderKind};
+use std::alloc::Global;
 use std::process::Abort;
-use std::test::Fail;
 
 const NINE: Cell = Cell { lac: 100, ci: 9 };
 
 /// The generation of the link, which comes up in the seventh entry.
 const GENERATION: u64 = 7;
 
-fn bsc(number: u16) -> Result<BscId, Fail> {
-    let b = BscId::new(number).ok_or("the number is a BSC's")?;
-    Ok(b)
+/// Two cells at a BSC, an area that has their location area, a warning there, and the link up.
+fn begun(rt: &impl Abort, alloc: Global, b: BscId) -> Centre {
+    let mut centre = Centre::new(alloc, PLMN, 100);
+    edits(rt, &mut centre, Edit::AddBsc(b));
+    edits(rt, &mut centre, Edit::AddCell(SEVEN, b));
+    edits(rt, &mut centre, Edit::AddCell(EIGHT, b));
+    edits(rt, &mut centre, Edit::AddArea(name(rt, alloc, b"Coast")));
+    let put = Edit::Put(name(rt, alloc, b"Coast"), Selector::Lac(100));
+    edits(rt, &mut centre, put);
+    takes(rt, &mut centre, issue(alloc).expect(rt, "memory"));
+    takes(rt, &mut centre, Event::LinkUp(b));
+    centre
 }
 
-/// Two cells at a BSC, an area that has their location area, a warning there, and the link up.
-fn begun(rt: &impl Abort, alloc: Global, b: BscId) -> Result<Centre, AllocError> {
-    let mut centre = Centre::new(alloc, PLMN, 100);
-    takes(rt, &mut centre, Event::Edit(Edit::AddBsc(b)));
-    takes(rt, &mut centre, Event::Edit(Edit::AddCell(SEVEN, b)));
-    takes(rt, &mut centre, Event::Edit(Edit::AddCell(EIGHT, b)));
-    takes(rt, &mut centre, Event::Edit(Edit::AddArea(coast(alloc)?)));
-    let put = Edit::Put(coast(alloc)?, Selector::Lac(100));
-    takes(rt, &mut centre, Event::Edit(put));
-    takes(rt, &mut centre, issue(alloc)?);
-    takes(rt, &mut centre, Event::LinkUp(b));
-    Ok(centre)
+/// What the event is answered.
+fn answer(rt: &impl Abort, centre: &mut Centre, event: Event) -> Answer {
+    centre.accept(1, event).expect(rt, "the event is entered")
+}
+
+/// What the event is refused with.
+fn refusal(centre: &mut Centre, event: Event) -> Option<Refusal> {
+    centre.accept(1, event).err()
+}
+
+fn is_replied(rt: &impl Abort, answer: &Answer, said: &[Reply]) {
+    match answer {
+        Answer::Replied(found) => assert!(rt; found.as_slice() == said),
+        _ => panic!(rt; "an order is answered"),
+    }
+}
+
+fn is_listed(rt: &impl Abort, answer: &Answer, cells: &[Cell]) {
+    match answer {
+        Answer::Listed(found) => assert!(rt; found.as_slice() == cells),
+        _ => panic!(rt; "cells are listed"),
+    }
 }
 
 /// The report answers the order of both cells, and says this of the first and of the second.
@@ -59,14 +78,9 @@ fn replies(
     second: Outcome,
 ) {
     let said = [reply(SEVEN, first), reply(EIGHT, second)];
-    match centre.accept(1, Event::Report(b, GENERATION, message)) {
-        Ok(Answer::Replied(found)) => {
-            assert!(rt; found.as_slice() == said.as_slice());
-        }
-        _ => {
-            assert!(rt; false, "an order is answered");
-        }
-    }
+    let answer = answer(rt, centre, Event::Report(b, GENERATION, message));
+    is_replied(rt, &answer, &said);
+    drop(answer);
 }
 
 /// What is said of the cell, without a number of broadcasts.
@@ -85,40 +99,60 @@ fn reports(rt: &impl Abort, centre: &mut Centre, b: BscId, message: Message) {
 
 /// The report is an indication that lists these cells.
 fn lists(rt: &impl Abort, centre: &mut Centre, b: BscId, message: Message, cells: &[Cell]) {
-    match centre.accept(1, Event::Report(b, GENERATION, message)) {
-        Ok(Answer::Listed(found)) => {
-            assert!(rt; found.as_slice() == cells);
-        }
-        _ => {
-            assert!(rt; false, "cells are listed");
-        }
+    let answer = answer(rt, centre, Event::Report(b, GENERATION, message));
+    is_listed(rt, &answer, cells);
+    drop(answer);
+}
+
+/// The cell fails, which lists it.
+fn fails(rt: &impl Abort, alloc: Global, centre: &mut Centre, b: BscId, cell: Cell) {
+    let message = failure(alloc, cell).expect(rt, "memory");
+    lists(rt, centre, b, message, &[cell]);
+}
+
+/// The cell comes up again without its messages, which lists these cells.
+fn comes_up(
+    rt: &impl Abort,
+    alloc: Global,
+    centre: &mut Centre,
+    b: BscId,
+    cell: Cell,
+    cells: &[Cell],
+) {
+    let message = restart(alloc, cell, 0, 1).expect(rt, "memory");
+    lists(rt, centre, b, message, cells);
+}
+
+/// The order is of that kind, for the first version in these cells.
+fn is_order(rt: &impl Abort, order: &Order, kind: OrderKind, cells: &[Cell]) {
+    assert!(rt; order.kind == kind);
+    assert!(rt; order.message_id == MESSAGE_ID);
+    assert!(rt; order.serial == first_serial());
+    assert!(rt; order.cells.as_slice() == cells);
+}
+
+fn is_sent(rt: &impl Abort, answer: &Answer, kind: OrderKind, cells: &[Cell]) {
+    match answer {
+        Answer::Sent { order, message: _ } => is_order(rt, order, kind, cells),
+        _ => panic!(rt; "an order is sent"),
     }
 }
 
 /// The next order is of that kind, for the first version in these cells.
 fn sends(rt: &impl Abort, centre: &mut Centre, b: BscId, kind: OrderKind, cells: &[Cell]) {
-    match centre.accept(1, Event::Send(b, GENERATION)) {
-        Ok(Answer::Sent { order, message: _ }) => {
-            assert_eq!(rt; order.kind, kind);
-            assert_eq!(rt; order.message_id, MESSAGE_ID);
-            assert_eq!(rt; order.serial, first_serial());
-            assert!(rt; order.cells.as_slice() == cells);
-        }
-        _ => {
-            assert!(rt; false, "an order is sent");
-        }
-    }
+    let answer = answer(rt, centre, Event::Send(b, GENERATION));
+    is_sent(rt, &answer, kind, cells);
+    drop(answer);
 }
 
 fn sends_nothing(rt: &impl Abort, centre: &mut Centre, b: BscId) {
-    let refusal = centre.accept(1, Event::Send(b, GENERATION)).err();
+    let refusal = refusal(centre, Event::Send(b, GENERATION));
     assert_eq!(rt; refusal, Some(Refusal::NothingPending));
 }
 
 /// The message answers no order in flight.
 fn is_out_of_place(rt: &impl Abort, centre: &mut Centre, b: BscId, message: Message) {
-    let report = Event::Report(b, GENERATION, message);
-    let refusal = centre.accept(1, report).err();
+    let refusal = refusal(centre, Event::Report(b, GENERATION, message));
     assert_eq!(rt; refusal, Some(Refusal::NoOrder));
 }
 
@@ -144,212 +178,205 @@ fn key(cell: Cell, presence: Presence) -> ReportedKey {
     }
 }
 
-fn has_reported(
-    rt: &impl Abort,
-    centre: &mut Centre,
-    b: BscId,
-    keys: &[ReportedKey],
-) -> Result<(), Refusal> {
-    let found = centre.table_of(b)?;
+fn has_reported(rt: &impl Abort, centre: &mut Centre, b: BscId, keys: &[ReportedKey]) {
+    let found = centre.table_of(b).expect(rt, "the table is told");
     assert!(rt; found.as_slice() == keys);
-    Ok(())
+}
+
+/// The write of both cells is in flight.
+fn written(rt: &impl Abort, alloc: Global, b: BscId) -> Centre {
+    let mut centre = begun(rt, alloc, b);
+    sends(rt, &mut centre, b, OrderKind::Write, &[SEVEN, EIGHT]);
+    centre
 }
 
 /// The first version is on air in both cells.
-fn on_air(rt: &impl Abort, alloc: Global, b: BscId) -> Result<Centre, AllocError> {
-    let mut centre = begun(rt, alloc, b)?;
-    sends(rt, &mut centre, b, OrderKind::Write, &[SEVEN, EIGHT]);
+fn on_air(rt: &impl Abort, alloc: Global, b: BscId) -> Centre {
+    let mut centre = written(rt, alloc, b);
     replies(rt, &mut centre, b, complete(), Outcome::Done, Outcome::Done);
     is_board(rt, &centre, 0, 2, 0, 0);
-    Ok(centre)
+    centre
 }
 
 #[test]
-fn a_restart_clears_its_cell_alone(rt: HostRuntime) -> Result<(), Fail> {
-    let alloc = rt.alloc();
-    let b = bsc(1)?;
-    let mut centre = on_air(&rt, alloc, b)?;
-    let lost = restart(alloc, SEVEN, 0, 1)?;
-    lists(&rt, &mut centre, b, lost, &[SEVEN]);
+fn a_restart_clears_its_cell_alone(rt: HostRuntime) {
+    let b = bsc(&rt, 1);
+    let mut centre = on_air(&rt, rt.alloc(), b);
+    comes_up(&rt, rt.alloc(), &mut centre, b, SEVEN, &[SEVEN]);
     is_board(&rt, &centre, 1, 1, 0, 0);
-    has_reported(&rt, &mut centre, b, &[key(EIGHT, Presence::OnAir)])?;
+    has_reported(&rt, &mut centre, b, &[key(EIGHT, Presence::OnAir)]);
     sends(&rt, &mut centre, b, OrderKind::Write, &[SEVEN]);
-    Ok(())
 }
 
 /// One that kept its messages, one of emergency messages, and one of a cell that isn't registered.
 #[test]
-fn other_restarts_clear_nothing(rt: HostRuntime) -> Result<(), Fail> {
+fn other_restarts_clear_nothing(rt: HostRuntime) {
     let alloc = rt.alloc();
-    let b = bsc(1)?;
-    let mut centre = on_air(&rt, alloc, b)?;
-    let kept = restart(alloc, SEVEN, 0, 0)?;
+    let b = bsc(&rt, 1);
+    let mut centre = on_air(&rt, alloc, b);
+    let kept = restart(alloc, SEVEN, 0, 0).expect(&rt, "memory");
     lists(&rt, &mut centre, b, kept, &[SEVEN]);
-    let emergency = restart(alloc, SEVEN, 1, 1)?;
+    let emergency = restart(alloc, SEVEN, 1, 1).expect(&rt, "memory");
     lists(&rt, &mut centre, b, emergency, &[]);
-    let unknown = restart(alloc, NINE, 0, 1)?;
-    lists(&rt, &mut centre, b, unknown, &[]);
+    comes_up(&rt, alloc, &mut centre, b, NINE, &[]);
     is_board(&rt, &centre, 0, 2, 0, 0);
-    Ok(())
 }
 
 #[test]
-fn a_cell_that_failed_is_ordered_nothing_until_a_restart(rt: HostRuntime) -> Result<(), Fail> {
+fn a_cell_that_failed_is_ordered_nothing_until_a_restart(rt: HostRuntime) {
     let alloc = rt.alloc();
-    let b = bsc(1)?;
-    let mut centre = begun(&rt, alloc, b)?;
-    lists(&rt, &mut centre, b, failure(alloc, SEVEN)?, &[SEVEN]);
+    let b = bsc(&rt, 1);
+    let mut centre = begun(&rt, alloc, b);
+    fails(&rt, alloc, &mut centre, b, SEVEN);
     is_board(&rt, &centre, 1, 0, 1, 0);
     sends(&rt, &mut centre, b, OrderKind::Write, &[EIGHT]);
     reports(&rt, &mut centre, b, complete());
     is_board(&rt, &centre, 0, 1, 1, 0);
     sends_nothing(&rt, &mut centre, b);
-    let up = restart(alloc, SEVEN, 0, 1)?;
-    lists(&rt, &mut centre, b, up, &[SEVEN]);
+    comes_up(&rt, alloc, &mut centre, b, SEVEN, &[SEVEN]);
     is_board(&rt, &centre, 1, 1, 0, 0);
     sends(&rt, &mut centre, b, OrderKind::Write, &[SEVEN]);
-    Ok(())
+}
+
+/// The first cell refuses the write for that cause, and the second carries it out or isn't named.
+fn refuses(
+    rt: &impl Abort,
+    alloc: Global,
+    centre: &mut Centre,
+    b: BscId,
+    cause: Cause,
+    second: Outcome,
+) {
+    let done: &[Cell] = match second {
+        Outcome::Done => &[EIGHT],
+        _ => &[],
+    };
+    let message = write_failure(alloc, SEVEN, cause, done).expect(rt, "memory");
+    replies(rt, centre, b, message, Outcome::Refused(cause), second);
 }
 
 #[test]
-fn a_cell_that_refuses_is_held_back_until_a_retry(rt: HostRuntime) -> Result<(), Fail> {
-    let alloc = rt.alloc();
-    let b = bsc(1)?;
-    let mut centre = begun(&rt, alloc, b)?;
-    sends(&rt, &mut centre, b, OrderKind::Write, &[SEVEN, EIGHT]);
-    let full = Outcome::Refused(Cause::CELL_MEMORY_EXCEEDED);
-    let refused = write_failure(alloc, SEVEN, Cause::CELL_MEMORY_EXCEEDED, &[EIGHT])?;
-    replies(&rt, &mut centre, b, refused, full, Outcome::Done);
+fn a_cell_that_refuses_is_held_back_until_a_retry(rt: HostRuntime) {
+    let b = bsc(&rt, 1);
+    let mut centre = written(&rt, rt.alloc(), b);
+    let full = Cause::CELL_MEMORY_EXCEEDED;
+    refuses(&rt, rt.alloc(), &mut centre, b, full, Outcome::Done);
     is_board(&rt, &centre, 0, 1, 1, 0);
     sends_nothing(&rt, &mut centre, b);
     takes(&rt, &mut centre, Event::Retry(b));
     is_board(&rt, &centre, 1, 1, 0, 0);
     sends(&rt, &mut centre, b, OrderKind::Write, &[SEVEN]);
-    Ok(())
 }
 
 /// The failure names one cell of the order, and says nothing of the other.
 #[test]
-fn a_cell_of_which_nothing_is_said_is_unknown(rt: HostRuntime) -> Result<(), Fail> {
-    let alloc = rt.alloc();
-    let b = bsc(1)?;
-    let mut centre = begun(&rt, alloc, b)?;
-    sends(&rt, &mut centre, b, OrderKind::Write, &[SEVEN, EIGHT]);
-    let full = Outcome::Refused(Cause::CELL_MEMORY_EXCEEDED);
-    let refused = write_failure(alloc, SEVEN, Cause::CELL_MEMORY_EXCEEDED, &[])?;
-    replies(&rt, &mut centre, b, refused, full, Outcome::Silent);
+fn a_cell_of_which_nothing_is_said_is_unknown(rt: HostRuntime) {
+    let b = bsc(&rt, 1);
+    let mut centre = written(&rt, rt.alloc(), b);
+    let full = Cause::CELL_MEMORY_EXCEEDED;
+    refuses(&rt, rt.alloc(), &mut centre, b, full, Outcome::Silent);
     is_board(&rt, &centre, 1, 0, 1, 0);
-    has_reported(&rt, &mut centre, b, &[key(EIGHT, Presence::Unknown)])?;
+    has_reported(&rt, &mut centre, b, &[key(EIGHT, Presence::Unknown)]);
     sends(&rt, &mut centre, b, OrderKind::Write, &[EIGHT]);
-    Ok(())
 }
 
 /// Cause 13 says that the cell has the message already.
 #[test]
-fn a_message_that_is_there_already_is_on_air(rt: HostRuntime) -> Result<(), Fail> {
-    let alloc = rt.alloc();
-    let b = bsc(1)?;
-    let mut centre = begun(&rt, alloc, b)?;
-    sends(&rt, &mut centre, b, OrderKind::Write, &[SEVEN, EIGHT]);
-    let there = Outcome::Refused(Cause(13));
-    let refused = write_failure(alloc, SEVEN, Cause(13), &[EIGHT])?;
-    replies(&rt, &mut centre, b, refused, there, Outcome::Done);
+fn a_message_that_is_there_already_is_on_air(rt: HostRuntime) {
+    let b = bsc(&rt, 1);
+    let mut centre = written(&rt, rt.alloc(), b);
+    refuses(&rt, rt.alloc(), &mut centre, b, Cause(13), Outcome::Done);
     is_board(&rt, &centre, 0, 2, 0, 0);
     sends_nothing(&rt, &mut centre, b);
-    Ok(())
 }
 
 #[test]
-fn an_error_indication_refuses_its_whole_order(rt: HostRuntime) -> Result<(), Fail> {
-    let alloc = rt.alloc();
-    let b = bsc(1)?;
-    let mut centre = begun(&rt, alloc, b)?;
-    sends(&rt, &mut centre, b, OrderKind::Write, &[SEVEN, EIGHT]);
+fn an_error_indication_refuses_its_whole_order(rt: HostRuntime) {
+    let b = bsc(&rt, 1);
+    let mut centre = written(&rt, rt.alloc(), b);
     let busy = Outcome::Refused(Cause::BSC_CAPACITY_EXCEEDED);
     let refused = error_indication(Cause::BSC_CAPACITY_EXCEEDED);
     replies(&rt, &mut centre, b, refused, busy, busy);
     is_board(&rt, &centre, 0, 0, 2, 0);
     sends_nothing(&rt, &mut centre, b);
-    Ok(())
 }
 
 /// The message stays on air where its KILL is refused; cause 2 says that it isn't there.
 #[test]
-fn a_refused_kill_leaves_its_message(rt: HostRuntime) -> Result<(), Fail> {
+fn a_refused_kill_leaves_its_message(rt: HostRuntime) {
     let alloc = rt.alloc();
-    let b = bsc(1)?;
-    let mut centre = on_air(&rt, alloc, b)?;
-    takes(&rt, &mut centre, Event::Edit(Edit::Stop(WarningId::new(1))));
+    let b = bsc(&rt, 1);
+    let mut centre = on_air(&rt, alloc, b);
+    edits(&rt, &mut centre, Edit::Stop(WarningId::new(1)));
     sends(&rt, &mut centre, b, OrderKind::Kill, &[SEVEN, EIGHT]);
     let failed = Outcome::Refused(Cause::UNSPECIFIED_ERROR);
-    let refused = kill_failure(alloc, SEVEN, Cause::UNSPECIFIED_ERROR, &[EIGHT])?;
+    let refused = kill_failure(alloc, SEVEN, Cause::UNSPECIFIED_ERROR, &[EIGHT]);
+    let refused = refused.expect(&rt, "memory");
     replies(&rt, &mut centre, b, refused, failed, Outcome::Done);
     is_board(&rt, &centre, 0, 0, 0, 1);
-    has_reported(&rt, &mut centre, b, &[key(SEVEN, Presence::OnAir)])?;
+    has_reported(&rt, &mut centre, b, &[key(SEVEN, Presence::OnAir)]);
     sends_nothing(&rt, &mut centre, b);
     takes(&rt, &mut centre, Event::Retry(b));
     sends(&rt, &mut centre, b, OrderKind::Kill, &[SEVEN]);
-    let gone = kill_failure(alloc, SEVEN, Cause(2), &[])?;
-    reports(&rt, &mut centre, b, gone);
+    let gone = kill_failure(alloc, SEVEN, Cause(2), &[]);
+    reports(&rt, &mut centre, b, gone.expect(&rt, "memory"));
     is_board(&rt, &centre, 0, 0, 0, 0);
-    Ok(())
 }
 
 /// The link is lost by the event, with the write of both cells in flight.
-fn loses(rt: &impl Abort, alloc: Global, b: BscId, loss: Event) -> Result<(), Fail> {
-    let mut centre = begun(rt, alloc, b)?;
-    sends(rt, &mut centre, b, OrderKind::Write, &[SEVEN, EIGHT]);
+fn loses(rt: &impl Abort, alloc: Global, b: BscId, loss: Event) {
+    let mut centre = written(rt, alloc, b);
     takes(rt, &mut centre, loss);
-    let is_idle = centre.in_flight_of(b)?.is_none();
-    assert!(rt; is_idle);
+    let flight = centre.in_flight_of(b).expect(rt, "the flight is told");
+    assert!(rt; flight.is_none());
     let unknown = [key(SEVEN, Presence::Unknown), key(EIGHT, Presence::Unknown)];
-    has_reported(rt, &mut centre, b, &unknown)?;
+    has_reported(rt, &mut centre, b, &unknown);
     is_board(rt, &centre, 2, 0, 0, 0);
-    Ok(())
 }
 
 #[test]
-fn a_lost_link_leaves_its_order_unknown(rt: HostRuntime) -> Result<(), Fail> {
-    let b = bsc(1)?;
-    loses(&rt, rt.alloc(), b, Event::LinkDown(b, GENERATION))?;
-    loses(&rt, rt.alloc(), b, Event::LinkUp(b))
+fn a_lost_link_leaves_its_order_unknown(rt: HostRuntime) {
+    let b = bsc(&rt, 1);
+    loses(&rt, rt.alloc(), b, Event::LinkDown(b, GENERATION));
+    loses(&rt, rt.alloc(), b, Event::LinkUp(b));
+}
+
+/// Nothing is in flight.
+fn writes_are_out_of_place(rt: &impl Abort, alloc: Global, centre: &mut Centre, b: BscId) {
+    is_out_of_place(rt, centre, b, complete());
+    let refused = write_failure(alloc, SEVEN, Cause::CELL_MEMORY_EXCEEDED, &[]);
+    is_out_of_place(rt, centre, b, refused.expect(rt, "memory"));
+    is_out_of_place(rt, centre, b, error_indication(Cause(0)));
+}
+
+/// A write is in flight.
+fn kills_are_out_of_place(rt: &impl Abort, alloc: Global, centre: &mut Centre, b: BscId) {
+    is_out_of_place(rt, centre, b, kill_complete());
+    let refused = kill_failure(alloc, SEVEN, Cause::UNSPECIFIED_ERROR, &[]);
+    is_out_of_place(rt, centre, b, refused.expect(rt, "memory"));
+    let refused = status_failure(alloc, SEVEN).expect(rt, "memory");
+    is_out_of_place(rt, centre, b, refused);
 }
 
 #[test]
-fn a_report_out_of_place_is_refused(rt: HostRuntime) -> Result<(), Fail> {
-    let alloc = rt.alloc();
-    let b = bsc(1)?;
-    let mut centre = begun(&rt, alloc, b)?;
-    is_out_of_place(&rt, &mut centre, b, complete());
-    let refused = write_failure(alloc, SEVEN, Cause::CELL_MEMORY_EXCEEDED, &[])?;
-    is_out_of_place(&rt, &mut centre, b, refused);
-    is_out_of_place(&rt, &mut centre, b, error_indication(Cause(0)));
+fn a_report_out_of_place_is_refused(rt: HostRuntime) {
+    let b = bsc(&rt, 1);
+    let mut centre = begun(&rt, rt.alloc(), b);
+    writes_are_out_of_place(&rt, rt.alloc(), &mut centre, b);
     sends(&rt, &mut centre, b, OrderKind::Write, &[SEVEN, EIGHT]);
-    is_out_of_place(&rt, &mut centre, b, kill_complete());
-    let refused = kill_failure(alloc, SEVEN, Cause::UNSPECIFIED_ERROR, &[])?;
-    is_out_of_place(&rt, &mut centre, b, refused);
-    is_out_of_place(&rt, &mut centre, b, status_failure(alloc, SEVEN)?);
+    kills_are_out_of_place(&rt, rt.alloc(), &mut centre, b);
     is_board(&rt, &centre, 2, 0, 0, 0);
-    Ok(())
 }
 
 /// A cell that has moved away is known at its old BSC for as long as something is on air in it there.
 #[test]
-fn a_moved_cell_is_known_where_its_message_is(rt: HostRuntime) -> Result<(), Fail> {
-    let alloc = rt.alloc();
-    let b = bsc(1)?;
-    let mut centre = on_air(&rt, alloc, b)?;
-    takes(&rt, &mut centre, Event::Edit(Edit::AddBsc(bsc(2)?)));
-    takes(
-        &rt,
-        &mut centre,
-        Event::Edit(Edit::MoveCell(SEVEN, bsc(2)?)),
-    );
+fn a_moved_cell_is_known_where_its_message_is(rt: HostRuntime) {
+    let b = bsc(&rt, 1);
+    let mut centre = on_air(&rt, rt.alloc(), b);
+    edits(&rt, &mut centre, Edit::AddBsc(bsc(&rt, 2)));
+    edits(&rt, &mut centre, Edit::MoveCell(SEVEN, bsc(&rt, 2)));
     is_board(&rt, &centre, 1, 1, 0, 1);
-    let lost = restart(alloc, SEVEN, 0, 1)?;
-    lists(&rt, &mut centre, b, lost, &[SEVEN]);
+    comes_up(&rt, rt.alloc(), &mut centre, b, SEVEN, &[SEVEN]);
     is_board(&rt, &centre, 1, 1, 0, 0);
-    let unknown = restart(alloc, SEVEN, 0, 1)?;
-    lists(&rt, &mut centre, b, unknown, &[]);
-    Ok(())
+    comes_up(&rt, rt.alloc(), &mut centre, b, SEVEN, &[]);
 }

@@ -2,11 +2,14 @@
 
 use serials::{Scope, Serial, least_free_code};
 use std::process::Abort;
-use std::test::Fail;
+
+fn number(serial: Option<Serial>) -> Option<u16> {
+    Some(serial?.to_u16())
+}
 
 #[test]
-fn serials_have_their_numbers(rt: HostRuntime) -> Result<(), Fail> {
-    for (scope, code, update, want) in [
+fn serials_have_their_numbers(rt: HostRuntime) {
+    for (scope, code, update, want) in &[
         (Scope::CellImmediate, 0, 0, Some(0x0000)),
         (Scope::Plmn, 1, 2, Some(0x4012)),
         (Scope::LocationArea, 0, 15, Some(0x800f)),
@@ -15,55 +18,56 @@ fn serials_have_their_numbers(rt: HostRuntime) -> Result<(), Fail> {
         (Scope::Cell, 1024, 0, None),
         (Scope::Cell, 0, 16, None),
     ] {
-        let serial = Serial::new(scope, code, update);
-        assert_eq!(rt; serial.map(|s| s.to_u16()), want, "{code} {update}");
+        let serial = Serial::new(*scope, *code, *update);
+        assert_eq!(rt; number(serial), *want, "{code} {update}");
     }
-    Ok(())
 }
 
 #[test]
-fn a_serial_has_its_parts(rt: HostRuntime) -> Result<(), Fail> {
+fn a_serial_has_its_parts(rt: HostRuntime) {
     let serial = Serial::from_u16(0x4012);
     assert_eq!(rt; serial.scope(), Scope::Plmn);
     assert_eq!(rt; serial.code(), 1);
     assert_eq!(rt; serial.update(), 2);
-    for (number, scope) in [
+    for (number, scope) in &[
         (0, Some(Scope::CellImmediate)),
         (1, Some(Scope::Plmn)),
         (2, Some(Scope::LocationArea)),
         (3, Some(Scope::Cell)),
         (4, None),
     ] {
-        assert_eq!(rt; Scope::from_number(number), scope, "{number}");
+        assert_eq!(rt; Scope::from_number(*number), *scope, "{number}");
     }
-    Ok(())
 }
 
 #[test]
-fn updates_count_to_fifteen(rt: HostRuntime) -> Result<(), Fail> {
-    for (serial, want) in [
+fn updates_count_to_fifteen(rt: HostRuntime) {
+    for (serial, want) in &[
         (0xc000, Some(0xc001)),
         (0x401e, Some(0x401f)),
         (0x401f, None),
         (0xffff, None),
     ] {
-        let next = Serial::from_u16(serial).next();
-        assert_eq!(rt; next.map(|s| s.to_u16()), want, "{serial}");
+        let next = Serial::from_u16(*serial).next();
+        assert_eq!(rt; number(next), *want, "{serial}");
     }
-    Ok(())
+}
+
+/// The least code that isn't in use.
+fn has_least(rt: &impl Abort, used: &[u16], want: Option<u16>) {
+    assert_eq!(rt; least_free_code(used), want);
 }
 
 #[test]
-fn the_least_code_is_free(rt: HostRuntime) -> Result<(), Fail> {
-    assert_eq!(rt; least_free_code(&[]), Some(0));
-    assert_eq!(rt; least_free_code(&[0, 1, 3]), Some(2));
-    assert_eq!(rt; least_free_code(&[3, 0, 1, 0]), Some(2));
+fn the_least_code_is_free(rt: HostRuntime) {
+    has_least(&rt, &[], Some(0));
+    has_least(&rt, &[0, 1, 3], Some(2));
+    has_least(&rt, &[3, 0, 1, 0], Some(2));
     let mut used = Vec::new(rt.alloc());
     for code in 0..1023u16 {
-        used.push(code)?;
+        used.push(code).expect(&rt, "memory");
     }
-    assert_eq!(rt; least_free_code(used.as_slice()), Some(1023));
-    used.push(1023)?;
-    assert_eq!(rt; least_free_code(used.as_slice()), None);
-    Ok(())
+    has_least(&rt, used.as_slice(), Some(1023));
+    used.push(1023).expect(&rt, "memory");
+    has_least(&rt, used.as_slice(), None);
 }

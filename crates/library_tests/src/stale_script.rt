@@ -4,6 +4,7 @@ use crate::centre_events::{
     EIGHT, SEVEN, coast, content, error_indication, failure, issue, kill_failure, name, restart,
     write_failure,
 };
+use crate::values::bsc;
 use areas::Selector;
 use cbsp_ie::Cause;
 use cell_register::BscId;
@@ -11,133 +12,139 @@ use centre_core::WarningId;
 use centre_events::event::Event;
 use coverage_plan::Edit;
 use std::alloc::{AllocError, Global};
-use std::test::Fail;
-
-pub(crate) fn bsc(number: u16) -> Result<BscId, Fail> {
-    let b = BscId::new(number).ok_or("the number is a BSC's")?;
-    Ok(b)
-}
+use std::process::Abort;
 
 pub(crate) fn first_id() -> WarningId {
     WarningId::new(1)
 }
 
+pub(crate) fn add(events: &mut Vec<Event>, event: Event) -> Result<(), AllocError> {
+    events.push(event)?;
+    Ok(())
+}
+
+fn edit(events: &mut Vec<Event>, edit: Edit) -> Result<(), AllocError> {
+    add(events, Event::Edit(edit))
+}
+
 /// Two cells at the first BSC, an area that has their location area, and a warning there.
 pub(crate) fn plan(alloc: Global, events: &mut Vec<Event>, b: BscId) -> Result<(), AllocError> {
-    events.push(Event::Edit(Edit::AddBsc(b)))?;
-    events.push(Event::Edit(Edit::AddCell(SEVEN, b)))?;
-    events.push(Event::Edit(Edit::AddCell(EIGHT, b)))?;
-    events.push(Event::Edit(Edit::AddArea(coast(alloc)?)))?;
-    let put = Edit::Put(coast(alloc)?, Selector::Lac(100));
-    events.push(Event::Edit(put))?;
-    events.push(issue(alloc)?)?;
-    Ok(())
+    edit(events, Edit::AddBsc(b))?;
+    edit(events, Edit::AddCell(SEVEN, b))?;
+    edit(events, Edit::AddCell(EIGHT, b))?;
+    edit(events, Edit::AddArea(coast(alloc)?))?;
+    edit(events, Edit::Put(coast(alloc)?, Selector::Lac(100)))?;
+    add(events, issue(alloc)?)
 }
 
 /// The write is refused in the first cell, and the second fails.
 fn refuse(alloc: Global, events: &mut Vec<Event>, b: BscId) -> Result<(), AllocError> {
-    events.push(Event::LinkUp(b))?;
-    events.push(Event::Send(b, 7))?;
+    add(events, Event::LinkUp(b))?;
+    add(events, Event::Send(b, 7))?;
     let refused = write_failure(alloc, SEVEN, Cause::CELL_MEMORY_EXCEEDED, &[EIGHT])?;
-    events.push(Event::Report(b, 7, refused))?;
-    events.push(Event::Report(b, 7, failure(alloc, EIGHT)?))?;
-    Ok(())
+    add(events, Event::Report(b, 7, refused))?;
+    add(events, Event::Report(b, 7, failure(alloc, EIGHT)?))
 }
 
 /// Both cells are to be written again, and the link is lost with that order in flight.
 fn retry(alloc: Global, events: &mut Vec<Event>, b: BscId) -> Result<(), AllocError> {
-    events.push(Event::Retry(b))?;
+    add(events, Event::Retry(b))?;
     let lost = restart(alloc, EIGHT, 0, 1)?;
-    events.push(Event::Report(b, 7, lost))?;
-    events.push(Event::Send(b, 7))?;
-    events.push(Event::LinkDown(b, 7))?;
-    Ok(())
+    add(events, Event::Report(b, 7, lost))?;
+    add(events, Event::Send(b, 7))?;
+    add(events, Event::LinkDown(b, 7))
 }
 
 /// The warning is corrected, and the second cell moves to the second BSC.
 fn correct(alloc: Global, events: &mut Vec<Event>, d: BscId) -> Result<(), AllocError> {
-    let update = Edit::Update(first_id(), content(alloc)?);
-    events.push(Event::Edit(update))?;
-    events.push(Event::Edit(Edit::AddBsc(d)))?;
-    events.push(Event::Edit(Edit::MoveCell(EIGHT, d)))?;
-    Ok(())
+    edit(events, Edit::Update(first_id(), content(alloc)?))?;
+    edit(events, Edit::AddBsc(d))?;
+    edit(events, Edit::MoveCell(EIGHT, d))
 }
 
 /// The warning gets an area of the first cell alone.
 fn narrow(alloc: Global, events: &mut Vec<Event>) -> Result<(), AllocError> {
+    edit(events, Edit::AddArea(name(alloc, b"Hills")?))?;
     let hills = name(alloc, b"Hills")?;
-    let put = Edit::Put(hills.copied(alloc)?, Selector::Cell(SEVEN));
-    let widen = Edit::Widen(first_id(), hills.copied(alloc)?);
-    events.push(Event::Edit(Edit::AddArea(hills)))?;
-    events.push(Event::Edit(put))?;
-    events.push(Event::Edit(widen))?;
-    let narrow = Edit::Narrow(first_id(), coast(alloc)?);
-    events.push(Event::Edit(narrow))?;
-    Ok(())
+    edit(events, Edit::Put(hills, Selector::Cell(SEVEN)))?;
+    edit(events, Edit::Widen(first_id(), name(alloc, b"Hills")?))?;
+    edit(events, Edit::Narrow(first_id(), coast(alloc)?))
 }
 
 /// Its first area goes.
 fn drop_area(alloc: Global, events: &mut Vec<Event>) -> Result<(), AllocError> {
-    let cut = Edit::Cut(coast(alloc)?, Selector::Lac(100));
-    events.push(Event::Edit(cut))?;
-    events.push(Event::Edit(Edit::DropArea(coast(alloc)?)))?;
-    Ok(())
+    edit(events, Edit::Cut(coast(alloc)?, Selector::Lac(100)))?;
+    edit(events, Edit::DropArea(coast(alloc)?))
 }
 
 /// The warning is stopped, and its KILL refused in the first cell.
 fn stop(alloc: Global, events: &mut Vec<Event>, b: BscId) -> Result<(), AllocError> {
-    events.push(Event::Edit(Edit::Stop(first_id())))?;
-    events.push(Event::LinkUp(b))?;
-    events.push(Event::Send(b, 25))?;
+    edit(events, Edit::Stop(first_id()))?;
+    add(events, Event::LinkUp(b))?;
+    add(events, Event::Send(b, 25))?;
     let refused = kill_failure(alloc, SEVEN, Cause::UNSPECIFIED_ERROR, &[EIGHT])?;
-    events.push(Event::Report(b, 25, refused))?;
-    Ok(())
+    add(events, Event::Report(b, 25, refused))
 }
 
 /// The next KILL is answered that the message isn't there.
 fn kill(events: &mut Vec<Event>, b: BscId) -> Result<(), AllocError> {
-    events.push(Event::Retry(b))?;
-    events.push(Event::Send(b, 25))?;
+    add(events, Event::Retry(b))?;
+    add(events, Event::Send(b, 25))?;
     let gone = error_indication(Cause::MESSAGE_REFERENCE_NOT_IDENTIFIED);
-    events.push(Event::Report(b, 25, gone))?;
-    events.push(Event::Edit(Edit::Forget(first_id())))?;
-    Ok(())
+    add(events, Event::Report(b, 25, gone))?;
+    edit(events, Edit::Forget(first_id()))
 }
 
 /// The first BSC is taken out.
 fn remove(events: &mut Vec<Event>, b: BscId) -> Result<(), AllocError> {
-    events.push(Event::Edit(Edit::RemoveCell(SEVEN)))?;
-    events.push(Event::LinkDown(b, 25))?;
-    events.push(Event::Edit(Edit::RemoveBsc(b)))?;
-    Ok(())
+    edit(events, Edit::RemoveCell(SEVEN))?;
+    add(events, Event::LinkDown(b, 25))?;
+    edit(events, Edit::RemoveBsc(b))
+}
+
+/// The events as far as the warning is narrowed.
+fn begin(alloc: Global, events: &mut Vec<Event>, b: BscId, d: BscId) -> Result<(), AllocError> {
+    plan(alloc, events, b)?;
+    refuse(alloc, events, b)?;
+    retry(alloc, events, b)?;
+    correct(alloc, events, d)?;
+    narrow(alloc, events)
+}
+
+/// The events after that.
+fn end(alloc: Global, events: &mut Vec<Event>, b: BscId) -> Result<(), AllocError> {
+    drop_area(alloc, events)?;
+    stop(alloc, events, b)?;
+    kill(events, b)?;
+    remove(events, b)
 }
 
 /// All of this, or as far as the warning is narrowed.
-fn new_script(alloc: Global, b: BscId, d: BscId, is_long: bool) -> Result<Vec<Event>, AllocError> {
-    let mut events = Vec::new(alloc);
-    plan(alloc, &mut events, b)?;
-    refuse(alloc, &mut events, b)?;
-    retry(alloc, &mut events, b)?;
-    correct(alloc, &mut events, d)?;
-    narrow(alloc, &mut events)?;
+fn add_script(
+    alloc: Global,
+    events: &mut Vec<Event>,
+    b: BscId,
+    d: BscId,
+    is_long: bool,
+) -> Result<(), AllocError> {
+    begin(alloc, events, b, d)?;
     if is_long {
-        drop_area(alloc, &mut events)?;
-        stop(alloc, &mut events, b)?;
-        kill(&mut events, b)?;
-        remove(&mut events, b)?;
+        end(alloc, events, b)
+    } else {
+        Ok(())
     }
-    Ok(events)
 }
 
 /// The script; where memory is wanting once it is made again.
-pub(crate) fn script(alloc: Global, is_long: bool) -> Result<Vec<Event>, Fail> {
-    let b = bsc(1)?;
-    let d = bsc(2)?;
-    let events = match new_script(alloc, b, d, is_long) {
-        Ok(events) => events,
-        Err(_) => new_script(alloc, b, d, is_long)?,
-    };
-    Ok(events)
+pub(crate) fn script(rt: &impl Abort, alloc: Global, is_long: bool) -> Vec<Event> {
+    let b = bsc(rt, 1);
+    let d = bsc(rt, 2);
+    let mut events = Vec::new(alloc);
+    if add_script(alloc, &mut events, b, d, is_long).is_err() {
+        events = Vec::new(alloc);
+        add_script(alloc, &mut events, b, d, is_long).expect(rt, "memory");
+    }
+    events
 }
 
 /// After each event of the script: how many cells await the warning, have it on air and failed, and where it is left,
