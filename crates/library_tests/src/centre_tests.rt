@@ -152,8 +152,14 @@ fn flights_are_copied(rt: &impl Abort, alloc: Global) {
 }
 
 /// A KILL is carried without a content.
-fn a_kill_is_carried(rt: &impl Abort, alloc: Global, order: &Order) {
-    drop(message_of(alloc, order, None).expect(rt, "memory"));
+fn a_kill_is_carried(rt: &impl Abort, alloc: Global) {
+    let order = Order {
+        kind: OrderKind::Kill,
+        message_id: MESSAGE_ID,
+        serial: first_serial(),
+        cells: cells(alloc, &[SEVEN]).expect(rt, "memory"),
+    };
+    drop(message_of(alloc, &order, None).expect(rt, "memory"));
 }
 
 #[test]
@@ -169,7 +175,7 @@ fn copies_are_made(rt: HostRuntime) {
     replies_are_copied(&rt, alloc);
     order_is_copied(&rt, alloc, &order_of(&rt, alloc, OrderKind::Kill));
     flights_are_copied(&rt, alloc);
-    a_kill_is_carried(&rt, alloc, &order_of(&rt, alloc, OrderKind::Kill));
+    a_kill_is_carried(&rt, alloc);
 }
 
 /// The table has so many keys, and is copied.
