@@ -1,7 +1,7 @@
 //! What no clause says of the centre: that each call can succeed, and what is lent of a flight. What is answered, worked
 //! scripts in the data of `examples` show.
 
-use crate::centre_events::{
+use crate::given_events::{
     MESSAGE_ID, PLMN, SEVEN, cells, edits, error_indication, failure, first_serial, issue,
     kill_complete, kill_failure, restart, takes, write_failure,
 };

@@ -12,8 +12,6 @@ mod board_tests;
 #[cfg(test)]
 mod book_tests;
 #[cfg(test)]
-mod centre_events;
-#[cfg(test)]
 mod centre_tests;
 #[cfg(test)]
 mod command_line_tests;
@@ -21,6 +19,8 @@ mod command_line_tests;
 mod element_tests;
 #[cfg(test)]
 mod frame_tests;
+#[cfg(test)]
+mod given_events;
 #[cfg(test)]
 mod kept_tables_tests;
 #[cfg(test)]

@@ -3,7 +3,7 @@
 
 ghost use Rattle.std.specs.Prelude.{◌≡◌};
 
-use crate::centre_events::{PLMN, SEVEN};
+use crate::given_events::{PLMN, SEVEN};
 use crate::values::{bsc, name};
 use cell_register::BscId;
 use centre_events::answer::Answer;

@@ -1,7 +1,7 @@
 //! What no clause says of reports, worked by hand: which cells fail and come up again, which refuse an order, and in
 //! which nothing is known (TS 48.049, 8.1.3, with the causes of 8.2.13).
 
-use crate::centre_events::{
+use crate::given_events::{
     EIGHT, MESSAGE_ID, PLMN, SEVEN, complete, edits, error_indication, failure, first_serial,
     issue, kill_complete, kill_failure, restart, status_failure, takes, write_failure,
 };

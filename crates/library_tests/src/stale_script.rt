@@ -1,6 +1,6 @@
 //! A day at two BSCs, with events of every kind, and the numbers that the centre tells after each of them.
 
-use crate::centre_events::{
+use crate::given_events::{
     EIGHT, SEVEN, coast, content, error_indication, failure, issue, kill_failure, name, restart,
     write_failure,
 };

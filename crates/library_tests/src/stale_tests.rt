@@ -2,7 +2,7 @@
 //! as it was, what the meter counts, and that an event that isn't entered leaves the centre as it was or stale. With ample
 //! memory each event is entered at once; `rt try --test --fail-alloc N` refuses the Nth allocation of each test.
 
-use crate::centre_events::{
+use crate::given_events::{
     EIGHT, MESSAGE_ID, PLMN, SEVEN, complete, first_serial, kill_failure, takes, write_failure,
 };
 use crate::stale_script::{AFTER, add, first_id, plan, script};
