@@ -37,8 +37,15 @@ fn elements_of(alloc: Global, body: &[u8]) -> Result<Vec<&[u8]>> {
     Ok(elements)
 }
 
-fn fault_of(alloc: Global, kind: u8, body: &[u8]) -> Option<MessageFault> {
-    read(alloc, kind, body).err()
+/// The fault of the body, if it is no message.
+pub fn fault_of(alloc: Global, kind: u8, body: &[u8]) -> Option<MessageFault> {
+    match read(alloc, kind, body) {
+        Ok(message) => {
+            drop(message);
+            None
+        }
+        Err(fault) => Some(fault),
+    }
 }
 
 /// The fault of the body with these octets after it.

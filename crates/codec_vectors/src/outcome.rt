@@ -1,6 +1,6 @@
 //! What comes of a frame: the message or the fault that it is read as, and what that message is written as.
 
-use crate::damage::unnamed_damage;
+use crate::damage::{fault_of, unnamed_damage};
 use crate::faults::fault_line;
 use crate::fields::fields_of;
 use crate::names::type_name;
@@ -8,7 +8,7 @@ use crate::vectors::Vector;
 use anyhow::{Context, Result, ensure};
 use cbsp_messages::{Message, MessageFault, read, write};
 use framing::{Frame, Framer};
-use std::alloc::Global;
+use std::alloc::{AllocError, Global};
 
 /// The first line of the file on the frame that doesn't say what comes of it.
 pub fn difference(alloc: Global, vector: &Vector<'_>) -> Result<Option<String>> {
@@ -29,7 +29,7 @@ pub fn difference(alloc: Global, vector: &Vector<'_>) -> Result<Option<String>> 
 fn damage_line(alloc: Global, digits: &str) -> Result<Option<String>> {
     let octets = hex::decode(alloc, digits)?;
     let frame = one_frame(alloc, octets.as_slice())?;
-    if read(alloc, frame.kind, frame.body.as_slice()).is_err() {
+    if fault_of(alloc, frame.kind, frame.body.as_slice()).is_some() {
         return Ok(None);
     }
     match unnamed_damage(alloc, frame.kind, frame.body.as_slice())? {
@@ -83,12 +83,16 @@ fn message_lines(alloc: Global, message: &Message, octets: &[u8]) -> Result<Vec<
     Ok(lines)
 }
 
+fn is_copied(alloc: Global, message: &Message) -> Result<bool, AllocError> {
+    let copy = message.copied(alloc)?;
+    let is_same = copy.same(message);
+    drop(copy);
+    Ok(is_same)
+}
+
 /// The line on what the message is written as, which has to be read as the same message. So has its copy.
 fn written_line(alloc: Global, message: &Message, octets: &[u8]) -> Result<String> {
-    ensure!(
-        message.copied(alloc)?.same(message),
-        "the copy is another message"
-    );
+    ensure!(is_copied(alloc, message)?, "the copy is another message");
     ensure!(message.fits(), "the message can't be written");
     let written = write(alloc, message)?;
     ensure!(
@@ -104,7 +108,11 @@ fn written_line(alloc: Global, message: &Message, octets: &[u8]) -> Result<Strin
 
 fn is_read_as(alloc: Global, octets: &[u8], message: &Message) -> Result<bool> {
     match message_in(alloc, octets)? {
-        Ok(again) => Ok(again.same(message)),
+        Ok(again) => {
+            let is_same = again.same(message);
+            drop(again);
+            Ok(is_same)
+        }
         Err(_) => Ok(false),
     }
 }

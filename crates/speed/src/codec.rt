@@ -3,7 +3,7 @@
 use crate::codec_frames::{long_complete, long_write};
 use crate::stopwatch::Stopwatch;
 use anyhow::{Result, bail, ensure};
-use cbsp_messages::{Message, read, write};
+use cbsp_messages::{Message, MessageFault, read, write};
 use std::alloc::Global;
 use std::rt::Clock;
 
@@ -52,20 +52,42 @@ fn figure(
     )?)
 }
 
+/// Whether the body is read as a message of that type.
+fn is_of_type(
+    alloc: Global,
+    kind: u8,
+    body: &[u8],
+    message: &Message,
+) -> Result<bool, MessageFault> {
+    let again = read(alloc, kind, body)?;
+    let is_same = again.message_type() == message.message_type();
+    drop(again);
+    Ok(is_same)
+}
+
+/// Whether the body is read as that message.
+fn is_read(alloc: Global, kind: u8, body: &[u8], message: &Message) -> Result<bool, MessageFault> {
+    let again = read(alloc, kind, body)?;
+    let is_same = again.same(message);
+    drop(again);
+    Ok(is_same)
+}
+
 /// Reads the body so many times.
 fn read_often(alloc: Global, frame: &[u8], message: &Message, count: u64) -> Result<()> {
     let [kind, _, _, _, body @ ..] = frame else {
         bail!("a frame without a header");
     };
     for _ in 0..count {
-        let again = read(alloc, *kind, body)?;
         ensure!(
-            again.message_type() == message.message_type(),
+            is_of_type(alloc, *kind, body, message)?,
             "another message is read"
         );
     }
-    let again = read(alloc, *kind, body)?;
-    ensure!(again.same(message), "another message is read");
+    ensure!(
+        is_read(alloc, *kind, body, message)?,
+        "another message is read"
+    );
     Ok(())
 }
 
