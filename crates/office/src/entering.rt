@@ -33,7 +33,13 @@ pub(crate) fn enter<L: Ledger>(
     ensures total_stays { OnErr result (book.new.total ≡ book.old.total) }
 {
     let number = desk.number();
-    let answer = centre.accept(number, event)?;
+    let answer = match centre.accept(number, event) {
+        Ok(answer) => answer,
+        Err(refusal) => {
+            drop(copy);
+            return Err(refusal);
+        }
+    };
     let place = centre.position();
     desk.keep(book, place, copy, answer);
     Ok(Row {

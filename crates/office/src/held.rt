@@ -133,6 +133,8 @@ impl<L: Ledger> Held<L> {
         ensures opened { self.new.opened ≡ self.old.opened }
     {
         if !self.knows(desk) {
+            drop(event);
+            drop(copy);
             return Err(Refusal::WrongDesk {
                 position: self.centre.position(),
             });

@@ -24,6 +24,20 @@ pub struct Office<L: Ledger> {
     held: Mutex<Held<L>>,
 }
 
+/// Makes room for the receipt of an event that the desk submits, and copies the event for it.
+fn prepared<L: Ledger>(
+    alloc: Global,
+    desk: &mut Desk<L>,
+    event: &Event,
+) -> Result<Event, AllocError>
+    ensures copy { IfOk result (λ copy. copy ≡ event.now) }
+    ensures room { OnOk result (1 ≤ desk.new.spare) }
+    ensures same { desk.new ≡ record desk.old { spare = desk.new.spare } }
+{
+    desk.reserve()?;
+    event.copied(alloc)
+}
+
 impl<L: Ledger> Office<L> {
     /// An office over a centre without entries. The blank has a part for each desk that may be opened, and one more.
     pub fn new(alloc: Global, blank: Blank, plmn: [u8; 3], journal_limit: u32) -> Office<L>
@@ -55,8 +69,10 @@ impl<L: Ledger> Office<L> {
         ensures refused { IfErr result (IsRefusedSomewhere desk.old event) }
         ensures unchanged { OnErr result (desk.new ≡ record desk.old { spare = desk.new.spare }) }
     {
-        desk.reserve()?;
-        let copy = event.copied(self.alloc)?;
+        let Ok(copy) = prepared(self.alloc, desk, &event) else {
+            drop(event);
+            return Err(Refusal::Memory);
+        };
         let mut guard = self.held.lock(rt);
         guard.tell_soundness();
         guard.submit(desk, event, copy)
