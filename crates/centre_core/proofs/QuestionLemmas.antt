@@ -3,6 +3,7 @@ use Rattle.std.proofs.Common.{◌≡◌, ℕ, Bool, true, false, ◌&&◌, ◌||
 use Rattle.std.specs.Prelude.{find}
 use Rattle.std.specs.Cmp.{both_ways}
 use Rattle.std.specs.List.{list_any}
+use Rattle.std.specs.Option.{is_some}
 use Rattle.std.proofs.Math.Bool.{and-true}
 use Rattle.cell_register.specs.Register.{is_place}
 use Rattle.common.specs.Cell.{cell_eq}
@@ -15,7 +16,7 @@ use Rattle.kept_tables.specs.FactsLaws.{deeds_of_none}
 use Rattle.kept_tables.specs.Tables.{Tables}
 use Rattle.kept_tables.specs.View.{key_of}
 use Rattle.order_maker.specs.Actions.{in_cell, deeds}
-use Rattle.order_maker.specs.Grouping.{kind_eq}
+use Rattle.order_maker.specs.Grouping.{first, kind_eq}
 use Rattle.order_maker.specs.OrderingLaws.{action_decides}
 use Rattle.order_maker.specs.Pending.{action_eq, is_listed, IsListOf}
 use Rattle.order_maker.specs.declared.action.Action.{Action}
@@ -26,9 +27,12 @@ use Rattle.centre_events.specs.Down.{is_down}
 use Rattle.centre_events.specs.Effects.{is_among}
 use Rattle.centre_events.specs.Facts.{facts_of, facts}
 use Rattle.centre_core.specs.Legal.{Legal}
+use Rattle.centre_core.specs.LinkStates.{link_state}
+use Rattle.centre_core.specs.declared.link_state.LinkState.{LinkState}
 use Rattle.centre_events.specs.Lines.{seen}
+use Rattle.centre_events.specs.Links.{is_up, last_link}
 use Rattle.centre_events.specs.Past.{Past}
-use Rattle.centre_events.specs.Pending.{actions, actions_in, all_actions}
+use Rattle.centre_events.specs.Pending.{actions, actions_in, all_actions, pending}
 use Rattle.centre_events.specs.Places.{place, cells}
 use Rattle.centre_events.specs.Settings.{Settings}
 use Rattle.centre_events.specs.Warnings.{book_of, warnings_of}
@@ -134,3 +138,7 @@ pending_list settings past legal t is b = record {
       ∙ both_ways (list_any (does_there past b a) (warnings_of past)) (acts past b a) (acts_from settings past legal b a) (acts_to settings past legal b a)
       ∙ sym (pending_is t (facts past) (owner_of (warnings_of past)) (owners settings past legal) is b a);
 }
+
+-- what is told of a link is its state
+pub link_told : (past : Past) (b : ℕ) {last : ℕ} {up has : Bool} → last ≡ last_link past b → up ≡ is_up past b → has ≡ is_some (first (pending past b)) → (let s : LinkState = record { last = last; is_up = up; has_pending = has } in s) ≡ link_state past b
+link_told past b l u h = cc

@@ -5,6 +5,7 @@ use crate::events::tell_known;
 use crate::flights::flight_in;
 use crate::journal::Journal;
 use crate::kept::Kept;
+use crate::link_state::LinkState;
 use crate::looking::{prepare_edit, prepare_other};
 use crate::meter::Meter;
 use crate::questions;
@@ -66,6 +67,7 @@ impl Centre {
     ghost use Rattle.centre_core.specs.Journal.{counted_by};
     ghost use Rattle.centre_events.specs.Kept.{is_edit};
     ghost use Rattle.centre_core.specs.Legal.{Legal, new_centre, past};
+    ghost use Rattle.centre_core.specs.LinkStates.{link_state};
     ghost use Rattle.centre_events.specs.Links.{is_bsc};
     ghost use Rattle.centre_core.specs.Numbers.{board, area_board};
     ghost use Rattle.centre_events.specs.Pending.{pending};
@@ -251,6 +253,21 @@ impl Centre {
             return Err(Refusal::NoSuchBsc);
         }
         Ok(flight_in(self.kept.flights.as_slice(), b))
+    }
+
+    /// What is told of the BSC's link. It takes no memory. `Stale`, then `NoSuchBsc`.
+    pub fn link_of(&self, b: BscId) -> Result<LinkState, Refusal>
+        ensures link { IfOk result (λ l. (l ≡ link_state (past self.now.known) b) × (is_bsc (past self.now.known) b ≡ true)) }
+        ensures whole { OnOk result (self.now.known.stale ≡ false) }
+        ensures refusal { IfErr result (λ r. ((r ≡ Refusal.Stale) × (self.now.known.stale ≡ true)) ⊎ ((self.now.known.stale ≡ false) × ((r ≡ Refusal.NoSuchBsc) × (is_bsc (past self.now.known) b ≡ false)))) }
+    {
+        if self.stale {
+            return Err(Refusal::Stale);
+        }
+        if !self.kept.register.has_bsc(b) {
+            return Err(Refusal::NoSuchBsc);
+        }
+        Ok(questions::link_state(&self.kept, b))
     }
 
     /// The BSC at which the cell is registered, if it is. `Stale`.

@@ -1,7 +1,7 @@
 //! The cell broadcast centre: its events, their journal, and what is kept beside it.
 //!
 //! What is planned for each base station controller (BSC), what each of them has reported, what is still to be ordered
-//! and every number of a board are kept, and changed line by line. Begin with `event` and `centre`; the rules of each
+//! and every number of a board are kept, and changed line by line. Begin with `centre`; the rules of each
 //! event are in `events`, the lines on which it bears in `reach`, and how these change in `following`. The definitions
 //! that contracts cite are in `specs/`, beginning with `Past` and `IsKept`.
 #![tactic(auto)]
@@ -24,6 +24,7 @@ mod kept;
 pub mod laws;
 mod lemmas;
 mod link;
+pub mod link_state;
 mod links;
 mod looking;
 pub mod meter;

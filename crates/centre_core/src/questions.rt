@@ -11,7 +11,9 @@ ghost use Rattle.centre_core.specs.Asked.{Tells};
 ghost use Rattle.centre_events.specs.Facts.{facts};
 ghost use Rattle.centre_core.specs.Following.{AsBefore};
 ghost use Rattle.centre_core.specs.Idle.{AreKnownOf};
+ghost use Rattle.centre_core.specs.IsKept.{IsKept};
 ghost use Rattle.centre_core.specs.Legal.{Legal};
+ghost use Rattle.centre_core.specs.LinkStates.{link_state};
 ghost use Rattle.centre_events.specs.Kept.{AreAreasOf};
 ghost use Rattle.centre_core.specs.Numbers.{board, area_board};
 ghost use Rattle.centre_events.specs.Past.{Past};
@@ -21,6 +23,9 @@ ghost use Rattle.centre_core.specs.Table.{key_if, keys_in, keys_of, keys_over, t
 ghost use Rattle.centre_events.specs.Warnings.{book_of, warnings_of};
 
 use crate::holding::key_of;
+use crate::kept::Kept;
+use crate::link_state::LinkState;
+use crate::links::{generation, is_up};
 use crate::reported::{ReportedKey, ReportedKeys};
 use areas::Areas;
 use cell_register::{BscId, Register};
@@ -40,6 +45,18 @@ pub(crate) fn pending(tables: &KeptTables, b: BscId) -> Result<Orders, AllocErro
 {
     let orders = tables.groups(b)?;
     Ok(orders)
+}
+
+/// What is told of the link of the BSC.
+pub(crate) fn link_state(kept: &Kept, b: BscId) -> LinkState
+    ensures { (settings : Settings) (past : Past) → Legal settings past → IsKept past kept.now → result ≡ link_state past b }
+{
+    let links = kept.links.as_slice();
+    LinkState {
+        last: generation(links, b),
+        is_up: is_up(links, b),
+        has_pending: kept.tables.has(b),
+    }
 }
 
 /// The numbers of the warning, if the book has it.

@@ -1,5 +1,6 @@
 //! What stands under the lock of an office.
 
+use crate::affected::{Affected, affected_by};
 use crate::desk::Desk;
 use crate::entering::enter;
 use crate::fault::{Fault, Unsettled};
@@ -8,6 +9,10 @@ use crate::question::Question;
 use crate::row::Row;
 use crate::seen::Seen;
 use crate::settling::{mismatch, missing};
+use crate::wake::Wake;
+use crate::waking::{has_work, wake_of};
+use crate::wish::{Wish, keep, take_out};
+use cell_register::BscId;
 use centre_core::centre::Centre;
 use centre_core::headline::pending_gives_plan;
 use centre_events::event::Event;
@@ -28,6 +33,8 @@ pub struct Held<L: Ledger> {
     rows: Vec<Row>,
     book: Book<L>,
     rest: Share<L>,
+    wishes: Vec<Wish>,
+    journal_limit: u32,
 }
 
 impl<L: Ledger> Model for Held<L> {
@@ -70,6 +77,8 @@ impl<L: Ledger> Held<L> {
             rows: Vec::new(alloc),
             book,
             rest,
+            wishes: Vec::new(alloc),
+            journal_limit,
         }
     }
 
@@ -168,6 +177,63 @@ impl<L: Ledger> Held<L> {
         ensures { result ≡ self.now.centre.stale }
     {
         self.centre.is_stale()
+    }
+
+    /// The BSCs that the event affects where it is accepted.
+    pub(crate) fn affected_by(&self, event: &Event) -> Affected {
+        affected_by(&self.centre, event)
+    }
+
+    /// What there is to do for the link of that generation, if there is something.
+    pub(crate) fn wake_of(&self, b: BscId, generation: u64) -> Option<Wake> {
+        if self.is_full() {
+            return Some(Wake::Order);
+        }
+        wake_of(&self.centre, self.wishes.as_slice(), b, generation)
+    }
+
+    /// Whether the journal takes no more entries, so that nobody has anything to wait for.
+    fn is_full(&self) -> bool {
+        self.centre.position() >= u64::from(self.journal_limit)
+    }
+
+    /// What there is to do for the link of that generation. A wish is taken out.
+    pub(crate) fn take_wake(&mut self, b: BscId, generation: u64) -> Wake
+        ensures unchanged { self.new ≡ self.old }
+    {
+        let wake = self.wake_of(b, generation).unwrap_or(Wake::Order);
+        if let Wake::Query(_, _) = wake {
+            take_out(&mut self.wishes, b);
+        }
+        wake
+    }
+
+    /// Keeps a wish for a query, in the place of an earlier one for its BSC. `Stale`, then `NoSuchBsc`, then `NoSuchWarning`,
+    /// then `Memory`.
+    pub(crate) fn wish(&mut self, wish: Wish) -> Result<(), Refusal>
+        ensures unchanged { self.new ≡ self.old }
+    {
+        self.centre.link_of(wish.bsc)?;
+        self.centre.board_total(wish.warning)?;
+        Ok(keep(&mut self.wishes, wish)?)
+    }
+
+    /// Whether there is something to do for one of the BSCs.
+    pub(crate) fn has_work(&self, affected: Affected) -> bool {
+        match affected {
+            Affected::None => self.centre.is_stale() || self.is_full(),
+            Affected::These(one, other) => {
+                self.is_full() || self.has_work_for(one) || self.has_work_for(other)
+            }
+            Affected::All => true,
+        }
+    }
+
+    fn has_work_for(&self, b: Option<BscId>) -> bool {
+        match b {
+            Some(b) => has_work(&self.centre, self.wishes.as_slice(), b),
+            None => false,
+        }
     }
 
     /// Makes a stale centre whole.

@@ -6,6 +6,7 @@
 //! of receipts in `specs/Shuffles.antt`.
 #![tactic(auto)]
 
+mod affected;
 pub mod desk;
 mod entering;
 pub mod fault;
@@ -18,3 +19,6 @@ mod row;
 pub mod seen;
 mod settling;
 mod submitting;
+pub mod wake;
+mod waking;
+mod wish;

@@ -5,23 +5,30 @@ ghost use Rattle.centre_core.specs.Legal.{Legal, past};
 ghost use Rattle.office.specs.Offices.{IsRefusedSomewhere, IsSeenSomewhere, IsSubmitted, IsUnseenSomewhere};
 ghost use Rattle.office.specs.Shuffles.{IsSettled, IsUnsettled};
 
+use crate::affected::Affected;
 use crate::desk::Desk;
 use crate::fault::Unsettled;
 use crate::held::Held;
 use crate::question::Question;
 use crate::seen::Seen;
+use crate::wake::Wake;
+use crate::wish::Wish;
+use cell_register::BscId;
 use centre_core::centre::Centre;
 use centre_events::event::Event;
 use centre_events::refusal::{Limit, Refusal};
+use common::Cell;
 use std::alloc::{AllocError, Global};
 use std::sync::ledger::{Blank, Ledger};
-use std::sync::{Mutex, Wait};
+use std::sync::{Condvar, Mutex, Wait};
+use warning_book::WarningId;
 
 /// One centre, for as many callers as it opens desks for. Each call takes the one lock, and does under it what `Held` does.
 #[derive(Drop)]
 pub struct Office<L: Ledger> {
     alloc: Global,
     held: Mutex<Held<L>>,
+    moved: Condvar,
 }
 
 /// Makes room for the receipt of an event that the desk submits, and copies the event for it.
@@ -50,6 +57,7 @@ impl<L: Ledger> Office<L> {
         Office {
             alloc,
             held: Mutex::new(Held::new(alloc, plmn, journal_limit, book, rest)),
+            moved: Condvar::new(),
         }
     }
 
@@ -75,7 +83,12 @@ impl<L: Ledger> Office<L> {
         };
         let mut guard = self.held.lock(rt);
         guard.tell_soundness();
-        guard.submit(desk, event, copy)
+        let affected = guard.affected_by(&event);
+        let result = guard.submit(desk, event, copy);
+        if guard.has_work(affected) {
+            self.moved.notify_all();
+        }
+        result
     }
 
     /// Puts a question of the desk's caller, whose answer is copied.
@@ -86,6 +99,37 @@ impl<L: Ledger> Office<L> {
         let mut guard = self.held.lock(rt);
         guard.tell_soundness();
         guard.look(desk, question)
+    }
+
+    /// Keeps a wish to ask the BSC about a warning, in the cells after that one. A BSC has one wish, the latest. `Stale`, then
+    /// `NoSuchBsc`, then `NoSuchWarning`, then `Memory`.
+    pub fn wish<R: Wait>(
+        &self,
+        rt: &R,
+        b: BscId,
+        warning: WarningId,
+        after: Option<Cell>,
+    ) -> Result<(), Refusal> {
+        let mut guard = self.held.lock(rt);
+        let result = guard.wish(Wish {
+            bsc: b,
+            warning,
+            after,
+        });
+        if guard.has_work(Affected::These(Some(b), None)) {
+            self.moved.notify_all();
+        }
+        result
+    }
+
+    /// Waits until there is something to do for the link of that generation: an order is pending and nothing is in flight, or
+    /// nothing of either and a query is wished for, which takes the wish out, or the link isn't up, or the centre is stale. Where
+    /// the journal is full it answers `Order`, whose event is then refused.
+    pub fn wait_pending<R: Wait>(&self, rt: &R, b: BscId, generation: u64) -> Wake {
+        let mut guard = self.moved.wait_while(rt, self.held.lock(rt), |held| {
+            held.wake_of(b, generation).is_none()
+        });
+        guard.take_wake(b, generation)
     }
 
     /// Makes a stale centre whole.
