@@ -1,0 +1,371 @@
+-- What frames in turn come to.
+use Rattle.std.proofs.Common.{eqb-true, true, false, ◌==◌, if◌then◌else◌, ◌≡◌, ◌⊎◌, inl, inr, ℕ, ◌<◌, List, [], ◌∷◌, ◌++◌, Option, Some, None, Result, Ok, Err, OnOk, IfErr, length, refl, sym, ap, ◌∙◌, subst, append_assoc, append-nil, arith, take, ◌+◌}
+use Rattle.std.specs.Io.KnownBytes.{Consumes, IsAtEnd}
+use Rattle.std.specs.List.{AllByRecursion, flat_map}
+use Rattle.std.proofs.KnownBytes.{Consumes-nil, Consumes-trans}
+use Rattle.std.proofs.lemmas.Grind.{flat_map-append}
+use Rattle.std.proofs.lemmas.Option.{option_and_then_some}
+use Rattle.common.specs.OrderLaws.{find_passes}
+use Rattle.cbsp_messages.specs.Faults.{IsFaultAs}
+use Rattle.cbsp_messages.specs.Message.{type_of}
+use Rattle.cbsp_messages.specs.MessageType.{code_of, is_report, message_types, type_with}
+use Rattle.cbsp_messages.specs.Spelling.{Spells}
+use Rattle.cbsp_messages.specs.declared.fault.MessageFault.{MessageFault}
+use Rattle.cbsp_messages.specs.declared.fault.MessageFault.TheVariants as bad
+use Rattle.cbsp_messages.specs.declared.message_type.MessageType.{MessageType}
+use Rattle.centre_events.specs.declared.event.Event.TheVariants as event
+use Rattle.framing.specs.Framers.{Framing, Refuses, Takes}
+use Rattle.framing.specs.Source.{counted}
+use Rattle.framing.specs.Streams.{Cuts, IsReadable, frame_octets}
+use Rattle.framing.specs.declared.frame.Frame.{Frame}
+use Rattle.framing.specs.declared.fault.FrameFault.{FrameFault}
+use Rattle.framing.specs.declared.fault.FrameFault.TheVariants as fault
+use Rattle.framing.proofs.StreamLemmas.{no_frame-nil, pieces_join}
+use Rattle.link_worker.specs.declared.end.End.{End}
+use Rattle.link_worker.specs.declared.end.End.TheVariants as end
+use Rattle.link_worker.specs.Ends.{fault_end}
+use Rattle.link_worker.specs.Reports.{AreReceiptsFor, EndsAt, EndsBefore, EndsReading, EndsWithin, IsPartial, IsReport, IsSubmitEnd, IsTaken, MayGet, Reads, StopsAmong, StopsInPiece, TakesPiece, TakesReports, report_type, stream_end}
+use Rattle.link_worker.proofs.ListLemmas.{AllByRecursion-append, AllByRecursion-back, AllByRecursion-front}
+use Rattle.cbsp_messages.specs.declared.message.Message.{Message}
+use Rattle.office.specs.Desks.{DeskState}
+use Rattle.office.specs.declared.receipt.Receipt.{Receipt}
+
+-- the octet of a report's type
+report_type_is : (octet : ℕ) (t : MessageType) → report_type octet ≡ Some t → (code_of t ≡ octet) × (is_report t ≡ true)
+report_type_is octet t is = option_and_then_some (λ t. if is_report t then Some t else None) (type_with octet) t is (λ s found passes.
+    elim (is_report s) as (λ b. is_report s ≡ b → (if b then Some s else None) ≡ Some t → (code_of t ≡ octet) × (is_report t ≡ true)) [
+      | true ↦ λ report same.
+          let one : s ≡ t = cc in
+          (subst (λ u. code_of u ≡ octet) one (eqb-true (code_of s) octet (find_passes (λ u. code_of u == octet) message_types s found)), subst (λ u. is_report u ≡ true) one report)
+      | false ↦ λ report same. cc
+    ] refl passes)
+
+-- the message that was read from a frame
+pub report_read : (frame : Frame) (t : MessageType) (body : List ℕ) (m : Message) → report_type frame.kind ≡ Some t → body ≡ frame.body → type_of m ≡ t → Spells (code_of t) body m → IsReport frame m
+report_read frame t body m is same kind spells =
+    let octet = report_type_is frame.kind t is in
+    record {
+      report = ap is_report kind ∙ octet.1;
+      spells = subst (λ k. Spells k frame.body m) octet.0 (subst (λ xs. Spells (code_of t) xs m) same spells);
+    }
+
+-- a report that was not read
+pub report_unread : (frame : Frame) (t : MessageType) (body : List ℕ) (f : MessageFault) → report_type frame.kind ≡ Some t → body ≡ frame.body → (f ≡ bad.Memory) ⊎ IsFaultAs t body f
+    → EndsBefore (fault_end f) (frame ∷ [])
+report_unread frame t body (bad.Element x) is same (inl none) = cc
+report_unread frame t body (bad.Element x) is same (inr fault) = record { type = t; is_type = is; fault = subst (λ xs. IsFaultAs t xs (bad.Element x)) same fault }
+report_unread frame t body (bad.Repeated x) is same (inl none) = cc
+report_unread frame t body (bad.Repeated x) is same (inr fault) = record { type = t; is_type = is; fault = subst (λ xs. IsFaultAs t xs (bad.Repeated x)) same fault }
+report_unread frame t body (bad.Missing x) is same (inl none) = cc
+report_unread frame t body (bad.Missing x) is same (inr fault) = record { type = t; is_type = is; fault = subst (λ xs. IsFaultAs t xs (bad.Missing x)) same fault }
+report_unread frame t body bad.BadPages is same (inl none) = cc
+report_unread frame t body bad.BadPages is same (inr fault) = record { type = t; is_type = is; fault = subst (λ xs. IsFaultAs t xs bad.BadPages) same fault }
+report_unread frame t body bad.NotInProfile is same (inl none) = cc
+report_unread frame t body bad.NotInProfile is same (inr fault) = record { type = t; is_type = is; fault = subst (λ xs. IsFaultAs t xs bad.NotInProfile) same fault }
+report_unread frame t body bad.Memory is same p = tt
+
+-- receipts for some of the frames, and receipts for some of those behind them
+AreReceiptsFor-append : (b generation : ℕ) (rs ss : List Receipt) (xs ys : List Frame) → AreReceiptsFor b generation rs xs → AreReceiptsFor b generation ss ys
+    → AreReceiptsFor b generation (rs ++ ss) (xs ++ ys)
+AreReceiptsFor-append b generation [] [] xs ys p q = tt
+AreReceiptsFor-append b generation [] (s ∷ ss) [] ys p q = q
+AreReceiptsFor-append b generation [] (s ∷ ss) (x ∷ xs) ys p q = inr (AreReceiptsFor-append b generation [] (s ∷ ss) xs ys tt q)
+AreReceiptsFor-append b generation (r ∷ rs) ss [] ys p q = absurd p
+AreReceiptsFor-append b generation (r ∷ rs) ss (x ∷ xs) ys (inl p) q = inl (p.0, AreReceiptsFor-append b generation rs ss xs ys p.1 q)
+AreReceiptsFor-append b generation (r ∷ rs) ss (x ∷ xs) ys (inr p) q = inr (AreReceiptsFor-append b generation (r ∷ rs) ss xs ys p q)
+
+-- no frame was taken
+pub Takes-none : (b generation : ℕ) (d : DeskState) → TakesReports b generation [] d d
+Takes-none b generation d = record { more = []; receipts = sym (append-nil d.receipts); number = refl; reports = tt; readable = tt }
+
+-- some frames were taken, and then others
+pub Takes-more : (b generation : ℕ) (xs ys : List Frame) (c d e : DeskState) → TakesReports b generation xs c d → TakesReports b generation ys d e → TakesReports b generation (xs ++ ys) c e
+Takes-more b generation xs ys c d e p q = record {
+  more = p.more ++ q.more;
+  receipts = q.receipts ∙ ap (λ rs. rs ++ q.more) p.receipts ∙ append_assoc c.receipts p.more q.more;
+  number = q.number ∙ p.number;
+  reports = AreReceiptsFor-append b generation p.more q.more xs ys p.reports q.reports;
+  readable = AllByRecursion-append IsTaken xs ys p.readable q.readable;
+}
+
+-- a frame of another type was passed over
+pub Takes-other : (b generation : ℕ) (frame : Frame) (d : DeskState) → IsTaken frame → TakesReports b generation (frame ∷ []) d d
+Takes-other b generation frame d taken = record { more = []; receipts = sym (append-nil d.receipts); number = refl; reports = tt; readable = (taken, tt) }
+
+-- a report was submitted
+pub Takes-report : (b generation : ℕ) (frame : Frame) (m : Message) (d e : DeskState) → IsReport frame m → MayGet (event.Report b generation m) d e
+    → TakesReports b generation (frame ∷ []) d e
+Takes-report b generation frame m d e is (number, inl same) =
+    record { more = []; receipts = same ∙ sym (append-nil d.receipts); number = number; reports = tt; readable = (inr (m, is), tt) }
+Takes-report b generation frame m d e is (number, inr (r, event_is, receipts)) = record {
+  more = r ∷ [];
+  receipts = receipts;
+  number = number;
+  reports = inl (record { message = m; report = is; event = event_is }, tt);
+  readable = (inr (m, is), tt);
+}
+
+-- an end at a report that was read
+EndsBefore-submit : (x : End) (frames : List Frame) → IsSubmitEnd x → EndsBefore x frames
+EndsBefore-submit end.PeerEnded frames p = absurd p
+EndsBefore-submit end.CutFrame frames p = absurd p
+EndsBefore-submit end.ReadFault frames p = absurd p
+EndsBefore-submit end.WriteFault frames p = absurd p
+EndsBefore-submit (end.BadMessage f) frames p = absurd p
+EndsBefore-submit end.TooLong frames p = absurd p
+EndsBefore-submit end.Superseded frames p = tt
+EndsBefore-submit (end.Refused r) frames p = tt
+EndsBefore-submit end.GateShut frames p = tt
+
+-- the side ends after a frame
+pub Stops-after : (b generation : ℕ) (frame : Frame) (d e : DeskState) (x : End) → TakesReports b generation (frame ∷ []) d e → IsSubmitEnd x → StopsAmong b generation (frame ∷ []) d e x
+Stops-after b generation frame d e x takes p = record { taken = frame ∷ []; left = []; parts = refl; takes = takes; ends = EndsBefore-submit x [] p }
+
+-- and before one
+pub Stops-before : (b generation : ℕ) (frames : List Frame) (d : DeskState) (x : End) → EndsBefore x frames → StopsAmong b generation frames d d x
+Stops-before b generation frames d x p = record { taken = []; left = frames; parts = refl; takes = Takes-none b generation d; ends = p }
+
+-- a report was read and submitted: the side goes on, or ends
+pub taken_if : (result : Result Unit End) (b generation : ℕ) (frame : Frame) (m : Message) (d e : DeskState) → IsReport frame m → MayGet (event.Report b generation m) d e
+    → OnOk result (TakesReports b generation (frame ∷ []) d e)
+taken_if (Ok done) b generation frame m d e is got = Takes-report b generation frame m d e is got
+taken_if (Err x) b generation frame m d e is got = tt
+
+pub ended_if : (result : Result Unit End) (b generation : ℕ) (frame : Frame) (m : Message) (d e : DeskState) → IsReport frame m → MayGet (event.Report b generation m) d e
+    → IfErr result IsSubmitEnd → IfErr result (StopsAmong b generation (frame ∷ []) d e)
+ended_if (Ok done) b generation frame m d e is got p = p
+ended_if (Err x) b generation frame m d e is got p = Stops-after b generation frame d e x (Takes-report b generation frame m d e is got) p
+
+-- some of the frames were taken, and these are left
+pub record TakenSoFar (b generation : ℕ) (frames left : List Frame) (old new : DeskState) : Type 0 where
+  pub taken : List Frame
+  pub parts : frames ≡ taken ++ left
+  pub takes : TakesReports b generation taken old new
+
+pub TakenSoFar-none : (b generation : ℕ) (frames : List Frame) (d : DeskState) → TakenSoFar b generation frames frames d d
+TakenSoFar-none b generation frames d = record { taken = []; parts = refl; takes = Takes-none b generation d }
+
+pub TakenSoFar-more : (b generation : ℕ) (frames left rest : List Frame) (frame : Frame) (c d e : DeskState) → TakenSoFar b generation frames left c d → left ≡ frame ∷ rest
+    → TakesReports b generation (frame ∷ []) d e → TakenSoFar b generation frames rest c e
+TakenSoFar-more b generation frames left rest frame c d e p is q = record {
+  taken = p.taken ++ frame ∷ [];
+  parts = p.parts ∙ ap (λ fs. p.taken ++ fs) is ∙ sym (append_assoc p.taken (frame ∷ []) rest);
+  takes = Takes-more b generation p.taken (frame ∷ []) c d e p.takes q;
+}
+
+pub TakenSoFar-all : (b generation : ℕ) (frames left : List Frame) (c d : DeskState) → TakenSoFar b generation frames left c d → left ≡ [] → TakesReports b generation frames c d
+TakenSoFar-all b generation frames left c d p is =
+    subst (λ fs. TakesReports b generation fs c d) (sym (p.parts ∙ ap (λ fs. p.taken ++ fs) is ∙ append-nil p.taken)) p.takes
+
+-- an end before some frames is one before more of them
+EndsBefore-more : (x : End) (frames more : List Frame) → EndsBefore x frames → EndsBefore x (frames ++ more)
+EndsBefore-more end.PeerEnded frames more p = absurd p
+EndsBefore-more end.CutFrame frames more p = absurd p
+EndsBefore-more end.ReadFault frames more p = absurd p
+EndsBefore-more end.WriteFault frames more p = absurd p
+EndsBefore-more (end.BadMessage f) [] more p = absurd p
+EndsBefore-more (end.BadMessage f) (frame ∷ frames) more p = p
+EndsBefore-more end.TooLong frames more p = absurd p
+EndsBefore-more end.Superseded frames more p = tt
+EndsBefore-more (end.Refused r) frames more p = tt
+EndsBefore-more end.GateShut frames more p = tt
+
+pub TakenSoFar-stops : (b generation : ℕ) (frames left rest : List Frame) (frame : Frame) (c d e : DeskState) (x : End) → TakenSoFar b generation frames left c d → left ≡ frame ∷ rest
+    → StopsAmong b generation (frame ∷ []) d e x → StopsAmong b generation frames c e x
+TakenSoFar-stops b generation frames left rest frame c d e x p is q = record {
+  taken = p.taken ++ q.taken;
+  left = q.left ++ rest;
+  parts = p.parts ∙ ap (λ fs. p.taken ++ fs) (is ∙ ap (λ fs. fs ++ rest) q.parts ∙ append_assoc q.taken q.left rest) ∙ sym (append_assoc p.taken q.taken (q.left ++ rest));
+  takes = Takes-more b generation p.taken q.taken c d e p.takes q.takes;
+  ends = EndsBefore-more x q.left rest q.ends;
+}
+
+-- what a framer has of a piece, whatever it answered: the octets are these frames, and a tail
+pub record Fed (begun piece : List ℕ) (frames : List Frame) : Type 0 where
+  pub tail : List ℕ
+  pub parts : begun ++ piece ≡ flat_map frame_octets frames ++ tail
+  pub short : AllByRecursion IsReadable frames
+
+pub fed_parts : (result : Result Unit FrameFault) (old new : Framing) (piece : List ℕ) → old.frames ≡ [] → OnOk result (Takes old piece new) → IfErr result (Refuses old piece new)
+    → Fed old.rest piece new.frames
+fed_parts (Ok done) old new piece none takes refuses =
+    let is : new.frames ≡ takes.more = takes.frames ∙ ap (λ fs. fs ++ takes.more) none in
+    subst (Fed old.rest piece) (sym is) (record { tail = new.rest; parts = takes.cuts.whole; short = takes.cuts.each })
+fed_parts (Err (fault.TooLong n)) old new piece none takes refuses =
+    let is : new.frames ≡ refuses.more = refuses.frames ∙ ap (λ fs. fs ++ refuses.more) none in
+    subst (Fed old.rest piece) (sym is) (record { tail = refuses.tail; parts = refuses.cuts.whole; short = refuses.cuts.each })
+fed_parts (Err fault.Memory) old new piece none takes refuses =
+    subst (Fed old.rest piece) (sym (ap (λ (f : Framing). f.frames) refuses ∙ none)) (record { tail = old.rest ++ piece; parts = refl; short = tt })
+
+-- what an end at some frames says of the octets that were not taken
+EndsWithin-before : (x : End) (left : List Frame) (tail : List ℕ) → AllByRecursion IsReadable left → EndsBefore x left → EndsWithin x (flat_map frame_octets left ++ tail)
+EndsWithin-before end.PeerEnded left tail short p = absurd p
+EndsWithin-before end.CutFrame left tail short p = absurd p
+EndsWithin-before end.ReadFault left tail short p = absurd p
+EndsWithin-before end.WriteFault left tail short p = absurd p
+EndsWithin-before (end.BadMessage f) [] tail short p = absurd p
+EndsWithin-before (end.BadMessage f) (frame ∷ left) tail short p = record {
+  frame = frame;
+  after = flat_map frame_octets left ++ tail;
+  parts = append_assoc (frame_octets frame) (flat_map frame_octets left) tail;
+  short = short.0;
+  bad = p;
+}
+EndsWithin-before end.TooLong left tail short p = absurd p
+EndsWithin-before end.Superseded left tail short p = tt
+EndsWithin-before (end.Refused r) left tail short p = tt
+EndsWithin-before end.GateShut left tail short p = tt
+
+-- the side ends at one of the frames of a piece
+pub Stops-within : (b generation : ℕ) (begun piece : List ℕ) (frames : List Frame) (d e : DeskState) (x : End) → Fed begun piece frames → StopsAmong b generation frames d e x
+    → StopsInPiece b generation begun piece d e x
+Stops-within b generation begun piece frames d e x fed stops =
+    let short : AllByRecursion IsReadable (stops.taken ++ stops.left) = subst (AllByRecursion IsReadable) stops.parts fed.short in
+    record {
+      frames = stops.taken;
+      tail = flat_map frame_octets stops.left ++ fed.tail;
+      parts = fed.parts ∙ ap (λ fs. flat_map frame_octets fs ++ fed.tail) stops.parts ∙ ap (λ octets. octets ++ fed.tail) (flat_map-append frame_octets stops.taken stops.left)
+          ∙ append_assoc (flat_map frame_octets stops.taken) (flat_map frame_octets stops.left) fed.tail;
+      short = AllByRecursion-front IsReadable stops.taken stops.left short;
+      takes = stops.takes;
+      ends = EndsWithin-before x stops.left fed.tail (AllByRecursion-back IsReadable stops.taken stops.left short) stops.ends;
+    }
+
+-- all frames of a piece were taken, and no further one has begun that is too long
+pub Takes-piece : (b generation : ℕ) (old new : Framing) (piece : List ℕ) (d e : DeskState) → old.frames ≡ [] → Takes old piece new → TakesReports b generation new.frames d e
+    → TakesPiece b generation old.rest piece new.rest d e
+Takes-piece b generation old new piece d e none fed takes =
+    let is : new.frames ≡ fed.more = fed.frames ∙ ap (λ fs. fs ++ fed.more) none in
+    record { frames = fed.more; cuts = fed.cuts; fits = fed.fits; takes = subst (λ fs. TakesReports b generation fs d e) is takes }
+
+-- all frames of a piece were taken, and the side ends by the fault of the framer
+pub Stops-long : (b generation : ℕ) (old new : Framing) (piece : List ℕ) (n : ℕ) (d e : DeskState) → old.frames ≡ [] → Refuses old piece new (fault.TooLong n)
+    → TakesReports b generation new.frames d e → StopsInPiece b generation old.rest piece d e end.TooLong
+Stops-long b generation old new piece n d e none fed takes =
+    let is : new.frames ≡ fed.more = fed.frames ∙ ap (λ fs. fs ++ fed.more) none in
+    record {
+      frames = fed.more;
+      tail = fed.tail;
+      parts = fed.cuts.whole;
+      short = fed.cuts.each;
+      takes = subst (λ fs. TakesReports b generation fs d e) is takes;
+      ends = fed.too_long;
+    }
+
+pub Stops-starved : (b generation : ℕ) (begun piece : List ℕ) (frames : List Frame) (d e : DeskState) (x : End) → Fed begun piece frames → TakesReports b generation frames d e → IsSubmitEnd x
+    → StopsInPiece b generation begun piece d e x
+Stops-starved b generation begun piece frames d e x fed takes p = record {
+  frames = frames;
+  tail = fed.tail;
+  parts = fed.parts;
+  short = fed.short;
+  takes = takes;
+  ends = EndsWithin-before x [] fed.tail tt (EndsBefore-submit x [] p);
+}
+
+-- nothing was read
+pub Reads-none : (b generation : ℕ) (d : DeskState) (p : Option (List ℕ)) → Reads b generation [] d d p p []
+Reads-none b generation d p = record {
+  octets = [];
+  frames = [];
+  consumed = Consumes-nil p;
+  cuts = record { whole = refl; each = tt; partial = no_frame-nil };
+  fits = λ long. omega (arith, long.0);
+  takes = Takes-none b generation d;
+}
+
+-- one read
+pub Reads-piece : (b generation : ℕ) (begun piece rest : List ℕ) (d e : DeskState) (p q : Option (List ℕ)) → Consumes p q piece → TakesPiece b generation begun piece rest d e
+    → Reads b generation begun d e p q rest
+Reads-piece b generation begun piece rest d e p q consumed takes =
+    record { octets = piece; frames = takes.frames; consumed = consumed; cuts = takes.cuts; fits = takes.fits; takes = takes.takes }
+
+EndsAt-within : (x : End) (tail : List ℕ) (left : Option (List ℕ)) → EndsWithin x tail → EndsAt x tail left
+EndsAt-within end.PeerEnded tail left p = absurd p
+EndsAt-within end.CutFrame tail left p = absurd p
+EndsAt-within end.ReadFault tail left p = absurd p
+EndsAt-within end.WriteFault tail left p = absurd p
+EndsAt-within (end.BadMessage f) tail left p = p
+EndsAt-within end.TooLong tail left p = p
+EndsAt-within end.Superseded tail left p = tt
+EndsAt-within (end.Refused r) tail left p = tt
+EndsAt-within end.GateShut tail left p = tt
+
+-- the side ends in a piece
+pub Ends-piece : (b generation : ℕ) (begun piece : List ℕ) (d e : DeskState) (p q : Option (List ℕ)) (x : End) → Consumes p q piece → StopsInPiece b generation begun piece d e x
+    → EndsReading b generation begun d e p q x
+Ends-piece b generation begun piece d e p q x consumed stops = record {
+  octets = piece;
+  frames = stops.frames;
+  tail = stops.tail;
+  consumed = consumed;
+  parts = stops.parts;
+  short = stops.short;
+  takes = stops.takes;
+  ends = EndsAt-within x stops.tail q stops.ends;
+}
+
+-- the side ends with no octet more
+pub Ends-none : (b generation : ℕ) (begun : List ℕ) (d : DeskState) (p q : Option (List ℕ)) (x : End) → Consumes p q [] → EndsAt x begun q → EndsReading b generation begun d d p q x
+Ends-none b generation begun d p q x consumed ends = record {
+  octets = [];
+  frames = [];
+  tail = begun;
+  consumed = consumed;
+  parts = append-nil begun;
+  short = tt;
+  takes = Takes-none b generation d;
+  ends = ends;
+}
+
+-- some reads, and then others
+pub Reads-more : (b generation : ℕ) (begun rest last : List ℕ) (c d e : DeskState) (p q r : Option (List ℕ)) → Reads b generation begun c d p q rest → Reads b generation rest d e q r last
+    → Reads b generation begun c e p r last
+Reads-more b generation begun rest last c d e p q r one two = record {
+  octets = one.octets ++ two.octets;
+  frames = one.frames ++ two.frames;
+  consumed = Consumes-trans p q r one.octets two.octets one.consumed two.consumed;
+  cuts = subst (λ octets. Cuts octets (one.frames ++ two.frames) last) (append_assoc begun one.octets two.octets)
+      (pieces_join (begun ++ one.octets) two.octets one.frames two.frames rest last one.cuts two.cuts);
+  fits = two.fits;
+  takes = Takes-more b generation one.frames two.frames c d e one.takes two.takes;
+}
+
+-- some reads, and then the end
+pub Reads-end : (b generation : ℕ) (begun rest : List ℕ) (c d e : DeskState) (p q r : Option (List ℕ)) (x : End) → Reads b generation begun c d p q rest
+    → EndsReading b generation rest d e q r x → EndsReading b generation begun c e p r x
+Reads-end b generation begun rest c d e p q r x one two = record {
+  octets = one.octets ++ two.octets;
+  frames = one.frames ++ two.frames;
+  tail = two.tail;
+  consumed = Consumes-trans p q r one.octets two.octets one.consumed two.consumed;
+  parts = sym (append_assoc begun one.octets two.octets) ∙ ap (λ octets. octets ++ two.octets) one.cuts.whole ∙ append_assoc (flat_map frame_octets one.frames) rest two.octets
+      ∙ ap (λ octets. flat_map frame_octets one.frames ++ octets) two.parts
+      ∙ sym (append_assoc (flat_map frame_octets one.frames) (flat_map frame_octets two.frames) two.tail)
+      ∙ ap (λ octets. octets ++ two.tail) (sym (flat_map-append frame_octets one.frames two.frames));
+  short = AllByRecursion-append IsReadable one.frames two.frames one.cuts.each two.short;
+  takes = Takes-more b generation one.frames two.frames c d e one.takes two.takes;
+  ends = two.ends;
+}
+
+-- what is left of a frame after some reads
+pub Reads-partial : (b generation : ℕ) (begun rest : List ℕ) (c d : DeskState) (p q : Option (List ℕ)) → Reads b generation begun c d p q rest → IsPartial rest
+Reads-partial b generation begun rest c d p q one = record { partial = one.cuts.partial; fits = one.fits }
+
+-- some reads, which came to no end
+pub Reads-unended : (b generation : ℕ) (begun rest : List ℕ) (c d : DeskState) (p q : Option (List ℕ)) → Reads b generation begun c d p q rest → EndsReading b generation begun c d p q end.ReadFault
+Reads-unended b generation begun rest c d p q one =
+    Reads-end b generation begun rest c d d p q q end.ReadFault one (Ends-none b generation rest d q q end.ReadFault (Consumes-nil q) (Reads-partial b generation begun rest c d p q one))
+
+-- the stream ends
+pub EndsAt-stream : (rest : List ℕ) (left : Option (List ℕ)) → IsPartial rest → IsAtEnd left → EndsAt (stream_end rest) rest left
+EndsAt-stream [] left partial done = (refl, done)
+EndsAt-stream (x ∷ xs) left partial done = (λ none. cc, (partial, done))
+
+-- a read that gives no octet
+pub read_end : (p q : Option (List ℕ)) (n : ℕ) (buffer : List ℕ) → Consumes p q (take n buffer) × (n ≡ 0 → 0 < length buffer → IsAtEnd q) → n ≡ 0 → 0 < length buffer → Consumes p q [] × IsAtEnd q
+read_end p q n buffer read none room = (subst (λ k. Consumes p q (take k buffer)) none read.0, read.1 none room)
+
+-- one call more
+pub counted_more : (n k : ℕ) → counted (counted n k) 1 ≡ counted n (k + 1)
+counted_more n k = omega arith

@@ -1,0 +1,33 @@
+//! Where a caller may hold a link or cut it.
+
+use cell_register::BscId;
+use std::sync::Wait;
+
+/// A step of a link at which its gate is asked.
+#[derive(Clone, Copy, Debug, PartialEq, Eq)]
+pub enum Step {
+    /// An order or a query is in the journal, and its frame is to be written.
+    BeforeWrite,
+    /// A report was submitted, and the next frame is to be taken.
+    AfterReport,
+}
+
+/// What both sides of a link ask at each step. It may wait before it answers, which holds the link.
+pub trait Gate {
+    /// Whether the link of the BSC goes on. Where it doesn't, the side that asks ends.
+    fn pass<R: Wait>(&self, rt: &R, b: BscId, step: Step) -> bool;
+}
+
+/// A gate that lets everything pass.
+#[derive(Clone, Copy, Debug)]
+pub struct OpenGate;
+
+impl Gate for OpenGate {
+    ghost use Rattle.std.specs.Prelude.{◌≡◌, true};
+
+    fn pass<R: Wait>(&self, _rt: &R, _b: BscId, _step: Step) -> bool
+        ensures { result ≡ true }
+    {
+        true
+    }
+}

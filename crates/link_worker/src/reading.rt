@@ -1,0 +1,204 @@
+//! The side of a link that reads.
+
+ghost use Rattle.std.specs.Prelude.{◌≡◌, ◌⊎◌, [], true, false};
+ghost use Rattle.framing.specs.Source.{counted};
+ghost use Rattle.link_worker.specs.Ends.{is_read_fault, report_end};
+ghost use Rattle.link_worker.specs.Reports.{EndsReading, report_type, stream_end};
+
+use crate::end::End;
+use crate::gate::{Gate, Step};
+use crate::link::Link;
+use cbsp_messages::{Message, MessageType, read_as};
+use cell_register::BscId;
+use centre_events::event::Event;
+use centre_events::refusal::Refusal;
+use framing::{Frame, FrameFault, Framer, Source};
+use office::desk::Desk;
+use office::office::Office;
+use std::alloc::Global;
+use std::sync::Wait;
+use std::sync::ledger::Ledger;
+
+/// The most reads of a link.
+const MOST_READS: u64 = 1_000_000_000_000;
+
+/// The most octets of a read.
+const PIECE: usize = 4096;
+
+/// Reads frames from the BSC, and submits each report at the desk, in their order; and so on until the side ends. Frames of other
+/// types are passed over by their length. The gate is asked after each report (`Step::AfterReport`). The reads are at most
+/// 1,000,000,000,000.
+///
+/// It goes on where a report answers no order in flight (`NoOrder`). It ends by any of the ends but `WriteFault`. The frames before
+/// one that is too long, or that can't be read, are taken first.
+pub fn read_side<L: Ledger, S: Source, G: Gate, R: Wait>(
+    rt: &R,
+    alloc: Global,
+    office: &Office<L>,
+    desk: &mut Desk<L>,
+    b: BscId,
+    generation: u64,
+    reader: &mut S,
+    gate: &G,
+) -> End
+    ensures read { EndsReading b generation [] desk.old desk.new (S.remaining reader.old) (S.remaining reader.new) result }
+    ensures fault { is_read_fault result ≡ true → (S.has_failed reader.new ≡ true) ⊎ (S.calls reader.new ≡ counted (S.calls reader.old) 1000000000000) }
+    ensures failed { is_read_fault result ≡ false → S.has_failed reader.new ≡ S.has_failed reader.old }
+{
+    let link = Link {
+        alloc,
+        office,
+        bsc: b,
+        generation,
+        gate,
+    };
+    let mut framer = Framer::new(alloc);
+    for _turn in 0..MOST_READS {
+        if let Err(end) = link.read_once(rt, desk, &mut framer, reader) {
+            return end;
+        }
+    }
+    End::ReadFault
+}
+
+impl<'o, 'g, L: Ledger, G: Gate> Link<'o, 'g, L, G> {
+    ghost use Rattle.std.specs.Prelude.{◌≡◌, ◌||◌, [], ◌∷◌, IfErr, OnOk};
+    ghost use Rattle.centre_events.specs.declared.event.Event.TheVariants as event;
+    ghost use Rattle.framing.specs.Source.{counted};
+    ghost use Rattle.link_worker.specs.Ends.{fails_to_read};
+    ghost use Rattle.link_worker.specs.Reports.{EndsReading, IsPartial, IsSubmitEnd, MayGet, Reads, StopsAmong, StopsInPiece, TakesPiece, TakesReports};
+
+    /// Reads once, and takes what was read.
+    fn read_once<S: Source, R: Wait>(
+        &self,
+        rt: &R,
+        desk: &mut Desk<L>,
+        framer: &mut Framer,
+        reader: &mut S,
+    ) -> Result<(), End>
+        requires none { framer.old.frames ≡ [] }
+        requires partial { IsPartial framer.old.rest }
+        ensures none { OnOk result (framer.new.frames ≡ []) }
+        ensures reads { OnOk result (Reads self.now.bsc self.now.generation framer.old.rest desk.old desk.new (S.remaining reader.old) (S.remaining reader.new) framer.new.rest) }
+        ensures ended { IfErr result (EndsReading self.now.bsc self.now.generation framer.old.rest desk.old desk.new (S.remaining reader.old) (S.remaining reader.new)) }
+        ensures calls { S.calls reader.new ≡ counted (S.calls reader.old) 1 }
+        ensures failed { S.has_failed reader.new ≡ (fails_to_read result || S.has_failed reader.old) }
+    {
+        let mut piece = [0; PIECE];
+        match reader.read(&mut piece) {
+            Ok(0) => Err(end_of_stream(framer)),
+            Ok(count) => self.take_piece(rt, desk, framer, &piece[..count]),
+            Err(_) => Err(End::ReadFault),
+        }
+    }
+
+    /// Takes the frames that end in the piece.
+    fn take_piece<R: Wait>(
+        &self,
+        rt: &R,
+        desk: &mut Desk<L>,
+        framer: &mut Framer,
+        piece: &[u8],
+    ) -> Result<(), End>
+        requires { framer.old.frames ≡ [] }
+        ensures none { OnOk result (framer.new.frames ≡ []) }
+        ensures taken { OnOk result (TakesPiece self.now.bsc self.now.generation framer.old.rest piece.now framer.new.rest desk.old desk.new) }
+        ensures ended { IfErr result (StopsInPiece self.now.bsc self.now.generation framer.old.rest piece.now desk.old desk.new) }
+    {
+        let fed = framer.feed(piece);
+        if let Err(end) = self.take_frames(rt, desk, framer) {
+            return Err(end);
+        }
+        match fed {
+            Ok(()) => Ok(()),
+            Err(FrameFault::TooLong { length: _ }) => Err(End::TooLong),
+            Err(FrameFault::Memory) => Err(End::Refused(Refusal::Memory)),
+        }
+    }
+
+    /// Takes the frames that the framer has.
+    fn take_frames<R: Wait>(
+        &self,
+        rt: &R,
+        desk: &mut Desk<L>,
+        framer: &mut Framer,
+    ) -> Result<(), End>
+        ensures rest { framer.new.rest ≡ framer.old.rest }
+        ensures none { OnOk result (framer.new.frames ≡ []) }
+        ensures taken { OnOk result (TakesReports self.now.bsc self.now.generation framer.old.frames desk.old desk.new) }
+        ensures ended { IfErr result (StopsAmong self.now.bsc self.now.generation framer.old.frames desk.old desk.new) }
+    {
+        while let Some(frame) = framer.next() {
+            if let Err(end) = self.take_frame(rt, desk, &frame) {
+                return Err(end);
+            }
+        }
+        Ok(())
+    }
+
+    /// Submits the report in the frame, or passes over a frame of another type.
+    fn take_frame<R: Wait>(&self, rt: &R, desk: &mut Desk<L>, frame: &Frame) -> Result<(), End>
+        ensures taken { OnOk result (TakesReports self.now.bsc self.now.generation (frame.now ∷ []) desk.old desk.new) }
+        ensures ended { IfErr result (StopsAmong self.now.bsc self.now.generation (frame.now ∷ []) desk.old desk.new) }
+    {
+        let Some(kind) = report_type(frame.kind) else {
+            return Ok(());
+        };
+        match read_as(self.alloc, kind, frame.body.as_slice()) {
+            Ok(message) => self.submit_report(rt, desk, message),
+            Err(fault) => Err(End::of_fault(fault)),
+        }
+    }
+
+    /// Submits a report, and asks the gate.
+    fn submit_report<R: Wait>(
+        &self,
+        rt: &R,
+        desk: &mut Desk<L>,
+        message: Message,
+    ) -> Result<(), End>
+        ensures got { MayGet (event.Report self.now.bsc self.now.generation message) desk.old desk.new }
+        ensures ended { IfErr result IsSubmitEnd }
+    {
+        let event = Event::Report(self.bsc, self.generation, message);
+        if let Err(refusal) = self.office.submit(rt, desk, event) {
+            if let Some(end) = report_end(refusal) {
+                return Err(end);
+            }
+        }
+        if self.gate.pass(rt, self.bsc, Step::AfterReport) {
+            Ok(())
+        } else {
+            Err(End::GateShut)
+        }
+    }
+}
+
+/// What the end of the stream is, by whether a frame has begun.
+fn end_of_stream(framer: &Framer) -> End
+    ensures { result ≡ stream_end framer.now.rest }
+{
+    if framer.rest() == 0 {
+        End::PeerEnded
+    } else {
+        End::CutFrame
+    }
+}
+
+/// The type of a report, by its octet.
+fn report_type(octet: u8) -> Option<MessageType>
+    ensures { result ≡ report_type octet }
+{
+    let kind = MessageType::of_code(octet)?;
+    if kind.is_report() { Some(kind) } else { None }
+}
+
+/// The end that the refusal of a report makes; none where the side goes on.
+fn report_end(refusal: Refusal) -> Option<End>
+    ensures { result ≡ report_end refusal }
+{
+    match refusal {
+        Refusal::NoOrder => None,
+        _ => Some(End::of(refusal)),
+    }
+}

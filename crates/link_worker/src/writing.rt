@@ -1,0 +1,161 @@
+//! The side of a link that writes.
+
+ghost use Rattle.std.specs.Prelude.{◌≡◌, ◌||◌, IfOk};
+ghost use Rattle.centre_core.specs.Fits.{AnswerFits};
+ghost use Rattle.link_worker.specs.Ends.{is_write_fault, order_end};
+ghost use Rattle.link_worker.specs.Orders.{EndsWriting, answer_frame};
+
+use crate::end::End;
+use crate::gate::{Gate, Step};
+use crate::link::Link;
+use cbsp_messages::write;
+use cell_register::BscId;
+use centre_events::answer::Answer;
+use centre_events::event::Event;
+use centre_events::refusal::Refusal;
+use framing::{Sink, write_all};
+use office::desk::Desk;
+use office::office::Office;
+use office::receipt::Receipt;
+use office::wake::Wake;
+use std::alloc::{AllocError, Global};
+use std::sync::Wait;
+use std::sync::ledger::Ledger;
+
+/// Waits until an order or a query is due at the BSC, submits it at the desk, and writes the frame of its message; and so on until
+/// the side ends. The gate is asked before each write (`Step::BeforeWrite`), when the entry is in the journal already.
+///
+/// It goes on where by then nothing is to be sent or asked (`InFlight`, `NothingPending`, `NothingToAsk`, `NoSuchWarning`). It ends
+/// by `WriteFault`, `Superseded`, `Refused` or `GateShut`. After `WriteFault`, `GateShut` and `Refused(Memory)` the order of the last
+/// receipt may be in flight though its frame was not written, or not all of it; it is so until the loss of the link is submitted.
+pub fn write_side<L: Ledger, W: Sink, G: Gate, R: Wait>(
+    rt: &R,
+    alloc: Global,
+    office: &Office<L>,
+    desk: &mut Desk<L>,
+    b: BscId,
+    generation: u64,
+    writer: &mut W,
+    gate: &G,
+) -> End
+    ensures written { EndsWriting b generation desk.old desk.new (W.written writer.old) (W.written writer.new) result }
+    ensures failed { W.has_failed writer.new ≡ (is_write_fault result || W.has_failed writer.old) }
+{
+    let link = Link {
+        alloc,
+        office,
+        bsc: b,
+        generation,
+        gate,
+    };
+    for _ in rt.forever() {
+        match link.due(rt) {
+            Ok(event) => {
+                if let Err(end) = link.send_one(rt, desk, event, writer) {
+                    return end;
+                }
+            }
+            Err(end) => return end,
+        }
+    }
+    unreachable!()
+}
+
+impl<'o, 'g, L: Ledger, G: Gate> Link<'o, 'g, L, G> {
+    ghost use Rattle.std.specs.Prelude.{◌≡◌, ◌||◌, IfOk, IfErr, OnOk};
+    ghost use Rattle.std.specs.Io.KnownBytes.{Appends};
+    ghost use Rattle.centre_core.specs.Fits.{AnswerFits};
+    ghost use Rattle.link_worker.specs.Ends.{fails_to_write};
+    ghost use Rattle.link_worker.specs.Orders.{EndsWriting, IsIdleEnd, IsOrder, StopsInFrame, Writes, receipt_frame};
+
+    /// Waits for the next order or query.
+    fn due<R: Wait>(&self, rt: &R) -> Result<Event, End>
+        ensures order { IfOk result (IsOrder self.now.bsc self.now.generation) }
+        ensures end { IfErr result IsIdleEnd }
+    {
+        match self.office.wait_pending(rt, self.bsc, self.generation) {
+            Wake::Order => Ok(Event::Send(self.bsc, self.generation)),
+            Wake::Query(warning, after) => {
+                Ok(Event::Ask(self.bsc, self.generation, warning, after))
+            }
+            Wake::Ended => Err(End::Superseded),
+            Wake::StaleCentre => Err(End::Refused(Refusal::Stale)),
+        }
+    }
+
+    /// Submits an order or a query and writes its frame, or does nothing where by then nothing is to be sent or asked.
+    fn send_one<W: Sink, R: Wait>(
+        &self,
+        rt: &R,
+        desk: &mut Desk<L>,
+        event: Event,
+        writer: &mut W,
+    ) -> Result<(), End>
+        requires { IsOrder self.now.bsc self.now.generation event }
+        ensures sent { OnOk result (Writes self.now.bsc self.now.generation desk.old desk.new (W.written writer.old) (W.written writer.new)) }
+        ensures ended { IfErr result (EndsWriting self.now.bsc self.now.generation desk.old desk.new (W.written writer.old) (W.written writer.new)) }
+        ensures failed { W.has_failed writer.new ≡ (fails_to_write result || W.has_failed writer.old) }
+    {
+        match self.office.submit(rt, desk, event) {
+            Ok(()) => self.write_receipt(rt, desk.latest(), writer),
+            Err(refusal) => match order_end(refusal) {
+                Some(end) => Err(end),
+                None => Ok(()),
+            },
+        }
+    }
+
+    /// Writes the frame of the receipt's message.
+    fn write_receipt<W: Sink, R: Wait>(
+        &self,
+        rt: &R,
+        receipt: &Receipt,
+        writer: &mut W,
+    ) -> Result<(), End>
+        requires { AnswerFits receipt.now.answer }
+        ensures all { OnOk result (Appends (W.written writer.old) (W.written writer.new) (receipt_frame receipt.now)) }
+        ensures part { IfErr result (StopsInFrame (W.written writer.old) (W.written writer.new) (receipt_frame receipt.now)) }
+        ensures failed { W.has_failed writer.new ≡ (fails_to_write result || W.has_failed writer.old) }
+    {
+        let Ok(frame) = frame_of(self.alloc, &receipt.answer) else {
+            return Err(End::Refused(Refusal::Memory));
+        };
+        if !self.gate.pass(rt, self.bsc, Step::BeforeWrite) {
+            return Err(End::GateShut);
+        }
+        match write_all(writer, frame.as_slice()) {
+            Ok(()) => Ok(()),
+            Err(_) => Err(End::WriteFault),
+        }
+    }
+}
+
+/// The frame of the message in an answer. An answer without a message has none.
+fn frame_of(alloc: Global, answer: &Answer) -> Result<Vec<u8>, AllocError>
+    requires { AnswerFits answer.now }
+    ensures { IfOk result (λ frame. frame.items ≡ answer_frame answer.now) }
+{
+    match answer {
+        Answer::Sent { order: _, message } => write(alloc, message),
+        Answer::Asked {
+            message_id: _,
+            serial: _,
+            cells: _,
+            message,
+        } => write(alloc, message),
+        _ => Ok(Vec::new(alloc)),
+    }
+}
+
+/// The end that the refusal of an order or a query makes; none where the side goes on.
+fn order_end(refusal: Refusal) -> Option<End>
+    ensures { result ≡ order_end refusal }
+{
+    match refusal {
+        Refusal::InFlight
+        | Refusal::NothingPending
+        | Refusal::NothingToAsk
+        | Refusal::NoSuchWarning => None,
+        _ => Some(End::of(refusal)),
+    }
+}
