@@ -9,7 +9,8 @@ use Rattle.centre_core.specs.Fits.{AnswerFits}
 use Rattle.centre_events.specs.declared.event.Event.{Event}
 use Rattle.link_worker.specs.declared.end.End.{End}
 use Rattle.link_worker.specs.declared.end.End.TheVariants as end
-use Rattle.link_worker.specs.Orders.{EndsWriting, Gets, IsCutAt, IsIdleEnd, IsOrder, StopsAtLast, StopsInFrame, Writes, receipt_frame}
+use Rattle.link_worker.specs.Ends.{IsRefusedEnd}
+use Rattle.link_worker.specs.Orders.{EndsWriting, Gets, IsCutAt, IsOrder, StopsAtLast, StopsInFrame, Writes, receipt_frame}
 use Rattle.link_worker.proofs.ListLemmas.{AllByRecursion-append, last_put}
 use Rattle.office.specs.Desks.{DeskState}
 use Rattle.office.specs.Helds.{receipt_at}
@@ -81,16 +82,16 @@ Ends-more b generation c d e p q r (end.Refused x) one (inr two) = inr (two.0, S
 Ends-more b generation c d e p q r end.GateShut one two = Stops-more b generation c d e p q r end.GateShut one two
 
 -- an end at which nothing more was submitted
-pub Ends-idle : (b generation : ℕ) (c d : DeskState) (p q : Option (List ℕ)) (x : End) → Writes b generation c d p q → IsIdleEnd x → EndsWriting b generation c d p q x
-Ends-idle b generation c d p q end.PeerEnded one idle = absurd idle
-Ends-idle b generation c d p q end.CutFrame one idle = absurd idle
-Ends-idle b generation c d p q end.ReadFault one idle = absurd idle
-Ends-idle b generation c d p q end.WriteFault one idle = absurd idle
-Ends-idle b generation c d p q (end.BadMessage f) one idle = absurd idle
-Ends-idle b generation c d p q end.TooLong one idle = absurd idle
-Ends-idle b generation c d p q end.Superseded one idle = one
-Ends-idle b generation c d p q (end.Refused x) one idle = inl one
-Ends-idle b generation c d p q end.GateShut one idle = absurd idle
+pub Ends-refused : (b generation : ℕ) (c d : DeskState) (p q : Option (List ℕ)) (x : End) → Writes b generation c d p q → IsRefusedEnd x → EndsWriting b generation c d p q x
+Ends-refused b generation c d p q end.PeerEnded one refused = absurd refused
+Ends-refused b generation c d p q end.CutFrame one refused = absurd refused
+Ends-refused b generation c d p q end.ReadFault one refused = absurd refused
+Ends-refused b generation c d p q end.WriteFault one refused = absurd refused
+Ends-refused b generation c d p q (end.BadMessage f) one refused = absurd refused
+Ends-refused b generation c d p q end.TooLong one refused = absurd refused
+Ends-refused b generation c d p q end.Superseded one refused = one
+Ends-refused b generation c d p q (end.Refused x) one refused = inl one
+Ends-refused b generation c d p q end.GateShut one refused = absurd refused
 
 -- an order was accepted, and its receipt is the last
 module _ (b generation : ℕ) (d e : DeskState) (event : Event) (r : Receipt) (submitted : IsSubmitted d event e) (order : IsOrder b generation event)

@@ -23,7 +23,7 @@ use Rattle.framing.specs.declared.fault.FrameFault.TheVariants as fault
 use Rattle.framing.proofs.StreamLemmas.{no_frame-nil, pieces_join}
 use Rattle.link_worker.specs.declared.end.End.{End}
 use Rattle.link_worker.specs.declared.end.End.TheVariants as end
-use Rattle.link_worker.specs.Ends.{fault_end}
+use Rattle.link_worker.specs.Ends.{IsRefusedEnd, fault_end}
 use Rattle.link_worker.specs.Reports.{AreReceiptsFor, EndsAt, EndsBefore, EndsReading, EndsWithin, IsPartial, IsReport, IsSubmitEnd, IsTaken, MayGet, Reads, StopsAmong, StopsInPiece, TakesPiece, TakesReports, report_type, stream_end}
 use Rattle.link_worker.proofs.ListLemmas.{AllByRecursion-append, AllByRecursion-back, AllByRecursion-front}
 use Rattle.cbsp_messages.specs.declared.message.Message.{Message}
@@ -105,17 +105,22 @@ Takes-report b generation frame m d e is (number, inr (r, event_is, receipts)) =
   readable = (inr (m, is), tt);
 }
 
+-- an end that a refusal makes
+EndsBefore-refused : (x : End) (frames : List Frame) → IsRefusedEnd x → EndsBefore x frames
+EndsBefore-refused end.PeerEnded frames p = absurd p
+EndsBefore-refused end.CutFrame frames p = absurd p
+EndsBefore-refused end.ReadFault frames p = absurd p
+EndsBefore-refused end.WriteFault frames p = absurd p
+EndsBefore-refused (end.BadMessage f) frames p = absurd p
+EndsBefore-refused end.TooLong frames p = absurd p
+EndsBefore-refused end.Superseded frames p = tt
+EndsBefore-refused (end.Refused r) frames p = tt
+EndsBefore-refused end.GateShut frames p = absurd p
+
 -- an end at a report that was read
 EndsBefore-submit : (x : End) (frames : List Frame) → IsSubmitEnd x → EndsBefore x frames
-EndsBefore-submit end.PeerEnded frames p = absurd p
-EndsBefore-submit end.CutFrame frames p = absurd p
-EndsBefore-submit end.ReadFault frames p = absurd p
-EndsBefore-submit end.WriteFault frames p = absurd p
-EndsBefore-submit (end.BadMessage f) frames p = absurd p
-EndsBefore-submit end.TooLong frames p = absurd p
-EndsBefore-submit end.Superseded frames p = tt
-EndsBefore-submit (end.Refused r) frames p = tt
-EndsBefore-submit end.GateShut frames p = tt
+EndsBefore-submit x frames (inl p) = EndsBefore-refused x frames p
+EndsBefore-submit x frames (inr shut) = subst (λ e. EndsBefore e frames) (sym shut) tt
 
 -- the side ends after a frame
 pub Stops-after : (b generation : ℕ) (frame : Frame) (d e : DeskState) (x : End) → TakesReports b generation (frame ∷ []) d e → IsSubmitEnd x → StopsAmong b generation (frame ∷ []) d e x

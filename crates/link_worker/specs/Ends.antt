@@ -26,6 +26,12 @@ ending refusal.LinkNotUp = end.Superseded
 ending refusal.NoSuchBsc = end.Superseded
 ending other = end.Refused other
 
+-- an end that a refusal makes: nothing more was submitted
+abbrev pub IsRefusedEnd : End → Type 0
+IsRefusedEnd end.Superseded = Unit {0}
+IsRefusedEnd (end.Refused r) = Unit {0}
+IsRefusedEnd other = ⊥
+
 -- the end that a report makes that can't be read, or for which there is no memory
 abbrev pub fault_end : MessageFault → End
 fault_end fault.Memory = end.Refused refusal.Memory

@@ -71,9 +71,3 @@ StopsInFrame before after frame end.WriteFault = AppendsFront before after frame
 StopsInFrame before after frame end.GateShut = after ≡ before
 StopsInFrame before after frame (end.Refused r) = (r ≡ refusal.Memory) × (after ≡ before)
 StopsInFrame before after frame other = ⊥
-
--- an end at which nothing was submitted
-abbrev pub IsIdleEnd : End → Type 0
-IsIdleEnd end.Superseded = Unit {0}
-IsIdleEnd (end.Refused r) = Unit {0}
-IsIdleEnd other = ⊥

@@ -13,6 +13,7 @@ use Rattle.centre_events.specs.declared.event.Event.{Event}
 use Rattle.centre_events.specs.declared.event.Event.TheVariants as event
 use Rattle.framing.specs.Streams.{BeginsWithNoFrame, Cuts, IsReadable, IsTooLong, frame_octets}
 use Rattle.framing.specs.declared.frame.Frame.{Frame}
+use Rattle.link_worker.specs.Ends.{IsRefusedEnd}
 use Rattle.link_worker.specs.declared.end.End.{End}
 use Rattle.link_worker.specs.declared.end.End.TheVariants as end
 use Rattle.office.specs.Desks.{DeskState}
@@ -150,10 +151,7 @@ MayGet e old new =
 
 -- an end at a report that was read
 abbrev pub IsSubmitEnd : End → Type 0
-IsSubmitEnd end.Superseded = Unit {0}
-IsSubmitEnd (end.Refused r) = Unit {0}
-IsSubmitEnd end.GateShut = Unit {0}
-IsSubmitEnd other = ⊥
+IsSubmitEnd e = IsRefusedEnd e ⊎ (e ≡ end.GateShut)
 
 -- what the end of the stream is, by the octets of a frame that has begun
 abbrev pub stream_end : List ℕ → End

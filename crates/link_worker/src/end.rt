@@ -1,7 +1,7 @@
 //! What ends a side of a link.
 
 ghost use Rattle.std.specs.Prelude.{◌≡◌};
-ghost use Rattle.link_worker.specs.Ends.{end_number, ending, fault_end};
+ghost use Rattle.link_worker.specs.Ends.{IsRefusedEnd, end_number, ending, fault_end};
 
 use cbsp_messages::MessageFault;
 use centre_events::refusal::Refusal;
@@ -59,7 +59,8 @@ impl End {
 
     /// The end that a refusal makes where the side doesn't go on after it.
     pub(crate) fn of(refusal: Refusal) -> End
-        ensures { result ≡ ending refusal }
+        ensures end { result ≡ ending refusal }
+        ensures refused { IsRefusedEnd result }
     {
         match refusal {
             Refusal::StaleLink { now: _ } | Refusal::LinkNotUp | Refusal::NoSuchBsc => {

@@ -1,8 +1,8 @@
 //! The side of a link that reads.
 
-ghost use Rattle.std.specs.Prelude.{◌≡◌, ◌⊎◌, [], true, false};
+ghost use Rattle.std.specs.Prelude.{◌≡◌, ◌⊎◌, [], true, false, IfSome};
 ghost use Rattle.framing.specs.Source.{counted};
-ghost use Rattle.link_worker.specs.Ends.{is_read_fault, report_end};
+ghost use Rattle.link_worker.specs.Ends.{IsRefusedEnd, is_read_fault, report_end};
 ghost use Rattle.link_worker.specs.Reports.{EndsReading, report_type, stream_end};
 
 use crate::end::End;
@@ -195,7 +195,8 @@ fn report_type(octet: u8) -> Option<MessageType>
 
 /// The end that the refusal of a report makes; none where the side goes on.
 fn report_end(refusal: Refusal) -> Option<End>
-    ensures { result ≡ report_end refusal }
+    ensures end { result ≡ report_end refusal }
+    ensures refused { IfSome result IsRefusedEnd }
 {
     match refusal {
         Refusal::NoOrder => None,

@@ -1,8 +1,8 @@
 //! The side of a link that writes.
 
-ghost use Rattle.std.specs.Prelude.{◌≡◌, ◌||◌, IfOk};
+ghost use Rattle.std.specs.Prelude.{◌≡◌, ◌||◌, IfOk, IfSome};
 ghost use Rattle.centre_core.specs.Fits.{AnswerFits};
-ghost use Rattle.link_worker.specs.Ends.{is_write_fault, order_end};
+ghost use Rattle.link_worker.specs.Ends.{IsRefusedEnd, is_write_fault, order_end};
 ghost use Rattle.link_worker.specs.Orders.{EndsWriting, answer_frame};
 
 use crate::end::End;
@@ -65,13 +65,13 @@ impl<'o, 'g, L: Ledger, G: Gate> Link<'o, 'g, L, G> {
     ghost use Rattle.std.specs.Prelude.{◌≡◌, ◌||◌, IfOk, IfErr, OnOk};
     ghost use Rattle.std.specs.Io.KnownBytes.{Appends};
     ghost use Rattle.centre_core.specs.Fits.{AnswerFits};
-    ghost use Rattle.link_worker.specs.Ends.{fails_to_write};
-    ghost use Rattle.link_worker.specs.Orders.{EndsWriting, IsIdleEnd, IsOrder, StopsInFrame, Writes, receipt_frame};
+    ghost use Rattle.link_worker.specs.Ends.{IsRefusedEnd, fails_to_write};
+    ghost use Rattle.link_worker.specs.Orders.{EndsWriting, IsOrder, StopsInFrame, Writes, receipt_frame};
 
     /// Waits for the next order or query.
     fn due<R: Wait>(&self, rt: &R) -> Result<Event, End>
         ensures order { IfOk result (IsOrder self.now.bsc self.now.generation) }
-        ensures end { IfErr result IsIdleEnd }
+        ensures end { IfErr result IsRefusedEnd }
     {
         match self.office.wait_pending(rt, self.bsc, self.generation) {
             Wake::Order => Ok(Event::Send(self.bsc, self.generation)),
@@ -149,7 +149,8 @@ fn frame_of(alloc: Global, answer: &Answer) -> Result<Vec<u8>, AllocError>
 
 /// The end that the refusal of an order or a query makes; none where the side goes on.
 fn order_end(refusal: Refusal) -> Option<End>
-    ensures { result ≡ order_end refusal }
+    ensures end { result ≡ order_end refusal }
+    ensures refused { IfSome result IsRefusedEnd }
 {
     match refusal {
         Refusal::InFlight
