@@ -44,6 +44,8 @@ mod report_tests;
 #[cfg(test)]
 mod serial_tests;
 #[cfg(test)]
+mod simulated_bsc_tests;
+#[cfg(test)]
 mod stale_script;
 #[cfg(test)]
 mod stale_tests;

@@ -1,0 +1,4 @@
+pub mod ConversationLemmas
+pub mod FitLemmas
+pub mod OwnCellLemmas
+pub mod TallyLemmas

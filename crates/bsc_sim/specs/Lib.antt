@@ -1,0 +1,6 @@
+pub mod Answering
+pub mod Bsc
+pub mod Choices
+pub mod Conversation
+pub mod Indications
+pub mod Keys
