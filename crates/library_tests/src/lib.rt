@@ -22,6 +22,8 @@ mod frame_tests;
 #[cfg(test)]
 mod given_events;
 #[cfg(test)]
+mod given_link;
+#[cfg(test)]
 mod kept_tables_tests;
 #[cfg(test)]
 mod line_table_tests;
@@ -35,6 +37,8 @@ mod order_tests;
 mod plan_edits_tests;
 #[cfg(test)]
 mod plan_tests;
+#[cfg(test)]
+mod read_side_tests;
 #[cfg(test)]
 mod register_tests;
 #[cfg(test)]
@@ -51,3 +55,5 @@ mod stale_script;
 mod stale_tests;
 #[cfg(test)]
 mod values;
+#[cfg(test)]
+mod write_side_tests;
