@@ -3,9 +3,14 @@
 
 use console::run;
 use framing::{FromRead, FromWrite};
+use server::serve_words;
 use std::alloc::Global;
-use std::io::ErrorKind;
+use std::io::{BufReader, Eprint, ErrorKind, Read, Write};
+use std::net::{Net, TcpListener, TcpStream};
 use std::process::ExitCode;
+use std::sync::Wait;
+use std::thread::Threads;
+use std::time::Clock;
 use std::{env, io};
 
 fn main(rt: HostRuntime) -> ExitCode {
@@ -16,7 +21,35 @@ fn main(rt: HostRuntime) -> ExitCode {
     let mut reader = FromRead::new(rt.stdin());
     let mut writer = FromWrite::new(rt.stdout());
     let mut errors = FromWrite::new(rt.stderr());
-    ExitCode::from(run(rt.alloc(), &words, &mut reader, &mut writer, &mut errors))
+    match run(rt.alloc(), &words, &mut reader, &mut writer, &mut errors) {
+        Some(status) => ExitCode::from(status),
+        None => serve(
+            &rt,
+            rt.alloc(),
+            &words,
+            rt.stdin(),
+            rt.stdout(),
+            rt.stderr(),
+        ),
+    }
+}
+
+/// Runs the server on standard input and output.
+fn serve<
+    R: Wait + Threads + Clock + Sync + Eprint + Net<Stream = TcpStream, Listener = TcpListener>,
+    I: Read + Send + Drop,
+    W: Write + Send + Drop,
+    E: Write + Send + Drop,
+>(rt: &R, alloc: Global, words: &[String], input: I, output: W, errors: E) -> ExitCode {
+    match BufReader::new(alloc, input) {
+        Ok(reader) => ExitCode::from(serve_words(rt, alloc, words, reader, output, errors)),
+        Err(_) => no_memory(rt),
+    }
+}
+
+fn no_memory<R: Eprint>(rt: &R) -> ExitCode {
+    let _ = eprintln!(rt; "cbc: out of memory");
+    ExitCode::from(1)
 }
 
 /// The words as the system gives them, the program's own first.
@@ -25,10 +58,9 @@ fn command_line<R: env::Env + AllocGlobal>(rt: &R) -> io::Result<Vec<String>> {
 }
 
 /// Says why the words can't be read: there is no memory for them, or one of them is not UTF-8.
-fn unread<R: io::Eprint>(rt: &R, error: &io::Error) -> ExitCode {
+fn unread<R: Eprint>(rt: &R, error: &io::Error) -> ExitCode {
     if error.kind() == ErrorKind::OutOfMemory {
-        let _ = eprintln!(rt; "cbc: out of memory");
-        return ExitCode::from(1);
+        return no_memory(rt);
     }
     let _ = eprintln!(rt; "error: invalid UTF-8 was detected in one or more arguments");
     ExitCode::from(2)

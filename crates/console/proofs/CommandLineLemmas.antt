@@ -1,6 +1,7 @@
 -- What the command line asks for, and the command lines that run no script.
 use Rattle.std.proofs.Common.{◌≡◌, ◌⊎◌, ◌∙◌, ◌≤◌, inl, inr, subst, ℕ, Bool, true, false, List, [], Option, Some, None, Result, codes, refl, sym, ap, arith, option_map, cond}
-use Rattle.std.specs.Prelude.{bytes_eq, option_and_then, Box}
+use Rattle.std.specs.Prelude.{◌↔◌, IsSome, bytes_eq, option_and_then, Box}
+use Rattle.std.specs.Option.{is_some}
 use Rattle.std.specs.Borrow.{Bor}
 use Rattle.std.specs.Box.{box_value}
 use Rattle.std.specs.Str.Parse.{ExplainsUnsignedError, HasUnsignedDigitsIfOk, ParsesUnsigned, digits_value, without_leading_plus}
@@ -17,9 +18,9 @@ use Rattle.clap.specs.declared.error.kind.ErrorKind.TheVariants.{OutOfMemory}
 use Rattle.clap.specs.declared.parser.matches.ArgMatches.{ArgMatches}
 use Rattle.clap.specs.declared.parser.matches.ArgMatches.TheViews.{out-ArgMatches, out-SubCommand}
 use Rattle.clap.specs.declared.parser.matches.SubCommand.{SubCommand}
-use Rattle.console.specs.CommandLine.{command_line, entry_numbers, limit_in, limit_of, most_entries, network_in, network_of, replay_rows, AreTaken, AsksHelp, ComesTo, HasNoFault, Refuses}
+use Rattle.console.specs.CommandLine.{command_line, entry_numbers, limit_in, limit_of, meets_serve, most_entries, network_in, network_of, replay_rows, AreTaken, AsksHelp, ComesTo, HasNoFault, Refuses}
 use Rattle.console.specs.declared.no_run.NoRun.{NoRun}
-use Rattle.console.specs.declared.no_run.NoRun.TheVariants.{Help, Refused, BadPlmn, BadJournal, Memory}
+use Rattle.console.specs.declared.no_run.NoRun.TheVariants.{Help, Refused, Serve, BadPlmn, BadJournal, Memory}
 
 is_plain : is_simple command_line ≡ true
 unfolding clap_on_literals
@@ -44,6 +45,7 @@ module _ (words : List Text) (e : Error) (taken : AreTaken words → kind_of e �
       ((λ t. cc (memory (taken t))), asks_help (among (Help text) memory (λ same. cc same)) comes)
   refuses_so (Refused text) memory comes =
       ((λ t. cc (memory (taken t))), (kind_of e, among (Refused text) memory (λ same. cc same), comes.0, comes.1))
+  refuses_so Serve memory comes = absurd comes
   refuses_so BadPlmn memory comes = absurd comes
   refuses_so BadJournal memory comes = absurd comes
   refuses_so Memory memory comes = tt
@@ -115,6 +117,23 @@ met_rows (Some p) rows name is =
 name_of_met : {Z : Type 0} (s : Option (Box SubCommand Z)) → option_map (λ p. p.0) (subcommand_rows s) ≡ option_map (λ b. (out-SubCommand (box_value b)).name.now) s
 name_of_met None = refl
 name_of_met (Some b) = refl
+
+bool_cases : (b : Bool) → (b ≡ true → ⊥) → false ≡ b
+bool_cases true other = absurd (other refl)
+bool_cases false other = refl
+
+-- the command that the parser met is `serve`, where its matches are found
+serve_named : {A : Type 0} (met : Option (Text × List Row)) (found : Option A) → IsSome found ↔ (option_map (λ p. p.0) met ≡ Some (codes "serve")) → is_some found ≡ meets_serve met
+serve_named None None is = refl
+serve_named None (Some a) is = cc (is.0 refl)
+serve_named (Some p) None is =
+    bool_cases (bytes_eq p.0 (codes "serve")) (λ same. let there : false ≡ true = is.1 (ap Some ((bytes_eq-Decides p.0 (codes "serve")).0 same)) in cc there)
+serve_named (Some p) (Some a) is = sym ((bytes_eq-Decides p.0 (codes "serve")).1 (cc (is.0 refl)))
+
+pub met_serve : {A : Type 0} (m : ArgMatches) (found : Option A) → IsSome found ↔ (subcommand_name_of m ≡ Some (codes "serve")) → is_some found ≡ meets_serve (subcommand_rows_of m)
+met_serve m found is =
+    let named = name_of_met (out-ArgMatches m).subcommand in
+    serve_named (subcommand_rows_of m) found (λ there. named ∙ is.0 there, λ same. is.1 (sym named ∙ same))
 
 -- the command that the parser met is `replay`, with these matches
 abbrev pub Met : ArgMatches → ArgMatches → Type 0

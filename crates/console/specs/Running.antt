@@ -1,11 +1,11 @@
 -- How a run of the program ends.
-use Rattle.std.specs.Prelude.{◌≡◌, ◌⊎◌, ℕ, Bool, true, ◌==◌, List, ◌++◌, Option, codes}
+use Rattle.std.specs.Prelude.{◌≡◌, ◌⊎◌, ℕ, Bool, true, ◌==◌, List, ◌++◌, Option, Some, None, codes}
 use Rattle.std.specs.Bool.{MatchBool}
 use Rattle.std.specs.Io.KnownBytes.{Appends}
 use Rattle.framing.specs.Sink.{AppendsFront}
 use Rattle.framing.specs.Source.{counted}
 use Rattle.clap.specs.Words.{Text}
-use Rattle.console.specs.CommandLine.{AreTaken, Asks, AsksBadJournal, AsksBadPlmn, AsksHelp, IsMistaken}
+use Rattle.console.specs.CommandLine.{AreTaken, Asks, AsksBadJournal, AsksBadPlmn, AsksHelp, AsksServe, IsMistaken}
 use Rattle.console.specs.Replays.{new_session, Replays, BreaksOff}
 use Rattle.console.specs.Sessions.{SessionState}
 use Rattle.console.specs.Texts.{newline}
@@ -100,6 +100,7 @@ pub record RunsSome (words : List Text) (old new : Streams) (status : ℕ) : Typ
   pub asked : Asks words plmn limit
   pub runs : Runs (new_session plmn limit) old new status
 
--- how a run of the program ends: a script was run, or none
-abbrev pub Ends : List Text → Streams → Streams → ℕ → Type 0
-Ends words old new status = RunsSome words old new status ⊎ RunsNone words old new status
+-- how a run of the program ends: a script was run, or none; where the words ask for the server, nothing was done
+abbrev pub Ends : List Text → Streams → Streams → Option ℕ → Type 0
+Ends words old new (Some status) = RunsSome words old new status ⊎ RunsNone words old new status
+Ends words old new None = AsksServe words × (new ≡ old)

@@ -5,29 +5,29 @@
 //! `replaying`; what a run promises stands in `specs/Replays` and `specs/Sessions`.
 #![tactic(auto)]
 
-mod answer_text;
+pub mod answer_text;
 mod console;
-mod content_heading;
+pub mod content_heading;
 mod digits;
 mod fault;
 mod frames;
 mod generations;
-mod grammar;
-mod heading;
-mod hex_text;
+pub mod grammar;
+pub mod heading;
+pub mod hex_text;
 mod kept;
 mod laws;
-mod line;
+pub mod line;
 mod list_text;
-mod no_run;
+pub mod no_run;
 mod numbers;
-mod options;
+pub mod options;
 mod parts;
 mod replaying;
-mod response;
-mod running;
+pub mod response;
+pub mod running;
 mod session;
-mod words;
+pub mod words;
 
 pub use fault::ReplayFault;
 pub use laws::{one_text, stays_whole};

@@ -9,6 +9,8 @@ pub enum NoRun {
     Help(String),
     /// The command line was refused, with this text.
     Refused(String),
+    /// The server is asked for.
+    Serve,
     /// The network code isn't six hexadecimal digits.
     BadPlmn,
     /// The number of entries isn't one from 1 to 4,000,000.

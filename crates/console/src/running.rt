@@ -12,7 +12,8 @@ use framing::{Sink, Source, write_all};
 use std::alloc::Global;
 
 /// Runs the program on the words of its command line, of which its own name is the first. The answer is its exit
-/// status, and `errors` gets what is said on standard error.
+/// status, and `errors` gets what is said on standard error. `None` where the words ask for the server, which is not run
+/// here: nothing is read or written then.
 ///
 /// 0: all of the input was read, or help was asked for. 1: a fault ended the run, which is said as `cbc: ` and its
 /// words. 2: the command line was refused, with clap's text, or with `cbc: bad plmn` or `cbc: bad journal` where that
@@ -23,35 +24,36 @@ pub fn run<R: Source, W: Sink, E: Sink>(
     reader: &mut R,
     writer: &mut W,
     errors: &mut E,
-) -> u8
+) -> Option<u8>
     ensures { Ends (map string_bytes words.now)
         (record { input = R.remaining reader.old; reads = R.calls reader.old; read_failed = R.has_failed reader.old; output = W.written writer.old; write_failed = W.has_failed writer.old; errors = E.written errors.old; is_mute = E.has_failed errors.old })
         (record { input = R.remaining reader.new; reads = R.calls reader.new; read_failed = R.has_failed reader.new; output = W.written writer.new; write_failed = W.has_failed writer.new; errors = E.written errors.new; is_mute = E.has_failed errors.new }) result }
 {
     match read_options(alloc, words) {
-        Ok(options) => run_script(alloc, &options, reader, writer, errors),
+        Ok(options) => Some(run_script(alloc, &options, reader, writer, errors)),
+        Err(NoRun::Serve) => None,
         Err(NoRun::Help(text)) => match write_all(writer, text.as_bytes()) {
-            Ok(()) => 0,
+            Ok(()) => Some(0),
             Err(_) => {
                 tell(errors, fault_words(ReplayFault::WriteFault));
-                1
+                Some(1)
             }
         },
         Err(NoRun::Refused(text)) => {
             tell(errors, text.as_bytes());
-            2
+            Some(2)
         }
         Err(NoRun::BadPlmn) => {
             tell(errors, b"cbc: bad plmn\n");
-            2
+            Some(2)
         }
         Err(NoRun::BadJournal) => {
             tell(errors, b"cbc: bad journal\n");
-            2
+            Some(2)
         }
         Err(NoRun::Memory) => {
             tell(errors, fault_words(ReplayFault::Memory));
-            1
+            Some(1)
         }
     }
 }
@@ -83,7 +85,8 @@ fn tell<E: Sink>(errors: &mut E, text: &[u8])
     let _ = write_all(errors, text);
 }
 
-fn fault_words(fault: ReplayFault) -> &'static [u8]
+/// What is said of a fault.
+pub fn fault_words(fault: ReplayFault) -> &'static [u8]
     ensures { result.now ≡ fault_words fault }
 {
     match fault {

@@ -1,7 +1,7 @@
 //! One run of the console: a centre, and the generations that its lines speak of.
 
 ghost use Rattle.std.specs.Prelude.{◌≡◌};
-ghost use Rattle.console.specs.Sessions.{is_comment, report_type};
+ghost use Rattle.console.specs.Sessions.{report_type};
 
 use crate::content_heading::ContentHeading;
 use crate::frames::read_frame;
@@ -11,7 +11,7 @@ use crate::heading::Heading;
 use crate::hex_text::{read_octets, read_pages};
 use crate::line::Line;
 use crate::response::Response;
-use crate::words::split_words;
+use crate::words::{is_comment, split_words};
 use cbsp_messages::{MessageFault, MessageType, read_as};
 use cell_register::BscId;
 use centre_core::centre::Centre;
@@ -324,13 +324,4 @@ fn report_type(octet: u8) -> Option<MessageType>
 {
     let kind = MessageType::of_code(octet)?;
     if kind.is_report() { Some(kind) } else { None }
-}
-
-fn is_comment(word: &[u8]) -> bool
-    ensures { result ≡ is_comment word.now }
-{
-    match word {
-        [first, ..] => *first == b'#',
-        [] => false,
-    }
 }

@@ -1,6 +1,7 @@
 //! The words of a line.
 
 ghost use Rattle.std.specs.Prelude.{◌≡◌, ◌++◌, ◌∷◌, [], IfOk, OnOk, bytes_eq};
+ghost use Rattle.console.specs.Sessions.{is_comment};
 ghost use Rattle.console.specs.Words.{words_of, non_empty};
 
 use common::Octets;
@@ -40,4 +41,14 @@ pub fn is_word(word: &[u8], text: &[u8]) -> bool
     ensures { result ≡ bytes_eq word.now text.now }
 {
     word == text
+}
+
+/// Whether the first word of a line is that of a comment.
+pub fn is_comment(word: &[u8]) -> bool
+    ensures { result ≡ is_comment word.now }
+{
+    match word {
+        [first, ..] => *first == b'#',
+        [] => false,
+    }
 }

@@ -1,5 +1,5 @@
-use Rattle.std.proofs.Common.{map, string_bytes, ap, sym, ◌∙◌}
-use Rattle.console.specs.CommandLine.{limit_in, network_in, replay_rows}
+use Rattle.std.proofs.Common.{◌≡◌, true, map, string_bytes, ap, rules, sym, ◌∙◌}
+use Rattle.console.specs.CommandLine.{limit_in, meets_serve, network_in, replay_rows}
 use Rattle.console.proofs.CommandLineLemmas.{kinds_of_line, refuses_so, taken_has_matches, taken_has_no_fault, taken_wants_memory}
 use Rattle.console.proofs.options.read_options.Goals as goal
 
@@ -25,6 +25,14 @@ returns-in_default-asked_journal-clause-refused c =
     let words = map string_bytes c.args.words.now in
     let rows = ap replay_rows (sym (taken_has_matches _ words c.in-Ok.matches c.in_ok-command_line.ensures c.in-Ok.ensures.matches)) in
     (taken_has_no_fault _ words c.in_ok-command_line.ensures c.in-Ok.ensures.kinds, ap limit_in rows ∙ (sym c.asked_journal.ensures.asked ∙ c.in_default-asked_journal.is))
+
+-- words that are taken and ask for the server
+pub returns-then-asks_server-clause-refused : goal.returns-then-asks_server-clause-refused
+returns-then-asks_server-clause-refused c =
+    let words = map string_bytes c.args.words.now in
+    let rows = ap meets_serve (sym (taken_has_matches _ words c.in-Ok.matches c.in_ok-command_line.ensures c.in-Ok.ensures.matches)) in
+    let asked : c.asks_server.result ≡ true = search rules in
+    (taken_has_no_fault _ words c.in_ok-command_line.ensures c.in-Ok.ensures.kinds, rows ∙ (sym c.asks_server.ensures ∙ asked))
 
 pub returns-clause-asked : goal.returns-clause-asked
 returns-clause-asked c =

@@ -1,0 +1,22 @@
+//! The cell broadcast centre as a server: BSCs connect over TCP, each to a port of its own, while an operator types lines.
+//!
+//! Begin with `serving`. A port (`port`) has two threads: one accepts a connection and reads from it (`reading`), one writes to
+//! it (`writing`). The lines of the operator are answered by `operator`. No clause says what a socket gives or when a thread goes
+//! on; what is promised of the two sides of a link stands in `link_worker`, and of the office in `office`.
+#![tactic(auto)]
+
+mod edits;
+mod errors;
+mod operator;
+mod options;
+mod port;
+mod rate;
+mod reading;
+mod serving;
+mod shared;
+mod simulating;
+mod terminal;
+mod writing;
+
+pub use options::ServeOptions;
+pub use serving::{serve, serve_words};

@@ -1,0 +1,92 @@
+//! What the server is run with.
+
+ghost use Rattle.std.specs.Prelude.{◌≤◌};
+
+use clap::ArgMatches;
+use console::options::{MOST_ENTRIES, command_line};
+use hex::FromHex;
+use std::alloc::{AllocError, Global};
+
+/// What the server is run with. BSC b connects to port `base` + b - 1, for b from 1 to `links`.
+#[derive(Debug, Drop)]
+pub struct ServeOptions {
+    /// The network code, as TS 24.008 writes it in three octets.
+    pub plmn: [u8; 3],
+    pub journal_limit: u32,
+    /// The address that is listened on.
+    pub host: String,
+    pub base: u16,
+    pub links: u16,
+    /// Whether a simulated BSC connects to each port, once its BSC is registered.
+    pub with_simulator: bool,
+    ghost few: { journal_limit ≤ 4000000 },
+}
+
+/// Why the words are no options of the server.
+#[derive(Clone, Copy, Debug, PartialEq, Eq)]
+pub(crate) enum OptionsFault {
+    /// The network code isn't six hexadecimal digits.
+    BadPlmn,
+    /// A port would be past 65,535, or a value is none that the parser takes.
+    BadPorts,
+    Memory,
+}
+
+impl From<AllocError> for OptionsFault {
+    fn from(_: AllocError) -> OptionsFault {
+        OptionsFault::Memory
+    }
+}
+
+/// The network code; `None` where it isn't six hexadecimal digits.
+fn asked_plmn(matches: &ArgMatches<'_>) -> Option<[u8; 3]> {
+    <[u8; 3] as FromHex>::from_hex(matches.get_str("plmn")?).ok()
+}
+
+/// How many entries the journal may hold.
+fn asked_journal(matches: &ArgMatches<'_>) -> u32
+    ensures { result ≤ 4000000 }
+{
+    match matches.get_one::<u32>("journal") {
+        Some(limit @ 1..=MOST_ENTRIES) => limit,
+        _ => MOST_ENTRIES,
+    }
+}
+
+/// The first port, and how many follow; `None` where one is past 65,535.
+fn asked_ports(matches: &ArgMatches<'_>) -> Option<(u16, u16)> {
+    let base = matches.get_one::<u16>("base")?;
+    let links = matches.get_one::<u16>("links")?;
+    base.checked_add(links.checked_sub(1)?)?;
+    Some((base, links))
+}
+
+/// The options of the server in its matches.
+fn options_of(alloc: Global, matches: &ArgMatches<'_>) -> Result<ServeOptions, OptionsFault> {
+    let Some(plmn) = asked_plmn(matches) else {
+        return Err(OptionsFault::BadPlmn);
+    };
+    let Some((base, links)) = asked_ports(matches) else {
+        return Err(OptionsFault::BadPorts);
+    };
+    let host = String::from_str(alloc, matches.get_str("host").unwrap_or("127.0.0.1"))?;
+    Ok(ServeOptions {
+        plmn,
+        journal_limit: asked_journal(matches),
+        host,
+        base,
+        links,
+        with_simulator: matches.get_flag("sim"),
+    })
+}
+
+/// The options of the server in the words of a command line that asks for it.
+pub(crate) fn read_options(alloc: Global, words: &[String]) -> Result<ServeOptions, OptionsFault> {
+    match command_line(alloc)?.try_get_matches_from(words) {
+        Ok(matches) => match matches.subcommand_matches("serve") {
+            Some(matches) => options_of(alloc, matches),
+            None => Err(OptionsFault::Memory),
+        },
+        Err(_) => Err(OptionsFault::Memory),
+    }
+}

@@ -1,0 +1,36 @@
+//! The thread of a port that is its simulated BSC.
+
+use crate::port::Port;
+use crate::shared::Shared;
+use bsc_sim::{Bsc, Choices};
+use framing::{FromRead, FromWrite};
+use std::alloc::Global;
+use std::net::{Net, TcpListener, TcpStream};
+use std::sync::Wait;
+use std::sync::ledger::Ledger;
+
+/// Answers the centre over that connection.
+fn answer(alloc: Global, stream: TcpStream) {
+    let Ok(other) = stream.try_clone() else {
+        return;
+    };
+    let mut bsc = Bsc::any(alloc);
+    let choices = Choices::none(alloc);
+    let mut reader = FromRead::new(stream);
+    let mut writer = FromWrite::new(other);
+    bsc.run(&mut reader, &mut writer, &choices);
+}
+
+/// Connects once the BSC is registered, and answers the centre until the connection ends; or does nothing, where no BSC is
+/// simulated.
+pub(crate) fn simulate<
+    L: Ledger,
+    E: Drop,
+    R: Wait + Net<Stream = TcpStream, Listener = TcpListener>,
+>(rt: &R, shared: &Shared<L, E>, port: &Port<L>) {
+    if shared.with_simulator && port.wait_simulated(rt) {
+        if let Ok(stream) = TcpStream::connect(rt, port.address) {
+            answer(shared.alloc, stream);
+        }
+    }
+}
