@@ -1,11 +1,13 @@
 //! What no clause says of a simulated BSC: that it answers, by worked frames; how a conversation ends; readers and writers
 //! that fail at every place of a short stream.
 
+ghost use Rattle.cbsp_messages.specs.Written.{Fits};
+
 use bsc_sim::{Bsc, Choices, SimEnd};
 use cbsp_ie::{Cause, Cell, CellIds, ElementId};
 use cbsp_messages::{Kill, Message, MessageFault, MessageType, StatusQuery, write};
 use framing::faulty::{EndsAtRead, FailsAfter, FailsAtRead, InPieces};
-use framing::{FromRead, FromWrite};
+use framing::{FromRead, FromWrite, Source};
 use std::alloc::Global;
 use std::process::Abort;
 
@@ -275,29 +277,37 @@ fn an_order_in_9000_cells_is_carried_out(rt: HostRuntime) {
     kill_is_answered(&rt, rt.alloc(), 9001, MessageType::ErrorIndication, 8);
 }
 
+/// A conversation with a BSC of every cell ends so.
+fn ends(rt: &impl Abort, alloc: Global, frames: &[&str], end: SimEnd, replies: &[&str]) {
+    let mut bsc = Bsc::any(alloc);
+    let choices = Choices::none(alloc);
+    converses(rt, alloc, &mut bsc, &choices, frames, end, replies);
+}
+
 #[test]
 fn each_conversation_ends_by_its_cause(rt: HostRuntime) {
     let id = ElementId::MessageIdentifier;
-    for (frames, end, replies) in &[
-        (["", ""], SimEnd::PeerEnded, ["", ""]),
-        ([KILL, "04000010"], SimEnd::CutFrame, [KILL_REFUSED, ""]),
-        (
-            ["040000060e11120e1112", KILL],
-            SimEnd::BadMessage(MessageFault::Repeated { id }),
-            ["", ""],
-        ),
-        (
-            [KILL, "16000000"],
-            SimEnd::BadMessage(MessageFault::NotInProfile),
-            [KILL_REFUSED, ""],
-        ),
-        ([KILL, "02040001"], SimEnd::TooLong, [KILL_REFUSED, ""]),
-        (["02040000", KILL], SimEnd::CutFrame, ["", ""]),
-    ] {
-        let mut bsc = Bsc::any(rt.alloc());
-        let choices = Choices::none(rt.alloc());
-        converses(&rt, rt.alloc(), &mut bsc, &choices, frames, *end, replies);
-    }
+    let twice = SimEnd::BadMessage(MessageFault::Repeated { id });
+    let other = SimEnd::BadMessage(MessageFault::NotInProfile);
+    let alloc = rt.alloc();
+    ends(&rt, alloc, &[], SimEnd::PeerEnded, &[]);
+    ends(
+        &rt,
+        alloc,
+        &[KILL, "04000010"],
+        SimEnd::CutFrame,
+        &[KILL_REFUSED],
+    );
+    ends(&rt, alloc, &["02040000", KILL], SimEnd::CutFrame, &[]);
+    ends(&rt, alloc, &["040000060e11120e1112", KILL], twice, &[]);
+    ends(&rt, alloc, &[KILL, "16000000"], other, &[KILL_REFUSED]);
+    ends(
+        &rt,
+        alloc,
+        &[KILL, "02040001"],
+        SimEnd::TooLong,
+        &[KILL_REFUSED],
+    );
 }
 
 /// The answer to the KILL where the message isn't on air.
@@ -306,81 +316,92 @@ const KILL_REFUSED: &str = "060000110e111202c000 090006010064000702 1200";
 /// How many octets of the stream of the two frames make a whole frame.
 const FRAME_ENDS: [usize; 2] = [116, 136];
 
-/// Each octet of a stream of two frames is read alone, and from one read on there is a failure or the end.
-fn breaks_at_read(rt: &impl Abort, alloc: Global, read: u64, fails: bool) {
-    let octets = stream(rt, alloc, &[WRITE, KILL]);
-    let mut bsc = Bsc::any(alloc);
-    let choices = Choices::none(alloc);
-    let source = InPieces::new(FromRead::new(octets.as_slice()), 1);
+/// A conversation over the reader ends so, and what it writes is the answers to the frames that are whole then.
+fn came<R: Source>(rt: &impl Abort, alloc: Global, reader: &mut R, octets: usize, end: SimEnd) {
     let mut writer = FromWrite::new(Vec::new(alloc));
-    let end = if fails {
-        let mut reader = FailsAtRead::new(source, read);
-        bsc.run(&mut reader, &mut writer, &choices)
+    let ended = Bsc::any(alloc).run(reader, &mut writer, &Choices::none(alloc));
+    assert_eq!(rt; ended, end, "after {octets} octets");
+    let [first, second] = FRAME_ENDS;
+    let replies = if octets < first {
+        due(rt, alloc, &[])
+    } else if octets < second {
+        due(rt, alloc, &[WRITTEN])
     } else {
-        let mut reader = EndsAtRead::new(source, read);
-        bsc.run(&mut reader, &mut writer, &choices)
+        due(rt, alloc, &[WRITTEN, KILLED])
     };
-    let came = read as usize - 1;
-    let whole = came == 0 || came == FRAME_ENDS[0] || came >= FRAME_ENDS[1];
-    let want = match (fails && came <= 136, whole) {
-        (true, _) => SimEnd::ReadFault,
-        (false, true) => SimEnd::PeerEnded,
-        (false, false) => SimEnd::CutFrame,
-    };
-    assert_eq!(rt; end, want, "at read {read}");
-    let replies = [WRITTEN, KILLED];
-    let answered = FRAME_ENDS.iter().filter(|end| **end <= came).count();
+    let wrote = writer.into_inner();
     assert!(rt;
-        writer.into_inner().as_slice() == due(rt, alloc, &replies[..answered]).as_slice(),
-        "at read {read}"
+        wrote.as_slice() == replies.as_slice(),
+        "after {octets} octets"
     );
+}
+
+/// A read fails after so many octets, each read alone.
+fn fails_after(rt: &impl Abort, alloc: Global, octets: &[u8], count: u8) {
+    let source = InPieces::new(FromRead::new(octets), 1);
+    let mut reader = FailsAtRead::new(source, u64::from(count) + 1);
+    came(
+        rt,
+        alloc,
+        &mut reader,
+        usize::from(count),
+        SimEnd::ReadFault,
+    );
+}
+
+/// The stream ends after so many octets, each read alone.
+fn ends_after(rt: &impl Abort, alloc: Global, octets: &[u8], count: u8) {
+    let source = InPieces::new(FromRead::new(octets), 1);
+    let mut reader = EndsAtRead::new(source, u64::from(count) + 1);
+    let end = match count {
+        0 | 116 | 136 => SimEnd::PeerEnded,
+        _ => SimEnd::CutFrame,
+    };
+    came(rt, alloc, &mut reader, usize::from(count), end);
 }
 
 #[test]
 fn reads_that_fail_or_end_keep_the_answers_before(rt: HostRuntime) {
-    for read in 1..139 {
-        breaks_at_read(&rt, rt.alloc(), read, true);
-        breaks_at_read(&rt, rt.alloc(), read, false);
+    let octets = stream(&rt, rt.alloc(), &[WRITE, KILL]);
+    for count in 0..=136u8 {
+        fails_after(&rt, rt.alloc(), &octets, count);
+        ends_after(&rt, rt.alloc(), &octets, count);
     }
 }
 
-/// A writer that takes so many octets, one at a time.
-fn breaks_at_write(rt: &impl Abort, alloc: Global, room: usize) {
-    let octets = stream(rt, alloc, &[WRITE, KILL]);
-    let mut bsc = Bsc::any(alloc);
-    let choices = Choices::none(alloc);
-    let mut reader = FromRead::new(octets.as_slice());
+/// A writer takes so many octets of those that are due, one at a time.
+fn takes(rt: &impl Abort, alloc: Global, octets: &[u8], room: usize, due: &[u8]) {
     let sink = InPieces::new(FromWrite::new(Vec::new(alloc)), 1);
     let mut writer = FailsAfter::new(sink, room);
-    let end = bsc.run(&mut reader, &mut writer, &choices);
-    let all = due(rt, alloc, &[WRITTEN, KILLED]);
-    let want = if room < all.len() {
-        SimEnd::WriteFault
-    } else {
-        SimEnd::PeerEnded
-    };
-    assert_eq!(rt; end, want, "room for {room}");
+    let mut reader = FromRead::new(octets);
+    let ended = Bsc::any(alloc).run(&mut reader, &mut writer, &Choices::none(alloc));
+    let is_whole = room == due.len();
+    assert_eq!(rt; ended == SimEnd::PeerEnded, is_whole, "room for {room}");
+    assert_eq!(rt; ended == SimEnd::WriteFault, !is_whole, "room for {room}");
     let wrote = writer.into_inner().into_inner().into_inner();
     assert!(rt;
-        Some(wrote.as_slice()) == all.get(..room),
+        Some(wrote.as_slice()) == due.get(..room),
         "room for {room}"
     );
 }
 
 #[test]
 fn writers_that_fail_have_taken_what_came_before(rt: HostRuntime) {
-    for room in 0..65 {
-        breaks_at_write(&rt, rt.alloc(), room);
+    let octets = stream(&rt, rt.alloc(), &[WRITE, KILL]);
+    let all = due(&rt, rt.alloc(), &[WRITTEN, KILLED]);
+    assert_eq!(rt; all.len(), 64);
+    for room in 0..=64 {
+        takes(&rt, rt.alloc(), &octets, room, &all);
     }
 }
 
 /// A message's frame is this.
-fn is_frame(rt: &impl Abort, alloc: Global, message: Message, frame: &str) {
-    let octets = write(alloc, &message);
-    drop(message);
-    let mut want = Vec::new(alloc);
-    add_octets(rt, frame, &mut want);
-    assert!(rt; octets.expect(rt, "memory").as_slice() == want.as_slice());
+fn is_frame(rt: &impl Abort, alloc: Global, message: &Message, frame: &str)
+    requires { Fits message.now }
+{
+    let octets = write(alloc, message).expect(rt, "memory");
+    let want = stream(rt, alloc, &[frame]);
+    assert!(rt; octets.as_slice() == want.as_slice());
 }
 
 #[test]
@@ -390,12 +411,15 @@ fn every_call_answers(rt: HostRuntime) {
     let mut bsc = Bsc::new(alloc, &seven).expect(&rt, "memory");
     kill_is_answered(&rt, alloc, 1, MessageType::KillFailure, 21);
     let failure = bsc.fail(&seven, Cause::CELL_BROADCAST_NOT_OPERATIONAL);
-    let frame = "1400000b0900060100640007 0a 1600";
-    is_frame(&rt, alloc, failure.expect(&rt, "memory"), frame);
+    let failure = failure.expect(&rt, "memory");
+    is_frame(&rt, alloc, &failure, "1400000b09000601006400070a1600");
+    drop(failure);
     let kept = bsc.restart(false).expect(&rt, "memory");
-    is_frame(&rt, alloc, kept, "130000080400010616000d00");
+    is_frame(&rt, alloc, &kept, "130000080400010616000d00");
+    drop(kept);
     let lost = bsc.restart(true).expect(&rt, "memory");
-    is_frame(&rt, alloc, lost, "130000080400010616000d01");
+    is_frame(&rt, alloc, &lost, "130000080400010616000d01");
+    drop(lost);
     for (end, number) in &[(SimEnd::PeerEnded, 1), (SimEnd::Memory, 7)] {
         assert_eq!(rt; end.number(), *number);
     }
