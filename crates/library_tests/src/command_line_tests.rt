@@ -71,6 +71,7 @@ fn ran(rt: &impl Abort, alloc: Global, words: &[&str], script: &[u8]) -> Ended {
     let mut writer = FromWrite::new(Vec::new(alloc));
     let mut errors = FromWrite::new(Vec::new(alloc));
     let status = run(alloc, &owned, &mut reader, &mut writer, &mut errors);
+    let status = status.expect(rt, "no server is asked for");
     Ended {
         status,
         wrote: writer.into_inner(),
@@ -107,7 +108,7 @@ fn are_refused(rt: &impl Abort, alloc: Global, words: &[&str]) {
 fn other_command_lines_are_refused(rt: HostRuntime) {
     let refused: [&[&str]; 7] = [
         &["cbc"],
-        &["cbc", "serve"],
+        &["cbc", "serve", "script"],
         &["cbc", "replay", "script"],
         &["cbc", "replay", "--journal", "0"],
         &["cbc", "replay", "--journal", "4000001"],
@@ -166,6 +167,7 @@ fn help_that_is_cut_short_is_a_fault(rt: HostRuntime) {
     let mut writer = FailsAfter::new(FromWrite::new(Vec::new(alloc)), 2);
     let mut errors = FromWrite::new(Vec::new(alloc));
     let status = run(alloc, &words, &mut reader, &mut writer, &mut errors);
+    let status = status.expect(&rt, "no server is asked for");
     let wrote = writer.into_inner().into_inner();
     assert_eq!(rt; wrote.as_slice().len(), 2);
     says(
@@ -197,6 +199,7 @@ fn a_read_fault_is_said(rt: HostRuntime) {
     let mut writer = FromWrite::new(Vec::new(alloc));
     let mut errors = FromWrite::new(Vec::new(alloc));
     let status = run(alloc, &words, &mut reader, &mut writer, &mut errors);
+    let status = status.expect(&rt, "no server is asked for");
     let wrote = writer.into_inner();
     assert!(rt; wrote.as_slice() == b"ok 1\n".as_slice());
     says(
@@ -215,6 +218,7 @@ fn a_write_fault_is_said(rt: HostRuntime) {
     let mut writer = FailsAfter::new(FromWrite::new(Vec::new(alloc)), 2);
     let mut errors = FromWrite::new(Vec::new(alloc));
     let status = run(alloc, &words, &mut reader, &mut writer, &mut errors);
+    let status = status.expect(&rt, "no server is asked for");
     let wrote = writer.into_inner().into_inner();
     assert!(rt; wrote.as_slice() == b"ok".as_slice());
     says(
@@ -223,4 +227,18 @@ fn a_write_fault_is_said(rt: HostRuntime) {
         errors.into_inner().as_slice(),
         "cbc: write fault\n",
     );
+}
+
+/// A command line that asks for the server is left to it: nothing is read or written.
+#[test]
+fn the_server_is_asked_for(rt: HostRuntime) {
+    let alloc = rt.alloc();
+    let words = owned(&rt, alloc, &["cbc", "serve", "--links", "2", "--sim"]);
+    let mut reader = FromRead::new(b"bsc add 1\n".as_slice());
+    let mut writer = FromWrite::new(Vec::new(alloc));
+    let mut errors = FromWrite::new(Vec::new(alloc));
+    let status = run(alloc, &words, &mut reader, &mut writer, &mut errors);
+    assert_eq!(rt; status, None);
+    assert!(rt; writer.into_inner().is_empty());
+    assert!(rt; errors.into_inner().is_empty());
 }

@@ -48,12 +48,18 @@ mod report_tests;
 #[cfg(test)]
 mod serial_tests;
 #[cfg(test)]
+mod server_tests;
+#[cfg(test)]
 mod simulated_bsc_tests;
 #[cfg(test)]
 mod stale_script;
 #[cfg(test)]
 mod stale_tests;
 #[cfg(test)]
+mod two_links_tests;
+#[cfg(test)]
 mod values;
+#[cfg(test)]
+mod waiting_tests;
 #[cfg(test)]
 mod write_side_tests;
