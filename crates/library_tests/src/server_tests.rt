@@ -104,7 +104,9 @@ fn run_server<
         + Threads
         + Wait,
     F: FnOnce(Operator) -> Vec<u8>,
->(rt: &R, alloc: Global, options: ServeOptions, operate: F) -> Served {
+>(rt: &R, alloc: Global, options: ServeOptions, operate: F) -> Served
+    requires { (f : _) (x : _) → F.pre f x }
+{
     let (typed, lines) = pipe(rt).expect(rt, "a pipe");
     let (answers, written) = pipe(rt).expect(rt, "a pipe");
     let (mut said, errors) = pipe(rt).expect(rt, "a pipe");
