@@ -85,12 +85,14 @@ impl<L: Ledger> Port<L> {
         true
     }
 
-    /// Ends a link: waits until its write side has ended, and answers how.
+    /// Ends a link: waits until its write side has ended, and answers how. `None` where the port is closing and the write side
+    /// didn't begin.
     pub(crate) fn finish<R: Wait>(&self, rt: &R) -> Option<End> {
         self.state.lock(rt).stream = None;
         let mut state = self.changed.wait_while(rt, self.state.lock(rt), |state| {
-            state.written.is_none()
+            state.written.is_none() && !(state.is_closing && state.job.is_some())
         });
+        state.job = None;
         state.written.take()
     }
 

@@ -45,6 +45,9 @@ impl Bucket {
             self.orders = self.orders.saturating_add(added).min(MOST_ORDERS);
             self.filled = now;
         }
+        if self.orders == MOST_ORDERS {
+            self.was_told = false;
+        }
         if self.orders == 0 {
             return false;
         }
@@ -52,7 +55,7 @@ impl Bucket {
         true
     }
 
-    /// Whether it is the first time that an order has to wait since there were orders enough.
+    /// Whether it is the first time that an order has to wait since as many might go out as at the beginning.
     fn is_first(&mut self) -> bool {
         let is_first = !self.was_told;
         self.was_told = true;

@@ -131,15 +131,11 @@ fn close_all<L: Ledger, R: Wait + Clock + Net<Stream = TcpStream, Listener = Tcp
     }
 }
 
-/// Says that a thread of the BSC's port can't be started.
-fn tell_no_thread<L: Ledger, E: Write + Drop, R: Wait>(rt: &R, shared: &Shared<L, E>, b: BscId) {
-    tell(
-        rt,
-        shared.alloc,
-        &shared.errors,
-        b,
-        "no thread can be started",
-    );
+/// Closes a port of which a thread can't be started, and says so.
+fn close_port<L: Ledger, E: Write + Drop, R: Wait>(rt: &R, shared: &Shared<L, E>, port: &Port<L>) {
+    port.close(rt);
+    let why = "no thread can be started: its port is closed";
+    tell(rt, shared.alloc, &shared.errors, port.bsc, why);
 }
 
 /// Answers the lines of the operator while simulated BSCs answer the centre, and has all ports close.
@@ -159,7 +155,7 @@ fn run_simulators<
     thread::scope(thread::scope_env(), rt, move |scope| {
         for port in ports {
             if scope.spawn(move || simulate(rt, shared, port)).is_err() {
-                tell_no_thread(rt, shared, port.bsc);
+                close_port(rt, shared, port);
             }
         }
         let result = operate(rt, shared, terminal);
@@ -185,7 +181,7 @@ fn run_writers<
     thread::scope(thread::scope_env(), rt, move |scope| {
         for port in ports {
             if scope.spawn(move || write_links(rt, shared, port)).is_err() {
-                tell_no_thread(rt, shared, port.bsc);
+                close_port(rt, shared, port);
             }
         }
         run_simulators(rt, shared, ports, terminal)
@@ -209,7 +205,7 @@ fn run_threads<
     thread::scope(thread::scope_env(), rt, move |scope| {
         for port in ports {
             if scope.spawn(move || read_links(rt, shared, port)).is_err() {
-                tell_no_thread(rt, shared, port.bsc);
+                close_port(rt, shared, port);
             }
         }
         run_writers(rt, shared, ports, terminal)

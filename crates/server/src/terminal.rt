@@ -3,7 +3,7 @@
 use console::ReplayFault;
 use office::desk::Desk;
 use std::alloc::Global;
-use std::io::{BufRead, Write};
+use std::io::{BufRead, Error, ErrorKind, Write};
 use std::sync::ledger::Ledger;
 
 /// The most octets that a line may have, without its end.
@@ -15,6 +15,15 @@ pub(crate) struct Terminal<L: Ledger, I: Drop, W: Drop> {
     pub(crate) reader: I,
     pub(crate) writer: W,
     pub(crate) desk: Option<Desk<L>>,
+}
+
+/// The fault of a read.
+fn fault_of(error: &Error) -> ReplayFault {
+    if error.kind() == ErrorKind::OutOfMemory {
+        ReplayFault::Memory
+    } else {
+        ReplayFault::ReadFault
+    }
 }
 
 /// The line without its end: one 0A, and one 0D before that.
@@ -34,7 +43,7 @@ impl<L: Ledger, I: BufRead + Drop, W: Write + Drop> Terminal<L, I, W> {
         match self.reader.read_until(b'\n', &mut line) {
             Ok(0) => return Ok(None),
             Ok(_) => {}
-            Err(_) => return Err(ReplayFault::ReadFault),
+            Err(error) => return Err(fault_of(&error)),
         }
         let front = without_end(line.as_slice());
         if front.len() > LONGEST_LINE {
