@@ -84,13 +84,15 @@ fn is_cut_everywhere(alloc: Global, kind: u8, body: &[u8], elements: &[&[u8]]) -
     Ok(true)
 }
 
-/// An element that stands a second time is Repeated, and a page too many is BadPages.
+/// An element that stands a second time is Repeated. A page too many is BadPages in a WRITE-REPLACE, and passed over in every other
+/// message.
 fn repeats_are_named(alloc: Global, kind: u8, body: &[u8], elements: &[&[u8]]) -> Result<bool> {
     for element in elements {
         let first = element.first().copied().unwrap_or(0);
         let is_named = match fault_with(alloc, kind, body, element)? {
             Some(MessageFault::Repeated { id }) => id.code() == first && first != 0x01,
-            Some(MessageFault::BadPages) => first == 0x01,
+            Some(MessageFault::BadPages) => first == 0x01 && kind == 0x01,
+            None => first == 0x01 && kind != 0x01,
             _ => false,
         };
         if !is_named {
