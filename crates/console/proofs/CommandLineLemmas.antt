@@ -6,6 +6,7 @@ use Rattle.std.specs.Borrow.{Bor}
 use Rattle.std.specs.Box.{box_value}
 use Rattle.std.specs.Str.Parse.{ExplainsUnsignedError, HasUnsignedDigitsIfOk, ParsesUnsigned, digits_value, without_leading_plus}
 use Rattle.std.specs.declared.num.ParseIntError.{ParseIntError}
+use Rattle.std.proofs.lemmas.Bool.{false_from_ne_true}
 use Rattle.std.proofs.lemmas.Slice.Eq.{bytes_eq-Decides}
 use Rattle.clap.specs.ValueTests.{accepts}
 use Rattle.clap.proofs.ValueTestLemmas.{Accepts-accepts, accepts-Accepts}
@@ -118,16 +119,12 @@ name_of_met : {Z : Type 0} (s : Option (Box SubCommand Z)) → option_map (λ p.
 name_of_met None = refl
 name_of_met (Some b) = refl
 
-bool_cases : (b : Bool) → (b ≡ true → ⊥) → false ≡ b
-bool_cases true other = absurd (other refl)
-bool_cases false other = refl
-
 -- the command that the parser met is `serve`, where its matches are found
 serve_named : {A : Type 0} (met : Option (Text × List Row)) (found : Option A) → IsSome found ↔ (option_map (λ p. p.0) met ≡ Some (codes "serve")) → is_some found ≡ meets_serve met
 serve_named None None is = refl
 serve_named None (Some a) is = cc (is.0 refl)
 serve_named (Some p) None is =
-    bool_cases (bytes_eq p.0 (codes "serve")) (λ same. let there : false ≡ true = is.1 (ap Some ((bytes_eq-Decides p.0 (codes "serve")).0 same)) in cc there)
+    sym (false_from_ne_true (bytes_eq p.0 (codes "serve")) (λ same. let there : false ≡ true = is.1 (ap Some ((bytes_eq-Decides p.0 (codes "serve")).0 same)) in cc there))
 serve_named (Some p) (Some a) is = sym ((bytes_eq-Decides p.0 (codes "serve")).1 (cc (is.0 refl)))
 
 pub met_serve : {A : Type 0} (m : ArgMatches) (found : Option A) → IsSome found ↔ (subcommand_name_of m ≡ Some (codes "serve")) → is_some found ≡ meets_serve (subcommand_rows_of m)

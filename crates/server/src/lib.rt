@@ -7,9 +7,11 @@
 
 mod edits;
 mod errors;
+mod fault;
 mod operator;
 mod options;
 mod port;
+mod ports;
 mod rate;
 mod reading;
 mod serving;

@@ -20,7 +20,7 @@ const ORDERS_A_SECOND: u64 = 20;
 /// How long an order waits before it is looked again whether it may go out, in milliseconds.
 const PAUSE: u64 = 50;
 
-/// How many orders may go out to a BSC just now, in the time that one takes to be added: twentieths of a second.
+/// How many orders may go out to a BSC just now.
 #[derive(Clone, Copy, Debug)]
 pub(crate) struct Bucket {
     orders: u64,

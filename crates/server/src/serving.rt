@@ -2,16 +2,17 @@
 
 ghost use Rattle.std.specs.Prelude.{◌≡◌};
 
-use crate::errors::{tell, tell_text};
+use crate::errors::tell_text;
+use crate::fault::ServeFault;
 use crate::operator::operate;
 use crate::options::{OptionsFault, ServeOptions, read_options};
 use crate::port::Port;
+use crate::ports::{bind_all, close_all, close_port, hand_in, open_desk, open_desks, push};
 use crate::reading::read_links;
 use crate::shared::Shared;
 use crate::simulating::simulate;
 use crate::terminal::Terminal;
 use crate::writing::write_links;
-use cell_register::BscId;
 use console::ReplayFault;
 use console::running::fault_words;
 use office::desk::Desk;
@@ -20,123 +21,11 @@ use std::alloc::Global;
 use std::io::{BufRead, Write};
 use std::marker::Brand;
 use std::net::{Net, TcpListener, TcpStream};
-use std::process::Abort;
 use std::sync::ledger::{Blank, Ledger};
 use std::sync::{Mutex, Wait};
+use std::thread;
 use std::thread::Threads;
-use std::time::{Clock, Duration};
-use std::{io, thread};
-
-/// How often a connection to a closing port is tried.
-const MOST_TRIES: u32 = 1_000;
-
-/// Why a run ended.
-#[derive(Clone, Copy, Debug, PartialEq, Eq)]
-enum ServeFault {
-    /// A port can't be listened on.
-    Listen,
-    /// The receipts of the desks aren't the journal's entries.
-    Settle,
-    /// The lines of the operator ended so.
-    Lines(ReplayFault),
-}
-
-/// Listens on the port of a BSC.
-fn bind<R: Net<Stream = TcpStream, Listener = TcpListener>, L: Ledger>(
-    rt: &R,
-    options: &ServeOptions,
-    b: BscId,
-    port: u16,
-) -> io::Result<Port<L>> {
-    let listener = TcpListener::bind(rt, (options.host.as_str(), port))?;
-    let address = listener.local_addr()?;
-    Ok(Port::new(b, listener, address))
-}
-
-/// Listens on the port of each BSC. What can't be listened on is said.
-fn bind_all<R: Wait + Net<Stream = TcpStream, Listener = TcpListener>, L: Ledger, E: Write + Drop>(
-    rt: &R,
-    alloc: Global,
-    options: &ServeOptions,
-    errors: &Mutex<E>,
-) -> Result<Vec<Port<L>>, ServeFault> {
-    let mut ports = Vec::new(alloc);
-    for k in 0..options.links {
-        let Some(b) = BscId::new(k.saturating_add(1)) else {
-            return Err(ServeFault::Listen);
-        };
-        let port = match options.base.checked_add(k) {
-            Some(number) => bind(rt, options, b, number),
-            None => return Err(ServeFault::Listen),
-        };
-        match port {
-            Ok(port) => push(&mut ports, port)?,
-            Err(error) => {
-                tell(rt, alloc, errors, b, error);
-                return Err(ServeFault::Listen);
-            }
-        }
-    }
-    Ok(ports)
-}
-
-fn push<T: Drop>(items: &mut Vec<T>, item: T) -> Result<(), ServeFault> {
-    match items.push(item) {
-        Ok(()) => Ok(()),
-        Err(_) => Err(ServeFault::Lines(ReplayFault::Memory)),
-    }
-}
-
-fn open_desk<L: Ledger, R: Wait>(rt: &R, office: &Office<L>) -> Result<Desk<L>, ServeFault> {
-    match office.open_desk(rt) {
-        Ok(desk) => Ok(desk),
-        Err(_) => Err(ServeFault::Lines(ReplayFault::Memory)),
-    }
-}
-
-/// Gives each port its two desks.
-fn open_desks<L: Ledger, R: Wait>(
-    rt: &R,
-    office: &Office<L>,
-    ports: &[Port<L>],
-) -> Result<(), ServeFault> {
-    for port in ports {
-        *port.read_desk.lock(rt) = Some(open_desk(rt, office)?);
-        *port.write_desk.lock(rt) = Some(open_desk(rt, office)?);
-    }
-    Ok(())
-}
-
-/// Ends a port's wait for a connection by one of the program's own.
-fn wake_up<L: Ledger, R: Wait + Clock + Net<Stream = TcpStream, Listener = TcpListener>>(
-    rt: &R,
-    port: &Port<L>,
-) {
-    for _ in 0..MOST_TRIES {
-        if TcpStream::connect(rt, port.address).is_ok() {
-            return;
-        }
-        thread::sleep(rt, Duration::from_millis(10));
-    }
-}
-
-/// Has all ports take no further connections, and shuts those that are there.
-fn close_all<L: Ledger, R: Wait + Clock + Net<Stream = TcpStream, Listener = TcpListener>>(
-    rt: &R,
-    ports: &[Port<L>],
-) {
-    for port in ports {
-        port.close(rt);
-        wake_up(rt, port);
-    }
-}
-
-/// Closes a port of which a thread can't be started, and says so.
-fn close_port<L: Ledger, E: Write + Drop, R: Wait>(rt: &R, shared: &Shared<L, E>, port: &Port<L>) {
-    port.close(rt);
-    let why = "no thread can be started: its port is closed";
-    tell(rt, shared.alloc, &shared.errors, port.bsc, why);
-}
+use std::time::Clock;
 
 /// Answers the lines of the operator while simulated BSCs answer the centre, and has all ports close.
 fn run_simulators<
@@ -210,23 +99,6 @@ fn run_threads<
         }
         run_writers(rt, shared, ports, terminal)
     })
-}
-
-/// Hands in the desks of the ports.
-fn hand_in<L: Ledger, R: Wait>(
-    rt: &R,
-    ports: &[Port<L>],
-    desks: &mut Vec<Desk<L>>,
-) -> Result<(), ServeFault> {
-    for port in ports {
-        if let Some(desk) = port.read_desk.lock(rt).take() {
-            push(desks, desk)?;
-        }
-        if let Some(desk) = port.write_desk.lock(rt).take() {
-            push(desks, desk)?;
-        }
-    }
-    Ok(())
 }
 
 /// The number of entries, once all desks are handed in.

@@ -1,0 +1,146 @@
+//! The ports of a server: opened, given their desks, and closed.
+
+use crate::errors::tell;
+use crate::fault::ServeFault;
+use crate::options::ServeOptions;
+use crate::port::Port;
+use crate::shared::Shared;
+use cell_register::BscId;
+use console::ReplayFault;
+use office::desk::Desk;
+use office::office::Office;
+use std::alloc::Global;
+use std::io::Write;
+use std::net::{Net, TcpListener, TcpStream};
+use std::sync::ledger::Ledger;
+use std::sync::{Mutex, Wait};
+use std::time::{Clock, Duration};
+use std::{io, thread};
+
+/// How often a connection to a closing port is tried.
+const MOST_TRIES: u32 = 1_000;
+
+/// Listens on the port of a BSC.
+fn bind<R: Net<Stream = TcpStream, Listener = TcpListener>, L: Ledger>(
+    rt: &R,
+    options: &ServeOptions,
+    b: BscId,
+    port: u16,
+) -> io::Result<Port<L>> {
+    let listener = TcpListener::bind(rt, (options.host.as_str(), port))?;
+    let address = listener.local_addr()?;
+    Ok(Port::new(b, listener, address))
+}
+
+/// Listens on the port of each BSC. What can't be listened on is said.
+pub(crate) fn bind_all<
+    R: Wait + Net<Stream = TcpStream, Listener = TcpListener>,
+    L: Ledger,
+    E: Write + Drop,
+>(
+    rt: &R,
+    alloc: Global,
+    options: &ServeOptions,
+    errors: &Mutex<E>,
+) -> Result<Vec<Port<L>>, ServeFault> {
+    let mut ports = Vec::new(alloc);
+    for k in 0..options.links {
+        let Some(b) = BscId::new(k.saturating_add(1)) else {
+            return Err(ServeFault::Listen);
+        };
+        let port = match options.base.checked_add(k) {
+            Some(number) => bind(rt, options, b, number),
+            None => return Err(ServeFault::Listen),
+        };
+        match port {
+            Ok(port) => push(&mut ports, port)?,
+            Err(error) => {
+                tell(rt, alloc, errors, b, error);
+                return Err(ServeFault::Listen);
+            }
+        }
+    }
+    Ok(ports)
+}
+
+pub(crate) fn push<T: Drop>(items: &mut Vec<T>, item: T) -> Result<(), ServeFault> {
+    match items.push(item) {
+        Ok(()) => Ok(()),
+        Err(_) => Err(ServeFault::Lines(ReplayFault::Memory)),
+    }
+}
+
+pub(crate) fn open_desk<L: Ledger, R: Wait>(
+    rt: &R,
+    office: &Office<L>,
+) -> Result<Desk<L>, ServeFault> {
+    match office.open_desk(rt) {
+        Ok(desk) => Ok(desk),
+        Err(_) => Err(ServeFault::Lines(ReplayFault::Memory)),
+    }
+}
+
+/// Gives each port its two desks.
+pub(crate) fn open_desks<L: Ledger, R: Wait>(
+    rt: &R,
+    office: &Office<L>,
+    ports: &[Port<L>],
+) -> Result<(), ServeFault> {
+    for port in ports {
+        *port.read_desk.lock(rt) = Some(open_desk(rt, office)?);
+        *port.write_desk.lock(rt) = Some(open_desk(rt, office)?);
+    }
+    Ok(())
+}
+
+/// Ends a port's wait for a connection by one of the program's own.
+fn wake_up<L: Ledger, R: Wait + Clock + Net<Stream = TcpStream, Listener = TcpListener>>(
+    rt: &R,
+    port: &Port<L>,
+) {
+    for _ in 0..MOST_TRIES {
+        if TcpStream::connect(rt, port.address).is_ok() {
+            return;
+        }
+        thread::sleep(rt, Duration::from_millis(10));
+    }
+}
+
+/// Has all ports take no further connections, and shuts those that are there.
+pub(crate) fn close_all<
+    L: Ledger,
+    R: Wait + Clock + Net<Stream = TcpStream, Listener = TcpListener>,
+>(rt: &R, ports: &[Port<L>]) {
+    for port in ports {
+        port.close(rt);
+        wake_up(rt, port);
+    }
+}
+
+/// Closes a port of which a thread can't be started, and says so.
+pub(crate) fn close_port<L: Ledger, E: Write + Drop, R: Wait>(
+    rt: &R,
+    shared: &Shared<L, E>,
+    port: &Port<L>,
+) {
+    port.close(rt);
+    let why = "no thread can be started: its port is closed";
+    tell(rt, shared.alloc, &shared.errors, port.bsc, why);
+}
+
+/// Hands in the desks of the ports.
+pub(crate) fn hand_in<L: Ledger, R: Wait>(
+    rt: &R,
+    ports: &[Port<L>],
+    desks: &mut Vec<Desk<L>>,
+) -> Result<(), ServeFault> {
+    for port in ports {
+        if let Some(desk) = port.read_desk.lock(rt).take() {
+            push(desks, desk)?;
+        }
+        if let Some(desk) = port.write_desk.lock(rt).take() {
+            push(desks, desk)?;
+        }
+    }
+    Ok(())
+}
