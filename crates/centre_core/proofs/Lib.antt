@@ -40,6 +40,7 @@ pub mod JoinLemmas
 pub mod StayLemmas
 pub mod BlankLineLemmas
 pub mod HoldLemmas
+mod IndicatedLemmas
 pub mod FinishLemmas
 pub mod MarkedLineLemmas
 pub mod SpotReachLemmas

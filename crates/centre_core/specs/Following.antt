@@ -1,5 +1,5 @@
 -- How what is kept follows an event: the lines on which it bears, as they stand before it and after.
-use Rattle.std.specs.Prelude.{◌≡◌, ℕ, ◌+◌, ◌≤◌, Bool, true, false, ◌&&◌, ◌||◌, not, List, [], ◌∷◌, Option, Some, None, Ok, length, map, unwrap_or, if◌then◌else◌}
+use Rattle.std.specs.Prelude.{◌≡◌, ℕ, ◌+◌, ◌≤◌, Bool, true, false, ◌&&◌, ◌||◌, not, nat_eq, List, [], ◌∷◌, Option, Some, None, Ok, length, map, unwrap_or, if◌then◌else◌}
 use Rattle.std.specs.List.{flat_map, list_any}
 use Rattle.areas.specs.Areas.{covers}
 use Rattle.areas.specs.declared.area.Area.{Area}
@@ -121,6 +121,15 @@ abbrev pub leaves_blank : Event → Answer → Bool
 leaves_blank (event.Retry b) answer = true
 leaves_blank (event.Report b generation message) (Listed cells) = true
 leaves_blank e answer = false
+
+-- each line that isn't blank is of a warning in the book
+abbrev pub AreInBook : book.State → Tables → Type 0
+AreInBook st t = (b : ℕ) (c : Cell) (n : ℕ) → is_blank (line_at t.lines b c n) ≡ false → list_any (nat_eq n) (book.numbers st.warnings) ≡ true
+
+-- the warnings on whose lines what happens bears, from those that were found: all in the book, where it is an indication or
+-- a Retry
+abbrev pub bearing : Event → Answer → book.State → List ℕ → List ℕ
+bearing e a st ns = if leaves_blank e a then book.numbers st.warnings else ns
 
 -- the line as it stands, if it does not stay so
 abbrev pub changing_line : Happens → register.State → List Area → book.State → Tables → LineKey → List Held

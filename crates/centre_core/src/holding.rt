@@ -1,13 +1,13 @@
 //! The lines on which an event bears, read before it.
 
-ghost use Rattle.std.specs.Prelude.{◌≡◌, ℕ, ◌≤◌, ◌+◌, ◌*◌, ◌++◌, ◌&&◌, ◌||◌, length, IfOk, OnOk};
+ghost use Rattle.std.specs.Prelude.{◌≡◌, ℕ, ◌≤◌, ◌+◌, ◌*◌, ◌++◌, ◌&&◌, ◌||◌, true, length, IfOk, OnOk};
 ghost use Rattle.std.specs.Option.{option_copied};
 ghost use Rattle.kept_tables.specs.Tables.{Tables};
 ghost use Rattle.kept_tables.specs.View.{key_of};
 ghost use Rattle.mirror.specs.Blank.{line_eq};
-ghost use Rattle.warning_book.specs.Book.{warning_of};
+ghost use Rattle.warning_book.specs.Book.{numbers, warning_of};
 ghost use Rattle.centre_events.specs.Down.{down_mark};
-ghost use Rattle.centre_core.specs.Following.{AsBefore, held_unless, held_at, held_lines, is_idle, keeps_down, leaves_blank, line_now, changing_line, changing_at, changing_lines};
+ghost use Rattle.centre_core.specs.Following.{AreInBook, AsBefore, bearing, held_unless, held_at, held_lines, is_idle, keeps_down, leaves_blank, line_now, changing_line, changing_at, changing_lines};
 
 use crate::facts::{facts_from, is_covered};
 use crate::following::line_now;
@@ -233,9 +233,76 @@ fn hold_changing_spot(
     Ok(())
 }
 
+/// Reads the lines in the cell at the BSC that an indication or a Retry may change, and holds those that it does not leave
+/// as they are. It leaves a blank line blank, so that only the lines that are kept are read where it leaves the cell down,
+/// or up, as it was. Else those of all warnings are.
+fn hold_indicated_spot(
+    out: &mut Vec<Held>,
+    alloc: Global,
+    h: &Happening<'_, '_>,
+    register: &Register,
+    areas: &Areas,
+    book: &Book,
+    tables: &mut KeptTables,
+    b: BscId,
+    c: Cell,
+    all: &[WarningId],
+) -> Result<(), AllocError>
+    requires blank { leaves_blank h.now.event.now h.now.answer.now ≡ true }
+    requires all { all.now ≡ numbers book.now.warnings }
+    ensures held { (t : Tables) → AsBefore t tables.old → OnOk result (out.new.items ≡ out.old.items ++ changing_at (record { event = h.now.event.now; answer = h.now.answer.now; up = h.now.up; flight = option_copied h.now.flight }) register.now areas.now book.now t all.now (record { bsc = b; cell = c })) }
+    ensures kept { (t : Tables) → AsBefore t tables.old → AsBefore t tables.new }
+    ensures meter { AreInBook book.now tables.old → tables.new.lines.meter ≤ tables.old.lines.meter + length all.now }
+{
+    book.tell_soundness();
+    if !keeps_down(h, b, c, tables.is_down(b, c)) {
+        hold_changing_spot(out, alloc, h, register, areas, book, tables, b, c, all)?;
+        return Ok(());
+    }
+    let known = tables.lines().warnings_at(b, c)?;
+    let known = known.as_slice();
+    hold_changing_spot(out, alloc, h, register, areas, book, tables, b, c, known)?;
+    Ok(())
+}
+
+/// Reads the lines at each of the spots that an indication or a Retry may change, and holds those that it does not leave as
+/// they are.
+fn hold_indicated(
+    alloc: Global,
+    h: &Happening<'_, '_>,
+    register: &Register,
+    areas: &Areas,
+    book: &Book,
+    tables: &mut KeptTables,
+    spots: &[Spot],
+) -> Result<Vec<Held>, AllocError>
+    requires blank { leaves_blank h.now.event.now h.now.answer.now ≡ true }
+    ensures held { (t : Tables) → AsBefore t tables.old → IfOk result (λ v. v.items ≡ changing_lines (record { event = h.now.event.now; answer = h.now.answer.now; up = h.now.up; flight = option_copied h.now.flight }) register.now areas.now book.now t spots.now (numbers book.now.warnings)) }
+    ensures kept { (t : Tables) → AsBefore t tables.old → AsBefore t tables.new }
+    ensures meter { AreInBook book.now tables.old → tables.new.lines.meter ≤ tables.old.lines.meter + length spots.now * length (numbers book.now.warnings) }
+{
+    let all = book.warnings()?;
+    let mut out = Vec::new(alloc);
+    for spot in spots {
+        hold_indicated_spot(
+            &mut out,
+            alloc,
+            h,
+            register,
+            areas,
+            book,
+            tables,
+            spot.bsc,
+            spot.cell,
+            all.as_slice(),
+        )?;
+    }
+    Ok(out)
+}
+
 /// Reads the lines of each of the warnings at each of the spots, and holds those that what happens does not leave as they
 /// are.
-pub(crate) fn hold_changing(
+fn hold_named(
     alloc: Global,
     h: &Happening<'_, '_>,
     register: &Register,
@@ -256,4 +323,28 @@ pub(crate) fn hold_changing(
         )?;
     }
     Ok(out)
+}
+
+/// Reads the lines at the spots on which what happens bears, and holds those that it does not leave as they are. The
+/// warnings are those that were found; an indication and a Retry bear on all.
+pub(crate) fn hold_changing(
+    alloc: Global,
+    h: &Happening<'_, '_>,
+    register: &Register,
+    areas: &Areas,
+    book: &Book,
+    tables: &mut KeptTables,
+    spots: &[Spot],
+    warnings: &[WarningId],
+) -> Result<Vec<Held>, AllocError>
+    ensures held { (t : Tables) → AsBefore t tables.old → IfOk result (λ v. v.items ≡ changing_lines (record { event = h.now.event.now; answer = h.now.answer.now; up = h.now.up; flight = option_copied h.now.flight }) register.now areas.now book.now t spots.now (bearing h.now.event.now h.now.answer.now book.now warnings.now)) }
+    ensures kept { (t : Tables) → AsBefore t tables.old → AsBefore t tables.new }
+    ensures meter { AreInBook book.now tables.old → tables.new.lines.meter ≤ tables.old.lines.meter + length spots.now * length (bearing h.now.event.now h.now.answer.now book.now warnings.now) }
+{
+    if leaves_blank(h) {
+        let held = hold_indicated(alloc, h, register, areas, book, tables, spots)?;
+        return Ok(held);
+    }
+    let held = hold_named(alloc, h, register, areas, book, tables, spots, warnings)?;
+    Ok(held)
 }

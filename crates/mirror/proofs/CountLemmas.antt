@@ -153,7 +153,7 @@ one_fewer {A} test (y ∷ ys) h = step (test y) (one_fewer test ys) h
     step false rest g = let few = rest g in omega arith
 
 -- a list in which nothing stands twice is no longer than one that has all of it
-once_few : {A : Type 0} (same : A → A → Bool) → DecidesAll same → (xs ys : List A) → each_once same xs ≡ true → ((z : A) → list_any (λ x. same x z) xs ≡ true → list_any (λ y. same y z) ys ≡ true) → length xs ≤ length ys
+pub once_few : {A : Type 0} (same : A → A → Bool) → DecidesAll same → (xs ys : List A) → each_once same xs ≡ true → ((z : A) → list_any (λ x. same x z) xs ≡ true → list_any (λ y. same y z) ys ≡ true) → length xs ≤ length ys
 once_few same d [] ys once all = omega arith
 once_few {A} same d (x ∷ xs) ys once all =
     let shorter = one_fewer (λ y. same y x) ys (all x (ap (λ t. t || list_any (λ y. same y x) xs) ((d x x).1 refl))) in

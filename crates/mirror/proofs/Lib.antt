@@ -4,3 +4,4 @@ mod GatherLemmas
 mod OnAirLemmas
 mod CountLemmas
 mod OwnLemmas
+mod CellLineLemmas

@@ -61,14 +61,14 @@ begins_with b c [] = false
 begins_with b c (e ∷ es) = is_slot_in b c e.0
 
 -- a slot before a cell's first isn't the cell's
-before_first : (b : ℕ) (c : Cell) (s : Slot) → range_contains slot_cmp (Included (slot_of b c 0)) (Excluded (least_slot (b + 1))) s ≡ false → is_slot_in b c s ≡ false
+pub before_first : (b : ℕ) (c : Cell) (s : Slot) → range_contains slot_cmp (Included (slot_of b c 0)) (Excluded (least_slot (b + 1))) s ≡ false → is_slot_in b c s ≡ false
 before_first b c s h = grind (arith, nat_tests, common_steps)
 
 -- and none after one that comes behind the cell's
 after_last : (b : ℕ) (c : Cell) (s t : Slot) → range_contains slot_cmp (Included (slot_of b c 0)) (Excluded (least_slot (b + 1))) s ≡ true → is_slot_in b c s ≡ false → slot_cmp s t ≡ Less → is_slot_in b c t ≡ false
 after_last b c s t h g l = grind (arith, nat_tests, common_steps)
 
-none_after : (b : ℕ) (c : Cell) (s : Slot) → range_contains slot_cmp (Included (slot_of b c 0)) (Excluded (least_slot (b + 1))) s ≡ true → is_slot_in b c s ≡ false → (es : List (Slot × Line)) → AllByRecursion (λ t. slot_cmp s t ≡ Less) (keys_of es) → false ≡ list_any (λ e. is_slot_in b c e.0) es
+pub none_after : (b : ℕ) (c : Cell) (s : Slot) → range_contains slot_cmp (Included (slot_of b c 0)) (Excluded (least_slot (b + 1))) s ≡ true → is_slot_in b c s ≡ false → (es : List (Slot × Line)) → AllByRecursion (λ t. slot_cmp s t ≡ Less) (keys_of es) → false ≡ list_any (λ e. is_slot_in b c e.0) es
 none_after b c s h g [] l = refl
 none_after b c s h g (e ∷ es) l = none_after b c s h g es l.1 ∙ ap (λ t. t || list_any (λ x. is_slot_in b c x.0) es) (sym (after_last b c s e.0 h g l.0))
 

@@ -1,5 +1,6 @@
--- Which cells are known at a BSC, and which of them a report names (TS 48.049, 8.2.6).
-use Rattle.std.specs.Prelude.{ℕ, Bool, ◌||◌, List, Option, Some, None}
+-- Which cells are known at a BSC, of which warnings something is kept in one of them, and which of them a report names
+-- (TS 48.049, 8.2.6).
+use Rattle.std.specs.Prelude.{ℕ, Bool, ◌||◌, List, Option, Some, None, filter, map}
 use Rattle.std.specs.List.{list_any, list_all}
 use Rattle.std.specs.Option.{is_some}
 use Rattle.cbsp_ie.specs.CellId.{names}
@@ -7,11 +8,15 @@ use Rattle.cbsp_ie.specs.declared.cell_id.CellId.{CellId}
 use Rattle.cbsp_ie.specs.declared.cell_id.CellId.TheVariants as id
 use Rattle.cell_register.specs.Register.{State, place_in, is_place}
 use Rattle.common.specs.declared.cell.Cell.{Cell}
-use Rattle.mirror.specs.Table.{Table, down_at, has_line}
+use Rattle.mirror.specs.Table.{Table, down_at, has_line, is_slot_in}
 
 -- the cell is registered at the BSC, or it is down there, or something is kept of a warning in it there
 abbrev pub is_known : Table → State → ℕ → Cell → Bool
 is_known t r b c = is_place (place_in r c) b || (down_at t b c || has_line t b c)
+
+-- the numbers of the warnings of which a line is kept in the cell at the BSC
+abbrev pub warnings_at : Table → ℕ → Cell → List ℕ
+warnings_at t b c = map (λ e. e.0.warning) (filter (λ e. is_slot_in b c e.0) t.lines)
 
 -- one of the identifications names the cell, where the centre's network is plmn
 abbrev pub is_named : List ℕ → List CellId → Cell → Bool

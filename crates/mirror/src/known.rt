@@ -1,16 +1,20 @@
-//! Whether one cell is known at a BSC.
+//! Whether one cell is known at a BSC, and of which warnings something is kept in it.
 
-ghost use Rattle.std.specs.Prelude.{◌≡◌};
+ghost use Rattle.std.specs.Prelude.{◌≡◌, filter, map, IfOk};
+ghost use Rattle.std.specs.BTreeMap.{IsOrdered};
 ghost use Rattle.std.specs.List.{list_any};
 ghost use Rattle.cell_register.specs.Register.{place_in, is_place};
+ghost use Rattle.mirror.specs.Order.{slot_cmp};
 ghost use Rattle.mirror.specs.Table.{is_slot_in};
 
 use crate::line::Line;
 use crate::slot::Slot;
 use cell_register::{BscId, Register};
 use common::Cell;
+use std::alloc::{AllocError, Global};
 use std::collections::BTreeMap;
 use std::ops::Bound;
+use warning_book::WarningId;
 
 /// Whether the cell is registered at the BSC.
 pub(crate) fn is_registered(register: &Register, b: BscId, c: Cell) -> bool
@@ -35,4 +39,26 @@ pub(crate) fn has_line(lines: &BTreeMap<Slot, Line>, b: BscId, c: Cell) -> bool
         Some((slot, _)) => bsc == slot.bsc && c == slot.cell,
         None => false,
     }
+}
+
+/// The numbers of the warnings of which a line of the BSC and the cell is kept, in ascending order. The lines of the cell
+/// stand side by side; no line of another cell but the next is looked at.
+pub(crate) fn warnings_at(
+    alloc: Global,
+    lines: &BTreeMap<Slot, Line>,
+    b: BscId,
+    c: Cell,
+) -> Result<Vec<WarningId>, AllocError>
+    ensures warnings { IfOk result (λ ws. ws.items ≡ map (λ e. e.0.warning) (filter (λ e. is_slot_in b c e.0) lines.now.entries)) }
+    ensures ordered { IsOrdered slot_cmp lines.now }
+{
+    let bsc = u32::from(b.number());
+    let mut warnings = Vec::new(alloc);
+    for (slot, _) in lines.range(Slot::first_of(b, c)..Slot::least(bsc + 1)) {
+        if !slot.is_in(b, c) {
+            return Ok(warnings);
+        }
+        warnings.push(WarningId::new(slot.warning))?;
+    }
+    Ok(warnings)
 }

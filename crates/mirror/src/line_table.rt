@@ -1,6 +1,6 @@
 //! The lines of all BSCs, cells and warnings, and which cells are down.
 
-ghost use Rattle.std.specs.Prelude.{◌≡◌, ◌≤◌, ◌<◌, ◌+◌, ◌-◌, ◌^◌, ◌&&◌, ◌||◌, ℕ, true, false, if◌then◌else◌, nat_eq, List, length, take, OnOk, OnErr, IfOk};
+ghost use Rattle.std.specs.Prelude.{◌≡◌, ◌≤◌, ◌<◌, ◌+◌, ◌-◌, ◌^◌, ◌&&◌, ◌||◌, ℕ, true, false, not, if◌then◌else◌, nat_eq, ltb, List, length, take, OnOk, OnErr, IfOk};
 ghost use Rattle.std.specs.List.{list_any};
 ghost use Rattle.common.specs.Cell.{cell_eq, cell_lt};
 ghost use Rattle.common.specs.Order.{is_ascending};
@@ -8,11 +8,11 @@ ghost use Rattle.common.specs.declared.cell.Cell.{Cell};
 ghost use Rattle.mirror.specs.Blank.{is_blank};
 ghost use Rattle.mirror.specs.Line.{blank_line};
 ghost use Rattle.mirror.specs.Table.{line_at, has_line, down_at, counted, is_key};
-ghost use Rattle.mirror.specs.Known.{are_of_cells, is_known, is_named};
+ghost use Rattle.mirror.specs.Known.{are_of_cells, is_known, is_named, warnings_at};
 ghost use Rattle.mirror.specs.OnAir.{AreOnAir, line_count};
 
 use crate::gathering::{add_cells, add_downs, add_line_cells, cells_in_order};
-use crate::known::{has_line, is_registered};
+use crate::known::{has_line, is_registered, warnings_at};
 use crate::line::Line;
 use crate::line_key::LineKey;
 use crate::naming::{are_of_cells, named, own_cell};
@@ -158,6 +158,18 @@ impl LineTable {
         ensures { result ≡ down_at self.now b c }
     {
         self.downs.contains(&Place::of(b, c))
+    }
+
+    /// The numbers of the warnings whose line in the cell at the BSC isn't blank, in ascending order. No line is read, and
+    /// none is counted.
+    pub fn warnings_at(&self, b: BscId, c: Cell) -> Result<Vec<WarningId>, AllocError>
+        ensures warnings { IfOk result (λ ws. ws.items ≡ warnings_at self.now b c) }
+        ensures order { IfOk result (λ ws. is_ascending ltb ws.items ≡ true) }
+        ensures which { IfOk result (λ ws. (w : ℕ) → list_any (nat_eq w) ws.items ≡ not (is_blank (line_at self.now b c w))) }
+        ensures few { IfOk result (λ ws. (ns : List ℕ) → ((w : ℕ) → is_blank (line_at self.now b c w) ≡ false → list_any (nat_eq w) ns ≡ true) → length ws.items ≤ length ns) }
+    {
+        let warnings = warnings_at(self.alloc, &self.lines, b, c)?;
+        Ok(warnings)
     }
 
     /// Sets whether the cell is down at the BSC. Where memory is wanting nothing changes. Memory is taken only for a

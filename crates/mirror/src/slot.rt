@@ -2,6 +2,7 @@
 
 ghost use Rattle.std.specs.Prelude.{◌≡◌};
 ghost use Rattle.mirror.specs.Order.{slot_of, least_slot};
+ghost use Rattle.mirror.specs.Table.{is_slot_in};
 
 use crate::line_key::LineKey;
 use cell_register::BscId;
@@ -47,5 +48,12 @@ impl Slot {
             cell: c,
             warning: 0,
         }
+    }
+
+    /// Whether it is one of the BSC and the cell, whatever its warning.
+    pub(crate) fn is_in(&self, b: BscId, c: Cell) -> bool
+        ensures { result ≡ is_slot_in b c self.now }
+    {
+        u32::from(b.number()) == self.bsc && c == self.cell
     }
 }

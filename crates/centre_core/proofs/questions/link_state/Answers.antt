@@ -1,4 +1,4 @@
-use Rattle.std.proofs.Common.{◌≡◌, ◌∙◌, sym, ap}
+use Rattle.std.proofs.Common.{◌∙◌, ap}
 use Rattle.centre_events.specs.Pending.{all_actions}
 use Rattle.centre_core.specs.State.{link_in, generation_of, up_of}
 use Rattle.centre_core.proofs.QuestionLemmas.{link_told, pending_list}
