@@ -117,13 +117,13 @@ pub record Asks (words : List Text) (plmn : List ℕ) (limit : ℕ) : Type 0 whe
   pub network : asked_network words ≡ Some plmn
   pub entries : asked_limit words ≡ Some limit
 
--- the words have no fault, and the value of `--plmn` isn't six hexadecimal digits
+-- the words have no fault and don't ask for the server, and the value of `--plmn` isn't six hexadecimal digits
 abbrev pub AsksBadPlmn : List Text → Type 0
-AsksBadPlmn words = HasNoFault words × (asked_network words ≡ None)
+AsksBadPlmn words = HasNoFault words × (meets_serve (subcommand_of command_line words) ≡ false) × (asked_network words ≡ None)
 
--- the words have no fault, and the value of `--journal` isn't a number from 1 to 4,000,000
+-- the words have no fault and don't ask for the server, and the value of `--journal` isn't a number from 1 to 4,000,000
 abbrev pub AsksBadJournal : List Text → Type 0
-AsksBadJournal words = HasNoFault words × (asked_limit words ≡ None)
+AsksBadJournal words = HasNoFault words × (meets_serve (subcommand_of command_line words) ≡ false) × (asked_limit words ≡ None)
 
 -- the words have no fault, and ask for the server
 abbrev pub AsksServe : List Text → Type 0

@@ -1,4 +1,4 @@
-use Rattle.std.proofs.Common.{◌≡◌, true, map, string_bytes, ap, rules, sym, ◌∙◌}
+use Rattle.std.proofs.Common.{◌≡◌, true, false, map, string_bytes, ap, rules, sym, ◌∙◌}
 use Rattle.console.specs.CommandLine.{limit_in, meets_serve, network_in, replay_rows}
 use Rattle.console.proofs.CommandLineLemmas.{kinds_of_line, refuses_so, taken_has_matches, taken_has_no_fault, taken_wants_memory}
 use Rattle.console.proofs.options.read_options.Goals as goal
@@ -17,14 +17,18 @@ pub returns-in_default-clause-refused : goal.returns-in_default-clause-refused
 returns-in_default-clause-refused c =
     let words = map string_bytes c.args.words.now in
     let rows = ap replay_rows (sym (taken_has_matches _ words c.in-Ok.matches c.in_ok-command_line.ensures c.in-Ok.ensures.matches)) in
-    (taken_has_no_fault _ words c.in_ok-command_line.ensures c.in-Ok.ensures.kinds, ap network_in rows ∙ (sym c.asked_plmn.ensures ∙ c.in_default.is))
+    let met = ap meets_serve (sym (taken_has_matches _ words c.in-Ok.matches c.in_ok-command_line.ensures c.in-Ok.ensures.matches)) in
+    let other : c.asks_server.result ≡ false = search rules in
+    (taken_has_no_fault _ words c.in_ok-command_line.ensures c.in-Ok.ensures.kinds, met ∙ (sym c.asks_server.ensures ∙ other), ap network_in rows ∙ (sym c.asked_plmn.ensures ∙ c.in_default.is))
 
 -- or whose number of entries isn't one
 pub returns-in_default-asked_journal-clause-refused : goal.returns-in_default-asked_journal-clause-refused
 returns-in_default-asked_journal-clause-refused c =
     let words = map string_bytes c.args.words.now in
     let rows = ap replay_rows (sym (taken_has_matches _ words c.in-Ok.matches c.in_ok-command_line.ensures c.in-Ok.ensures.matches)) in
-    (taken_has_no_fault _ words c.in_ok-command_line.ensures c.in-Ok.ensures.kinds, ap limit_in rows ∙ (sym c.asked_journal.ensures.asked ∙ c.in_default-asked_journal.is))
+    let met = ap meets_serve (sym (taken_has_matches _ words c.in-Ok.matches c.in_ok-command_line.ensures c.in-Ok.ensures.matches)) in
+    let other : c.asks_server.result ≡ false = search rules in
+    (taken_has_no_fault _ words c.in_ok-command_line.ensures c.in-Ok.ensures.kinds, met ∙ (sym c.asks_server.ensures ∙ other), ap limit_in rows ∙ (sym c.asked_journal.ensures.asked ∙ c.in_default-asked_journal.is))
 
 -- words that are taken and ask for the server
 pub returns-then-asks_server-clause-refused : goal.returns-then-asks_server-clause-refused
