@@ -159,7 +159,7 @@ fn write_settled<W: Write>(alloc: Global, writer: &mut W, entries: u64) -> Resul
     }
 }
 
-/// Serves over an office, and settles it. The answer is the exit status.
+/// Serves over an office, settles it, and writes how many entries there are. At a fault it hands back where to say it.
 fn run<
     L: Ledger + Send + Sync,
     R: Wait + Threads + Clock + Sync + Net<Stream = TcpStream, Listener = TcpListener>,
@@ -238,9 +238,10 @@ fn run_office<
 /// Answers the lines that the reader gives, each before the next is read, while BSCs connect to the ports, until `quit` or the
 /// end of the input. Then the links are closed, and `settled N` is written, N the number of entries.
 ///
-/// `errors` gets a line for each link that comes up, is refused or ends, and for each port that can't be listened on. The answer
-/// is the exit status: 0, or 1 after a fault, which is said there as `cbc: ` and its words: `listen fault` where a port can't
-/// be listened on, `settle fault`, or a fault of reading or writing lines.
+/// `errors` gets a line for each link that comes up, is refused or ends, for a BSC whose orders are held back, and for each port
+/// that can't be listened on or is closed since a thread of it can't be started. The answer is the exit status: 0, or 1 after a
+/// fault, which is said there as `cbc: ` and its words: `listen fault` where a port can't be listened on, `settle fault`, or what
+/// ended the lines: `read fault`, `write fault`, `line too long` or `out of memory`.
 pub fn serve<
     R: Wait + Threads + Clock + Sync + Net<Stream = TcpStream, Listener = TcpListener>,
     I: BufRead + Send + Drop,
@@ -256,8 +257,9 @@ pub fn serve<
     }
 }
 
-/// Runs the server with the options in the words of a command line, as `serve` does. The status is 2 where they can't be
-/// served: `cbc: bad plmn` or `cbc: bad ports` is said then.
+/// Runs the server with the options in the words of a command line, as `serve` does. The words are to ask for the server:
+/// `console::run` answers `None` for them. Of other words it says `cbc: out of memory`, and the status is 1. The status is 2
+/// where the network or the ports are bad: `cbc: bad plmn` or `cbc: bad ports` is said then.
 pub fn serve_words<
     R: Wait + Threads + Clock + Sync + Net<Stream = TcpStream, Listener = TcpListener>,
     I: BufRead + Send + Drop,

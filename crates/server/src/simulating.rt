@@ -9,7 +9,7 @@ use std::net::{Net, TcpListener, TcpStream};
 use std::sync::Wait;
 use std::sync::ledger::Ledger;
 
-/// Answers the centre over that connection.
+/// Answers the centre over the connection, until it ends.
 fn answer(alloc: Global, stream: TcpStream) {
     let Ok(other) = stream.try_clone() else {
         return;
