@@ -151,7 +151,8 @@ impl Bsc {
     ///
     /// A frame that can't be read ends it with `BadMessage`, and one whose body is longer than is read with `TooLong`,
     /// each after the frames before it were answered. At `WriteFault` what is written is a part of the frames that are
-    /// due, at `Memory` some whole ones of them; at every other end all of them are written.
+    /// due, at `Memory` some whole ones of them; at every other end all of them are written. Each answer is written before the
+    /// next read. No clause says that: the contract has what was read and written in the end.
     pub fn run<R: Source, W: Sink>(
         &mut self,
         reader: &mut R,

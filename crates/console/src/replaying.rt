@@ -42,7 +42,8 @@ fn turn<R: Source, W: Sink>(
 ///
 /// A line ends at 0A or at the end of the input; one 0D before that is dropped. Every bad line is answered and the
 /// run goes on. At an `Err` what was written is a front of the text of lines that were read. At `ReadFault` every line
-/// that had ended is answered, at `LongLine` every line before the long one.
+/// that had ended is answered, at `LongLine` every line before the long one. No clause says that an answer is written before
+/// the next read: the contract has what was read and written in the end.
 pub fn replay<R: Source, W: Sink>(
     alloc: Global,
     reader: &mut R,

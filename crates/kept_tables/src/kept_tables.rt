@@ -19,7 +19,7 @@ use std::marker::Model;
 use warning_book::WarningId;
 
 /// What is kept of every line, what is pending for each BSC, and the numbers of the board. All three change in step, by
-/// `settle` alone.
+/// `settle` alone. Which cells are down is kept beside the lines, and changes by `set_down` alone.
 #[derive(Drop)]
 pub struct KeptTables {
     lines: LineTable,
