@@ -1,5 +1,8 @@
 //! How fast orders go out to one BSC.
 
+ghost use Rattle.std.specs.Prelude.{◌≡◌, ◌-◌, ltb, true, not};
+ghost use Rattle.server.specs.Rate.{filled_at, full};
+
 use crate::errors::tell;
 use crate::port::Port;
 use cell_register::BscId;
@@ -14,8 +17,8 @@ use std::time::{Clock, Duration};
 /// How many orders may go out at once: a refresh of 65,536 cells and 256 warnings takes fewer.
 const MOST_ORDERS: u64 = 20_000;
 
-/// How many more orders may go out each second.
-const ORDERS_A_SECOND: u64 = 20;
+/// After how many milliseconds one more order may go out: 20 a second.
+const ORDER_TIME: u64 = 50;
 
 /// How long an order waits before it is looked again whether it may go out, in milliseconds.
 const PAUSE: u64 = 50;
@@ -30,7 +33,9 @@ pub(crate) struct Bucket {
 }
 
 impl Bucket {
-    pub(crate) fn new() -> Bucket {
+    pub(crate) fn new() -> Bucket
+        ensures { result ≡ full }
+    {
         Bucket {
             orders: MOST_ORDERS,
             filled: 0,
@@ -38,16 +43,24 @@ impl Bucket {
         }
     }
 
-    /// Adds the orders of the time that went by, and takes one, if there is one.
-    pub(crate) fn take(&mut self, now: u64) -> bool {
-        let added = now.saturating_sub(self.filled) / (1000 / ORDERS_A_SECOND);
-        if added > 0 {
-            self.orders = self.orders.saturating_add(added).min(MOST_ORDERS);
-            self.filled = now;
-        }
+    /// Adds the orders of the time that went by. What is left of it counts the next time.
+    fn fill(&mut self, now: u64)
+        ensures { self.new ≡ filled_at now self.old }
+    {
+        let added = now.saturating_sub(self.filled) / ORDER_TIME;
+        self.orders = self.orders.saturating_add(added).min(MOST_ORDERS);
+        self.filled += added * ORDER_TIME;
         if self.orders == MOST_ORDERS {
             self.was_told = false;
         }
+    }
+
+    /// Adds the orders of the time that went by, and takes one, if there is one. The time is in milliseconds of the clock.
+    pub(crate) fn take(&mut self, now: u64) -> bool
+        ensures taken { result ≡ ltb 0 (filled_at now self.old).orders }
+        ensures left { self.new ≡ record (filled_at now self.old) { orders = (filled_at now self.old).orders - 1 } }
+    {
+        self.fill(now);
         if self.orders == 0 {
             return false;
         }
@@ -56,7 +69,10 @@ impl Bucket {
     }
 
     /// Whether it is the first time that an order has to wait since as many might go out as at the beginning.
-    fn is_first(&mut self) -> bool {
+    fn is_first(&mut self) -> bool
+        ensures first { result ≡ not self.old.was_told }
+        ensures told { self.new ≡ record self.old { was_told = true } }
+    {
         let is_first = !self.was_told;
         self.was_told = true;
         is_first
