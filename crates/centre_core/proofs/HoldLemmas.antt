@@ -1,9 +1,8 @@
 -- What is read of the lines on which an event bears is what the past says of them.
-use Rattle.std.proofs.Common.{◌≡◌, ℕ, ◌+◌, ◌*◌, ◌≤◌, Bool, true, false, ◌&&◌, ◌||◌, not, nat_eq, List, [], ◌∷◌, ◌++◌, Option, Some, None, Ok, cond, filter, length, map, refl, sym, ◌∙◌, ap, subst, arith}
+use Rattle.std.proofs.Common.{◌≡◌, ℕ, ◌+◌, ◌*◌, ◌≤◌, Bool, true, false, ◌||◌, not, nat_eq, List, [], ◌∷◌, ◌++◌, Option, Some, None, Ok, cond, filter, length, map, refl, sym, ◌∙◌, ap, subst, arith}
 use Rattle.std.specs.Prelude.{if◌then◌else◌}
 use Rattle.std.specs.List.{flat_map, list_any}
 use Rattle.std.proofs.Math.Bool.{not-not}
-use Rattle.std.proofs.lemmas.Bool.{and_parts}
 use Rattle.std.proofs.lemmas.List.Elements.{filter-append}
 use Rattle.std.proofs.lemmas.List.Filters.{length-filter_both}
 use Rattle.std.specs.Cmp.{unsigned_Decides}
@@ -23,7 +22,7 @@ use Rattle.warning_book.specs.Book.{warning_of}
 use Rattle.warning_book.specs.declared.warning.Warning.{Warning}
 use Rattle.centre_events.specs.Facts.{IsLineOf, facts_of, facts}
 use Rattle.centre_core.specs.Flights.{up_before}
-use Rattle.centre_core.specs.Following.{AsBefore, Happens, flight_before, flight_kept, facts_in, held_line, held_lines, changing_lines, is_idle, leaves_cover, stays, held_past, keys_of, WasReached}
+use Rattle.centre_core.specs.Following.{AsBefore, Happens, flight_before, flight_kept, facts_in, held_line, held_lines, changing_lines, passed_over, stays, held_past, keys_of, WasReached}
 use Rattle.centre_core.specs.Idle.{OnlyReads}
 use Rattle.centre_core.specs.IsKept.{IsKept}
 use Rattle.centre_events.specs.Kept.{AreFlightsOf, is_edit}
@@ -45,7 +44,8 @@ use Rattle.coverage_plan.specs.declared.edit.Edit.{Edit}
 use Rattle.centre_core.proofs.FactsLemmas.{facts_same}
 use Rattle.centre_core.proofs.OutsideLemmas.{outside}
 use Rattle.centre_core.proofs.RegisterLemmas.{nat_apart}
-use Rattle.centre_core.proofs.StayLemmas.{idle_same, stays_same}
+use Rattle.centre_core.proofs.PassedLemmas.{passed_same}
+use Rattle.centre_core.proofs.StayLemmas.{stays_same}
 use Rattle.centre_core.proofs.TellLemmas.{bears_of, keys_counted, keys_once}
 
 -- what is read of a line is what the past says
@@ -137,14 +137,14 @@ pub told_kept : (settings : Settings) (past : Past) (s : Kept) → Legal setting
 told_kept settings past s legal kept = record { legal = legal; registered = kept.registered; booked = kept.booked; downs = kept.downs; lines = kept.tables.lines }
 
 -- before an edit that has been accepted
-pub edit_was_reached : (past : Past) (s : Kept) (e : Edit) (a : Answer) (spots : List Spot) (numbers : List ℕ) (held : List Held) → IsKept past s → IsReach (record { spots = spots; warnings = numbers }) (reach_of past (event.Edit e) a) → held ≡ held_lines (leaves_cover e) s.register s.areas s.book s.tables spots numbers → WasReached past (event.Edit e) a spots held
+pub edit_was_reached : (past : Past) (s : Kept) (e : Edit) (a : Answer) (spots : List Spot) (numbers : List ℕ) (held : List Held) → IsKept past s → IsReach (record { spots = spots; warnings = numbers }) (reach_of past (event.Edit e) a) → held ≡ held_lines e s.register s.areas s.book s.tables spots numbers → WasReached past (event.Edit e) a spots held
 edit_was_reached past s e a spots numbers held kept reach are =
-    was_held past (event.Edit e) a spots numbers idle held reach
-    (are ∙ failing_lines idle (held_line s.register s.areas s.book s.tables) (held_past past) (held_as past s kept) spots numbers)
-    (λ settings desk legal accepted k h. let parts = and_parts (leaves_cover e) (is_idle s.areas (warning_of s.book k.warning) k.cell (line_at s.tables.lines k.bsc k.cell k.warning)) h in idle_same past desk e a parts.0 s kept k parts.1)
+    was_held past (event.Edit e) a spots numbers passed held reach
+    (are ∙ failing_lines passed (held_line s.register s.areas s.book s.tables) (held_past past) (held_as past s kept) spots numbers)
+    (λ settings desk legal accepted k h. passed_same settings past legal desk e a accepted s kept k h)
   where
-    idle : LineKey → Bool
-    idle k = leaves_cover e && is_idle s.areas (warning_of s.book k.warning) k.cell (line_at s.tables.lines k.bsc k.cell k.warning)
+    passed : LineKey → Bool
+    passed k = passed_over e s.areas (warning_of s.book k.warning) k.cell (line_at s.tables.lines k.bsc k.cell k.warning)
 
 -- before another event
 pub other_was_reached : (past : Past) (s : Kept) (h : Happens) (spots : List Spot) (numbers : List ℕ) (held : List Held) → IsKept past s → is_edit h.event ≡ false → h.up ≡ up_before past h.event → h.flight ≡ flight_before past h.event → IsReach (record { spots = spots; warnings = numbers }) (reach_of past h.event h.answer) → held ≡ changing_lines h s.register s.areas s.book s.tables spots numbers → WasReached past h.event h.answer spots held

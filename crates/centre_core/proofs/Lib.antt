@@ -39,6 +39,7 @@ pub mod TellLemmas
 pub mod JoinLemmas
 pub mod StayLemmas
 pub mod BlankLineLemmas
+mod PassedLemmas
 pub mod HoldLemmas
 mod IndicatedLemmas
 pub mod FinishLemmas

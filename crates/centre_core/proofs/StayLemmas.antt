@@ -94,7 +94,7 @@ facts_new settings past legal desk h accepted other s kept up flight k down fall
     new = After (entry_of desk h) past
 
 -- the line as it is kept, from what is read of it
-line_kept : (past : Past) (s : Kept) → IsKept past s → (k : LineKey) (w : Warning) → warning_of (book_of past) k.warning ≡ Some w → line_at s.tables.lines k.bsc k.cell k.warning ≡ line_of past k.bsc k.cell w
+pub line_kept : (past : Past) (s : Kept) → IsKept past s → (k : LineKey) (w : Warning) → warning_of (book_of past) k.warning ≡ Some w → line_at s.tables.lines k.bsc k.cell k.warning ≡ line_of past k.bsc k.cell w
 line_kept past s kept k w found = kept.tables.lines k ∙ ap (λ o. (facts_of past k.bsc k.cell o).line) found
 
 -- what happens leaves the line as it is

@@ -76,17 +76,27 @@ leaves_cover (edit.MoveCell c b) = true
 leaves_cover (edit.RemoveCell c) = true
 leaves_cover other = false
 
--- the line as it stands, if it is not idle where idle ones are passed over
-abbrev pub held_unless : Bool → register.State → List Area → book.State → Tables → LineKey → List Held
-held_unless passes r l st t k = if passes && is_idle l (warning_of st k.warning) k.cell (line_at t.lines k.bsc k.cell k.warning) then [] else held_line r l st t k ∷ []
+-- the edit forgets a warning
+abbrev pub is_forget : Edit → Bool
+is_forget (edit.Forget n) = true
+is_forget other = false
+
+-- the edit leaves the line without a part: a blank one where it forgets a warning, an idle one where it leaves what each
+-- area covers
+abbrev pub passed_over : Edit → List Area → Option Warning → Cell → Line → Bool
+passed_over e l o c line = if is_forget e then is_blank line else (leaves_cover e && is_idle l o c line)
+
+-- the line as it stands, if it is not passed over
+abbrev pub held_unless : Edit → register.State → List Area → book.State → Tables → LineKey → List Held
+held_unless e r l st t k = if passed_over e l (warning_of st k.warning) k.cell (line_at t.lines k.bsc k.cell k.warning) then [] else held_line r l st t k ∷ []
 
 -- the lines of each of the warnings at the spot
-abbrev pub held_at : Bool → register.State → List Area → book.State → Tables → List ℕ → Spot → List Held
-held_at passes r l st t ns p = flat_map (λ n. held_unless passes r l st t (key_at p n)) ns
+abbrev pub held_at : Edit → register.State → List Area → book.State → Tables → List ℕ → Spot → List Held
+held_at e r l st t ns p = flat_map (λ n. held_unless e r l st t (key_at p n)) ns
 
 -- at each of the spots
-abbrev pub held_lines : Bool → register.State → List Area → book.State → Tables → List Spot → List ℕ → List Held
-held_lines passes r l st t ps ns = flat_map (held_at passes r l st t ns) ps
+abbrev pub held_lines : Edit → register.State → List Area → book.State → Tables → List Spot → List ℕ → List Held
+held_lines e r l st t ps ns = flat_map (held_at e r l st t ns) ps
 
 -- what happens at a key of the BSC: the effect by its serial number
 pub record Happens : Type 0 where

@@ -5,7 +5,7 @@ ghost use Rattle.cell_register.specs.Register as register;
 ghost use Rattle.cell_register.specs.Sound.{IsRegister};
 ghost use Rattle.kept_tables.specs.declared.spot.Spot.{Spot};
 ghost use Rattle.centre_core.specs.Flights.{up_before};
-ghost use Rattle.centre_core.specs.Following.{Happens, WasReached, changing_lines, flight_before, held_lines, leaves_cover};
+ghost use Rattle.centre_core.specs.Following.{Happens, WasReached, changing_lines, flight_before, held_lines};
 ghost use Rattle.centre_core.specs.IsKept.{IsKept};
 ghost use Rattle.centre_events.specs.Kept.{is_edit};
 ghost use Rattle.centre_events.specs.Past.{Past};
@@ -24,7 +24,7 @@ fn listed_bscs()
 
 #[tactic(auto, using(crate::proofs::HoldLemmas::edit_was_reached))]
 fn edit_was_reached()
-    ensures { (past : Past) (s : Kept) (e : Edit) (a : Answer) (spots : List Spot) (numbers : List ℕ) (held : List Held) → IsKept past s → IsReach (record { spots = spots; warnings = numbers }) (reach_of past (event.Edit e) a) → held ≡ held_lines (leaves_cover e) s.register s.areas s.book s.tables spots numbers → WasReached past (event.Edit e) a spots held }
+    ensures { (past : Past) (s : Kept) (e : Edit) (a : Answer) (spots : List Spot) (numbers : List ℕ) (held : List Held) → IsKept past s → IsReach (record { spots = spots; warnings = numbers }) (reach_of past (event.Edit e) a) → held ≡ held_lines e s.register s.areas s.book s.tables spots numbers → WasReached past (event.Edit e) a spots held }
 {}
 
 #[tactic(auto, using(crate::proofs::HoldLemmas::other_was_reached))]

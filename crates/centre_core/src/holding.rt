@@ -7,7 +7,7 @@ ghost use Rattle.kept_tables.specs.View.{key_of};
 ghost use Rattle.mirror.specs.Blank.{line_eq};
 ghost use Rattle.warning_book.specs.Book.{numbers, warning_of};
 ghost use Rattle.centre_events.specs.Down.{down_mark};
-ghost use Rattle.centre_core.specs.Following.{AreInBook, AsBefore, bearing, held_unless, held_at, held_lines, is_idle, keeps_down, leaves_blank, line_now, changing_line, changing_at, changing_lines};
+ghost use Rattle.centre_core.specs.Following.{AreInBook, AsBefore, bearing, held_unless, held_at, held_lines, is_forget, is_idle, keeps_down, leaves_blank, leaves_cover, line_now, passed_over, changing_line, changing_at, changing_lines};
 
 use crate::facts::{facts_from, is_covered};
 use crate::following::line_now;
@@ -19,6 +19,7 @@ use centre_events::effects::down_mark;
 use centre_events::event::Event;
 use centre_events::stepping::Happening;
 use common::Cell;
+use coverage_plan::Edit;
 use kept_tables::{KeptTables, LineFacts, Spot};
 use mirror::{Line, LineKey};
 use std::alloc::{AllocError, Global};
@@ -55,7 +56,41 @@ fn is_idle(areas: &Areas, warning: Option<&Warning>, c: Cell, line: &Line) -> bo
     }
 }
 
-/// Reads a line, and holds it, but for an idle one where idle ones are passed over.
+/// Whether the edit leaves what each area covers, and which areas a warning has.
+fn leaves_cover(edit: &Edit) -> bool
+    ensures { result ≡ leaves_cover edit.now }
+{
+    matches!(
+        edit,
+        Edit::RemoveBsc(_) | Edit::AddCell(_, _) | Edit::MoveCell(_, _) | Edit::RemoveCell(_)
+    )
+}
+
+/// Whether the edit forgets a warning.
+fn is_forget(edit: &Edit) -> bool
+    ensures { result ≡ is_forget edit.now }
+{
+    matches!(edit, Edit::Forget(_))
+}
+
+/// Whether the edit leaves a line without a part. A warning that is forgotten isn't active, so that a blank line of it has
+/// none, whatever its areas cover.
+fn is_passed_over(
+    edit: &Edit,
+    areas: &Areas,
+    warning: Option<&Warning>,
+    c: Cell,
+    line: &Line,
+) -> bool
+    ensures { result ≡ passed_over edit.now areas.now (option_copied warning.entry) c line.now }
+{
+    if is_forget(edit) {
+        return line.is_blank();
+    }
+    leaves_cover(edit) && is_idle(areas, warning, c, line)
+}
+
+/// Reads a line, and holds it, unless it is passed over.
 #[tactic(auto, using(crate::proofs::FollowLemmas::facts_as, crate::proofs::FollowLemmas::as_read))]
 fn hold_line(
     out: &mut Vec<Held>,
@@ -67,14 +102,14 @@ fn hold_line(
     b: BscId,
     c: Cell,
     n: WarningId,
-    passes: bool,
+    edit: &Edit,
 ) -> Result<(), AllocError>
-    ensures held { (t : Tables) → AsBefore t tables.old → OnOk result (out.new.items ≡ out.old.items ++ held_unless passes register.now areas.now book.now t (key_of b c n)) }
+    ensures held { (t : Tables) → AsBefore t tables.old → OnOk result (out.new.items ≡ out.old.items ++ held_unless edit.now register.now areas.now book.now t (key_of b c n)) }
     ensures kept { (t : Tables) → AsBefore t tables.old → AsBefore t tables.new }
     ensures meter { tables.new.lines.meter ≤ tables.old.lines.meter + 1 }
 {
     let line = tables.read_line(key_of(b, c, n));
-    if passes && is_idle(areas, book.find(n), c, &line) {
+    if is_passed_over(edit, areas, book.find(n), c, &line) {
         return Ok(());
     }
     let down = tables.is_down(b, c);
@@ -94,22 +129,21 @@ fn hold_spot(
     b: BscId,
     c: Cell,
     warnings: &[WarningId],
-    passes: bool,
+    edit: &Edit,
 ) -> Result<(), AllocError>
-    ensures held { (t : Tables) → AsBefore t tables.old → OnOk result (out.new.items ≡ out.old.items ++ held_at passes register.now areas.now book.now t warnings.now (record { bsc = b; cell = c })) }
+    ensures held { (t : Tables) → AsBefore t tables.old → OnOk result (out.new.items ≡ out.old.items ++ held_at edit.now register.now areas.now book.now t warnings.now (record { bsc = b; cell = c })) }
     ensures kept { (t : Tables) → AsBefore t tables.old → AsBefore t tables.new }
     ensures meter { tables.new.lines.meter ≤ tables.old.lines.meter + length warnings.now }
 {
     for warning in warnings {
         hold_line(
-            out, alloc, register, areas, book, tables, b, c, *warning, passes,
+            out, alloc, register, areas, book, tables, b, c, *warning, edit,
         )?;
     }
     Ok(())
 }
 
-/// Reads the lines of each of the warnings at each of the spots, and holds them, but for idle ones where these are passed
-/// over.
+/// Reads the lines of each of the warnings at each of the spots, and holds those that are not passed over.
 pub(crate) fn hold(
     alloc: Global,
     register: &Register,
@@ -118,16 +152,16 @@ pub(crate) fn hold(
     tables: &mut KeptTables,
     spots: &[Spot],
     warnings: &[WarningId],
-    passes: bool,
+    edit: &Edit,
 ) -> Result<Vec<Held>, AllocError>
-    ensures held { (t : Tables) → AsBefore t tables.old → IfOk result (λ v. v.items ≡ held_lines passes register.now areas.now book.now t spots.now warnings.now) }
+    ensures held { (t : Tables) → AsBefore t tables.old → IfOk result (λ v. v.items ≡ held_lines edit.now register.now areas.now book.now t spots.now warnings.now) }
     ensures kept { (t : Tables) → AsBefore t tables.old → AsBefore t tables.new }
     ensures meter { tables.new.lines.meter ≤ tables.old.lines.meter + length spots.now * length warnings.now }
 {
     let mut out = Vec::new(alloc);
     for spot in spots {
         hold_spot(
-            &mut out, alloc, register, areas, book, tables, spot.bsc, spot.cell, warnings, passes,
+            &mut out, alloc, register, areas, book, tables, spot.bsc, spot.cell, warnings, edit,
         )?;
     }
     Ok(out)

@@ -1,7 +1,7 @@
 //! The lines on which an event bears, read before it.
 
 ghost use Rattle.std.specs.Prelude.{◌≡◌, ◌≤◌, ◌+◌, false, Ok, IfOk};
-ghost use Rattle.centre_core.specs.Following.{WasReached, leaves_cover};
+ghost use Rattle.centre_core.specs.Following.{WasReached};
 ghost use Rattle.centre_core.specs.IsKept.{IsKept, OnlyReadsIn};
 ghost use Rattle.centre_events.specs.Kept.{is_edit};
 ghost use Rattle.centre_core.specs.Legal.{Legal};
@@ -32,18 +32,8 @@ pub(crate) struct Reached {
     pub(crate) held: Vec<Held>,
 }
 
-/// Whether the edit leaves what each area covers, and which areas a warning has.
-fn leaves_cover(edit: &Edit) -> bool
-    ensures { result ≡ leaves_cover edit.now }
-{
-    matches!(
-        edit,
-        Edit::RemoveBsc(_) | Edit::AddCell(_, _) | Edit::MoveCell(_, _) | Edit::RemoveCell(_)
-    )
-}
-
-/// The lines that an accepted edit may change, as they stand before it: those on which it bears, but for idle ones that
-/// it leaves idle.
+/// The lines that an accepted edit may change, as they stand before it: those on which it bears, but for those that have no
+/// part before it or after it.
 pub(crate) fn reached_by_edit(
     alloc: Global,
     kept: &mut Kept,
@@ -71,7 +61,7 @@ pub(crate) fn reached_by_edit(
         &mut kept.tables,
         reach.spots.as_slice(),
         reach.warnings.as_slice(),
-        leaves_cover(edit),
+        edit,
     )?;
     Ok(Reached {
         spots: reach.spots,

@@ -1,5 +1,5 @@
 use Rattle.std.proofs.Common.{refl, ◌∙◌, ap}
-use Rattle.centre_core.specs.Following.{held_lines, leaves_cover}
+use Rattle.centre_core.specs.Following.{held_lines}
 use Rattle.centre_core.specs.Reach.{edit_reach}
 use Rattle.centre_core.proofs.FollowLemmas.{as_itself}
 use Rattle.centre_core.proofs.HoldLemmas.{listed_bscs, told_kept, edit_was_reached, reads_as, reads_within}
@@ -21,9 +21,8 @@ returns-clause-reached c =
       accepted = accepted;
     }))
     (c.in_ok-held.ensures.held c.args.kept.now.tables (as_itself c.args.kept.now.tables)
-    ∙ ap (λ t. held_lines t c.args.kept.now.register c.args.kept.now.areas c.args.kept.now.book c.args.kept.now.tables c.as_slice.result.now c.as_slice-2.result.now) c.leaves_cover.ensures
-    ∙ ap (λ ps. held_lines (leaves_cover c.args.edit.now) c.args.kept.now.register c.args.kept.now.areas c.args.kept.now.book c.args.kept.now.tables ps c.as_slice-2.result.now) c.as_slice.ensures.value
-    ∙ ap (held_lines (leaves_cover c.args.edit.now) c.args.kept.now.register c.args.kept.now.areas c.args.kept.now.book c.args.kept.now.tables c.in_ok-reach.reach.spots.items) c.as_slice-2.ensures.value)
+    ∙ ap (λ ps. held_lines c.args.edit.now c.args.kept.now.register c.args.kept.now.areas c.args.kept.now.book c.args.kept.now.tables ps c.as_slice-2.result.now) c.as_slice.ensures.value
+    ∙ ap (held_lines c.args.edit.now c.args.kept.now.register c.args.kept.now.areas c.args.kept.now.book c.args.kept.now.tables c.in_ok-reach.reach.spots.items) c.as_slice-2.ensures.value)
 
 pub returns-clause-reads : goal.returns-clause-reads
 returns-clause-reads c =
