@@ -41,6 +41,7 @@ use Rattle.centre_events.specs.declared.event.Event.TheVariants as event
 use Rattle.centre_core.specs.declared.held.Held.{Held}
 use Rattle.centre_core.specs.declared.kept.Kept.{Kept}
 use Rattle.centre_core.proofs.BlankLineLemmas.{blank_left}
+use Rattle.centre_core.proofs.ReachedWarningLemmas.{all_listed}
 use Rattle.centre_core.proofs.RegisterLemmas.{nat_apart}
 use Rattle.centre_core.proofs.WarningLemmas.{legal_sound}
 
@@ -142,13 +143,9 @@ in_book_as st t u same h b c n blank = h b c n (ap (λ ls. is_blank (unwrap_or (
 
 -- An indication and a Retry bear on all warnings.
 
-every : {A : Type 0} (xs : List A) → filter (λ x. true) xs ≡ xs
-every [] = refl
-every (x ∷ xs) = ap (λ ys. x ∷ ys) (every xs)
-
 all_reached : (past : Past) (e : Event) (a : Answer) → leaves_blank e a ≡ true → (reach_of past e a).warnings ≡ numbers (warnings_of past)
-all_reached past (event.Retry b) a h = ap (map (λ (w : Warning). w.number)) (every (warnings_of past))
-all_reached past (event.Report b g message) (Listed cells) h = ap (map (λ (w : Warning). w.number)) (every (warnings_of past))
+all_reached past (event.Retry b) a h = sym (all_listed past (book_of past) (numbers (warnings_of past)) refl refl)
+all_reached past (event.Report b g message) (Listed cells) h = sym (all_listed past (book_of past) (numbers (warnings_of past)) refl refl)
 all_reached past (event.Report b g message) a h = cc
 all_reached past (event.Edit x) a h = cc
 all_reached past (event.LinkUp b) a h = cc

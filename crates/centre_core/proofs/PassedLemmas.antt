@@ -1,5 +1,5 @@
 -- A line that an edit passes over has the same part after it.
-use Rattle.std.proofs.Common.{◌≡◌, ℕ, Bool, true, false, ◌&&◌, not, nat_eq, List, [], ◌∷◌, Option, Some, None, Result, Ok, cond, refl, sym, ◌∙◌, ap, subst, eqb-true, eq-eqb}
+use Rattle.std.proofs.Common.{◌≡◌, ℕ, Bool, true, false, ◌&&◌, nat_eq, Option, Some, None, Ok, cond, refl, sym, ◌∙◌, ap, subst, eqb-true, eq-eqb}
 use Rattle.std.specs.Prelude.{if◌then◌else◌}
 use Rattle.std.specs.List.{list_any}
 use Rattle.std.proofs.lemmas.Bool.{and_parts, and_from}
@@ -9,7 +9,7 @@ use Rattle.mirror.specs.Blank.{is_blank}
 use Rattle.mirror.specs.BlankLaws.{blank_decides}
 use Rattle.mirror.specs.Table.{line_at}
 use Rattle.mirror.specs.declared.line_key.LineKey.{LineKey}
-use Rattle.warning_book.specs.Book.{has_number, is_active, is_there, warning_is, warning_of}
+use Rattle.warning_book.specs.Book.{has_number, warning_of}
 use Rattle.warning_book.specs.Laws.{found_without}
 use Rattle.warning_book.specs.declared.warning.Warning.{Warning}
 use Rattle.centre_events.specs.Effects.{state_after}
@@ -21,36 +21,28 @@ use Rattle.centre_core.specs.Legal.{Legal}
 use Rattle.centre_events.specs.Past.{Past, After}
 use Rattle.centre_events.specs.Places.{place}
 use Rattle.cell_register.specs.Register.{is_place}
-use Rattle.centre_events.specs.Reported.{is_in_flight, is_reported}
 use Rattle.centre_events.specs.Settings.{Settings}
-use Rattle.centre_events.specs.Verdict.{unless, forget, verdict}
+use Rattle.centre_events.specs.Verdict.{forget, forget_checks, verdict}
 use Rattle.centre_events.specs.Warnings.{book_of, warnings_of, is_version}
 use Rattle.centre_events.specs.declared.answer.Answer.{Answer}
 use Rattle.centre_events.specs.declared.answer.Answer.TheVariants as answer
-use Rattle.centre_events.specs.declared.refusal.Refusal.{Refusal}
-use Rattle.centre_events.specs.declared.refusal.Refusal.TheVariants as refusal
 use Rattle.centre_events.specs.declared.effect.Effect.TheVariants.{Frees, Leaves}
 use Rattle.centre_events.specs.declared.event.Event.TheVariants as event
 use Rattle.coverage_plan.specs.declared.edit.Edit.{Edit}
 use Rattle.coverage_plan.specs.declared.edit.Edit.TheVariants as edit
 use Rattle.centre_core.specs.declared.kept.Kept.{Kept}
+use Rattle.centre_core.proofs.CheckLemmas.{no_check}
 use Rattle.centre_core.proofs.LineLemmas.{same_kept, same_none, same_gone}
 use Rattle.centre_core.proofs.OutsideWarningLemmas.{kept_key}
 use Rattle.centre_core.proofs.StayLemmas.{idle_same, line_kept}
 use Rattle.centre_core.proofs.UniqueLemmas.{verdict_answered}
 use Rattle.centre_core.proofs.WarningLemmas.{forget_inactive}
 
--- the first two checks refuse nothing that is taken
-two_taken : (x y : Bool) (r s : Refusal) (rest : List (Bool × Refusal)) (v : Result Answer Refusal) (a : Answer) → unless ((x, r) ∷ (y, s) ∷ rest) v ≡ Ok a → (x ≡ false) × (y ≡ false)
-two_taken true y r s rest v a h = cc
-two_taken false true r s rest v a h = cc
-two_taken false false r s rest v a h = (refl, refl)
-
 -- a warning that is forgotten isn't active
 inactive : (past : Past) (n : ℕ) (a : Answer) (w : Warning) → warning_of (book_of past) n ≡ Some w → forget past n ≡ Ok a → w.active ≡ false
 inactive past n a w found taken =
-    let two = two_taken (not (is_there (book_of past) n)) (is_active (book_of past) n) _ _ ((warning_is (book_of past) n (is_reported past), refusal.StillReported) ∷ (warning_is (book_of past) n (is_in_flight past), refusal.StillInFlight) ∷ []) (Ok answer.Done) a taken in
-    forget_inactive (book_of past) n w found (rw (two.0, two.1) refl)
+    let none = no_check (forget_checks past n) (Ok answer.Done) a taken in
+    forget_inactive (book_of past) n w found (rw (none.0, none.1.0) refl)
 
 -- a blank line of a warning that is forgotten has no part before it or after it, and other warnings keep theirs
 forgotten_same : (settings : Settings) (past : Past) → Legal settings past → (desk n : ℕ) (a : Answer) → forget past n ≡ Ok a → (s : Kept) → IsKept past s → (k : LineKey) → is_blank (line_at s.tables.lines k.bsc k.cell k.warning) ≡ true → SamePart (facts past k) (facts (After (record { desk = desk; event = event.Edit (edit.Forget n); answer = a }) past) k)

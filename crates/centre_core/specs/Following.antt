@@ -170,7 +170,7 @@ down_after e a spots b c was = if list_any (spot_eq (record { bsc = b; cell = c 
 
 -- the event forgets a warning
 abbrev pub forgets : Event → Bool
-forgets (event.Edit (edit.Forget n)) = true
+forgets (event.Edit e) = is_forget e
 forgets other = false
 
 -- what is in flight to the BSC of an event that is no edit
