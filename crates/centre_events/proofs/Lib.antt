@@ -1,2 +1,3 @@
 pub mod PastLemmas
 pub mod EffectLemmas
+pub mod ReplyLemmas

@@ -1,16 +1,15 @@
 //! How often messages were broadcast: what a reply says of it, and what an event makes of what is kept (TS 48.049,
 //! 8.2.10).
 
-ghost use Rattle.std.specs.Prelude.{◌≡◌, find};
+ghost use Rattle.std.specs.Prelude.{◌≡◌};
 ghost use Rattle.std.specs.Option.{option_copied};
-ghost use Rattle.common.specs.Cell.{cell_eq};
 ghost use Rattle.centre_events.specs.Counts.{gives_number, last_number, number_in, numbers_of, number_of, reported_in, is_counted_key, replied_count, edit_count, count_mark};
 
 use crate::answer::Answer;
 use crate::effects::{is_among, is_of_warning};
 use crate::event::Event;
 use crate::in_flight::InFlight;
-use crate::reply::Reply;
+use crate::replies::Replies;
 use crate::replying::{cells_of, id_of, old_of};
 use cbsp_ie::{CountEntry, Counts};
 use cbsp_messages::Message;
@@ -77,18 +76,11 @@ pub fn number_of(network: [u8; 3], message: &Message, old: Option<u16>, c: Cell)
     }
 }
 
-/// The reply of the cell.
-fn reply_in(c: Cell, replies: &[Reply]) -> Option<&Reply>
-    ensures { option_copied result ≡ find (λ r. cell_eq c r.cell) replies.now }
-{
-    replies.iter().find(|reply| c == reply.cell)
-}
-
 /// What the replies report of the cell.
-fn reported_in(c: Cell, replies: &[Reply]) -> Option<u16>
+fn reported_in(c: Cell, replies: &Replies) -> Option<u16>
     ensures { result ≡ reported_in c replies.now }
 {
-    match reply_in(c, replies) {
+    match replies.of_cell(c) {
         Some(reply) => reply.count,
         None => None,
     }
@@ -106,7 +98,7 @@ fn is_counted_key(flight: &InFlight, c: Cell, message_id: u16, serial: Serial) -
 /// What the replies report of a key of the BSC to which that is in flight.
 fn replied_count(
     flight: Option<&InFlight>,
-    replies: &[Reply],
+    replies: &Replies,
     c: Cell,
     message_id: u16,
     serial: Serial,
@@ -153,7 +145,7 @@ pub fn count_mark(
     match (event, answer) {
         (Event::Edit(edit), _) => edit_count(b, message_id, serial, edit, warnings),
         (Event::Report(other, _, _), Answer::Replied(replies)) if *other == b => {
-            replied_count(flight, replies.as_slice(), c, message_id, serial)
+            replied_count(flight, replies, c, message_id, serial)
         }
         _ => None,
     }

@@ -1,6 +1,6 @@
 //! What an event does to a key: a message in a cell of a BSC.
 
-ghost use Rattle.std.specs.Prelude.{◌≡◌, ◌&&◌, None};
+ghost use Rattle.std.specs.Prelude.{◌≡◌, ◌&&◌, true, None};
 ghost use Rattle.std.specs.List.{list_any};
 ghost use Rattle.std.specs.Option.{option_copied};
 ghost use Rattle.warning_book.specs.Book.{has_number};
@@ -16,7 +16,7 @@ use crate::event::Event;
 use crate::in_flight::InFlight;
 use crate::naming::names_serial;
 use crate::outcome::Outcome;
-use crate::reply::Reply;
+use crate::replies::Replies;
 use crate::replying::id_of;
 use cbsp_ie::Cause;
 use cbsp_messages::Message;
@@ -28,11 +28,19 @@ use order_maker::{Order, OrderKind};
 use serials::Serial;
 use warning_book::{Version, Warning, WarningId};
 
-/// Whether the cell is one of the list.
+/// Whether the cell stands where it does in a list in ascending order.
+fn is_in_place(c: Cell, cells: &[Cell]) -> bool
+    ensures { result ≡ true → is_among c cells.now ≡ true }
+{
+    let place = cells.partition_point(|d| d.is_before(&c));
+    place < cells.len() && c == cells[place]
+}
+
+/// Whether the cell is one of the list. In a list in ascending order one that is there is found by halves.
 pub fn is_among(c: Cell, cells: &[Cell]) -> bool
     ensures { result ≡ is_among c cells.now }
 {
-    cells.iter().any(|d| c == *d)
+    is_in_place(c, cells) || cells.iter().any(|d| c == *d)
 }
 
 /// What an order that was refused does at the key of its serial number.
@@ -139,13 +147,13 @@ pub fn flight_effect(
 }
 
 /// What the replies say of the cell.
-pub fn outcome_in(c: Cell, replies: &[Reply]) -> Option<Outcome>
+pub fn outcome_in(c: Cell, replies: &Replies) -> Option<Outcome>
     ensures { result ≡ outcome_in c replies.now }
 {
-    replies
-        .iter()
-        .find(|reply| c == reply.cell)
-        .map(|reply| reply.outcome)
+    match replies.of_cell(c) {
+        Some(reply) => Some(reply.outcome),
+        None => None,
+    }
 }
 
 /// What a reply that says this of the cell, or nothing, does at a key.
@@ -188,7 +196,7 @@ fn names_version(flight: Option<&InFlight>, message_id: u16, serial: Serial) -> 
 /// What the replies do at a key. They are looked through only where what is in flight names the version.
 #[tactic(auto, using(crate::proofs::EffectLemmas::unnamed))]
 fn replied_effect(
-    replies: &[Reply],
+    replies: &Replies,
     flight: Option<&InFlight>,
     c: Cell,
     message_id: u16,
@@ -214,9 +222,7 @@ pub fn report_effect(
     ensures { result ≡ report_effect message.now answer.now (option_copied flight.entry) c message_id serial }
 {
     match answer {
-        Answer::Replied(replies) => {
-            replied_effect(replies.as_slice(), flight, c, message_id, serial)
-        }
+        Answer::Replied(replies) => replied_effect(replies, flight, c, message_id, serial),
         Answer::Listed(cells) if is_among(c, cells.as_slice()) => indicated_effect(message),
         _ => Effect::Leaves,
     }

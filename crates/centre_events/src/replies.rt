@@ -1,12 +1,16 @@
 //! What a reply says, cell by cell.
 
-ghost use Rattle.std.specs.Prelude.{◌≡◌, ◌↔◌, IsTrue, IfOk};
+ghost use Rattle.std.specs.Prelude.{◌≡◌, ◌↔◌, true, find, Some, IsTrue, IfOk, IfSome};
 ghost use Rattle.std.specs.Cmp.{decided, partial_equiv_from_equiv};
 ghost use Rattle.std.specs.Cmp.Lexicographic.{pointwise};
+ghost use Rattle.std.specs.Option.{option_copied};
+ghost use Rattle.common.specs.Cell.{cell_eq};
+ghost use Rattle.common.specs.Order.{is_ascending};
 ghost use Rattle.centre_events.specs.Equality.{replies_decide};
-ghost use Rattle.centre_events.specs.Replies.{reply_eq};
+ghost use Rattle.centre_events.specs.Replies.{reply_eq, reply_lt};
 
 use crate::reply::Reply;
+use common::Cell;
 use std::alloc::{AllocError, Global};
 use std::marker::Model;
 
@@ -14,15 +18,49 @@ use std::marker::Model;
 #[derive(Debug, Drop)]
 pub struct Replies {
     replies: Vec<Reply>,
+    /// The cells stand in ascending order, so that one can be found by halves.
+    is_ordered: bool,
 }
 
 impl Model for Replies {
-    ghost use Rattle.std.specs.Prelude.{List};
+    ghost use Rattle.std.specs.Prelude.{◌≡◌, List, true};
+    ghost use Rattle.common.specs.Order.{is_ascending};
+    ghost use Rattle.centre_events.specs.Replies.{reply_lt};
     ghost use Rattle.centre_events.specs.declared.reply.Reply.{Reply};
 
     ghost Value = { List Reply };
 
     ghost view = { λ s. s.replies.items };
+
+    ghost invariant = { λ s. s.is_ordered ≡ true → is_ascending reply_lt s.replies.items ≡ true };
+}
+
+/// Whether the cells of the replies stand in ascending order.
+fn are_ascending(replies: &[Reply]) -> bool
+    ensures { result ≡ true → is_ascending reply_lt replies.now ≡ true }
+{
+    replies.is_sorted_by(|reply, next| reply.cell.is_before(&next.cell))
+}
+
+/// The first reply of the cell.
+fn first_of(replies: &[Reply], c: Cell) -> Option<&Reply>
+    ensures { option_copied result ≡ find (λ r. cell_eq c r.cell) replies.now }
+{
+    replies.iter().find(|reply| c == reply.cell)
+}
+
+/// The reply of the cell, where it is found by halves among replies in ascending order.
+#[tactic(auto, using(crate::proofs::ReplyLemmas::first_at))]
+fn found_by_halves(replies: &[Reply], c: Cell) -> Option<Reply>
+    requires { is_ascending reply_lt replies.now ≡ true }
+    ensures { IfSome result (λ r. find (λ x. cell_eq c x.cell) replies.now ≡ Some r) }
+{
+    let place = replies.partition_point(|reply| reply.cell.is_before(&c));
+    if place < replies.len() && c == replies[place].cell {
+        Some(replies[place])
+    } else {
+        None
+    }
 }
 
 impl Replies {
@@ -30,7 +68,26 @@ impl Replies {
     pub fn from_vec(replies: Vec<Reply>) -> Replies
         ensures { result ≡ replies.items }
     {
-        Replies { replies }
+        let is_ordered = are_ascending(&replies);
+        Replies {
+            replies,
+            is_ordered,
+        }
+    }
+
+    /// The first reply of the cell.
+    pub fn of_cell(&self, c: Cell) -> Option<Reply>
+        ensures { result ≡ find (λ r. cell_eq c r.cell) self.now }
+    {
+        if self.is_ordered
+            && let Some(reply) = found_by_halves(&self.replies, c)
+        {
+            return Some(reply);
+        }
+        match first_of(&self.replies, c) {
+            Some(reply) => Some(*reply),
+            None => None,
+        }
     }
 
     pub fn as_slice(&self) -> &[Reply]
@@ -43,7 +100,7 @@ impl Replies {
     pub fn into_vec(self) -> Vec<Reply>
         ensures { result.items ≡ self }
     {
-        let Replies { replies } = self;
+        let Replies { replies, .. } = self;
         replies
     }
 
