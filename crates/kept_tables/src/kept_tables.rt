@@ -110,6 +110,7 @@ impl KeptTables {
         ensures lines { self.new.lines.lines ≡ self.old.lines.lines }
         ensures downs { self.new.lines.downs ≡ self.old.lines.downs }
         ensures meter { self.new.lines.meter ≤ self.old.lines.meter + 1 }
+        ensures least { self.old.lines.meter ≤ self.new.lines.meter }
     {
         self.lines.read_line(key)
     }
@@ -131,6 +132,7 @@ impl KeptTables {
         ensures lines { self.new.lines.lines ≡ self.old.lines.lines }
         ensures downs { self.new.lines.downs ≡ self.old.lines.downs }
         ensures meter { self.new.lines.meter ≤ self.old.lines.meter + line_count self.old.lines b w }
+        ensures least { self.old.lines.meter ≤ self.new.lines.meter }
     {
         self.lines.cells_on_air(b, w, serial, after, most)
     }
@@ -225,6 +227,7 @@ impl KeptTables {
         ensures changed { OnOk result (Shifted self.old self.new key before.now after.now) }
         ensures downs { self.new.lines.downs ≡ self.old.lines.downs }
         ensures meter { self.new.lines.meter ≤ self.old.lines.meter + 1 }
+        ensures least { self.old.lines.meter ≤ self.new.lines.meter }
     {
         let LineKey { bsc, cell, warning } = key;
         self.lines.set_line(key, after.line)?;
@@ -240,6 +243,7 @@ impl KeptTables {
         ensures settled { OnOk result ((b : Begins self.old changes.now) → Consistent self.new (mixed b.from b.to changes.now)) }
         ensures downs { (b : ℕ) (c : Cell) → down_at self.new.lines b c ≡ down_at self.old.lines b c }
         ensures meter { self.new.lines.meter ≤ self.old.lines.meter + length changes.now }
+        ensures least { self.old.lines.meter ≤ self.new.lines.meter }
     {
         for change in changes {
             tell_range(change.key);

@@ -101,6 +101,7 @@ impl LineTable {
         ensures downs { self.new.downs ≡ self.old.downs }
         ensures meter { self.new.meter ≡ counted self.old.meter }
         ensures most { self.new.meter ≤ self.old.meter + 1 }
+        ensures least { self.old.meter ≤ self.new.meter }
     {
         self.count();
         match self.lines.get(&Slot::of(key)) {
@@ -118,6 +119,7 @@ impl LineTable {
         ensures downs { self.new.downs ≡ self.old.downs }
         ensures meter { self.new.meter ≡ counted self.old.meter }
         ensures most { self.new.meter ≤ self.old.meter + 1 }
+        ensures least { self.old.meter ≤ self.new.meter }
     {
         self.count();
         let slot = Slot::of(key);
@@ -145,6 +147,7 @@ impl LineTable {
         ensures lines { self.new.lines ≡ self.old.lines }
         ensures downs { self.new.downs ≡ self.old.downs }
         ensures meter { self.new.meter ≤ self.old.meter + line_count self.old b w }
+        ensures least { self.old.meter ≤ self.new.meter }
         ensures counted { IfOk result (λ cells. self.new.meter < 2 ^ 64 - 1 → self.old.meter + length cells ≤ self.new.meter) }
     {
         let lines = lines_after(&self.lines, b, w, after);

@@ -54,6 +54,7 @@ pub(crate) fn first_on_air(
     ensures first { IfOk result (λ cells. cells ≡ take most (on_air_cells serial (lines_for w lines.entry))) }
     ensures some { OnErr result (1 ≤ length (take most (on_air_cells serial (lines_for w lines.entry)))) }
     ensures meter { meter.new ≤ meter.old + length (lines_for w lines.entry) }
+    ensures least { meter.old ≤ meter.new }
     ensures counted { IfOk result (λ cells. meter.new < 2 ^ 64 - 1 → meter.old + length cells ≤ meter.new) }
 {
     let mut cells = Vec::new(alloc);

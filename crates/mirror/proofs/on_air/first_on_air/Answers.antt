@@ -25,4 +25,5 @@ loop-slot-preserved c =
           ∙ c.loop-slot.invariant.0),
       grind (arith, common_steps, all, long),
       grind (arith, common_steps, c.loop-slot.invariant.2),
+      grind (arith, common_steps, c.loop-slot.invariant.3),
     )

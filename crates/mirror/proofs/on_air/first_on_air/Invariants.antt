@@ -3,9 +3,10 @@ use Rattle.mirror.specs.OnAir.{lines_for, on_air_cells}
 use Rattle.mirror.proofs.on_air.first_on_air.Given as goal
 
 -- the cells found and the first of those to come are the first of all, the lines counted and those to come are no more
--- than all, and the cells found were counted
+-- than all, the cells found were counted, and the meter hasn't fallen
 abbrev pub invariant-loop-slot : goal.invariant-loop-slot
 invariant-loop-slot l =
     (l.cells.items ++ take (l.most - length l.cells.items) (on_air_cells l.serial (lines_for l.w l.slot-iterator)) ≡ take l.most (on_air_cells l.serial (lines_for l.w l.fn.lines)))
     × (l.meter + length (lines_for l.w l.slot-iterator) ≤ l.initial.meter + length (lines_for l.w l.fn.lines))
     × (l.meter < 2 ^ 64 - 1 → l.initial.meter + length l.cells.items ≤ l.meter)
+    × (l.initial.meter ≤ l.meter)

@@ -13,6 +13,7 @@ loop-change-preserved c = record {
   settled = λ b. settled_more c.args.self.now c.args.changes.now b c.loop-change.self c.change.new.self c.loop-change.change-index c.change-item.result c.loop-change-test.true c.change-item.is c.tell_range.ensures c.tell_counts.ensures (c.loop-change.invariant.settled b) c.in_ok-change.ensures.changed;
   downs = c.change.ensures.downs ∙ c.loop-change.invariant.downs;
   meter = omega (arith, c.change.ensures.meter, c.loop-change.invariant.meter);
+  least = omega (arith, c.change.ensures.least, c.loop-change.invariant.least);
 }
 
 -- all changes are made
