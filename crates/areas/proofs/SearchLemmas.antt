@@ -54,6 +54,14 @@ none_at_point a l n d o h point e =
         before true f = other_before a (get_or l k d) (point.0 k d (omega arith) (ltb-true k n f))
         before false f = after (ltb n k) refl (ltb-false k n f)
 
+-- an area in order that has the name is the first that has it
+pub found_at : (a : List ℕ) (l : List Area) (n : ℕ) (d : Area) → is_ascending named_lt l ≡ true → n < length l → is_named a (get_or l n d) ≡ true → n ≡ position_or_len (is_named a) l
+found_at a l n d o h e =
+    sym (position_or_len_is (is_named a) l n d (omega arith) (λ k g. other_before a (get_or l k d) (earlier k g)) (λ g. e))
+  where
+    earlier : (k : ℕ) → k < n → comes_before a (get_or l k d) ≡ true
+    earlier k g = ap (octets_lt (get_or l k d).name) (sym ((bytes_eq-Decides (get_or l n d).name a).0 e)) ∙ rising.rises named_lt l k n d o g h
+
 next : (m n : ℕ) → ltb (suc m) (suc n) ≡ ltb m n
 next m n = grind (arith, nat_tests)
 
