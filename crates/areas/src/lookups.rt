@@ -5,10 +5,11 @@ ghost use Rattle.std.specs.List.{position_or_len};
 ghost use Rattle.common.specs.Order.{is_ascending};
 ghost use Rattle.areas.specs.Areas.{is_named, has_area, selectors_of, has_selector, is_among, selects, covers, named_lt};
 ghost use Rattle.areas.specs.Selector.{selector_lt};
+ghost use Rattle.areas.specs.declared.selector.Selector.TheVariants as selector;
 
 use crate::area::Area;
 use crate::naming::is_before;
-use crate::selector::Selector;
+use crate::selector::{Selector, is_before_cell, is_before_lac, is_cell, is_lac};
 use common::{Cell, Name, Ordered};
 
 /// Where the area of that name stands among areas in order; past the last where there is none.
@@ -97,12 +98,33 @@ pub(crate) fn selector_count(areas: &[Area], a: &Name) -> usize
     selectors_of(areas, a).len()
 }
 
-/// Whether one of the selectors, which stand in their order, is the cell or its location area.
+/// Whether the location area is one of those selectors, which stand in their order. The last is looked at first.
+fn has_lac(selectors: &[Selector], lac: u16) -> bool
+    requires { is_ascending selector_lt selectors.now ≡ true }
+    ensures { result ≡ is_among (selector.Lac lac) selectors.now }
+{
+    let count = selectors.len();
+    if count == 0 {
+        return false;
+    }
+    let last = selectors[count - 1];
+    if is_before_lac(last, lac) {
+        return false;
+    }
+    is_lac(last, lac) || is_among(selectors, Selector::Lac(lac))
+}
+
+/// Whether one of the selectors, which stand in their order, is the cell or its location area. One search does where no
+/// other cell of that location area stands before the cell.
 fn selects(selectors: &[Selector], c: Cell) -> bool
     requires { is_ascending selector_lt selectors.now ≡ true }
     ensures { result ≡ selects selectors.now c }
 {
-    is_among(selectors, Selector::Cell(c)) || is_among(selectors, Selector::Lac(c.lac))
+    let place = selectors.partition_point(|other| is_before_cell(*other, c));
+    if place < selectors.len() && is_cell(selectors[place], c) {
+        return true;
+    }
+    has_lac(&selectors[..place], c.lac)
 }
 
 /// Whether the area covers the cell.

@@ -1,5 +1,9 @@
 //! What an area selects.
 
+ghost use Rattle.std.specs.Prelude.{◌≡◌};
+ghost use Rattle.areas.specs.Selector.{selector_eq, selector_lt};
+ghost use Rattle.areas.specs.declared.selector.Selector.TheVariants as selector;
+
 use common::{Cell, Ordered};
 
 /// One cell, or all cells of a location area. It may name cells that are not registered.
@@ -22,5 +26,45 @@ impl Ordered for Selector {
             (Selector::Lac(lac), Selector::Cell(cell)) => *lac <= cell.lac,
             (Selector::Lac(lac), Selector::Lac(other)) => *lac < *other,
         }
+    }
+}
+
+/// Whether the selector comes before that of the cell.
+pub(crate) fn is_before_cell(s: Selector, c: Cell) -> bool
+    ensures { result ≡ selector_lt s (selector.Cell c) }
+{
+    match s {
+        Selector::Cell(d) => d.lac < c.lac || (d.lac == c.lac && d.ci < c.ci),
+        Selector::Lac(lac) => lac <= c.lac,
+    }
+}
+
+/// Whether the selector is the cell.
+pub(crate) fn is_cell(s: Selector, c: Cell) -> bool
+    ensures { result ≡ selector_eq s (selector.Cell c) }
+{
+    match s {
+        Selector::Cell(d) => d.lac == c.lac && d.ci == c.ci,
+        Selector::Lac(_) => false,
+    }
+}
+
+/// Whether the selector comes before that of the location area.
+pub(crate) fn is_before_lac(s: Selector, lac: u16) -> bool
+    ensures { result ≡ selector_lt s (selector.Lac lac) }
+{
+    match s {
+        Selector::Cell(c) => c.lac < lac,
+        Selector::Lac(l) => l < lac,
+    }
+}
+
+/// Whether the selector is the location area.
+pub(crate) fn is_lac(s: Selector, lac: u16) -> bool
+    ensures { result ≡ selector_eq s (selector.Lac lac) }
+{
+    match s {
+        Selector::Cell(_) => false,
+        Selector::Lac(l) => l == lac,
     }
 }
