@@ -5,3 +5,5 @@ mod OnAirLemmas
 mod CountLemmas
 mod OwnLemmas
 mod CellLineLemmas
+mod IndexLemmas
+mod TableLemmas

@@ -4,5 +4,6 @@ pub mod Blank
 pub mod BlankLaws
 pub mod Order
 pub mod Table
+pub mod Index
 pub mod Known
 pub mod OnAir

@@ -1,12 +1,11 @@
 -- What a table of lines holds: a line for each BSC, cell and warning, which cells are down at each BSC, and how often
 -- lines were read or set.
-use Rattle.std.specs.Prelude.{◌≡◌, ℕ, Bool, true, ◌+◌, ◌-◌, ◌^◌, ◌&&◌, not, List, nat_eq, if◌then◌else◌}
-use Rattle.std.specs.List.{list_any, list_all}
+use Rattle.std.specs.Prelude.{ℕ, Bool, ◌+◌, ◌-◌, ◌^◌, ◌&&◌, List, nat_eq, if◌then◌else◌}
+use Rattle.std.specs.List.{list_any}
 use Rattle.std.specs.Map.{lookup}
 use Rattle.std.specs.Option.{unwrap_or}
 use Rattle.common.specs.Cell.{cell_eq}
 use Rattle.common.specs.declared.cell.Cell.{Cell}
-use Rattle.mirror.specs.Blank.{is_blank}
 use Rattle.mirror.specs.Line.{blank_line}
 use Rattle.mirror.specs.declared.line.Line.{Line}
 use Rattle.mirror.specs.declared.line_key.LineKey.{LineKey}
@@ -50,7 +49,3 @@ down_at t b c = list_any (is_that_place b c) t.downs
 -- one access more; the greatest value of 64 bits stays
 abbrev pub counted : ℕ → ℕ
 counted n = if nat_eq n (2 ^ 64 - 1) then n else n + 1
-
--- what holds of every table: none of the lines that it keeps is blank
-pub record IsTable (t : Table) : Type 0 where
-  pub none_blank : list_all (λ e. not (is_blank e.1)) t.lines ≡ true

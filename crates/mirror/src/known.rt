@@ -1,13 +1,18 @@
-//! Whether one cell is known at a BSC, and of which warnings something is kept in it.
+//! Whether one cell is known at a BSC, of which warnings something is kept in it, and that nothing is kept of one any more.
 
 ghost use Rattle.std.specs.Prelude.{◌≡◌, filter, map, IfOk};
-ghost use Rattle.std.specs.BTreeMap.{IsOrdered};
+ghost use Rattle.std.specs.BTreeMap.{IsOrdered, is_at};
 ghost use Rattle.std.specs.List.{list_any};
+ghost use Rattle.std.specs.Map.{lookup, remove_entry};
+ghost use Rattle.std.specs.Option.{is_some};
 ghost use Rattle.cell_register.specs.Register.{place_in, is_place};
-ghost use Rattle.mirror.specs.Order.{slot_cmp};
-ghost use Rattle.mirror.specs.Table.{is_slot_in};
+ghost use Rattle.mirror.specs.Index.{IsSet};
+ghost use Rattle.mirror.specs.Line.{blank_line};
+ghost use Rattle.mirror.specs.Order.{slot_cmp, slot_of};
+ghost use Rattle.mirror.specs.Table.{is_slot, is_slot_in};
 
 use crate::line::Line;
+use crate::line_key::LineKey;
 use crate::slot::Slot;
 use cell_register::{BscId, Register};
 use common::Cell;
@@ -61,4 +66,13 @@ pub(crate) fn warnings_at(
         warnings.push(WarningId::new(slot.warning))?;
     }
     Ok(warnings)
+}
+
+/// Takes the line out. The result says whether it was kept.
+pub(crate) fn take_line(lines: &mut BTreeMap<Slot, Line>, key: LineKey) -> bool
+    ensures kept { result ≡ is_some (lookup (is_slot key.bsc key.cell key.warning) lines.old.entries) }
+    ensures set { IsSet key blank_line lines.old.entries lines.new.entries }
+    ensures entries { lines.new.entries ≡ remove_entry (is_at (slot_cmp (slot_of key.bsc key.cell key.warning))) lines.old.entries }
+{
+    lines.remove(&Slot::of(key)).is_some()
 }

@@ -2,8 +2,8 @@
 //! message was broadcast, and which cells are down.
 //!
 //! A line is what is kept of one BSC, cell and warning. Begin with `line_table`; the definitions that contracts cite
-//! are in `specs/`: `Line` and `Seen` for one line, `Table` for all of them, `Known` for the cells that a report names,
-//! `OnAir` for the cells in which a version is on air.
+//! are in `specs/`: `Line` and `Seen` for one line, `Table` for all of them, `Index` for the lines of one warning, `Known`
+//! for the cells that a report names, `OnAir` for the cells in which a version is on air.
 #![tactic(auto)]
 
 mod gathering;
@@ -18,6 +18,8 @@ mod place;
 mod presence;
 mod sight;
 mod slot;
+mod warning_slot;
+mod warning_slots;
 
 pub use key_state::KeyState;
 pub use line::Line;

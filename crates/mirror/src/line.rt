@@ -31,6 +31,13 @@ impl Line {
         *self == Line::blank()
     }
 
+    /// Whether the same is kept in both.
+    pub fn same(&self, other: &Line) -> bool
+        ensures { IsTrue result ↔ (self.now ≡ other.now) }
+    {
+        *self == *other
+    }
+
     /// What is kept of the version of that serial number.
     pub fn state(&self, serial: Serial) -> KeyState
         ensures { result ≡ state_of self.now serial }

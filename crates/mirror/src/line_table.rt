@@ -6,19 +6,22 @@ ghost use Rattle.common.specs.Cell.{cell_eq, cell_lt};
 ghost use Rattle.common.specs.Order.{is_ascending};
 ghost use Rattle.common.specs.declared.cell.Cell.{Cell};
 ghost use Rattle.mirror.specs.Blank.{is_blank};
+ghost use Rattle.mirror.specs.Index.{key_before};
 ghost use Rattle.mirror.specs.Line.{blank_line};
 ghost use Rattle.mirror.specs.Table.{line_at, has_line, down_at, counted, is_key};
 ghost use Rattle.mirror.specs.Known.{are_of_cells, is_known, is_named, warnings_at};
 ghost use Rattle.mirror.specs.OnAir.{AreOnAir, line_count};
+ghost use Rattle.mirror.specs.declared.line_key.LineKey.{LineKey};
 
 use crate::gathering::{add_cells, add_downs, add_line_cells, cells_in_order};
-use crate::known::{has_line, is_registered, warnings_at};
+use crate::known::{has_line, is_registered, take_line, warnings_at};
 use crate::line::Line;
 use crate::line_key::LineKey;
 use crate::naming::{are_of_cells, named, own_cell};
 use crate::on_air::{first_on_air, lines_after};
 use crate::place::Place;
 use crate::slot::Slot;
+use crate::warning_slots::WarningSlots;
 use cbsp_ie::CellId;
 use cell_register::{BscId, Register};
 use common::{Cell, Cells};
@@ -34,18 +37,21 @@ use warning_book::WarningId;
 pub struct LineTable {
     alloc: Global,
     lines: BTreeMap<Slot, Line>,
+    /// The lines that aren't blank, by warning.
+    index: WarningSlots,
     downs: BTreeSet<Place>,
     meter: u64,
 }
 
 impl Model for LineTable {
-    ghost use Rattle.mirror.specs.Table.{Table, IsTable};
+    ghost use Rattle.mirror.specs.Index.{IsTable};
+    ghost use Rattle.mirror.specs.Table.{Table};
 
     ghost Value = { Table };
 
     ghost view = { λ t. record { lines = t.lines.entries; downs = t.downs.keys; meter = t.meter } };
 
-    ghost invariant = { λ t. IsTable (record { lines = t.lines.entries; downs = t.downs.keys; meter = t.meter }) };
+    ghost invariant = { λ t. IsTable (record { lines = t.lines.entries; downs = t.downs.keys; meter = t.meter }) t.index };
 }
 
 impl LineTable {
@@ -58,6 +64,7 @@ impl LineTable {
         LineTable {
             alloc,
             lines: BTreeMap::new(alloc),
+            index: WarningSlots::new(alloc),
             downs: BTreeSet::new(alloc),
             meter: 0,
         }
@@ -122,13 +129,56 @@ impl LineTable {
         ensures least { self.old.meter ≤ self.new.meter }
     {
         self.count();
-        let slot = Slot::of(key);
         if line.is_blank() {
-            self.lines.remove(&slot);
+            self.clear(key);
             return Ok(());
         }
-        self.lines.insert(slot, line)?;
-        Ok(())
+        self.keep(key, line)
+    }
+
+    /// Makes the line blank.
+    fn clear(&mut self, key: LineKey)
+        ensures set { (b : ℕ) (c : Cell) (w : ℕ) → line_at self.new b c w ≡ (if is_key key b c w then blank_line else line_at self.old b c w) }
+        ensures downs { self.new.downs ≡ self.old.downs }
+        ensures meter { self.new.meter ≡ self.old.meter }
+    {
+        let LineKey { bsc, cell, warning } = key;
+        if take_line(&mut self.lines, key) {
+            self.index.remove(LineKey { bsc, cell, warning });
+        }
+    }
+
+    /// Keeps the line, which isn't blank. Where memory is wanting each line stays as it was.
+    fn keep(&mut self, key: LineKey, line: Line) -> Result<(), AllocError>
+        requires { is_blank line ≡ false }
+        ensures set { OnOk result ((b : ℕ) (c : Cell) (w : ℕ) → line_at self.new b c w ≡ (if is_key key b c w then line else line_at self.old b c w)) }
+        ensures unchanged { OnErr result (self.new.lines ≡ self.old.lines) }
+        ensures grows { OnErr result (line_at self.old key.bsc key.cell key.warning ≡ blank_line) }
+        ensures downs { self.new.downs ≡ self.old.downs }
+        ensures meter { self.new.meter ≡ self.old.meter }
+    {
+        let slot = Slot::of(key);
+        if self.lines.insert(slot, line)?.is_some() {
+            return Ok(());
+        }
+        match self.index.insert(key) {
+            Ok(()) => Ok(()),
+            Err(e) => {
+                self.lines.remove(&slot);
+                Err(e)
+            }
+        }
+    }
+
+    /// The lines of the warning that aren't blank, by BSC and cell, in ascending order. No line is read, and none is
+    /// counted.
+    pub fn places_of(&self, w: WarningId) -> Result<Vec<LineKey>, AllocError>
+        ensures which { IfOk result (λ keys. (b : ℕ) (c : Cell) (v : ℕ) → list_any (λ k. is_key k b c v) keys.items ≡ (nat_eq w v && not (is_blank (line_at self.now b c v)))) }
+        ensures order { IfOk result (λ keys. is_ascending key_before keys.items ≡ true) }
+        ensures few { IfOk result (λ keys. (ks : List LineKey) → ((b : ℕ) (c : Cell) → is_blank (line_at self.now b c w) ≡ false → list_any (λ k. is_key k b c w) ks ≡ true) → length keys.items ≤ length ks) }
+    {
+        let keys = self.index.keys_of(self.alloc, w)?;
+        Ok(keys)
     }
 
     /// The first `most` cells at the BSC, in ascending order and after the given one, in which the version of that serial

@@ -1,6 +1,6 @@
 //! What is to be ordered on one line: for a BSC, a cell and a warning.
 
-ghost use Rattle.std.specs.Prelude.{◌≡◌, ◌++◌, ◌∷◌, [], IfOk, OnOk, if◌then◌else◌};
+ghost use Rattle.std.specs.Prelude.{◌≡◌, ◌↔◌, ◌++◌, ◌∷◌, [], IfOk, OnOk, IsTrue, if◌then◌else◌};
 ghost use Rattle.mirror.specs.Seen.{is_the, seen};
 ghost use Rattle.order_maker.specs.Actions.{needs, is_replaceable, newest, replaced, replaced_for, fresh_kind, deed, fresh, is_to_kill, kills, deeds};
 
@@ -145,4 +145,11 @@ pub fn actions(alloc: Global, sight: &Sight<'_>) -> Result<Vec<Deed>, AllocError
     add_fresh(&mut out, sight)?;
     add_kills(&mut out, sight)?;
     Ok(out)
+}
+
+/// Whether the two are one list.
+pub(crate) fn are_same(deeds: &[Deed], others: &[Deed]) -> bool
+    ensures { IsTrue result ↔ (deeds.now ≡ others.now) }
+{
+    deeds == others
 }

@@ -1,6 +1,6 @@
 //! The pending orders of each BSC, changed line by line.
 
-ghost use Rattle.std.specs.Prelude.{◌≡◌, ℕ, false, ◌&&◌, ◌||◌, not, nat_eq, List, map, take, IfOk, OnOk};
+ghost use Rattle.std.specs.Prelude.{◌≡◌, ℕ, true, false, ◌&&◌, ◌||◌, not, nat_eq, List, map, take, IfOk, OnOk};
 ghost use Rattle.std.specs.List.{slice_get};
 ghost use Rattle.std.specs.Option.{is_some};
 ghost use Rattle.mirror.specs.Seen.{seen};
@@ -12,7 +12,7 @@ ghost use Rattle.order_maker.specs.declared.action.Action.{Action};
 
 use crate::action::Action;
 use crate::deed::Deed;
-use crate::deeds::actions;
+use crate::deeds::{actions, are_same};
 use crate::joining::{is_one_order, join_last};
 use crate::order::Order;
 use crate::orders::Orders;
@@ -95,6 +95,21 @@ impl Pending {
         }
     }
 
+    /// Takes the first out and puts the others in.
+    fn exchange(
+        &mut self,
+        b: BscId,
+        c: Cell,
+        gone: &[Deed],
+        come: &[Deed],
+    ) -> Result<(), AllocError>
+        ensures { OnOk result (Shifts self.old self.new b (map (in_cell c) gone.now) (map (in_cell c) come.now)) }
+    {
+        self.take_all_out(b, c, gone);
+        self.put_all(b, c, come)?;
+        Ok(())
+    }
+
     /// The line of the BSC, the cell and one warning was `before` and is `after`: what was to be ordered on it there is
     /// taken out, and what is to be ordered on it now is put in. The only `Err` is that of memory.
     pub fn shift(
@@ -109,9 +124,27 @@ impl Pending {
         let alloc = self.alloc;
         let gone = actions(alloc, before)?;
         let come = actions(alloc, after)?;
-        self.take_all_out(b, c, gone.as_slice());
-        self.put_all(b, c, come.as_slice())?;
-        Ok(())
+        self.exchange(b, c, gone.as_slice(), come.as_slice())
+    }
+
+    /// The same, where what was to be ordered on the line is there. No action is looked up where none comes or goes.
+    pub fn shift_held(
+        &mut self,
+        b: BscId,
+        c: Cell,
+        before: &Sight<'_>,
+        after: &Sight<'_>,
+    ) -> Result<(), AllocError>
+        requires { (a : Action) → is_listed a (map (in_cell c) (deeds (seen before.now))) ≡ true → holds self.old b a ≡ true }
+        ensures { OnOk result (Shifts self.old self.new b (map (in_cell c) (deeds (seen before.now))) (map (in_cell c) (deeds (seen after.now)))) }
+    {
+        let alloc = self.alloc;
+        let gone = actions(alloc, before)?;
+        let come = actions(alloc, after)?;
+        if are_same(gone.as_slice(), come.as_slice()) {
+            return Ok(());
+        }
+        self.exchange(b, c, gone.as_slice(), come.as_slice())
     }
 
     /// The slots of the BSC, in the order in which their actions are sent.
