@@ -9,7 +9,7 @@ use Rattle.std.specs.Cmp.Lexicographic.{pointwise_decides}
 use Rattle.std.specs.Map.{lookup}
 use Rattle.coverage_board.specs.Board.{area_in}
 use Rattle.coverage_board.specs.Numbers.{zero_numbers}
-use Rattle.coverage_board.specs.Parts.{has_area, part_where}
+use Rattle.coverage_board.specs.Parts.{has_area}
 use Rattle.coverage_board.specs.declared.numbers.Numbers.{Numbers}
 
 -- the test of two names is true where they are one name, and nowhere else
@@ -64,23 +64,23 @@ has_again xs i x is h there a = has_next xs i x is h a ∙ step (bytes_eq x a) r
         rw known refl
     step false e = or_none (has_area (take i xs) a)
 
--- where each area of the first has what op makes of its numbers and a part, and a new one then has it too, so has each
--- area of one more
-pub part_next : (op : Numbers → Numbers → Numbers) → ((n : Numbers) → op n zero_numbers ≡ n) → (p : Numbers) (xs : List (List ℕ)) (i : ℕ) (x : List ℕ) (old mid new : List (List ℕ × Numbers)) → x ≡ get_or xs i x → i < length xs → has_area (take i xs) x ≡ false → ((b : List ℕ) → area_in mid b ≡ op (area_in old b) (part_where (has_area (take i xs) b) p)) → ((b : List ℕ) → area_in new b ≡ (if bytes_eq x b then op (area_in mid b) p else area_in mid b)) → (a : List ℕ) → area_in new a ≡ op (area_in old a) (part_where (has_area (take (i + 1) xs) a) p)
-part_next op none p xs i x old mid new is h absent before change a =
-    step (bytes_eq x a) refl (change a) ∙ ap (λ t. op (area_in old a) (part_where t p)) (sym (has_next xs i x is h a))
+-- where each area of the first has what g makes of its numbers, and a new one then has it too, so has each area of one
+-- more
+pub part_next : (g : Numbers → Bool → Numbers) → ((n : Numbers) → g n false ≡ n) → (xs : List (List ℕ)) (i : ℕ) (x : List ℕ) (old mid new : List (List ℕ × Numbers)) → x ≡ get_or xs i x → i < length xs → has_area (take i xs) x ≡ false → ((b : List ℕ) → area_in mid b ≡ g (area_in old b) (has_area (take i xs) b)) → ((b : List ℕ) → area_in new b ≡ (if bytes_eq x b then g (area_in mid b) true else area_in mid b)) → (a : List ℕ) → area_in new a ≡ g (area_in old a) (has_area (take (i + 1) xs) a)
+part_next g none xs i x old mid new is h absent before change a =
+    step (bytes_eq x a) refl (change a) ∙ ap (g (area_in old a)) (sym (has_next xs i x is h a))
   where
-    step : (t : Bool) → bytes_eq x a ≡ t → area_in new a ≡ (if t then op (area_in mid a) p else area_in mid a) → area_in new a ≡ op (area_in old a) (part_where (has_area (take i xs) a || t) p)
-    step true e g =
+    step : (t : Bool) → bytes_eq x a ≡ t → area_in new a ≡ (if t then g (area_in mid a) true else area_in mid a) → area_in new a ≡ g (area_in old a) (has_area (take i xs) a || t)
+    step true e f =
         let out : has_area (take i xs) a ≡ false = ap (has_area (take i xs)) (sym ((names_decide x a).0 e)) ∙ absent in
-        let kept : area_in mid a ≡ area_in old a = before a ∙ ap (λ t. op (area_in old a) (part_where t p)) out ∙ none (area_in old a) in
-        g ∙ ap (λ n. op n p) kept ∙ ap (λ t. op (area_in old a) (part_where (t || true) p)) (sym out)
-    step false e g = g ∙ before a ∙ ap (λ t. op (area_in old a) (part_where t p)) (sym (or_none (has_area (take i xs) a)))
+        let kept : area_in mid a ≡ area_in old a = before a ∙ ap (g (area_in old a)) out ∙ none (area_in old a) in
+        f ∙ ap (λ n. g n true) kept ∙ ap (λ t. g (area_in old a) (t || true)) (sym out)
+    step false e f = f ∙ before a ∙ ap (g (area_in old a)) (sym (or_none (has_area (take i xs) a)))
 
 -- an area that isn't among the first has the numbers that it had
-pub part_first : (op : Numbers → Numbers → Numbers) → ((n : Numbers) → op n zero_numbers ≡ n) → (p : Numbers) (xs : List (List ℕ)) (i : ℕ) (x : List ℕ) (old mid : List (List ℕ × Numbers)) → has_area (take i xs) x ≡ false → ((b : List ℕ) → area_in mid b ≡ op (area_in old b) (part_where (has_area (take i xs) b) p)) → area_in mid x ≡ area_in old x
-part_first op none p xs i x old mid absent before =
-    before x ∙ ap (λ t. op (area_in old x) (part_where t p)) absent ∙ none (area_in old x)
+pub part_first : (g : Numbers → Bool → Numbers) → ((n : Numbers) → g n false ≡ n) → (xs : List (List ℕ)) (i : ℕ) (x : List ℕ) (old mid : List (List ℕ × Numbers)) → has_area (take i xs) x ≡ false → ((b : List ℕ) → area_in mid b ≡ g (area_in old b) (has_area (take i xs) b)) → area_in mid x ≡ area_in old x
+part_first g none xs i x old mid absent before =
+    before x ∙ ap (g (area_in old x)) absent ∙ none (area_in old x)
 
 -- the name at an index is among the names
 pub has_at : (xs : List (List ℕ)) (i : ℕ) (x : List ℕ) → x ≡ get_or xs i x → i < length xs → has_area xs x ≡ true

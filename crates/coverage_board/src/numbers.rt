@@ -1,6 +1,6 @@
 //! The numbers of a board.
 
-ghost use Rattle.std.specs.Prelude.{◌≡◌};
+ghost use Rattle.std.specs.Prelude.{◌≡◌, ◌↔◌, IsTrue};
 ghost use Rattle.coverage_board.specs.Numbers.{zero_numbers, less, added, Holds, FitsWith};
 ghost use Rattle.coverage_board.specs.Parts.{without_left};
 
@@ -33,6 +33,13 @@ impl Numbers {
             left: 0,
             broadcasts: 0,
         }
+    }
+
+    /// Whether nothing is counted.
+    pub(crate) fn is_zero(self) -> bool
+        ensures { IsTrue result ↔ (self ≡ zero_numbers) }
+    {
+        self == Numbers::zero()
     }
 
     /// The numbers without a part of them.

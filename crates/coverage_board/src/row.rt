@@ -66,9 +66,11 @@ impl Row {
         let part_before = total_part(before);
         let part_after = total_part(after);
         self.total = self.total.less(part_before).added(part_after);
-        self.areas
-            .take_out_all(before.areas, part_before.without_left());
-        self.areas
-            .put_in_all(after.areas, part_after.without_left())
+        self.areas.shift(
+            before.areas,
+            part_before.without_left(),
+            after.areas,
+            part_after.without_left(),
+        )
     }
 }
