@@ -1,6 +1,6 @@
 -- What a change of one line makes of tables that are consistent with a view.
 use Rattle.std.proofs.Common.{◌≡◌, ◌≤◌, ◌<◌, ◌*◌, ℕ, Bool, true, false, ◌&&◌, ◌||◌, not, List, [], ◌∷◌, Option, Some, None, nat_eq, length, map, refl, sym, ◌∙◌, ap, subst, arith, if◌then◌else◌}
-use Rattle.std.proofs.lemmas.Bool.{and_from, and_right, or_parts, not_from_false}
+use Rattle.std.proofs.lemmas.Bool.{and_from, and_parts, and_right, or_parts, not_from_false}
 use Rattle.std.specs.Cmp.{unsigned_Decides}
 use Rattle.common.specs.Cell.{cell_eq}
 use Rattle.common.specs.Equality.{cell_decides}
@@ -23,7 +23,8 @@ use Rattle.kept_tables.specs.View.{is_spot, key_at, key_eq, key_of, spot_eq, spo
 use Rattle.kept_tables.specs.declared.line_facts.LineFacts.{LineFacts}
 use Rattle.kept_tables.specs.declared.spot.Spot.{Spot}
 use Rattle.mirror.specs.Line.{state_of}
-use Rattle.mirror.specs.Table.{line_at}
+use Rattle.mirror.specs.Table.{Table, is_key, line_at}
+use Rattle.mirror.specs.declared.line.Line.{Line}
 use Rattle.mirror.specs.declared.line_key.LineKey.{LineKey}
 use Rattle.order_maker.specs.Actions.{in_cell}
 use Rattle.order_maker.specs.Grouping.{kind_eq}
@@ -258,10 +259,27 @@ has_part t v from to k before after fit e between first second few low short is 
     area_room : (a : List ℕ) (d : Counts t v) → HasRoom (sum_numbers (λ s. area_of_line a (v (key_at s k.warning))) d.spots) (area_of_line a (v k)) (area_of_line a after)
     area_room a d = room_sum (λ s. area_of_line a (v (key_at s k.warning))) (λ s. area_few a (v (key_at s k.warning)) (is.counted (key_at s k.warning)) (few (key_at s k.warning))) d.spots d.in_range d.once (area_fits a d) (area_of_line a (v k)) (area_of_line a after) (area_few a after low short)
 
+    acts_held : (a : Action) → is_listed a (map (in_cell k.cell) (deeds_of (v k))) ≡ true → holds t.pending k.bsc a ≡ true
+    acts_held a h =
+        let parts = and_parts (cell_eq a.cell k.cell) (is_deed (deed_of a) (deeds_of (v k))) (sym (listed_in_cell a k.cell (deeds_of (v k))) ∙ h) in
+        let own : is.owner a.message_id a.serial ≡ Some k.warning = is.owned.owns k (deed_of a) parts.1 in
+        let cell : a.cell ≡ k.cell = (cell_decides a.cell k.cell).0 parts.0 in
+        is.acts k.bsc a ∙ ap (λ o. acts_by v o k.bsc a) own ∙ (λ i. is_deed (deed_of a) (deeds_of (v (key_of k.bsc (cell i) k.warning)))) ∙ parts.1
+
     part : (d : Counts t v) × (is_spot (spot_of k) d.spots ≡ true) → HasPart t k (v k) after
     part (d, there) = record {
+      line_there = is.lines k;
+      acts_there = acts_held;
       total_there = subst (λ n. Holds n (total_of_line (v k))) (sym (d.totals k.warning)) (holds_sum (spot_of k) (λ s. total_of_line (v (key_at s k.warning))) d.spots there);
       total_room = subst (λ n. HasRoom n (total_of_line (v k)) (total_of_line after)) (sym (d.totals k.warning)) (total_room d);
       area_there = λ a. subst (λ n. Holds n (area_of_line a (v k))) (sym (d.areas k.warning a)) (holds_sum (spot_of k) (λ s. area_of_line a (v (key_at s k.warning))) d.spots there);
       area_room = λ a. subst (λ n. HasRoom n (area_of_line a (v k)) (area_of_line a after)) (sym (d.areas k.warning a)) (area_room a d);
     }
+
+-- a line that is the same before and after is set as it is
+pub line_same : (t : Table) (k : LineKey) (before after : Line) → before ≡ after → line_at t k.bsc k.cell k.warning ≡ before → (b : ℕ) (c : Cell) (w : ℕ) → line_at t b c w ≡ (if is_key k b c w then after else line_at t b c w)
+line_same t k before after e there b c w = step (is_key k b c w) refl
+  where
+    step : (x : Bool) → is_key k b c w ≡ x → line_at t b c w ≡ (if x then after else line_at t b c w)
+    step true h = (λ i. let q = sym ((key_decides k (key_of b c w)).0 h) i in line_at t q.bsc q.cell q.warning) ∙ there ∙ e
+    step false h = refl

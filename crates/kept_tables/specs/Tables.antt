@@ -1,5 +1,5 @@
 -- What the tables of a centre hold, and how they change with one line.
-use Rattle.std.specs.Prelude.{◌≡◌, ℕ, false, List, nat_eq, map, if◌then◌else◌}
+use Rattle.std.specs.Prelude.{◌≡◌, ℕ, true, false, List, nat_eq, map, if◌then◌else◌}
 use Rattle.common.specs.declared.cell.Cell.{Cell}
 use Rattle.coverage_board.specs.Board.{WarningNumbers, total_of, area_of}
 use Rattle.coverage_board.specs.Numbers.{HasRoom, Holds, zero_numbers, moved}
@@ -10,7 +10,7 @@ use Rattle.mirror.specs.Line.{blank_line}
 use Rattle.mirror.specs.Table.{Table, line_at, down_at}
 use Rattle.mirror.specs.declared.line_key.LineKey.{LineKey}
 use Rattle.order_maker.specs.Actions.{in_cell}
-use Rattle.order_maker.specs.Pending.{Shifts, holds}
+use Rattle.order_maker.specs.Pending.{Shifts, holds, is_listed}
 use Rattle.order_maker.specs.declared.action.Action.{Action}
 
 -- what a function takes
@@ -51,8 +51,11 @@ pub record Shifted (t u : Tables) (k : LineKey) (before after : LineFacts) : Typ
   pub total : (w : ℕ) → total_of u.board w ≡ (if nat_eq k.warning w then moved (total_of t.board w) (total_of_line before) (total_of_line after) else total_of t.board w)
   pub area : (w : ℕ) (a : List ℕ) → area_of u.board w a ≡ (if nat_eq k.warning w then moved (area_of t.board w a) (area_of_line a before) (area_of_line a after) else area_of t.board w a)
 
--- what the line adds is a part of the numbers of its warning and of each area, and they have room for what it adds then
+-- what is read of the line is kept, what is to be ordered on it is pending, what it adds is a part of the numbers of its
+-- warning and of each area, and they have room for what it adds then
 pub record HasPart (t : Tables) (k : LineKey) (before after : LineFacts) : Type 0 where
+  pub line_there : line_at t.lines k.bsc k.cell k.warning ≡ before.line
+  pub acts_there : (a : Action) → is_listed a (map (in_cell k.cell) (deeds_of before)) ≡ true → holds t.pending k.bsc a ≡ true
   pub total_there : Holds (total_of t.board k.warning) (total_of_line before)
   pub total_room : HasRoom (total_of t.board k.warning) (total_of_line before) (total_of_line after)
   pub area_there : (a : List ℕ) → Holds (area_of t.board k.warning a) (area_of_line a before)

@@ -1,9 +1,11 @@
 //! The lines, the pending orders and the board of a centre.
 
-ghost use Rattle.std.specs.Prelude.{◌≡◌, ◌<◌, ℕ, true};
+ghost use Rattle.std.specs.Prelude.{◌≡◌, ◌<◌, ◌≤◌, ◌+◌, ℕ, true, if◌then◌else◌, OnOk};
+ghost use Rattle.common.specs.declared.cell.Cell.{Cell};
 ghost use Rattle.kept_tables.specs.Consistent.{is_in_range};
 ghost use Rattle.kept_tables.specs.View.{spot_of};
 ghost use Rattle.mirror.specs.Line.{state_of};
+ghost use Rattle.mirror.specs.Table.{is_key, line_at};
 
 use crate::change::Change;
 use crate::line_facts::LineFacts;
@@ -58,6 +60,25 @@ fn tell_counts(line: Line)
     for state in line.states {
         tell_count(state);
     }
+}
+
+/// Sets the line, where it is another than before. Memory is taken as `LineTable::set_line` does.
+fn change_line(
+    lines: &mut LineTable,
+    key: LineKey,
+    before: &Line,
+    after: &Line,
+) -> Result<(), AllocError>
+    requires { line_at lines.old key.bsc key.cell key.warning ≡ before.now }
+    ensures set { OnOk result ((b : ℕ) (c : Cell) (w : ℕ) → line_at lines.new b c w ≡ (if is_key key b c w then after.now else line_at lines.old b c w)) }
+    ensures downs { lines.new.downs ≡ lines.old.downs }
+    ensures meter { lines.new.meter ≤ lines.old.meter + 1 }
+    ensures least { lines.old.meter ≤ lines.new.meter }
+{
+    if before.same(after) {
+        return Ok(());
+    }
+    lines.set_line(key, *after)
 }
 
 impl KeptTables {
@@ -230,10 +251,11 @@ impl KeptTables {
         ensures least { self.old.lines.meter ≤ self.new.lines.meter }
     {
         let LineKey { bsc, cell, warning } = key;
-        self.lines.set_line(key, after.line)?;
-        self.pending
-            .shift(bsc, cell, &before.sight(), &after.sight())?;
-        self.board.shift(warning, &before.stand(), &after.stand())
+        change_line(&mut self.lines, key, &before.line, &after.line)?;
+        let was = before.stand();
+        let is = after.stand();
+        self.pending.shift_held(bsc, cell, &was.sight, &is.sight)?;
+        self.board.shift(warning, &was, &is)
     }
 
     /// Makes the changes, in their order. Each is of another line. At an `Err` memory was wanting, and the tables are of
