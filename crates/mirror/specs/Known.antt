@@ -1,12 +1,13 @@
 -- Which cells are known at a BSC, of which warnings something is kept in one of them, and which of them a report names
 -- (TS 48.049, 8.2.6).
-use Rattle.std.specs.Prelude.{ℕ, Bool, ◌||◌, List, Option, Some, None, filter, map}
+use Rattle.std.specs.Prelude.{ℕ, Bool, false, ◌||◌, List, Option, Some, None, filter, map}
 use Rattle.std.specs.List.{list_any, list_all}
 use Rattle.std.specs.Option.{is_some}
 use Rattle.cbsp_ie.specs.CellId.{names}
 use Rattle.cbsp_ie.specs.declared.cell_id.CellId.{CellId}
 use Rattle.cbsp_ie.specs.declared.cell_id.CellId.TheVariants as id
 use Rattle.cell_register.specs.Register.{State, place_in, is_place}
+use Rattle.common.specs.Cell.{cell_eq}
 use Rattle.common.specs.declared.cell.Cell.{Cell}
 use Rattle.mirror.specs.Table.{Table, down_at, has_line, is_slot_in}
 
@@ -34,3 +35,8 @@ own_cell id.All = None
 -- each identification can name one cell alone
 abbrev pub are_of_cells : List CellId → Bool
 are_of_cells ids = list_all (λ id. is_some (own_cell id)) ids
+
+-- there is a cell, and it is that one
+abbrev pub is_cell : Option Cell → Cell → Bool
+is_cell None c = false
+is_cell (Some d) c = cell_eq d c

@@ -1,4 +1,4 @@
-use Rattle.std.proofs.Common.{◌≡◌, sym, ◌∙◌, ap, map, rules}
+use Rattle.std.proofs.Common.{◌≡◌, ap, map, rules}
 use Rattle.mirror.specs.Seen.{seen}
 use Rattle.order_maker.proofs.ShiftLemmas.{same_come}
 use Rattle.order_maker.specs.Actions.{deeds, in_cell}
