@@ -1,6 +1,5 @@
 pub mod Receipts
 pub mod Desks
 pub mod Helds
-pub mod Questions
 pub mod Offices
 pub mod Shuffles

@@ -4,8 +4,6 @@ use crate::affected::{Affected, affected_by};
 use crate::desk::Desk;
 use crate::entering::enter;
 use crate::fault::{Fault, Unsettled};
-use crate::looking::answer;
-use crate::question::Question;
 use crate::row::Row;
 use crate::seen::Seen;
 use crate::settling::{mismatch, missing};
@@ -17,6 +15,8 @@ use centre_core::centre::Centre;
 use centre_core::headline::pending_gives_plan;
 use centre_events::event::Event;
 use centre_events::refusal::{Limit, Refusal};
+use centre_questions::asking::ask;
+use centre_questions::question::Question;
 use std::alloc::{AllocError, Global};
 use std::marker::Model;
 use std::sync::ledger::{Book, Ledger, Share};
@@ -54,7 +54,7 @@ impl<L: Ledger> Held<L> {
     ghost use Rattle.centre_core.specs.Headline.{PendingGivesPlan};
     ghost use Rattle.centre_core.specs.Legal.{Legal, new_centre, past};
     ghost use Rattle.office.specs.Helds.{IsByOpened, IsEntered, fits};
-    ghost use Rattle.office.specs.Questions.{RefusesQuestion, Shows};
+    ghost use Rattle.centre_questions.specs.Questions.{RefusesQuestion, Shows};
     ghost use Rattle.office.specs.Shuffles.{IsFault, IsShuffle};
 
     /// What stands under the lock of a new office: a centre of the network without entries, and no desk.
@@ -168,7 +168,7 @@ impl<L: Ledger> Held<L> {
         if !self.knows(desk) {
             return Err(Refusal::WrongDesk { position });
         }
-        let value = answer(self.alloc, &mut self.centre, &question)?;
+        let value = ask(self.alloc, &mut self.centre, &question)?;
         Ok(Seen { position, value })
     }
 
