@@ -1,7 +1,8 @@
 //! One run of the console: a centre, and the generations that its lines speak of.
 
 ghost use Rattle.std.specs.Prelude.{◌≡◌};
-ghost use Rattle.console.specs.Sessions.{report_type};
+ghost use Rattle.console.specs.Sessions.{IsToldInLine, report_type, told};
+ghost use Rattle.console.specs.Texts.{ResponseFits};
 
 use crate::content_heading::ContentHeading;
 use crate::frames::read_frame;
@@ -52,7 +53,7 @@ impl Session {
     ghost use Rattle.centre_events.specs.declared.event.Event.TheVariants as event;
     ghost use Rattle.console.specs.Texts.{ResponseFits};
     ghost use Rattle.console.specs.Replays.{new_session};
-    ghost use Rattle.console.specs.Sessions.{AnswersOrStarves, BodyStarves, FrameStarves, ReportsBody, ReportsFrame, RespondsOrStarves, SubmitsOrStarves};
+    ghost use Rattle.console.specs.Sessions.{AnswersOrStarves, AsksOrStarves, BodyStarves, FrameStarves, HasLine, ReportsBody, ReportsFrame, RespondsOrStarves, SubmitsOrStarves};
     ghost use Rattle.console.specs.declared.line.Line.TheVariants as request;
 
     pub fn new(alloc: Global, plmn: [u8; 3], journal_limit: u32) -> Session
@@ -86,9 +87,11 @@ impl Session {
         self.submit(Event::Edit(edit))
     }
 
-    /// Puts the question to the centre.
+    /// Puts a question to the centre.
+    #[tactic(auto, using(crate::proofs::QuestionLemmas::in_line, crate::proofs::QuestionLemmas::asked_told, crate::proofs::QuestionLemmas::asked_refused))]
     fn ask_centre(&mut self, question: Question) -> Response
-        ensures answer { Asks self.old question result self.new }
+        requires line { HasLine question }
+        ensures answer { AsksOrStarves self.old question result self.new }
         ensures fits { ResponseFits result }
     {
         match ask(self.alloc, &mut self.centre, &question) {
@@ -328,4 +331,18 @@ fn report_type(octet: u8) -> Option<MessageType>
 {
     let kind = MessageType::of_code(octet)?;
     if kind.is_report() { Some(kind) } else { None }
+}
+
+/// What a question is answered, as a line tells it.
+fn told(value: SeenValue) -> Response
+    requires { IsToldInLine value }
+    ensures told { result ≡ told value }
+    ensures fits { ResponseFits result }
+{
+    match value {
+        SeenValue::Numbers(numbers) => Response::Board(numbers),
+        SeenValue::Pending(orders) => Response::Pending(orders),
+        SeenValue::Table(keys) => Response::Table(keys),
+        SeenValue::Place(_) | SeenValue::InFlight(_) => unreachable!(),
+    }
 }
