@@ -3,3 +3,5 @@ pub mod Desks
 pub mod Helds
 pub mod Offices
 pub mod Shuffles
+pub mod Wishes
+pub mod Wakes
