@@ -2,7 +2,7 @@ pub mod PartLemmas
 pub mod HexTextLemmas
 pub mod FrameLemmas
 pub mod GenerationLemmas
-pub mod ListLemmas
+pub mod QuestionLemmas
 pub mod TextLemmas
 pub mod StopLemmas
 pub mod ReplayLemmas

@@ -1,5 +1,5 @@
 -- A line has one answer, and lines have one text.
-use Rattle.std.proofs.Common.{◌≡◌, inl, inr, ℕ, ◌+◌, Bool, true, false, Option, Some, None, Result, Ok, Err, List, [], ◌∷◌, ◌++◌, length, refl, sym, ap, ◌∙◌, subst}
+use Rattle.std.proofs.Common.{◌≡◌, inl, inr, ℕ, ◌+◌, true, false, Option, Some, None, Result, Ok, Err, List, [], ◌∷◌, ◌++◌, length, refl, sym, ap, ◌∙◌, subst}
 use Rattle.std.specs.Bool.{MatchBool}
 use Rattle.std.specs.Prelude.{MatchOption}
 use Rattle.cbsp_messages.specs.Faults.{IsFaultAs}
@@ -12,20 +12,19 @@ use Rattle.cbsp_messages.specs.declared.message_type.MessageType.{MessageType}
 use Rattle.cbsp_messages.specs.declared.message_type.MessageType.TheVariants as type
 use Rattle.cbsp_messages.proofs.UniqueLemmas.{no_fault_if_spelled, not_whole, one_cut_fault, one_message_at_most, one_whole_fault}
 use Rattle.centre_core.specs.Legal.{past}
-use Rattle.centre_events.specs.Links.{is_bsc}
-use Rattle.centre_core.specs.Numbers.{area_board, board}
-use Rattle.centre_events.specs.Pending.{pending}
-use Rattle.centre_core.specs.Table.{table}
 use Rattle.centre_events.specs.declared.answer.Answer.{Answer}
 use Rattle.centre_events.specs.declared.event.Event.{Event}
 use Rattle.centre_events.specs.declared.event.Event.TheVariants as event
 use Rattle.centre_events.specs.declared.refusal.Refusal.{Refusal}
 use Rattle.centre_events.specs.declared.refusal.Refusal.TheVariants as refusal
-use Rattle.coverage_board.specs.declared.numbers.Numbers.{Numbers}
+use Rattle.centre_questions.specs.Questions.{value_of}
+use Rattle.centre_questions.specs.declared.question.Question.{Question}
+use Rattle.centre_questions.specs.declared.question.Question.TheVariants as question
+use Rattle.centre_questions.specs.declared.seen_value.SeenValue.{SeenValue}
 use Rattle.console.specs.Generations.{generation_of}
 use Rattle.console.specs.Grammar.{line_of}
 use Rattle.console.specs.HexText.{octets_of}
-use Rattle.console.specs.Sessions.{SessionState, Says, verdict_in, entered, with_link, Submits, BringsUp, AsksBoard, AsksAreaBoard, AsksBsc, AsksWhole, SaysNumbers, ReportsBody, ReportsFrame, ReportsOctets, report_type, event_of, SubmitsLine, Responds, is_comment, AnswersLine, AnswersWords}
+use Rattle.console.specs.Sessions.{SessionState, Says, verdict_in, entered, with_link, Submits, BringsUp, Asks, AsksWhole, SaysValue, told, ReportsBody, ReportsFrame, ReportsOctets, report_type, event_of, SubmitsLine, Responds, is_comment, AnswersLine, AnswersWords}
 use Rattle.console.specs.Text.{IsText, without_return}
 use Rattle.console.specs.Texts.{response_text}
 use Rattle.console.specs.Words.{words_of}
@@ -148,45 +147,23 @@ whole_one old asked more r s new last one h k =
       | false ↦ λ x y. one x y
     ] h k
 
--- a question about a BSC has one answer, for the same thing to say
-bsc_one : (old : SessionState) (there : Bool) (said r s : Response) (new last : SessionState)
-    → MatchBool there (Says old said r new) (Says old (response.Refused refusal.NoSuchBsc) r new)
-    → MatchBool there (Says old said s last) (Says old (response.Refused refusal.NoSuchBsc) s last) → Same r s new last
-bsc_one old true said r s new last h k = says_one old said r s new last h k
-bsc_one old false said r s new last h k = says_one old (response.Refused refusal.NoSuchBsc) r s new last h k
+-- a question has one answer, and is refused by one cause
+value_one : (old : SessionState) (x : Result SeenValue Refusal) (r s : Response) (new last : SessionState) → SaysValue old x r new → SaysValue old x s last → Same r s new last
+value_one old (Ok v) r s new last h k = says_one old (told v) r s new last h k
+value_one old (Err e) r s new last h k = says_one old (response.Refused e) r s new last h k
 
-asks_one : (old : SessionState) (b : ℕ) (said r s : Response) (new last : SessionState) → AsksBsc old b said r new → AsksBsc old b said s last → Same r s new last
-asks_one old b said r s new last h k =
-    whole_one old _ _ r s new last (bsc_one old (is_bsc (past old.centre) b) said r s new last) h k
-
--- and so has one about a warning
-board_one : (old : SessionState) (numbers : Option Numbers) (r s : Response) (new last : SessionState)
-    → MatchOption numbers (Says old (response.Refused refusal.NoSuchWarning) r new) (λ n. Says old (response.Board n) r new)
-    → MatchOption numbers (Says old (response.Refused refusal.NoSuchWarning) s last) (λ n. Says old (response.Board n) s last) → Same r s new last
-board_one old None r s new last h k = says_one old (response.Refused refusal.NoSuchWarning) r s new last h k
-board_one old (Some n) r s new last h k = says_one old (response.Board n) r s new last h k
-
-asks_board_one : (old : SessionState) (number : ℕ) (r s : Response) (new last : SessionState) → AsksBoard old number r new → AsksBoard old number s last → Same r s new last
-asks_board_one old number r s new last h k =
-    whole_one old _ _ r s new last (board_one old (board (past old.centre) number) r s new last) h k
-
--- and about a warning and an area
-numbers_one : (old : SessionState) (numbers : Result Numbers Refusal) (r s : Response) (new last : SessionState) → SaysNumbers old numbers r new → SaysNumbers old numbers s last → Same r s new last
-numbers_one old (Ok n) r s new last h k = says_one old (response.Board n) r s new last h k
-numbers_one old (Err e) r s new last h k = says_one old (response.Refused e) r s new last h k
-
-asks_area_one : (old : SessionState) (number : ℕ) (a : List ℕ) (r s : Response) (new last : SessionState) → AsksAreaBoard old number a r new → AsksAreaBoard old number a s last → Same r s new last
-asks_area_one old number a r s new last h k =
-    whole_one old _ _ r s new last (numbers_one old (area_board (past old.centre) number a) r s new last) h k
+asks_one : (old : SessionState) (q : Question) (r s : Response) (new last : SessionState) → Asks old q r new → Asks old q s last → Same r s new last
+asks_one old q r s new last h k =
+    whole_one old _ _ r s new last (value_one old (value_of (past old.centre) q) r s new last) h k
 
 responds_one : (old : SessionState) (l : Line) (r s : Response) (new last : SessionState) → Responds old l r new → Responds old l s last → Same r s new last
 responds_one old (line.Up b) r s new last h k = brings_up_one old b r s new last h k
 responds_one old (line.Keep b generation) r s new last h k = (h.0 ∙ sym k.0, h.1 ∙ sym k.1)
 responds_one old (line.Report b text) r s new last h k = reports_one old b (octets_of text) r s new last h k
-responds_one old (line.Board number) r s new last h k = asks_board_one old number r s new last h k
-responds_one old (line.AreaBoard number a) r s new last h k = asks_area_one old number a r s new last h k
-responds_one old (line.Pending b) r s new last h k = asks_one old b (response.Pending (pending (past old.centre) b)) r s new last h k
-responds_one old (line.Table b) r s new last h k = asks_one old b (response.Table (table (past old.centre) b)) r s new last h k
+responds_one old (line.Board number) r s new last h k = asks_one old (question.Total number) r s new last h k
+responds_one old (line.AreaBoard number a) r s new last h k = asks_one old (question.Area number a) r s new last h k
+responds_one old (line.Pending b) r s new last h k = asks_one old (question.Pending b) r s new last h k
+responds_one old (line.Table b) r s new last h k = asks_one old (question.Table b) r s new last h k
 responds_one old line.Rebuild r s new last h k = (h.0 ∙ sym k.0, h.1 ∙ sym k.1)
 responds_one old l r s new last h k = event_one old (event_of old l) r s new last h k
 

@@ -4,6 +4,7 @@ use Rattle.std.specs.Bool.{MatchBool}
 use Rattle.std.specs.Prelude.{MatchOption}
 use Rattle.cbsp_messages.specs.declared.message_type.MessageType.{MessageType}
 use Rattle.centre_core.specs.Legal.{past}
+use Rattle.centre_events.specs.InFlight.{in_flight}
 use Rattle.centre_events.specs.Links.{is_bsc}
 use Rattle.centre_events.specs.Cover.{is_area}
 use Rattle.centre_core.specs.Numbers.{area_board, area_total, board, warning_area}
@@ -18,6 +19,11 @@ use Rattle.centre_events.specs.declared.event.Event.{Event}
 use Rattle.centre_events.specs.declared.event.Event.TheVariants as event
 use Rattle.centre_events.specs.declared.refusal.Refusal.{Refusal}
 use Rattle.centre_events.specs.declared.refusal.Refusal.TheVariants as refusal
+use Rattle.centre_questions.specs.Questions.{of_area, of_bsc, of_warning, value_of}
+use Rattle.centre_questions.specs.declared.question.Question.{Question}
+use Rattle.centre_questions.specs.declared.question.Question.TheVariants as question
+use Rattle.centre_questions.specs.declared.seen_value.SeenValue.{SeenValue}
+use Rattle.centre_questions.specs.declared.seen_value.SeenValue.TheVariants as value
 use Rattle.coverage_board.specs.declared.numbers.Numbers.{Numbers}
 use Rattle.warning_book.specs.Book.{names, warning_of}
 use Rattle.warning_book.specs.declared.warning.Warning.{Warning}
@@ -25,7 +31,7 @@ use Rattle.console.specs.Generations.{generation_of}
 use Rattle.console.specs.Grammar.{line_of}
 use Rattle.console.specs.HexText.{octets_of}
 use Rattle.console.specs.Laws.{StaysWhole}
-use Rattle.console.specs.Sessions.{SessionState, Says, verdict_in, entered, with_link, Submits, BringsUp, AsksBsc, AsksBoard, AsksAreaBoard, AsksWhole, SaysNumbers, ReportsBody, ReportsOctets, report_type, event_of, SubmitsLine, Responds, is_comment, AnswersLine, AnswersWords}
+use Rattle.console.specs.Sessions.{SessionState, Says, verdict_in, entered, with_link, Submits, BringsUp, Asks, AsksWhole, SaysValue, told, ReportsBody, ReportsOctets, report_type, event_of, SubmitsLine, Responds, is_comment, AnswersLine, AnswersWords}
 use Rattle.console.specs.Text.{without_return}
 use Rattle.console.specs.Words.{words_of}
 use Rattle.console.specs.declared.line.Line.{Line}
@@ -92,16 +98,6 @@ reports_whole old b (Some octets) r new whole h = octets_whole old b octets r ne
 asked_whole : (old : SessionState) (r : Response) (new : SessionState) (asked : Type 0) → old.centre.stale ≡ false → AsksWhole old r new asked → asked
 asked_whole old r new asked whole h = subst (λ t. MatchBool t (Says old (response.Refused refusal.Stale) r new) asked) whole h
 
-bsc_whole : (old : SessionState) (there : Bool) (said r : Response) (new : SessionState) → old.centre.stale ≡ false → (said ≡ response.Refused refusal.Stale → ⊥)
-    → MatchBool there (Says old said r new) (Says old (response.Refused refusal.NoSuchBsc) r new) → KeepsWhole r new
-bsc_whole old true said r new whole other h = says_whole old said r new whole other h
-bsc_whole old false said r new whole other h = says_whole old (response.Refused refusal.NoSuchBsc) r new whole (λ is. cc is) h
-
-board_whole : (old : SessionState) (numbers : Option Numbers) (r : Response) (new : SessionState) → old.centre.stale ≡ false
-    → MatchOption numbers (Says old (response.Refused refusal.NoSuchWarning) r new) (λ n. Says old (response.Board n) r new) → KeepsWhole r new
-board_whole old None r new whole h = says_whole old (response.Refused refusal.NoSuchWarning) r new whole (λ is. cc is) h
-board_whole old (Some n) r new whole h = says_whole old (response.Board n) r new whole (λ is. cc is) h
-
 -- the numbers of a warning and an area are never refused as stale
 named_stale : (past : Past) (a : List ℕ) (w : Warning) (t : Bool) → (if t then Ok (area_total past a w) else Err refusal.AreaNotThere) ≡ Err refusal.Stale → ⊥
 named_stale past a w true h = cc h
@@ -115,28 +111,51 @@ area_stale : (past : Past) (n : ℕ) (a : List ℕ) (t : Bool) → (if t then wa
 area_stale past n a true h = warning_stale past a (warning_of (book_of past) n) h
 area_stale past n a false h = cc h
 
-numbers_whole : (old : SessionState) (numbers : Result Numbers Refusal) (r : Response) (new : SessionState) → old.centre.stale ≡ false → (numbers ≡ Err refusal.Stale → ⊥) → SaysNumbers old numbers r new → KeepsWhole r new
-numbers_whole old (Ok n) r new whole other h = says_whole old (response.Board n) r new whole (λ is. cc is) h
-numbers_whole old (Err e) r new whole other h = says_whole old (response.Refused e) r new whole (λ is. other (ap Err (ap refusal_in is))) h
+of_warning_stale : (numbers : Option Numbers) → of_warning numbers ≡ Err refusal.Stale → ⊥
+of_warning_stale None h = cc h
+of_warning_stale (Some n) h = cc h
 
-asks_whole : (old : SessionState) (b : ℕ) (said r : Response) (new : SessionState) → old.centre.stale ≡ false → (said ≡ response.Refused refusal.Stale → ⊥) → AsksBsc old b said r new
+of_area_stale : (numbers : Result Numbers Refusal) → (numbers ≡ Err refusal.Stale → ⊥) → of_area numbers ≡ Err refusal.Stale → ⊥
+of_area_stale (Ok n) other h = cc h
+of_area_stale (Err e) other h =
+    let same : e ≡ refusal.Stale = cc h in
+    other (ap Err same)
+
+of_bsc_stale : (there : Bool) (v : SeenValue) → of_bsc there v ≡ Err refusal.Stale → ⊥
+of_bsc_stale true v h = cc h
+of_bsc_stale false v h = cc h
+
+-- no question is refused as stale by what the journal says
+value_stale : (past : Past) (q : Question) → value_of past q ≡ Err refusal.Stale → ⊥
+value_stale past (question.Total w) h = of_warning_stale (board past w) h
+value_stale past (question.Area w a) h = of_area_stale (area_board past w a) (area_stale past w a (is_area past a)) h
+value_stale past (question.Place c) h = cc h
+value_stale past (question.Pending b) h = of_bsc_stale (is_bsc past b) (value.Pending (pending past b)) h
+value_stale past (question.Table b) h = of_bsc_stale (is_bsc past b) (value.Table (table past b)) h
+value_stale past (question.InFlight b) h = of_bsc_stale (is_bsc past b) (value.InFlight (in_flight past b)) h
+
+told_whole : (v : SeenValue) → told v ≡ response.Refused refusal.Stale → ⊥
+told_whole (value.Numbers n) h = cc h
+told_whole (value.Pending orders) h = cc h
+told_whole (value.Table keys) h = cc h
+told_whole _ h = cc h
+
+says_value_whole : (old : SessionState) (x : Result SeenValue Refusal) (r : Response) (new : SessionState) → old.centre.stale ≡ false → (x ≡ Err refusal.Stale → ⊥) → SaysValue old x r new
     → KeepsWhole r new
-asks_whole old b said r new whole other h = bsc_whole old (is_bsc (past old.centre) b) said r new whole other (asked_whole old r new _ whole h)
+says_value_whole old (Ok v) r new whole other h = says_whole old (told v) r new whole (told_whole v) h
+says_value_whole old (Err e) r new whole other h = says_whole old (response.Refused e) r new whole (λ is. other (ap Err (ap refusal_in is))) h
 
-asks_board_whole : (old : SessionState) (n : ℕ) (r : Response) (new : SessionState) → old.centre.stale ≡ false → AsksBoard old n r new → KeepsWhole r new
-asks_board_whole old n r new whole h = board_whole old (board (past old.centre) n) r new whole (asked_whole old r new _ whole h)
-
-asks_area_whole : (old : SessionState) (n : ℕ) (a : List ℕ) (r : Response) (new : SessionState) → old.centre.stale ≡ false → AsksAreaBoard old n a r new → KeepsWhole r new
-asks_area_whole old n a r new whole h = numbers_whole old (area_board (past old.centre) n a) r new whole (area_stale (past old.centre) n a (is_area (past old.centre) a)) (asked_whole old r new _ whole h)
+asks_whole : (old : SessionState) (q : Question) (r : Response) (new : SessionState) → old.centre.stale ≡ false → Asks old q r new → KeepsWhole r new
+asks_whole old q r new whole h = says_value_whole old (value_of (past old.centre) q) r new whole (value_stale (past old.centre) q) (asked_whole old r new _ whole h)
 
 responds_whole : (old : SessionState) (l : Line) (r : Response) (new : SessionState) → old.centre.stale ≡ false → Responds old l r new → KeepsWhole r new
 responds_whole old (line.Up b) r new whole h = brings_up_whole old b r new whole h
 responds_whole old (line.Keep b generation) r new whole h = (ap (λ s. s.centre.stale) h.1 ∙ whole, λ is. cc (sym h.0 ∙ is))
 responds_whole old (line.Report b text) r new whole h = reports_whole old b (octets_of text) r new whole h
-responds_whole old (line.Board n) r new whole h = asks_board_whole old n r new whole h
-responds_whole old (line.AreaBoard n a) r new whole h = asks_area_whole old n a r new whole h
-responds_whole old (line.Pending b) r new whole h = asks_whole old b (response.Pending (pending (past old.centre) b)) r new whole (λ is. cc is) h
-responds_whole old (line.Table b) r new whole h = asks_whole old b (response.Table (table (past old.centre) b)) r new whole (λ is. cc is) h
+responds_whole old (line.Board n) r new whole h = asks_whole old (question.Total n) r new whole h
+responds_whole old (line.AreaBoard n a) r new whole h = asks_whole old (question.Area n a) r new whole h
+responds_whole old (line.Pending b) r new whole h = asks_whole old (question.Pending b) r new whole h
+responds_whole old (line.Table b) r new whole h = asks_whole old (question.Table b) r new whole h
 responds_whole old line.Rebuild r new whole h = (ap (λ s. s.centre.stale) h.1, λ is. cc (sym h.0 ∙ is))
 responds_whole old l r new whole h = event_whole old (event_of old l) r new whole h
 

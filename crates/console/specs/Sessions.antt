@@ -1,5 +1,5 @@
 -- How a session answers a line, and what it is then.
-use Rattle.std.specs.Prelude.{◌≡◌, ◌⊎◌, ℕ, ◌+◌, ◌==◌, Bool, true, false, List, [], ◌∷◌, ◌++◌, length, Option, Some, None, Result, Ok, Err, IsSomeAnd, MatchOption, option_and_then, option_map, if◌then◌else◌}
+use Rattle.std.specs.Prelude.{◌≡◌, ◌⊎◌, ℕ, ◌+◌, ◌==◌, Bool, true, false, List, [], ◌∷◌, ◌++◌, length, Option, Some, None, Result, Ok, Err, IsOk, IsSomeAnd, MatchOption, option_and_then, option_map, if◌then◌else◌}
 use Rattle.std.specs.Bool.{MatchBool}
 use Rattle.cbsp_messages.specs.Faults.{IsFaultAs}
 use Rattle.cbsp_messages.specs.MessageType.{code_of, type_with, is_report}
@@ -10,9 +10,6 @@ use Rattle.cbsp_messages.specs.declared.message_type.MessageType.{MessageType}
 use Rattle.centre_events.specs.Kept.{MayStarve}
 use Rattle.centre_core.specs.Legal.{Known, past}
 use Rattle.centre_events.specs.Links.{is_bsc}
-use Rattle.centre_core.specs.Numbers.{area_board, board}
-use Rattle.centre_events.specs.Pending.{pending}
-use Rattle.centre_core.specs.Table.{table}
 use Rattle.centre_events.specs.Verdict.{verdict}
 use Rattle.centre_events.specs.declared.answer.Answer.{Answer}
 use Rattle.centre_events.specs.declared.answer.Answer.TheVariants.{Link}
@@ -21,7 +18,11 @@ use Rattle.centre_events.specs.declared.event.Event.{Event}
 use Rattle.centre_events.specs.declared.event.Event.TheVariants as event
 use Rattle.centre_events.specs.declared.refusal.Refusal.{Refusal}
 use Rattle.centre_events.specs.declared.refusal.Refusal.TheVariants as refusal
-use Rattle.coverage_board.specs.declared.numbers.Numbers.{Numbers}
+use Rattle.centre_questions.specs.Questions.{takes_memory, value_of}
+use Rattle.centre_questions.specs.declared.question.Question.{Question}
+use Rattle.centre_questions.specs.declared.question.Question.TheVariants as question
+use Rattle.centre_questions.specs.declared.seen_value.SeenValue.{SeenValue}
+use Rattle.centre_questions.specs.declared.seen_value.SeenValue.TheVariants as value
 use Rattle.coverage_plan.specs.declared.edit.Edit.TheVariants as edit
 use Rattle.framing.specs.declared.frame.Frame.{Frame}
 use Rattle.warning_book.specs.declared.content.Content.{Content}
@@ -93,32 +94,33 @@ notice_of h pages = record { message_id = h.message_id; scope = h.scope; content
 abbrev pub AsksWhole : SessionState → Response → SessionState → Type 0 → Type 0
 AsksWhole old r new asked = MatchBool old.centre.stale (Says old (response.Refused refusal.Stale) r new) asked
 
--- the board of a warning
-abbrev pub AsksBoard : SessionState → ℕ → Response → SessionState → Type 0
-AsksBoard old warning r new =
-    AsksWhole old r new (MatchOption (board (past old.centre) warning) (Says old (response.Refused refusal.NoSuchWarning) r new) (λ n. Says old (response.Board n) r new))
+-- what a question is answered, as a line tells it; no line asks where a cell is, nor what is in flight
+abbrev pub told : SeenValue → Response
+told (value.Numbers numbers) = response.Board numbers
+told (value.Pending orders) = response.Pending orders
+told (value.Table keys) = response.Table keys
+told other = response.Silence
 
--- numbers, or why there are none
-abbrev pub SaysNumbers : SessionState → Result Numbers Refusal → Response → SessionState → Type 0
-SaysNumbers old (Ok n) r new = Says old (response.Board n) r new
-SaysNumbers old (Err refused) r new = Says old (response.Refused refused) r new
+-- there is a line for the question
+abbrev pub HasLine : Question → Type 0
+HasLine (question.Place c) = ⊥
+HasLine (question.InFlight b) = ⊥
+HasLine other = Unit {0}
 
--- the board of a warning and an area
-abbrev pub AsksAreaBoard : SessionState → ℕ → List ℕ → Response → SessionState → Type 0
-AsksAreaBoard old warning a r new = AsksWhole old r new (SaysNumbers old (area_board (past old.centre) warning a) r new)
+-- a question for which there is a line is answered so
+abbrev pub IsToldInLine : SeenValue → Type 0
+IsToldInLine (value.Place p) = ⊥
+IsToldInLine (value.InFlight f) = ⊥
+IsToldInLine other = Unit {0}
 
--- a question about a BSC is answered, if the BSC is there
-abbrev pub AsksBsc : SessionState → ℕ → Response → Response → SessionState → Type 0
-AsksBsc old b said r new =
-    AsksWhole old r new (MatchBool (is_bsc (past old.centre) b) (Says old said r new) (Says old (response.Refused refusal.NoSuchBsc) r new))
+-- the answer to a question, or why there is none
+abbrev pub SaysValue : SessionState → Result SeenValue Refusal → Response → SessionState → Type 0
+SaysValue old (Ok v) r new = Says old (told v) r new
+SaysValue old (Err refused) r new = Says old (response.Refused refused) r new
 
--- the pending orders of a BSC
-abbrev pub AsksPending : SessionState → ℕ → Response → SessionState → Type 0
-AsksPending old b r new = AsksBsc old b (response.Pending (pending (past old.centre) b)) r new
-
--- what a BSC has reported
-abbrev pub AsksTable : SessionState → ℕ → Response → SessionState → Type 0
-AsksTable old b r new = AsksBsc old b (response.Table (table (past old.centre) b)) r new
+-- the centre is asked
+abbrev pub Asks : SessionState → Question → Response → SessionState → Type 0
+Asks old q r new = AsksWhole old r new (SaysValue old (value_of (past old.centre) q) r new)
 
 -- the centre is whole or stale, with the same journal
 abbrev pub with_stale : Bool → SessionState → SessionState
@@ -191,10 +193,10 @@ abbrev pub Responds : SessionState → Line → Response → SessionState → Ty
 Responds old (line.Up b) r new = BringsUp old b r new
 Responds old (line.Keep b generation) r new = Keeps old b generation r new
 Responds old (line.Report b text) r new = Reports old b text r new
-Responds old (line.Board warning) r new = AsksBoard old warning r new
-Responds old (line.AreaBoard warning a) r new = AsksAreaBoard old warning a r new
-Responds old (line.Pending b) r new = AsksPending old b r new
-Responds old (line.Table b) r new = AsksTable old b r new
+Responds old (line.Board warning) r new = Asks old (question.Total warning) r new
+Responds old (line.AreaBoard warning a) r new = Asks old (question.Area warning a) r new
+Responds old (line.Pending b) r new = Asks old (question.Pending b) r new
+Responds old (line.Table b) r new = Asks old (question.Table b) r new
 Responds old line.Rebuild r new = Rebuilds old r new
 Responds old l r new = SubmitsLine old (event_of old l) r new
 
@@ -231,6 +233,14 @@ FrameStarves old b frame r new = IsSomeAnd (report_type frame.kind) (λ t. BodyS
 -- the octets are one frame, for whose message memory was wanting
 abbrev pub OctetsStarve : SessionState → ℕ → List ℕ → Response → SessionState → Type 0
 OctetsStarve old b octets r new = (frame : Frame) × IsFrame octets frame × FrameStarves old b frame r new
+
+-- memory was wanting for the answer that a whole centre has to a question
+abbrev pub QuestionStarves : SessionState → Question → Response → SessionState → Type 0
+QuestionStarves old q r new = (old.centre.stale ≡ false) × (takes_memory q ≡ true) × IsOk (value_of (past old.centre) q) × IsStarved old r new
+
+-- the centre is asked, or memory was wanting for the answer
+abbrev pub AsksOrStarves : SessionState → Question → Response → SessionState → Type 0
+AsksOrStarves old q r new = Asks old q r new ⊎ QuestionStarves old q r new
 
 -- memory was wanting for a list of a BSC that is there, of a whole centre
 abbrev pub ListStarves : SessionState → ℕ → Response → SessionState → Type 0

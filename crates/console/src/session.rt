@@ -1,7 +1,8 @@
 //! One run of the console: a centre, and the generations that its lines speak of.
 
 ghost use Rattle.std.specs.Prelude.{◌≡◌};
-ghost use Rattle.console.specs.Sessions.{report_type};
+ghost use Rattle.console.specs.Sessions.{IsToldInLine, report_type, told};
+ghost use Rattle.console.specs.Texts.{ResponseFits};
 
 use crate::content_heading::ContentHeading;
 use crate::frames::read_frame;
@@ -18,6 +19,9 @@ use centre_core::centre::Centre;
 use centre_events::answer::Answer;
 use centre_events::event::Event;
 use centre_events::refusal::Refusal;
+use centre_questions::asking::ask;
+use centre_questions::question::Question;
+use centre_questions::seen_value::SeenValue;
 use common::{Cell, Name, Names};
 use coverage_plan::Edit;
 use framing::Frame;
@@ -49,7 +53,7 @@ impl Session {
     ghost use Rattle.centre_events.specs.declared.event.Event.TheVariants as event;
     ghost use Rattle.console.specs.Texts.{ResponseFits};
     ghost use Rattle.console.specs.Replays.{new_session};
-    ghost use Rattle.console.specs.Sessions.{AnswersOrStarves, BodyStarves, FrameStarves, ReportsBody, ReportsFrame, RespondsOrStarves, SubmitsOrStarves};
+    ghost use Rattle.console.specs.Sessions.{AnswersOrStarves, AsksOrStarves, BodyStarves, FrameStarves, HasLine, ReportsBody, ReportsFrame, RespondsOrStarves, SubmitsOrStarves};
     ghost use Rattle.console.specs.declared.line.Line.TheVariants as request;
 
     pub fn new(alloc: Global, plmn: [u8; 3], journal_limit: u32) -> Session
@@ -83,24 +87,33 @@ impl Session {
         self.submit(Event::Edit(edit))
     }
 
-    fn board(&self, warning: WarningId) -> Response
-        ensures answer { RespondsOrStarves self.now (request.Board warning) result self.now }
+    /// Puts a question to the centre.
+    #[tactic(auto, using(crate::proofs::QuestionLemmas::in_line, crate::proofs::QuestionLemmas::asked_told, crate::proofs::QuestionLemmas::asked_refused))]
+    fn ask_centre(&mut self, question: Question) -> Response
+        requires line { HasLine question }
+        ensures answer { AsksOrStarves self.old question result self.new }
         ensures fits { ResponseFits result }
     {
-        match self.centre.board_total(warning) {
-            Ok(numbers) => Response::Board(numbers),
+        match ask(self.alloc, &mut self.centre, &question) {
+            Ok(value) => told(value),
             Err(refusal) => Response::Refused(refusal),
         }
     }
 
-    fn area_board(&self, warning: WarningId, area: &Name) -> Response
-        ensures answer { RespondsOrStarves self.now (request.AreaBoard warning area.now) result self.now }
+    #[tactic(auto, using(crate::proofs::QuestionLemmas::board_asked))]
+    fn board(&mut self, warning: WarningId) -> Response
+        ensures answer { RespondsOrStarves self.old (request.Board warning) result self.new }
         ensures fits { ResponseFits result }
     {
-        match self.centre.board_area(warning, area) {
-            Ok(numbers) => Response::Board(numbers),
-            Err(refusal) => Response::Refused(refusal),
-        }
+        self.ask_centre(Question::Total(warning))
+    }
+
+    #[tactic(auto, using(crate::proofs::QuestionLemmas::area_asked))]
+    fn area_board(&mut self, warning: WarningId, area: Name) -> Response
+        ensures answer { RespondsOrStarves self.old (request.AreaBoard warning area) result self.new }
+        ensures fits { ResponseFits result }
+    {
+        self.ask_centre(Question::Area(warning, area))
     }
 
     fn bring_up(&mut self, bsc: BscId) -> Result<Response, AllocError>
@@ -135,26 +148,20 @@ impl Session {
         self.submit(Event::LinkDown(bsc, generation))
     }
 
-    #[tactic(auto, using(crate::proofs::ListLemmas::pending_told))]
-    fn pending(&self, bsc: BscId) -> Response
-        ensures answer { RespondsOrStarves self.now (request.Pending bsc) result self.now }
+    #[tactic(auto, using(crate::proofs::QuestionLemmas::pending_asked))]
+    fn pending(&mut self, bsc: BscId) -> Response
+        ensures answer { RespondsOrStarves self.old (request.Pending bsc) result self.new }
         ensures fits { ResponseFits result }
     {
-        match self.centre.pending_of(bsc) {
-            Ok(orders) => Response::Pending(orders),
-            Err(refusal) => Response::Refused(refusal),
-        }
+        self.ask_centre(Question::Pending(bsc))
     }
 
-    #[tactic(auto, using(crate::proofs::ListLemmas::table_told))]
+    #[tactic(auto, using(crate::proofs::QuestionLemmas::table_asked))]
     fn table(&mut self, bsc: BscId) -> Response
         ensures answer { RespondsOrStarves self.old (request.Table bsc) result self.new }
         ensures fits { ResponseFits result }
     {
-        match self.centre.table_of(bsc) {
-            Ok(keys) => Response::Table(keys),
-            Err(refusal) => Response::Refused(refusal),
-        }
+        self.ask_centre(Question::Table(bsc))
     }
 
     /// Makes the centre whole, if it is stale.
@@ -292,7 +299,7 @@ impl Session {
             Line::Report(bsc, text) => self.report(bsc, text.as_slice()),
             Line::Ask(bsc, warning, after) => Ok(self.ask(bsc, warning, after)),
             Line::Board(warning) => Ok(self.board(warning)),
-            Line::AreaBoard(warning, area) => Ok(self.area_board(warning, &area)),
+            Line::AreaBoard(warning, area) => Ok(self.area_board(warning, area)),
             Line::Pending(bsc) => Ok(self.pending(bsc)),
             Line::Table(bsc) => Ok(self.table(bsc)),
             Line::Rebuild => Ok(self.rebuild()),
@@ -324,4 +331,18 @@ fn report_type(octet: u8) -> Option<MessageType>
 {
     let kind = MessageType::of_code(octet)?;
     if kind.is_report() { Some(kind) } else { None }
+}
+
+/// What a question is answered, as a line tells it.
+fn told(value: SeenValue) -> Response
+    requires { IsToldInLine value }
+    ensures told { result ≡ told value }
+    ensures fits { ResponseFits result }
+{
+    match value {
+        SeenValue::Numbers(numbers) => Response::Board(numbers),
+        SeenValue::Pending(orders) => Response::Pending(orders),
+        SeenValue::Table(keys) => Response::Table(keys),
+        SeenValue::Place(_) | SeenValue::InFlight(_) => unreachable!(),
+    }
 }

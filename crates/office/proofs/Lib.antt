@@ -3,3 +3,4 @@ pub mod DeskLemmas
 pub mod HeldLemmas
 pub mod ShuffleLemmas
 pub mod OfficeLemmas
+pub mod WishLemmas

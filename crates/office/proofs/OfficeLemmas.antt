@@ -9,8 +9,8 @@ use Rattle.centre_events.specs.declared.refusal.Refusal.TheVariants as refusal
 use Rattle.office.specs.Desks.{DeskState}
 use Rattle.office.specs.Helds.{IsEntered, fits}
 use Rattle.office.specs.Offices.{IsRefusedSomewhere, IsSeenSomewhere, IsSubmitted, IsUnseenSomewhere, Meets}
-use Rattle.office.specs.Questions.{RefusesQuestion, Shows}
-use Rattle.office.specs.declared.question.Question.{Question}
+use Rattle.centre_questions.specs.Questions.{RefusesQuestion, Shows}
+use Rattle.centre_questions.specs.declared.question.Question.{Question}
 use Rattle.office.specs.declared.seen.Seen.{Seen}
 use Rattle.office.proofs.HeldLemmas.{IsKnown, known_if}
 

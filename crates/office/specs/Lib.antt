@@ -1,6 +1,7 @@
 pub mod Receipts
 pub mod Desks
 pub mod Helds
-pub mod Questions
 pub mod Offices
 pub mod Shuffles
+pub mod Wishes
+pub mod Wakes

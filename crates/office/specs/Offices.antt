@@ -12,9 +12,9 @@ use Rattle.centre_events.specs.declared.refusal.Refusal.{Refusal}
 use Rattle.centre_events.specs.declared.refusal.Refusal.TheVariants as refusal
 use Rattle.office.specs.Desks.{DeskState}
 use Rattle.office.specs.Helds.{receipt_at}
-use Rattle.office.specs.Questions.{RefusesQuestion, Shows}
+use Rattle.centre_questions.specs.Questions.{RefusesQuestion, Shows}
 use Rattle.office.specs.Receipts.{receipts_of, last_place}
-use Rattle.office.specs.declared.question.Question.{Question}
+use Rattle.centre_questions.specs.declared.question.Question.{Question}
 use Rattle.office.specs.declared.receipt.Receipt.{Receipt}
 use Rattle.office.specs.declared.seen.Seen.{Seen}
 

@@ -4,8 +4,6 @@ use crate::affected::{Affected, affected_by};
 use crate::desk::Desk;
 use crate::entering::enter;
 use crate::fault::{Fault, Unsettled};
-use crate::looking::answer;
-use crate::question::Question;
 use crate::row::Row;
 use crate::seen::Seen;
 use crate::settling::{mismatch, missing};
@@ -17,6 +15,8 @@ use centre_core::centre::Centre;
 use centre_core::headline::pending_gives_plan;
 use centre_events::event::Event;
 use centre_events::refusal::{Limit, Refusal};
+use centre_questions::asking::ask;
+use centre_questions::question::Question;
 use std::alloc::{AllocError, Global};
 use std::marker::Model;
 use std::sync::ledger::{Book, Ledger, Share};
@@ -49,13 +49,15 @@ impl<L: Ledger> Model for Held<L> {
 }
 
 impl<L: Ledger> Held<L> {
-    ghost use Rattle.std.specs.Prelude.{◌≡◌, ◌≤◌, ◌<◌, ◌+◌, [], length, true, false, All, Ok, Err, IfOk, IfErr, OnOk, OnErr, MatchBool, nat_lt};
+    ghost use Rattle.std.specs.Prelude.{◌≡◌, ◌≤◌, ◌<◌, ◌+◌, [], length, true, false, All, Ok, Err, IfOk, IfErr, IfSome, OnOk, OnErr, MatchBool, nat_lt};
     ghost use Rattle.centre_core.specs.Centre.{Leaves, Refuses};
     ghost use Rattle.centre_core.specs.Headline.{PendingGivesPlan};
     ghost use Rattle.centre_core.specs.Legal.{Legal, new_centre, past};
     ghost use Rattle.office.specs.Helds.{IsByOpened, IsEntered, fits};
-    ghost use Rattle.office.specs.Questions.{RefusesQuestion, Shows};
+    ghost use Rattle.centre_questions.specs.Questions.{RefusesQuestion, Shows};
     ghost use Rattle.office.specs.Shuffles.{IsFault, IsShuffle};
+    ghost use Rattle.office.specs.Wakes.{IsDue};
+    ghost use Rattle.office.specs.Wishes.{CanWish, RefusesWish};
 
     /// What stands under the lock of a new office: a centre of the network without entries, and no desk.
     pub(crate) fn new(
@@ -168,7 +170,7 @@ impl<L: Ledger> Held<L> {
         if !self.knows(desk) {
             return Err(Refusal::WrongDesk { position });
         }
-        let value = answer(self.alloc, &mut self.centre, &question)?;
+        let value = ask(self.alloc, &mut self.centre, &question)?;
         Ok(Seen { position, value })
     }
 
@@ -185,7 +187,9 @@ impl<L: Ledger> Held<L> {
     }
 
     /// What there is to do for the link of that generation, if there is something.
-    pub(crate) fn wake_of(&self, b: BscId, generation: u64) -> Option<Wake> {
+    pub(crate) fn wake_of(&self, b: BscId, generation: u64) -> Option<Wake>
+        ensures { IfSome result (IsDue self.now.centre b generation) }
+    {
         if self.is_full() {
             return Some(Wake::Order);
         }
@@ -199,6 +203,7 @@ impl<L: Ledger> Held<L> {
 
     /// What there is to do for the link of that generation. A wish is taken out.
     pub(crate) fn take_wake(&mut self, b: BscId, generation: u64) -> Wake
+        ensures due { IsDue self.old.centre b generation result }
         ensures unchanged { self.new ≡ self.old }
     {
         let wake = self.wake_of(b, generation).unwrap_or(Wake::Order);
@@ -211,6 +216,8 @@ impl<L: Ledger> Held<L> {
     /// Keeps a wish for a query, in the place of an earlier one for its BSC. `Stale`, then `NoSuchBsc`, then `NoSuchWarning`,
     /// then `Memory`.
     pub(crate) fn wish(&mut self, wish: Wish) -> Result<(), Refusal>
+        ensures wished { OnOk result (CanWish self.old.centre wish.bsc wish.warning) }
+        ensures refused { IfErr result (RefusesWish self.old.centre wish.bsc wish.warning) }
         ensures unchanged { self.new ≡ self.old }
     {
         self.centre.link_of(wish.bsc)?;

@@ -1,9 +1,9 @@
 //! One centre for many callers: each has a desk, which gets a receipt for each event that is accepted.
 //!
 //! Begin with `office`, then `held`, which is what stands under its lock. What a desk's receipts are is defined in
-//! `specs/Receipts.antt`, when a desk is as the office knows it in `specs/Helds.antt`, what a question is answered in
-//! `specs/Questions.antt`, what a call promises whatever other desks do in `specs/Offices.antt`, and when a journal is a shuffle
-//! of receipts in `specs/Shuffles.antt`.
+//! `specs/Receipts.antt`, when a desk is as the office knows it in `specs/Helds.antt`, what a call promises whatever other
+//! desks do in `specs/Offices.antt`, and when a journal is a shuffle of receipts in `specs/Shuffles.antt`. What can be asked,
+//! and what it is answered, stands in `centre_questions`.
 #![tactic(auto)]
 
 mod affected;
@@ -11,9 +11,7 @@ pub mod desk;
 mod entering;
 pub mod fault;
 pub mod held;
-mod looking;
 pub mod office;
-pub mod question;
 pub mod receipt;
 mod row;
 pub mod seen;
@@ -22,3 +20,5 @@ mod submitting;
 pub mod wake;
 mod waking;
 mod wish;
+
+pub use centre_questions::question;

@@ -4,12 +4,13 @@ ghost use Rattle.std.specs.Prelude.{◌≡◌, ◌≤◌, ◌<◌, ◌⊎◌, []
 ghost use Rattle.centre_core.specs.Legal.{Legal, past};
 ghost use Rattle.office.specs.Offices.{IsRefusedSomewhere, IsSeenSomewhere, IsSubmitted, IsUnseenSomewhere};
 ghost use Rattle.office.specs.Shuffles.{IsSettled, IsUnsettled};
+ghost use Rattle.office.specs.Wakes.{IsDueSomewhere};
+ghost use Rattle.office.specs.Wishes.{IsUnwishedSomewhere, IsWishedSomewhere};
 
 use crate::affected::Affected;
 use crate::desk::Desk;
 use crate::fault::Unsettled;
 use crate::held::Held;
-use crate::question::Question;
 use crate::seen::Seen;
 use crate::wake::Wake;
 use crate::wish::Wish;
@@ -17,6 +18,7 @@ use cell_register::BscId;
 use centre_core::centre::Centre;
 use centre_events::event::Event;
 use centre_events::refusal::{Limit, Refusal};
+use centre_questions::question::Question;
 use common::Cell;
 use std::alloc::{AllocError, Global};
 use std::sync::ledger::{Blank, Ledger};
@@ -109,8 +111,12 @@ impl<L: Ledger> Office<L> {
         b: BscId,
         warning: WarningId,
         after: Option<Cell>,
-    ) -> Result<(), Refusal> {
+    ) -> Result<(), Refusal>
+        ensures wished { OnOk result (IsWishedSomewhere b warning) }
+        ensures refused { IfErr result (IsUnwishedSomewhere b warning) }
+    {
         let mut guard = self.held.lock(rt);
+        guard.tell_soundness();
         let result = guard.wish(Wish {
             bsc: b,
             warning,
@@ -125,10 +131,14 @@ impl<L: Ledger> Office<L> {
     /// Waits until there is something to do for the link of that generation: an order is pending and nothing is in flight, or
     /// nothing of either and a query is wished for, which takes the wish out, or the link isn't up, or the centre is stale. Where
     /// the journal is full it answers `Order`, whose event is then refused.
-    pub fn wait_pending<R: Wait>(&self, rt: &R, b: BscId, generation: u64) -> Wake {
+    #[tactic(auto, using(crate::proofs::WishLemmas::due_if))]
+    pub fn wait_pending<R: Wait>(&self, rt: &R, b: BscId, generation: u64) -> Wake
+        ensures { IsDueSomewhere b generation result }
+    {
         let mut guard = self.moved.wait_while(rt, self.held.lock(rt), |held| {
             held.wake_of(b, generation).is_none()
         });
+        guard.tell_soundness();
         guard.take_wake(b, generation)
     }
 

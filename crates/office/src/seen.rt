@@ -1,20 +1,6 @@
-//! What a question is answered.
+//! What an office answers a question.
 
-use cell_register::BscId;
-use centre_core::reported::ReportedKeys;
-use centre_events::in_flight::InFlight;
-use coverage_board::Numbers;
-use order_maker::Orders;
-
-/// The answer to a question, in memory of its own.
-#[derive(Debug, Drop)]
-pub enum SeenValue {
-    Numbers(Numbers),
-    Place(Option<BscId>),
-    Pending(Orders),
-    Table(ReportedKeys),
-    InFlight(Option<InFlight>),
-}
+pub use centre_questions::seen_value::SeenValue;
 
 /// The answer to a question, and after how many entries it was asked.
 #[derive(Debug, Drop)]

@@ -1,12 +1,12 @@
 //! A question is put to a centre, and what that answers is copied.
 
-ghost use Rattle.std.specs.Prelude.{◌≡◌, IfOk, IfErr};
+ghost use Rattle.std.specs.Prelude.{◌≡◌, false, IfOk, IfErr};
 ghost use Rattle.std.specs.Option.{option_copied};
-ghost use Rattle.office.specs.Questions.{RefusesQuestion, Shows};
-ghost use Rattle.office.specs.declared.question.Question.TheVariants as question_spec;
+ghost use Rattle.centre_questions.specs.Questions.{RefusesQuestion, Shows, reads_lines};
+ghost use Rattle.centre_questions.specs.declared.question.Question.TheVariants as question_spec;
 
 use crate::question::Question;
-use crate::seen::SeenValue;
+use crate::seen_value::SeenValue;
 use cell_register::BscId;
 use centre_core::centre::Centre;
 use centre_events::in_flight::InFlight;
@@ -47,6 +47,7 @@ fn table(centre: &mut Centre, b: BscId) -> Result<SeenValue, Refusal>
     ensures seen { IfOk result (Shows centre.old.known (question_spec.Table b)) }
     ensures refused { IfErr result (RefusesQuestion centre.old.known (question_spec.Table b)) }
     ensures unchanged { centre.new.known ≡ centre.old.known }
+    ensures entries { centre.new.entries ≡ centre.old.entries }
 {
     Ok(SeenValue::Table(centre.table_of(b)?))
 }
@@ -69,15 +70,14 @@ fn in_flight(alloc: Global, centre: &Centre, b: BscId) -> Result<SeenValue, Refu
     Ok(SeenValue::InFlight(copied(alloc, flight)?))
 }
 
-/// What the question is answered. Nothing but the centre's meter changes.
-pub(crate) fn answer(
-    alloc: Global,
-    centre: &mut Centre,
-    question: &Question,
-) -> Result<SeenValue, Refusal>
+/// Puts the question to the centre. What it is answered has memory of its own. `Stale`, then what the answer over the journal
+/// refuses, then `Memory`. Nothing changes but the meter of lines, and that only where the question is for a table.
+pub fn ask(alloc: Global, centre: &mut Centre, question: &Question) -> Result<SeenValue, Refusal>
     ensures seen { IfOk result (Shows centre.old.known question.now) }
     ensures refused { IfErr result (RefusesQuestion centre.old.known question.now) }
     ensures unchanged { centre.new.known ≡ centre.old.known }
+    ensures entries { centre.new.entries ≡ centre.old.entries }
+    ensures same { reads_lines question.now ≡ false → centre.new ≡ centre.old }
 {
     match question {
         Question::Total(w) => total(centre, *w),

@@ -11,10 +11,10 @@ use Rattle.centre_core.specs.Table.{table}
 use Rattle.centre_events.specs.declared.refusal.Refusal.{Refusal}
 use Rattle.centre_events.specs.declared.refusal.Refusal.TheVariants as refusal
 use Rattle.coverage_board.specs.declared.numbers.Numbers.{Numbers}
-use Rattle.office.specs.declared.question.Question.{Question}
-use Rattle.office.specs.declared.question.Question.TheVariants as question
-use Rattle.office.specs.declared.seen.SeenValue.{SeenValue}
-use Rattle.office.specs.declared.seen.SeenValue.TheVariants as value
+use Rattle.centre_questions.specs.declared.question.Question.{Question}
+use Rattle.centre_questions.specs.declared.question.Question.TheVariants as question
+use Rattle.centre_questions.specs.declared.seen_value.SeenValue.{SeenValue}
+use Rattle.centre_questions.specs.declared.seen_value.SeenValue.TheVariants as value
 
 -- the numbers of a warning that the book has
 abbrev pub of_warning : Option Numbers → Result SeenValue Refusal
@@ -46,6 +46,11 @@ takes_memory (question.Total w) = false
 takes_memory (question.Area w a) = false
 takes_memory (question.Place c) = false
 takes_memory other = true
+
+-- lines are read for the answer, which the centre's meter counts
+abbrev pub reads_lines : Question → Bool
+reads_lines (question.Table b) = true
+reads_lines other = false
 
 -- why a centre refuses a question: it is stale, memory is wanting for the answer, or the answer is that refusal
 abbrev pub RefusesQuestion : Known → Question → Refusal → Type 0

@@ -1,0 +1,22 @@
+//! What a question is answered.
+
+use cell_register::BscId;
+use centre_core::reported::ReportedKeys;
+use centre_events::in_flight::InFlight;
+use coverage_board::Numbers;
+use order_maker::Orders;
+
+/// The answer to a question, in memory of its own.
+#[derive(Debug, Drop)]
+pub enum SeenValue {
+    /// The numbers of a warning, in all or in one area.
+    Numbers(Numbers),
+    /// The BSC at which a cell is registered, if it is.
+    Place(Option<BscId>),
+    /// The pending orders of a BSC.
+    Pending(Orders),
+    /// What a BSC has reported.
+    Table(ReportedKeys),
+    /// What is in flight to a BSC.
+    InFlight(Option<InFlight>),
+}
