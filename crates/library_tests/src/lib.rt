@@ -6,6 +6,8 @@
 #![tactic(auto)]
 
 #[cfg(test)]
+mod allowance_tests;
+#[cfg(test)]
 mod area_tests;
 #[cfg(test)]
 mod board_tests;
@@ -23,6 +25,8 @@ mod frame_tests;
 mod given_events;
 #[cfg(test)]
 mod given_link;
+#[cfg(test)]
+mod given_server;
 #[cfg(test)]
 mod kept_tables_tests;
 #[cfg(test)]

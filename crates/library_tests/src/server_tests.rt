@@ -1,143 +1,26 @@
 //! What no clause says of the server: that warnings go on air over TCP while an operator types, what its lines are answered, and
 //! that a bad peer ends its own link alone.
 
-use console::options::MOST_ENTRIES;
-use server::{ServeOptions, serve};
+use crate::given_server::{
+    MOST_LOOKS, Operator, Served, answer_to, comes_to, free_port, next_answer, options, rest_of,
+    run_server, type_lines,
+};
 use std::alloc::Global;
 use std::fs::Files;
-use std::io::{BufRead, BufReader, PipeReader, PipeWriter, Read, Write, pipe};
+use std::io::{Read, Write};
 use std::net::{Net, Shutdown, TcpListener, TcpStream};
 use std::process::Abort;
 use std::sync::Wait;
-use std::thread;
 use std::thread::Threads;
-use std::time::{Clock, Duration};
-
-/// How often an answer is looked for that is to come.
-const MOST_LOOKS: u32 = 100_000;
-
-/// What the operator of a server types at, and reads from.
-#[derive(Drop)]
-struct Operator {
-    lines: PipeWriter,
-    answers: BufReader<PipeReader>,
-}
-
-/// What came of a run of the server.
-#[derive(Drop)]
-struct Served {
-    status: u8,
-    /// What its operator read.
-    answers: Vec<u8>,
-    errors: Vec<u8>,
-}
-
-/// The next answer.
-fn next_answer(rt: &impl Abort, alloc: Global, operator: &mut Operator) -> Vec<u8> {
-    let mut answer = Vec::new(alloc);
-    operator
-        .answers
-        .read_until(b'\n', &mut answer)
-        .expect(rt, "an answer is read");
-    answer
-}
-
-fn type_lines(rt: &impl Abort, operator: &mut Operator, lines: &[u8]) {
-    operator
-        .lines
-        .write_all(lines)
-        .expect(rt, "lines are typed");
-}
-
-/// The answer to a line that has one.
-fn answer_to(rt: &impl Abort, alloc: Global, operator: &mut Operator, line: &[u8]) -> Vec<u8> {
-    type_lines(rt, operator, line);
-    next_answer(rt, alloc, operator)
-}
-
-/// Types the line until that is its answer. The answer is whether it came.
-fn comes_to<R: Abort + Clock>(
-    rt: &R,
-    alloc: Global,
-    operator: &mut Operator,
-    line: &[u8],
-    answer: &[u8],
-) -> bool {
-    for _ in 0..MOST_LOOKS {
-        if answer_to(rt, alloc, operator, line).as_slice() == answer {
-            return true;
-        }
-        thread::sleep(rt, Duration::from_millis(1));
-    }
-    false
-}
-
-/// All that the server still answers.
-fn rest_of(rt: &impl Abort, alloc: Global, operator: Operator) -> Vec<u8> {
-    let Operator { lines, mut answers } = operator;
-    drop(lines);
-    let mut rest = Vec::new(alloc);
-    answers
-        .read_to_end(&mut rest)
-        .expect(rt, "answers are read");
-    rest
-}
-
-fn options(rt: &impl Abort, alloc: Global, base: u16, links: u16, sim: bool) -> ServeOptions {
-    ServeOptions {
-        plmn: [0x00, 0xf1, 0x10],
-        journal_limit: MOST_ENTRIES,
-        host: String::from_str(alloc, "127.0.0.1").expect(rt, "memory"),
-        base,
-        links,
-        with_simulator: sim,
-    }
-}
-
-/// Runs the server while somebody operates it, who hands back what was read.
-fn run_server<
-    R: Abort
-        + Clock
-        + Files
-        + Net<Stream = TcpStream, Listener = TcpListener>
-        + Sync
-        + Threads
-        + Wait,
-    F: FnOnce(Operator) -> Vec<u8>,
->(rt: &R, alloc: Global, options: ServeOptions, operate: F) -> Served
-    requires { (f : _) (x : _) → F.pre f x }
-{
-    let (typed, lines) = pipe(rt).expect(rt, "a pipe");
-    let (answers, written) = pipe(rt).expect(rt, "a pipe");
-    let (mut said, errors) = pipe(rt).expect(rt, "a pipe");
-    let reader = BufReader::new(alloc, typed).expect(rt, "memory");
-    let answers = BufReader::new(alloc, answers).expect(rt, "memory");
-    let operator = Operator { lines, answers };
-    let (status, answers) = thread::join(
-        rt,
-        move || serve(rt, alloc, &options, reader, written, errors),
-        move || operate(operator),
-    );
-    let mut errors = Vec::new(alloc);
-    said.read_to_end(&mut errors).expect(rt, "errors are read");
-    Served {
-        status,
-        answers,
-        errors,
-    }
-}
-
-/// A port that nobody listens on.
-fn free_port<R: Abort + Net<Stream = TcpStream, Listener = TcpListener>>(rt: &R) -> u16 {
-    let listener = TcpListener::bind(rt, ("127.0.0.1", 0)).expect(rt, "a port");
-    listener.local_addr().expect(rt, "its address").port()
-}
+use std::time::Clock;
 
 /// A warning over one cell, whose BSC connects once it is registered.
 const WARNING: &[u8] =
     b"bsc add 1\ncell add 100 7 1\narea add Coast\narea put Coast 100 7\nissue 4370 3 15 0 30 d4f29c0e Coast\n";
 
 const ON_AIR: &[u8] = b"awaited 0 onair 1 failed 0 left 0 broadcasts 0\n";
+
+const ON_AIR_TWICE: &[u8] = b"awaited 0 onair 2 failed 0 left 0 broadcasts 0\n";
 
 const OFF_AIR: &[u8] = b"awaited 0 onair 0 failed 0 left 0 broadcasts 0\n";
 
@@ -176,6 +59,48 @@ fn serve_on_air(rt: HostRuntime) {
         served.answers.as_slice().starts_with(b"settled "),
         "nothing was settled"
     );
+}
+
+/// A port that nobody listens on, nor on the next one.
+fn free_ports<R: Abort + Net<Stream = TcpStream, Listener = TcpListener>>(rt: &R) -> u16 {
+    for _ in 0..100 {
+        let port = free_port(rt);
+        if TcpListener::bind(rt, ("127.0.0.1", port.saturating_add(1))).is_ok() {
+            return port;
+        }
+    }
+    0
+}
+
+/// Puts a warning on air in a cell of each of two BSCs. Hands back the last answer.
+fn puts_on_air_twice<R: Abort + Clock>(rt: &R, alloc: Global, mut operator: Operator) -> Vec<u8> {
+    type_lines(rt, &mut operator, b"bsc add 2\ncell add 100 8 2\n");
+    type_lines(rt, &mut operator, WARNING);
+    for _ in 0..7 {
+        drop(next_answer(rt, alloc, &mut operator));
+    }
+    type_lines(rt, &mut operator, b"area put Coast 100 8\n");
+    drop(next_answer(rt, alloc, &mut operator));
+    assert!(rt;
+        comes_to(rt, alloc, &mut operator, b"board 1\n", ON_AIR_TWICE),
+        "it is not on air at both"
+    );
+    type_lines(rt, &mut operator, b"quit\n");
+    rest_of(rt, alloc, operator)
+}
+
+/// Two BSCs at once, each at its port.
+#[test]
+fn two_bscs_on_air(rt: HostRuntime) {
+    let alloc = rt.alloc();
+    let options = options(&rt, alloc, free_ports(&rt), 2, true);
+    let served = run_server(
+        &rt,
+        alloc,
+        options,
+        |operator| puts_on_air_twice(&rt, alloc, operator),
+    );
+    assert_eq!(rt; served.status, 0);
 }
 
 /// What a server without BSCs answers to lines, where the operator types them all at once.
@@ -218,6 +143,46 @@ fn the_end_of_the_input_ends_a_server(rt: HostRuntime) {
     assert!(rt;
         served.answers.as_slice() == b"settled 0\n".as_slice(),
         "another answer"
+    );
+}
+
+/// A line of so many octets, none of which ends it.
+fn long_line(rt: &impl Abort, alloc: Global, octets: usize) -> Vec<u8> {
+    let mut line = Vec::new(alloc);
+    for _ in 0..octets {
+        line.push(b'#').expect(rt, "memory");
+    }
+    line
+}
+
+/// A comment of 600,000 octets is a line; one of 600,003 octets ends the server, before its end has come.
+#[test]
+fn a_line_that_is_too_long_ends_a_server(rt: HostRuntime) {
+    let alloc = rt.alloc();
+    let options = options(&rt, alloc, 0, 1, false);
+    let longest = long_line(&rt, alloc, 600_000);
+    let longer = long_line(&rt, alloc, 600_003);
+    let served = run_server(&rt, alloc, options, |mut operator| {
+        type_lines(&rt, &mut operator, longest.as_slice());
+        let answer = answer_to(&rt, alloc, &mut operator, b"\r\nfly\n");
+        type_lines(&rt, &mut operator, longer.as_slice());
+        let mut rest = Vec::new(alloc);
+        operator
+            .answers
+            .read_to_end(&mut rest)
+            .expect(&rt, "answers are read");
+        assert!(rt; rest.is_empty(), "something was answered");
+        drop(operator);
+        answer
+    });
+    assert_eq!(rt; served.status, 1);
+    assert!(rt;
+        served.answers.as_slice() == b"bad line\n".as_slice(),
+        "another answer"
+    );
+    assert!(rt;
+        served.errors.as_slice() == b"cbc: line too long\n".as_slice(),
+        "another fault"
     );
 }
 

@@ -9,12 +9,14 @@ use Rattle.centre_core.specs.Fits.{AnswerFits}
 use Rattle.centre_events.specs.declared.event.Event.{Event}
 use Rattle.link_worker.specs.declared.end.End.{End}
 use Rattle.link_worker.specs.declared.end.End.TheVariants as end
-use Rattle.link_worker.specs.Ends.{IsRefusedEnd}
-use Rattle.link_worker.specs.Orders.{EndsWriting, Gets, IsCutAt, IsOrder, StopsAtLast, StopsInFrame, Writes, receipt_frame}
+use Rattle.centre_events.specs.declared.refusal.Refusal.{Refusal}
+use Rattle.centre_events.specs.declared.refusal.Refusal.TheVariants as refusal
+use Rattle.link_worker.specs.Ends.{IsRefusedEnd, order_end}
+use Rattle.link_worker.specs.Orders.{EndsAsUnsent, EndsWriting, Gets, IsCutAt, IsOrder, IsWaitEnd, StopsAtLast, StopsInFrame, Writes, receipt_frame}
 use Rattle.link_worker.proofs.ListLemmas.{AllByRecursion-append, last_put}
 use Rattle.office.specs.Desks.{DeskState}
 use Rattle.office.specs.Helds.{receipt_at}
-use Rattle.office.specs.Offices.{IsSubmitted}
+use Rattle.office.specs.Offices.{IsRefusedIn, IsRefusedSomewhere, IsSubmitted}
 use Rattle.office.specs.declared.receipt.Receipt.{Receipt}
 
 -- no receipt came
@@ -77,21 +79,47 @@ Ends-more b generation c d e p q r end.WriteFault one two = Stops-more b generat
 Ends-more b generation c d e p q r (end.BadMessage f) one two = absurd two
 Ends-more b generation c d e p q r end.TooLong one two = absurd two
 Ends-more b generation c d e p q r end.Superseded one two = Writes-more b generation c d e p q r one two
-Ends-more b generation c d e p q r (end.Refused x) one (inl two) = inl (Writes-more b generation c d e p q r one two)
+Ends-more b generation c d e p q r (end.Refused x) one (inl two) = inl (Writes-more b generation c d e p q r one two.0, two.1)
 Ends-more b generation c d e p q r (end.Refused x) one (inr two) = inr (two.0, Stops-more b generation c d e p q r (end.Refused x) one two.1)
 Ends-more b generation c d e p q r end.GateShut one two = Stops-more b generation c d e p q r end.GateShut one two
 
--- an end at which nothing more was submitted
-pub Ends-refused : (b generation : ℕ) (c d : DeskState) (p q : Option (List ℕ)) (x : End) → Writes b generation c d p q → IsRefusedEnd x → EndsWriting b generation c d p q x
-Ends-refused b generation c d p q end.PeerEnded one refused = absurd refused
-Ends-refused b generation c d p q end.CutFrame one refused = absurd refused
-Ends-refused b generation c d p q end.ReadFault one refused = absurd refused
-Ends-refused b generation c d p q end.WriteFault one refused = absurd refused
-Ends-refused b generation c d p q (end.BadMessage f) one refused = absurd refused
-Ends-refused b generation c d p q end.TooLong one refused = absurd refused
-Ends-refused b generation c d p q end.Superseded one refused = one
-Ends-refused b generation c d p q (end.Refused x) one refused = inl one
-Ends-refused b generation c d p q end.GateShut one refused = absurd refused
+-- an end at which nothing was due
+pub Ends-waited : (b generation : ℕ) (c d : DeskState) (p q : Option (List ℕ)) (x : End) → Writes b generation c d p q → IsWaitEnd x → EndsWriting b generation c d p q x
+Ends-waited b generation c d p q x one (inl over) = subst (EndsWriting b generation c d p q) (sym over) one
+Ends-waited b generation c d p q x one (inr stale) = subst (EndsWriting b generation c d p q) (sym stale) (inl (one, (refusal.Stale, refl, inl refl)))
+
+-- room for receipts bears on no refusal
+refused_in_room : (d e : DeskState) (event : Event) (r : Refusal) → e ≡ record d { spare = e.spare } → IsRefusedIn d event r → IsRefusedIn e event r
+refused_in_room d e event r same why =
+    subst (λ s. IsRefusedIn s event r) (sym same) (record {
+      centre = why.centre;
+      meets = record { legal = why.meets.legal; headline = why.meets.headline; entries = why.meets.entries; place = why.meets.place; later = why.meets.later };
+      refuses = why.refuses;
+    })
+
+pub refused_room : (d e : DeskState) (event : Event) (r : Refusal) → e ≡ record d { spare = e.spare } → IsRefusedSomewhere d event r → IsRefusedSomewhere e event r
+refused_room d e event r same (inl memory) = inl memory
+refused_room d e event r same (inr (inl wrong)) = inr (inl wrong)
+refused_room d e event r same (inr (inr why)) = inr (inr (refused_in_room d e event r same why))
+
+-- an end that a refusal makes
+ends_unsent : (b generation : ℕ) (c d : DeskState) (p q : Option (List ℕ)) (x : End) → Writes b generation c d p q → IsRefusedEnd x → EndsAsUnsent b generation d x
+    → EndsWriting b generation c d p q x
+ends_unsent b generation c d p q end.PeerEnded one refused why = absurd refused
+ends_unsent b generation c d p q end.CutFrame one refused why = absurd refused
+ends_unsent b generation c d p q end.ReadFault one refused why = absurd refused
+ends_unsent b generation c d p q end.WriteFault one refused why = absurd refused
+ends_unsent b generation c d p q (end.BadMessage f) one refused why = absurd refused
+ends_unsent b generation c d p q end.TooLong one refused why = absurd refused
+ends_unsent b generation c d p q end.Superseded one refused why = one
+ends_unsent b generation c d p q (end.Refused x) one refused why = inl (one, why)
+ends_unsent b generation c d p q end.GateShut one refused why = absurd refused
+
+-- an order or a query was refused
+pub Ends-refused : (b generation : ℕ) (d e : DeskState) (p : Option (List ℕ)) (event : Event) (r : Refusal) (x : End) → IsOrder b generation event → IsRefusedSomewhere d event r
+    → e ≡ record d { spare = e.spare } → order_end r ≡ Some x → IsRefusedEnd x → EndsWriting b generation d e p p x
+Ends-refused b generation d e p event r x order why same makes refused =
+    ends_unsent b generation d e p p x (Writes-room b generation d e p same) refused (r, makes, inr (event, order, refused_room d e event r same why))
 
 -- an order was accepted, and its receipt is the last
 module _ (b generation : ℕ) (d e : DeskState) (event : Event) (r : Receipt) (submitted : IsSubmitted d event e) (order : IsOrder b generation event)

@@ -14,6 +14,8 @@ use Rattle.cbsp_messages.specs.declared.fault.MessageFault.{MessageFault}
 use Rattle.cbsp_messages.specs.declared.fault.MessageFault.TheVariants as bad
 use Rattle.cbsp_messages.specs.declared.message_type.MessageType.{MessageType}
 use Rattle.centre_events.specs.declared.event.Event.TheVariants as event
+use Rattle.centre_events.specs.declared.refusal.Refusal.{Refusal}
+use Rattle.centre_events.specs.declared.refusal.Refusal.TheVariants as refusal
 use Rattle.framing.specs.Framers.{Framing, Refuses, Takes}
 use Rattle.framing.specs.Source.{counted}
 use Rattle.framing.specs.Streams.{Cuts, IsReadable, frame_octets}
@@ -23,11 +25,13 @@ use Rattle.framing.specs.declared.fault.FrameFault.TheVariants as fault
 use Rattle.framing.proofs.StreamLemmas.{no_frame-nil, pieces_join}
 use Rattle.link_worker.specs.declared.end.End.{End}
 use Rattle.link_worker.specs.declared.end.End.TheVariants as end
-use Rattle.link_worker.specs.Ends.{IsRefusedEnd, fault_end}
-use Rattle.link_worker.specs.Reports.{AreReceiptsFor, EndsAt, EndsBefore, EndsReading, EndsWithin, IsPartial, IsReport, IsSubmitEnd, IsTaken, MayGet, Reads, StopsAmong, StopsInPiece, TakesPiece, TakesReports, report_type, stream_end}
+use Rattle.link_worker.specs.Ends.{IsRefusedEnd, fault_end, report_end}
+use Rattle.link_worker.specs.Reports.{AreReceiptsFor, EndsAsRefused, EndsAt, EndsBefore, EndsReading, EndsWithin, IsPartial, IsReport, IsSubmitEnd, IsTaken, MayGet, Reads, StopsAmong, StopsInPiece, TakesPiece, TakesReports, report_type, stream_end}
 use Rattle.link_worker.proofs.ListLemmas.{AllByRecursion-append, AllByRecursion-back, AllByRecursion-front}
 use Rattle.cbsp_messages.specs.declared.message.Message.{Message}
+use Rattle.link_worker.proofs.OrderLemmas.{refused_room}
 use Rattle.office.specs.Desks.{DeskState}
+use Rattle.office.specs.Offices.{IsRefusedSomewhere}
 use Rattle.office.specs.declared.receipt.Receipt.{Receipt}
 
 -- the octet of a report's type
@@ -50,19 +54,19 @@ report_read frame t body m is same kind spells =
     }
 
 -- a report that was not read
-pub report_unread : (frame : Frame) (t : MessageType) (body : List ℕ) (f : MessageFault) → report_type frame.kind ≡ Some t → body ≡ frame.body → (f ≡ bad.Memory) ⊎ IsFaultAs t body f
-    → EndsBefore (fault_end f) (frame ∷ [])
-report_unread frame t body (bad.Element x) is same (inl none) = cc
-report_unread frame t body (bad.Element x) is same (inr fault) = record { type = t; is_type = is; fault = subst (λ xs. IsFaultAs t xs (bad.Element x)) same fault }
-report_unread frame t body (bad.Repeated x) is same (inl none) = cc
-report_unread frame t body (bad.Repeated x) is same (inr fault) = record { type = t; is_type = is; fault = subst (λ xs. IsFaultAs t xs (bad.Repeated x)) same fault }
-report_unread frame t body (bad.Missing x) is same (inl none) = cc
-report_unread frame t body (bad.Missing x) is same (inr fault) = record { type = t; is_type = is; fault = subst (λ xs. IsFaultAs t xs (bad.Missing x)) same fault }
-report_unread frame t body bad.BadPages is same (inl none) = cc
-report_unread frame t body bad.BadPages is same (inr fault) = record { type = t; is_type = is; fault = subst (λ xs. IsFaultAs t xs bad.BadPages) same fault }
-report_unread frame t body bad.NotInProfile is same (inl none) = cc
-report_unread frame t body bad.NotInProfile is same (inr fault) = record { type = t; is_type = is; fault = subst (λ xs. IsFaultAs t xs bad.NotInProfile) same fault }
-report_unread frame t body bad.Memory is same p = tt
+pub report_unread : (b generation : ℕ) (d : DeskState) (frame : Frame) (t : MessageType) (body : List ℕ) (f : MessageFault) → report_type frame.kind ≡ Some t → body ≡ frame.body → (f ≡ bad.Memory) ⊎ IsFaultAs t body f
+    → EndsBefore b generation d (fault_end f) (frame ∷ [])
+report_unread b generation d frame t body (bad.Element x) is same (inl none) = cc
+report_unread b generation d frame t body (bad.Element x) is same (inr fault) = record { type = t; is_type = is; fault = subst (λ xs. IsFaultAs t xs (bad.Element x)) same fault }
+report_unread b generation d frame t body (bad.Repeated x) is same (inl none) = cc
+report_unread b generation d frame t body (bad.Repeated x) is same (inr fault) = record { type = t; is_type = is; fault = subst (λ xs. IsFaultAs t xs (bad.Repeated x)) same fault }
+report_unread b generation d frame t body (bad.Missing x) is same (inl none) = cc
+report_unread b generation d frame t body (bad.Missing x) is same (inr fault) = record { type = t; is_type = is; fault = subst (λ xs. IsFaultAs t xs (bad.Missing x)) same fault }
+report_unread b generation d frame t body bad.BadPages is same (inl none) = cc
+report_unread b generation d frame t body bad.BadPages is same (inr fault) = record { type = t; is_type = is; fault = subst (λ xs. IsFaultAs t xs bad.BadPages) same fault }
+report_unread b generation d frame t body bad.NotInProfile is same (inl none) = cc
+report_unread b generation d frame t body bad.NotInProfile is same (inr fault) = record { type = t; is_type = is; fault = subst (λ xs. IsFaultAs t xs bad.NotInProfile) same fault }
+report_unread b generation d frame t body bad.Memory is same p = (refusal.Memory, refl, inl refl)
 
 -- receipts for some of the frames, and receipts for some of those behind them
 AreReceiptsFor-append : (b generation : ℕ) (rs ss : List Receipt) (xs ys : List Frame) → AreReceiptsFor b generation rs xs → AreReceiptsFor b generation ss ys
@@ -106,28 +110,33 @@ Takes-report b generation frame m d e is (number, inr (r, event_is, receipts)) =
 }
 
 -- an end that a refusal makes
-EndsBefore-refused : (x : End) (frames : List Frame) → IsRefusedEnd x → EndsBefore x frames
-EndsBefore-refused end.PeerEnded frames p = absurd p
-EndsBefore-refused end.CutFrame frames p = absurd p
-EndsBefore-refused end.ReadFault frames p = absurd p
-EndsBefore-refused end.WriteFault frames p = absurd p
-EndsBefore-refused (end.BadMessage f) frames p = absurd p
-EndsBefore-refused end.TooLong frames p = absurd p
-EndsBefore-refused end.Superseded frames p = tt
-EndsBefore-refused (end.Refused r) frames p = tt
-EndsBefore-refused end.GateShut frames p = absurd p
+EndsBefore-refused : (b generation : ℕ) (d : DeskState) (x : End) (frames : List Frame) → IsRefusedEnd x → EndsAsRefused b generation d x → EndsBefore b generation d x frames
+EndsBefore-refused b generation d end.PeerEnded frames p why = absurd p
+EndsBefore-refused b generation d end.CutFrame frames p why = absurd p
+EndsBefore-refused b generation d end.ReadFault frames p why = absurd p
+EndsBefore-refused b generation d end.WriteFault frames p why = absurd p
+EndsBefore-refused b generation d (end.BadMessage f) frames p why = absurd p
+EndsBefore-refused b generation d end.TooLong frames p why = absurd p
+EndsBefore-refused b generation d end.Superseded frames p why = why
+EndsBefore-refused b generation d (end.Refused r) frames p why = why
+EndsBefore-refused b generation d end.GateShut frames p why = absurd p
 
 -- an end at a report that was read
-EndsBefore-submit : (x : End) (frames : List Frame) → IsSubmitEnd x → EndsBefore x frames
-EndsBefore-submit x frames (inl p) = EndsBefore-refused x frames p
-EndsBefore-submit x frames (inr shut) = subst (λ e. EndsBefore e frames) (sym shut) tt
+EndsBefore-submit : (b generation : ℕ) (d : DeskState) (x : End) (frames : List Frame) → IsSubmitEnd b generation d x → EndsBefore b generation d x frames
+EndsBefore-submit b generation d x frames (inl p) = EndsBefore-refused b generation d x frames p.0 p.1
+EndsBefore-submit b generation d x frames (inr shut) = subst (λ e. EndsBefore b generation d e frames) (sym shut) tt
+
+-- a report was refused
+pub Ends-refused_report : (b generation : ℕ) (d e : DeskState) (m : Message) (r : Refusal) (x : End) → IsRefusedSomewhere d (event.Report b generation m) r → e ≡ record d { spare = e.spare }
+    → report_end r ≡ Some x → IsRefusedEnd x → IsSubmitEnd b generation e x
+Ends-refused_report b generation d e m r x why same makes refused = inl (refused, (r, makes, inr (m, refused_room d e (event.Report b generation m) r same why)))
 
 -- the side ends after a frame
-pub Stops-after : (b generation : ℕ) (frame : Frame) (d e : DeskState) (x : End) → TakesReports b generation (frame ∷ []) d e → IsSubmitEnd x → StopsAmong b generation (frame ∷ []) d e x
-Stops-after b generation frame d e x takes p = record { taken = frame ∷ []; left = []; parts = refl; takes = takes; ends = EndsBefore-submit x [] p }
+pub Stops-after : (b generation : ℕ) (frame : Frame) (d e : DeskState) (x : End) → TakesReports b generation (frame ∷ []) d e → IsSubmitEnd b generation e x → StopsAmong b generation (frame ∷ []) d e x
+Stops-after b generation frame d e x takes p = record { taken = frame ∷ []; left = []; parts = refl; takes = takes; ends = EndsBefore-submit b generation e x [] p }
 
 -- and before one
-pub Stops-before : (b generation : ℕ) (frames : List Frame) (d : DeskState) (x : End) → EndsBefore x frames → StopsAmong b generation frames d d x
+pub Stops-before : (b generation : ℕ) (frames : List Frame) (d : DeskState) (x : End) → EndsBefore b generation d x frames → StopsAmong b generation frames d d x
 Stops-before b generation frames d x p = record { taken = []; left = frames; parts = refl; takes = Takes-none b generation d; ends = p }
 
 -- a report was read and submitted: the side goes on, or ends
@@ -137,7 +146,7 @@ taken_if (Ok done) b generation frame m d e is got = Takes-report b generation f
 taken_if (Err x) b generation frame m d e is got = tt
 
 pub ended_if : (result : Result Unit End) (b generation : ℕ) (frame : Frame) (m : Message) (d e : DeskState) → IsReport frame m → MayGet (event.Report b generation m) d e
-    → IfErr result IsSubmitEnd → IfErr result (StopsAmong b generation (frame ∷ []) d e)
+    → IfErr result (IsSubmitEnd b generation e) → IfErr result (StopsAmong b generation (frame ∷ []) d e)
 ended_if (Ok done) b generation frame m d e is got p = p
 ended_if (Err x) b generation frame m d e is got p = Stops-after b generation frame d e x (Takes-report b generation frame m d e is got) p
 
@@ -163,17 +172,17 @@ TakenSoFar-all b generation frames left c d p is =
     subst (λ fs. TakesReports b generation fs c d) (sym (p.parts ∙ ap (λ fs. p.taken ++ fs) is ∙ append-nil p.taken)) p.takes
 
 -- an end before some frames is one before more of them
-EndsBefore-more : (x : End) (frames more : List Frame) → EndsBefore x frames → EndsBefore x (frames ++ more)
-EndsBefore-more end.PeerEnded frames more p = absurd p
-EndsBefore-more end.CutFrame frames more p = absurd p
-EndsBefore-more end.ReadFault frames more p = absurd p
-EndsBefore-more end.WriteFault frames more p = absurd p
-EndsBefore-more (end.BadMessage f) [] more p = absurd p
-EndsBefore-more (end.BadMessage f) (frame ∷ frames) more p = p
-EndsBefore-more end.TooLong frames more p = absurd p
-EndsBefore-more end.Superseded frames more p = tt
-EndsBefore-more (end.Refused r) frames more p = tt
-EndsBefore-more end.GateShut frames more p = tt
+EndsBefore-more : (b generation : ℕ) (d : DeskState) (x : End) (frames more : List Frame) → EndsBefore b generation d x frames → EndsBefore b generation d x (frames ++ more)
+EndsBefore-more b generation d end.PeerEnded frames more p = absurd p
+EndsBefore-more b generation d end.CutFrame frames more p = absurd p
+EndsBefore-more b generation d end.ReadFault frames more p = absurd p
+EndsBefore-more b generation d end.WriteFault frames more p = absurd p
+EndsBefore-more b generation d (end.BadMessage f) [] more p = absurd p
+EndsBefore-more b generation d (end.BadMessage f) (frame ∷ frames) more p = p
+EndsBefore-more b generation d end.TooLong frames more p = absurd p
+EndsBefore-more b generation d end.Superseded frames more p = p
+EndsBefore-more b generation d (end.Refused r) frames more p = p
+EndsBefore-more b generation d end.GateShut frames more p = tt
 
 pub TakenSoFar-stops : (b generation : ℕ) (frames left rest : List Frame) (frame : Frame) (c d e : DeskState) (x : End) → TakenSoFar b generation frames left c d → left ≡ frame ∷ rest
     → StopsAmong b generation (frame ∷ []) d e x → StopsAmong b generation frames c e x
@@ -182,7 +191,7 @@ TakenSoFar-stops b generation frames left rest frame c d e x p is q = record {
   left = q.left ++ rest;
   parts = p.parts ∙ ap (λ fs. p.taken ++ fs) (is ∙ ap (λ fs. fs ++ rest) q.parts ∙ append_assoc q.taken q.left rest) ∙ sym (append_assoc p.taken q.taken (q.left ++ rest));
   takes = Takes-more b generation p.taken q.taken c d e p.takes q.takes;
-  ends = EndsBefore-more x q.left rest q.ends;
+  ends = EndsBefore-more b generation e x q.left rest q.ends;
 }
 
 -- what a framer has of a piece, whatever it answered: the octets are these frames, and a tail
@@ -203,23 +212,24 @@ fed_parts (Err fault.Memory) old new piece none takes refuses =
     subst (Fed old.rest piece) (sym (ap (λ (f : Framing). f.frames) refuses ∙ none)) (record { tail = old.rest ++ piece; parts = refl; short = tt })
 
 -- what an end at some frames says of the octets that were not taken
-EndsWithin-before : (x : End) (left : List Frame) (tail : List ℕ) → AllByRecursion IsReadable left → EndsBefore x left → EndsWithin x (flat_map frame_octets left ++ tail)
-EndsWithin-before end.PeerEnded left tail short p = absurd p
-EndsWithin-before end.CutFrame left tail short p = absurd p
-EndsWithin-before end.ReadFault left tail short p = absurd p
-EndsWithin-before end.WriteFault left tail short p = absurd p
-EndsWithin-before (end.BadMessage f) [] tail short p = absurd p
-EndsWithin-before (end.BadMessage f) (frame ∷ left) tail short p = record {
+EndsWithin-before : (b generation : ℕ) (d : DeskState) (x : End) (left : List Frame) (tail : List ℕ) → AllByRecursion IsReadable left → EndsBefore b generation d x left
+    → EndsWithin b generation d x (flat_map frame_octets left ++ tail)
+EndsWithin-before b generation d end.PeerEnded left tail short p = absurd p
+EndsWithin-before b generation d end.CutFrame left tail short p = absurd p
+EndsWithin-before b generation d end.ReadFault left tail short p = absurd p
+EndsWithin-before b generation d end.WriteFault left tail short p = absurd p
+EndsWithin-before b generation d (end.BadMessage f) [] tail short p = absurd p
+EndsWithin-before b generation d (end.BadMessage f) (frame ∷ left) tail short p = record {
   frame = frame;
   after = flat_map frame_octets left ++ tail;
   parts = append_assoc (frame_octets frame) (flat_map frame_octets left) tail;
   short = short.0;
   bad = p;
 }
-EndsWithin-before end.TooLong left tail short p = absurd p
-EndsWithin-before end.Superseded left tail short p = tt
-EndsWithin-before (end.Refused r) left tail short p = tt
-EndsWithin-before end.GateShut left tail short p = tt
+EndsWithin-before b generation d end.TooLong left tail short p = absurd p
+EndsWithin-before b generation d end.Superseded left tail short p = p
+EndsWithin-before b generation d (end.Refused r) left tail short p = p
+EndsWithin-before b generation d end.GateShut left tail short p = tt
 
 -- the side ends at one of the frames of a piece
 pub Stops-within : (b generation : ℕ) (begun piece : List ℕ) (frames : List Frame) (d e : DeskState) (x : End) → Fed begun piece frames → StopsAmong b generation frames d e x
@@ -233,7 +243,7 @@ Stops-within b generation begun piece frames d e x fed stops =
           ∙ append_assoc (flat_map frame_octets stops.taken) (flat_map frame_octets stops.left) fed.tail;
       short = AllByRecursion-front IsReadable stops.taken stops.left short;
       takes = stops.takes;
-      ends = EndsWithin-before x stops.left fed.tail (AllByRecursion-back IsReadable stops.taken stops.left short) stops.ends;
+      ends = EndsWithin-before b generation e x stops.left fed.tail (AllByRecursion-back IsReadable stops.taken stops.left short) stops.ends;
     }
 
 -- all frames of a piece were taken, and no further one has begun that is too long
@@ -257,15 +267,15 @@ Stops-long b generation old new piece n d e none fed takes =
       ends = fed.too_long;
     }
 
-pub Stops-starved : (b generation : ℕ) (begun piece : List ℕ) (frames : List Frame) (d e : DeskState) (x : End) → Fed begun piece frames → TakesReports b generation frames d e → IsSubmitEnd x
-    → StopsInPiece b generation begun piece d e x
-Stops-starved b generation begun piece frames d e x fed takes p = record {
+pub Stops-starved : (b generation : ℕ) (begun piece : List ℕ) (frames : List Frame) (d e : DeskState) → Fed begun piece frames → TakesReports b generation frames d e
+    → StopsInPiece b generation begun piece d e (end.Refused refusal.Memory)
+Stops-starved b generation begun piece frames d e fed takes = record {
   frames = frames;
   tail = fed.tail;
   parts = fed.parts;
   short = fed.short;
   takes = takes;
-  ends = EndsWithin-before x [] fed.tail tt (EndsBefore-submit x [] p);
+  ends = (refusal.Memory, refl, inl refl);
 }
 
 -- nothing was read
@@ -285,16 +295,16 @@ pub Reads-piece : (b generation : ℕ) (begun piece rest : List ℕ) (d e : Desk
 Reads-piece b generation begun piece rest d e p q consumed takes =
     record { octets = piece; frames = takes.frames; consumed = consumed; cuts = takes.cuts; fits = takes.fits; takes = takes.takes }
 
-EndsAt-within : (x : End) (tail : List ℕ) (left : Option (List ℕ)) → EndsWithin x tail → EndsAt x tail left
-EndsAt-within end.PeerEnded tail left p = absurd p
-EndsAt-within end.CutFrame tail left p = absurd p
-EndsAt-within end.ReadFault tail left p = absurd p
-EndsAt-within end.WriteFault tail left p = absurd p
-EndsAt-within (end.BadMessage f) tail left p = p
-EndsAt-within end.TooLong tail left p = p
-EndsAt-within end.Superseded tail left p = tt
-EndsAt-within (end.Refused r) tail left p = tt
-EndsAt-within end.GateShut tail left p = tt
+EndsAt-within : (b generation : ℕ) (d : DeskState) (x : End) (tail : List ℕ) (left : Option (List ℕ)) → EndsWithin b generation d x tail → EndsAt b generation d x tail left
+EndsAt-within b generation d end.PeerEnded tail left p = absurd p
+EndsAt-within b generation d end.CutFrame tail left p = absurd p
+EndsAt-within b generation d end.ReadFault tail left p = absurd p
+EndsAt-within b generation d end.WriteFault tail left p = absurd p
+EndsAt-within b generation d (end.BadMessage f) tail left p = p
+EndsAt-within b generation d end.TooLong tail left p = p
+EndsAt-within b generation d end.Superseded tail left p = p
+EndsAt-within b generation d (end.Refused r) tail left p = p
+EndsAt-within b generation d end.GateShut tail left p = tt
 
 -- the side ends in a piece
 pub Ends-piece : (b generation : ℕ) (begun piece : List ℕ) (d e : DeskState) (p q : Option (List ℕ)) (x : End) → Consumes p q piece → StopsInPiece b generation begun piece d e x
@@ -307,11 +317,11 @@ Ends-piece b generation begun piece d e p q x consumed stops = record {
   parts = stops.parts;
   short = stops.short;
   takes = stops.takes;
-  ends = EndsAt-within x stops.tail q stops.ends;
+  ends = EndsAt-within b generation e x stops.tail q stops.ends;
 }
 
 -- the side ends with no octet more
-pub Ends-none : (b generation : ℕ) (begun : List ℕ) (d : DeskState) (p q : Option (List ℕ)) (x : End) → Consumes p q [] → EndsAt x begun q → EndsReading b generation begun d d p q x
+pub Ends-none : (b generation : ℕ) (begun : List ℕ) (d : DeskState) (p q : Option (List ℕ)) (x : End) → Consumes p q [] → EndsAt b generation d x begun q → EndsReading b generation begun d d p q x
 Ends-none b generation begun d p q x consumed ends = record {
   octets = [];
   frames = [];
@@ -363,9 +373,9 @@ Reads-unended b generation begun rest c d p q one =
     Reads-end b generation begun rest c d d p q q end.ReadFault one (Ends-none b generation rest d q q end.ReadFault (Consumes-nil q) (Reads-partial b generation begun rest c d p q one))
 
 -- the stream ends
-pub EndsAt-stream : (rest : List ℕ) (left : Option (List ℕ)) → IsPartial rest → IsAtEnd left → EndsAt (stream_end rest) rest left
-EndsAt-stream [] left partial done = (refl, done)
-EndsAt-stream (x ∷ xs) left partial done = (λ none. cc, (partial, done))
+pub EndsAt-stream : (b generation : ℕ) (d : DeskState) (rest : List ℕ) (left : Option (List ℕ)) → IsPartial rest → IsAtEnd left → EndsAt b generation d (stream_end rest) rest left
+EndsAt-stream b generation d [] left partial done = (refl, done)
+EndsAt-stream b generation d (x ∷ xs) left partial done = (λ none. cc, (partial, done))
 
 -- a read that gives no octet
 pub read_end : (p q : Option (List ℕ)) (n : ℕ) (buffer : List ℕ) → Consumes p q (take n buffer) × (n ≡ 0 → 0 < length buffer → IsAtEnd q) → n ≡ 0 → 0 < length buffer → Consumes p q [] × IsAtEnd q

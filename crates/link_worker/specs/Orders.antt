@@ -1,5 +1,5 @@
 -- What the side that writes does: the orders and queries that it submits, and the octets that it writes.
-use Rattle.std.specs.Prelude.{◌≡◌, ◌⊎◌, ℕ, ◌<◌, List, [], ◌∷◌, ◌++◌, length, take, Option}
+use Rattle.std.specs.Prelude.{◌≡◌, ◌⊎◌, ℕ, ◌<◌, List, [], ◌∷◌, ◌++◌, length, take, Option, Some}
 use Rattle.std.specs.Io.KnownBytes.{Appends}
 use Rattle.std.specs.List.{AllByRecursion, flat_map}
 use Rattle.cbsp_messages.specs.Written.{frame_of}
@@ -7,11 +7,14 @@ use Rattle.centre_events.specs.declared.answer.Answer.{Answer}
 use Rattle.centre_events.specs.declared.answer.Answer.TheVariants.{Sent, Asked}
 use Rattle.centre_events.specs.declared.event.Event.{Event}
 use Rattle.centre_events.specs.declared.event.Event.TheVariants as event
+use Rattle.centre_events.specs.declared.refusal.Refusal.{Refusal}
 use Rattle.centre_events.specs.declared.refusal.Refusal.TheVariants as refusal
 use Rattle.framing.specs.Sink.{AppendsFront}
+use Rattle.link_worker.specs.Ends.{order_end}
 use Rattle.link_worker.specs.declared.end.End.{End}
 use Rattle.link_worker.specs.declared.end.End.TheVariants as end
 use Rattle.office.specs.Desks.{DeskState}
+use Rattle.office.specs.Offices.{IsRefusedSomewhere}
 use Rattle.office.specs.declared.receipt.Receipt.{Receipt}
 
 -- the frame of the message in an answer; no octets where it has none
@@ -56,14 +59,26 @@ pub record StopsAtLast (b generation : ℕ) (old new : DeskState) (before after 
   pub cut : IsCutAt e count (length (receipt_frame last))
   pub written : Appends before after (flat_map receipt_frame more ++ take count (receipt_frame last))
 
+-- why nothing more is ordered: the centre was stale, or an order or a query over the link was refused for that cause
+abbrev pub IsRefusedOrder : ℕ → ℕ → DeskState → Refusal → Type 0
+IsRefusedOrder b generation d r = (r ≡ refusal.Stale) ⊎ ((e : Event) × IsOrder b generation e × IsRefusedSomewhere d e r)
+
+-- the end is the one that such a cause makes
+abbrev pub EndsAsUnsent : ℕ → ℕ → DeskState → End → Type 0
+EndsAsUnsent b generation d e = (r : Refusal) × (order_end r ≡ Some e) × IsRefusedOrder b generation d r
+
 -- what was written at each end of the side. Where there was no memory for the last receipt's frame, none of it is written.
 abbrev pub EndsWriting : ℕ → ℕ → DeskState → DeskState → Option (List ℕ) → Option (List ℕ) → End → Type 0
 EndsWriting b generation old new before after end.WriteFault = StopsAtLast b generation old new before after end.WriteFault
 EndsWriting b generation old new before after end.GateShut = StopsAtLast b generation old new before after end.GateShut
 EndsWriting b generation old new before after end.Superseded = Writes b generation old new before after
 EndsWriting b generation old new before after (end.Refused r) =
-    Writes b generation old new before after ⊎ ((r ≡ refusal.Memory) × StopsAtLast b generation old new before after (end.Refused r))
+    (Writes b generation old new before after × EndsAsUnsent b generation new (end.Refused r)) ⊎ ((r ≡ refusal.Memory) × StopsAtLast b generation old new before after (end.Refused r))
 EndsWriting b generation old new before after other = ⊥
+
+-- an end at which nothing was due
+abbrev pub IsWaitEnd : End → Type 0
+IsWaitEnd e = (e ≡ end.Superseded) ⊎ (e ≡ end.Refused refusal.Stale)
 
 -- what was written of a frame at each end
 abbrev pub StopsInFrame : Option (List ℕ) → Option (List ℕ) → List ℕ → End → Type 0

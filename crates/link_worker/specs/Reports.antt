@@ -13,10 +13,13 @@ use Rattle.centre_events.specs.declared.event.Event.{Event}
 use Rattle.centre_events.specs.declared.event.Event.TheVariants as event
 use Rattle.framing.specs.Streams.{BeginsWithNoFrame, Cuts, IsReadable, IsTooLong, frame_octets}
 use Rattle.framing.specs.declared.frame.Frame.{Frame}
-use Rattle.link_worker.specs.Ends.{IsRefusedEnd}
+use Rattle.centre_events.specs.declared.refusal.Refusal.{Refusal}
+use Rattle.centre_events.specs.declared.refusal.Refusal.TheVariants as refusal
+use Rattle.link_worker.specs.Ends.{IsRefusedEnd, report_end}
 use Rattle.link_worker.specs.declared.end.End.{End}
 use Rattle.link_worker.specs.declared.end.End.TheVariants as end
 use Rattle.office.specs.Desks.{DeskState}
+use Rattle.office.specs.Offices.{IsRefusedSomewhere}
 use Rattle.office.specs.declared.receipt.Receipt.{Receipt}
 
 -- the type of a report, by its octet; none for every other type, and where the octet names no type
@@ -73,15 +76,25 @@ pub record IsPartial (octets : List ℕ) : Type 0 where
   pub partial : BeginsWithNoFrame octets
   pub fits : ¬ IsTooLong octets
 
--- what each end says of the octets that were read and not taken, and of those that the reader has left
-abbrev pub EndsAt : End → List ℕ → Option (List ℕ) → Type 0
-EndsAt end.PeerEnded tail left = (tail ≡ []) × IsAtEnd left
-EndsAt end.CutFrame tail left = (tail ≢ []) × (IsPartial tail × IsAtEnd left)
-EndsAt end.ReadFault tail left = IsPartial tail
-EndsAt end.WriteFault tail left = ⊥
-EndsAt (end.BadMessage f) tail left = BeginsWithBadReport tail f
-EndsAt end.TooLong tail left = IsTooLong tail
-EndsAt other tail left = Unit {0}
+-- why reports are no longer taken: there was no memory, or a report over the link was refused for that cause
+abbrev pub IsRefusedReport : ℕ → ℕ → DeskState → Refusal → Type 0
+IsRefusedReport b generation d r = (r ≡ refusal.Memory) ⊎ ((m : Message) × IsRefusedSomewhere d (event.Report b generation m) r)
+
+-- the end is the one that such a cause makes
+abbrev pub EndsAsRefused : ℕ → ℕ → DeskState → End → Type 0
+EndsAsRefused b generation d e = (r : Refusal) × (report_end r ≡ Some e) × IsRefusedReport b generation d r
+
+-- what each end says of the octets that were read and not taken, of those that the reader has left, and of the cause
+abbrev pub EndsAt : ℕ → ℕ → DeskState → End → List ℕ → Option (List ℕ) → Type 0
+EndsAt b generation d end.PeerEnded tail left = (tail ≡ []) × IsAtEnd left
+EndsAt b generation d end.CutFrame tail left = (tail ≢ []) × (IsPartial tail × IsAtEnd left)
+EndsAt b generation d end.ReadFault tail left = IsPartial tail
+EndsAt b generation d end.WriteFault tail left = ⊥
+EndsAt b generation d (end.BadMessage f) tail left = BeginsWithBadReport tail f
+EndsAt b generation d end.TooLong tail left = IsTooLong tail
+EndsAt b generation d end.Superseded tail left = EndsAsRefused b generation d end.Superseded
+EndsAt b generation d (end.Refused r) tail left = EndsAsRefused b generation d (end.Refused r)
+EndsAt b generation d end.GateShut tail left = Unit {0}
 
 -- octets were read, behind those of a frame that has begun: they are frames, which were taken, and a tail
 pub record EndsReading (b generation : ℕ) (begun : List ℕ) (old new : DeskState) (before after : Option (List ℕ)) (e : End) : Type 0 where
@@ -92,7 +105,7 @@ pub record EndsReading (b generation : ℕ) (begun : List ℕ) (old new : DeskSt
   pub parts : begun ++ octets ≡ flat_map frame_octets frames ++ tail
   pub short : AllByRecursion IsReadable frames
   pub takes : TakesReports b generation frames old new
-  pub ends : EndsAt e tail after
+  pub ends : EndsAt b generation new e tail after
 
 -- octets were read, behind those of a frame that has begun, and may be followed by others: all whole frames were taken
 pub record Reads (b generation : ℕ) (begun : List ℕ) (old new : DeskState) (before after : Option (List ℕ)) (rest : List ℕ) : Type 0 where
@@ -110,14 +123,14 @@ pub record TakesPiece (b generation : ℕ) (begun piece rest : List ℕ) (old ne
   pub fits : ¬ IsTooLong rest
   pub takes : TakesReports b generation frames old new
 
--- what an end in a piece says of the octets that were not taken
-abbrev pub EndsWithin : End → List ℕ → Type 0
-EndsWithin (end.BadMessage f) tail = BeginsWithBadReport tail f
-EndsWithin end.TooLong tail = IsTooLong tail
-EndsWithin end.Superseded tail = Unit {0}
-EndsWithin (end.Refused r) tail = Unit {0}
-EndsWithin end.GateShut tail = Unit {0}
-EndsWithin other tail = ⊥
+-- what an end in a piece says of the octets that were not taken, and of the cause
+abbrev pub EndsWithin : ℕ → ℕ → DeskState → End → List ℕ → Type 0
+EndsWithin b generation d (end.BadMessage f) tail = BeginsWithBadReport tail f
+EndsWithin b generation d end.TooLong tail = IsTooLong tail
+EndsWithin b generation d end.Superseded tail = EndsAsRefused b generation d end.Superseded
+EndsWithin b generation d (end.Refused r) tail = EndsAsRefused b generation d (end.Refused r)
+EndsWithin b generation d end.GateShut tail = Unit {0}
+EndsWithin b generation d other tail = ⊥
 
 -- the side ends in a piece: some frames were taken, and a tail was not
 pub record StopsInPiece (b generation : ℕ) (begun piece : List ℕ) (old new : DeskState) (e : End) : Type 0 where
@@ -126,15 +139,15 @@ pub record StopsInPiece (b generation : ℕ) (begun piece : List ℕ) (old new :
   pub parts : begun ++ piece ≡ flat_map frame_octets frames ++ tail
   pub short : AllByRecursion IsReadable frames
   pub takes : TakesReports b generation frames old new
-  pub ends : EndsWithin e tail
+  pub ends : EndsWithin b generation new e tail
 
--- what an end at some frames says of those that were not taken
-abbrev pub EndsBefore : End → List Frame → Type 0
-EndsBefore (end.BadMessage f) (frame ∷ frames) = IsBadReport frame f
-EndsBefore end.Superseded frames = Unit {0}
-EndsBefore (end.Refused r) frames = Unit {0}
-EndsBefore end.GateShut frames = Unit {0}
-EndsBefore other frames = ⊥
+-- what an end at some frames says of those that were not taken, and of the cause
+abbrev pub EndsBefore : ℕ → ℕ → DeskState → End → List Frame → Type 0
+EndsBefore b generation d (end.BadMessage f) (frame ∷ frames) = IsBadReport frame f
+EndsBefore b generation d end.Superseded frames = EndsAsRefused b generation d end.Superseded
+EndsBefore b generation d (end.Refused r) frames = EndsAsRefused b generation d (end.Refused r)
+EndsBefore b generation d end.GateShut frames = Unit {0}
+EndsBefore b generation d other frames = ⊥
 
 -- the side ends at some of the frames: those before were taken
 pub record StopsAmong (b generation : ℕ) (frames : List Frame) (old new : DeskState) (e : End) : Type 0 where
@@ -142,7 +155,7 @@ pub record StopsAmong (b generation : ℕ) (frames : List Frame) (old new : Desk
   pub left : List Frame
   pub parts : frames ≡ taken ++ left
   pub takes : TakesReports b generation taken old new
-  pub ends : EndsBefore e left
+  pub ends : EndsBefore b generation new e left
 
 -- the event may have been accepted: then its receipt came behind the desk's earlier ones
 abbrev pub MayGet : Event → DeskState → DeskState → Type 0
@@ -150,8 +163,8 @@ MayGet e old new =
     (new.number ≡ old.number) × ((new.receipts ≡ old.receipts) ⊎ ((r : Receipt) × (r.event ≡ e) × (new.receipts ≡ old.receipts ++ r ∷ [])))
 
 -- an end at a report that was read
-abbrev pub IsSubmitEnd : End → Type 0
-IsSubmitEnd e = IsRefusedEnd e ⊎ (e ≡ end.GateShut)
+abbrev pub IsSubmitEnd : ℕ → ℕ → DeskState → End → Type 0
+IsSubmitEnd b generation d e = (IsRefusedEnd e × EndsAsRefused b generation d e) ⊎ (e ≡ end.GateShut)
 
 -- what the end of the stream is, by the octets of a frame that has begun
 abbrev pub stream_end : List ℕ → End

@@ -30,7 +30,8 @@ const PIECE: usize = 4096;
 /// 1,000,000,000,000.
 ///
 /// It goes on where a report answers no order in flight (`NoOrder`). It ends by any of the ends but `WriteFault`. The frames before
-/// one that is too long, or that can't be read, are taken first.
+/// one that is too long, or that can't be read, are taken first. `Superseded` and `Refused` come of the refusal of a report over
+/// this link, which `Refused` has; `Refused(Memory)` also where there was no memory for a frame or its message.
 pub fn read_side<L: Ledger, S: Source, G: Gate, R: Wait>(
     rt: &R,
     alloc: Global,
@@ -158,7 +159,7 @@ impl<'o, 'g, L: Ledger, G: Gate> Link<'o, 'g, L, G> {
         message: Message,
     ) -> Result<(), End>
         ensures got { MayGet (event.Report self.now.bsc self.now.generation message) desk.old desk.new }
-        ensures ended { IfErr result IsSubmitEnd }
+        ensures ended { IfErr result (IsSubmitEnd self.now.bsc self.now.generation desk.new) }
     {
         let event = Event::Report(self.bsc, self.generation, message);
         if let Err(refusal) = self.office.submit(rt, desk, event) {

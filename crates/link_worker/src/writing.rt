@@ -26,7 +26,8 @@ use std::sync::ledger::Ledger;
 /// the side ends. The gate is asked before each write (`Step::BeforeWrite`), when the entry is in the journal already.
 ///
 /// It goes on where by then nothing is to be sent or asked (`InFlight`, `NothingPending`, `NothingToAsk`, `NoSuchWarning`). It ends
-/// by `WriteFault`, `Superseded`, `Refused` or `GateShut`. After `WriteFault`, `GateShut` and `Refused(Memory)` the order of the last
+/// by `WriteFault`, `Superseded`, `Refused` or `GateShut`. `Refused` has `Stale`, the refusal of an order or a query over this link,
+/// or `Memory` where there was none for a frame. After `WriteFault`, `GateShut` and `Refused(Memory)` the order of the last
 /// receipt may be in flight though its frame was not written, or not all of it; it is so until the loss of the link is submitted.
 pub fn write_side<L: Ledger, W: Sink, G: Gate, R: Wait>(
     rt: &R,
@@ -65,13 +66,13 @@ impl<'o, 'g, L: Ledger, G: Gate> Link<'o, 'g, L, G> {
     ghost use Rattle.std.specs.Prelude.{◌≡◌, ◌||◌, IfOk, IfErr, OnOk};
     ghost use Rattle.std.specs.Io.KnownBytes.{Appends};
     ghost use Rattle.centre_core.specs.Fits.{AnswerFits};
-    ghost use Rattle.link_worker.specs.Ends.{IsRefusedEnd, fails_to_write};
-    ghost use Rattle.link_worker.specs.Orders.{EndsWriting, IsOrder, StopsInFrame, Writes, receipt_frame};
+    ghost use Rattle.link_worker.specs.Ends.{fails_to_write};
+    ghost use Rattle.link_worker.specs.Orders.{EndsWriting, IsOrder, IsWaitEnd, StopsInFrame, Writes, receipt_frame};
 
     /// Waits for the next order or query.
     fn due<R: Wait>(&self, rt: &R) -> Result<Event, End>
         ensures order { IfOk result (IsOrder self.now.bsc self.now.generation) }
-        ensures end { IfErr result IsRefusedEnd }
+        ensures end { IfErr result IsWaitEnd }
     {
         match self.office.wait_pending(rt, self.bsc, self.generation) {
             Wake::Order => Ok(Event::Send(self.bsc, self.generation)),

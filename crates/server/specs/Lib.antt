@@ -1,1 +1,3 @@
+pub mod Allowances
+pub mod Paces
 pub mod Rate

@@ -1,13 +1,13 @@
 //! What the server is run with.
 
-ghost use Rattle.std.specs.Prelude.{◌≤◌};
+ghost use Rattle.std.specs.Prelude.{◌≤◌, IfSome};
 
 use clap::ArgMatches;
 use console::options::{MOST_ENTRIES, command_line};
 use hex::FromHex;
 use std::alloc::{AllocError, Global};
 
-/// What the server is run with. BSC b connects to port `base` + b - 1, for b from 1 to `links`.
+/// What the server is run with. BSC b connects to port `base` + b - 1, for b from 1 to `links`, which is at most 256.
 #[derive(Debug, Drop)]
 pub struct ServeOptions {
     /// The network code, as TS 24.008 writes it in three octets.
@@ -20,6 +20,7 @@ pub struct ServeOptions {
     /// Whether a simulated BSC connects to each port, once its BSC is registered.
     pub with_simulator: bool,
     ghost few: { journal_limit ≤ 4000000 },
+    ghost few_links: { links ≤ 256 },
 }
 
 /// Why the words are no options of the server.
@@ -53,11 +54,19 @@ fn asked_journal(matches: &ArgMatches<'_>) -> u32
     }
 }
 
-/// The first port, and how many follow; `None` where one is past 65,535.
-fn asked_ports(matches: &ArgMatches<'_>) -> Option<(u16, u16)> {
+/// The most BSCs that may connect.
+const MOST_LINKS: u16 = 256;
+
+/// The first port, and how many BSCs may connect; `None` where a port is past 65,535.
+fn asked_ports(matches: &ArgMatches<'_>) -> Option<(u16, u16)>
+    ensures { IfSome result (λ ports. ports.1 ≤ 256) }
+{
     let base = matches.get_one::<u16>("base")?;
     let links = matches.get_one::<u16>("links")?;
     base.checked_add(links.checked_sub(1)?)?;
+    if links > MOST_LINKS {
+        return None;
+    }
     Some((base, links))
 }
 

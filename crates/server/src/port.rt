@@ -1,6 +1,6 @@
 //! The port of one BSC.
 
-use crate::rate::Bucket;
+use crate::allowance::Allowance;
 use cell_register::BscId;
 use link_worker::End;
 use office::desk::Desk;
@@ -24,6 +24,8 @@ pub(crate) struct PortState {
     is_simulated: bool,
     /// The connection of the link that is up.
     stream: Option<TcpStream>,
+    /// The simulated BSC's end of its connection.
+    simulated: Option<TcpStream>,
     job: Option<Job>,
     /// How the write side ended.
     written: Option<End>,
@@ -38,7 +40,7 @@ pub(crate) struct Port<L: Ledger> {
     pub(crate) address: SocketAddr,
     pub(crate) read_desk: Mutex<Option<Desk<L>>>,
     pub(crate) write_desk: Mutex<Option<Desk<L>>>,
-    pub(crate) bucket: Mutex<Bucket>,
+    pub(crate) allowance: Mutex<Allowance>,
     state: Mutex<PortState>,
     changed: Condvar,
 }
@@ -51,11 +53,12 @@ impl<L: Ledger> Port<L> {
             address,
             read_desk: Mutex::new(None),
             write_desk: Mutex::new(None),
-            bucket: Mutex::new(Bucket::new()),
+            allowance: Mutex::new(Allowance::new()),
             state: Mutex::new(PortState {
                 is_closing: false,
                 is_simulated: false,
                 stream: None,
+                simulated: None,
                 job: None,
                 written: None,
             }),
@@ -124,11 +127,30 @@ impl<L: Ledger> Port<L> {
         !state.is_closing
     }
 
+    /// Keeps the simulated BSC's end of its connection, which `close` shuts from now on. `false` where the port is closing: then
+    /// nobody may take that connection.
+    pub(crate) fn keep_simulated<R: Wait>(&self, rt: &R, stream: TcpStream) -> bool {
+        let mut state = self.state.lock(rt);
+        if state.is_closing {
+            return false;
+        }
+        state.simulated = Some(stream);
+        true
+    }
+
+    /// Lets the simulated BSC's end go.
+    pub(crate) fn end_simulated<R: Wait>(&self, rt: &R) {
+        self.state.lock(rt).simulated = None;
+    }
+
     /// Takes no further connection, and shuts the one that is there.
     pub(crate) fn close<R: Wait>(&self, rt: &R) {
         let mut state = self.state.lock(rt);
         state.is_closing = true;
         if let Some(stream) = &state.stream {
+            let _ = stream.shutdown(Shutdown::Both);
+        }
+        if let Some(stream) = &state.simulated {
             let _ = stream.shutdown(Shutdown::Both);
         }
         self.changed.notify_all();

@@ -1,6 +1,6 @@
 //! The ports of a server: opened, given their desks, and closed.
 
-use crate::errors::tell;
+use crate::errors::{Errors, tell};
 use crate::fault::ServeFault;
 use crate::options::ServeOptions;
 use crate::port::Port;
@@ -12,8 +12,8 @@ use office::office::Office;
 use std::alloc::Global;
 use std::io::Write;
 use std::net::{Net, TcpListener, TcpStream};
+use std::sync::Wait;
 use std::sync::ledger::Ledger;
-use std::sync::{Mutex, Wait};
 use std::time::{Clock, Duration};
 use std::{io, thread};
 
@@ -41,7 +41,7 @@ pub(crate) fn bind_all<
     rt: &R,
     alloc: Global,
     options: &ServeOptions,
-    errors: &Mutex<E>,
+    errors: &Errors<E>,
 ) -> Result<Vec<Port<L>>, ServeFault> {
     let mut ports = Vec::new(alloc);
     for k in 0..options.links {

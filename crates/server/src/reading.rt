@@ -95,6 +95,7 @@ fn read_link<L: Ledger, E: Write + Drop, R: Wait + Clock>(
         alloc: shared.alloc,
         clock: rt,
         port,
+        all: &shared.orders,
         errors: &shared.errors,
     };
     let mut source = FromRead::new(stream);
@@ -114,6 +115,37 @@ fn read_link<L: Ledger, E: Write + Drop, R: Wait + Clock>(
     tell_end(rt, shared, port, generation, read, written);
 }
 
+/// Says that the link can't be served, since there are no more handles of its connection.
+fn tell_unserved<L: Ledger, E: Write + Drop, R: Wait>(
+    rt: &R,
+    shared: &Shared<L, E>,
+    port: &Port<L>,
+    generation: u64,
+    error: &io::Error,
+) {
+    if let Ok(text) = format!(in shared.alloc;
+        "link {generation} ended: it can't be served: {error}"
+    ) {
+        tell(rt, shared.alloc, &shared.errors, port.bsc, text);
+    }
+}
+
+/// Says that no connection can be taken, if it wasn't said since the last one that was.
+fn tell_untaken<L: Ledger, E: Write + Drop, R: Wait>(
+    rt: &R,
+    shared: &Shared<L, E>,
+    port: &Port<L>,
+    error: &io::Error,
+    was_told: bool,
+) {
+    if was_told {
+        return;
+    }
+    if let Ok(text) = format!(in shared.alloc; "no connection can be taken: {error}") {
+        tell(rt, shared.alloc, &shared.errors, port.bsc, text);
+    }
+}
+
 /// Serves a link that has come up.
 fn serve_link<L: Ledger, E: Write + Drop, R: Wait + Clock>(
     rt: &R,
@@ -124,11 +156,14 @@ fn serve_link<L: Ledger, E: Write + Drop, R: Wait + Clock>(
     stream: TcpStream,
 ) {
     let _ = stream.set_nodelay(true);
-    if let Ok((kept, job)) = handles(&stream, generation) {
-        if port.begin(rt, kept, job) {
-            read_link(rt, shared, port, desk, generation, stream);
-            return;
+    match handles(&stream, generation) {
+        Ok((kept, job)) => {
+            if port.begin(rt, kept, job) {
+                read_link(rt, shared, port, desk, generation, stream);
+                return;
+            }
         }
+        Err(error) => tell_unserved(rt, shared, port, generation, &error),
     }
     let _ = stream.shutdown(Shutdown::Both);
     end_link(rt, shared, port, desk, generation);
@@ -168,14 +203,22 @@ pub(crate) fn read_links<L: Ledger, E: Write + Drop, R: Wait + Clock>(
     let Some(mut desk) = port.read_desk.lock(rt).take() else {
         return;
     };
+    let mut was_told = false;
     for _ in rt.forever() {
         let accepted = port.listener.accept();
         if port.is_closing(rt) {
             break;
         }
         match accepted {
-            Ok((stream, _)) => take_stream(rt, shared, port, &mut desk, stream),
-            Err(_) => thread::sleep(rt, Duration::from_millis(PAUSE)),
+            Ok((stream, _)) => {
+                was_told = false;
+                take_stream(rt, shared, port, &mut desk, stream);
+            }
+            Err(error) => {
+                tell_untaken(rt, shared, port, &error, was_told);
+                was_told = true;
+                thread::sleep(rt, Duration::from_millis(PAUSE));
+            }
         }
     }
     *port.read_desk.lock(rt) = Some(desk);

@@ -2,7 +2,8 @@
 
 ghost use Rattle.std.specs.Prelude.{◌≡◌};
 
-use crate::errors::tell_text;
+use crate::bucket::Bucket;
+use crate::errors::Errors;
 use crate::fault::ServeFault;
 use crate::operator::operate;
 use crate::options::{OptionsFault, ServeOptions, read_options};
@@ -77,8 +78,8 @@ fn run_writers<
     })
 }
 
-/// Answers the lines of the operator while the ports serve their links, and ends all threads.
-fn run_threads<
+/// Answers the lines of the operator while the ports serve their links, and ends these threads.
+fn run_readers<
     'x,
     L: Ledger + Send + Sync,
     R: Wait + Threads + Clock + Sync + Net<Stream = TcpStream, Listener = TcpListener>,
@@ -98,6 +99,29 @@ fn run_threads<
             }
         }
         run_writers(rt, shared, ports, terminal)
+    })
+}
+
+/// Answers the lines of the operator while the ports serve their links, and what happens to links is said by a thread of its own,
+/// or at the end, where that can't be started. Ends all threads.
+fn run_threads<
+    'x,
+    L: Ledger + Send + Sync,
+    R: Wait + Threads + Clock + Sync + Net<Stream = TcpStream, Listener = TcpListener>,
+    I: BufRead + Send + Drop,
+    W: Write + Send + Drop,
+    E: Write + Send + Drop,
+>(
+    rt: &'x R,
+    shared: &'x Shared<L, E>,
+    ports: &'x [Port<L>],
+    terminal: &'x Mutex<Terminal<L, I, W>>,
+) -> Result<(), ReplayFault> {
+    thread::scope(thread::scope_env(), rt, move |scope| {
+        let _ = scope.spawn(move || shared.errors.say_lines(rt, shared.alloc));
+        let result = run_readers(rt, shared, ports, terminal);
+        shared.errors.close(rt);
+        result
     })
 }
 
@@ -173,8 +197,8 @@ fn run<
     options: &ServeOptions,
     reader: I,
     writer: W,
-    errors: Mutex<E>,
-) -> Result<(), (Mutex<E>, ServeFault)>
+    errors: Errors<E>,
+) -> Result<(), (Errors<E>, ServeFault)>
     requires name { blank.name ≡ L.name }
     requires parts { blank.parts ≡ L.parts }
     requires desks { blank.parts ≡ 1025 }
@@ -188,6 +212,7 @@ fn run<
         office: Office::new(alloc, blank, options.plmn, options.journal_limit),
         ports,
         errors,
+        orders: Mutex::new(Bucket::for_all()),
         with_simulator: options.with_simulator,
     };
     let terminal: Mutex<Terminal<L, I, W>> = Mutex::new(Terminal {
@@ -201,6 +226,7 @@ fn run<
         office,
         ports,
         errors,
+        orders: _,
         with_simulator: _,
     } = shared;
     drop(ports);
@@ -230,8 +256,8 @@ fn run_office<
     options: &ServeOptions,
     reader: I,
     writer: W,
-    errors: Mutex<E>,
-) -> Result<(), (Mutex<E>, ServeFault)> {
+    errors: Errors<E>,
+) -> Result<(), (Errors<E>, ServeFault)> {
     run::<Brand, R, I, W, E>(rt, alloc, Blank::new(1025), options, reader, writer, errors)
 }
 
@@ -248,10 +274,19 @@ pub fn serve<
     W: Write + Send + Drop,
     E: Write + Send + Drop,
 >(rt: &R, alloc: Global, options: &ServeOptions, reader: I, writer: W, errors: E) -> u8 {
-    match run_office(rt, alloc, options, reader, writer, Mutex::new(errors)) {
+    match run_office(
+        rt,
+        alloc,
+        options,
+        reader,
+        writer,
+        Errors::new(alloc, errors),
+    ) {
         Ok(()) => 0,
         Err((errors, fault)) => {
-            tell_text(rt, &errors, words_of(fault));
+            errors.close(rt);
+            errors.say_lines(rt, alloc);
+            errors.say(rt, words_of(fault));
             1
         }
     }

@@ -1,5 +1,7 @@
 //! What the threads of a server share.
 
+use crate::bucket::Bucket;
+use crate::errors::Errors;
 use crate::port::Port;
 use office::office::Office;
 use std::alloc::Global;
@@ -12,7 +14,9 @@ pub(crate) struct Shared<L: Ledger, E: Drop> {
     pub(crate) alloc: Global,
     pub(crate) office: Office<L>,
     pub(crate) ports: Vec<Port<L>>,
-    pub(crate) errors: Mutex<E>,
+    pub(crate) errors: Errors<E>,
+    /// How many orders may go out to all BSCs together.
+    pub(crate) orders: Mutex<Bucket>,
     /// Whether a simulated BSC connects to each port.
     pub(crate) with_simulator: bool,
 }

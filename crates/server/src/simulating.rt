@@ -21,6 +21,21 @@ fn answer(alloc: Global, stream: TcpStream) {
     bsc.run(&mut reader, &mut writer, &choices);
 }
 
+/// Answers the centre over the connection, until it ends or the port is closing.
+fn answer_until_closed<L: Ledger, R: Wait>(
+    rt: &R,
+    alloc: Global,
+    port: &Port<L>,
+    stream: TcpStream,
+) {
+    if let Ok(kept) = stream.try_clone() {
+        if port.keep_simulated(rt, kept) {
+            answer(alloc, stream);
+        }
+        port.end_simulated(rt);
+    }
+}
+
 /// Connects once the BSC is registered, and answers the centre until the connection ends; or does nothing, where no BSC is
 /// simulated.
 pub(crate) fn simulate<
@@ -30,7 +45,7 @@ pub(crate) fn simulate<
 >(rt: &R, shared: &Shared<L, E>, port: &Port<L>) {
     if shared.with_simulator && port.wait_simulated(rt) {
         if let Ok(stream) = TcpStream::connect(rt, port.address) {
-            answer(shared.alloc, stream);
+            answer_until_closed(rt, shared.alloc, port, stream);
         }
     }
 }

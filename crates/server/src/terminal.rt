@@ -9,6 +9,12 @@ use std::sync::ledger::Ledger;
 /// The most octets that a line may have, without its end.
 const LONGEST_LINE: usize = 600_000;
 
+/// The most octets that are kept of a line: those that it may have, and its end.
+const MOST_KEPT: usize = 600_002;
+
+/// The most reads for a line.
+const MOST_READS: u64 = 1_000_000_000_000;
+
 /// Where lines are read and answered, and the desk of the operator.
 #[derive(Drop)]
 pub(crate) struct Terminal<L: Ledger, I: Drop, W: Drop> {
@@ -36,14 +42,40 @@ fn without_end(line: &[u8]) -> &[u8] {
     }
 }
 
+/// The octets up to the end of a line, with it; all of them where none ends.
+fn up_to_end(piece: &[u8]) -> &[u8] {
+    match piece.iter().position(|octet| *octet == b'\n') {
+        Some(index) => piece.get(..=index).unwrap_or(piece),
+        None => piece,
+    }
+}
+
 impl<L: Ledger, I: BufRead + Drop, W: Write + Drop> Terminal<L, I, W> {
-    /// The next line without its end; `None` at the end of the input.
+    /// Reads once, and puts what was read of the line behind the rest of it. The answer is whether the line or the input has ended.
+    fn read_on(&mut self, line: &mut Vec<u8>) -> Result<bool, ReplayFault> {
+        let (count, has_ended) = match self.reader.fill_buf() {
+            Ok(piece) => {
+                let front = up_to_end(piece);
+                line.extend_from_slice(front)?;
+                (front.len(), piece.is_empty() || front.ends_with(b"\n"))
+            }
+            Err(error) if error.kind() == ErrorKind::Interrupted => return Ok(false),
+            Err(error) => return Err(fault_of(&error)),
+        };
+        self.reader.consume(count);
+        Ok(has_ended)
+    }
+
+    /// The next line without its end; `None` at the end of the input. Of a line that is too long no more is read.
     pub(crate) fn read_line(&mut self, alloc: Global) -> Result<Option<Vec<u8>>, ReplayFault> {
         let mut line = Vec::new(alloc);
-        match self.reader.read_until(b'\n', &mut line) {
-            Ok(0) => return Ok(None),
-            Ok(_) => {}
-            Err(error) => return Err(fault_of(&error)),
+        for _turn in 0..MOST_READS {
+            if self.read_on(&mut line)? || line.len() > MOST_KEPT {
+                break;
+            }
+        }
+        if line.is_empty() {
+            return Ok(None);
         }
         let front = without_end(line.as_slice());
         if front.len() > LONGEST_LINE {

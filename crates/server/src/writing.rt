@@ -25,6 +25,7 @@ fn write_link<L: Ledger, E: Write + Drop, R: Wait + Clock>(
         alloc: shared.alloc,
         clock: rt,
         port,
+        all: &shared.orders,
         errors: &shared.errors,
     };
     let mut sink = FromWrite::new(stream);

@@ -1,5 +1,8 @@
-use Rattle.link_worker.proofs.OrderLemmas.{Ends-more}
+use Rattle.link_worker.proofs.OrderLemmas.{Ends-more, Ends-waited}
 use Rattle.link_worker.proofs.writing.write_side.Goals as goal
 
 pub returns-in-Err-send_one-clause-written : goal.returns-in-Err-send_one-clause-written
 returns-in-Err-send_one-clause-written g c = Ends-more _ _ _ _ _ _ _ _ _ c.loop.invariant.writes c.in-Err-send_one.ensures.ended
+
+pub returns-in-Err-clause-written : goal.returns-in-Err-clause-written
+returns-in-Err-clause-written g c = Ends-waited _ _ _ _ _ _ c.in-Err.end c.loop.invariant.writes c.in-Err.ensures.end

@@ -1,3 +1,4 @@
+use Rattle.std.proofs.Common.{sym, ◌∙◌}
 use Rattle.link_worker.proofs.OrderLemmas.{Ends-refused, Writes-room, ended_one, written_one}
 use Rattle.link_worker.proofs.link.Link.send_one.Goals as goal
 
@@ -13,7 +14,8 @@ returns-in-Ok-clause-ended g c =
 
 pub returns-in-Some-clause-ended : goal.returns-in-Some-clause-ended
 returns-in-Some-clause-ended g c =
-    Ends-refused _ _ _ _ _ _ c.in-Some.end (Writes-room c.args.self.now.bsc c.args.self.now.generation _ _ _ c.in-Err.ensures.unchanged) c.in-Some.ensures.refused
+    Ends-refused _ _ c.args.desk.now _ _ c.args.event _ c.in-Some.end c.requires c.in-Err.ensures.refused c.in-Err.ensures.unchanged (sym c.order_end.ensures.end ∙ c.in-Some.is)
+    c.in-Some.ensures.refused
 
 pub returns-in-None-clause-sent : goal.returns-in-None-clause-sent
 returns-in-None-clause-sent g c = Writes-room _ _ _ _ _ c.in-Err.ensures.unchanged

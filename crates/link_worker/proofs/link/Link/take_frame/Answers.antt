@@ -15,4 +15,4 @@ returns-in-Ok-clause-ended g c =
 pub returns-in-Err-clause-ended : goal.returns-in-Err-clause-ended
 returns-in-Err-clause-ended g c =
     rw c.of_fault.ensures
-    (Stops-before _ _ _ _ _ (report_unread c.args.frame.now c.in-Some.kind c.as_slice.result.now c.in-Err.fault (sym c.report_type.ensures ∙ c.in-Some.is) c.as_slice.ensures c.in-Err.ensures.fault))
+    (Stops-before _ _ _ _ _ (report_unread _ _ _ c.args.frame.now c.in-Some.kind c.as_slice.result.now c.in-Err.fault (sym c.report_type.ensures ∙ c.in-Some.is) c.as_slice.ensures c.in-Err.ensures.fault))
