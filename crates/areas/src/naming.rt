@@ -33,11 +33,5 @@ pub(crate) fn is_before(a: &Name, b: &Name) -> bool
 {
     let first = a.as_slice();
     let second = b.as_slice();
-    let shorter = first.len().min(second.len());
-    for i in 0..shorter {
-        if first[i] != second[i] {
-            return first[i] < second[i];
-        }
-    }
-    first.len() < second.len()
+    first < second
 }
