@@ -2,10 +2,9 @@
 use Rattle.std.proofs.Common.{◌≡◌, ℕ, ◌+◌, Bool, List, Option, refl, sym, ◌∙◌, ap, subst}
 use Rattle.kept_tables.specs.declared.spot.Spot.{Spot}
 use Rattle.centre_core.specs.Flights.{flights_after, up_before}
-use Rattle.centre_core.specs.Following.{Bears, Finishes, flight_kept, flight_before}
+use Rattle.centre_core.specs.Following.{Bears, Finishes, LeavesDown, flight_kept, flight_before}
 use Rattle.centre_events.specs.Kept.{AreFlightsOf}
 use Rattle.centre_events.specs.Past.{Past, After, position}
-use Rattle.centre_core.specs.Reach.{IsReach, reach_of}
 use Rattle.centre_core.specs.State.{AreLinksOf, links_after}
 use Rattle.centre_events.specs.declared.answer.Answer.{Answer}
 use Rattle.centre_events.specs.declared.entry.Entry.{Entry}
@@ -43,8 +42,7 @@ bears_of s e a place up spots same held f fs x are these is = record {
   flight = is ∙ ap (λ gs. flight_kept gs e) these ∙ flight_is x.past s.flights.items e x.flying;
   downs = x.downs;
   tables = x.tables;
-  numbers = x.reached.numbers;
-  reach = subst (λ ps. IsReach (record { spots = ps; warnings = x.reached.numbers }) (reach_of x.past e a)) (sym are) x.reached.reach;
+  away = subst (LeavesDown x.past e a) (sym are) (x.reached.away x.settings x.legal);
   keys = x.reached.keys;
   lines = x.reached.lines;
   once = x.reached.once;

@@ -1,5 +1,5 @@
 -- Reading lines changes nothing but the meter.
-use Rattle.std.proofs.Common.{◌≡◌, ℕ, ◌+◌, ◌<◌, get_or, take, length, Bool, true, false, ◌||◌, List, [], ◌∷◌, ◌++◌, Option, Some, None, unwrap_or, cond, refl, sym, ◌∙◌, ap}
+use Rattle.std.proofs.Common.{◌≡◌, ℕ, ◌+◌, ◌<◌, get_or, take, length, Bool, true, false, ◌||◌, List, [], ◌∷◌, ◌++◌, Option, Some, None, unwrap_or, cond, refl, sym, ◌∙◌, ap, arith, ◌≤◌}
 use Rattle.std.specs.List.{list_any}
 use Rattle.std.proofs.lemmas.List.{take_more}
 use Rattle.std.proofs.lemmas.List.Folds.{list_any-append}
@@ -26,10 +26,10 @@ same_trans t u v h g = record {
 }
 
 pub as_itself : (t : Tables) → AsBefore t t
-as_itself t = record { lines = refl; downs = refl; same = record { lines = λ b c w. refl; acts = λ b a. refl; totals = λ w. refl; areas = λ w a. refl } }
+as_itself t = record { lines = refl; downs = refl; same = record { lines = λ b c w. refl; acts = λ b a. refl; totals = λ w. refl; areas = λ w a. refl }; meter = omega arith }
 
-pub as_read : (t u v : Tables) → AsBefore t u → SameTables u v → v.lines.lines ≡ u.lines.lines → v.lines.downs ≡ u.lines.downs → AsBefore t v
-as_read t u v h same lines downs = record { lines = lines ∙ h.lines; downs = downs ∙ h.downs; same = same_trans t u v h.same same }
+pub as_read : (t u v : Tables) → AsBefore t u → SameTables u v → v.lines.lines ≡ u.lines.lines → v.lines.downs ≡ u.lines.downs → u.lines.meter ≤ v.lines.meter → AsBefore t v
+as_read t u v h same lines downs least = record { lines = lines ∙ h.lines; downs = downs ∙ h.downs; same = same_trans t u v h.same same; meter = omega (arith, h.meter, least) }
 
 -- what is read of a line is what was
 pub facts_as : (r : register.State) (l : List Area) (st : book.State) (t u : Tables) (k : LineKey) → AsBefore t u → facts_in r l st u k ≡ facts_in r l st t k

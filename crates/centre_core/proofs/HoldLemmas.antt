@@ -1,15 +1,11 @@
 -- What is read of the lines on which an event bears is what the past says of them.
-use Rattle.std.proofs.Common.{◌≡◌, ℕ, ◌+◌, ◌*◌, ◌≤◌, Bool, true, false, ◌||◌, not, nat_eq, List, [], ◌∷◌, ◌++◌, Option, Some, None, Ok, cond, filter, length, map, refl, sym, ◌∙◌, ap, subst, arith}
+use Rattle.std.proofs.Common.{◌≡◌, ℕ, ◌+◌, ◌*◌, ◌≤◌, Bool, true, false, not, List, [], ◌∷◌, ◌++◌, Option, Some, None, Ok, cond, filter, length, map, refl, sym, ◌∙◌, ap, subst, arith}
 use Rattle.std.specs.Prelude.{if◌then◌else◌}
 use Rattle.std.specs.List.{flat_map, list_any}
 use Rattle.std.proofs.Math.Bool.{not-not}
 use Rattle.std.proofs.lemmas.List.Elements.{filter-append}
 use Rattle.std.proofs.lemmas.List.Filters.{length-filter_both}
-use Rattle.std.specs.Cmp.{unsigned_Decides}
-use Rattle.cell_register.specs.Register as register
-use Rattle.cell_register.specs.Register.{has_bsc}
-use Rattle.cell_register.specs.Sound.{IsRegister}
-use Rattle.common.specs.OnceLaws.{turned, any_turned, any_filter_same, ascending_once, once_filter}
+use Rattle.common.specs.OnceLaws.{any_turned, any_filter_same, once_filter}
 use Rattle.kept_tables.specs.Same.{SamePart}
 use Rattle.kept_tables.specs.SpotLaws.{key_decides}
 use Rattle.kept_tables.specs.Tables.{Tables}
@@ -28,8 +24,8 @@ use Rattle.centre_core.specs.IsKept.{IsKept}
 use Rattle.centre_events.specs.Kept.{AreFlightsOf, is_edit}
 use Rattle.centre_core.specs.Legal.{Legal}
 use Rattle.centre_events.specs.Past.{Past, After}
-use Rattle.centre_core.specs.Reach.{Reach, IsReach, reach_of, size}
-use Rattle.centre_core.specs.Reaching.{AreBscs, Told, IsFlightOf, bsc_of}
+use Rattle.centre_core.specs.Reach.{Reach, IsReach, reach_of, size, spot}
+use Rattle.centre_core.specs.Reaching.{Told, IsFlightOf, bsc_of}
 use Rattle.centre_events.specs.Settings.{Settings}
 use Rattle.centre_events.specs.Verdict.{verdict}
 use Rattle.centre_events.specs.Warnings.{book_of}
@@ -41,9 +37,9 @@ use Rattle.centre_core.specs.declared.held.Held.{Held}
 use Rattle.centre_events.specs.declared.in_flight.InFlight.{InFlight}
 use Rattle.centre_core.specs.declared.kept.Kept.{Kept}
 use Rattle.coverage_plan.specs.declared.edit.Edit.{Edit}
+use Rattle.centre_core.proofs.DownLemmas.{down_outside}
 use Rattle.centre_core.proofs.FactsLemmas.{facts_same}
 use Rattle.centre_core.proofs.OutsideLemmas.{outside}
-use Rattle.centre_core.proofs.RegisterLemmas.{nat_apart}
 use Rattle.centre_core.proofs.PassedLemmas.{passed_same}
 use Rattle.centre_core.proofs.StayLemmas.{stays_same}
 use Rattle.centre_core.proofs.TellLemmas.{bears_of, keys_counted, keys_once}
@@ -66,11 +62,11 @@ map_append f (x ∷ xs) ys = ap (λ zs. f x ∷ zs) (map_append f xs ys)
 -- Lines that are held but for those that pass a test, at spots and of warnings.
 
 -- the line, if it does not pass
-abbrev unless : (LineKey → Bool) → (LineKey → Held) → LineKey → List Held
+abbrev pub unless : (LineKey → Bool) → (LineKey → Held) → LineKey → List Held
 unless passes line k = if passes k then [] else line k ∷ []
 
 -- the lines that do not pass
-abbrev failing : (LineKey → Bool) → List LineKey → List LineKey
+abbrev pub failing : (LineKey → Bool) → List LineKey → List LineKey
 failing passes ks = filter (λ k. not (passes k)) ks
 
 failing_at : (passes : LineKey → Bool) (line was : LineKey → Held) → ((k : LineKey) → line k ≡ was k) → (p : Spot) (ns : List ℕ) → flat_map (λ n. unless passes line (key_at p n)) ns ≡ map was (failing passes (map (key_at p) ns))
@@ -88,11 +84,11 @@ failing_lines passes line was same (p ∷ ps) ns =
     ∙ sym (map_append was (failing passes (map (key_at p) ns)) (failing passes (keys_of ps ns)))
     ∙ ap (map was) (sym (filter-append (λ k. not (passes k)) (map (key_at p) ns) (keys_of ps ns)))
 
-held_as : (past : Past) (s : Kept) → IsKept past s → (k : LineKey) → held_line s.register s.areas s.book s.tables k ≡ held_past past k
+pub held_as : (past : Past) (s : Kept) → IsKept past s → (k : LineKey) → held_line s.register s.areas s.book s.tables k ≡ held_past past k
 held_as past s kept k = ap (λ (f : LineFacts). let h : Held = record { key = k; before = f } in h) (facts_kept past s kept k)
 
 -- a line of the reach that does not fail the test passes it
-passed : (passes : LineKey → Bool) (k : LineKey) (ks : List LineKey) → list_any (key_eq k) (failing passes ks) ≡ false → list_any (key_eq k) ks ≡ true → passes k ≡ true
+pub passed : (passes : LineKey → Bool) (k : LineKey) (ks : List LineKey) → list_any (key_eq k) (failing passes ks) ≡ false → list_any (key_eq k) ks ≡ true → passes k ≡ true
 passed passes k ks out among = step (passes k) refl
   where
     step : (t : Bool) → passes k ≡ t → t ≡ true
@@ -104,8 +100,7 @@ passed passes k ks out among = step (passes k) refl
 -- such lines were read, if each that passes has the same part after the event
 was_held : (past : Past) (e : Event) (a : Answer) (spots : List Spot) (numbers : List ℕ) (passes : LineKey → Bool) (held : List Held) → IsReach (record { spots = spots; warnings = numbers }) (reach_of past e a) → held ≡ map (held_past past) (failing passes (keys_of spots numbers)) → ((settings : Settings) (desk : ℕ) → Legal settings past → verdict settings past e ≡ Ok a → (k : LineKey) → passes k ≡ true → SamePart (facts past k) (facts (After (record { desk = desk; event = e; answer = a }) past) k)) → WasReached past e a spots held
 was_held past e a spots numbers passes held reach are same = record {
-  numbers = numbers;
-  reach = reach;
+  away = λ settings legal b c out. down_outside settings past legal e a b c (sym (reach.spots (spot b c)) ∙ out);
   keys = failing passes (keys_of spots numbers);
   lines = are;
   once = once_filter key_eq (λ k. not (passes k)) (keys_of spots numbers) (keys_once spots numbers reach.spots_once reach.warnings_once);
@@ -121,17 +116,6 @@ was_held past e a spots numbers passes held reach are same = record {
     step settings desk legal accepted k out true among = same settings desk legal accepted k (passed passes k (keys_of spots numbers) out among)
     step settings desk legal accepted k out false away =
         outside settings past legal (record { desk = desk; event = e; answer = a }) accepted k (sym (bears_of k spots numbers (reach_of past e a) reach) ∙ away)
-
--- the register's BSCs are those that are registered, each once
-pub listed_bscs : (r : register.State) → IsRegister r → AreBscs r r.bscs
-listed_bscs r sound = record {
-  each = λ b. swapped b r.bscs;
-  once = ascending_once nat_eq _ nat_apart r.bscs sound.bscs_ascend;
-}
-  where
-    swapped : (b : ℕ) (bs : List ℕ) → list_any (nat_eq b) bs ≡ list_any (λ x. nat_eq x b) bs
-    swapped b [] = refl
-    swapped b (x ∷ bs) = ap (λ t. t || list_any (nat_eq b) bs) (turned nat_eq unsigned_Decides b x) ∙ ap (λ t. nat_eq x b || t) (swapped b bs)
 
 pub told_kept : (settings : Settings) (past : Past) (s : Kept) → Legal settings past → IsKept past s → Told settings past s.register s.book s.tables.lines
 told_kept settings past s legal kept = record { legal = legal; registered = kept.registered; booked = kept.booked; downs = kept.downs; lines = kept.tables.lines }
@@ -154,7 +138,7 @@ other_was_reached past s h spots numbers held kept other up flight reach are =
     (λ settings desk legal accepted k g. stays_same settings past legal desk h accepted other s kept up flight k g)
 
 pub reads_as : (t u : Tables) → AsBefore t u → OnlyReads t u
-reads_as t u h = record { lines = h.lines; downs = h.downs; same = h.same }
+reads_as t u h = record { lines = h.lines; downs = h.downs; same = h.same; meter = h.meter }
 
 -- what is in flight to the BSC of an event that is no edit
 pub flying_kept : (past : Past) (fs gs : List Flight) (e : Event) (f : Option InFlight) → AreFlightsOf past fs → is_edit e ≡ false → gs ≡ fs → f ≡ flight_kept gs e → IsFlightOf past (bsc_of e) f

@@ -1,6 +1,6 @@
 -- Where an event has been made, the changes of the lines on which it bears lead from what the past says to what it says
 -- with the entry; and then the tables are what the past with it says.
-use Rattle.std.proofs.Common.{◌≡◌, ℕ, ◌≤◌, Bool, true, false, ◌&&◌, nat_eq, List, [], ◌∷◌, Option, Some, None, unwrap_or, map, refl, sym, ◌∙◌, ap, subst, eqb-true}
+use Rattle.std.proofs.Common.{◌≡◌, ℕ, ◌≤◌, Bool, true, false, List, [], ◌∷◌, Option, Some, None, unwrap_or, map, refl, sym, ◌∙◌, ap, subst}
 use Rattle.std.specs.Prelude.{if◌then◌else◌}
 use Rattle.std.specs.List.{list_all, list_any}
 use Rattle.std.specs.Prelude.{find, length, nat_le}
@@ -11,7 +11,6 @@ use Rattle.std.proofs.lemmas.List.{length-map}
 use Rattle.areas.specs.declared.area.Area.{Area}
 use Rattle.cell_register.specs.Register as register
 use Rattle.cell_register.specs.Register.{is_place}
-use Rattle.common.specs.OnceLaws.{turned}
 use Rattle.common.specs.Sums.{count_of}
 use Rattle.common.specs.declared.cell.Cell.{Cell}
 use Rattle.kept_tables.specs.Changes.{changes_key, Tells, mixed, Begins, FewVersions, Placed}
@@ -30,27 +29,18 @@ use Rattle.warning_book.specs.Book as book
 use Rattle.warning_book.specs.Book.{has_number, warning_of}
 use Rattle.warning_book.specs.Sound.{has_versions}
 use Rattle.warning_book.specs.declared.warning.Warning.{Warning}
-use Rattle.centre_events.specs.Down.{down_mark, listed_down, is_down}
-use Rattle.centre_events.specs.Effects.{is_among}
+use Rattle.centre_events.specs.Down.{down_mark, is_down}
 use Rattle.centre_events.specs.Facts.{facts_of, facts}
 use Rattle.centre_core.specs.Following.{SameLines, Happens, Bears, change_of, held_past, entry_of, down_after}
 use Rattle.centre_core.specs.Legal.{Legal}
 use Rattle.centre_events.specs.Past.{Past, After}
-use Rattle.centre_core.specs.Reach.{reach_of, spot}
-use Rattle.centre_events.specs.Known.{is_known}
+use Rattle.centre_core.specs.Reach.{spot}
 use Rattle.centre_events.specs.Settings.{Settings}
 use Rattle.centre_events.specs.Warnings.{book_of, warnings_of, has_key, serials}
 use Rattle.centre_events.specs.Places.{place}
-use Rattle.centre_events.specs.declared.answer.Answer.{Answer}
-use Rattle.centre_events.specs.declared.answer.Answer.TheVariants.{Listed}
-use Rattle.coverage_plan.specs.declared.edit.Edit.TheVariants as edit
-use Rattle.centre_events.specs.declared.event.Event.{Event}
-use Rattle.centre_events.specs.declared.event.Event.TheVariants as event
 use Rattle.centre_core.specs.declared.held.Held.{Held}
 use Rattle.centre_core.proofs.BookLemmas.{wider, owner_of, owner_is, wide_before, wide_after}
-use Rattle.centre_core.proofs.LineLemmas.{not_down}
 use Rattle.centre_core.proofs.OwnedLemmas.{owned}
-use Rattle.centre_core.proofs.ReachLemmas.{spot_among, known_there}
 use Rattle.centre_core.proofs.TellLemmas.{from_to, any_changes, tells_keys}
 use Rattle.centre_core.proofs.ThenLemmas.{then_is}
 use Rattle.centre_core.proofs.UniqueLemmas.{unique}
@@ -62,39 +52,12 @@ map_twice f g k same (x ∷ xs) = ap (λ y. y ∷ map g (map f xs)) (same x) ∙
 
 -- which cells are down
 
-unlisted : (past : Past) (other b : ℕ) (c : Cell) (cells : List Cell) → nat_eq other b ≡ true → list_any (spot_eq (spot b c)) (map (spot other) cells) ≡ false → is_among c cells ≡ false
-unlisted past other b c cells e out =
-    ap (λ t. t && is_among c cells) (sym (turned nat_eq unsigned_Decides b other ∙ e)) ∙ sym (spot_among other b c cells) ∙ out
-
-down_outside : (settings : Settings) (past : Past) → Legal settings past → (e : Event) (a : Answer) (b : ℕ) (c : Cell) → list_any (spot_eq (spot b c)) (reach_of past e a).spots ≡ false → is_down past b c ≡ unwrap_or (down_mark b c e a) (is_down past b c)
-down_outside settings past legal (event.Edit (edit.RemoveBsc other)) a b c out = step (nat_eq other b) refl
-  where
-    unknown : nat_eq other b ≡ true → (t : Bool) → is_known past other c ≡ t → is_known past b c ≡ false
-    unknown e true h = absurd (let no : true ≡ false = sym (known_there settings past legal other b c e h) ∙ out in cc)
-    unknown e false h = ap (λ k. is_known past k c) (sym (eqb-true other b e)) ∙ h
-
-    step : (t : Bool) → nat_eq other b ≡ t → is_down past b c ≡ unwrap_or (if t then Some false else None) (is_down past b c)
-    step true e = not_down past b c (unknown e (is_known past other c) refl)
-    step false e = refl
-down_outside settings past legal (event.Edit other) a b c out = refl
-down_outside settings past legal (event.Report other generation message) (Listed cells) b c out = step (nat_eq other b) refl
-  where
-    step : (t : Bool) → nat_eq other b ≡ t → is_down past b c ≡ unwrap_or (if t then listed_down c message (Listed cells) else None) (is_down past b c)
-    step true e = rw (unlisted past other b c cells e out) refl
-    step false e = refl
-down_outside settings past legal (event.Report other generation message) a b c out = step (nat_eq other b)
-  where
-    step : (t : Bool) → is_down past b c ≡ unwrap_or (if t then listed_down c message a else None) (is_down past b c)
-    step true = refl
-    step false = refl
-down_outside settings past legal other a b c out = refl
-
 pub downs_then : {r : register.State} {l : List Area} {st : book.State} {t : Tables} {h : Happens} {spots : List Spot} {held : List Held} (x : Bears r l st t h spots held) (b : ℕ) (c : Cell) → down_after h.event h.answer spots b c (down_at t.lines b c) ≡ is_down (After (entry_of x.desk h) x.past) b c
 downs_then {h = h} {spots = spots} x b c = ap (down_after h.event h.answer spots b c) (x.downs b c) ∙ step (list_any (spot_eq (spot b c)) spots) refl
   where
     step : (u : Bool) → list_any (spot_eq (spot b c)) spots ≡ u → (if u then unwrap_or (down_mark b c h.event h.answer) (is_down x.past b c) else is_down x.past b c) ≡ is_down (After (entry_of x.desk h) x.past) b c
     step true e = refl
-    step false e = down_outside x.settings x.past x.legal h.event h.answer b c (sym (x.reach.spots (spot b c)) ∙ e)
+    step false e = x.away b c e
 
 -- a cell is registered at one BSC at most
 pub facts_placed : (past : Past) → Placed (facts past)

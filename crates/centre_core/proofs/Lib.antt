@@ -36,11 +36,13 @@ pub mod OwnedLemmas
 pub mod WasLemmas
 pub mod ThenLemmas
 pub mod TellLemmas
+pub mod DownLemmas
 pub mod JoinLemmas
 pub mod StayLemmas
 pub mod BlankLineLemmas
 mod PassedLemmas
 pub mod HoldLemmas
+pub mod ForgottenLemmas
 mod IndicatedLemmas
 pub mod FinishLemmas
 pub mod MarkedLineLemmas

@@ -1,6 +1,6 @@
 -- What is kept stays what the past says where nothing changes but how often lines were read, and tells which cells are
 -- known.
-use Rattle.std.proofs.Common.{refl, sym, ◌∙◌, ap, subst}
+use Rattle.std.proofs.Common.{refl, sym, ◌∙◌, ap, subst, arith}
 use Rattle.std.specs.List.{list_any}
 use Rattle.kept_tables.specs.ConsistentLaws.{same_tables}
 use Rattle.mirror.specs.Table.{is_that_place}
@@ -35,7 +35,7 @@ reads_none s = record {
   book = refl;
   links = refl;
   flights = refl;
-  tables = record { lines = refl; downs = refl; same = record { lines = λ b c w. refl; acts = λ b a. refl; totals = λ w. refl; areas = λ w a. refl } };
+  tables = record { lines = refl; downs = refl; same = record { lines = λ b c w. refl; acts = λ b a. refl; totals = λ w. refl; areas = λ w a. refl }; meter = omega arith };
 }
 
 -- lines that are read one after another
@@ -55,6 +55,7 @@ reads_then r s t first next = record {
       totals = λ w. next.tables.same.totals w ∙ first.tables.same.totals w;
       areas = λ w a. next.tables.same.areas w a ∙ first.tables.same.areas w a;
     };
+    meter = omega (arith, first.tables.meter, next.tables.meter);
   };
 }
 

@@ -1,11 +1,10 @@
 -- Lists of cells at BSCs in which each stands once.
-use Rattle.std.proofs.Common.{◌≡◌, ℕ, zero, suc, ◌+◌, ◌<◌, Bool, true, false, ◌&&◌, ◌||◌, not, nat_eq, List, [], ◌∷◌, ◌++◌, Option, Some, None, map, length, take, get_or, refl, sym, ◌∙◌, ap, subst, arith, eqb-true, eq-eqb}
+use Rattle.std.proofs.Common.{◌≡◌, ℕ, Bool, true, false, ◌&&◌, ◌||◌, not, nat_eq, List, [], ◌∷◌, ◌++◌, Option, Some, None, map, length, refl, sym, ◌∙◌, ap, subst, arith, eqb-true, eq-eqb}
 use Rattle.std.specs.Prelude.{if◌then◌else◌}
 use Rattle.std.specs.Cmp.{unsigned_Decides}
 use Rattle.std.specs.List.{filter, list_any, flat_map}
 use Rattle.std.specs.Option.{is_some}
-use Rattle.std.proofs.lemmas.Bool.{and_parts, and_from, or_parts, or_from, or_right, not-true, not_from_false}
-use Rattle.std.proofs.lemmas.List.{take_more}
+use Rattle.std.proofs.lemmas.Bool.{and_parts, and_from, or_from, or_right, not-true, not_from_false}
 use Rattle.std.proofs.lemmas.List.Folds.{list_any-append}
 use Rattle.cell_register.specs.Laws.{cells_in_has, cells_in_ascend}
 use Rattle.cell_register.specs.Register.{State, place_in, is_place, cells_in}
@@ -28,9 +27,9 @@ use Rattle.centre_events.specs.Links.{bscs, added_bsc}
 use Rattle.centre_events.specs.Past.{Past}
 use Rattle.centre_events.specs.Places.{place, cells, added_cell}
 use Rattle.centre_core.specs.Reach.{spot, at_bsc, placed_where, known_at}
-use Rattle.centre_core.specs.Reaching.{AreSpots, AreThose, is_placed, is_known_at, is_known_among}
+use Rattle.centre_core.specs.Reaching.{AreSpots, AreThose, is_placed, is_known_at}
 use Rattle.centre_events.specs.Settings.{Settings}
-use Rattle.centre_core.proofs.AnyLemmas.{or_none, and_none, and_over_or, any_same, any_pulled, any_flat}
+use Rattle.centre_core.proofs.AnyLemmas.{or_none, and_none, any_same, any_pulled, any_flat}
 use Rattle.centre_core.proofs.CountLemmas.{same_count, named_once, both_or_it}
 use Rattle.centre_core.proofs.KnownLemmas.{legal_unfolded, known_place}
 use Rattle.centre_core.proofs.MarkLemmas as mark
@@ -242,53 +241,6 @@ pub known_found : (t : Table) (r : State) (b : ℕ) (cs : List Cell) (spots : Li
 known_found t r b cs spots ascending known is =
     subst (λ (l : List Spot). AreSpots l (is_known_at t r b)) (sym is)
     (spots_same (map (spot b) cs) (λ s. nat_eq s.bsc b && list_any (cell_eq s.cell) cs) (is_known_at t r b) (λ s. ap (λ x. nat_eq s.bsc b && x) (known s.cell)) (spots_at b cs (ascending_cells cs ascending)))
-
--- an element of a list in which each stands once is none of those before it
-front_apart : (bs : List ℕ) (i d : ℕ) → i < length bs → each_once nat_eq bs ≡ true → list_any (nat_eq (get_or bs i d)) (take i bs) ≡ false
-front_apart bs zero d less once = refl
-front_apart [] (suc i) d less once = absurd (omega (arith, less))
-front_apart (b ∷ bs) (suc i) d less once =
-    or_from (nat_eq (get_or bs i d) b) (list_any (nat_eq (get_or bs i d)) (take i bs)) (turned nat_eq unsigned_Decides (get_or bs i d) b ∙ other bs i (omega (arith, less)) (not-true (list_any (nat_eq b) bs) parts.0))
-    (front_apart bs i d (omega (arith, less)) parts.1)
-  where
-    parts : (not (list_any (nat_eq b) bs) ≡ true) × (each_once nat_eq bs ≡ true)
-    parts = and_parts (not (list_any (nat_eq b) bs)) (each_once nat_eq bs) once
-
-    other : (ds : List ℕ) (j : ℕ) → j < length ds → list_any (nat_eq b) ds ≡ false → nat_eq b (get_or ds j d) ≡ false
-    other [] j l h = absurd (omega (arith, l))
-    other (e ∷ ds) zero l h = (or_parts (nat_eq b e) (list_any (nat_eq b) ds) h).0
-    other (e ∷ ds) (suc j) l h = other ds j (omega (arith, l)) (or_parts (nat_eq b e) (list_any (nat_eq b) ds) h).1
-
--- one BSC more
-pub known_next : (t : Table) (r : State) (bs : List ℕ) (i d b : ℕ) (xs ys zs : List Spot) → i < length bs → b ≡ get_or bs i d → zs ≡ xs ++ ys → each_once nat_eq bs ≡ true → AreSpots xs (is_known_among t r (take i bs)) → AreSpots ys (is_known_at t r b) → AreSpots zs (is_known_among t r (take (i + 1) bs))
-known_next t r bs i d b xs ys zs less here all once before these =
-    subst (λ (l : List Spot). AreSpots l (is_known_among t r (take (i + 1) bs))) (sym all)
-    (spots_same (xs ++ ys) (λ s. is_known_among t r (take i bs) s || is_known_at t r b s) (is_known_among t r (take (i + 1) bs)) more (joined_spots xs ys (is_known_among t r (take i bs)) (is_known_at t r b) apart before these))
-  where
-    apart : (s : Spot) → is_known_among t r (take i bs) s ≡ true → is_known_at t r b s ≡ false
-    apart s h = step (nat_eq s.bsc b) refl
-      where
-        step : (x : Bool) → nat_eq s.bsc b ≡ x → (x && kept.is_known t r b s.cell) ≡ false
-        step true e =
-            let there = (and_parts (kept.is_known t r s.bsc s.cell) (list_any (nat_eq s.bsc) (take i bs)) h).1 in
-            let no : true ≡ false = sym there ∙ ap (λ k. list_any (nat_eq k) (take i bs)) (eqb-true s.bsc b e ∙ here) ∙ front_apart bs i d less once in
-            absurd cc
-        step false e = refl
-
-    moved : (s : Spot) → is_known_at t r b s ≡ (kept.is_known t r s.bsc s.cell && nat_eq s.bsc b)
-    moved s = step (nat_eq s.bsc b) refl
-      where
-        step : (x : Bool) → nat_eq s.bsc b ≡ x → (x && kept.is_known t r b s.cell) ≡ (kept.is_known t r s.bsc s.cell && x)
-        step true e = ap (λ k. kept.is_known t r k s.cell) (sym (eqb-true s.bsc b e)) ∙ and_swapped true (kept.is_known t r s.bsc s.cell)
-        step false e = sym (and_none (kept.is_known t r s.bsc s.cell))
-
-    more : (s : Spot) → (is_known_among t r (take i bs) s || is_known_at t r b s) ≡ is_known_among t r (take (i + 1) bs) s
-    more s =
-        ap (λ x. is_known_among t r (take i bs) s || x) (moved s)
-        ∙ and_over_or (kept.is_known t r s.bsc s.cell) (list_any (nat_eq s.bsc) (take i bs)) (nat_eq s.bsc b)
-        ∙ ap (λ x. kept.is_known t r s.bsc s.cell && (list_any (nat_eq s.bsc) (take i bs) || x)) (sym (or_none (nat_eq s.bsc b)))
-        ∙ ap (λ x. kept.is_known t r s.bsc s.cell && x) (sym (list_any-append (nat_eq s.bsc) (take i bs) (b ∷ [])))
-        ∙ ap (λ (l : List ℕ). kept.is_known t r s.bsc s.cell && list_any (nat_eq s.bsc) l) (ap (λ k. take i bs ++ k ∷ []) here ∙ sym (take_more bs i d less))
 
 -- the registered cells that a selector names
 pub cell_named : (r : State) (c : Cell) (spots : List Spot) → spots ≡ at_bsc c (place_in r c) → AreSpots spots (λ s. is_placed r s && cell_eq c s.cell)

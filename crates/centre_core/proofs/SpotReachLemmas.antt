@@ -1,7 +1,7 @@
 -- The reach of an event, from what is told of the past.
 use Rattle.std.proofs.Common.{◌≡◌, ◌⊎◌, inl, inr, ℕ, Bool, true, false, ◌&&◌, not, nat_eq, ltb, List, [], ◌∷◌, Option, Some, None, Ok, filter, length, refl, sym, ◌∙◌, ap, subst}
 use Rattle.std.specs.Prelude.{if◌then◌else◌}
-use Rattle.std.specs.List.{list_any, flat_map}
+use Rattle.std.specs.List.{list_any}
 use Rattle.std.proofs.lemmas.Bool.{and_from, not_from_false}
 use Rattle.areas.specs.Areas as kept
 use Rattle.areas.specs.declared.area.Area.{Area}
@@ -31,12 +31,11 @@ use Rattle.centre_events.specs.Cover.{covers, is_covered}
 use Rattle.centre_events.specs.InFlight.{in_flight, cells_of}
 use Rattle.centre_events.specs.Known.{is_known, is_named}
 use Rattle.centre_core.specs.Legal.{Legal}
-use Rattle.centre_events.specs.Links.{is_bsc, bscs}
 use Rattle.centre_events.specs.Outcomes.{listed_cells, failed_ids}
 use Rattle.centre_events.specs.Past.{Past}
 use Rattle.centre_events.specs.Places.{place, cells}
 use Rattle.centre_core.specs.Reach.{Reach, IsReach, spot, at_bsc, is_named_by, placed_where, known_at, numbers_where, flight_reach, edit_reach, report_reach, reach_of}
-use Rattle.centre_core.specs.Reaching.{AreSpots, AreThose, AreBscs, Told, TellsLines, EditTold, IsFlightOf, bsc_of, is_placed, is_known_at, is_known_among}
+use Rattle.centre_core.specs.Reaching.{AreSpots, AreThose, Told, TellsLines, EditTold, IsFlightOf, bsc_of, is_placed, is_known_at}
 use Rattle.centre_events.specs.Reported.{names_warning}
 use Rattle.centre_events.specs.Settings.{Settings}
 use Rattle.centre_events.specs.Verdict.{answered, move_cell_checks, report_checks, report_answer}
@@ -50,13 +49,11 @@ use Rattle.centre_events.specs.declared.event.Event.TheVariants as event
 use Rattle.centre_events.specs.declared.in_flight.InFlight.{InFlight}
 use Rattle.centre_core.proofs.AnyLemmas.{or_none, and_none, any_same}
 use Rattle.centre_core.proofs.CheckLemmas.{unless_ok, no_check}
-use Rattle.centre_core.proofs.CountLemmas.{both_or_it}
 use Rattle.centre_core.proofs.FactsLemmas.{covers_same}
 use Rattle.centre_core.proofs.MarkedLineLemmas.{known_same}
-use Rattle.centre_core.proofs.MarkLemmas as mark
 use Rattle.centre_core.proofs.OnceLemmas.{flight_once}
 use Rattle.centre_core.proofs.RegisterLemmas.{nat_apart}
-use Rattle.centre_core.proofs.SpotLemmas.{those, those_same, no_spots, one_placed, at_same, once_at, spots_at, cells_once, ascending_cells, known_spots, known_anywhere, placed_past}
+use Rattle.centre_core.proofs.SpotLemmas.{those, those_same, no_spots, one_placed, at_same, once_at, spots_at, cells_once, ascending_cells, known_spots, placed_past}
 use Rattle.centre_core.proofs.WarningLemmas.{legal_sound}
 
 -- Where the lists of an edit are those of its reach.
@@ -71,17 +68,6 @@ known_reached settings past r st t b spots told tells are =
     those spots (known_at past b) (is_known_at t r b) (λ s. nat_eq s.bsc b && is_known past b s.cell) are (known_spots settings past told.legal b)
     (λ s. ap (λ x. nat_eq s.bsc b && x) (known_same settings past r st t told tells b s.cell))
 
--- those known at any
-pub anywhere_reached : (settings : Settings) (past : Past) (r : register.State) (st : book.State) (t : Table) (bs : List ℕ) (spots : List Spot) → Told settings past r st t → TellsLines t → AreBscs r bs → AreSpots spots (is_known_among t r bs) → AreThose spots (flat_map (known_at past) (bscs past))
-anywhere_reached settings past r st t bs spots told tells listed are =
-    those spots (flat_map (known_at past) (bscs past)) (is_known_among t r bs) (λ s. is_known past s.bsc s.cell) are (known_anywhere settings past told.legal) same
-  where
-    same : (s : Spot) → is_known_among t r bs s ≡ is_known past s.bsc s.cell
-    same s =
-        ap (λ x. x && list_any (nat_eq s.bsc) bs) (known_same settings past r st t told tells s.bsc s.cell)
-        ∙ ap (λ x. is_known past s.bsc s.cell && x) (listed.each s.bsc ∙ told.registered.bscs s.bsc)
-        ∙ sym (both_or_it (is_known past s.bsc s.cell) (is_bsc past s.bsc) (mark.known_bsc settings past told.legal s.bsc s.cell))
-
 -- a cell that is registered
 pub added_reached : (b : ℕ) (c : Cell) (spots : List Spot) → spots ≡ spot b c ∷ [] → AreThose spots (spot b c ∷ [])
 added_reached b c spots is = those_same spots (spot b c ∷ []) (λ s. list_any (spot_eq s) (spot b c ∷ [])) is (record { each = λ s. refl; once = refl })
@@ -92,8 +78,8 @@ removed_reached settings past r st t c spots told is =
     those_same spots (at_bsc c (place past c)) (λ s. cell_eq s.cell c && is_place (place past c) s.bsc) (is ∙ ap (at_bsc c) (told.registered.places c)) (one_placed c (place past c))
 
 -- one that is moved, and so was at another BSC
-pub moved_reached : (settings : Settings) (past : Past) (r : register.State) (l : List Area) (st : book.State) (t : Table) (bs : List ℕ) (c : Cell) (b : ℕ) (spots : List Spot) → EditTold settings past r l st t bs (edit.MoveCell c b) → spots ≡ spot b c ∷ at_bsc c (place_in r c) → AreThose spots (spot b c ∷ at_bsc c (place past c))
-moved_reached settings past r l st t bs c b spots told is =
+pub moved_reached : (settings : Settings) (past : Past) (r : register.State) (l : List Area) (st : book.State) (t : Table) (c : Cell) (b : ℕ) (spots : List Spot) → EditTold settings past r l st t (edit.MoveCell c b) → spots ≡ spot b c ∷ at_bsc c (place_in r c) → AreThose spots (spot b c ∷ at_bsc c (place past c))
+moved_reached settings past r l st t c b spots told is =
     those_same spots both (λ s. list_any (spot_eq s) both) (is ∙ ap (λ o. spot b c ∷ at_bsc c o) (told.told.registered.places c)) (record { each = λ s. refl; once = once })
   where
     both : List Spot
@@ -116,20 +102,20 @@ placed_reached settings past r st t p q spots told same are =
     (λ s. ap (λ o. is_place o s.bsc && p s.cell) (told.registered.places s.cell) ∙ ap (λ x. is_place (place past s.cell) s.bsc && x) (same s.cell))
 
 -- those that one of the areas covers
-pub covered_reached : (settings : Settings) (past : Past) (r : register.State) (l : List Area) (st : book.State) (t : Table) (bs : List ℕ) (e : Edit) (areas : List (List ℕ)) (spots : List Spot) → EditTold settings past r l st t bs e → AreSpots spots (λ s. is_placed r s && list_any (λ a. kept.covers l a s.cell) areas) → AreThose spots (placed_where past (is_covered past areas))
-covered_reached settings past r l st t bs e areas spots told are =
+pub covered_reached : (settings : Settings) (past : Past) (r : register.State) (l : List Area) (st : book.State) (t : Table) (e : Edit) (areas : List (List ℕ)) (spots : List Spot) → EditTold settings past r l st t e → AreSpots spots (λ s. is_placed r s && list_any (λ a. kept.covers l a s.cell) areas) → AreThose spots (placed_where past (is_covered past areas))
+covered_reached settings past r l st t e areas spots told are =
     placed_reached settings past r st t (λ c. list_any (λ a. kept.covers l a c) areas) (is_covered past areas) spots told.told
     (λ c. any_same (λ a. kept.covers l a c) (λ a. covers past a c) (covers_same past l told.selected c) areas) are
 
 -- those that an area covers
-pub area_reached : (settings : Settings) (past : Past) (r : register.State) (l : List Area) (st : book.State) (t : Table) (bs : List ℕ) (e : Edit) (a : List ℕ) (spots : List Spot) → EditTold settings past r l st t bs e → AreSpots spots (λ s. is_placed r s && list_any (λ x. kept.covers l x s.cell) (a ∷ [])) → AreThose spots (placed_where past (covers past a))
-area_reached settings past r l st t bs e a spots told are =
+pub area_reached : (settings : Settings) (past : Past) (r : register.State) (l : List Area) (st : book.State) (t : Table) (e : Edit) (a : List ℕ) (spots : List Spot) → EditTold settings past r l st t e → AreSpots spots (λ s. is_placed r s && list_any (λ x. kept.covers l x s.cell) (a ∷ [])) → AreThose spots (placed_where past (covers past a))
+area_reached settings past r l st t e a spots told are =
     placed_reached settings past r st t (λ c. list_any (λ x. kept.covers l x c) (a ∷ [])) (covers past a) spots told.told
     (λ c. or_none (kept.covers l a c) ∙ covers_same past l told.selected c a) are
 
 -- those that the areas of a warning cover
-pub warning_reached : (settings : Settings) (past : Past) (r : register.State) (l : List Area) (st : book.State) (t : Table) (bs : List ℕ) (e : Edit) (n : ℕ) (spots : List Spot) → EditTold settings past r l st t bs e → AreSpots spots (λ s. is_placed r s && list_any (λ a. kept.covers l a s.cell) (areas_of n st.warnings)) → AreThose spots (placed_where past (is_covered past (areas_of n (warnings_of past))))
-warning_reached settings past r l st t bs e n spots told are =
+pub warning_reached : (settings : Settings) (past : Past) (r : register.State) (l : List Area) (st : book.State) (t : Table) (e : Edit) (n : ℕ) (spots : List Spot) → EditTold settings past r l st t e → AreSpots spots (λ s. is_placed r s && list_any (λ a. kept.covers l a s.cell) (areas_of n st.warnings)) → AreThose spots (placed_where past (is_covered past (areas_of n (warnings_of past))))
+warning_reached settings past r l st t e n spots told are =
     placed_reached settings past r st t (λ c. list_any (λ a. kept.covers l a c) (areas_of n st.warnings)) (is_covered past (areas_of n (warnings_of past))) spots told.told
     (λ c.
     any_same (λ a. kept.covers l a c) (λ a. covers past a c) (covers_same past l told.selected c) (areas_of n st.warnings)
@@ -146,9 +132,9 @@ bare_edit past e spots (inl (b, is)) none = subst (IsReached past spots) (sym is
 bare_edit past e spots (inr (inl (a, is))) none = subst (IsReached past spots) (sym is) (none_reached spots none)
 bare_edit past e spots (inr (inr (a, is))) none = subst (IsReached past spots) (sym is) (none_reached spots none)
 
-pub moving_edit : (settings : Settings) (past : Past) (r : register.State) (l : List Area) (st : book.State) (t : Table) (bs : List ℕ) (e : Edit) (c : Cell) (b : ℕ) (spots : List Spot) → e ≡ edit.MoveCell c b → EditTold settings past r l st t bs e → spots ≡ spot b c ∷ at_bsc c (place_in r c) → IsReached past spots e
-moving_edit settings past r l st t bs e c b spots which told is =
-    subst (IsReached past spots) (sym which) (moved_reached settings past r l st t bs c b spots (subst (EditTold settings past r l st t bs) which told) is)
+pub moving_edit : (settings : Settings) (past : Past) (r : register.State) (l : List Area) (st : book.State) (t : Table) (e : Edit) (c : Cell) (b : ℕ) (spots : List Spot) → e ≡ edit.MoveCell c b → EditTold settings past r l st t e → spots ≡ spot b c ∷ at_bsc c (place_in r c) → IsReached past spots e
+moving_edit settings past r l st t e c b spots which told is =
+    subst (IsReached past spots) (sym which) (moved_reached settings past r l st t c b spots (subst (EditTold settings past r l st t) which told) is)
 
 pub selector_edit : (settings : Settings) (past : Past) (r : register.State) (st : book.State) (t : Table) (e : Edit) (s : Selector) (spots : List Spot) → ((a : List ℕ) × (e ≡ edit.Put a s)) ⊎ ((a : List ℕ) × (e ≡ edit.Cut a s)) → Told settings past r st t → AreSpots spots (λ x. is_placed r x && is_named_by s x.cell) → IsReached past spots e
 selector_edit settings past r st t e s spots which told are = step which
@@ -160,21 +146,21 @@ selector_edit settings past r st t e s spots which told are = step which
     step (inl (a, is)) = subst (IsReached past spots) (sym is) placed
     step (inr (a, is)) = subst (IsReached past spots) (sym is) placed
 
-pub area_edit : (settings : Settings) (past : Past) (r : register.State) (l : List Area) (st : book.State) (t : Table) (bs : List ℕ) (e : Edit) (a : List ℕ) (spots : List Spot) → ((n : ℕ) × (e ≡ edit.Widen n a)) ⊎ ((n : ℕ) × (e ≡ edit.Narrow n a)) → EditTold settings past r l st t bs e → AreSpots spots (λ s. is_placed r s && list_any (λ x. kept.covers l x s.cell) (a ∷ [])) → IsReached past spots e
-area_edit settings past r l st t bs e a spots which told are = step which
+pub area_edit : (settings : Settings) (past : Past) (r : register.State) (l : List Area) (st : book.State) (t : Table) (e : Edit) (a : List ℕ) (spots : List Spot) → ((n : ℕ) × (e ≡ edit.Widen n a)) ⊎ ((n : ℕ) × (e ≡ edit.Narrow n a)) → EditTold settings past r l st t e → AreSpots spots (λ s. is_placed r s && list_any (λ x. kept.covers l x s.cell) (a ∷ [])) → IsReached past spots e
+area_edit settings past r l st t e a spots which told are = step which
   where
     placed : AreThose spots (placed_where past (covers past a))
-    placed = area_reached settings past r l st t bs e a spots told are
+    placed = area_reached settings past r l st t e a spots told are
 
     step : ((n : ℕ) × (e ≡ edit.Widen n a)) ⊎ ((n : ℕ) × (e ≡ edit.Narrow n a)) → IsReached past spots e
     step (inl (n, is)) = subst (IsReached past spots) (sym is) placed
     step (inr (n, is)) = subst (IsReached past spots) (sym is) placed
 
-pub warning_edit : (settings : Settings) (past : Past) (r : register.State) (l : List Area) (st : book.State) (t : Table) (bs : List ℕ) (e : Edit) (n : ℕ) (spots : List Spot) → ((content : Content) × (e ≡ edit.Update n content)) ⊎ (e ≡ edit.Stop n) → EditTold settings past r l st t bs e → AreSpots spots (λ s. is_placed r s && list_any (λ a. kept.covers l a s.cell) (areas_of n st.warnings)) → IsReached past spots e
-warning_edit settings past r l st t bs e n spots which told are = step which
+pub warning_edit : (settings : Settings) (past : Past) (r : register.State) (l : List Area) (st : book.State) (t : Table) (e : Edit) (n : ℕ) (spots : List Spot) → ((content : Content) × (e ≡ edit.Update n content)) ⊎ (e ≡ edit.Stop n) → EditTold settings past r l st t e → AreSpots spots (λ s. is_placed r s && list_any (λ a. kept.covers l a s.cell) (areas_of n st.warnings)) → IsReached past spots e
+warning_edit settings past r l st t e n spots which told are = step which
   where
     placed : AreThose spots (placed_where past (is_covered past (areas_of n (warnings_of past))))
-    placed = warning_reached settings past r l st t bs e n spots told are
+    placed = warning_reached settings past r l st t e n spots told are
 
     step : ((content : Content) × (e ≡ edit.Update n content)) ⊎ (e ≡ edit.Stop n) → IsReached past spots e
     step (inl (content, is)) = subst (IsReached past spots) (sym is) placed

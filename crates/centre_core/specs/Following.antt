@@ -30,7 +30,7 @@ use Rattle.centre_events.specs.Kept.{IsRegisterOf, AreAreasOf, AreFlightsOf, fli
 use Rattle.centre_core.specs.Legal.{Legal}
 use Rattle.centre_events.specs.Past.{Past, After, position, past_of}
 use Rattle.centre_events.specs.Presence.{effect}
-use Rattle.centre_core.specs.Reach.{IsReach, reach_of, size}
+use Rattle.centre_core.specs.Reach.{reach_of, size}
 use Rattle.centre_events.specs.Settings.{Settings}
 use Rattle.centre_core.specs.State.{AreLinksOf, facts_from}
 use Rattle.centre_events.specs.Stepping.{stepped}
@@ -49,11 +49,12 @@ use Rattle.centre_events.specs.declared.in_flight.InFlight.{InFlight}
 use Rattle.centre_core.specs.declared.kept.Kept.{Kept}
 
 -- both have the same lines, the same cells down, the same actions pending and the same numbers: nothing but the meter
--- differs
+-- differs, and it did not fall
 pub record AsBefore (t u : Tables) : Type 0 where
   pub lines : u.lines.lines ≡ t.lines.lines
   pub downs : u.lines.downs ≡ t.lines.downs
   pub same : SameTables t u
+  pub meter : t.lines.meter ≤ u.lines.meter
 
 -- what is read of a line, from what is kept
 abbrev pub facts_in : register.State → List Area → book.State → Tables → LineKey → LineFacts
@@ -168,6 +169,10 @@ pub record SameLines (t u : Tables) : Type 0 where
 abbrev pub down_after : Event → Answer → List Spot → ℕ → Cell → Bool → Bool
 down_after e a spots b c was = if list_any (spot_eq (record { bsc = b; cell = c })) spots then unwrap_or (down_mark b c e a) was else was
 
+-- the event leaves each cell away from the spots down, or up, as it was
+abbrev pub LeavesDown : Past → Event → Answer → List Spot → Type 0
+LeavesDown past e a spots = (b : ℕ) (c : Cell) → list_any (spot_eq (record { bsc = b; cell = c })) spots ≡ false → is_down past b c ≡ unwrap_or (down_mark b c e a) (is_down past b c)
+
 -- the event forgets a warning
 abbrev pub forgets : Event → Bool
 forgets (event.Edit e) = is_forget e
@@ -196,7 +201,7 @@ abbrev pub held_past : Past → LineKey → Held
 held_past past k = record { key = k; before = facts past k }
 
 -- what is known where an accepted event has been made, but for the lines: the past before it, that the plan follows it,
--- and that the lines on which it bears were read
+-- and that the lines which it changes were read
 pub record Bears (r : register.State) (l : List Area) (st : book.State) (t : Tables) (h : Happens) (spots : List Spot) (held : List Held) : Type 0 where
   pub settings : Settings
   pub past : Past
@@ -210,18 +215,16 @@ pub record Bears (r : register.State) (l : List Area) (st : book.State) (t : Tab
   pub flight : h.flight ≡ flight_before past h.event
   pub downs : (b : ℕ) (c : Cell) → down_at t.lines b c ≡ is_down past b c
   pub tables : Consistent t (facts past)
-  pub numbers : List ℕ
-  pub reach : IsReach (record { spots = spots; warnings = numbers }) (reach_of past h.event h.answer)
+  pub away : LeavesDown past h.event h.answer spots
   pub keys : List LineKey
   pub lines : held ≡ map (held_past past) keys
   pub once : each_once key_eq keys ≡ true
   pub rest : (k : LineKey) → list_any (key_eq k) keys ≡ false → SamePart (facts past k) (facts (After (entry_of desk h) past) k)
 
--- the lines that an accepted event changes were read before it, at the spots on which it bears; each other line has the
--- same part after it
+-- the lines that an accepted event changes were read before it; each other line has the same part after it, and each cell
+-- away from the spots stays down, or up
 pub record WasReached (past : Past) (e : Event) (a : Answer) (spots : List Spot) (held : List Held) : Type 0 where
-  pub numbers : List ℕ
-  pub reach : IsReach (record { spots = spots; warnings = numbers }) (reach_of past e a)
+  pub away : (settings : Settings) → Legal settings past → LeavesDown past e a spots
   pub keys : List LineKey
   pub lines : held ≡ map (held_past past) keys
   pub once : each_once key_eq keys ≡ true

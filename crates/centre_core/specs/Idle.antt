@@ -1,5 +1,5 @@
 -- What keeps a stopped warning in the book, by what a centre keeps beside its journal.
-use Rattle.std.specs.Prelude.{◌≡◌, ℕ, Bool, List}
+use Rattle.std.specs.Prelude.{◌≡◌, ◌≤◌, ℕ, Bool, List}
 use Rattle.std.specs.List.{list_any}
 use Rattle.cell_register.specs.Register.{State}
 use Rattle.common.specs.declared.cell.Cell.{Cell}
@@ -21,8 +21,9 @@ is_flying fs w bs = list_any (λ b. flight_names w (flight_in fs b)) bs
 pub record AreKnownOf (past : Past) (t : Table) (r : State) : Type 0 where
   pub known : (b : ℕ) (c : Cell) → kept.is_known t r b c ≡ is_known past b c
 
--- nothing changes in the tables but how often lines were read
+-- nothing changes in the tables but how often lines were read, which does not fall
 pub record OnlyReads (old new : Tables) : Type 0 where
   pub lines : new.lines.lines ≡ old.lines.lines
   pub downs : new.lines.downs ≡ old.lines.downs
   pub same : SameTables old new
+  pub meter : old.lines.meter ≤ new.lines.meter

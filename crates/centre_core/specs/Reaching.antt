@@ -49,15 +49,6 @@ is_placed r s = is_place (place_in r s.cell) s.bsc
 abbrev pub is_known_at : Table → register.State → ℕ → Spot → Bool
 is_known_at t r b s = nat_eq s.bsc b && is_known t r b s.cell
 
--- its BSC is one of these, and the cell is known there
-abbrev pub is_known_among : Table → register.State → List ℕ → Spot → Bool
-is_known_among t r bs s = is_known t r s.bsc s.cell && list_any (nat_eq s.bsc) bs
-
--- these are the BSCs that are registered, each once
-pub record AreBscs (r : register.State) (bs : List ℕ) : Type 0 where
-  pub each : (b : ℕ) → list_any (nat_eq b) bs ≡ has_bsc r b
-  pub once : each_once nat_eq bs ≡ true
-
 -- the register, the book and the lines tell what a legal past says
 pub record Told (settings : Settings) (past : Past) (r : register.State) (st : book.State) (t : Table) : Type 0 where
   pub legal : Legal settings past
@@ -72,10 +63,9 @@ pub record TellsLines (t : Table) : Type 0 where
   pub which : (b : ℕ) (c : Cell) → has_line t b c ≡ true → (w : ℕ) × (is_blank (line_at t b c w) ≡ false)
 
 -- what is told before an edit that is accepted
-pub record EditTold (settings : Settings) (past : Past) (r : register.State) (l : List Area) (st : book.State) (t : Table) (bs : List ℕ) (e : Edit) : Type 0 where
+pub record EditTold (settings : Settings) (past : Past) (r : register.State) (l : List Area) (st : book.State) (t : Table) (e : Edit) : Type 0 where
   pub told : Told settings past r st t
   pub selected : AreAreasOf past l
-  pub listed : AreBscs r bs
   pub answer : Answer
   pub accepted : edit_answered past e ≡ Ok answer
 

@@ -101,6 +101,7 @@ impl Centre {
         ensures refusal { IfErr result (Refuses self.old.known (event.Edit edit)) }
         ensures left { IfErr result (λ r. Leaves self.old.known r self.new.known) }
         ensures lines { self.new.lines ≤ self.old.lines + 4 * reach (past self.old.known) (event.Edit edit) (verdict self.old.known.settings (past self.old.known) (event.Edit edit)) }
+        ensures least { self.old.lines ≤ self.new.lines }
         ensures entries { self.new.entries ≡ self.old.entries }
     {
         let reached = prepare_edit(
@@ -137,6 +138,7 @@ impl Centre {
         ensures refusal { IfErr result (Refuses self.old.known event) }
         ensures left { IfErr result (λ r. Leaves self.old.known r self.new.known) }
         ensures lines { self.new.lines ≤ self.old.lines + 4 * reach (past self.old.known) event (verdict self.old.known.settings (past self.old.known) event) }
+        ensures least { self.old.lines ≤ self.new.lines }
         ensures entries { self.new.entries ≡ self.old.entries }
     {
         let found = prepare_other(
@@ -179,6 +181,7 @@ impl Centre {
         ensures fits { IfOk result AnswerFits }
         ensures carried { IfOk result IsCarried }
         ensures lines { self.new.lines ≤ self.old.lines + 4 * reach (past self.old.known) event (verdict self.old.known.settings (past self.old.known) event) }
+        ensures least { self.old.lines ≤ self.new.lines }
         ensures entries { self.new.entries ≡ self.old.entries }
     {
         self.tell_soundness();
@@ -289,6 +292,7 @@ impl Centre {
         ensures refusal { IfErr result (λ r. ((r ≡ Refusal.Stale) × (self.old.known.stale ≡ true)) ⊎ ((self.old.known.stale ≡ false) × (((r ≡ Refusal.Memory) × (is_bsc (past self.old.known) b ≡ true)) ⊎ ((r ≡ Refusal.NoSuchBsc) × (is_bsc (past self.old.known) b ≡ false))))) }
         ensures unchanged { self.new.known ≡ self.old.known }
         ensures entries { self.new.entries ≡ self.old.entries }
+        ensures least { self.old.lines ≤ self.new.lines }
     {
         if self.stale {
             return Err(Refusal::Stale);

@@ -87,6 +87,7 @@ pub(crate) fn enter(
     ensures unread { journal.new.reads ≡ journal.old.reads }
     ensures kept { OnOk result ((x : Finishes kept.old entry.event entry.answer place up reached.spots.items reached.held.items) → IsKept (After (record { desk = x.desk; event = entry.event; answer = entry.answer }) x.past) kept.new) }
     ensures meter { kept.new.tables.lines.meter ≤ kept.old.tables.lines.meter + length reached.held.items }
+    ensures least { kept.old.tables.lines.meter ≤ kept.new.tables.lines.meter }
 {
     finish(alloc, kept, &entry.event, &entry.answer, place, up, reached)?;
     journal.push(entry);

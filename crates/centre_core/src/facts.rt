@@ -9,6 +9,7 @@ ghost use Rattle.warning_book.specs.Book.{current_of};
 ghost use Rattle.centre_core.specs.State.{facts_from};
 ghost use Rattle.centre_events.specs.Warnings.{serials};
 
+use crate::area_places::place_at;
 use areas::Areas;
 use cell_register::{BscId, Register};
 use common::{Cell, Name, Names};
@@ -29,29 +30,36 @@ fn serials_of(alloc: Global, versions: &[Version]) -> Result<Serials, AllocError
     Ok(Serials::from_vec(numbers))
 }
 
-/// Adds the area, if it covers the cell.
+/// Adds the area, if it covers the cell. It is looked for at the place first.
 fn add_covering(
     out: &mut Vec<Name>,
     alloc: Global,
     areas: &Areas,
     name: &Name,
+    place: usize,
     c: Cell,
 ) -> Result<(), AllocError>
     ensures { OnOk result (out.new.items ≡ out.old.items ++ (if covers areas.now name.now c then name.now ∷ [] else [])) }
 {
-    if areas.covers(name, c) {
+    if areas.covers_near(place, name, c) {
         out.push(name.copied(alloc)?)?;
     }
     Ok(())
 }
 
-/// Those of the areas that cover the cell.
-fn covering(alloc: Global, areas: &Areas, names: &[Name], c: Cell) -> Result<Names, AllocError>
+/// Those of the areas that cover the cell. Each is looked for at its place first.
+fn covering(
+    alloc: Global,
+    areas: &Areas,
+    names: &[Name],
+    places: &[usize],
+    c: Cell,
+) -> Result<Names, AllocError>
     ensures { IfOk result (λ n. n ≡ filter (λ a. covers areas.now a c) names.now) }
 {
     let mut out = Vec::new(alloc);
-    for name in names {
-        add_covering(&mut out, alloc, areas, name, c)?;
+    for (i, name) in names.iter().enumerate() {
+        add_covering(&mut out, alloc, areas, name, place_at(places, i), c)?;
     }
     Ok(Names::from_vec(out))
 }
@@ -94,12 +102,13 @@ fn facts_of(
     c: Cell,
     line: Line,
     w: &Warning,
+    places: &[usize],
 ) -> Result<LineFacts, AllocError>
     ensures { IfOk result (λ f. f ≡ facts_from register.now areas.now down b c line (Some w.now)) }
 {
     let here = is_here(register, b, c);
     let versions = serials_of(alloc, w.versions())?;
-    let covering = covering(alloc, areas, w.areas(), c)?;
+    let covering = covering(alloc, areas, w.areas(), places, c)?;
     let wanted = wanted(w, here, !covering.as_slice().is_empty());
     Ok(LineFacts {
         line,
@@ -113,7 +122,8 @@ fn facts_of(
     })
 }
 
-/// What is read of the line of a warning, if the book has it, in a cell that is down or not.
+/// What is read of the line of a warning, if the book has it, in a cell that is down or not. The warning's areas are looked
+/// for at these places first.
 pub(crate) fn facts_from(
     alloc: Global,
     register: &Register,
@@ -123,11 +133,12 @@ pub(crate) fn facts_from(
     c: Cell,
     line: Line,
     warning: Option<&Warning>,
+    places: &[usize],
 ) -> Result<LineFacts, AllocError>
     ensures { IfOk result (λ f. f ≡ facts_from register.now areas.now down b c line (option_copied warning.entry)) }
 {
     match warning {
-        Some(w) => facts_of(alloc, register, areas, down, b, c, line, w),
+        Some(w) => facts_of(alloc, register, areas, down, b, c, line, w, places),
         None => Ok(LineFacts::none(alloc, down, is_here(register, b, c))),
     }
 }

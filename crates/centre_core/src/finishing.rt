@@ -29,8 +29,13 @@ pub(crate) fn finish<'x>(
     requires { Finishes kept.old event.now answer.now place up reached.spots.items reached.held.items }
     ensures kept { OnOk result ((x : Finishes kept.old event.now answer.now place up reached.spots.items reached.held.items) → IsKept (After (record { desk = x.desk; event = event.now; answer = answer.now }) x.past) kept.new) }
     ensures meter { kept.new.tables.lines.meter ≤ kept.old.tables.lines.meter + length reached.held.items }
+    ensures least { kept.old.tables.lines.meter ≤ kept.new.tables.lines.meter }
 {
-    let Reached { spots, held } = reached;
+    let Reached {
+        spots,
+        warnings,
+        held,
+    } = reached;
     let h = Happening {
         event,
         answer,
@@ -45,6 +50,7 @@ pub(crate) fn finish<'x>(
         &kept.book,
         &mut kept.tables,
         spots.as_slice(),
+        warnings.as_slice(),
         held,
     )?;
     links::follow(&mut kept.links, event, place)?;

@@ -11,6 +11,7 @@ ghost use Rattle.kept_tables.specs.View.{key_of};
 ghost use Rattle.std.specs.Option.{option_copied};
 ghost use Rattle.centre_core.specs.Following.{Bears, entry_of, line_now, facts_then, change_of};
 
+use crate::area_places::{AreaPlaces, area_places, places_for};
 use crate::downs::mark_downs;
 use crate::facts::facts_from;
 use crate::held::Held;
@@ -47,6 +48,7 @@ fn facts_then(
     register: &Register,
     areas: &Areas,
     book: &Book,
+    found: &[AreaPlaces],
     tables: &KeptTables,
     b: BscId,
     c: Cell,
@@ -57,7 +59,18 @@ fn facts_then(
 {
     let now = line_now(h, book.as_slice(), b, c, book.find(n), line);
     let down = tables.is_down(b, c);
-    facts_from(alloc, register, areas, down, b, c, now, book.find(n))
+    let places = places_for(found, n);
+    facts_from(
+        alloc,
+        register,
+        areas,
+        down,
+        b,
+        c,
+        now,
+        book.find(n),
+        places,
+    )
 }
 
 /// What is read of a line after what happens, from how it stood.
@@ -67,6 +80,7 @@ fn then_of(
     register: &Register,
     areas: &Areas,
     book: &Book,
+    found: &[AreaPlaces],
     tables: &KeptTables,
     held: &Held,
 ) -> Result<LineFacts, AllocError>
@@ -79,6 +93,7 @@ fn then_of(
         register,
         areas,
         book,
+        found,
         tables,
         key.bsc,
         key.cell,
@@ -102,12 +117,13 @@ fn change_of(
     register: &Register,
     areas: &Areas,
     book: &Book,
+    found: &[AreaPlaces],
     tables: &KeptTables,
     held: Held,
 ) -> Result<Change, AllocError>
     ensures { IfOk result (λ x. x ≡ change_of (record { event = h.now.event.now; answer = h.now.answer.now; up = h.now.up; flight = option_copied h.now.flight }) register.now areas.now book.now tables.now held) }
 {
-    let after = then_of(alloc, h, register, areas, book, tables, &held)?;
+    let after = then_of(alloc, h, register, areas, book, found, tables, &held)?;
     Ok(changed(held, after))
 }
 
@@ -118,6 +134,7 @@ pub(crate) fn changes(
     register: &Register,
     areas: &Areas,
     book: &Book,
+    found: &[AreaPlaces],
     tables: &KeptTables,
     held: Vec<Held>,
 ) -> Result<Vec<Change>, AllocError>
@@ -125,7 +142,7 @@ pub(crate) fn changes(
 {
     let mut out = Vec::new(alloc);
     for line in held {
-        out.push(change_of(alloc, h, register, areas, book, tables, line)?)?;
+        out.push(change_of(alloc, h, register, areas, book, found, tables, line)?)?;
     }
     Ok(out)
 }
@@ -140,15 +157,18 @@ pub(crate) fn bear(
     book: &Book,
     tables: &mut KeptTables,
     spots: &[Spot],
+    warnings: &[WarningId],
     held: Vec<Held>,
 ) -> Result<(), AllocError>
     requires { Bears register.now areas.now book.now tables.old (record { event = h.now.event.now; answer = h.now.answer.now; up = h.now.up; flight = option_copied h.now.flight }) spots.now held.items }
     ensures tables { OnOk result ((x : Bears register.now areas.now book.now tables.old (record { event = h.now.event.now; answer = h.now.answer.now; up = h.now.up; flight = option_copied h.now.flight }) spots.now held.items) → Consistent tables.new (facts (After (entry_of x.desk (record { event = h.now.event.now; answer = h.now.answer.now; up = h.now.up; flight = option_copied h.now.flight })) x.past))) }
     ensures downs { OnOk result ((x : Bears register.now areas.now book.now tables.old (record { event = h.now.event.now; answer = h.now.answer.now; up = h.now.up; flight = option_copied h.now.flight }) spots.now held.items) → (b : ℕ) (c : Cell) → down_at tables.new.lines b c ≡ is_down (After (entry_of x.desk (record { event = h.now.event.now; answer = h.now.answer.now; up = h.now.up; flight = option_copied h.now.flight })) x.past) b c) }
     ensures meter { tables.new.lines.meter ≤ tables.old.lines.meter + length held.items }
+    ensures least { tables.old.lines.meter ≤ tables.new.lines.meter }
 {
     mark_downs(tables, spots, h.event, h.answer)?;
-    let changes = changes(alloc, h, register, areas, book, tables, held)?;
+    let found = area_places(alloc, areas, book, warnings)?;
+    let changes = changes(alloc, h, register, areas, book, &found, tables, held)?;
     tables.settle(changes.as_slice())?;
     Ok(())
 }

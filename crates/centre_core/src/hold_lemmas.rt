@@ -1,8 +1,6 @@
 //! Lemmas of the lines that are read before an event, as the contracts of calls that do nothing.
 
 ghost use Rattle.std.specs.Prelude.{◌≡◌, List, ℕ, false};
-ghost use Rattle.cell_register.specs.Register as register;
-ghost use Rattle.cell_register.specs.Sound.{IsRegister};
 ghost use Rattle.kept_tables.specs.declared.spot.Spot.{Spot};
 ghost use Rattle.centre_core.specs.Flights.{up_before};
 ghost use Rattle.centre_core.specs.Following.{Happens, WasReached, changing_lines, flight_before, held_lines};
@@ -10,17 +8,11 @@ ghost use Rattle.centre_core.specs.IsKept.{IsKept};
 ghost use Rattle.centre_events.specs.Kept.{is_edit};
 ghost use Rattle.centre_events.specs.Past.{Past};
 ghost use Rattle.centre_core.specs.Reach.{IsReach, reach_of};
-ghost use Rattle.centre_core.specs.Reaching.{AreBscs};
 ghost use Rattle.centre_events.specs.declared.answer.Answer.{Answer};
 ghost use Rattle.centre_events.specs.declared.event.Event.TheVariants as event;
 ghost use Rattle.coverage_plan.specs.declared.edit.Edit.{Edit};
 ghost use Rattle.centre_core.specs.declared.held.Held.{Held};
 ghost use Rattle.centre_core.specs.declared.kept.Kept.{Kept};
-
-#[tactic(auto, using(crate::proofs::HoldLemmas::listed_bscs))]
-fn listed_bscs()
-    ensures { (r : register.State) → IsRegister r → AreBscs r r.bscs }
-{}
 
 #[tactic(auto, using(crate::proofs::HoldLemmas::edit_was_reached))]
 fn edit_was_reached()

@@ -6,7 +6,9 @@
 //! that contracts cite are in `specs/`, beginning with `Past` and `IsKept`.
 #![tactic(auto)]
 
+mod area_places;
 pub mod centre;
+mod changing;
 mod downs;
 mod entering;
 mod events;

@@ -1,15 +1,16 @@
 //! On which lines an event bears.
 
-ghost use Rattle.std.specs.Prelude.{◌≡◌, IfOk};
+ghost use Rattle.std.specs.Prelude.{◌≡◌, false, IfOk};
 ghost use Rattle.std.specs.Option.{option_copied};
 ghost use Rattle.centre_events.specs.InFlight.{in_flight};
 ghost use Rattle.centre_events.specs.Past.{Past};
+ghost use Rattle.centre_core.specs.Following.{is_forget};
 ghost use Rattle.centre_core.specs.Reach.{IsReach, flight_reach, edit_reach, report_reach, reach_of};
 ghost use Rattle.centre_core.specs.Reaching.{AreThose, TellsLines, EditTold, EventTold};
 ghost use Rattle.centre_events.specs.Settings.{Settings};
 
 use crate::reached_warnings;
-use crate::spots::{covered, known_among, known_at, moved, named, placed, spots_at};
+use crate::spots::{covered, known_at, moved, named, placed, spots_at};
 use areas::Areas;
 use cell_register::{BscId, Register};
 use centre_events::answer::Answer;
@@ -37,17 +38,17 @@ pub(crate) fn tell_lines(tables: &LineTable)
     tables.tell_soundness();
 }
 
-/// The cells at BSCs on which an edit bears. The BSCs are those that are registered.
+/// The cells at BSCs on which an edit bears that is no Forget.
 fn edit_spots(
     alloc: Global,
     register: &Register,
-    bscs: &[BscId],
     areas: &Areas,
     book: &Book,
     tables: &LineTable,
     edit: &Edit,
 ) -> Result<Vec<Spot>, AllocError>
-    ensures { (settings : Settings) (past : Past) → EditTold settings past register.now areas.now book.now tables.now bscs.now edit.now → IfOk result (λ spots. AreThose spots.items (edit_reach past edit.now).spots) }
+    requires { is_forget edit.now ≡ false }
+    ensures { (settings : Settings) (past : Past) → EditTold settings past register.now areas.now book.now tables.now edit.now → IfOk result (λ spots. AreThose spots.items (edit_reach past edit.now).spots) }
 {
     tell_lines(tables);
     let spots = match edit {
@@ -63,8 +64,8 @@ fn edit_spots(
         Edit::Widen(_, a) | Edit::Narrow(_, a) => {
             covered(alloc, register, areas, slice::from_ref(a))?
         }
-        Edit::Forget(_) => known_among(alloc, register, tables, bscs)?,
         Edit::AddBsc(_) | Edit::AddArea(_) | Edit::DropArea(_) => Vec::new(alloc),
+        Edit::Forget(_) => Vec::new(alloc),
     };
     Ok(spots)
 }
@@ -119,19 +120,19 @@ fn event_spots(
     Ok(spots)
 }
 
-/// On which lines an edit bears that is accepted. The BSCs are those that are registered.
+/// On which lines an edit bears that is accepted and no Forget.
 pub(crate) fn reach_of_edit(
     alloc: Global,
     register: &Register,
-    bscs: &[BscId],
     areas: &Areas,
     book: &Book,
     tables: &LineTable,
     edit: &Edit,
 ) -> Result<Reach, AllocError>
-    ensures { (settings : Settings) (past : Past) → EditTold settings past register.now areas.now book.now tables.now bscs.now edit.now → IfOk result (λ r. IsReach (record { spots = r.spots.items; warnings = r.warnings.items }) (edit_reach past edit.now)) }
+    requires { is_forget edit.now ≡ false }
+    ensures { (settings : Settings) (past : Past) → EditTold settings past register.now areas.now book.now tables.now edit.now → IfOk result (λ r. IsReach (record { spots = r.spots.items; warnings = r.warnings.items }) (edit_reach past edit.now)) }
 {
-    let spots = edit_spots(alloc, register, bscs, areas, book, tables, edit)?;
+    let spots = edit_spots(alloc, register, areas, book, tables, edit)?;
     let warnings = reached_warnings::of_edit(alloc, book, edit)?;
     Ok(Reach { spots, warnings })
 }

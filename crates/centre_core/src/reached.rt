@@ -1,7 +1,7 @@
 //! The lines on which an event bears, read before it.
 
 ghost use Rattle.std.specs.Prelude.{◌≡◌, ◌≤◌, ◌+◌, false, Ok, IfOk};
-ghost use Rattle.centre_core.specs.Following.{WasReached};
+ghost use Rattle.centre_core.specs.Following.{WasReached, is_forget};
 ghost use Rattle.centre_core.specs.IsKept.{IsKept, OnlyReadsIn};
 ghost use Rattle.centre_events.specs.Kept.{is_edit};
 ghost use Rattle.centre_core.specs.Legal.{Legal};
@@ -11,25 +11,99 @@ ghost use Rattle.centre_events.specs.Settings.{Settings};
 ghost use Rattle.centre_events.specs.Verdict.{answered, edit_answered};
 ghost use Rattle.centre_events.specs.declared.answer.Answer as answer_spec;
 ghost use Rattle.centre_events.specs.declared.event.Event.TheVariants as event;
+ghost use Rattle.coverage_plan.specs.declared.edit.Edit.TheVariants as edit_spec;
 
+use crate::area_places::area_places;
+use crate::changing::hold_changing;
 use crate::entering::up_before;
 use crate::flights::flight_of;
 use crate::held::Held;
-use crate::holding::{hold, hold_changing};
+use crate::holding::{hold, hold_keys};
 use crate::kept::Kept;
-use crate::reach::{reach_of_edit, reach_of_other};
+use crate::reach::{reach_of_edit, reach_of_other, tell_lines};
+use crate::reached_warnings::of_edit;
 use centre_events::answer::Answer;
 use centre_events::event::Event;
 use centre_events::stepping::Happening;
 use coverage_plan::Edit;
 use kept_tables::Spot;
 use std::alloc::{AllocError, Global};
+use warning_book::WarningId;
 
-/// At which cells an event bears, and the lines that it may change, as they stood.
+/// At which cells an event bears, the warnings on whose lines it does, and the lines that it may change, as they stood.
 #[derive(Drop)]
 pub(crate) struct Reached {
     pub(crate) spots: Vec<Spot>,
+    pub(crate) warnings: Vec<WarningId>,
     pub(crate) held: Vec<Held>,
+}
+
+/// The lines that an accepted edit may change which is no Forget, as they stand before it, found among the lines on which it
+/// bears.
+fn reached_at_spots(alloc: Global, kept: &mut Kept, edit: &Edit) -> Result<Reached, AllocError>
+    requires { is_forget edit.now ≡ false }
+    ensures reached { (settings : Settings) (past : Past) (a : answer_spec.Answer) → Legal settings past → IsKept past kept.old → edit_answered past edit.now ≡ Ok a → IfOk result (λ x. WasReached past (event.Edit edit.now) a x.spots.items x.held.items) }
+    ensures reads { OnlyReadsIn kept.old kept.new }
+    ensures meter { (settings : Settings) (past : Past) (a : answer_spec.Answer) → Legal settings past → IsKept past kept.old → edit_answered past edit.now ≡ Ok a → kept.new.tables.lines.meter ≤ kept.old.tables.lines.meter + size (edit_reach past edit.now) }
+{
+    let reach = reach_of_edit(
+        alloc,
+        &kept.register,
+        &kept.areas,
+        &kept.book,
+        kept.tables.lines(),
+        edit,
+    )?;
+    let found = area_places(alloc, &kept.areas, &kept.book, &reach.warnings)?;
+    let held = hold(
+        alloc,
+        &kept.register,
+        &kept.areas,
+        &kept.book,
+        &found,
+        &mut kept.tables,
+        reach.spots.as_slice(),
+        reach.warnings.as_slice(),
+        edit,
+    )?;
+    Ok(Reached {
+        spots: reach.spots,
+        warnings: reach.warnings,
+        held,
+    })
+}
+
+/// Those that a Forget may change: those of its warning that aren't blank, whatever cells it bears on. It brings no cell down or up.
+fn reached_by_forget(
+    alloc: Global,
+    kept: &mut Kept,
+    edit: &Edit,
+    n: WarningId,
+) -> Result<Reached, AllocError>
+    requires { edit.now ≡ edit_spec.Forget n }
+    ensures reached { (settings : Settings) (past : Past) (a : answer_spec.Answer) → Legal settings past → IsKept past kept.old → edit_answered past edit.now ≡ Ok a → IfOk result (λ x. WasReached past (event.Edit edit.now) a x.spots.items x.held.items) }
+    ensures reads { OnlyReadsIn kept.old kept.new }
+    ensures meter { (settings : Settings) (past : Past) (a : answer_spec.Answer) → Legal settings past → IsKept past kept.old → edit_answered past edit.now ≡ Ok a → kept.new.tables.lines.meter ≤ kept.old.tables.lines.meter + size (edit_reach past edit.now) }
+{
+    tell_lines(kept.tables.lines());
+    let keys = kept.tables.lines().places_of(n)?;
+    let warnings = of_edit(alloc, &kept.book, edit)?;
+    let found = area_places(alloc, &kept.areas, &kept.book, &warnings)?;
+    let held = hold_keys(
+        alloc,
+        &kept.register,
+        &kept.areas,
+        &kept.book,
+        &found,
+        &mut kept.tables,
+        keys.as_slice(),
+        edit,
+    )?;
+    Ok(Reached {
+        spots: Vec::new(alloc),
+        warnings,
+        held,
+    })
 }
 
 /// The lines that an accepted edit may change, as they stand before it: those on which it bears, but for those that have no
@@ -43,30 +117,11 @@ pub(crate) fn reached_by_edit(
     ensures reads { OnlyReadsIn kept.old kept.new }
     ensures meter { (settings : Settings) (past : Past) (a : answer_spec.Answer) → Legal settings past → IsKept past kept.old → edit_answered past edit.now ≡ Ok a → kept.new.tables.lines.meter ≤ kept.old.tables.lines.meter + size (edit_reach past edit.now) }
 {
-    kept.register.tell_soundness();
-    let reach = reach_of_edit(
-        alloc,
-        &kept.register,
-        kept.register.bscs(),
-        &kept.areas,
-        &kept.book,
-        kept.tables.lines(),
-        edit,
-    )?;
-    let held = hold(
-        alloc,
-        &kept.register,
-        &kept.areas,
-        &kept.book,
-        &mut kept.tables,
-        reach.spots.as_slice(),
-        reach.warnings.as_slice(),
-        edit,
-    )?;
-    Ok(Reached {
-        spots: reach.spots,
-        held,
-    })
+    let reached = match edit {
+        Edit::Forget(n) => reached_by_forget(alloc, kept, edit, *n)?,
+        _ => reached_at_spots(alloc, kept, edit)?,
+    };
+    Ok(reached)
 }
 
 /// The lines that an accepted event changes which is no edit, as they stand before it.
@@ -96,18 +151,21 @@ pub(crate) fn reached_by_other<'x>(
         up: up_before(kept.links.as_slice(), event),
         flight: flight_of(kept.flights.as_slice(), event),
     };
+    let found = area_places(alloc, &kept.areas, &kept.book, &reach.warnings)?;
     let held = hold_changing(
         alloc,
         &h,
         &kept.register,
         &kept.areas,
         &kept.book,
+        &found,
         &mut kept.tables,
         reach.spots.as_slice(),
         reach.warnings.as_slice(),
     )?;
     Ok(Reached {
         spots: reach.spots,
+        warnings: reach.warnings,
         held,
     })
 }

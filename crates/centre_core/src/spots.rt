@@ -6,7 +6,7 @@ ghost use Rattle.areas.specs.Areas.{covers};
 ghost use Rattle.cell_register.specs.Register.{place_in};
 ghost use Rattle.common.specs.Order.{each_once};
 ghost use Rattle.centre_core.specs.Reach.{spot, at_bsc, is_named_by};
-ghost use Rattle.centre_core.specs.Reaching.{AreSpots, is_placed, is_known_at, is_known_among};
+ghost use Rattle.centre_core.specs.Reaching.{AreSpots, is_placed, is_known_at};
 
 use areas::{Areas, Selector};
 use cell_register::{BscId, Register};
@@ -41,23 +41,6 @@ pub(crate) fn known_at(
 {
     let cells = tables.known_cells(register, b)?;
     let spots = spots_at(alloc, b, cells.as_slice())?;
-    Ok(spots)
-}
-
-/// The cells that are known at the BSCs, of which none stands twice.
-pub(crate) fn known_among(
-    alloc: Global,
-    register: &Register,
-    tables: &LineTable,
-    bscs: &[BscId],
-) -> Result<Vec<Spot>, AllocError>
-    ensures { each_once nat_eq bscs.now ≡ true → IfOk result (λ spots. AreSpots spots.items (is_known_among tables.now register.now bscs.now)) }
-{
-    let mut spots = Vec::new(alloc);
-    for bsc in bscs {
-        let known = known_at(alloc, register, tables, *bsc)?;
-        spots.extend_from_slice(known.as_slice())?;
-    }
     Ok(spots)
 }
 

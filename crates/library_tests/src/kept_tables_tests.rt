@@ -81,7 +81,7 @@ fn every_call_answers(rt: HostRuntime) {
     let b = bsc(&rt, 1);
     let mut tables = issued(&rt, rt.alloc(), key(b));
     assert!(rt; tables.read_line(key(b)).is_blank());
-    assert_eq!(rt; tables.meter(), 2);
+    assert_eq!(rt; tables.meter(), 1);
     assert_eq!(rt; tables.set_down(b, FAR, true), Ok(()));
     assert!(rt; tables.is_down(b, FAR));
 }

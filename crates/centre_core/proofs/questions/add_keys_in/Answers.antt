@@ -13,4 +13,4 @@ returns-clause-keys c = λ past t tells same found.
     subst (λ keys. OnOk c.add_keys.result (c.add_keys.new.out.items ≡ c.args.out.now.items ++ keys)) read c.add_keys.ensures
 
 pub returns-clause-kept : goal.returns-clause-kept
-returns-clause-kept c = λ t same. as_read t c.args.tables.now c.read_line-line.new.self same c.read_line-line.ensures.same c.read_line-line.ensures.lines c.read_line-line.ensures.downs
+returns-clause-kept c = λ t same. as_read t c.args.tables.now c.read_line-line.new.self same c.read_line-line.ensures.same c.read_line-line.ensures.lines c.read_line-line.ensures.downs c.read_line-line.ensures.least

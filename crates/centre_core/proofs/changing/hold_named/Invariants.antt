@@ -2,7 +2,7 @@ use Rattle.std.proofs.Common.{◌≡◌, ◌≤◌, ◌+◌, ◌*◌, take, leng
 use Rattle.std.specs.Option.{option_copied}
 use Rattle.kept_tables.specs.Tables.{Tables}
 use Rattle.centre_core.specs.Following.{AsBefore, changing_lines}
-use Rattle.centre_core.proofs.holding.hold_named.Given as goal
+use Rattle.centre_core.proofs.changing.hold_named.Given as goal
 
 -- the lines at the spots passed are read, and nothing of them changes
 abbrev pub invariant-loop-spot : goal.invariant-loop-spot

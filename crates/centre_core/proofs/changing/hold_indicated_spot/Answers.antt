@@ -3,7 +3,7 @@ use Rattle.std.specs.Option.{option_copied}
 use Rattle.kept_tables.specs.declared.spot.Spot.{Spot}
 use Rattle.centre_core.specs.Following.{Happens, changing_at}
 use Rattle.centre_core.proofs.IndicatedLemmas.{known_before}
-use Rattle.centre_core.proofs.holding.hold_indicated_spot.Goals as goal
+use Rattle.centre_core.proofs.changing.hold_indicated_spot.Goals as goal
 
 pub returns-clause-held : goal.returns-clause-held
 returns-clause-held c =

@@ -2,7 +2,7 @@ use Rattle.std.proofs.Common.{◌≡◌, ◌≤◌, ◌+◌, ◌++◌, take}
 use Rattle.std.specs.Option.{option_copied}
 use Rattle.kept_tables.specs.Tables.{Tables}
 use Rattle.centre_core.specs.Following.{AsBefore, changing_at}
-use Rattle.centre_core.proofs.holding.hold_changing_spot.Given as goal
+use Rattle.centre_core.proofs.changing.hold_changing_spot.Given as goal
 
 -- the lines of the warnings passed are read, and nothing of them changes
 abbrev pub invariant-loop-warning : goal.invariant-loop-warning

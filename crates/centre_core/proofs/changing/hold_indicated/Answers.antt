@@ -4,7 +4,7 @@ use Rattle.centre_core.specs.Following.{Happens, changing_at}
 use Rattle.centre_core.proofs.FollowLemmas.{as_itself}
 use Rattle.centre_core.proofs.IndicatedLemmas.{in_book_as}
 use Rattle.centre_core.proofs.TableLemmas.{added_more}
-use Rattle.centre_core.proofs.holding.hold_indicated.Goals as goal
+use Rattle.centre_core.proofs.changing.hold_indicated.Goals as goal
 
 pub returns-in_err-hold_indicated_spot-clause-meter : goal.returns-in_err-hold_indicated_spot-clause-meter
 returns-in_err-hold_indicated_spot-clause-meter c =

@@ -1,0 +1,269 @@
+//! The lines on which an event bears that is no edit, read before it.
+
+ghost use Rattle.std.specs.Prelude.{◌≡◌, ◌≤◌, ◌+◌, ◌*◌, ◌++◌, ◌&&◌, ◌||◌, true, length, IfOk, OnOk};
+ghost use Rattle.std.specs.Option.{option_copied};
+ghost use Rattle.kept_tables.specs.Tables.{Tables};
+ghost use Rattle.kept_tables.specs.View.{key_of};
+ghost use Rattle.mirror.specs.Blank.{line_eq};
+ghost use Rattle.warning_book.specs.Book.{numbers, warning_of};
+ghost use Rattle.centre_events.specs.Down.{down_mark};
+ghost use Rattle.centre_core.specs.Following.{AreInBook, AsBefore, bearing, is_idle, keeps_down, leaves_blank, line_now, changing_line, changing_at, changing_lines};
+
+use crate::area_places::{AreaPlaces, places_for};
+use crate::facts::facts_from;
+use crate::following::line_now;
+use crate::held::Held;
+use crate::holding::{held_of, is_idle, key_of};
+use areas::Areas;
+use cell_register::{BscId, Register};
+use centre_events::answer::Answer;
+use centre_events::effects::down_mark;
+use centre_events::event::Event;
+use centre_events::stepping::Happening;
+use common::Cell;
+use kept_tables::{KeptTables, Spot};
+use mirror::Line;
+use std::alloc::{AllocError, Global};
+use warning_book::{Book, WarningId};
+
+/// Whether what happens leaves the cell down, or up, as it was.
+fn keeps_down(h: &Happening<'_, '_>, b: BscId, c: Cell, was: bool) -> bool
+    ensures { result ≡ keeps_down (down_mark b c h.now.event.now h.now.answer.now) was }
+{
+    match down_mark(b, c, h.event, h.answer) {
+        Some(down) => down == was,
+        None => true,
+    }
+}
+
+/// Whether what happens is an indication or a Retry, which leaves a blank line blank.
+fn leaves_blank(h: &Happening<'_, '_>) -> bool
+    ensures { result ≡ leaves_blank h.now.event.now h.now.answer.now }
+{
+    match (h.event, h.answer) {
+        (Event::Retry(_), _) => true,
+        (Event::Report(_, _, _), Answer::Listed(_)) => true,
+        _ => false,
+    }
+}
+
+/// Whether what happens leaves the line as it is.
+#[tactic(auto, using(crate::proofs::BlankLineLemmas::blank_left))]
+fn is_left(h: &Happening<'_, '_>, book: &Book, b: BscId, c: Cell, n: WarningId, line: Line) -> bool
+    ensures { result ≡ line_eq (line_now (record { event = h.now.event.now; answer = h.now.answer.now; up = h.now.up; flight = option_copied h.now.flight }) book.now.warnings b c (warning_of book.now n) line) line }
+{
+    if leaves_blank(h) && line.is_blank() {
+        return true;
+    }
+    line_now(h, book.as_slice(), b, c, book.find(n), line) == line
+}
+
+/// Whether what happens leaves the line as it is, and the cell down, or up, as it was; an idle line stays so in any case.
+fn stays(
+    h: &Happening<'_, '_>,
+    areas: &Areas,
+    book: &Book,
+    b: BscId,
+    c: Cell,
+    n: WarningId,
+    line: Line,
+    down: bool,
+) -> bool
+    ensures { result ≡ (line_eq (line_now (record { event = h.now.event.now; answer = h.now.answer.now; up = h.now.up; flight = option_copied h.now.flight }) book.now.warnings b c (warning_of book.now n) line) line && (keeps_down (down_mark b c h.now.event.now h.now.answer.now) down || is_idle areas.now (warning_of book.now n) c line)) }
+{
+    is_left(h, book, b, c, n, line)
+        && (keeps_down(h, b, c, down) || is_idle(areas, book.find(n), c, &line))
+}
+
+/// Reads a line, and holds it if what happens does not leave it as it is.
+#[tactic(auto, using(crate::proofs::FollowLemmas::facts_as, crate::proofs::FollowLemmas::as_read))]
+fn hold_changing_line(
+    out: &mut Vec<Held>,
+    alloc: Global,
+    h: &Happening<'_, '_>,
+    register: &Register,
+    areas: &Areas,
+    book: &Book,
+    found: &[AreaPlaces],
+    tables: &mut KeptTables,
+    b: BscId,
+    c: Cell,
+    n: WarningId,
+) -> Result<(), AllocError>
+    ensures held { (t : Tables) → AsBefore t tables.old → OnOk result (out.new.items ≡ out.old.items ++ changing_line (record { event = h.now.event.now; answer = h.now.answer.now; up = h.now.up; flight = option_copied h.now.flight }) register.now areas.now book.now t (key_of b c n)) }
+    ensures kept { (t : Tables) → AsBefore t tables.old → AsBefore t tables.new }
+    ensures meter { tables.new.lines.meter ≤ tables.old.lines.meter + 1 }
+{
+    let line = tables.read_line(key_of(b, c, n));
+    let down = tables.is_down(b, c);
+    if stays(h, areas, book, b, c, n, line, down) {
+        return Ok(());
+    }
+    let places = places_for(found, n);
+    let before = facts_from(
+        alloc,
+        register,
+        areas,
+        down,
+        b,
+        c,
+        line,
+        book.find(n),
+        places,
+    )?;
+    out.push(held_of(b, c, n, before))?;
+    Ok(())
+}
+
+/// Reads the lines of the warnings in the cell at the BSC, and holds those that what happens does not leave as they are.
+fn hold_changing_spot(
+    out: &mut Vec<Held>,
+    alloc: Global,
+    h: &Happening<'_, '_>,
+    register: &Register,
+    areas: &Areas,
+    book: &Book,
+    found: &[AreaPlaces],
+    tables: &mut KeptTables,
+    b: BscId,
+    c: Cell,
+    warnings: &[WarningId],
+) -> Result<(), AllocError>
+    ensures held { (t : Tables) → AsBefore t tables.old → OnOk result (out.new.items ≡ out.old.items ++ changing_at (record { event = h.now.event.now; answer = h.now.answer.now; up = h.now.up; flight = option_copied h.now.flight }) register.now areas.now book.now t warnings.now (record { bsc = b; cell = c })) }
+    ensures kept { (t : Tables) → AsBefore t tables.old → AsBefore t tables.new }
+    ensures meter { tables.new.lines.meter ≤ tables.old.lines.meter + length warnings.now }
+{
+    for warning in warnings {
+        hold_changing_line(
+            out, alloc, h, register, areas, book, found, tables, b, c, *warning,
+        )?;
+    }
+    Ok(())
+}
+
+/// Reads the lines in the cell at the BSC that an indication or a Retry may change, and holds those that it does not leave
+/// as they are. It leaves a blank line blank, so that only the lines that are kept are read where it leaves the cell down,
+/// or up, as it was. Else those of all warnings are.
+fn hold_indicated_spot(
+    out: &mut Vec<Held>,
+    alloc: Global,
+    h: &Happening<'_, '_>,
+    register: &Register,
+    areas: &Areas,
+    book: &Book,
+    found: &[AreaPlaces],
+    tables: &mut KeptTables,
+    b: BscId,
+    c: Cell,
+    all: &[WarningId],
+) -> Result<(), AllocError>
+    requires blank { leaves_blank h.now.event.now h.now.answer.now ≡ true }
+    requires all { all.now ≡ numbers book.now.warnings }
+    ensures held { (t : Tables) → AsBefore t tables.old → OnOk result (out.new.items ≡ out.old.items ++ changing_at (record { event = h.now.event.now; answer = h.now.answer.now; up = h.now.up; flight = option_copied h.now.flight }) register.now areas.now book.now t all.now (record { bsc = b; cell = c })) }
+    ensures kept { (t : Tables) → AsBefore t tables.old → AsBefore t tables.new }
+    ensures meter { AreInBook book.now tables.old → tables.new.lines.meter ≤ tables.old.lines.meter + length all.now }
+{
+    book.tell_soundness();
+    if !keeps_down(h, b, c, tables.is_down(b, c)) {
+        hold_changing_spot(
+            out, alloc, h, register, areas, book, found, tables, b, c, all,
+        )?;
+        return Ok(());
+    }
+    let known = tables.lines().warnings_at(b, c)?;
+    let known = known.as_slice();
+    hold_changing_spot(
+        out, alloc, h, register, areas, book, found, tables, b, c, known,
+    )?;
+    Ok(())
+}
+
+/// Reads the lines at each of the spots that an indication or a Retry may change, and holds those that it does not leave as
+/// they are.
+fn hold_indicated(
+    alloc: Global,
+    h: &Happening<'_, '_>,
+    register: &Register,
+    areas: &Areas,
+    book: &Book,
+    found: &[AreaPlaces],
+    tables: &mut KeptTables,
+    spots: &[Spot],
+) -> Result<Vec<Held>, AllocError>
+    requires blank { leaves_blank h.now.event.now h.now.answer.now ≡ true }
+    ensures held { (t : Tables) → AsBefore t tables.old → IfOk result (λ v. v.items ≡ changing_lines (record { event = h.now.event.now; answer = h.now.answer.now; up = h.now.up; flight = option_copied h.now.flight }) register.now areas.now book.now t spots.now (numbers book.now.warnings)) }
+    ensures kept { (t : Tables) → AsBefore t tables.old → AsBefore t tables.new }
+    ensures meter { AreInBook book.now tables.old → tables.new.lines.meter ≤ tables.old.lines.meter + length spots.now * length (numbers book.now.warnings) }
+{
+    let all = book.warnings()?;
+    let mut out = Vec::new(alloc);
+    for spot in spots {
+        hold_indicated_spot(
+            &mut out,
+            alloc,
+            h,
+            register,
+            areas,
+            book,
+            found,
+            tables,
+            spot.bsc,
+            spot.cell,
+            all.as_slice(),
+        )?;
+    }
+    Ok(out)
+}
+
+/// Reads the lines of each of the warnings at each of the spots, and holds those that what happens does not leave as they
+/// are.
+fn hold_named(
+    alloc: Global,
+    h: &Happening<'_, '_>,
+    register: &Register,
+    areas: &Areas,
+    book: &Book,
+    found: &[AreaPlaces],
+    tables: &mut KeptTables,
+    spots: &[Spot],
+    warnings: &[WarningId],
+) -> Result<Vec<Held>, AllocError>
+    ensures held { (t : Tables) → AsBefore t tables.old → IfOk result (λ v. v.items ≡ changing_lines (record { event = h.now.event.now; answer = h.now.answer.now; up = h.now.up; flight = option_copied h.now.flight }) register.now areas.now book.now t spots.now warnings.now) }
+    ensures kept { (t : Tables) → AsBefore t tables.old → AsBefore t tables.new }
+    ensures meter { tables.new.lines.meter ≤ tables.old.lines.meter + length spots.now * length warnings.now }
+{
+    let mut out = Vec::new(alloc);
+    for spot in spots {
+        hold_changing_spot(
+            &mut out, alloc, h, register, areas, book, found, tables, spot.bsc, spot.cell, warnings,
+        )?;
+    }
+    Ok(out)
+}
+
+/// Reads the lines at the spots on which what happens bears, and holds those that it does not leave as they are. The
+/// warnings are those that were found; an indication and a Retry bear on all.
+pub(crate) fn hold_changing(
+    alloc: Global,
+    h: &Happening<'_, '_>,
+    register: &Register,
+    areas: &Areas,
+    book: &Book,
+    found: &[AreaPlaces],
+    tables: &mut KeptTables,
+    spots: &[Spot],
+    warnings: &[WarningId],
+) -> Result<Vec<Held>, AllocError>
+    ensures held { (t : Tables) → AsBefore t tables.old → IfOk result (λ v. v.items ≡ changing_lines (record { event = h.now.event.now; answer = h.now.answer.now; up = h.now.up; flight = option_copied h.now.flight }) register.now areas.now book.now t spots.now (bearing h.now.event.now h.now.answer.now book.now warnings.now)) }
+    ensures kept { (t : Tables) → AsBefore t tables.old → AsBefore t tables.new }
+    ensures meter { AreInBook book.now tables.old → tables.new.lines.meter ≤ tables.old.lines.meter + length spots.now * length (bearing h.now.event.now h.now.answer.now book.now warnings.now) }
+{
+    if leaves_blank(h) {
+        let held = hold_indicated(alloc, h, register, areas, book, found, tables, spots)?;
+        return Ok(held);
+    }
+    let held = hold_named(
+        alloc, h, register, areas, book, found, tables, spots, warnings,
+    )?;
+    Ok(held)
+}
