@@ -90,6 +90,8 @@ fn every_call_answers(rt: HostRuntime) {
     assert!(rt; table.known_cells(&register, b).is_ok());
     let named = table.cells_named(&register, NETWORK, b, &[CellId::All]);
     assert!(rt; named.is_ok());
+    assert!(rt; table.warnings_at(b, MOVED).is_ok());
+    assert!(rt; table.places_of(WarningId::new(1)).is_ok());
     finds(&rt, &mut table, 0xc000, None, 1, &[]);
     table.tell_soundness();
     table.tell_line_count();

@@ -1,7 +1,8 @@
-use Rattle.std.proofs.Common.{rules, ◌≡◌, ◌<◌, ◌≤◌, ℕ, List, length, All, Any, subst, refl, arith}
+use Rattle.std.proofs.Common.{rules, ◌≡◌, ◌<◌, ◌≤◌, ℕ, List, length, All, Any, subst, refl, sym, arith}
+use Rattle.centre_core.specs.Legal.{Known}
 use Rattle.office.specs.Desks.{DeskState}
 use Rattle.office.specs.Helds.{HeldState}
-use Rattle.office.specs.Shuffles.{HasItsEntries, IsShuffle}
+use Rattle.office.specs.Shuffles.{HasItsEntries, IsMismatch, IsShuffle}
 use Rattle.office.proofs.held.Held.settle.Goals as goal
 
 pub returns-clause-settled : goal.returns-clause-settled
@@ -13,3 +14,8 @@ returns-clause-settled g c =
     subst (λ (xs : List DeskState). Any (λ (d : DeskState). d.number ≡ n) xs) there (c.in-None.ensures.none refl n first (omega (arith, last, long))) in
     let shuffle : IsShuffle (length c.self.inside.rows.items) c.self.inside.centre.known.journal c.args.desks.items = record { entries = c.self.invariant.opened; lists = lists; every = every } in
     subst (λ (v : HeldState). IsShuffle v.opened v.centre.journal c.args.desks.items) c.self.view_is shuffle
+
+pub returns-in-Some-clause-fault : goal.returns-in-Some-clause-fault
+returns-in-Some-clause-fault g c =
+    subst (λ (xs : List DeskState). IsMismatch c.mismatch.new.centre.known.journal xs c.in-Some.desk) c.as_slice-2.ensures.value
+    (subst (λ (k : Known). IsMismatch k.journal c.as_slice-2.result.now c.in-Some.desk) (sym c.mismatch.ensures.unchanged) c.in-Some.ensures.some)
