@@ -74,3 +74,4 @@ pub mod TableLemmas
 pub mod EmptyLemmas
 pub mod JournalLemmas
 pub mod RebuildLemmas
+pub mod PlainLemmas

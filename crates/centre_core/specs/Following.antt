@@ -158,6 +158,15 @@ changing_lines h r l st t ps ns = flat_map (changing_at h r l st t ns) ps
 abbrev pub change_of : Happens → register.State → List Area → book.State → Tables → Held → Change
 change_of h r l st t x = record { key = x.key; before = x.before; after = facts_then h r l st t x.key x.before.line }
 
+-- the change of the line where nothing of it changes but the line itself, and whether its cell is down
+abbrev pub plain_change : Happens → book.State → Tables → Held → Change
+plain_change h st t x = record { key = x.key; before = x.before; after = record x.before { line = line_now h st.warnings x.key.bsc x.key.cell (warning_of st x.key.warning) x.before.line; down = down_at t.lines x.key.bsc x.key.cell } }
+
+-- each line was read of this register, these areas and this book
+abbrev pub AreRead : register.State → List Area → book.State → List Held → Type 0
+AreRead r l st [] = Unit {0}
+AreRead r l st (x ∷ xs) = ((down : Bool) × (x.before ≡ facts_from r l down x.key.bsc x.key.cell x.before.line (warning_of st x.key.warning))) × AreRead r l st xs
+
 -- both have the same lines, the same actions pending, the same numbers and the same meter: nothing but the cells that are
 -- down differs
 pub record SameLines (t u : Tables) : Type 0 where

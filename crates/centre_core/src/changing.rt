@@ -13,7 +13,7 @@ use crate::area_places::{AreaPlaces, places_for};
 use crate::facts::facts_from;
 use crate::following::line_now;
 use crate::held::Held;
-use crate::holding::{held_of, is_idle, key_of};
+use crate::holding::{held_of, is_idle, key_of, last_held};
 use areas::Areas;
 use cell_register::{BscId, Register};
 use centre_events::answer::Answer;
@@ -110,6 +110,7 @@ fn hold_changing_line(
         line,
         book.find(n),
         places,
+        last_held(out),
     )?;
     out.push(held_of(b, c, n, before))?;
     Ok(())

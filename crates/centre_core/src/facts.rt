@@ -1,6 +1,6 @@
 //! What is read of one line, from what a centre keeps.
 
-ghost use Rattle.std.specs.Prelude.{◌≡◌, ◌&&◌, ◌++◌, ◌∷◌, [], Some, None, filter, map, IfOk, OnOk, if◌then◌else◌};
+ghost use Rattle.std.specs.Prelude.{◌≡◌, ◌&&◌, true, Some, None, filter, map, IfOk, if◌then◌else◌};
 ghost use Rattle.std.specs.List.{list_any};
 ghost use Rattle.std.specs.Option.{option_copied};
 ghost use Rattle.areas.specs.Areas.{covers};
@@ -12,56 +12,119 @@ ghost use Rattle.centre_events.specs.Warnings.{serials};
 use crate::area_places::place_at;
 use areas::Areas;
 use cell_register::{BscId, Register};
-use common::{Cell, Name, Names};
-use kept_tables::{LineFacts, Serials};
+use common::{Cell, Name};
+use kept_tables::{AreaNames, LineFacts, Serials};
 use mirror::Line;
 use serials::Serial;
 use std::alloc::{AllocError, Global};
 use warning_book::{Version, Warning};
 
-/// The serial numbers of the versions.
-fn serials_of(alloc: Global, versions: &[Version]) -> Result<Serials, AllocError>
+/// Whether these are the serial numbers of the versions.
+fn are_serials_of(versions: &[Version], numbers: &[Serial]) -> bool
+    ensures { result ≡ true → numbers.now ≡ map (λ v. v.serial) versions.now }
+{
+    if versions.len() != numbers.len() {
+        return false;
+    }
+    for (i, version) in versions.iter().enumerate() {
+        if numbers[i] != version.serial {
+            return false;
+        }
+    }
+    true
+}
+
+/// The serial numbers of the versions, in memory of their own.
+fn own_serials_of(alloc: Global, versions: &[Version]) -> Result<Serials, AllocError>
     ensures { IfOk result (λ s. s ≡ map (λ v. v.serial) versions.now) }
 {
     let mut numbers = Vec::new(alloc);
     for version in versions {
         numbers.push(version.serial)?;
     }
-    Ok(Serials::from_vec(numbers))
+    Serials::from_vec(alloc, numbers)
 }
 
-/// Adds the area, if it covers the cell. It is looked for at the place first.
-fn add_covering(
-    out: &mut Vec<Name>,
+/// Lines that were read before, which may have the same versions, or be covered by the same areas, as one that is read now.
+#[derive(Clone, Copy)]
+pub(crate) struct Alike<'a> {
+    pub(crate) versions: Option<&'a LineFacts>,
+    pub(crate) areas: Option<&'a LineFacts>,
+}
+
+/// The serial numbers of the versions. They are shared with those of a line that is alike, where they are the same.
+fn serials_of(
+    alloc: Global,
+    versions: &[Version],
+    like: Option<&LineFacts>,
+) -> Result<Serials, AllocError>
+    ensures { IfOk result (λ s. s ≡ map (λ v. v.serial) versions.now) }
+{
+    match like {
+        Some(like) if are_serials_of(versions, like.versions.as_slice()) => like.versions.shared(),
+        _ => own_serials_of(alloc, versions),
+    }
+}
+
+/// Whether the area covers the cell. It is looked for at its place among the places first.
+fn covers_at(areas: &Areas, name: &Name, places: &[usize], i: usize, c: Cell) -> bool
+    ensures { result ≡ covers areas.now name.now c }
+{
+    areas.covers_near(place_at(places, i), name, c)
+}
+
+/// Whether these are those of the areas that cover the cell.
+fn are_covering(areas: &Areas, names: &[Name], places: &[usize], c: Cell, others: &[Name]) -> bool
+    ensures { result ≡ true → others.now ≡ filter (λ a. covers areas.now a c) names.now }
+{
+    let mut count = 0;
+    for (i, name) in names.iter().enumerate() {
+        if covers_at(areas, name, places, i, c) {
+            if count >= others.len() || others[count] != *name {
+                return false;
+            }
+            count += 1;
+        }
+    }
+    count == others.len()
+}
+
+/// Those of the areas that cover the cell, in memory of their own.
+fn own_covering(
     alloc: Global,
     areas: &Areas,
-    name: &Name,
-    place: usize,
+    names: &[Name],
+    places: &[usize],
     c: Cell,
-) -> Result<(), AllocError>
-    ensures { OnOk result (out.new.items ≡ out.old.items ++ (if covers areas.now name.now c then name.now ∷ [] else [])) }
+) -> Result<AreaNames, AllocError>
+    ensures { IfOk result (λ n. n ≡ filter (λ a. covers areas.now a c) names.now) }
 {
-    if areas.covers_near(place, name, c) {
-        out.push(name.copied(alloc)?)?;
+    let mut out = Vec::new(alloc);
+    for (i, name) in names.iter().enumerate() {
+        if covers_at(areas, name, places, i, c) {
+            out.push(name.copied(alloc)?)?;
+        }
     }
-    Ok(())
+    AreaNames::from_vec(alloc, out)
 }
 
-/// Those of the areas that cover the cell. Each is looked for at its place first.
+/// Those of the areas that cover the cell. They are shared with those of a line that is alike, where they are the same.
 fn covering(
     alloc: Global,
     areas: &Areas,
     names: &[Name],
     places: &[usize],
     c: Cell,
-) -> Result<Names, AllocError>
+    like: Option<&LineFacts>,
+) -> Result<AreaNames, AllocError>
     ensures { IfOk result (λ n. n ≡ filter (λ a. covers areas.now a c) names.now) }
 {
-    let mut out = Vec::new(alloc);
-    for (i, name) in names.iter().enumerate() {
-        add_covering(&mut out, alloc, areas, name, place_at(places, i), c)?;
+    match like {
+        Some(like) if are_covering(areas, names, places, c, like.areas.as_slice()) => {
+            like.areas.shared()
+        }
+        _ => own_covering(alloc, areas, names, places, c),
     }
-    Ok(Names::from_vec(out))
 }
 
 /// Whether one of the areas covers the cell.
@@ -103,12 +166,13 @@ fn facts_of(
     line: Line,
     w: &Warning,
     places: &[usize],
+    alike: Alike<'_>,
 ) -> Result<LineFacts, AllocError>
     ensures { IfOk result (λ f. f ≡ facts_from register.now areas.now down b c line (Some w.now)) }
 {
     let here = is_here(register, b, c);
-    let versions = serials_of(alloc, w.versions())?;
-    let covering = covering(alloc, areas, w.areas(), places, c)?;
+    let versions = serials_of(alloc, w.versions(), alike.versions)?;
+    let covering = covering(alloc, areas, w.areas(), places, c, alike.areas)?;
     let wanted = wanted(w, here, !covering.as_slice().is_empty());
     Ok(LineFacts {
         line,
@@ -123,7 +187,7 @@ fn facts_of(
 }
 
 /// What is read of the line of a warning, if the book has it, in a cell that is down or not. The warning's areas are looked
-/// for at these places first.
+/// for at these places first. Its lists are shared with those of lines that are alike, where they are the same.
 pub(crate) fn facts_from(
     alloc: Global,
     register: &Register,
@@ -134,11 +198,12 @@ pub(crate) fn facts_from(
     line: Line,
     warning: Option<&Warning>,
     places: &[usize],
+    alike: Alike<'_>,
 ) -> Result<LineFacts, AllocError>
     ensures { IfOk result (λ f. f ≡ facts_from register.now areas.now down b c line (option_copied warning.entry)) }
 {
     match warning {
-        Some(w) => facts_of(alloc, register, areas, down, b, c, line, w, places),
-        None => Ok(LineFacts::none(alloc, down, is_here(register, b, c))),
+        Some(w) => facts_of(alloc, register, areas, down, b, c, line, w, places, alike),
+        None => Ok(LineFacts::none(down, is_here(register, b, c))),
     }
 }

@@ -1,26 +1,28 @@
 //! How what is kept follows an event: the lines that it changes are changed after it.
 
-ghost use Rattle.std.specs.Prelude.{◌≡◌, ℕ, ◌≤◌, ◌+◌, length, map, IfOk, OnOk};
+ghost use Rattle.std.specs.Prelude.{◌≡◌, ℕ, ◌≤◌, ◌+◌, false, length, map, IfOk, OnOk};
 ghost use Rattle.common.specs.declared.cell.Cell.{Cell};
 ghost use Rattle.kept_tables.specs.Consistent.{Consistent};
 ghost use Rattle.mirror.specs.Table.{down_at};
 ghost use Rattle.centre_events.specs.Down.{is_down};
 ghost use Rattle.centre_events.specs.Facts.{facts};
+ghost use Rattle.centre_events.specs.Kept.{is_edit};
 ghost use Rattle.centre_events.specs.Past.{After};
 ghost use Rattle.kept_tables.specs.View.{key_of};
 ghost use Rattle.std.specs.Option.{option_copied};
-ghost use Rattle.centre_core.specs.Following.{Bears, entry_of, line_now, facts_then, change_of};
+ghost use Rattle.centre_core.specs.Following.{AreRead, Bears, entry_of, line_now, facts_then, change_of, plain_change};
 
 use crate::area_places::{AreaPlaces, area_places, places_for};
 use crate::downs::mark_downs;
-use crate::facts::facts_from;
+use crate::facts::{Alike, facts_from};
 use crate::held::Held;
 use areas::Areas;
 use cell_register::{BscId, Register};
+use centre_events::event::Event;
 use centre_events::stepping::{Happening, stepped};
 use common::Cell;
 use kept_tables::{Change, KeptTables, LineFacts, Spot};
-use mirror::Line;
+use mirror::{Line, LineKey};
 use std::alloc::{AllocError, Global};
 use warning_book::{Book, Warning, WarningId};
 
@@ -54,6 +56,7 @@ fn facts_then(
     c: Cell,
     n: WarningId,
     line: Line,
+    alike: Alike<'_>,
 ) -> Result<LineFacts, AllocError>
     ensures { IfOk result (λ f. f ≡ facts_then (record { event = h.now.event.now; answer = h.now.answer.now; up = h.now.up; flight = option_copied h.now.flight }) register.now areas.now book.now tables.now (key_of b c n) line) }
 {
@@ -70,7 +73,22 @@ fn facts_then(
         now,
         book.find(n),
         places,
+        alike,
     )
+}
+
+/// The lines with which a line may share its lists after an edit: the line that was changed last, and for the areas itself
+/// before the edit, if an area covered its cell then.
+fn alike_then<'a>(before: &'a LineFacts, done: &'a [Change]) -> Alike<'a> {
+    let last = done.last().map(|change| &change.after);
+    let areas = match before.areas.as_slice().is_empty() {
+        true => last,
+        false => Some(before),
+    };
+    Alike {
+        versions: last,
+        areas,
+    }
 }
 
 /// What is read of a line after what happens, from how it stood.
@@ -83,6 +101,7 @@ fn then_of(
     found: &[AreaPlaces],
     tables: &KeptTables,
     held: &Held,
+    done: &[Change],
 ) -> Result<LineFacts, AllocError>
     ensures { IfOk result (λ f. f ≡ facts_then (record { event = h.now.event.now; answer = h.now.answer.now; up = h.now.up; flight = option_copied h.now.flight }) register.now areas.now book.now tables.now held.now.key held.now.before.line) }
 {
@@ -99,6 +118,7 @@ fn then_of(
         key.cell,
         key.warning,
         before.line,
+        alike_then(before, done),
     )
 }
 
@@ -120,15 +140,16 @@ fn change_of(
     found: &[AreaPlaces],
     tables: &KeptTables,
     held: Held,
+    done: &[Change],
 ) -> Result<Change, AllocError>
     ensures { IfOk result (λ x. x ≡ change_of (record { event = h.now.event.now; answer = h.now.answer.now; up = h.now.up; flight = option_copied h.now.flight }) register.now areas.now book.now tables.now held) }
 {
-    let after = then_of(alloc, h, register, areas, book, found, tables, &held)?;
+    let after = then_of(alloc, h, register, areas, book, found, tables, &held, done)?;
     Ok(changed(held, after))
 }
 
 /// The changes of the lines, from how they stood.
-pub(crate) fn changes(
+fn changes_of_all(
     alloc: Global,
     h: &Happening<'_, '_>,
     register: &Register,
@@ -140,11 +161,92 @@ pub(crate) fn changes(
 ) -> Result<Vec<Change>, AllocError>
     ensures { IfOk result (λ v. v.items ≡ map (change_of (record { event = h.now.event.now; answer = h.now.answer.now; up = h.now.up; flight = option_copied h.now.flight }) register.now areas.now book.now tables.now) held.items) }
 {
-    let mut out = Vec::new(alloc);
+    let mut out = Vec::with_capacity(alloc, held.len())?;
     for line in held {
-        out.push(change_of(alloc, h, register, areas, book, found, tables, line)?)?;
+        let change = change_of(
+            alloc,
+            h,
+            register,
+            areas,
+            book,
+            found,
+            tables,
+            line,
+            out.as_slice(),
+        )?;
+        out.push(change)?;
     }
     Ok(out)
+}
+
+/// The change of a line by what happens that is no edit: of what was read of it, the line alone can change, and whether its
+/// cell is down.
+fn plain_change(
+    h: &Happening<'_, '_>,
+    book: &Book,
+    tables: &KeptTables,
+    held: Held,
+) -> Result<Change, AllocError>
+    ensures { IfOk result (λ x. x ≡ plain_change (record { event = h.now.event.now; answer = h.now.answer.now; up = h.now.up; flight = option_copied h.now.flight }) book.now tables.now held) }
+{
+    let LineKey { bsc, cell, warning } = held.key;
+    let line = line_now(
+        h,
+        book.as_slice(),
+        bsc,
+        cell,
+        book.find(warning),
+        held.before.line,
+    );
+    let after = held.before.with(line, tables.is_down(bsc, cell))?;
+    Ok(changed(held, after))
+}
+
+/// The changes of the lines by what happens that is no edit.
+fn plain_changes(
+    alloc: Global,
+    h: &Happening<'_, '_>,
+    book: &Book,
+    tables: &KeptTables,
+    held: Vec<Held>,
+) -> Result<Vec<Change>, AllocError>
+    ensures { IfOk result (λ v. v.items ≡ map (plain_change (record { event = h.now.event.now; answer = h.now.answer.now; up = h.now.up; flight = option_copied h.now.flight }) book.now tables.now) held.items) }
+{
+    let mut out = Vec::with_capacity(alloc, held.len())?;
+    for line in held {
+        out.push(plain_change(h, book, tables, line)?)?;
+    }
+    Ok(out)
+}
+
+/// Whether what happens is an edit.
+fn is_edit(h: &Happening<'_, '_>) -> bool
+    ensures { result ≡ is_edit h.now.event.now }
+{
+    matches!(h.event, Event::Edit(_))
+}
+
+/// The changes of the lines, from how they stood. Only an edit can change more of a line than the line itself, and whether
+/// its cell is down.
+#[tactic(auto, using(crate::proofs::PlainLemmas::plain_all))]
+pub(crate) fn changes(
+    alloc: Global,
+    h: &Happening<'_, '_>,
+    register: &Register,
+    areas: &Areas,
+    book: &Book,
+    tables: &KeptTables,
+    warnings: &[WarningId],
+    held: Vec<Held>,
+) -> Result<Vec<Change>, AllocError>
+    requires { is_edit h.now.event.now ≡ false → AreRead register.now areas.now book.now held.items }
+    ensures { IfOk result (λ v. v.items ≡ map (change_of (record { event = h.now.event.now; answer = h.now.answer.now; up = h.now.up; flight = option_copied h.now.flight }) register.now areas.now book.now tables.now) held.items) }
+{
+    if !is_edit(h) {
+        return plain_changes(alloc, h, book, tables, held);
+    }
+    let found = area_places(alloc, areas, book, warnings)?;
+    changes_of_all(alloc, h, register, areas, book, &found, tables, held)
 }
 
 /// Changes the lines on which an event bears that has been made, from how they stood. At an `Err` memory was wanting, and
@@ -167,8 +269,7 @@ pub(crate) fn bear(
     ensures least { tables.old.lines.meter ≤ tables.new.lines.meter }
 {
     mark_downs(tables, spots, h.event, h.answer)?;
-    let found = area_places(alloc, areas, book, warnings)?;
-    let changes = changes(alloc, h, register, areas, book, &found, tables, held)?;
+    let changes = changes(alloc, h, register, areas, book, tables, warnings, held)?;
     tables.settle(changes.as_slice())?;
     Ok(())
 }

@@ -8,7 +8,7 @@ ghost use Rattle.kept_tables.specs.View.{key_of};
 ghost use Rattle.centre_core.specs.Following.{AsBefore, held_unless, held_at, held_lines, is_forget, is_idle, leaves_cover, passed_over};
 
 use crate::area_places::{AreaPlaces, places_for};
-use crate::facts::{facts_from, is_covered};
+use crate::facts::{Alike, facts_from, is_covered};
 use crate::held::Held;
 use areas::Areas;
 use cell_register::{BscId, Register};
@@ -37,6 +37,15 @@ pub(crate) fn held_of(b: BscId, c: Cell, n: WarningId, before: LineFacts) -> Hel
     Held {
         key: key_of(b, c, n),
         before,
+    }
+}
+
+/// The line that was held last, with which the next may share its lists.
+pub(crate) fn last_held(held: &[Held]) -> Alike<'_> {
+    let last = held.last().map(|line| &line.before);
+    Alike {
+        versions: last,
+        areas: last,
     }
 }
 
@@ -119,6 +128,7 @@ fn hold_line(
         line,
         book.find(n),
         places,
+        last_held(out),
     )?;
     out.push(held_of(b, c, n, before))?;
     Ok(())

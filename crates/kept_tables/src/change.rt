@@ -4,7 +4,7 @@ use crate::line_facts::LineFacts;
 use mirror::LineKey;
 
 /// What is read of one line before and after an event.
-#[derive(Debug, Drop)]
+#[derive(Drop)]
 pub struct Change {
     pub key: LineKey,
     pub before: LineFacts,

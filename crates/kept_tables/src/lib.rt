@@ -6,12 +6,14 @@
 //! list of changes leads from one view to another; what follows for a caller stands in `ConsistentLaws`.
 #![tactic(auto)]
 
+mod area_names;
 mod change;
 mod kept_tables;
 mod line_facts;
 mod serial_list;
 mod spot;
 
+pub use area_names::AreaNames;
 pub use change::Change;
 pub use kept_tables::KeptTables;
 pub use line_facts::LineFacts;

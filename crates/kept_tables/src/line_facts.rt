@@ -1,19 +1,19 @@
-//! What is read of one line, in memory of its own.
+//! What is read of one line.
 
-ghost use Rattle.std.specs.Prelude.{◌≡◌};
+ghost use Rattle.std.specs.Prelude.{◌≡◌, IfOk};
 ghost use Rattle.coverage_board.specs.Reading.{stand_of as stand_kept};
 ghost use Rattle.kept_tables.specs.Facts.{no_facts, seen_of, stand_of};
 ghost use Rattle.mirror.specs.Seen.{seen};
 
+use crate::area_names::AreaNames;
 use crate::serial_list::Serials;
-use common::Names;
 use coverage_board::Stand;
 use mirror::{Line, Sight};
 use serials::Serial;
-use std::alloc::Global;
+use std::alloc::AllocError;
 
 /// What the orders and the board's numbers of one BSC, cell and warning depend on.
-#[derive(Debug, Drop)]
+#[derive(Drop)]
 pub struct LineFacts {
     pub line: Line,
     /// The warning's message identifier (TS 23.041, 9.4.1.2.2).
@@ -25,7 +25,7 @@ pub struct LineFacts {
     /// The cell is down: its BSC reported that it failed.
     pub down: bool,
     /// Those of the warning's areas that cover the cell.
-    pub areas: Names,
+    pub areas: AreaNames,
     /// The cell is registered at this BSC.
     pub here: bool,
     /// The warning is active.
@@ -33,20 +33,37 @@ pub struct LineFacts {
 }
 
 impl LineFacts {
-    /// The line of a warning that isn't in the book.
-    pub fn none(alloc: Global, down: bool, here: bool) -> LineFacts
+    /// The line of a warning that isn't in the book. It takes no memory.
+    pub fn none(down: bool, here: bool) -> LineFacts
         ensures { result ≡ no_facts down here }
     {
         LineFacts {
             line: Line::blank(),
             message_id: 0,
-            versions: Serials::from_vec(Vec::new(alloc)),
+            versions: Serials::none(),
             wanted: None,
             down,
-            areas: Names::from_vec(Vec::new(alloc)),
+            areas: AreaNames::none(),
             here,
             active: false,
         }
+    }
+
+    /// The same, but for the line and whether the cell is down. Its lists are shared, and the only `Err` is that of a list
+    /// that is shared 2^64 - 1 times.
+    pub fn with(&self, line: Line, down: bool) -> Result<LineFacts, AllocError>
+        ensures { IfOk result (λ f. f ≡ record self.now { line = line; down = down }) }
+    {
+        Ok(LineFacts {
+            line,
+            message_id: self.message_id,
+            versions: self.versions.shared()?,
+            wanted: self.wanted,
+            down,
+            areas: self.areas.shared()?,
+            here: self.here,
+            active: self.active,
+        })
     }
 
     /// What its orders depend on.

@@ -2,12 +2,12 @@
 
 ghost use Rattle.std.specs.Prelude.{◌≤◌, length};
 
-use crate::values::{bsc, name, names};
+use crate::values::{bsc, name};
 use cbsp_ie::CellId;
 use cell_register::{BscId, Register};
 use common::Cell;
 use coverage_board::Numbers;
-use kept_tables::{Change, KeptTables, LineFacts, Serials};
+use kept_tables::{AreaNames, Change, KeptTables, LineFacts, Serials};
 use mirror::{Line, LineKey};
 use order_maker::OrderKind;
 use serials::Serial;
@@ -26,7 +26,13 @@ fn versions(rt: &impl Abort, alloc: Global) -> Serials
 {
     let serial = Serial::from_u16(0xc000);
     let versions = Vec::from_slice(alloc, &[serial]).expect(rt, "memory");
-    Serials::from_vec(versions)
+    Serials::from_vec(alloc, versions).expect(rt, "memory")
+}
+
+fn coast(rt: &impl Abort, alloc: Global) -> AreaNames {
+    let mut areas = Vec::new(alloc);
+    areas.push(name(rt, alloc, b"Coast")).expect(rt, "memory");
+    AreaNames::from_vec(alloc, areas).expect(rt, "memory")
 }
 
 /// A line on which a version is wanted, in the area Coast, and of which nothing was reported.
@@ -39,7 +45,7 @@ fn wanted(rt: &impl Abort, alloc: Global) -> LineFacts
         versions: versions(rt, alloc),
         wanted: Some(Serial::from_u16(0xc000)),
         down: false,
-        areas: names(rt, alloc, &[b"Coast"]),
+        areas: coast(rt, alloc),
         here: true,
         active: true,
     }
@@ -50,7 +56,7 @@ fn issued(rt: &impl Abort, alloc: Global, key: LineKey) -> KeptTables {
     let mut tables = KeptTables::new(alloc);
     let change = Change {
         key,
-        before: LineFacts::none(alloc, false, true),
+        before: LineFacts::none(false, true),
         after: wanted(rt, alloc),
     };
     tables.settle(&[change]).expect(rt, "memory");
