@@ -24,7 +24,7 @@ use common::Cell;
 use kept_tables::{KeptTables, Spot};
 use mirror::Line;
 use std::alloc::{AllocError, Global};
-use warning_book::{Book, WarningId};
+use warning_book::{Book, Warning, WarningId};
 
 /// Whether what happens leaves the cell down, or up, as it was.
 fn keeps_down(h: &Happening<'_, '_>, b: BscId, c: Cell, was: bool) -> bool
@@ -49,13 +49,20 @@ fn leaves_blank(h: &Happening<'_, '_>) -> bool
 
 /// Whether what happens leaves the line as it is.
 #[tactic(auto, using(crate::proofs::BlankLineLemmas::blank_left))]
-fn is_left(h: &Happening<'_, '_>, book: &Book, b: BscId, c: Cell, n: WarningId, line: Line) -> bool
-    ensures { result ≡ line_eq (line_now (record { event = h.now.event.now; answer = h.now.answer.now; up = h.now.up; flight = option_copied h.now.flight }) book.now.warnings b c (warning_of book.now n) line) line }
+fn is_left(
+    h: &Happening<'_, '_>,
+    book: &Book,
+    b: BscId,
+    c: Cell,
+    warning: Option<&Warning>,
+    line: Line,
+) -> bool
+    ensures { result ≡ line_eq (line_now (record { event = h.now.event.now; answer = h.now.answer.now; up = h.now.up; flight = option_copied h.now.flight }) book.now.warnings b c (option_copied warning.entry) line) line }
 {
     if leaves_blank(h) && line.is_blank() {
         return true;
     }
-    line_now(h, book.as_slice(), b, c, book.find(n), line) == line
+    line_now(h, book.as_slice(), b, c, warning, line) == line
 }
 
 /// Whether what happens leaves the line as it is, and the cell down, or up, as it was; an idle line stays so in any case.
@@ -65,14 +72,14 @@ fn stays(
     book: &Book,
     b: BscId,
     c: Cell,
-    n: WarningId,
+    warning: Option<&Warning>,
     line: Line,
     down: bool,
 ) -> bool
-    ensures { result ≡ (line_eq (line_now (record { event = h.now.event.now; answer = h.now.answer.now; up = h.now.up; flight = option_copied h.now.flight }) book.now.warnings b c (warning_of book.now n) line) line && (keeps_down (down_mark b c h.now.event.now h.now.answer.now) down || is_idle areas.now (warning_of book.now n) c line)) }
+    ensures { result ≡ (line_eq (line_now (record { event = h.now.event.now; answer = h.now.answer.now; up = h.now.up; flight = option_copied h.now.flight }) book.now.warnings b c (option_copied warning.entry) line) line && (keeps_down (down_mark b c h.now.event.now h.now.answer.now) down || is_idle areas.now (option_copied warning.entry) c line)) }
 {
-    is_left(h, book, b, c, n, line)
-        && (keeps_down(h, b, c, down) || is_idle(areas, book.find(n), c, &line))
+    is_left(h, book, b, c, warning, line)
+        && (keeps_down(h, b, c, down) || is_idle(areas, warning, c, &line))
 }
 
 /// Reads a line, and holds it if what happens does not leave it as it is.
@@ -96,7 +103,8 @@ fn hold_changing_line(
 {
     let line = tables.read_line(key_of(b, c, n));
     let down = tables.is_down(b, c);
-    if stays(h, areas, book, b, c, n, line, down) {
+    let warning = book.find(n);
+    if stays(h, areas, book, b, c, warning, line, down) {
         return Ok(());
     }
     let places = places_for(found, n);
@@ -108,7 +116,7 @@ fn hold_changing_line(
         b,
         c,
         line,
-        book.find(n),
+        warning,
         places,
         last_held(out),
     )?;

@@ -60,20 +60,12 @@ fn facts_then(
 ) -> Result<LineFacts, AllocError>
     ensures { IfOk result (λ f. f ≡ facts_then (record { event = h.now.event.now; answer = h.now.answer.now; up = h.now.up; flight = option_copied h.now.flight }) register.now areas.now book.now tables.now (key_of b c n) line) }
 {
-    let now = line_now(h, book.as_slice(), b, c, book.find(n), line);
+    let warning = book.find(n);
+    let now = line_now(h, book.as_slice(), b, c, warning, line);
     let down = tables.is_down(b, c);
     let places = places_for(found, n);
     facts_from(
-        alloc,
-        register,
-        areas,
-        down,
-        b,
-        c,
-        now,
-        book.find(n),
-        places,
-        alike,
+        alloc, register, areas, down, b, c, now, warning, places, alike,
     )
 }
 

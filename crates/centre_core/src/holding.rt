@@ -113,7 +113,8 @@ fn hold_line(
     ensures meter { tables.new.lines.meter ≤ tables.old.lines.meter + 1 }
 {
     let line = tables.read_line(key_of(b, c, n));
-    if is_passed_over(edit, areas, book.find(n), c, &line) {
+    let warning = book.find(n);
+    if is_passed_over(edit, areas, warning, c, &line) {
         return Ok(());
     }
     let down = tables.is_down(b, c);
@@ -126,7 +127,7 @@ fn hold_line(
         b,
         c,
         line,
-        book.find(n),
+        warning,
         places,
         last_held(out),
     )?;
