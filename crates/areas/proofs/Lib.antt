@@ -3,5 +3,7 @@ pub mod PlaceLemmas
 pub mod RisingLemmas
 pub mod SearchLemmas
 pub mod SelectorSearch
-pub mod CoverLemmas
+pub mod AscendingLemmas
+pub mod HolderLemmas
+pub mod IndexLemmas
 pub mod SoundLemmas

@@ -4,5 +4,6 @@ pub mod Equality
 pub mod Name
 pub mod Order
 pub mod Areas
+pub mod Holders
 pub mod Checks
 pub mod Laws

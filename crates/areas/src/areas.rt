@@ -1,10 +1,11 @@
 //! The areas of a centre.
 
 use crate::area::Area;
+use crate::holders::Holders;
 use crate::naming::is_name;
 use crate::refusal::{Limit, Refusal};
 use crate::selector::Selector;
-use crate::{covering, edits, lookups};
+use crate::{edits, lookups};
 use common::{Cell, Name, Names};
 use std::alloc::{AllocError, Global};
 use std::marker::Model;
@@ -15,18 +16,20 @@ use std::marker::Model;
 pub struct Areas {
     alloc: Global,
     list: Vec<Area>,
+    /// The areas by their selectors.
+    holders: Holders,
 }
 
 impl Model for Areas {
     ghost use Rattle.std.specs.Prelude.{List};
     ghost use Rattle.areas.specs.declared.area.Area.{Area};
-    ghost use Rattle.areas.specs.Areas.{IsSound};
+    ghost use Rattle.areas.specs.Holders.{IsIndexed};
 
     ghost Value = { List Area };
 
     ghost view = { λ s. s.list.items };
 
-    ghost invariant = { λ s. IsSound s.list.items };
+    ghost invariant = { λ s. IsIndexed s.list.items s.holders };
 }
 
 impl Areas {
@@ -46,6 +49,7 @@ impl Areas {
         Areas {
             alloc,
             list: Vec::new(alloc),
+            holders: Holders::new(alloc),
         }
     }
 
@@ -137,6 +141,8 @@ impl Areas {
         ensures unchanged { OnErr result (self.new ≡ self.old) }
     {
         self.check_drop_area(a)?;
+        let selectors = lookups::selectors_of(self.list.as_slice(), a);
+        self.holders.remove_all(selectors, a);
         edits::drop_area(&mut self.list, a);
         Ok(())
     }
@@ -150,8 +156,14 @@ impl Areas {
         ensures unchanged { OnErr result (self.new ≡ self.old) }
     {
         self.check_put(a, s)?;
-        edits::put(&mut self.list, a, s)?;
-        Ok(())
+        self.holders.insert(self.alloc, s, a)?;
+        match edits::put(&mut self.list, a, s) {
+            Ok(()) => Ok(()),
+            Err(_) => {
+                self.holders.remove(s, a);
+                Err(Refusal::Memory)
+            }
+        }
     }
 
     /// Takes a selector out of an area, and takes no memory. Refused as `NoSuchArea` or `SelectorNotThere`, the first
@@ -163,6 +175,7 @@ impl Areas {
         ensures unchanged { OnErr result (self.new ≡ self.old) }
     {
         self.check_cut(a, s)?;
+        self.holders.remove(s, a);
         edits::cut(&mut self.list, a, s);
         Ok(())
     }
@@ -215,7 +228,8 @@ impl Areas {
     pub fn areas_of(&self, c: Cell) -> Result<Names, AllocError>
         ensures { IfOk result (λ names. names ≡ areas_of self.now c) }
     {
-        covering::areas_of(self.alloc, self.list.as_slice(), c)
+        let names = self.holders.names_for(self.alloc, c)?;
+        Ok(Names::from_vec(names))
     }
 
     /// A lemma, not a test: it returns nothing, and its clauses say what holds of all areas.

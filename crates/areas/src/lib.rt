@@ -3,18 +3,21 @@
 //! A selector is one cell or one location area (3GPP TS 23.003, clause 4). An area covers a cell when one of its
 //! selectors is that cell or its location area; whether the cell is registered does not matter here.
 //! An area's selectors are kept by location area, a whole location area before the cells in it (`specs/Selector`).
+//! `holders` keeps the areas by their selectors, so that those of a cell are found without a look at every area.
 //! Begin with `areas`; the words of its contracts stand in `specs/Areas`, the checks of each edit in `specs/Checks`,
 //! and what the edits change, for every list of areas, in `specs/Laws`.
 #![tactic(auto)]
 
 mod area;
 mod areas;
-mod covering;
+mod ascending_names;
 mod edits;
+mod holders;
 mod lookups;
 mod naming;
 mod refusal;
 mod selector;
+mod selector_key;
 mod selectors;
 
 pub use area::Area;

@@ -1,33 +1,66 @@
 -- What a walk over the warnings has found, one warning further.
-use Rattle.std.proofs.Common.{◌≡◌, ℕ, ◌+◌, ◌<◌, Bool, true, false, cond, List, [], ◌∷◌, ◌++◌, Option, Some, None, length, get_or, take, drop, refl, sym, ap, ◌∙◌}
-use Rattle.std.specs.Prelude.{nat_eq, find}
+use Rattle.std.proofs.Common.{◌≡◌, ℕ, ◌+◌, ◌<◌, Bool, true, false, ◌&&◌, ◌||◌, cond, List, [], ◌∷◌, ◌++◌, Option, Some, None, length, get_or, take, drop, refl, sym, ap, ◌∙◌}
+use Rattle.std.specs.Cmp.{unsigned_Decides}
+use Rattle.std.specs.Prelude.{nat_eq, ltb, find}
 use Rattle.std.specs.Option.{option_map, option_or}
 use Rattle.std.proofs.lemmas.List.Folds.{find-append}
-use Rattle.std.specs.List.{filter}
+use Rattle.std.specs.List.{filter, list_any}
 use Rattle.std.proofs.lemmas.List.{append_assoc, append-nil, take_more, drop_more}
-use Rattle.warning_book.specs.Book.{names, numbers, naming, versions_if, versions_with, content_of, codes_if, codes_of}
+use Rattle.common.specs.OnceLaws.{turned}
+use Rattle.common.specs.Order.{is_ascending}
+use Rattle.common.specs.OrderLaws.{ascending_filter, ascending_map}
+use Rattle.warning_book.specs.Book.{number_lt, names, names_one_of, numbers, naming, naming_one_of, is_so, versions_if, versions_with, content_of, codes_if, codes_of}
 use Rattle.warning_book.specs.declared.content.Content.{Content}
 use Rattle.warning_book.specs.declared.version.Version.{Version}
 use Rattle.warning_book.specs.declared.warning.Warning.{Warning}
 
-naming-append : (a : List ℕ) (xs ys : List Warning) → naming a (xs ++ ys) ≡ naming a xs ++ naming a ys
-naming-append a [] ys = refl
-naming-append a (x ∷ xs) ys = step (naming-append a xs ys) (names a x)
+passing-append : (p : Warning → Bool) (xs ys : List Warning) → numbers (filter p (xs ++ ys)) ≡ numbers (filter p xs) ++ numbers (filter p ys)
+passing-append p [] ys = refl
+passing-append p (x ∷ xs) ys = step (passing-append p xs ys) (p x)
   where
-    step : naming a (xs ++ ys) ≡ naming a xs ++ naming a ys → (t : Bool) → numbers (cond t (x ∷ filter (names a) (xs ++ ys)) (filter (names a) (xs ++ ys))) ≡ numbers (cond t (x ∷ filter (names a) xs) (filter (names a) xs)) ++ naming a ys
+    step : numbers (filter p (xs ++ ys)) ≡ numbers (filter p xs) ++ numbers (filter p ys) → (t : Bool) → numbers (cond t (x ∷ filter p (xs ++ ys)) (filter p (xs ++ ys))) ≡ numbers (cond t (x ∷ filter p xs) (filter p xs)) ++ numbers (filter p ys)
     step rest true = ap (λ ns. x.number ∷ ns) rest
     step rest false = rest
 
-naming-alone : (a : List ℕ) (w : Warning) → naming a (w ∷ []) ≡ cond (names a w) (w.number ∷ []) []
-naming-alone a w = step (names a w)
+passing-alone : (p : Warning → Bool) (w : Warning) → numbers (filter p (w ∷ [])) ≡ cond (p w) (w.number ∷ []) []
+passing-alone p w = step (p w)
   where
     step : (t : Bool) → numbers (cond t (w ∷ []) []) ≡ cond t (w.number ∷ []) []
     step true = refl
     step false = refl
 
+passing_more : (p : Warning → Bool) (ws : List Warning) (i : ℕ) (d : Warning) → i < length ws → numbers (filter p (take (i + 1) ws)) ≡ numbers (filter p (take i ws)) ++ cond (p (get_or ws i d)) ((get_or ws i d).number ∷ []) []
+passing_more p ws i d h =
+    ap (λ vs. numbers (filter p vs)) (take_more ws i d h) ∙ passing-append p (take i ws) (get_or ws i d ∷ []) ∙ ap (λ ns. numbers (filter p (take i ws)) ++ ns) (passing-alone p (get_or ws i d))
+
 pub naming_more : (a : List ℕ) (ws : List Warning) (i : ℕ) (d : Warning) → i < length ws → naming a (take (i + 1) ws) ≡ naming a (take i ws) ++ cond (names a (get_or ws i d)) ((get_or ws i d).number ∷ []) []
-naming_more a ws i d h =
-    ap (naming a) (take_more ws i d h) ∙ naming-append a (take i ws) (get_or ws i d ∷ []) ∙ ap (λ ns. naming a (take i ws) ++ ns) (naming-alone a (get_or ws i d))
+naming_more a ws i d h = passing_more (names a) ws i d h
+
+pub naming_one_of_more : (areas : List (List ℕ)) (ws : List Warning) (i : ℕ) (d : Warning) → i < length ws → naming_one_of areas (take (i + 1) ws) ≡ naming_one_of areas (take i ws) ++ cond (names_one_of areas (get_or ws i d)) ((get_or ws i d).number ∷ []) []
+naming_one_of_more areas ws i d h = passing_more (names_one_of areas) ws i d h
+
+-- a number is among those of the warnings that pass where one that has it passes
+pub numbers_passing : (p : Warning → Bool) (n : ℕ) (ws : List Warning) → list_any (nat_eq n) (numbers (filter p ws)) ≡ is_so n p ws
+numbers_passing p n [] = refl
+numbers_passing p n (w ∷ ws) = step (numbers_passing p n ws) (p w)
+  where
+    fails : (t u : Bool) → u ≡ ((t && false) || u)
+    fails true u = refl
+    fails false u = refl
+
+    passes : (t u v : Bool) → t ≡ u → (t || v) ≡ ((u && true) || v)
+    passes true true v e = refl
+    passes false false v e = refl
+    passes true false v e = cc
+    passes false true v e = cc
+
+    step : list_any (nat_eq n) (numbers (filter p ws)) ≡ is_so n p ws → (t : Bool) → list_any (nat_eq n) (numbers (cond t (w ∷ filter p ws) (filter p ws))) ≡ ((nat_eq w.number n && t) || is_so n p ws)
+    step rest true = ap (λ t. nat_eq n w.number || t) rest ∙ passes (nat_eq n w.number) (nat_eq w.number n) (is_so n p ws) (turned nat_eq unsigned_Decides n w.number)
+    step rest false = rest ∙ fails (nat_eq w.number n) (is_so n p ws)
+
+-- and they ascend
+pub numbers_ascend : (p : Warning → Bool) (ws : List Warning) → is_ascending number_lt ws ≡ true → is_ascending ltb (numbers (filter p ws)) ≡ true
+numbers_ascend p ws o = ascending_map number_lt ltb (λ (w : Warning). w.number) (λ v w h. h) (filter p ws) (ascending_filter number_lt p ws o)
 
 codes-append : (m : ℕ) (xs ys : List Warning) → codes_of m (xs ++ ys) ≡ codes_of m xs ++ codes_of m ys
 codes-append m [] ys = refl

@@ -100,6 +100,14 @@ numbers ws = map (λ w. w.number) ws
 abbrev pub naming : List ℕ → List Warning → List ℕ
 naming a ws = numbers (filter (names a) ws)
 
+-- it names one of the areas
+abbrev pub names_one_of : List (List ℕ) → Warning → Bool
+names_one_of areas w = list_any (λ a. names a w) areas
+
+-- the numbers of the warnings that name one of the areas
+abbrev pub naming_one_of : List (List ℕ) → List Warning → List ℕ
+naming_one_of areas ws = numbers (filter (names_one_of areas) ws)
+
 -- the areas of the warning of that number; none where there is no such warning
 abbrev pub areas_of : ℕ → List Warning → List (List ℕ)
 areas_of n [] = []

@@ -33,10 +33,10 @@ impl Model for Book {
 }
 
 impl Book {
-    ghost use Rattle.std.specs.Prelude.{◌≡◌, ◌≤◌, ◌⊎◌, ◌+◌, None, Some, true, length, IfOk, IfErr, OnOk, OnErr};
+    ghost use Rattle.std.specs.Prelude.{◌≡◌, ◌≤◌, ◌⊎◌, ◌+◌, ℕ, None, Some, true, length, nat_eq, ltb, IfOk, IfErr, OnOk, OnErr};
     ghost use Rattle.std.specs.List.{list_any, list_all};
     ghost use Rattle.std.specs.Option.{option_copied};
-    ghost use Rattle.warning_book.specs.Book.{empty, number_lt, names, is_active, warning_of, current, message_id, versions_of, numbers, naming, areas_of, content_of, new_serial, next_serial, after_issue, after_update, after_widen, after_narrow, after_stop, after_forget};
+    ghost use Rattle.warning_book.specs.Book.{empty, number_lt, names, is_active, warning_of, current, message_id, versions_of, numbers, names_one_of, naming, naming_one_of, is_so, areas_of, content_of, new_serial, next_serial, after_issue, after_update, after_widen, after_narrow, after_stop, after_forget};
     ghost use Rattle.common.specs.Checks.{first_refusal};
     ghost use Rattle.common.specs.Order.{is_ascending};
     ghost use Rattle.warning_book.specs.Checks.{issue_checks, update_checks, widen_checks, narrow_checks, stop_checks, forget_checks};
@@ -320,6 +320,17 @@ impl Book {
         ensures { IfOk result (λ all. all.items ≡ naming a.now self.now.warnings) }
     {
         questions::naming(self.alloc, self.warnings.as_slice(), a)
+    }
+
+    /// The numbers of the warnings that name one of the areas, stopped ones among them, in order and each once.
+    #[tactic(auto, using(crate::proofs::QuestionLemmas::numbers_passing, crate::proofs::QuestionLemmas::numbers_ascend))]
+    pub fn naming_one_of(&self, areas: &[Name]) -> Result<Vec<WarningId>, AllocError>
+        ensures all { IfOk result (λ all. all.items ≡ naming_one_of areas.now self.now.warnings) }
+        ensures which { IfOk result (λ all. (n : ℕ) → list_any (nat_eq n) all.items ≡ is_so n (names_one_of areas.now) self.now.warnings) }
+        ensures order { IfOk result (λ all. is_ascending ltb all.items ≡ true) }
+    {
+        let all = questions::naming_one_of(self.alloc, self.warnings.as_slice(), areas)?;
+        Ok(all)
     }
 
     /// Whether a warning in the book names the area, stopped or not.

@@ -3,7 +3,7 @@
 ghost use Rattle.std.specs.Prelude.{◌≡◌, ◌++◌, ◌∷◌, [], find, nat_eq, IfOk, OnOk, if◌then◌else◌};
 ghost use Rattle.std.specs.List.{list_any};
 ghost use Rattle.std.specs.Option.{option_map, option_copied};
-ghost use Rattle.warning_book.specs.Book.{names, numbers, naming, versions_if, content_of, codes_if, codes_of};
+ghost use Rattle.warning_book.specs.Book.{names, names_one_of, numbers, naming, naming_one_of, versions_if, content_of, codes_if, codes_of};
 
 use crate::content::Content;
 use crate::version::Version;
@@ -53,6 +53,43 @@ pub(crate) fn naming(
     let mut found = Vec::new(alloc);
     for warning in warnings {
         put_naming(&mut found, warning, a)?;
+    }
+    Ok(found)
+}
+
+/// Whether the warning names one of the areas.
+fn names_one_of(warning: &Warning, areas: &[Name]) -> bool
+    ensures { result ≡ names_one_of areas.now warning.now }
+{
+    areas.iter().any(|a| warning.areas.has(a))
+}
+
+/// Puts the number last if the warning names one of the areas.
+fn put_naming_one_of(
+    found: &mut Vec<WarningId>,
+    warning: &Warning,
+    areas: &[Name],
+) -> Result<(), AllocError>
+    ensures { OnOk result (found.new.items ≡ found.old.items ++ (if names_one_of areas.now warning.now then warning.now.number ∷ [] else [])) }
+{
+    if names_one_of(warning, areas) {
+        found.push(warning.number)?;
+    }
+    Ok(())
+}
+
+/// The numbers of the warnings that name one of the areas, in order.
+#[tactic(auto, using(crate::proofs::QuestionLemmas::naming_one_of_more))]
+pub(crate) fn naming_one_of(
+    alloc: Global,
+    warnings: &[Warning],
+    areas: &[Name],
+) -> Result<Vec<WarningId>, AllocError>
+    ensures { IfOk result (λ v. v.items ≡ naming_one_of areas.now warnings.now) }
+{
+    let mut found = Vec::new(alloc);
+    for warning in warnings {
+        put_naming_one_of(&mut found, warning, areas)?;
     }
     Ok(found)
 }
