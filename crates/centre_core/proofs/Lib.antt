@@ -75,3 +75,4 @@ pub mod EmptyLemmas
 pub mod JournalLemmas
 pub mod RebuildLemmas
 pub mod PlainLemmas
+pub mod NearLemmas

@@ -1,7 +1,7 @@
 -- How what is kept follows an event: the lines on which it bears, as they stand before it and after.
 use Rattle.std.specs.Prelude.{◌≡◌, ℕ, ◌+◌, ◌≤◌, Bool, true, false, ◌&&◌, ◌||◌, not, nat_eq, List, [], ◌∷◌, Option, Some, None, Ok, length, map, unwrap_or, if◌then◌else◌}
 use Rattle.std.specs.List.{flat_map, list_any}
-use Rattle.areas.specs.Areas.{covers}
+use Rattle.areas.specs.Areas.{areas_of, covers}
 use Rattle.areas.specs.declared.area.Area.{Area}
 use Rattle.cell_register.specs.Register as register
 use Rattle.common.specs.Order.{each_once}
@@ -14,11 +14,11 @@ use Rattle.kept_tables.specs.declared.change.Change.{Change}
 use Rattle.kept_tables.specs.declared.line_facts.LineFacts.{LineFacts}
 use Rattle.kept_tables.specs.declared.spot.Spot.{Spot}
 use Rattle.mirror.specs.Blank.{is_blank, line_eq}
-use Rattle.mirror.specs.Table.{line_at, down_at}
+use Rattle.mirror.specs.Table.{Table, line_at, down_at}
 use Rattle.mirror.specs.declared.line.Line.{Line}
 use Rattle.mirror.specs.declared.line_key.LineKey.{LineKey}
 use Rattle.warning_book.specs.Book as book
-use Rattle.warning_book.specs.Book.{warning_of}
+use Rattle.warning_book.specs.Book.{is_so, names_one_of, warning_of}
 use Rattle.warning_book.specs.declared.warning.Warning.{Warning}
 use Rattle.centre_events.specs.Counts.{count_mark}
 use Rattle.centre_events.specs.Down.{down_mark, is_down}
@@ -76,6 +76,10 @@ leaves_cover (edit.AddCell c b) = true
 leaves_cover (edit.MoveCell c b) = true
 leaves_cover (edit.RemoveCell c) = true
 leaves_cover other = false
+
+-- something is kept of the warning's line in the cell at the BSC, or one of its areas covers the cell
+abbrev pub is_near : List Area → book.State → Table → ℕ → Cell → ℕ → Bool
+is_near l st lines b c n = not (is_blank (line_at lines b c n)) || is_so n (names_one_of (areas_of l c)) st.warnings
 
 -- the edit forgets a warning
 abbrev pub is_forget : Edit → Bool

@@ -1,11 +1,11 @@
 //! The lines on which an edit bears, read before it.
 
-ghost use Rattle.std.specs.Prelude.{◌≡◌, ◌≤◌, ◌+◌, ◌*◌, ◌++◌, length, IfOk, OnOk};
-ghost use Rattle.std.specs.List.{flat_map};
+ghost use Rattle.std.specs.Prelude.{◌≡◌, ◌≤◌, ◌+◌, ◌*◌, ◌++◌, true, length, nat_eq, IfOk, OnOk};
+ghost use Rattle.std.specs.List.{filter, flat_map, list_any};
 ghost use Rattle.std.specs.Option.{option_copied};
 ghost use Rattle.kept_tables.specs.Tables.{Tables};
 ghost use Rattle.kept_tables.specs.View.{key_of};
-ghost use Rattle.centre_core.specs.Following.{AsBefore, held_unless, held_at, held_lines, is_forget, is_idle, leaves_cover, passed_over};
+ghost use Rattle.centre_core.specs.Following.{AsBefore, held_unless, held_at, held_lines, is_forget, is_idle, is_near, leaves_cover, passed_over};
 
 use crate::area_places::{AreaPlaces, places_for};
 use crate::facts::{Alike, facts_from, is_covered};
@@ -15,7 +15,7 @@ use cell_register::{BscId, Register};
 use common::Cell;
 use coverage_plan::Edit;
 use kept_tables::{KeptTables, LineFacts, Spot};
-use mirror::{Line, LineKey};
+use mirror::{Line, LineKey, LineTable};
 use std::alloc::{AllocError, Global};
 use warning_book::{Book, Warning, WarningId};
 
@@ -57,6 +57,13 @@ pub(crate) fn is_idle(areas: &Areas, warning: Option<&Warning>, c: Cell, line: &
         Some(w) => line.is_blank() && !is_covered(areas, w.areas(), c),
         None => true,
     }
+}
+
+/// Whether the warning is one of those.
+fn is_listed(n: WarningId, warnings: &[WarningId]) -> bool
+    ensures { result ≡ list_any (nat_eq n) warnings.now }
+{
+    warnings.iter().any(|other| n == *other)
 }
 
 /// Whether the edit leaves what each area covers, and which areas a warning has.
@@ -161,6 +168,87 @@ fn hold_spot(
     Ok(())
 }
 
+/// Those of the warnings of which something is kept in the cell at the BSC, or of which an area covers the cell. No line is
+/// read.
+fn near(
+    alloc: Global,
+    areas: &Areas,
+    book: &Book,
+    lines: &LineTable,
+    b: BscId,
+    c: Cell,
+    warnings: &[WarningId],
+) -> Result<Vec<WarningId>, AllocError>
+    ensures { IfOk result (λ v. v.items ≡ filter (is_near areas.now book.now lines.now b c) warnings.now) }
+{
+    let kept = lines.warnings_at(b, c)?;
+    let covering = areas.areas_of(c)?;
+    let named = book.naming_one_of(covering.as_slice())?;
+    let mut near = Vec::new(alloc);
+    for warning in warnings {
+        if is_listed(*warning, kept.as_slice()) || is_listed(*warning, named.as_slice()) {
+            near.push(*warning)?;
+        }
+    }
+    Ok(near)
+}
+
+/// Reads the lines of those of the warnings that are near the cell at the BSC, and holds those that are not passed over. The
+/// lines of the others are idle.
+fn hold_near(
+    out: &mut Vec<Held>,
+    alloc: Global,
+    register: &Register,
+    areas: &Areas,
+    book: &Book,
+    found: &[AreaPlaces],
+    tables: &mut KeptTables,
+    b: BscId,
+    c: Cell,
+    warnings: &[WarningId],
+    edit: &Edit,
+) -> Result<(), AllocError>
+    requires { leaves_cover edit.now ≡ true }
+    ensures held { (t : Tables) → AsBefore t tables.old → OnOk result (out.new.items ≡ out.old.items ++ held_at edit.now register.now areas.now book.now t warnings.now (record { bsc = b; cell = c })) }
+    ensures kept { (t : Tables) → AsBefore t tables.old → AsBefore t tables.new }
+    ensures meter { tables.new.lines.meter ≤ tables.old.lines.meter + length warnings.now }
+{
+    let near = near(alloc, areas, book, tables.lines(), b, c, warnings)?;
+    let near = near.as_slice();
+    hold_spot(
+        out, alloc, register, areas, book, found, tables, b, c, near, edit,
+    )?;
+    Ok(())
+}
+
+/// Reads the lines in the cell at the BSC, and holds those that are not passed over.
+fn hold_there(
+    out: &mut Vec<Held>,
+    alloc: Global,
+    register: &Register,
+    areas: &Areas,
+    book: &Book,
+    found: &[AreaPlaces],
+    tables: &mut KeptTables,
+    b: BscId,
+    c: Cell,
+    warnings: &[WarningId],
+    edit: &Edit,
+) -> Result<(), AllocError>
+    ensures held { (t : Tables) → AsBefore t tables.old → OnOk result (out.new.items ≡ out.old.items ++ held_at edit.now register.now areas.now book.now t warnings.now (record { bsc = b; cell = c })) }
+    ensures kept { (t : Tables) → AsBefore t tables.old → AsBefore t tables.new }
+    ensures meter { tables.new.lines.meter ≤ tables.old.lines.meter + length warnings.now }
+{
+    if leaves_cover(edit) {
+        return hold_near(
+            out, alloc, register, areas, book, found, tables, b, c, warnings, edit,
+        );
+    }
+    hold_spot(
+        out, alloc, register, areas, book, found, tables, b, c, warnings, edit,
+    )
+}
+
 /// Reads the lines of each of the warnings at each of the spots, and holds those that are not passed over.
 pub(crate) fn hold(
     alloc: Global,
@@ -179,7 +267,7 @@ pub(crate) fn hold(
 {
     let mut out = Vec::new(alloc);
     for spot in spots {
-        hold_spot(
+        hold_there(
             &mut out, alloc, register, areas, book, found, tables, spot.bsc, spot.cell, warnings,
             edit,
         )?;
