@@ -76,3 +76,4 @@ pub mod JournalLemmas
 pub mod RebuildLemmas
 pub mod PlainLemmas
 pub mod NearLemmas
+pub mod CoveredLemmas

@@ -32,7 +32,7 @@ use Rattle.centre_events.specs.Past.{Past, After, position, past_of}
 use Rattle.centre_events.specs.Presence.{effect}
 use Rattle.centre_core.specs.Reach.{reach_of, size}
 use Rattle.centre_events.specs.Settings.{Settings}
-use Rattle.centre_core.specs.State.{AreLinksOf, facts_from}
+use Rattle.centre_core.specs.State.{AreCovering, AreLinksOf, covered_facts, facts_from}
 use Rattle.centre_events.specs.Stepping.{stepped}
 use Rattle.centre_events.specs.Warnings.{book_of, serials}
 use Rattle.centre_events.specs.Verdict.{verdict}
@@ -165,6 +165,30 @@ change_of h r l st t x = record { key = x.key; before = x.before; after = facts_
 -- the change of the line where nothing of it changes but the line itself, and whether its cell is down
 abbrev pub plain_change : Happens → book.State → Tables → Held → Change
 plain_change h st t x = record { key = x.key; before = x.before; after = record x.before { line = line_now h st.warnings x.key.bsc x.key.cell (warning_of st x.key.warning) x.before.line; down = down_at t.lines x.key.bsc x.key.cell } }
+
+-- the change of the line where the areas that cover its cell are those that did
+abbrev pub covered_change : Happens → register.State → book.State → Tables → Held → Change
+covered_change h r st t x = record { key = x.key; before = x.before; after = covered_facts r (down_at t.lines x.key.bsc x.key.cell) x.key.bsc x.key.cell (line_now h st.warnings x.key.bsc x.key.cell (warning_of st x.key.warning) x.before.line) x.before.areas (warning_of st x.key.warning) }
+
+-- the edit leaves what each area covers, and which areas each warning has that it leaves in the book
+abbrev pub leaves_areas : Edit → Bool
+leaves_areas (edit.RemoveBsc b) = true
+leaves_areas (edit.AddCell c b) = true
+leaves_areas (edit.MoveCell c b) = true
+leaves_areas (edit.RemoveCell c) = true
+leaves_areas (edit.Update n content) = true
+leaves_areas (edit.Stop n) = true
+leaves_areas other = false
+
+-- the event is such an edit
+abbrev pub leaves_areas_then : Event → Bool
+leaves_areas_then (event.Edit e) = leaves_areas e
+leaves_areas_then other = false
+
+-- of each line the areas were read that cover its cell
+abbrev pub AreCovered : List Area → book.State → List Held → Type 0
+AreCovered l st [] = Unit {0}
+AreCovered l st (x ∷ xs) = AreCovering l x.key.cell x.before.areas (warning_of st x.key.warning) × AreCovered l st xs
 
 -- each line was read of this register, these areas and this book
 abbrev pub AreRead : register.State → List Area → book.State → List Held → Type 0

@@ -6,7 +6,7 @@ ghost use Rattle.std.specs.Option.{option_copied};
 ghost use Rattle.areas.specs.Areas.{covers};
 ghost use Rattle.cell_register.specs.Register.{place_in, is_place};
 ghost use Rattle.warning_book.specs.Book.{current_of};
-ghost use Rattle.centre_core.specs.State.{facts_from};
+ghost use Rattle.centre_core.specs.State.{covered_facts, facts_from};
 ghost use Rattle.centre_events.specs.Warnings.{serials};
 
 use crate::area_places::place_at;
@@ -155,6 +155,36 @@ fn wanted(w: &Warning, here: bool, covered: bool) -> Option<Serial>
     }
 }
 
+/// What is read of the line of a warning in a cell that is down or not, where these are those of its areas that cover the
+/// cell.
+pub(crate) fn covered_facts(
+    alloc: Global,
+    register: &Register,
+    down: bool,
+    b: BscId,
+    c: Cell,
+    line: Line,
+    covering: AreaNames,
+    w: &Warning,
+    like: Option<&LineFacts>,
+) -> Result<LineFacts, AllocError>
+    ensures { IfOk result (λ f. f ≡ covered_facts register.now down b c line covering (Some w.now)) }
+{
+    let here = is_here(register, b, c);
+    let versions = serials_of(alloc, w.versions(), like)?;
+    let wanted = wanted(w, here, !covering.as_slice().is_empty());
+    Ok(LineFacts {
+        line,
+        message_id: w.message_id(),
+        versions,
+        wanted,
+        down,
+        areas: covering,
+        here,
+        active: w.is_active(),
+    })
+}
+
 /// What is read of the line of a warning in a cell that is down or not.
 fn facts_of(
     alloc: Global,
@@ -170,20 +200,18 @@ fn facts_of(
 ) -> Result<LineFacts, AllocError>
     ensures { IfOk result (λ f. f ≡ facts_from register.now areas.now down b c line (Some w.now)) }
 {
-    let here = is_here(register, b, c);
-    let versions = serials_of(alloc, w.versions(), alike.versions)?;
     let covering = covering(alloc, areas, w.areas(), places, c, alike.areas)?;
-    let wanted = wanted(w, here, !covering.as_slice().is_empty());
-    Ok(LineFacts {
-        line,
-        message_id: w.message_id(),
-        versions,
-        wanted,
+    covered_facts(
+        alloc,
+        register,
         down,
-        areas: covering,
-        here,
-        active: w.is_active(),
-    })
+        b,
+        c,
+        line,
+        covering,
+        w,
+        alike.versions,
+    )
 }
 
 /// What is read of the line of a warning, if the book has it, in a cell that is down or not. The warning's areas are looked

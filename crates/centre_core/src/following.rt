@@ -1,6 +1,6 @@
 //! How what is kept follows an event: the lines that it changes are changed after it.
 
-ghost use Rattle.std.specs.Prelude.{◌≡◌, ℕ, ◌≤◌, ◌+◌, false, length, map, IfOk, OnOk};
+ghost use Rattle.std.specs.Prelude.{◌≡◌, ℕ, ◌≤◌, ◌+◌, true, false, length, map, IfOk, OnOk};
 ghost use Rattle.common.specs.declared.cell.Cell.{Cell};
 ghost use Rattle.kept_tables.specs.Consistent.{Consistent};
 ghost use Rattle.mirror.specs.Table.{down_at};
@@ -10,17 +10,18 @@ ghost use Rattle.centre_events.specs.Kept.{is_edit};
 ghost use Rattle.centre_events.specs.Past.{After};
 ghost use Rattle.kept_tables.specs.View.{key_of};
 ghost use Rattle.std.specs.Option.{option_copied};
-ghost use Rattle.centre_core.specs.Following.{AreRead, Bears, entry_of, line_now, facts_then, change_of, plain_change};
+ghost use Rattle.centre_core.specs.Following.{AreCovered, AreRead, Bears, entry_of, line_now, facts_then, change_of, covered_change, leaves_areas_then, plain_change};
 
 use crate::area_places::{AreaPlaces, area_places, places_for};
 use crate::downs::mark_downs;
-use crate::facts::{Alike, facts_from};
+use crate::facts::{Alike, covered_facts, facts_from, is_here};
 use crate::held::Held;
 use areas::Areas;
 use cell_register::{BscId, Register};
 use centre_events::event::Event;
 use centre_events::stepping::{Happening, stepped};
 use common::Cell;
+use coverage_plan::Edit;
 use kept_tables::{Change, KeptTables, LineFacts, Spot};
 use mirror::{Line, LineKey};
 use std::alloc::{AllocError, Global};
@@ -211,6 +212,75 @@ fn plain_changes(
     Ok(out)
 }
 
+/// What is read of a line after an edit that leaves the areas that cover its cell.
+fn covered_then(
+    alloc: Global,
+    h: &Happening<'_, '_>,
+    register: &Register,
+    book: &Book,
+    tables: &KeptTables,
+    held: &Held,
+    done: &[Change],
+) -> Result<LineFacts, AllocError>
+    ensures { IfOk result (λ f. f ≡ (covered_change (record { event = h.now.event.now; answer = h.now.answer.now; up = h.now.up; flight = option_copied h.now.flight }) register.now book.now tables.now held.now).after) }
+{
+    let LineKey { bsc, cell, warning } = held.key;
+    let warning = book.find(warning);
+    let line = line_now(h, book.as_slice(), bsc, cell, warning, held.before.line);
+    let down = tables.is_down(bsc, cell);
+    match warning {
+        Some(w) => covered_facts(
+            alloc,
+            register,
+            down,
+            bsc,
+            cell,
+            line,
+            held.before.areas.shared()?,
+            w,
+            done.last().map(|change| &change.after),
+        ),
+        None => Ok(LineFacts::none(down, is_here(register, bsc, cell))),
+    }
+}
+
+/// The changes of the lines by an edit that leaves the areas that cover their cells.
+fn covered_changes(
+    alloc: Global,
+    h: &Happening<'_, '_>,
+    register: &Register,
+    book: &Book,
+    tables: &KeptTables,
+    held: Vec<Held>,
+) -> Result<Vec<Change>, AllocError>
+    ensures { IfOk result (λ v. v.items ≡ map (covered_change (record { event = h.now.event.now; answer = h.now.answer.now; up = h.now.up; flight = option_copied h.now.flight }) register.now book.now tables.now) held.items) }
+{
+    let mut out = Vec::with_capacity(alloc, held.len())?;
+    for line in held {
+        let after = covered_then(alloc, h, register, book, tables, &line, out.as_slice())?;
+        out.push(changed(line, after))?;
+    }
+    Ok(out)
+}
+
+/// Whether what happens is an edit that leaves which areas cover each cell, and which areas each warning has.
+fn leaves_areas(h: &Happening<'_, '_>) -> bool
+    ensures { result ≡ leaves_areas_then h.now.event.now }
+{
+    match h.event {
+        Event::Edit(edit) => matches!(
+            edit,
+            Edit::RemoveBsc(_)
+                | Edit::AddCell(_, _)
+                | Edit::MoveCell(_, _)
+                | Edit::RemoveCell(_)
+                | Edit::Update(_, _)
+                | Edit::Stop(_)
+        ),
+        _ => false,
+    }
+}
+
 /// Whether what happens is an edit.
 fn is_edit(h: &Happening<'_, '_>) -> bool
     ensures { result ≡ is_edit h.now.event.now }
@@ -219,8 +289,8 @@ fn is_edit(h: &Happening<'_, '_>) -> bool
 }
 
 /// The changes of the lines, from how they stood. Only an edit can change more of a line than the line itself, and whether
-/// its cell is down.
-#[tactic(auto, using(crate::proofs::PlainLemmas::plain_all))]
+/// its cell is down; and few edits change the areas that cover its cell.
+#[tactic(auto, using(crate::proofs::PlainLemmas::plain_all, crate::proofs::CoveredLemmas::covered_all))]
 pub(crate) fn changes(
     alloc: Global,
     h: &Happening<'_, '_>,
@@ -231,11 +301,15 @@ pub(crate) fn changes(
     warnings: &[WarningId],
     held: Vec<Held>,
 ) -> Result<Vec<Change>, AllocError>
-    requires { is_edit h.now.event.now ≡ false → AreRead register.now areas.now book.now held.items }
+    requires read { is_edit h.now.event.now ≡ false → AreRead register.now areas.now book.now held.items }
+    requires covered { leaves_areas_then h.now.event.now ≡ true → AreCovered areas.now book.now held.items }
     ensures { IfOk result (λ v. v.items ≡ map (change_of (record { event = h.now.event.now; answer = h.now.answer.now; up = h.now.up; flight = option_copied h.now.flight }) register.now areas.now book.now tables.now) held.items) }
 {
     if !is_edit(h) {
         return plain_changes(alloc, h, book, tables, held);
+    }
+    if leaves_areas(h) {
+        return covered_changes(alloc, h, register, book, tables, held);
     }
     let found = area_places(alloc, areas, book, warnings)?;
     changes_of_all(alloc, h, register, areas, book, &found, tables, held)

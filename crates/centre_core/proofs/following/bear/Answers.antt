@@ -1,10 +1,14 @@
 use Rattle.std.proofs.Common.{◌∙◌}
 use Rattle.centre_core.proofs.JoinLemmas.{begins, settled, downs_then}
+use Rattle.centre_core.proofs.CoveredLemmas.{bears_covered}
 use Rattle.centre_core.proofs.PlainLemmas.{bears_read}
 use Rattle.centre_core.proofs.following.bear.Goals as goal
 
-pub changes-requires : goal.changes-requires
-changes-requires c = λ no. bears_read c.requires no
+pub changes-requires-read : goal.changes-requires-read
+changes-requires-read c = λ no. bears_read c.requires no
+
+pub changes-requires-covered : goal.changes-requires-covered
+changes-requires-covered c = λ leaves. bears_covered c.requires leaves
 
 pub settle-requires : goal.settle-requires
 settle-requires c = rw (c.as_slice.ensures.value, c.in_ok-changes.ensures) (begins c.requires c.mark_downs.new.tables c.in_ok-mark_downs.ensures.lines c.in_ok-mark_downs.ensures.downs)
