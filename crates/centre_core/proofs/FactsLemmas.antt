@@ -1,5 +1,7 @@
 -- What is read of a line from what is kept is what the past says of it.
-use Rattle.std.proofs.Common.{◌≡◌, ℕ, Bool, ◌&&◌, ◌||◌, List, [], ◌∷◌, Option, Some, None, filter, cond, refl, ◌∙◌, ap, not, nat_eq, length, suc, true, false, arith}
+use Rattle.std.proofs.Common.{◌≡◌, ℕ, ◌+◌, ◌<◌, Bool, ◌&&◌, ◌||◌, List, [], ◌∷◌, ◌++◌, Option, Some, None, filter, cond, refl, sym, ◌∙◌, ap, not, nat_eq, length, suc, take, get_or, true, false, arith}
+use Rattle.std.proofs.lemmas.List.{append-nil, take_more}
+use Rattle.std.proofs.lemmas.List.Elements.{filter-append}
 use Rattle.std.specs.Prelude.{if◌then◌else◌}
 use Rattle.std.specs.List.{list_any}
 use Rattle.std.proofs.lemmas.Bool.Decides.{nat_tests}
@@ -66,3 +68,18 @@ wanted_there r l b w c names are =
         step : (t : Bool) → not (nat_eq (length (filter (λ a. kept.covers l a c) xs)) 0) ≡ list_any (λ a. kept.covers l a c) xs → not (nat_eq (length (cond t (x ∷ filter (λ a. kept.covers l a c) xs) (filter (λ a. kept.covers l a c) xs))) 0) ≡ (t || list_any (λ a. kept.covers l a c) xs)
         step true rest = ap not (more (length (filter (λ a. kept.covers l a c) xs)))
         step false rest = rest
+
+-- Of names and others that were compared one by one, so many of the others are those of the first names that pass.
+
+filter_more : (f : List ℕ → Bool) (names : List (List ℕ)) (i : ℕ) (x : List ℕ) → x ≡ get_or names i x → i < length names → filter f (take (i + 1) names) ≡ filter f (take i names) ++ (if f x then x ∷ [] else [])
+filter_more f names i x is h =
+    ap (filter f) (take_more names i x h ∙ ap (λ y. take i names ++ y ∷ []) (sym is)) ∙ filter-append f (take i names) (x ∷ [])
+
+pub passing_more : (f : List ℕ → Bool) (names others : List (List ℕ)) (i count : ℕ) (x y : List ℕ) → x ≡ get_or names i x → i < length names → f x ≡ true → y ≡ get_or others count y → count < length others → y ≡ x → take count others ≡ filter f (take i names) → take (count + 1) others ≡ filter f (take (i + 1) names)
+passing_more f names others i count x y is h passes at there same before =
+    take_more others count y there ∙ ap (λ z. take count others ++ z ∷ []) (sym at ∙ same) ∙ ap (λ xs. xs ++ x ∷ []) before
+    ∙ ap (λ t. filter f (take i names) ++ (if t then x ∷ [] else [])) (sym passes) ∙ sym (filter_more f names i x is h)
+
+pub passing_same : (f : List ℕ → Bool) (names others : List (List ℕ)) (i count : ℕ) (x : List ℕ) → x ≡ get_or names i x → i < length names → f x ≡ false → take count others ≡ filter f (take i names) → take count others ≡ filter f (take (i + 1) names)
+passing_same f names others i count x is h fails before =
+    before ∙ sym (append-nil (filter f (take i names))) ∙ ap (λ t. filter f (take i names) ++ (if t then x ∷ [] else [])) (sym fails) ∙ sym (filter_more f names i x is h)

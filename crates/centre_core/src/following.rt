@@ -172,27 +172,21 @@ fn changes_of_all(
     Ok(out)
 }
 
-/// The change of a line by what happens that is no edit: of what was read of it, the line alone can change, and whether its
-/// cell is down.
-fn plain_change(
+/// What is read of a line after what happens that is no edit: of what was read of it, the line alone can change, and whether
+/// its cell is down.
+fn plain_then(
     h: &Happening<'_, '_>,
     book: &Book,
     tables: &KeptTables,
-    held: Held,
-) -> Result<Change, AllocError>
-    ensures { IfOk result (λ x. x ≡ plain_change (record { event = h.now.event.now; answer = h.now.answer.now; up = h.now.up; flight = option_copied h.now.flight }) book.now tables.now held) }
+    held: &Held,
+) -> Result<LineFacts, AllocError>
+    ensures { IfOk result (λ f. f ≡ (plain_change (record { event = h.now.event.now; answer = h.now.answer.now; up = h.now.up; flight = option_copied h.now.flight }) book.now tables.now held.now).after) }
 {
-    let LineKey { bsc, cell, warning } = held.key;
-    let line = line_now(
-        h,
-        book.as_slice(),
-        bsc,
-        cell,
-        book.find(warning),
-        held.before.line,
-    );
-    let after = held.before.with(line, tables.is_down(bsc, cell))?;
-    Ok(changed(held, after))
+    let Held { key, before } = held;
+    let LineKey { bsc, cell, warning } = *key;
+    let warning = book.find(warning);
+    let line = line_now(h, book.as_slice(), bsc, cell, warning, before.line);
+    before.with(line, tables.is_down(bsc, cell))
 }
 
 /// The changes of the lines by what happens that is no edit.
@@ -207,7 +201,8 @@ fn plain_changes(
 {
     let mut out = Vec::with_capacity(alloc, held.len())?;
     for line in held {
-        out.push(plain_change(h, book, tables, line)?)?;
+        let after = plain_then(h, book, tables, &line)?;
+        out.push(changed(line, after))?;
     }
     Ok(out)
 }

@@ -1,0 +1,15 @@
+use Rattle.std.proofs.Common.{◌≡◌, sym, arith, rules}
+use Rattle.areas.specs.Areas.{covers}
+use Rattle.centre_core.proofs.FactsLemmas.{passing_more, passing_same}
+use Rattle.centre_core.proofs.facts.are_covering.Goals as goal
+use Rattle.centre_core.proofs.facts.are_covering.Goals.{then-covers_at+else-count-others+else-ne, else-covers_at}
+
+pub loop-i-preserved : goal.loop-i-preserved
+loop-i-preserved c =
+    elim c.if-covers_at.branch [
+      | then-covers_at+else-count-others+else-ne w ↦
+          let same : w.index-others-count.result ≡ c.index-names-i.result = search rules in
+          rw w.count-is (omega arith, passing_more (λ a. covers c.args.areas.now a c.args.c) c.args.names.now c.args.others.now c.loop-i.i c.loop-i.count c.index-names-i.result w.index-others-count.result c.index-names-i.is c.loop-i-test.true (search rules) w.index-others-count.is (omega arith) same c.loop-i.invariant.1)
+      | else-covers_at w ↦
+          rw w.count-is (c.loop-i.invariant.0, passing_same (λ a. covers c.args.areas.now a c.args.c) c.args.names.now c.args.others.now c.loop-i.i c.loop-i.count c.index-names-i.result c.index-names-i.is c.loop-i-test.true (search rules) c.loop-i.invariant.1)
+    ]
