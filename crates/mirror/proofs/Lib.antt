@@ -1,4 +1,5 @@
 mod KeyLemmas
+mod NumberLemmas
 mod KeptLemmas
 mod GatherLemmas
 mod OnAirLemmas
