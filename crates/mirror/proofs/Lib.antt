@@ -1,4 +1,5 @@
 mod KeyLemmas
+mod LineLemmas
 mod NumberLemmas
 mod KeptLemmas
 mod GatherLemmas
