@@ -21,10 +21,9 @@ use Rattle.mirror.proofs.OwnLemmas.{before_first, none_after}
 use Rattle.mirror.specs.Blank.{is_blank}
 use Rattle.mirror.specs.BlankLaws.{blank_decides}
 use Rattle.mirror.specs.Line.{blank_line}
-use Rattle.mirror.specs.Order.{slot_cmp, slot_of, least_slot}
+use Rattle.mirror.specs.Order.{Slot, slot_cmp, slot_of, least_slot}
 use Rattle.mirror.specs.Table.{is_slot, is_slot_in}
 use Rattle.mirror.specs.declared.line.Line.{Line}
-use Rattle.mirror.specs.declared.slot.Slot.{Slot}
 
 -- the slot stands where the lines of the cell and of the BSC's later cells do
 abbrev pub from_cell : ℕ → Cell → Slot → Bool

@@ -21,11 +21,10 @@ use Rattle.mirror.specs.Blank.{is_blank}
 use Rattle.mirror.specs.BlankLaws.{blank_decides}
 use Rattle.mirror.specs.Line.{blank, blank_line, state_of}
 use Rattle.mirror.specs.OnAir.{is_after, AreOnAir, is_slot_for, on_air_cells}
-use Rattle.mirror.specs.Order.{slot_cmp}
+use Rattle.mirror.specs.Order.{Slot, slot_cmp}
 use Rattle.mirror.specs.Seen.{is_on_air}
 use Rattle.mirror.specs.Table.{Table, is_slot}
 use Rattle.mirror.specs.declared.line.Line.{Line}
-use Rattle.mirror.specs.declared.slot.Slot.{Slot}
 
 -- The cells of those lines of a warning that pass a test.
 

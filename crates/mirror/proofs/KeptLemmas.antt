@@ -14,11 +14,9 @@ use Rattle.mirror.proofs.KeyLemmas.{at_slot, at_place}
 use Rattle.mirror.specs.Blank.{is_blank}
 use Rattle.mirror.specs.BlankLaws.{blank_decides}
 use Rattle.mirror.specs.Line.{blank_line}
-use Rattle.mirror.specs.Order.{slot_cmp, place_cmp, slot_of, place_of}
+use Rattle.mirror.specs.Order.{Place, Slot, slot_cmp, place_cmp, slot_of, place_of}
 use Rattle.mirror.specs.Table.{is_slot, is_slot_in, is_that_place}
 use Rattle.mirror.specs.declared.line.Line.{Line}
-use Rattle.mirror.specs.declared.place.Place.{Place}
-use Rattle.mirror.specs.declared.slot.Slot.{Slot}
 
 -- what is looked up by the order of slots is looked up by their numbers
 pub found_at : (b : ℕ) (c : Cell) (w : ℕ) (es : List (Slot × Line)) → lookup (is_at (slot_cmp (slot_of b c w))) es ≡ lookup (is_slot b c w) es

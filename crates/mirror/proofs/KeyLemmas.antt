@@ -8,10 +8,8 @@ use Rattle.std.specs.declared.ops.Bound.TheVariants.{Included, Excluded}
 use Rattle.common.specs.Cell.{cell_eq, cell_lt}
 use Rattle.common.specs.declared.cell.Cell.{Cell}
 use Rattle.mirror.specs.OnAir.{is_slot_for}
-use Rattle.mirror.specs.Order.{cell_cmp, slot_cmp, place_cmp, slot_of, least_slot, place_of, least_place}
+use Rattle.mirror.specs.Order.{Place, Slot, cell_cmp, slot_cmp, place_cmp, slot_of, least_slot, place_of, least_place}
 use Rattle.mirror.specs.Table.{is_slot, is_that_place}
-use Rattle.mirror.specs.declared.place.Place.{Place}
-use Rattle.mirror.specs.declared.slot.Slot.{Slot}
 
 pub at_cell : (c d : Cell) → is_at (cell_cmp c) d ≡ cell_eq c d
 at_cell c d = grind (arith, nat_tests, common_steps)

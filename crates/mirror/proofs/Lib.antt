@@ -1,4 +1,6 @@
 mod KeyLemmas
+mod LineLemmas
+mod NumberLemmas
 mod KeptLemmas
 mod GatherLemmas
 mod OnAirLemmas

@@ -7,10 +7,9 @@ use Rattle.common.specs.declared.cell.Cell.{Cell}
 use Rattle.mirror.proofs.KeyLemmas.{slots_between, slots_after}
 use Rattle.mirror.specs.Line.{state_of}
 use Rattle.mirror.specs.OnAir.{is_after, is_slot_for, lines_for, on_air_cells}
-use Rattle.mirror.specs.Order.{slot_cmp, slot_of, least_slot}
+use Rattle.mirror.specs.Order.{Slot, slot_cmp, slot_of, least_slot}
 use Rattle.mirror.specs.Seen.{is_on_air}
 use Rattle.mirror.specs.declared.line.Line.{Line}
-use Rattle.mirror.specs.declared.slot.Slot.{Slot}
 
 -- what passes one test and then another passes both
 pub filter_twice : {A : Type 0} (p q r : A → Bool) → ((x : A) → (p x && q x) ≡ r x) → (xs : List A) → filter q (filter p xs) ≡ filter r xs

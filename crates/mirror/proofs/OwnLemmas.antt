@@ -18,10 +18,9 @@ use Rattle.common.specs.OnceLaws.{turned}
 use Rattle.common.specs.declared.cell.Cell.{Cell}
 use Rattle.mirror.proofs.GatherLemmas.{one_more}
 use Rattle.mirror.specs.Known.{is_named, own_cell}
-use Rattle.mirror.specs.Order.{cell_cmp, slot_cmp, slot_of, least_slot}
+use Rattle.mirror.specs.Order.{Slot, cell_cmp, slot_cmp, slot_of, least_slot}
 use Rattle.mirror.specs.Table.{is_slot_in}
 use Rattle.mirror.specs.declared.line.Line.{Line}
-use Rattle.mirror.specs.declared.slot.Slot.{Slot}
 
 -- an identification with a cell of its own names no other cell
 pub names_own : (plmn : List ℕ) (i : CellId) (x : Cell) → own_cell i ≡ Some x → (d : Cell) → names plmn i d ≡ (names plmn i x && cell_eq x d)

@@ -17,11 +17,10 @@ use Rattle.mirror.specs.Blank.{is_blank}
 use Rattle.mirror.specs.BlankLaws.{blank_decides}
 use Rattle.mirror.specs.Index.{has_slot, line_in, IsSet, IsWithSlot, IsWithoutSlot}
 use Rattle.mirror.specs.Line.{blank_line}
-use Rattle.mirror.specs.Order.{slot_cmp}
+use Rattle.mirror.specs.Order.{Slot, slot_cmp}
 use Rattle.mirror.specs.Table.{is_key, is_slot}
 use Rattle.mirror.specs.declared.line.Line.{Line}
 use Rattle.mirror.specs.declared.line_key.LineKey.{LineKey}
-use Rattle.mirror.specs.declared.slot.Slot.{Slot}
 use Rattle.mirror.specs.declared.warning_slot.WarningSlot.{WarningSlot}
 
 -- the index has the lines that aren't blank

@@ -9,11 +9,10 @@ use Rattle.common.specs.Cell.{cell_eq, cell_lt}
 use Rattle.common.specs.declared.cell.Cell.{Cell}
 use Rattle.mirror.specs.Blank.{is_blank}
 use Rattle.mirror.specs.Line.{blank_line}
-use Rattle.mirror.specs.Order.{cell_cmp}
+use Rattle.mirror.specs.Order.{Slot, cell_cmp}
 use Rattle.mirror.specs.Table.{Table, is_key, is_slot, line_at}
 use Rattle.mirror.specs.declared.line.Line.{Line}
 use Rattle.mirror.specs.declared.line_key.LineKey.{LineKey}
-use Rattle.mirror.specs.declared.slot.Slot.{Slot}
 use Rattle.mirror.specs.declared.warning_slot.WarningSlot.{WarningSlot}
 
 -- by warning, then by BSC, then by cell

@@ -3,6 +3,8 @@ pub mod Seen
 pub mod Blank
 pub mod BlankLaws
 pub mod Order
+pub mod PartsLaws
+pub mod OrderLaws
 pub mod Table
 pub mod Index
 pub mod Known

@@ -5,11 +5,11 @@ use Rattle.std.specs.List.{list_any}
 use Rattle.common.specs.Cell.{cell_eq, cell_lt}
 use Rattle.common.specs.Order.{is_ascending}
 use Rattle.common.specs.declared.cell.Cell.{Cell}
+use Rattle.mirror.specs.Order.{Slot}
 use Rattle.mirror.specs.Line.{state_of}
 use Rattle.mirror.specs.Seen.{is_on_air}
 use Rattle.mirror.specs.Table.{Table, line_at}
 use Rattle.mirror.specs.declared.line.Line.{Line}
-use Rattle.mirror.specs.declared.slot.Slot.{Slot}
 
 -- the cell comes after the given one, or none is given
 abbrev pub is_after : Option Cell → Cell → Bool

@@ -1,10 +1,19 @@
 -- The order in which a table keeps its lines and the cells that are down: by BSC, then by cell, then by warning.
-use Rattle.std.specs.Prelude.{ℕ}
+use Rattle.std.specs.Prelude.{ℕ, ◌/◌, ◌%◌, ◌^◌}
 use Rattle.std.specs.Ordering.{ordering_then, nat_cmp}
 use Rattle.std.specs.declared.cmp.Ordering.{Ordering}
 use Rattle.common.specs.declared.cell.Cell.{Cell}
-use Rattle.mirror.specs.declared.place.Place.{Place}
-use Rattle.mirror.specs.declared.slot.Slot.{Slot}
+
+-- a cell at a BSC
+pub record Place : Type 0 where
+  pub bsc : ℕ
+  pub cell : Cell
+
+-- where a line stands
+pub record Slot : Type 0 where
+  pub bsc : ℕ
+  pub cell : Cell
+  pub warning : ℕ
 
 -- cells by location area, then by cell identity
 abbrev pub cell_cmp : Cell → Cell → Ordering
@@ -33,3 +42,7 @@ place_of b c = record { bsc = b; cell = c }
 -- the first place that a BSC can have
 abbrev pub least_place : ℕ → Place
 least_place b = record { bsc = b; cell = record { lac = 0; ci = 0 } }
+
+-- the place that stands in the number: the BSC highest, then the location area and the cell identity
+abbrev pub place_in : ℕ → Place
+place_in n = record { bsc = n / 2 ^ 32; cell = record { lac = n % 2 ^ 32 / 2 ^ 16; ci = n % 2 ^ 16 } }

@@ -6,11 +6,10 @@ use Rattle.std.specs.Map.{lookup}
 use Rattle.std.specs.Option.{unwrap_or}
 use Rattle.common.specs.Cell.{cell_eq}
 use Rattle.common.specs.declared.cell.Cell.{Cell}
+use Rattle.mirror.specs.Order.{Place, Slot}
 use Rattle.mirror.specs.Line.{blank_line}
 use Rattle.mirror.specs.declared.line.Line.{Line}
 use Rattle.mirror.specs.declared.line_key.LineKey.{LineKey}
-use Rattle.mirror.specs.declared.place.Place.{Place}
-use Rattle.mirror.specs.declared.slot.Slot.{Slot}
 
 -- the lines of which something is kept, the cells that are down, and how often lines were read or set
 pub record Table : Type 0 where

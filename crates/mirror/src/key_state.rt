@@ -1,6 +1,7 @@
 //! What is kept of one message in one cell.
 
 ghost use Rattle.std.specs.Prelude.{◌≡◌};
+ghost use Rattle.mirror.specs.Blank.{state_eq};
 ghost use Rattle.mirror.specs.Line.{blank};
 
 use crate::presence::Presence;
@@ -26,5 +27,12 @@ impl KeyState {
             hold: None,
             count: 0,
         }
+    }
+
+    /// Whether it is as each key begins.
+    pub(crate) fn is_blank(&self) -> bool
+        ensures { result ≡ state_eq self.now blank }
+    {
+        self.presence == Presence::Absent && self.hold.is_none() && self.count == 0
     }
 }

@@ -41,7 +41,7 @@ pub(crate) fn has_line(lines: &BTreeMap<Slot, Line>, b: BscId, c: Cell) -> bool
         Bound::Excluded(Slot::least(bsc + 1)),
     ));
     match later.next() {
-        Some((slot, _)) => bsc == slot.bsc && c == slot.cell,
+        Some((slot, _)) => slot.is_in(b, c),
         None => false,
     }
 }
@@ -63,7 +63,7 @@ pub(crate) fn warnings_at(
         if !slot.is_in(b, c) {
             return Ok(warnings);
         }
-        warnings.push(WarningId::new(slot.warning))?;
+        warnings.push(WarningId::new(slot.warning()))?;
     }
     Ok(warnings)
 }

@@ -1,8 +1,9 @@
 //! What is kept of one BSC, cell and warning.
 
 ghost use Rattle.std.specs.Prelude.{◌≡◌, ◌↔◌, IsTrue};
-ghost use Rattle.mirror.specs.Blank.{is_blank};
-ghost use Rattle.mirror.specs.Line.{blank_line, state_of, with_state};
+ghost use Rattle.std.specs.List.{list_all};
+ghost use Rattle.mirror.specs.Blank.{is_blank, state_eq};
+ghost use Rattle.mirror.specs.Line.{blank, blank_line, state_of, with_state};
 
 use crate::key_state::KeyState;
 use serials::Serial;
@@ -11,6 +12,17 @@ use serials::Serial;
 #[derive(Clone, Copy, Debug, PartialEq, Eq)]
 pub struct Line {
     pub states: [KeyState; 16],
+}
+
+fn are_blank(states: &[KeyState]) -> bool
+    ensures { result ≡ list_all (λ s. state_eq s blank) states.now }
+{
+    for state in states {
+        if !state.is_blank() {
+            return false;
+        }
+    }
+    true
 }
 
 impl Line {
@@ -28,7 +40,7 @@ impl Line {
         ensures test { result ≡ is_blank self.now }
         ensures blank { IsTrue result ↔ (self.now ≡ blank_line) }
     {
-        *self == Line::blank()
+        are_blank(&self.states)
     }
 
     /// Whether the same is kept in both.

@@ -164,7 +164,8 @@ impl LineTable {
         match self.index.insert(key) {
             Ok(()) => Ok(()),
             Err(e) => {
-                self.lines.remove(&slot);
+                let same = Slot::of(key);
+                self.lines.remove(&same);
                 Err(e)
             }
         }

@@ -62,14 +62,14 @@ pub(crate) fn first_on_air(
         if cells.len() >= most {
             return Ok(Cells::from_vec(cells));
         }
-        if slot.warning != w.number() {
+        if slot.warning() != w.number() {
             continue;
         }
         *meter = meter.saturating_add(1);
         if line.state(serial).presence != Presence::OnAir {
             continue;
         }
-        cells.push(slot.cell)?;
+        cells.push(slot.cell())?;
     }
     Ok(Cells::from_vec(cells))
 }

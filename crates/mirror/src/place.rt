@@ -5,22 +5,38 @@ ghost use Rattle.mirror.specs.Order.{place_of, least_place};
 
 use cell_register::BscId;
 use common::Cell;
+use std::cmp::Ordering;
+use std::marker::Model;
 
-/// A BSC and a cell, in this order. The BSC's field is wider than its number, so that the cells of each BSC end before
-/// those of a number one greater.
-#[derive(Clone, Copy, Debug, PartialEq, Eq, PartialOrd, Ord)]
+/// One more location area in a place's number.
+const AREA: u64 = 1 << 16;
+
+/// One more BSC in a place's number.
+const NEXT_BSC: u64 = 1 << 32;
+
+/// A BSC and a cell, in this order. They stand in one number, the BSC highest, so that two places are compared at once.
+/// The BSC's part is wider than its number, so that the cells of each BSC end before those of a number one greater.
+#[derive(Drop)]
 pub(crate) struct Place {
-    pub bsc: u32,
-    pub cell: Cell,
+    number: u64,
+}
+
+impl Model for Place {
+    ghost use Rattle.mirror.specs.Order.{Place, place_in};
+
+    ghost Value = { Place };
+
+    ghost view = { λ p. place_in p.number };
 }
 
 impl Place {
     pub(crate) fn of(b: BscId, c: Cell) -> Place
         ensures { result ≡ place_of b c }
     {
+        let bsc = u64::from(b.number()) * NEXT_BSC;
+        let area = u64::from(c.lac) * AREA;
         Place {
-            bsc: u32::from(b.number()),
-            cell: c,
+            number: bsc + area + u64::from(c.ci),
         }
     }
 
@@ -29,8 +45,77 @@ impl Place {
         ensures { result ≡ least_place bsc }
     {
         Place {
-            bsc,
-            cell: Cell { lac: 0, ci: 0 },
+            number: u64::from(bsc) * NEXT_BSC,
         }
+    }
+
+    pub(crate) fn bsc(&self) -> u32
+        ensures { result ≡ self.now.bsc }
+    {
+        (self.number / NEXT_BSC) as u32
+    }
+
+    pub(crate) fn cell(&self) -> Cell
+        ensures { result ≡ self.now.cell }
+    {
+        Cell {
+            lac: (self.number % NEXT_BSC / AREA) as u16,
+            ci: (self.number % AREA) as u16,
+        }
+    }
+}
+
+impl PartialEq for Place {
+    ghost use Rattle.std.specs.Cmp.{partial_equiv_from_equiv, eq_by_cmp_equiv};
+    ghost use Rattle.std.specs.Ordering.{eq_by_cmp};
+    ghost use Rattle.mirror.specs.Order.{place_cmp};
+    ghost use Rattle.mirror.specs.OrderLaws.{place_total};
+
+    ghost eq = { eq_by_cmp place_cmp };
+
+    ghost laws = { partial_equiv_from_equiv (eq_by_cmp_equiv place_total) };
+
+    fn eq(&self, other: &Place) -> bool {
+        self.cmp(other).is_eq()
+    }
+}
+
+impl Eq for Place {
+    ghost use Rattle.std.specs.Cmp.{eq_by_cmp_equiv};
+    ghost use Rattle.mirror.specs.OrderLaws.{place_total};
+
+    ghost laws = { eq_by_cmp_equiv place_total };
+}
+
+impl PartialOrd for Place {
+    ghost use Rattle.std.specs.Cmp.{partial_order_from_total};
+    ghost use Rattle.std.specs.Ordering.{as_partial_cmp};
+    ghost use Rattle.mirror.specs.Order.{place_cmp};
+    ghost use Rattle.mirror.specs.OrderLaws.{place_total};
+
+    ghost partial_cmp = { as_partial_cmp place_cmp };
+
+    ghost laws = { partial_order_from_total place_total };
+
+    fn partial_cmp(&self, other: &Place) -> Option<Ordering> {
+        Some(self.cmp(other))
+    }
+}
+
+impl Ord for Place {
+    ghost use Rattle.std.proofs.Common.{refl};
+    ghost use Rattle.mirror.specs.Order.{place_cmp};
+    ghost use Rattle.mirror.specs.OrderLaws.{place_total};
+
+    ghost cmp = { place_cmp };
+
+    ghost total = { place_total };
+
+    ghost matches_partial_cmp = { λ x y. refl };
+
+    ghost matches_eq = { λ x y. refl };
+
+    fn cmp(&self, other: &Place) -> Ordering {
+        self.number.cmp(&other.number)
     }
 }

@@ -5,16 +5,26 @@ ghost use Rattle.mirror.specs.Order.{slot_of, least_slot};
 ghost use Rattle.mirror.specs.Table.{is_slot_in};
 
 use crate::line_key::LineKey;
+use crate::place::Place;
 use cell_register::BscId;
 use common::Cell;
+use std::cmp::Ordering;
+use std::marker::Model;
 
-/// The BSC, the cell and the warning of a line, in this order. The BSC's field is wider than its number, so that the
-/// lines of each BSC end before those of a number one greater.
-#[derive(Clone, Copy, Debug, PartialEq, Eq, PartialOrd, Ord)]
+/// The BSC, the cell and the warning of a line, in this order. The lines of each BSC end before those of a number one
+/// greater.
+#[derive(Drop)]
 pub(crate) struct Slot {
-    pub bsc: u32,
-    pub cell: Cell,
-    pub warning: u32,
+    place: Place,
+    warning: u32,
+}
+
+impl Model for Slot {
+    ghost use Rattle.mirror.specs.Order.{Slot, slot_of};
+
+    ghost Value = { Slot };
+
+    ghost view = { λ s. slot_of s.place.bsc s.place.cell s.warning };
 }
 
 impl Slot {
@@ -22,8 +32,7 @@ impl Slot {
         ensures { result ≡ slot_of key.bsc key.cell key.warning }
     {
         Slot {
-            bsc: u32::from(key.bsc.number()),
-            cell: key.cell,
+            place: Place::of(key.bsc, key.cell),
             warning: key.warning.number(),
         }
     }
@@ -33,8 +42,7 @@ impl Slot {
         ensures { result ≡ least_slot bsc }
     {
         Slot {
-            bsc,
-            cell: Cell { lac: 0, ci: 0 },
+            place: Place::least(bsc),
             warning: 0,
         }
     }
@@ -44,16 +52,85 @@ impl Slot {
         ensures { result ≡ slot_of b c 0 }
     {
         Slot {
-            bsc: u32::from(b.number()),
-            cell: c,
+            place: Place::of(b, c),
             warning: 0,
         }
+    }
+
+    pub(crate) fn cell(&self) -> Cell
+        ensures { result ≡ self.now.cell }
+    {
+        self.place.cell()
+    }
+
+    pub(crate) fn warning(&self) -> u32
+        ensures { result ≡ self.now.warning }
+    {
+        self.warning
     }
 
     /// Whether it is one of the BSC and the cell, whatever its warning.
     pub(crate) fn is_in(&self, b: BscId, c: Cell) -> bool
         ensures { result ≡ is_slot_in b c self.now }
     {
-        u32::from(b.number()) == self.bsc && c == self.cell
+        u32::from(b.number()) == self.place.bsc() && c == self.place.cell()
+    }
+}
+
+impl PartialEq for Slot {
+    ghost use Rattle.std.specs.Cmp.{partial_equiv_from_equiv, eq_by_cmp_equiv};
+    ghost use Rattle.std.specs.Ordering.{eq_by_cmp};
+    ghost use Rattle.mirror.specs.Order.{slot_cmp};
+    ghost use Rattle.mirror.specs.OrderLaws.{slot_total};
+
+    ghost eq = { eq_by_cmp slot_cmp };
+
+    ghost laws = { partial_equiv_from_equiv (eq_by_cmp_equiv slot_total) };
+
+    fn eq(&self, other: &Slot) -> bool {
+        self.cmp(other).is_eq()
+    }
+}
+
+impl Eq for Slot {
+    ghost use Rattle.std.specs.Cmp.{eq_by_cmp_equiv};
+    ghost use Rattle.mirror.specs.OrderLaws.{slot_total};
+
+    ghost laws = { eq_by_cmp_equiv slot_total };
+}
+
+impl PartialOrd for Slot {
+    ghost use Rattle.std.specs.Cmp.{partial_order_from_total};
+    ghost use Rattle.std.specs.Ordering.{as_partial_cmp};
+    ghost use Rattle.mirror.specs.Order.{slot_cmp};
+    ghost use Rattle.mirror.specs.OrderLaws.{slot_total};
+
+    ghost partial_cmp = { as_partial_cmp slot_cmp };
+
+    ghost laws = { partial_order_from_total slot_total };
+
+    fn partial_cmp(&self, other: &Slot) -> Option<Ordering> {
+        Some(self.cmp(other))
+    }
+}
+
+impl Ord for Slot {
+    ghost use Rattle.std.proofs.Common.{refl};
+    ghost use Rattle.mirror.specs.Order.{slot_cmp};
+    ghost use Rattle.mirror.specs.OrderLaws.{slot_total};
+
+    ghost cmp = { slot_cmp };
+
+    ghost total = { slot_total };
+
+    ghost matches_partial_cmp = { λ x y. refl };
+
+    ghost matches_eq = { λ x y. refl };
+
+    fn cmp(&self, other: &Slot) -> Ordering {
+        match self.place.cmp(&other.place) {
+            Ordering::Equal => self.warning.cmp(&other.warning),
+            order => order,
+        }
     }
 }

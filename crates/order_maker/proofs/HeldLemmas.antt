@@ -17,9 +17,8 @@ use Rattle.common.specs.Order.{is_ascending}
 use Rattle.common.specs.SortingLaws.{same_ascending, sorted_ascends, any_sorted}
 use Rattle.order_maker.specs.Grouping.{action_lt, in_order}
 use Rattle.order_maker.specs.OrderingLaws.{action_decides, action_order}
-use Rattle.order_maker.specs.Pending.{action_eq, is_listed, slot_of, action_of, least, slot_cmp, is_proper, holds, IsListOf}
+use Rattle.order_maker.specs.Pending.{Slot, action_eq, is_listed, slot_of, action_of, least, slot_cmp, is_proper, holds, IsListOf}
 use Rattle.order_maker.specs.declared.action.Action.{Action}
-use Rattle.order_maker.specs.declared.slot.Slot.{Slot}
 use Rattle.order_maker.proofs.SlotLemmas.{at_slot, at_bsc, at_action, slot_back, slots_before, proper_slot, at_between}
 
 -- One slot more, and one less.

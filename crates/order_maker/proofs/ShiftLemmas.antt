@@ -10,10 +10,9 @@ use Rattle.common.specs.declared.cell.Cell.{Cell}
 use Rattle.order_maker.specs.Actions.{in_cell}
 use Rattle.order_maker.specs.Grouping.{kind_eq}
 use Rattle.order_maker.specs.OrderingLaws.{kind_decides}
-use Rattle.order_maker.specs.Pending.{action_eq, is_listed, holds, Shifts}
+use Rattle.order_maker.specs.Pending.{Slot, action_eq, is_listed, holds, Shifts}
 use Rattle.order_maker.specs.declared.action.Action.{Action}
 use Rattle.order_maker.specs.declared.deed.Deed.{Deed}
-use Rattle.order_maker.specs.declared.slot.Slot.{Slot}
 
 or_none : (a : Bool) → (a || false) ≡ a
 or_none true = refl

@@ -15,11 +15,10 @@ use Rattle.common.specs.Sorting.{comes_before}
 use Rattle.common.specs.declared.cell.Cell.{Cell}
 use Rattle.order_maker.specs.Grouping.{kind_rank, old_rank, action_lt}
 use Rattle.order_maker.specs.OrderingLaws.{action_decides}
-use Rattle.order_maker.specs.Pending.{action_eq, is_kill, old_of, kind_of, slot_of, action_of, least, cell_cmp, slot_cmp, is_proper}
+use Rattle.order_maker.specs.Pending.{Slot, action_eq, is_kill, old_of, kind_of, slot_of, action_of, least, cell_cmp, slot_cmp, is_proper}
 use Rattle.order_maker.specs.declared.action.Action.{Action}
 use Rattle.order_maker.specs.declared.order_kind.OrderKind.{OrderKind}
 use Rattle.order_maker.specs.declared.order_kind.OrderKind.TheVariants.{Write, Replace, Kill}
-use Rattle.order_maker.specs.declared.slot.Slot.{Slot}
 
 -- Which slots are one slot.
 

@@ -5,3 +5,5 @@ pub mod GroupingLaws
 pub mod OrderingLaws
 pub mod OrderMessage
 pub mod Pending
+pub mod SlotNumber
+pub mod SlotLaws

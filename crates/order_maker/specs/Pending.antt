@@ -12,7 +12,15 @@ use Rattle.order_maker.specs.Grouping.{kind_eq}
 use Rattle.order_maker.specs.declared.action.Action.{Action}
 use Rattle.order_maker.specs.declared.order_kind.OrderKind.{OrderKind}
 use Rattle.order_maker.specs.declared.order_kind.OrderKind.TheVariants.{Write, Replace, Kill}
-use Rattle.order_maker.specs.declared.slot.Slot.{Slot}
+
+-- an action held for a BSC
+pub record Slot : Type 0 where
+  pub bsc : ℕ
+  pub is_kill : Bool
+  pub message_id : ℕ
+  pub serial : ℕ
+  pub old : Option ℕ
+  pub cell : Cell
 
 -- the two are one action
 abbrev pub action_eq : Action → Action → Bool

@@ -36,11 +36,9 @@ pub struct Pending {
 impl Model for Pending {
     ghost use Rattle.std.specs.Prelude.{◌≡◌, List, true};
     ghost use Rattle.std.specs.List.{list_all};
-    ghost use Rattle.order_maker.specs.declared.slot.Slot.{Slot};
+    ghost use Rattle.order_maker.specs.Pending.{Slot, is_proper};
 
     ghost Value = { List Slot };
-
-    ghost use Rattle.order_maker.specs.Pending.{is_proper};
 
     ghost view = { λ p. p.slots.keys };
 

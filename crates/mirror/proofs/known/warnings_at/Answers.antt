@@ -1,9 +1,9 @@
 use Rattle.std.proofs.Common.{◌≡◌, ◌++◌, [], ◌∷◌, true, false, map, sym, ◌∙◌, ap, rules}
 use Rattle.std.proofs.lemmas.List.{append-nil, append_assoc}
+use Rattle.mirror.specs.Order.{Slot}
 use Rattle.mirror.proofs.CellLineLemmas.{from_all, from_later, own_lines, own_among, own_end, own_more}
 use Rattle.mirror.specs.Table.{is_slot_in}
 use Rattle.mirror.specs.declared.line.Line.{Line}
-use Rattle.mirror.specs.declared.slot.Slot.{Slot}
 use Rattle.mirror.proofs.known.warnings_at.Goals as goal
 
 pub loop-slot-init : goal.loop-slot-init
@@ -19,7 +19,7 @@ loop-slot-preserved c =
     let own : is_slot_in c.args.b c.args.c entry.0 ≡ true = search rules in
     let front = rw came at c.loop-slot.invariant in (
       from_later c.args.b c.args.c entry c.next.new.self front.0,
-      ap (λ ws. ws ++ map (λ (e : Slot × Line). e.0.warning) (own_lines c.args.b c.args.c c.next.new.self)) (c.in_ok-push.ensures.items ∙ ap (λ n. c.loop-slot.warnings.items ++ n ∷ []) c.new.ensures)
+      ap (λ ws. ws ++ map (λ (e : Slot × Line). e.0.warning) (own_lines c.args.b c.args.c c.next.new.self)) (c.in_ok-push.ensures.items ∙ ap (λ n. c.loop-slot.warnings.items ++ n ∷ []) (c.new.ensures ∙ c.warning.ensures))
           ∙ append_assoc c.loop-slot.warnings.items (entry.0.warning ∷ []) (map (λ (e : Slot × Line). e.0.warning) (own_lines c.args.b c.args.c c.next.new.self))
           ∙ ap (λ ws. c.loop-slot.warnings.items ++ ws) (sym (own_more c.args.b c.args.c entry c.next.new.self own))
           ∙ front.1,

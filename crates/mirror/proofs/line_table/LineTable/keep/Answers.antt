@@ -1,14 +1,14 @@
 use Rattle.std.proofs.Common.{◌≡◌, ◌∙◌, ap, sym, true, false, not, Some, None, rules}
 use Rattle.std.proofs.lemmas.Bool.{not_from_false}
 use Rattle.std.specs.BTreeMap.{is_at}
-use Rattle.std.specs.Map.{lookup}
+use Rattle.std.specs.Map.{lookup, remove_entry}
 use Rattle.std.specs.Option.{is_some, unwrap_or}
 use Rattle.mirror.proofs.KeptLemmas.{found_at, lines_set, all_insert_entry}
 use Rattle.mirror.proofs.TableLemmas.{already, indexed_with, kept_full, nothing, numbered_with, taken_back}
 use Rattle.mirror.specs.Blank.{is_blank}
 use Rattle.mirror.specs.Index.{IsSet}
 use Rattle.mirror.specs.Line.{blank_line}
-use Rattle.mirror.specs.Order.{slot_cmp}
+use Rattle.mirror.specs.Order.{Slot, slot_cmp}
 use Rattle.mirror.specs.Table.{is_slot}
 use Rattle.mirror.specs.declared.line.Line.{Line}
 use Rattle.mirror.proofs.line_table.LineTable.keep.Goals as goal
@@ -50,14 +50,14 @@ pub returns-in-Err-clause-unchanged : goal.returns-in-Err-clause-unchanged
 returns-in-Err-clause-unchanged c =
     let none : is_some c.in_ok-insert.field-0 ≡ false = search rules in
     let gone : lookup (is_at (slot_cmp c.of-slot.result)) c.self.inside.lines.entries ≡ None = sym c.in_ok-insert.ensures.old ∙ nothing c.in_ok-insert.field-0 none in
-    rw (← c.self.view_is) (c.remove.ensures.entries ∙ rw c.in_ok-insert.ensures.entries (taken_back c.of-slot.result c.args.line c.self.inside.lines.entries gone))
+    rw (← c.self.view_is) (c.remove.ensures.entries ∙ ap (λ (s : Slot). remove_entry (is_at (slot_cmp s)) c.insert.new.self.entries) (c.of-same.ensures ∙ sym c.of-slot.ensures) ∙ rw c.in_ok-insert.ensures.entries (taken_back c.of-slot.result c.args.line c.self.inside.lines.entries gone))
 
 pub invariant_of-self-in-Err : goal.invariant_of-self-in-Err
 invariant_of-self-in-Err c =
     let none : is_some c.in_ok-insert.field-0 ≡ false = search rules in
     let es = c.self.inside.lines.entries in
     let gone : lookup (is_at (slot_cmp c.of-slot.result)) es ≡ None = sym c.in_ok-insert.ensures.old ∙ nothing c.in_ok-insert.field-0 none in
-    let same : c.remove.new.self.entries ≡ es = c.remove.ensures.entries ∙ rw c.in_ok-insert.ensures.entries (taken_back c.of-slot.result c.args.line es gone) in
+    let same : c.remove.new.self.entries ≡ es = c.remove.ensures.entries ∙ ap (λ (s : Slot). remove_entry (is_at (slot_cmp s)) c.insert.new.self.entries) (c.of-same.ensures ∙ sym c.of-slot.ensures) ∙ rw c.in_ok-insert.ensures.entries (taken_back c.of-slot.result c.args.line es gone) in
     rw (same, c.in-Err.ensures.unchanged) c.self.invariant
 
 pub returns-in-Err-clause-grows : goal.returns-in-Err-clause-grows
