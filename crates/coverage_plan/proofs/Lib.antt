@@ -1,4 +1,5 @@
 pub mod CheckLemmas
+pub mod RankLemmas
 pub mod PairLemmas
 pub mod ReachLemmas
 pub mod GatherLemmas

@@ -5,3 +5,4 @@ pub mod Edited
 pub mod Changes
 pub mod ChangeLaws
 pub mod Reach
+pub mod CheckLaws

@@ -11,6 +11,7 @@ mod covering;
 mod edit;
 mod edits;
 mod gathering;
+pub mod laws;
 mod pairs;
 mod plan;
 mod plan_item;
