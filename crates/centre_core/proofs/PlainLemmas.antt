@@ -43,16 +43,16 @@ plain_all h r l st t (x ∷ xs) read =
 -- no event but an edit changes the register, the areas or the book
 
 book_before : (desk : ℕ) (e : Event) (a : Answer) (past : Past) → is_edit e ≡ false → book_of (After (record { desk = desk; event = e; answer = a }) past) ≡ book_of past
-book_before desk (event.Edit x) a past no = cc
-book_before desk other a past no = refl
+book_before desk (event.Edit x) a past still = cc
+book_before desk other a past still = refl
 
 register_before : (desk : ℕ) (e : Event) (a : Answer) (past : Past) (r : register.State) → is_edit e ≡ false → IsRegisterOf (After (record { desk = desk; event = e; answer = a }) past) r → IsRegisterOf past r
-register_before desk (event.Edit x) a past r no is = cc
-register_before desk other a past r no is = record { unfolded = is.unfolded; bscs = is.bscs; places = is.places }
+register_before desk (event.Edit x) a past r still is = cc
+register_before desk other a past r still is = record { unfolded = is.unfolded; bscs = is.bscs; places = is.places }
 
 areas_before : (desk : ℕ) (e : Event) (a : Answer) (past : Past) (l : List Area) → is_edit e ≡ false → AreAreasOf (After (record { desk = desk; event = e; answer = a }) past) l → AreAreasOf past l
-areas_before desk (event.Edit x) a past l no are = cc
-areas_before desk other a past l no are = record { unfolded = are.unfolded; names = are.names; selectors = are.selectors }
+areas_before desk (event.Edit x) a past l still are = cc
+areas_before desk other a past l still are = record { unfolded = are.unfolded; names = are.names; selectors = are.selectors }
 
 -- so what the past says of a line was read of them
 
@@ -71,7 +71,7 @@ read_keys past r l registered selected (k ∷ keys) =
 
 -- where what happens bears on the lines that were held
 pub bears_read : {r : register.State} {l : List Area} {st : book.State} {t : Tables} {h : Happens} {spots : List Spot} {held : List Held} (x : Bears r l st t h spots held) → is_edit h.event ≡ false → AreRead r l st held
-bears_read {r = r} {l = l} {st = st} {t = t} {h = h} {spots = spots} {held = held} x no =
+bears_read {r = r} {l = l} {st = st} {t = t} {h = h} {spots = spots} {held = held} x still =
     subst (AreRead r l st) (sym x.lines)
-    (subst (λ b. AreRead r l b (map (held_past x.past) x.keys)) (sym (x.booked ∙ book_before x.desk h.event h.answer x.past no))
-    (read_keys x.past r l (register_before x.desk h.event h.answer x.past r no x.registered) (areas_before x.desk h.event h.answer x.past l no x.selected) x.keys))
+    (subst (λ b. AreRead r l b (map (held_past x.past) x.keys)) (sym (x.booked ∙ book_before x.desk h.event h.answer x.past still))
+    (read_keys x.past r l (register_before x.desk h.event h.answer x.past r still x.registered) (areas_before x.desk h.event h.answer x.past l still x.selected) x.keys))

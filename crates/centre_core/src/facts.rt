@@ -201,7 +201,7 @@ fn facts_of(
     ensures { IfOk result (λ f. f ≡ facts_from register.now areas.now down b c line (Some w.now)) }
 {
     let covering = covering(alloc, areas, w.areas(), places, c, alike.areas)?;
-    covered_facts(
+    let facts = covered_facts(
         alloc,
         register,
         down,
@@ -211,7 +211,8 @@ fn facts_of(
         covering,
         w,
         alike.versions,
-    )
+    )?;
+    Ok(facts)
 }
 
 /// What is read of the line of a warning, if the book has it, in a cell that is down or not. The warning's areas are looked

@@ -1,4 +1,4 @@
-use Rattle.std.proofs.Common.{◌≡◌, sym, arith, rules}
+use Rattle.std.proofs.Common.{◌≡◌, arith, rules}
 use Rattle.areas.specs.Areas.{covers}
 use Rattle.centre_core.proofs.FactsLemmas.{passing_more, passing_same}
 use Rattle.centre_core.proofs.facts.are_covering.Goals as goal

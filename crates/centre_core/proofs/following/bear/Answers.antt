@@ -4,11 +4,11 @@ use Rattle.centre_core.proofs.CoveredLemmas.{bears_covered}
 use Rattle.centre_core.proofs.PlainLemmas.{bears_read}
 use Rattle.centre_core.proofs.following.bear.Goals as goal
 
-pub changes-requires-read : goal.changes-requires-read
-changes-requires-read c = λ no. bears_read c.requires no
+pub changes-requires-clause-read : goal.changes-requires-clause-read
+changes-requires-clause-read c = λ other. bears_read c.requires other
 
-pub changes-requires-covered : goal.changes-requires-covered
-changes-requires-covered c = λ leaves. bears_covered c.requires leaves
+pub changes-requires-clause-covered : goal.changes-requires-clause-covered
+changes-requires-clause-covered c = λ leaves. bears_covered c.requires leaves
 
 pub settle-requires : goal.settle-requires
 settle-requires c = rw (c.as_slice.ensures.value, c.in_ok-changes.ensures) (begins c.requires c.mark_downs.new.tables c.in_ok-mark_downs.ensures.lines c.in_ok-mark_downs.ensures.downs)
