@@ -1,5 +1,5 @@
 use Rattle.std.proofs.Common.{◌≡◌, ◌≤◌, ◌++◌, filter, length, ◌∙◌, ap, arith}
-use Rattle.std.proofs.lemmas.List.{length-filter}
+use Rattle.common.specs.OrderLaws.{length_filter}
 use Rattle.kept_tables.specs.declared.spot.Spot.{Spot}
 use Rattle.centre_core.specs.Following.{held_at, is_near}
 use Rattle.centre_core.proofs.NearLemmas.{near_held}
@@ -16,10 +16,10 @@ returns-clause-held c =
 
 pub returns-clause-meter : goal.returns-clause-meter
 returns-clause-meter c =
-    let few = length-filter (is_near c.args.areas.now c.args.book.now c.lines.result.now c.args.b c.args.c) c.args.warnings.now in
+    let few = length_filter (is_near c.args.areas.now c.args.book.now c.lines.result.now c.args.b c.args.c) c.args.warnings.now in
     grind (arith, few, c.hold_spot.ensures.meter, c.as_slice-near.ensures.value, c.in_ok-near.ensures)
 
 pub returns-in_err-hold_spot-clause-meter : goal.returns-in_err-hold_spot-clause-meter
 returns-in_err-hold_spot-clause-meter c =
-    let few = length-filter (is_near c.args.areas.now c.args.book.now c.lines.result.now c.args.b c.args.c) c.args.warnings.now in
+    let few = length_filter (is_near c.args.areas.now c.args.book.now c.lines.result.now c.args.b c.args.c) c.args.warnings.now in
     grind (arith, few, c.hold_spot.ensures.meter, c.as_slice-near.ensures.value, c.in_ok-near.ensures)
