@@ -1,4 +1,4 @@
--- A verdict is never that the centre is stale, nor that memory is wanting.
+-- A verdict is never that the centre is stale, nor that it is out of memory, nor that a desk isn't the one it was.
 use Rattle.std.proofs.Common.{◌≡◌, ℕ, ◌+◌, Bool, true, false, ◌&&◌, Option, Some, None, Result, Ok, Err, List, [], ◌∷◌, refl, sym, ap, ◌∙◌, nat_le, if◌then◌else◌}
 use Rattle.cbsp_messages.specs.declared.message.Message.{Message}
 use Rattle.cbsp_messages.specs.declared.message.Message.TheVariants as message
@@ -24,10 +24,11 @@ use Rattle.order_maker.specs.declared.order.Order.{Order}
 use Rattle.warning_book.specs.Book.{current_of, new_serial, next_serial, warning_of}
 use Rattle.warning_book.specs.declared.warning.Warning.{Warning}
 
--- the refusal is one of what is asked, and not of the centre's own state
+-- the refusal is one of what is asked, and not of the centre's own state or of a desk's
 abbrev pub is_of_event : Refusal → Bool
 is_of_event refusal.Stale = false
 is_of_event refusal.Memory = false
+is_of_event (refusal.WrongDesk position) = false
 is_of_event other = true
 
 -- an answer, or such a refusal
@@ -120,6 +121,10 @@ verdict_given settings past e =
       | false ↦ event_given settings.network past e
     ]
 
--- so it is no want of memory
+-- so it is never that memory ran out
 pub verdict_is_no_want : (settings : Settings) (past : Past) (e : Event) → verdict settings past e ≡ Err refusal.Memory → ⊥
 verdict_is_no_want settings past e is = cc (sym (verdict_given settings past e) ∙ ap is_given is)
+
+-- nor is it that a desk isn't as it is known
+pub verdict_is_no_wrong_desk : (settings : Settings) (past : Past) (e : Event) (position : ℕ) → verdict settings past e ≡ Err (refusal.WrongDesk position) → ⊥
+verdict_is_no_wrong_desk settings past e position is = cc (sym (verdict_given settings past e) ∙ ap is_given is)

@@ -1,3 +1,4 @@
 pub mod PastLemmas
 pub mod EffectLemmas
 pub mod ReplyLemmas
+pub mod LookupLemmas

@@ -1,10 +1,11 @@
 -- Replies in ascending order of their cells: the one of a cell is the first of it.
-use Rattle.std.proofs.Common.{◌≡◌, ℕ, zero, suc, ◌+◌, ◌<◌, Bool, true, false, ◌&&◌, List, [], ◌∷◌, Some, length, get_or, refl, sym, ap, ◌∙◌, arith}
-use Rattle.std.specs.Prelude.{find, if◌then◌else◌}
+use Rattle.std.proofs.Common.{◌≡◌, ℕ, zero, suc, ◌+◌, ◌<◌, Bool, true, false, ◌&&◌, List, [], ◌∷◌, length, get_or, refl, sym, ap, ◌∙◌, arith}
 use Rattle.std.specs.List.{list_all, IsAllAdjacentAnswer}
-use Rattle.std.proofs.lemmas.Bool.{and_parts}
 use Rattle.std.proofs.lemmas.Bool.Decides.{nat_tests}
-use Rattle.std.proofs.lemmas.List.Folds.{list_all_at}
+use Rattle.std.proofs.lemmas.Grind.{common_steps}
+use Rattle.cbsp_ie.specs.CellId.{names}
+use Rattle.cbsp_ie.specs.declared.cell_id.CellId.{CellId}
+use Rattle.cbsp_ie.specs.declared.cell_id.CellId.TheVariants.{LacCi}
 use Rattle.common.specs.Cell.{cell_eq}
 use Rattle.common.specs.Order.{is_ascending}
 use Rattle.common.specs.declared.cell.Cell.{Cell}
@@ -36,22 +37,10 @@ ascends_at_true xs true h e =
     ascends xs (λ k d g. let one : k + 1 ≡ suc k = omega arith in ap (λ n. reply_lt (get_or xs k d) (get_or xs n d)) (sym one) ∙ sym (e k d (omega arith)))
 ascends_at_true xs false h e = cc
 
--- one that comes before another is of another cell
-other_cell : (c : Cell) (x y : Reply) → reply_lt x y ≡ true → cell_eq c y.cell ≡ true → cell_eq c x.cell ≡ false
-other_cell c x y h e = grind (arith, nat_tests)
+-- a reply's cell by an identification of its own
+abbrev pub own_id : Reply → CellId
+own_id r = LacCi r.cell.lac r.cell.ci
 
--- in ascending order a reply of the cell is the first of it
-pub first_at : (c : Cell) (xs : List Reply) (i : ℕ) (d : Reply) → is_ascending reply_lt xs ≡ true → i < length xs → cell_eq c (get_or xs i d).cell ≡ true → find (λ r. cell_eq c r.cell) xs ≡ Some (get_or xs i d)
-first_at c [] i d o h e = absurd (omega arith)
-first_at c (x ∷ xs) zero d o h e = ap (λ t. if t then Some x else find (λ r. cell_eq c r.cell) xs) e
-first_at c (x ∷ xs) (suc i) d o h e =
-    let parts = and_parts (list_all (reply_lt x) xs) (is_ascending reply_lt xs) o in
-    ap (λ t. if t then Some x else find (λ r. cell_eq c r.cell) xs) (other_cell c x (get_or xs i d) (at_place i xs (omega arith) parts.0) e)
-    ∙ first_at c xs i d parts.1 (omega arith) e
-  where
-    at_place : (j : ℕ) (ys : List Reply) → j < length ys → list_all (reply_lt x) ys ≡ true → reply_lt x (get_or ys j d) ≡ true
-    at_place j ys g all = step (reply_lt x (get_or ys j d)) refl
-      where
-        step : (t : Bool) → reply_lt x (get_or ys j d) ≡ t → t ≡ true
-        step true k = refl
-        step false k = sym (list_all_at (reply_lt x) ys j d g k) ∙ all
+-- one that doesn't name the cell is of another
+pub other_reply : (c : Cell) (r : Reply) → names [] (own_id r) c ≡ false → cell_eq c r.cell ≡ false
+other_reply c r h = grind (arith, nat_tests, common_steps)

@@ -8,6 +8,7 @@ pub mod Places
 pub mod Cover
 pub mod Warnings
 pub mod Links
+pub mod Lookups
 pub mod InFlight
 pub mod Effects
 pub mod Presence

@@ -1,17 +1,20 @@
 //! How often messages were broadcast: what a reply says of it, and what an event makes of what is kept (TS 48.049,
 //! 8.2.10).
 
-ghost use Rattle.std.specs.Prelude.{◌≡◌};
+ghost use Rattle.std.specs.Prelude.{◌≡◌, true};
 ghost use Rattle.std.specs.Option.{option_copied};
-ghost use Rattle.centre_events.specs.Counts.{gives_number, last_number, number_in, numbers_of, number_of, reported_in, is_counted_key, replied_count, edit_count, count_mark};
+ghost use Rattle.centre_events.specs.Counts.{number_in, number_of, reported_in, is_counted_key, replied_count, edit_count, count_mark};
+ghost use Rattle.centre_events.specs.Lookups.{are_counts_ordered, IsOrderOf};
 
 use crate::answer::Answer;
 use crate::effects::{is_among, is_of_warning};
 use crate::event::Event;
 use crate::in_flight::InFlight;
+use crate::in_order::InOrder;
+use crate::lookups::{number_among, numbers_of};
 use crate::replies::Replies;
 use crate::replying::{cells_of, id_of, old_of};
-use cbsp_ie::{CountEntry, Counts};
+use cbsp_ie::Counts;
 use cbsp_messages::Message;
 use cell_register::BscId;
 use common::Cell;
@@ -19,59 +22,31 @@ use coverage_plan::Edit;
 use serials::Serial;
 use warning_book::Warning;
 
-/// Whether the entry gives a valid number of broadcasts of the cell.
-fn gives_number(network: [u8; 3], c: Cell, entry: &CountEntry) -> bool
-    ensures { result ≡ gives_number network c entry.now }
-{
-    entry.info == 0 && entry.id.names(network, c)
-}
-
-/// The last number that the entries give of the cell.
-#[tactic(auto, using(crate::proofs::PastLemmas::past_more))]
-fn last_number(network: [u8; 3], entries: &[CountEntry], c: Cell) -> Option<u16>
-    ensures { result ≡ last_number network entries.now c }
-{
-    let mut number = None;
-    for entry in entries {
-        if gives_number(network, c, entry) {
-            number = Some(entry.number);
-        }
-    }
-    number
-}
-
 /// The last number that the list gives of the cell, where there is such a list.
-fn number_in(network: [u8; 3], list: Option<&Counts>, c: Cell) -> Option<u16>
+fn number_in(network: [u8; 3], list: Option<&Counts>, is_ordered: bool, c: Cell) -> Option<u16>
+    requires { is_ordered ≡ true → are_counts_ordered (option_copied list) ≡ true }
     ensures { result ≡ number_in network (option_copied list.entry) c }
 {
     match list {
-        Some(list) => last_number(network, list.entries(), c),
+        Some(list) => number_among(network, list.entries(), is_ordered, c),
         None => None,
     }
 }
 
-/// The numbers of broadcasts that the reply gives.
-fn numbers_of(message: &Message) -> Option<&Counts>
-    ensures { option_copied result ≡ numbers_of message.now }
-{
-    match message {
-        Message::WriteComplete(said) => said.counts.as_ref(),
-        Message::WriteFailure(said) => said.counts.as_ref(),
-        Message::KillComplete(said) => said.counts.as_ref(),
-        Message::KillFailure(said) => said.counts.as_ref(),
-        Message::StatusComplete(said) => Some(&said.counts),
-        Message::StatusFailure(said) => said.counts.as_ref(),
-        _ => None,
-    }
-}
-
-/// The number that is taken from a reply of the cell, where `old` is the serial number of the version that was on air. The
-/// centre's network is these three octets (TS 24.008, 10.5.1.3).
-pub fn number_of(network: [u8; 3], message: &Message, old: Option<u16>, c: Cell) -> Option<u16>
+/// The number that is taken from a reply of the cell, where `old` is the serial number of the version that was on air, and
+/// these of the reply's lists are in order. The centre's network is these three octets (TS 24.008, 10.5.1.3).
+pub(crate) fn number_of(
+    network: [u8; 3],
+    message: &Message,
+    order: InOrder,
+    old: Option<u16>,
+    c: Cell,
+) -> Option<u16>
+    requires { IsOrderOf message.now order }
     ensures { result ≡ number_of network message.now old c }
 {
     match old {
-        Some(_) => number_in(network, numbers_of(message), c),
+        Some(_) => number_in(network, numbers_of(message), order.counts, c),
         None => None,
     }
 }

@@ -13,6 +13,8 @@ pub mod entry;
 pub mod event;
 pub mod flight;
 pub mod in_flight;
+pub mod in_order;
+mod lookups;
 pub mod naming;
 pub mod outcome;
 pub mod refusal;

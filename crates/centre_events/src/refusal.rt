@@ -32,7 +32,7 @@ pub enum Limit {
 /// alone, which looks at it before all others.
 #[derive(Clone, Copy, Debug, PartialEq, Eq, Error)]
 pub enum Refusal {
-    #[error("the centre is stale: memory was wanting while an event was entered")]
+    #[error("the centre is stale: it ran out of memory while an event was entered")]
     Stale,
     #[error("the journal is full")]
     JournalFull,

@@ -1,10 +1,11 @@
 //! What a reply says, cell by cell.
 
-ghost use Rattle.std.specs.Prelude.{◌≡◌, ◌↔◌, true, find, Some, IsTrue, IfOk, IfSome};
+ghost use Rattle.std.specs.Prelude.{◌≡◌, ◌↔◌, true, false, find, IsTrue, IfOk};
 ghost use Rattle.std.specs.Cmp.{decided, partial_equiv_from_equiv};
 ghost use Rattle.std.specs.Cmp.Lexicographic.{pointwise};
+ghost use Rattle.std.specs.List.Sorted.{IsPartitionPoint};
 ghost use Rattle.std.specs.Option.{option_copied};
-ghost use Rattle.common.specs.Cell.{cell_eq};
+ghost use Rattle.common.specs.Cell.{cell_eq, cell_lt};
 ghost use Rattle.common.specs.Order.{is_ascending};
 ghost use Rattle.centre_events.specs.Equality.{replies_decide};
 ghost use Rattle.centre_events.specs.Replies.{reply_eq, reply_lt};
@@ -49,17 +50,22 @@ fn first_of(replies: &[Reply], c: Cell) -> Option<&Reply>
     replies.iter().find(|reply| c == reply.cell)
 }
 
-/// The reply of the cell, where it is found by halves among replies in ascending order.
-#[tactic(auto, using(crate::proofs::ReplyLemmas::first_at))]
+/// Where the replies begin whose cells don't come before the given one.
+fn start_of(replies: &[Reply], c: Cell) -> usize
+    requires { is_ascending reply_lt replies.now ≡ true }
+    ensures { IsPartitionPoint (λ r. cell_lt r.cell c ≡ true) (λ r. cell_lt r.cell c ≡ false) replies.now result }
+{
+    replies.partition_point(|reply| reply.cell.is_before(&c))
+}
+
+/// The reply of the cell, found by halves among replies in ascending order. Where it isn't there, none is of the cell.
 fn found_by_halves(replies: &[Reply], c: Cell) -> Option<Reply>
     requires { is_ascending reply_lt replies.now ≡ true }
-    ensures { IfSome result (λ r. find (λ x. cell_eq c x.cell) replies.now ≡ Some r) }
+    ensures { result ≡ find (λ r. cell_eq c r.cell) replies.now }
 {
-    let place = replies.partition_point(|reply| reply.cell.is_before(&c));
-    if place < replies.len() && c == replies[place].cell {
-        Some(replies[place])
-    } else {
-        None
+    match replies.get(start_of(replies, c)) {
+        Some(reply) if c == reply.cell => Some(*reply),
+        _ => None,
     }
 }
 
@@ -79,10 +85,8 @@ impl Replies {
     pub fn of_cell(&self, c: Cell) -> Option<Reply>
         ensures { result ≡ find (λ r. cell_eq c r.cell) self.now }
     {
-        if self.is_ordered
-            && let Some(reply) = found_by_halves(&self.replies, c)
-        {
-            return Some(reply);
+        if self.is_ordered {
+            return found_by_halves(&self.replies, c);
         }
         match first_of(&self.replies, c) {
             Some(reply) => Some(*reply),

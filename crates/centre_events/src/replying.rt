@@ -1,20 +1,20 @@
 //! What a reply answers, and what it says of each cell of what was in flight (TS 48.049, 8.1.3).
 
-ghost use Rattle.std.specs.Prelude.{◌≡◌, IfOk};
-ghost use Rattle.std.specs.List.{list_any};
+ghost use Rattle.std.specs.Prelude.{◌≡◌, true, IfOk};
 ghost use Rattle.std.specs.Option.{option_copied};
-ghost use Rattle.cbsp_ie.specs.CellId.{names};
 ghost use Rattle.centre_events.specs.InFlight.{agrees, written_by, cleared_by, new_of, old_of, id_of, cells_of, is_kill, kills, writes, asks, agree, matches, matches_flight};
-ghost use Rattle.centre_events.specs.Known.{is_named};
-ghost use Rattle.centre_events.specs.Outcomes.{is_in_list, is_counted_in, done_or_silent, failure_outcome, failure_in, outcome, replies_to, failed_ids};
+ghost use Rattle.centre_events.specs.Lookups.{are_ids_ordered, are_counts_ordered, IsOrderOf};
+ghost use Rattle.centre_events.specs.Outcomes.{is_in_list, is_counted_in, done_or_silent, failure_outcome, outcome, replies_to, failed_ids};
 ghost use Rattle.centre_events.specs.Verdict.{is_indication, is_out_of_place};
 
 use crate::counts::number_of;
 use crate::in_flight::InFlight;
+use crate::in_order::InOrder;
+use crate::lookups::{failure_in, is_counted, is_named, order_of};
 use crate::outcome::Outcome;
 use crate::replies::Replies;
 use crate::reply::Reply;
-use cbsp_ie::{CellId, CellIds, CountEntry, Counts, FailEntry, Failures};
+use cbsp_ie::{CellId, CellIds, Counts, FailEntry, Failures};
 use cbsp_messages::Message;
 use common::Cell;
 use order_maker::OrderKind;
@@ -177,46 +177,26 @@ pub fn is_out_of_place(message: &Message, flight: Option<&InFlight>) -> bool
     }
 }
 
-/// Whether one of the identifications names the cell. The network of the identifications is its three octets as they are
-/// sent (TS 24.008, 10.5.1.3).
-pub fn is_named(network: [u8; 3], ids: &[CellId], c: Cell) -> bool
-    ensures { result ≡ is_named network ids.now c }
-{
-    ids.iter().any(|id| id.names(network, c))
-}
-
 /// Whether the cell is one of those that a cell list names, where there is one.
-fn is_in_list(network: [u8; 3], list: Option<&CellIds>, c: Cell) -> bool
+fn is_in_list(network: [u8; 3], list: Option<&CellIds>, is_ordered: bool, c: Cell) -> bool
+    requires { is_ordered ≡ true → are_ids_ordered (option_copied list) ≡ true }
     ensures { result ≡ is_in_list network (option_copied list.entry) c }
 {
     match list {
-        Some(list) => is_named(network, list.ids(), c),
+        Some(list) => is_named(network, list.ids(), is_ordered, c),
         None => false,
     }
-}
-
-/// Whether one of the entries gives a number of broadcasts of the cell.
-fn is_counted(network: [u8; 3], entries: &[CountEntry], c: Cell) -> bool
-    ensures { result ≡ list_any (λ e. names network e.id c) entries.now }
-{
-    entries.iter().any(|entry| entry.id.names(network, c))
 }
 
 /// Whether a number of broadcasts is given of the cell, where there is such a list.
-fn is_counted_in(network: [u8; 3], list: Option<&Counts>, c: Cell) -> bool
+fn is_counted_in(network: [u8; 3], list: Option<&Counts>, is_ordered: bool, c: Cell) -> bool
+    requires { is_ordered ≡ true → are_counts_ordered (option_copied list) ≡ true }
     ensures { result ≡ is_counted_in network (option_copied list.entry) c }
 {
     match list {
-        Some(list) => is_counted(network, list.entries(), c),
+        Some(list) => is_counted(network, list.entries(), is_ordered, c),
         None => false,
     }
-}
-
-/// The first of the failures that names the cell.
-fn failure_in(network: [u8; 3], failures: &[FailEntry], c: Cell) -> Option<&FailEntry>
-    ensures { option_copied result ≡ failure_in network failures.now c }
-{
-    failures.iter().find(|failure| failure.id.names(network, c))
 }
 
 /// What a FAILURE says of a cell, by the first failure that names it, and else by whether a list names it.
@@ -230,24 +210,26 @@ fn failure_outcome(failure: Option<&FailEntry>, is_done: bool) -> Outcome
     }
 }
 
-/// What the reply says of the cell, where the centre's network is these three octets (TS 24.008, 10.5.1.3).
-pub fn outcome(network: [u8; 3], message: &Message, c: Cell) -> Outcome
+/// What the reply says of the cell, where these of its lists are in order. The centre's network is these three octets
+/// (TS 24.008, 10.5.1.3).
+fn outcome(network: [u8; 3], message: &Message, order: InOrder, c: Cell) -> Outcome
+    requires { IsOrderOf message.now order }
     ensures { result ≡ outcome network message.now c }
 {
     match message {
         Message::WriteFailure(said) => failure_outcome(
-            failure_in(network, said.failures.as_slice(), c),
-            is_in_list(network, said.cells.as_ref(), c)
-                || is_counted_in(network, said.counts.as_ref(), c),
+            failure_in(network, said.failures.as_slice(), order.failures, c),
+            is_in_list(network, said.cells.as_ref(), order.cells, c)
+                || is_counted_in(network, said.counts.as_ref(), order.counts, c),
         ),
         Message::KillFailure(said) => failure_outcome(
-            failure_in(network, said.failures.as_slice(), c),
-            is_in_list(network, said.cells.as_ref(), c)
-                || is_counted_in(network, said.counts.as_ref(), c),
+            failure_in(network, said.failures.as_slice(), order.failures, c),
+            is_in_list(network, said.cells.as_ref(), order.cells, c)
+                || is_counted_in(network, said.counts.as_ref(), order.counts, c),
         ),
         Message::StatusFailure(said) => failure_outcome(
-            failure_in(network, said.failures.as_slice(), c),
-            is_counted_in(network, said.counts.as_ref(), c),
+            failure_in(network, said.failures.as_slice(), order.failures, c),
+            is_counted_in(network, said.counts.as_ref(), order.counts, c),
         ),
         Message::ErrorIndication(said) => Outcome::Refused(said.cause),
         _ => Outcome::Done,
@@ -264,12 +246,13 @@ pub fn replies_to(
     ensures { IfOk result (λ r. r ≡ replies_to network message.now flight.now) }
 {
     let old = old_of(flight);
+    let order = order_of(message);
     let mut said = Vec::new(alloc);
     for cell in cells_of(flight) {
         said.push(Reply {
             cell: *cell,
-            outcome: outcome(network, message, *cell),
-            count: number_of(network, message, old, *cell),
+            outcome: outcome(network, message, order, *cell),
+            count: number_of(network, message, order, old, *cell),
         })?;
     }
     Ok(Replies::from_vec(said))

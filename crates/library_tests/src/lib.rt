@@ -48,6 +48,8 @@ mod register_tests;
 #[cfg(test)]
 mod replay_tests;
 #[cfg(test)]
+mod reply_list_tests;
+#[cfg(test)]
 mod report_tests;
 #[cfg(test)]
 mod serial_tests;

@@ -1,0 +1,9 @@
+use Rattle.std.proofs.Common.{rules}
+use Rattle.std.proofs.lemmas.List.Sorted.{answers_always}
+use Rattle.cbsp_ie.specs.declared.fail_entry.FailEntry.{FailEntry}
+use Rattle.centre_events.specs.Lookups.{id_lt}
+use Rattle.centre_events.proofs.LookupLemmas.{ordered_at_true}
+use Rattle.centre_events.proofs.lookups.failures_rise.Goals as goal
+
+pub returns : goal.returns
+returns c h = ordered_at_true (λ (e : FailEntry). e.id) c.args.failures.now c.is_sorted_by.result h (c.is_sorted_by.ensures.cases (λ (x y : FailEntry). id_lt x.id y.id) (answers_always _ _ _ (λ f a r q k. search rules)))
