@@ -73,7 +73,10 @@ fn is_answered(
     drop(query);
     drop(message);
     for place in 0..3_usize {
-        let reply = replies.as_slice().get(place).expect(rt, "a reply of each cell");
+        let reply = replies
+            .as_slice()
+            .get(place)
+            .expect(rt, "a reply of each cell");
         assert_eq!(rt; reply.cell, CELLS[place]);
         assert_eq!(rt; reply.outcome, outcomes[place]);
         assert_eq!(rt; reply.count, numbers[place]);
@@ -124,7 +127,11 @@ fn cells_out_of_order_are_found(rt: HostRuntime) {
         &[failed(own(200, 1), UNKNOWN), failed(own(100, 7), FULL)],
     );
     let counts = numbers(&rt, alloc, (200, 1, 6), (100, 9, 5));
-    let outcomes = [Outcome::Refused(FULL), Outcome::Done, Outcome::Refused(UNKNOWN)];
+    let outcomes = [
+        Outcome::Refused(FULL),
+        Outcome::Done,
+        Outcome::Refused(UNKNOWN),
+    ];
     is_answered(&rt, alloc, list, counts, outcomes, [None, Some(5), Some(6)]);
 }
 
@@ -143,7 +150,11 @@ fn a_cell_that_is_named_twice_is_read_once(rt: HostRuntime) {
 #[test]
 fn an_area_names_its_cells(rt: HostRuntime) {
     let area = CellId::Lac { lac: 100 };
-    let outcomes = [Outcome::Refused(UNKNOWN), Outcome::Refused(FULL), Outcome::Silent];
+    let outcomes = [
+        Outcome::Refused(UNKNOWN),
+        Outcome::Refused(FULL),
+        Outcome::Silent,
+    ];
     fails(
         &rt,
         rt.alloc(),
