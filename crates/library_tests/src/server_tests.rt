@@ -343,7 +343,10 @@ fn a_desk_that_is_missing_is_a_settle_fault(rt: HostRuntime) {
     let (settled, written) = run_settles(&rt, rt.alloc(), false);
     assert_eq!(rt; settled, Err(ServeFault::Settle));
     assert!(rt; written.is_empty());
-    assert_eq!(rt; ServeFault::Settle.words(), b"cbc: settle fault\n".as_slice());
+    assert_eq!(rt;
+        ServeFault::Settle.words(),
+        b"cbc: settle fault\n".as_slice()
+    );
 }
 
 /// A run of the server with the words of a command line, whose input is the lines.
@@ -387,7 +390,9 @@ fn a_bad_network_or_port_ends_a_server(rt: HostRuntime) {
             b"cbc: bad ports\n",
         ),
         (
-            &["cbc", "serve", "--plmn", "", "--base", "65535", "--links", "2"],
+            &[
+                "cbc", "serve", "--plmn", "", "--base", "65535", "--links", "2",
+            ],
             b"cbc: bad plmn\n",
         ),
     ];
