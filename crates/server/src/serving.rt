@@ -1,7 +1,6 @@
 //! A run of the server.
 
-ghost use Rattle.std.specs.Prelude.{◌≡◌, IfErr, OnOk};
-ghost use Rattle.server.specs.Faults.{IsSettleFault, Settles};
+ghost use Rattle.std.specs.Prelude.{◌≡◌};
 
 use crate::bucket::Bucket;
 use crate::errors::Errors;
@@ -143,10 +142,7 @@ pub fn settle<L: Ledger, W: Write>(
     office: Office<L>,
     desks: Vec<Desk<L>>,
     writer: &mut W,
-) -> Result<(), ServeFault>
-    ensures settled { OnOk result (Settles desks.items) }
-    ensures fault { IfErr result (IsSettleFault desks.items) }
-{
+) -> Result<(), ServeFault> {
     match office.settle(desks) {
         Ok(centre) => write_settled(alloc, writer, centre.position()),
         Err(unsettled) => {
