@@ -12,11 +12,8 @@ use crate::choices::Choices;
 use crate::end::SimEnd;
 use crate::indications::restart_message;
 use cbsp_messages::{Message, read, write};
-use framing::{Frame, FrameFault, Framer, Sink, Source, write_all};
+use framing::{Frame, FrameFault, Framer, MOST_READS, Sink, Source, write_all};
 use std::alloc::Global;
-
-/// The most reads of a conversation.
-const MOST_READS: u64 = 1_000_000_000_000;
 
 /// Writes the message.
 fn send<W: Sink>(alloc: Global, message: Message, writer: &mut W) -> Result<(), SimEnd>

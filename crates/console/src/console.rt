@@ -11,7 +11,7 @@ use std::alloc::Global;
 use std::marker::Model;
 
 /// The most octets that a line may have, without its end.
-const LONGEST_LINE: usize = 600_000;
+pub const LONGEST_LINE: usize = 600_000;
 
 /// A session, and the octets of the line that has begun.
 #[derive(Drop)]

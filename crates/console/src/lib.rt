@@ -29,6 +29,7 @@ pub mod running;
 mod session;
 pub mod words;
 
+pub use console::LONGEST_LINE;
 pub use fault::ReplayFault;
 pub use laws::{one_text, stays_whole};
 pub use replaying::replay;

@@ -8,11 +8,8 @@ ghost use Rattle.console.specs.Replays.{new_session, Replays, BreaksOff};
 
 use crate::console::Console;
 use crate::fault::ReplayFault;
-use framing::{Sink, Source};
+use framing::{MOST_READS, Sink, Source};
 use std::alloc::Global;
-
-/// The most reads of a run.
-const MOST_READS: u64 = 1_000_000_000_000;
 
 /// Reads once, and answers the lines that end. The answer is whether more may come.
 fn turn<R: Source, W: Sink>(

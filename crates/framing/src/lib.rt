@@ -19,4 +19,4 @@ pub use fault::FrameFault;
 pub use frame::Frame;
 pub use framer::Framer;
 pub use sink::{FromWrite, Sink, write_all};
-pub use source::{FromRead, Source};
+pub use source::{FromRead, MOST_READS, Source};

@@ -8,6 +8,9 @@ use crate::Failed;
 use crate::interrupted::read_again;
 use std::io::Read;
 
+/// The most reads of a loop that reads a stream to its end. So each such loop ends.
+pub const MOST_READS: u64 = 1_000_000_000_000;
+
 /// What octets are read from: a connection, standard input, or octets in memory.
 ///
 /// It tells the octets that it has yet to give where they are known, the number of its reads, and

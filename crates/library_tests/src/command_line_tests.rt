@@ -47,7 +47,7 @@ static ROWS: [Row; 6] = [
 ];
 
 /// The words of a command line.
-fn owned(rt: &impl Abort, alloc: Global, words: &[&str]) -> Vec<String> {
+pub(crate) fn owned(rt: &impl Abort, alloc: Global, words: &[&str]) -> Vec<String> {
     let mut owned = Vec::new(alloc);
     for word in words {
         let word = String::from_str(alloc, word).expect(rt, "memory");
@@ -106,9 +106,12 @@ fn are_refused(rt: &impl Abort, alloc: Global, words: &[&str]) {
 /// What the parser of command lines refuses is said in its own words.
 #[test]
 fn other_command_lines_are_refused(rt: HostRuntime) {
-    let refused: [&[&str]; 7] = [
+    let refused: [&[&str]; 10] = [
         &["cbc"],
         &["cbc", "serve", "script"],
+        &["cbc", "serve", "--base", "0"],
+        &["cbc", "serve", "--links", "0"],
+        &["cbc", "serve", "--links", "257"],
         &["cbc", "replay", "script"],
         &["cbc", "replay", "--journal", "0"],
         &["cbc", "replay", "--journal", "4000001"],

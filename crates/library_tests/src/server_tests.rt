@@ -1,16 +1,23 @@
 //! What no clause says of the server: that warnings go on air over TCP while an operator types, what its lines are answered, and
 //! that a bad peer ends its own link alone.
 
+ghost use Rattle.std.specs.Prelude.{◌≡◌};
+
+use crate::command_line_tests::owned;
 use crate::given_server::{
     MOST_LOOKS, Operator, Served, answer_to, comes_to, free_port, next_answer, options, rest_of,
     run_server, type_lines,
 };
+use office::office::Office;
+use server::{ServeFault, serve_words, settle};
 use std::alloc::Global;
 use std::fs::Files;
-use std::io::{Read, Write};
+use std::io::{BufReader, Read, Write, pipe};
+use std::marker::Brand;
 use std::net::{Net, Shutdown, TcpListener, TcpStream};
 use std::process::Abort;
 use std::sync::Wait;
+use std::sync::ledger::{Blank, Ledger};
 use std::thread::Threads;
 use std::time::Clock;
 
@@ -293,5 +300,121 @@ fn bad_peers_end_their_links(rt: HostRuntime) {
     assert!(rt;
         served.errors.as_slice().starts_with(LINKS),
         "another link was told of"
+    );
+}
+
+/// What becomes of an office of two desks, both of which are handed in, or the first alone; and what is written.
+fn settles<L: Ledger, R: Wait + Abort>(
+    rt: &R,
+    alloc: Global,
+    blank: Blank,
+    both: bool,
+) -> (Result<(), ServeFault>, Vec<u8>)
+    requires name { blank.name ≡ L.name }
+    requires parts { blank.parts ≡ L.parts }
+    requires desks { blank.parts ≡ 1025 }
+{
+    let office = Office::<L>::new(alloc, blank, [0x00, 0xf1, 0x10], 10);
+    let first = office.open_desk(rt).expect(rt, "a desk is opened");
+    let second = office.open_desk(rt).expect(rt, "a desk is opened");
+    let mut desks = vec![in alloc; first].expect(rt, "memory");
+    if both {
+        desks.push(second).expect(rt, "memory");
+    }
+    let mut written = Vec::new(alloc);
+    let settled = settle(alloc, office, desks, &mut written);
+    (settled, written)
+}
+
+fn run_settles<R: Wait + Abort>(
+    rt: &R,
+    alloc: Global,
+    both: bool,
+) -> (Result<(), ServeFault>, Vec<u8>) {
+    settles::<Brand, R>(rt, alloc, Blank::new(1025), both)
+}
+
+/// The fault of a server of whose desks one is not handed in. No run of a server comes to it.
+#[test]
+fn a_desk_that_is_missing_is_a_settle_fault(rt: HostRuntime) {
+    let (settled, written) = run_settles(&rt, rt.alloc(), true);
+    assert_eq!(rt; settled, Ok(()));
+    assert!(rt; written.as_slice() == b"settled 0\n".as_slice());
+    let (settled, written) = run_settles(&rt, rt.alloc(), false);
+    assert_eq!(rt; settled, Err(ServeFault::Settle));
+    assert!(rt; written.is_empty());
+    assert_eq!(rt;
+        ServeFault::Settle.words(),
+        b"cbc: settle fault\n".as_slice()
+    );
+}
+
+/// A run of the server with the words of a command line, whose input is the lines.
+fn run_words<
+    R: Abort
+        + Clock
+        + Files
+        + Net<Stream = TcpStream, Listener = TcpListener>
+        + Sync
+        + Threads
+        + Wait,
+>(rt: &R, alloc: Global, words: &[&str], input: &[u8]) -> Served {
+    let words = owned(rt, alloc, words);
+    let (typed, mut lines) = pipe(rt).expect(rt, "a pipe");
+    let (mut answers, written) = pipe(rt).expect(rt, "a pipe");
+    let (mut said, errors) = pipe(rt).expect(rt, "a pipe");
+    lines.write_all(input).expect(rt, "lines are typed");
+    drop(lines);
+    let reader = BufReader::new(alloc, typed).expect(rt, "memory");
+    let mut served = Served {
+        status: serve_words(rt, alloc, words.as_slice(), reader, written, errors),
+        answers: Vec::new(alloc),
+        errors: Vec::new(alloc),
+    };
+    answers
+        .read_to_end(&mut served.answers)
+        .expect(rt, "answers are read");
+    said.read_to_end(&mut served.errors)
+        .expect(rt, "errors are read");
+    served
+}
+
+/// Words whose network or ports are bad, and what is said of them.
+#[test]
+fn a_bad_network_or_port_ends_a_server(rt: HostRuntime) {
+    let alloc = rt.alloc();
+    let rows: [(&[&str], &[u8]); 3] = [
+        (&["cbc", "serve", "--plmn", "00f1"], b"cbc: bad plmn\n"),
+        (
+            &["cbc", "serve", "--base", "65535", "--links", "2"],
+            b"cbc: bad ports\n",
+        ),
+        (
+            &[
+                "cbc", "serve", "--plmn", "", "--base", "65535", "--links", "2",
+            ],
+            b"cbc: bad plmn\n",
+        ),
+    ];
+    for (words, said) in &rows {
+        let served = run_words(&rt, alloc, words, b"bsc add 1\n");
+        assert_eq!(rt; served.status, 2);
+        assert!(rt; served.answers.is_empty(), "something was answered");
+        assert!(rt; served.errors.as_slice() == *said, "another fault");
+    }
+}
+
+/// The port and the greatest number of entries are those of the words.
+#[test]
+fn options_reach_a_server(rt: HostRuntime) {
+    let alloc = rt.alloc();
+    let port = free_port(&rt);
+    let base = format!(in alloc; "{port}").expect(&rt, "memory");
+    let words = ["cbc", "serve", "--journal", "1", "--base", base.as_str()];
+    let served = run_words(&rt, alloc, &words, b"bsc add 1\nbsc add 2\n");
+    assert_eq!(rt; served.status, 0);
+    assert!(rt;
+        served.answers.as_slice() == b"ok 1\nno 2 JournalFull\nsettled 1\n".as_slice(),
+        "another answer"
     );
 }

@@ -2,13 +2,14 @@
 
 ghost use Rattle.std.specs.Prelude.{◌≡◌};
 
-use crate::given_events::SEVEN;
+use crate::given_events::{SEVEN, issue};
 use crate::given_link::{LINK, STREAM, enters, first_bsc, linked};
 use cbsp_messages::read;
 use centre_events::event::Event;
 use centre_events::refusal::Refusal;
 use common::Cell;
 use office::office::Office;
+use office::question::Question;
 use office::wake::Wake;
 use std::alloc::Global;
 use std::marker::Brand;
@@ -64,4 +65,58 @@ fn a_side_goes_on_for_what_is_to_be_done(rt: HostRuntime) {
     assert_eq!(rt; wished, Wake::Query(WarningId::new(1), Some(SEVEN)));
     assert_eq!(rt; older, Wake::Ended);
     assert_eq!(rt; lost, Wake::Ended);
+}
+
+/// What a side is told after an event for which memory may be wanting.
+#[derive(Drop)]
+struct AfterIssue {
+    is_stale: bool,
+    refused: Option<Refusal>,
+    wake: Wake,
+    wish: Result<(), Refusal>,
+    rebuilt: Wake,
+}
+
+/// Another warning is issued while an order is pending. Then the centre is made whole again.
+fn wakes_after_issue<L: Ledger, R: Wait + Abort>(rt: &R, alloc: Global, blank: Blank) -> AfterIssue
+    requires name { blank.name ≡ L.name }
+    requires parts { blank.parts ≡ L.parts }
+    requires desks { blank.parts ≡ 1025 }
+{
+    let b = first_bsc(rt);
+    let (office, mut desk) = linked::<L, R>(rt, alloc, blank, 1000, b);
+    let event = issue(alloc).expect(rt, "memory");
+    let refused = office.submit(rt, &mut desk, event).err();
+    let question = office.look(rt, &desk, Question::InFlight(b)).err();
+    let wake = office.wait_pending(rt, b, LINK);
+    let wish = office.wish(rt, b, WarningId::new(1), None);
+    if office.rebuild(rt).is_err() {
+        office.rebuild(rt).expect(rt, "the centre is rebuilt");
+    }
+    AfterIssue {
+        is_stale: question == Some(Refusal::Stale),
+        refused,
+        wake,
+        wish,
+        rebuilt: office.wait_pending(rt, b, LINK),
+    }
+}
+
+fn run_after_issue<R: Wait + Abort>(rt: &R, alloc: Global) -> AfterIssue {
+    wakes_after_issue::<Brand, R>(rt, alloc, Blank::new(1025))
+}
+
+/// Where memory was wanting in the middle of an event, a side is told that the centre is stale, and a wish is refused, until it is
+/// whole again. With ample memory it is whole all the time.
+#[test]
+fn a_side_is_told_that_the_centre_is_stale(rt: HostRuntime) {
+    let told = run_after_issue(&rt, rt.alloc());
+    assert_eq!(rt; told.rebuilt, Wake::Order);
+    if told.is_stale {
+        assert_eq!(rt; told.refused, Some(Refusal::Memory));
+        assert_eq!(rt; told.wake, Wake::StaleCentre);
+        assert_eq!(rt; told.wish, Err(Refusal::Stale));
+    } else {
+        assert_eq!(rt; told.wake, Wake::Order);
+    }
 }

@@ -12,15 +12,12 @@ use cbsp_messages::{Message, MessageType, read_as};
 use cell_register::BscId;
 use centre_events::event::Event;
 use centre_events::refusal::Refusal;
-use framing::{Frame, FrameFault, Framer, Source};
+use framing::{Frame, FrameFault, Framer, MOST_READS, Source};
 use office::desk::Desk;
 use office::office::Office;
 use std::alloc::Global;
 use std::sync::Wait;
 use std::sync::ledger::Ledger;
-
-/// The most reads of a link.
-const MOST_READS: u64 = 1_000_000_000_000;
 
 /// The most octets of a read.
 const PIECE: usize = 4096;

@@ -38,14 +38,15 @@ pub struct Held<L: Ledger> {
 }
 
 impl<L: Ledger> Model for Held<L> {
-    ghost use Rattle.std.specs.Prelude.{length};
+    ghost use Rattle.std.specs.Prelude.{◌≡◌, length};
     ghost use Rattle.office.specs.Helds.{HeldState, IsHeld};
 
     ghost Value = { HeldState };
 
     ghost view = { λ s. record { centre = s.centre.known; opened = length s.rows.items; total = s.book.total } };
 
-    ghost invariant = { λ s. IsHeld s.rows.items s.centre.known.journal s.book.total s.rest.parts s.rest.amount };
+    ghost invariant = { λ s. IsHeld s.rows.items s.centre.known.journal s.book.total s.rest.parts s.rest.amount
+        × (s.journal_limit ≡ s.centre.known.settings.limit) };
 }
 
 impl<L: Ledger> Held<L> {
@@ -197,17 +198,19 @@ impl<L: Ledger> Held<L> {
     }
 
     /// Whether the journal takes no more entries, so that nobody has anything to wait for.
-    fn is_full(&self) -> bool {
+    fn is_full(&self) -> bool
+        ensures { result ≡ true → self.now.centre.settings.limit ≤ length self.now.centre.journal }
+    {
         self.centre.position() >= u64::from(self.journal_limit)
     }
 
-    /// What there is to do for the link of that generation. A wish is taken out.
-    pub(crate) fn take_wake(&mut self, b: BscId, generation: u64) -> Wake
-        ensures due { IsDue self.old.centre b generation result }
+    /// What there is to do for the link of that generation, if there is something. A wish is taken out.
+    pub(crate) fn take_wake(&mut self, b: BscId, generation: u64) -> Option<Wake>
+        ensures due { IfSome result (IsDue self.old.centre b generation) }
         ensures unchanged { self.new ≡ self.old }
     {
-        let wake = self.wake_of(b, generation).unwrap_or(Wake::Order);
-        if let Wake::Query(_, _) = wake {
+        let wake = self.wake_of(b, generation);
+        if let Some(Wake::Query(_, _)) = wake {
             take_out(&mut self.wishes, b);
         }
         wake

@@ -135,11 +135,16 @@ impl<L: Ledger> Office<L> {
     pub fn wait_pending<R: Wait>(&self, rt: &R, b: BscId, generation: u64) -> Wake
         ensures { IsDueSomewhere b generation result }
     {
-        let mut guard = self.moved.wait_while(rt, self.held.lock(rt), |held| {
-            held.wake_of(b, generation).is_none()
-        });
-        guard.tell_soundness();
-        guard.take_wake(b, generation)
+        for _ in rt.forever() {
+            let mut guard = self.moved.wait_while(rt, self.held.lock(rt), |held| {
+                held.wake_of(b, generation).is_none()
+            });
+            guard.tell_soundness();
+            if let Some(wake) = guard.take_wake(b, generation) {
+                return wake;
+            }
+        }
+        unreachable!()
     }
 
     /// Makes a stale centre whole.

@@ -1,3 +1,4 @@
 pub mod Allowances
+pub mod Faults
 pub mod Paces
 pub mod Rate

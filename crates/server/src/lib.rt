@@ -26,5 +26,6 @@ mod writing;
 
 pub use allowance::Allowance;
 pub use bucket::Bucket;
+pub use fault::ServeFault;
 pub use options::ServeOptions;
-pub use serving::{serve, serve_words};
+pub use serving::{serve, serve_words, settle};

@@ -125,10 +125,26 @@ fn run_threads<
     })
 }
 
-/// The number of entries, once all desks are handed in.
-fn settle<L: Ledger>(office: Office<L>, desks: Vec<Desk<L>>) -> Result<u64, ServeFault> {
+/// Writes how many entries there are.
+fn write_settled<W: Write>(alloc: Global, writer: &mut W, entries: u64) -> Result<(), ServeFault> {
+    let Ok(text) = format!(in alloc; "settled {entries}\n") else {
+        return Err(ServeFault::Lines(ReplayFault::Memory));
+    };
+    match writer.write_all(text.as_bytes()) {
+        Ok(()) => Ok(()),
+        Err(_) => Err(ServeFault::Lines(ReplayFault::WriteFault)),
+    }
+}
+
+/// Ends an office once its desks are handed in, and writes how many entries there are, as `settled N`.
+pub fn settle<L: Ledger, W: Write>(
+    alloc: Global,
+    office: Office<L>,
+    desks: Vec<Desk<L>>,
+    writer: &mut W,
+) -> Result<(), ServeFault> {
     match office.settle(desks) {
-        Ok(centre) => Ok(centre.position()),
+        Ok(centre) => write_settled(alloc, writer, centre.position()),
         Err(unsettled) => {
             drop(unsettled);
             Err(ServeFault::Settle)
@@ -161,26 +177,6 @@ fn run_desks<
     }
     hand_in(rt, ports, &mut desks)?;
     Ok(desks)
-}
-
-/// What is said of a fault.
-fn words_of(fault: ServeFault) -> &'static [u8] {
-    match fault {
-        ServeFault::Listen => b"cbc: listen fault\n",
-        ServeFault::Settle => b"cbc: settle fault\n",
-        ServeFault::Lines(fault) => fault_words(fault),
-    }
-}
-
-/// Writes how many entries there are.
-fn write_settled<W: Write>(alloc: Global, writer: &mut W, entries: u64) -> Result<(), ServeFault> {
-    let Ok(text) = format!(in alloc; "settled {entries}\n") else {
-        return Err(ServeFault::Lines(ReplayFault::Memory));
-    };
-    match writer.write_all(text.as_bytes()) {
-        Ok(()) => Ok(()),
-        Err(_) => Err(ServeFault::Lines(ReplayFault::WriteFault)),
-    }
 }
 
 /// Serves over an office, settles it, and writes how many entries there are. At a fault it hands back where to say it.
@@ -231,14 +227,10 @@ fn run<
     } = shared;
     drop(ports);
     let settled = match ended {
-        Ok(desks) => settle(office, desks),
+        Ok(desks) => settle(alloc, office, desks, &mut terminal.lock(rt).writer),
         Err(fault) => Err(fault),
     };
-    let written = match settled {
-        Ok(entries) => write_settled(alloc, &mut terminal.lock(rt).writer, entries),
-        Err(fault) => Err(fault),
-    };
-    match written {
+    match settled {
         Ok(()) => Ok(()),
         Err(fault) => Err((errors, fault)),
     }
@@ -286,7 +278,7 @@ pub fn serve<
         Err((errors, fault)) => {
             errors.close(rt);
             errors.say_lines(rt, alloc);
-            errors.say(rt, words_of(fault));
+            errors.say(rt, fault.words());
             1
         }
     }

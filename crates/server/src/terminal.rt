@@ -1,19 +1,14 @@
 //! The lines that come in, and where their answers go.
 
-use console::ReplayFault;
+use console::{LONGEST_LINE, ReplayFault};
+use framing::MOST_READS;
 use office::desk::Desk;
 use std::alloc::Global;
 use std::io::{BufRead, Error, ErrorKind, Write};
 use std::sync::ledger::Ledger;
 
-/// The most octets that a line may have, without its end.
-const LONGEST_LINE: usize = 600_000;
-
 /// The most octets that are kept of a line: those that it may have, and its end.
-const MOST_KEPT: usize = 600_002;
-
-/// The most reads for a line.
-const MOST_READS: u64 = 1_000_000_000_000;
+const MOST_KEPT: usize = LONGEST_LINE + 2;
 
 /// Where lines are read and answered, and the desk of the operator.
 #[derive(Drop)]

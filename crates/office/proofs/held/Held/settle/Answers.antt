@@ -12,7 +12,7 @@ returns-clause-settled g c =
     let long : c.len-opened.result ≡ length c.self.inside.rows.items = search rules in
     let every : (n : ℕ) → 0 < n → n ≤ length c.self.inside.rows.items → Any (λ (d : DeskState). d.number ≡ n) c.args.desks.items = λ n first last.
     subst (λ (xs : List DeskState). Any (λ (d : DeskState). d.number ≡ n) xs) there (c.in-None.ensures.none refl n first (omega (arith, last, long))) in
-    let shuffle : IsShuffle (length c.self.inside.rows.items) c.self.inside.centre.known.journal c.args.desks.items = record { entries = c.self.invariant.opened; lists = lists; every = every } in
+    let shuffle : IsShuffle (length c.self.inside.rows.items) c.self.inside.centre.known.journal c.args.desks.items = record { entries = c.self.invariant.0.opened; lists = lists; every = every } in
     subst (λ (v : HeldState). IsShuffle v.opened v.centre.journal c.args.desks.items) c.self.view_is shuffle
 
 pub returns-in-Some-clause-fault : goal.returns-in-Some-clause-fault

@@ -1,0 +1,8 @@
+use Rattle.office.proofs.office.Office.wait_pending.Given as goal
+
+-- the loop goes on
+abbrev pub invariant-loop : goal.invariant-loop
+invariant-loop g l = record {
+  can : (goal.iterator-loop g).can_next l.iterator';
+  finite : (goal.iterator-loop g).is_finite l.iterator';
+}

@@ -1,0 +1,12 @@
+-- What is said of a fault that ends a run of the server.
+use Rattle.std.specs.Prelude.{ℕ, List, ◌++◌, codes}
+use Rattle.console.specs.Running.{fault_words}
+use Rattle.console.specs.Texts.{newline}
+use Rattle.server.specs.declared.fault.ServeFault.{ServeFault}
+use Rattle.server.specs.declared.fault.ServeFault.TheVariants as serve_fault
+
+-- the words, and the end of the line
+abbrev pub words_of : ServeFault → List ℕ
+words_of serve_fault.Listen = codes "cbc: listen fault" ++ newline
+words_of serve_fault.Settle = codes "cbc: settle fault" ++ newline
+words_of (serve_fault.Lines fault) = fault_words fault
