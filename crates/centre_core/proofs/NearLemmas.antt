@@ -59,11 +59,11 @@ covers_none l c (y ∷ ys) h =
 
 found_so : (n : ℕ) (f : Warning → Bool) (ws : List Warning) (w : Warning) → find (has_number n) ws ≡ Some w → is_so n f ws ≡ false → f w ≡ false
 found_so n f [] w found so = cc
-found_so n f (v ∷ ws) w found so = step (has_number n v) refl found (neither (has_number n v && f v) (is_so n f ws) so)
+found_so n f (v ∷ ws) w found so = step (has_number n v) (λ g later. found_so n f ws w g later) found (neither (has_number n v && f v) (is_so n f ws) so)
   where
-    step : (t : Bool) → has_number n v ≡ t → cond t (Some v) (find (has_number n) ws) ≡ Some w → ((t && f v) ≡ false) × (is_so n f ws ≡ false) → f w ≡ false
-    step true e g parts = let same : v ≡ w = cc in ap f (sym same) ∙ parts.0
-    step false e g parts = found_so n f ws w g parts.1
+    step : (t : Bool) → (find (has_number n) ws ≡ Some w → is_so n f ws ≡ false → f w ≡ false) → cond t (Some v) (find (has_number n) ws) ≡ Some w → ((t && f v) ≡ false) × (is_so n f ws ≡ false) → f w ≡ false
+    step true rest g parts = let same : v ≡ w = cc in ap f (sym same) ∙ parts.0
+    step false rest g parts = rest g parts.1
 
 -- the line is idle
 
@@ -96,11 +96,8 @@ far_passed e r l st t u p n same leaves far =
 -- and the lines that are held are those of the warnings that are near
 pub near_held : (e : Edit) (r : register.State) (l : List Area) (st : book.State) (t u : Tables) (p : Spot) (ns : List ℕ) → AsBefore t u → leaves_cover e ≡ true → held_at e r l st t (filter (is_near l st u.lines p.bsc p.cell) ns) p ≡ held_at e r l st t ns p
 near_held e r l st t u p [] same leaves = refl
-near_held e r l st t u p (n ∷ ns) same leaves = step (is_near l st u.lines p.bsc p.cell n) refl
+near_held e r l st t u p (n ∷ ns) same leaves = step (near_held e r l st t u p ns same leaves) (is_near l st u.lines p.bsc p.cell n) refl
   where
-    rest : held_at e r l st t (filter (is_near l st u.lines p.bsc p.cell) ns) p ≡ held_at e r l st t ns p
-    rest = near_held e r l st t u p ns same leaves
-
-    step : (x : Bool) → is_near l st u.lines p.bsc p.cell n ≡ x → held_at e r l st t (cond x (n ∷ filter (is_near l st u.lines p.bsc p.cell) ns) (filter (is_near l st u.lines p.bsc p.cell) ns)) p ≡ held_unless e r l st t (key_at p n) ++ held_at e r l st t ns p
-    step true h = ap (λ xs. held_unless e r l st t (key_at p n) ++ xs) rest
-    step false h = rest ∙ ap (λ xs. xs ++ held_at e r l st t ns p) (sym (far_passed e r l st t u p n same leaves h))
+    step : held_at e r l st t (filter (is_near l st u.lines p.bsc p.cell) ns) p ≡ held_at e r l st t ns p → (x : Bool) → is_near l st u.lines p.bsc p.cell n ≡ x → held_at e r l st t (cond x (n ∷ filter (is_near l st u.lines p.bsc p.cell) ns) (filter (is_near l st u.lines p.bsc p.cell) ns)) p ≡ held_unless e r l st t (key_at p n) ++ held_at e r l st t ns p
+    step rest true h = ap (λ xs. held_unless e r l st t (key_at p n) ++ xs) rest
+    step rest false h = rest ∙ ap (λ xs. xs ++ held_at e r l st t ns p) (sym (far_passed e r l st t u p n same leaves h))
