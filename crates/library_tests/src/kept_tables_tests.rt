@@ -153,8 +153,25 @@ fn what_is_wanted_is_awaited(rt: HostRuntime) {
 }
 
 #[test]
-fn serial_numbers_are_copied(rt: HostRuntime) {
-    let versions = versions(&rt, rt.alloc());
-    let copy = versions.copied(rt.alloc()).expect(&rt, "memory");
-    assert!(rt; copy.as_slice() == versions.as_slice());
+fn lists_are_shared(rt: HostRuntime) {
+    let alloc = rt.alloc();
+    let versions = versions(&rt, alloc);
+    let shared = versions.shared().expect(&rt, "memory");
+    drop(versions);
+    assert!(rt; shared.as_slice() == &[Serial::from_u16(0xc000)][..]);
+    let areas = coast(&rt, alloc);
+    let shared = areas.shared().expect(&rt, "memory");
+    drop(areas);
+    assert_eq!(rt; shared.as_slice().len(), 1);
+    assert!(rt; shared.as_slice()[0].as_slice() == b"Coast".as_slice());
+}
+
+#[test]
+fn another_line_is_read_with_the_same_lists(rt: HostRuntime) {
+    let alloc = rt.alloc();
+    let before = wanted(&rt, alloc);
+    let after = before.with(before.line, true).expect(&rt, "memory");
+    assert!(rt; after.down && !before.down);
+    assert!(rt; after.versions.as_slice() == before.versions.as_slice());
+    assert!(rt; after.areas.as_slice() == before.areas.as_slice());
 }
