@@ -247,6 +247,51 @@ fn a_stopped_warning_keeps_its_areas_until_it_is_forgotten(rt: HostRuntime) {
     keeps_area(&rt, &mut book, &name(&rt, alloc, b"coast"));
 }
 
+/// Issues a warning for these areas.
+fn issue_for(rt: &impl Abort, alloc: Global, book: &mut Book, areas: &[&[u8]]) {
+    let areas = names(rt, alloc, areas);
+    let notice = notice(rt, alloc, 4370, Scope::Cell);
+    let made = book.issue(&notice, areas.as_slice());
+    made.expect(rt, "the warning is issued");
+}
+
+/// The warnings that name one of these areas have these numbers.
+fn name_one_of(rt: &impl Abort, alloc: Global, book: &Book, areas: &[&[u8]], want: &[u32]) {
+    let areas = names(rt, alloc, areas);
+    let found = book.naming_one_of(areas.as_slice()).expect(rt, "memory");
+    assert_eq!(rt; found.len(), want.len(), "{want:?}");
+    for (number, want) in found.iter().zip(want.iter()) {
+        assert_eq!(rt; number.number(), *want);
+    }
+}
+
+/// The first warning moves from the coast to the north, is stopped, and is forgotten.
+fn moves_and_ends(rt: &impl Abort, alloc: Global, book: &mut Book) {
+    widen(rt, book, &name(rt, alloc, b"north"));
+    narrow(rt, book, &name(rt, alloc, b"coast"));
+    name_one_of(rt, alloc, book, &[b"coast"], &[3]);
+    name_one_of(rt, alloc, book, &[b"coast", b"north"], &[1, 3]);
+    stop(rt, book);
+    name_one_of(rt, alloc, book, &[b"north", b"bay"], &[1, 2]);
+    forget(rt, book);
+    name_one_of(rt, alloc, book, &[b"north", b"bay"], &[2]);
+    name_one_of(rt, alloc, book, &[b"north"], &[]);
+}
+
+#[test]
+fn warnings_that_name_one_of_several_areas_stand_once_and_in_order(rt: HostRuntime) {
+    let alloc = rt.alloc();
+    let mut book = issued_for(&rt, alloc, &[b"coast", b"hills"], Scope::Cell);
+    issue_for(&rt, alloc, &mut book, &[b"hills", b"bay"]);
+    issue_for(&rt, alloc, &mut book, &[b"coast"]);
+    name_one_of(&rt, alloc, &book, &[], &[]);
+    name_one_of(&rt, alloc, &book, &[b"north"], &[]);
+    name_one_of(&rt, alloc, &book, &[b"coast"], &[1, 3]);
+    name_one_of(&rt, alloc, &book, &[b"bay", b"hills"], &[1, 2]);
+    name_one_of(&rt, alloc, &book, &[b"bay", b"coast"], &[1, 2, 3]);
+    moves_and_ends(&rt, alloc, &mut book);
+}
+
 /// The book has 256 warnings: no other is issued until one of them is forgotten.
 fn is_full(rt: &impl Abort, alloc: Global, book: &mut Book) {
     let full = Refusal::Limit {
