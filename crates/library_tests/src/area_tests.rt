@@ -96,22 +96,29 @@ fn the_areas_of_a_cell_are_in_order_of_octets(rt: HostRuntime) {
 }
 
 /// These areas cover the cell, its neighbour in the same location area, and a cell of another.
-fn have_areas(rt: &impl Abort, alloc: Global, areas: &Areas, want: [&[&[u8]]; 3]) {
-    for (cell, want) in [CELL, NEXT, FAR].iter().zip(want.iter()) {
-        has_areas(rt, areas, *cell, &names(rt, alloc, want));
-    }
+fn have_areas(
+    rt: &impl Abort,
+    alloc: Global,
+    areas: &Areas,
+    cell: &[&[u8]],
+    next: &[&[u8]],
+    far: &[&[u8]],
+) {
+    has_areas(rt, areas, CELL, &names(rt, alloc, cell));
+    has_areas(rt, areas, NEXT, &names(rt, alloc, next));
+    has_areas(rt, areas, FAR, &names(rt, alloc, far));
 }
 
 /// The first area loses its selectors, and then the second is dropped and added again.
 fn are_taken_away(rt: &impl Abort, alloc: Global, areas: &mut Areas, a: &Name, b: &Name) {
     cut(rt, areas, a, Selector::Lac(100));
-    have_areas(rt, alloc, areas, [&[b"a", b"b"], &[], &[b"c"]]);
+    have_areas(rt, alloc, areas, &[b"a", b"b"], &[], &[b"c"]);
     cut(rt, areas, a, Selector::Cell(CELL));
-    have_areas(rt, alloc, areas, [&[b"b"], &[], &[b"c"]]);
+    have_areas(rt, alloc, areas, &[b"b"], &[], &[b"c"]);
     areas.drop_area(b).expect(rt, "the area is dropped");
-    have_areas(rt, alloc, areas, [&[], &[], &[b"c"]]);
+    have_areas(rt, alloc, areas, &[], &[], &[b"c"]);
     areas.add_area(b).expect(rt, "the area is added");
-    have_areas(rt, alloc, areas, [&[], &[], &[b"c"]]);
+    have_areas(rt, alloc, areas, &[], &[], &[b"c"]);
 }
 
 #[test]
@@ -123,11 +130,11 @@ fn the_areas_of_a_cell_follow_each_edit(rt: HostRuntime) {
     put(&rt, &mut areas, &a, Selector::Lac(100));
     put(&rt, &mut areas, &b, Selector::Cell(CELL));
     put(&rt, &mut areas, &name(&rt, alloc, b"c"), Selector::Lac(101));
-    have_areas(&rt, alloc, &areas, [&[b"a", b"b"], &[b"a"], &[b"c"]]);
+    have_areas(&rt, alloc, &areas, &[b"a", b"b"], &[b"a"], &[b"c"]);
     are_taken_away(&rt, alloc, &mut areas, &a, &b);
     put(&rt, &mut areas, &b, Selector::Lac(100));
     put(&rt, &mut areas, &a, Selector::Lac(101));
-    have_areas(&rt, alloc, &areas, [&[b"b"], &[b"b"], &[b"a", b"c"]]);
+    have_areas(&rt, alloc, &areas, &[b"b"], &[b"b"], &[b"a", b"c"]);
 }
 
 /// The first area covers the cell, or does not, and the other two do not.
