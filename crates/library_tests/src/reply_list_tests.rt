@@ -38,15 +38,6 @@ fn failed(id: CellId, cause: Cause) -> FailEntry {
     FailEntry { id, cause }
 }
 
-/// A number of broadcasts, which is valid.
-fn counted(lac: u16, ci: u16, number: u16) -> CountEntry {
-    CountEntry {
-        id: own(lac, ci),
-        number,
-        info: 0,
-    }
-}
-
 /// The reply to the query of the cells.
 fn is_answered(
     rt: &impl Abort,
@@ -88,7 +79,7 @@ fn failures(rt: &impl Abort, alloc: Global, entries: &[FailEntry]) -> Failures {
     Failures::from_vec(entries)
 }
 
-/// A list of two numbers.
+/// A list of two numbers, which are valid.
 fn numbers(
     rt: &impl Abort,
     alloc: Global,
@@ -97,9 +88,29 @@ fn numbers(
 ) -> Option<Counts> {
     let mut counts = Counts::new(alloc, Form::Global);
     let (lac, ci, number) = first;
-    counts.push(counted(lac, ci, number)).expect(rt, "memory");
+    let id = CellId::Global {
+        plmn: PLMN,
+        lac,
+        ci,
+    };
+    let entry = CountEntry {
+        id,
+        number,
+        info: 0,
+    };
+    counts.push(entry).expect(rt, "memory");
     let (lac, ci, number) = second;
-    counts.push(counted(lac, ci, number)).expect(rt, "memory");
+    let id = CellId::Global {
+        plmn: PLMN,
+        lac,
+        ci,
+    };
+    let entry = CountEntry {
+        id,
+        number,
+        info: 0,
+    };
+    counts.push(entry).expect(rt, "memory");
     Some(counts)
 }
 
