@@ -1,6 +1,7 @@
 //! The areas of a centre.
 
 use crate::area::Area;
+use crate::coverage::Coverage;
 use crate::holders::Holders;
 use crate::naming::is_name;
 use crate::refusal::{Limit, Refusal};
@@ -35,8 +36,7 @@ impl Model for Areas {
 impl Areas {
     ghost use Rattle.std.specs.Prelude.{◌≡◌, ◌≤◌, ◌⊎◌, ℕ, List, [], None, Some, true, length, IfOk, IfErr, OnOk, OnErr};
     ghost use Rattle.common.specs.Order.{is_ascending, each_once};
-    ghost use Rattle.std.specs.List.{position_or_len};
-    ghost use Rattle.areas.specs.Areas.{is_named, has_area, selectors_of, has_selector, covers, areas_of, named_lt, with_area, without_area, with_selector, without_selector};
+    ghost use Rattle.areas.specs.Areas.{has_area, selectors_of, has_selector, covers, areas_of, named_lt, with_area, without_area, with_selector, without_selector};
     ghost use Rattle.common.specs.Checks.{first_refusal};
     ghost use Rattle.areas.specs.Selector.{selector_eq, selector_lt};
     ghost use Rattle.areas.specs.Checks.{add_area_checks, drop_area_checks, put_checks, cut_checks};
@@ -209,19 +209,13 @@ impl Areas {
         lookups::covers(self.list.as_slice(), a, c)
     }
 
-    /// Where the area stands in the list; past the last where there is no such area.
-    pub fn find(&self, a: &Name) -> usize
-        ensures { result ≡ position_or_len (is_named a.now) self.now }
+    /// What the area covers, to ask of many cells; nothing where there is no such area.
+    pub fn coverage(&self, a: &Name) -> Coverage<'_>
+        ensures { result ≡ selectors_of self.now a.now }
     {
-        lookups::place_of(self.list.as_slice(), a)
-    }
-
-    /// Whether the area covers the cell; `false` where there is no such area. The answer is the same for every `hint`.
-    /// It comes sooner where `hint` is the place of the area, as `find` tells it.
-    pub fn covers_near(&self, hint: usize, a: &Name, c: Cell) -> bool
-        ensures { result ≡ covers self.now a.now c }
-    {
-        lookups::covers_near(self.list.as_slice(), hint, a, c)
+        Coverage {
+            selectors: lookups::selectors_of(self.list.as_slice(), a),
+        }
     }
 
     /// The names of the areas that cover the cell, in the order of their octets.

@@ -11,6 +11,7 @@
 mod area;
 mod areas;
 mod ascending_names;
+mod coverage;
 mod edits;
 mod holders;
 mod lookups;
@@ -22,6 +23,7 @@ mod selectors;
 
 pub use area::Area;
 pub use areas::Areas;
+pub use coverage::Coverage;
 pub use refusal::{Limit, Refusal};
 pub use selector::Selector;
 pub use selectors::Selectors;

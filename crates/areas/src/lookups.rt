@@ -25,19 +25,6 @@ pub(crate) fn place_of(areas: &[Area], a: &Name) -> usize
     }
 }
 
-/// Where the area of that name stands among areas in order; past the last where there is none. It is looked for at the
-/// place `hint` first, and among all where another stands there or none.
-pub(crate) fn place_near(areas: &[Area], hint: usize, a: &Name) -> usize
-    requires { is_ascending named_lt areas.now ≡ true }
-    ensures { result ≡ position_or_len (is_named a.now) areas.now }
-{
-    if hint < areas.len() && areas[hint].name == *a {
-        hint
-    } else {
-        place_of(areas, a)
-    }
-}
-
 /// Whether the area is there.
 pub(crate) fn has_area(areas: &[Area], a: &Name) -> bool
     requires { is_ascending named_lt areas.now ≡ true }
@@ -52,19 +39,6 @@ pub(crate) fn selectors_of<'a>(areas: &'a [Area], a: &Name) -> &'a [Selector]
     ensures { result.now ≡ selectors_of areas.now a.now }
 {
     let place = place_of(areas, a);
-    if place < areas.len() {
-        areas[place].selectors.as_slice()
-    } else {
-        &[]
-    }
-}
-
-/// The selectors of the area, which is looked for at the place `hint` first; none where it isn't there.
-fn selectors_near<'a>(areas: &'a [Area], hint: usize, a: &Name) -> &'a [Selector]
-    requires { is_ascending named_lt areas.now ≡ true }
-    ensures { result.now ≡ selectors_of areas.now a.now }
-{
-    let place = place_near(areas, hint, a);
     if place < areas.len() {
         areas[place].selectors.as_slice()
     } else {
@@ -116,7 +90,7 @@ fn has_lac(selectors: &[Selector], lac: u16) -> bool
 
 /// Whether one of the selectors, which stand in their order, is the cell or its location area. One search does where no
 /// other cell of that location area stands before the cell.
-fn selects(selectors: &[Selector], c: Cell) -> bool
+pub(crate) fn selects(selectors: &[Selector], c: Cell) -> bool
     requires { is_ascending selector_lt selectors.now ≡ true }
     ensures { result ≡ selects selectors.now c }
 {
@@ -134,13 +108,4 @@ pub(crate) fn covers(areas: &[Area], a: &Name, c: Cell) -> bool
     ensures { result ≡ covers areas.now a.now c }
 {
     selects(selectors_of(areas, a), c)
-}
-
-/// Whether the area covers the cell; the area is looked for at the place `hint` first.
-pub(crate) fn covers_near(areas: &[Area], hint: usize, a: &Name, c: Cell) -> bool
-    requires ascending { is_ascending named_lt areas.now ≡ true }
-    requires ordered { (a : List ℕ) → is_ascending selector_lt (selectors_of areas.now a) ≡ true }
-    ensures { result ≡ covers areas.now a.now c }
-{
-    selects(selectors_near(areas, hint, a), c)
 }
