@@ -6,6 +6,7 @@ use common::Cell;
 use std::marker::Model;
 
 /// The selectors of one area, found once, so that many cells can be asked for without a look for the area in each.
+#[derive(Drop)]
 pub struct Coverage<'a> {
     pub(crate) selectors: &'a [Selector],
 }

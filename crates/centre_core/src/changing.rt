@@ -8,8 +8,9 @@ ghost use Rattle.mirror.specs.Blank.{line_eq};
 ghost use Rattle.warning_book.specs.Book.{numbers, warning_of};
 ghost use Rattle.centre_events.specs.Down.{down_mark};
 ghost use Rattle.centre_core.specs.Following.{AreInBook, AsBefore, bearing, is_idle, keeps_down, leaves_blank, line_now, changing_line, changing_at, changing_lines};
+ghost use Rattle.centre_core.specs.Found.{AreFound};
 
-use crate::area_places::{AreaPlaces, places_for};
+use crate::area_coverages::{AreaCoverages, coverages_for};
 use crate::facts::facts_from;
 use crate::following::line_now;
 use crate::held::Held;
@@ -91,12 +92,13 @@ fn hold_changing_line(
     register: &Register,
     areas: &Areas,
     book: &Book,
-    found: &[AreaPlaces],
+    found: &[AreaCoverages<'_>],
     tables: &mut KeptTables,
     b: BscId,
     c: Cell,
     n: WarningId,
 ) -> Result<(), AllocError>
+    requires found { AreFound areas.now book.now found.now }
     ensures held { (t : Tables) → AsBefore t tables.old → OnOk result (out.new.items ≡ out.old.items ++ changing_line (record { event = h.now.event.now; answer = h.now.answer.now; up = h.now.up; flight = option_copied h.now.flight }) register.now areas.now book.now t (key_of b c n)) }
     ensures kept { (t : Tables) → AsBefore t tables.old → AsBefore t tables.new }
     ensures meter { tables.new.lines.meter ≤ tables.old.lines.meter + 1 }
@@ -107,7 +109,7 @@ fn hold_changing_line(
     if stays(h, areas, book, b, c, warning, line, down) {
         return Ok(());
     }
-    let places = places_for(found, n);
+    let coverages = coverages_for(found, n);
     let before = facts_from(
         alloc,
         register,
@@ -117,7 +119,7 @@ fn hold_changing_line(
         c,
         line,
         warning,
-        places,
+        coverages,
         last_held(out),
     )?;
     out.push(held_of(b, c, n, before))?;
@@ -132,12 +134,13 @@ fn hold_changing_spot(
     register: &Register,
     areas: &Areas,
     book: &Book,
-    found: &[AreaPlaces],
+    found: &[AreaCoverages<'_>],
     tables: &mut KeptTables,
     b: BscId,
     c: Cell,
     warnings: &[WarningId],
 ) -> Result<(), AllocError>
+    requires found { AreFound areas.now book.now found.now }
     ensures held { (t : Tables) → AsBefore t tables.old → OnOk result (out.new.items ≡ out.old.items ++ changing_at (record { event = h.now.event.now; answer = h.now.answer.now; up = h.now.up; flight = option_copied h.now.flight }) register.now areas.now book.now t warnings.now (record { bsc = b; cell = c })) }
     ensures kept { (t : Tables) → AsBefore t tables.old → AsBefore t tables.new }
     ensures meter { tables.new.lines.meter ≤ tables.old.lines.meter + length warnings.now }
@@ -160,7 +163,7 @@ fn hold_indicated_spot(
     register: &Register,
     areas: &Areas,
     book: &Book,
-    found: &[AreaPlaces],
+    found: &[AreaCoverages<'_>],
     tables: &mut KeptTables,
     b: BscId,
     c: Cell,
@@ -168,6 +171,7 @@ fn hold_indicated_spot(
 ) -> Result<(), AllocError>
     requires blank { leaves_blank h.now.event.now h.now.answer.now ≡ true }
     requires all { all.now ≡ numbers book.now.warnings }
+    requires found { AreFound areas.now book.now found.now }
     ensures held { (t : Tables) → AsBefore t tables.old → OnOk result (out.new.items ≡ out.old.items ++ changing_at (record { event = h.now.event.now; answer = h.now.answer.now; up = h.now.up; flight = option_copied h.now.flight }) register.now areas.now book.now t all.now (record { bsc = b; cell = c })) }
     ensures kept { (t : Tables) → AsBefore t tables.old → AsBefore t tables.new }
     ensures meter { AreInBook book.now tables.old → tables.new.lines.meter ≤ tables.old.lines.meter + length all.now }
@@ -195,11 +199,12 @@ fn hold_indicated(
     register: &Register,
     areas: &Areas,
     book: &Book,
-    found: &[AreaPlaces],
+    found: &[AreaCoverages<'_>],
     tables: &mut KeptTables,
     spots: &[Spot],
 ) -> Result<Vec<Held>, AllocError>
     requires blank { leaves_blank h.now.event.now h.now.answer.now ≡ true }
+    requires found { AreFound areas.now book.now found.now }
     ensures held { (t : Tables) → AsBefore t tables.old → IfOk result (λ v. v.items ≡ changing_lines (record { event = h.now.event.now; answer = h.now.answer.now; up = h.now.up; flight = option_copied h.now.flight }) register.now areas.now book.now t spots.now (numbers book.now.warnings)) }
     ensures kept { (t : Tables) → AsBefore t tables.old → AsBefore t tables.new }
     ensures meter { AreInBook book.now tables.old → tables.new.lines.meter ≤ tables.old.lines.meter + length spots.now * length (numbers book.now.warnings) }
@@ -232,11 +237,12 @@ fn hold_named(
     register: &Register,
     areas: &Areas,
     book: &Book,
-    found: &[AreaPlaces],
+    found: &[AreaCoverages<'_>],
     tables: &mut KeptTables,
     spots: &[Spot],
     warnings: &[WarningId],
 ) -> Result<Vec<Held>, AllocError>
+    requires found { AreFound areas.now book.now found.now }
     ensures held { (t : Tables) → AsBefore t tables.old → IfOk result (λ v. v.items ≡ changing_lines (record { event = h.now.event.now; answer = h.now.answer.now; up = h.now.up; flight = option_copied h.now.flight }) register.now areas.now book.now t spots.now warnings.now) }
     ensures kept { (t : Tables) → AsBefore t tables.old → AsBefore t tables.new }
     ensures meter { tables.new.lines.meter ≤ tables.old.lines.meter + length spots.now * length warnings.now }
@@ -258,11 +264,12 @@ pub(crate) fn hold_changing(
     register: &Register,
     areas: &Areas,
     book: &Book,
-    found: &[AreaPlaces],
+    found: &[AreaCoverages<'_>],
     tables: &mut KeptTables,
     spots: &[Spot],
     warnings: &[WarningId],
 ) -> Result<Vec<Held>, AllocError>
+    requires found { AreFound areas.now book.now found.now }
     ensures held { (t : Tables) → AsBefore t tables.old → IfOk result (λ v. v.items ≡ changing_lines (record { event = h.now.event.now; answer = h.now.answer.now; up = h.now.up; flight = option_copied h.now.flight }) register.now areas.now book.now t spots.now (bearing h.now.event.now h.now.answer.now book.now warnings.now)) }
     ensures kept { (t : Tables) → AsBefore t tables.old → AsBefore t tables.new }
     ensures meter { AreInBook book.now tables.old → tables.new.lines.meter ≤ tables.old.lines.meter + length spots.now * length (bearing h.now.event.now h.now.answer.now book.now warnings.now) }

@@ -1,16 +1,17 @@
 //! What is read of one line, from what a centre keeps.
 
-ghost use Rattle.std.specs.Prelude.{◌≡◌, ◌&&◌, true, Some, None, filter, map, IfOk, if◌then◌else◌};
-ghost use Rattle.std.specs.List.{list_any};
+ghost use Rattle.std.specs.Prelude.{◌≡◌, ◌<◌, ◌&&◌, true, List, length, Some, None, filter, map, IfOk, if◌then◌else◌};
+ghost use Rattle.std.specs.List.{list_any, slice_index_or};
 ghost use Rattle.std.specs.Option.{option_copied};
-ghost use Rattle.areas.specs.Areas.{covers};
+ghost use Rattle.areas.specs.Areas.{covers, selectors_of};
+ghost use Rattle.areas.specs.declared.selector.Selector.{Selector};
 ghost use Rattle.cell_register.specs.Register.{place_in, is_place};
 ghost use Rattle.warning_book.specs.Book.{current_of};
+ghost use Rattle.centre_core.specs.Found.{AreSelected, IsFound};
 ghost use Rattle.centre_core.specs.State.{covered_facts, facts_from};
 ghost use Rattle.centre_events.specs.Warnings.{serials};
 
-use crate::area_places::place_at;
-use areas::Areas;
+use areas::{Areas, Coverage};
 use cell_register::{BscId, Register};
 use common::{Cell, Name};
 use kept_tables::{AreaNames, LineFacts, Serials};
@@ -66,20 +67,37 @@ fn serials_of(
     }
 }
 
-/// Whether the area covers the cell. It is looked for at its place among the places first.
-fn covers_at(areas: &Areas, name: &Name, places: &[usize], i: usize, c: Cell) -> bool
+/// Whether the area covers the cell, by what was found of it, if anything was.
+fn covers_at(
+    areas: &Areas,
+    name: &Name,
+    coverages: &[Coverage<'_>],
+    i: usize,
+    c: Cell,
+) -> bool
+    requires { i < length coverages.now → (x : List Selector) → x ≡ slice_index_or coverages.now i x → x ≡ selectors_of areas.now name.now }
     ensures { result ≡ covers areas.now name.now c }
 {
-    areas.covers_near(place_at(places, i), name, c)
+    if i < coverages.len() {
+        return coverages[i].covers(c);
+    }
+    areas.covers(name, c)
 }
 
 /// Whether these are those of the areas that cover the cell.
-fn are_covering(areas: &Areas, names: &[Name], places: &[usize], c: Cell, others: &[Name]) -> bool
+fn are_covering(
+    areas: &Areas,
+    names: &[Name],
+    coverages: &[Coverage<'_>],
+    c: Cell,
+    others: &[Name],
+) -> bool
+    requires { AreSelected areas.now names.now coverages.now }
     ensures { result ≡ true → others.now ≡ filter (λ a. covers areas.now a c) names.now }
 {
     let mut count = 0;
     for (i, name) in names.iter().enumerate() {
-        if covers_at(areas, name, places, i, c) {
+        if covers_at(areas, name, coverages, i, c) {
             if count >= others.len() || others[count] != *name {
                 return false;
             }
@@ -94,14 +112,15 @@ fn own_covering(
     alloc: Global,
     areas: &Areas,
     names: &[Name],
-    places: &[usize],
+    coverages: &[Coverage<'_>],
     c: Cell,
 ) -> Result<AreaNames, AllocError>
+    requires { AreSelected areas.now names.now coverages.now }
     ensures { IfOk result (λ n. n ≡ filter (λ a. covers areas.now a c) names.now) }
 {
     let mut out = Vec::new(alloc);
     for (i, name) in names.iter().enumerate() {
-        if covers_at(areas, name, places, i, c) {
+        if covers_at(areas, name, coverages, i, c) {
             out.push(name.copied(alloc)?)?;
         }
     }
@@ -113,17 +132,18 @@ fn covering(
     alloc: Global,
     areas: &Areas,
     names: &[Name],
-    places: &[usize],
+    coverages: &[Coverage<'_>],
     c: Cell,
     like: Option<&LineFacts>,
 ) -> Result<AreaNames, AllocError>
+    requires { AreSelected areas.now names.now coverages.now }
     ensures { IfOk result (λ n. n ≡ filter (λ a. covers areas.now a c) names.now) }
 {
     match like {
-        Some(like) if are_covering(areas, names, places, c, like.areas.as_slice()) => {
+        Some(like) if are_covering(areas, names, coverages, c, like.areas.as_slice()) => {
             like.areas.shared()
         }
-        _ => own_covering(alloc, areas, names, places, c),
+        _ => own_covering(alloc, areas, names, coverages, c),
     }
 }
 
@@ -195,12 +215,13 @@ fn facts_of(
     c: Cell,
     line: Line,
     w: &Warning,
-    places: &[usize],
+    coverages: &[Coverage<'_>],
     alike: Alike<'_>,
 ) -> Result<LineFacts, AllocError>
+    requires { AreSelected areas.now w.now.areas coverages.now }
     ensures { IfOk result (λ f. f ≡ facts_from register.now areas.now down b c line (Some w.now)) }
 {
-    let covering = covering(alloc, areas, w.areas(), places, c, alike.areas)?;
+    let covering = covering(alloc, areas, w.areas(), coverages, c, alike.areas)?;
     let facts = covered_facts(
         alloc,
         register,
@@ -215,8 +236,8 @@ fn facts_of(
     Ok(facts)
 }
 
-/// What is read of the line of a warning, if the book has it, in a cell that is down or not. The warning's areas are looked
-/// for at these places first. Its lists are shared with those of lines that are alike, where they are the same.
+/// What is read of the line of a warning, if the book has it, in a cell that is down or not. What its areas cover was
+/// found before, or is looked for. Its lists are shared with those of lines that are alike, where they are the same.
 pub(crate) fn facts_from(
     alloc: Global,
     register: &Register,
@@ -226,13 +247,14 @@ pub(crate) fn facts_from(
     c: Cell,
     line: Line,
     warning: Option<&Warning>,
-    places: &[usize],
+    coverages: &[Coverage<'_>],
     alike: Alike<'_>,
 ) -> Result<LineFacts, AllocError>
+    requires { IsFound areas.now (option_copied warning.entry) coverages.now }
     ensures { IfOk result (λ f. f ≡ facts_from register.now areas.now down b c line (option_copied warning.entry)) }
 {
     match warning {
-        Some(w) => facts_of(alloc, register, areas, down, b, c, line, w, places, alike),
+        Some(w) => facts_of(alloc, register, areas, down, b, c, line, w, coverages, alike),
         None => Ok(LineFacts::none(down, is_here(register, b, c))),
     }
 }

@@ -11,8 +11,9 @@ ghost use Rattle.centre_events.specs.Past.{After};
 ghost use Rattle.kept_tables.specs.View.{key_of};
 ghost use Rattle.std.specs.Option.{option_copied};
 ghost use Rattle.centre_core.specs.Following.{AreCovered, AreRead, Bears, entry_of, line_now, facts_then, change_of, covered_change, leaves_areas_then, plain_change};
+ghost use Rattle.centre_core.specs.Found.{AreFound};
 
-use crate::area_places::{AreaPlaces, area_places, places_for};
+use crate::area_coverages::{AreaCoverages, area_coverages, coverages_for};
 use crate::downs::mark_downs;
 use crate::facts::{Alike, covered_facts, facts_from, is_here};
 use crate::held::Held;
@@ -51,7 +52,7 @@ fn facts_then(
     register: &Register,
     areas: &Areas,
     book: &Book,
-    found: &[AreaPlaces],
+    found: &[AreaCoverages<'_>],
     tables: &KeptTables,
     b: BscId,
     c: Cell,
@@ -59,14 +60,15 @@ fn facts_then(
     line: Line,
     alike: Alike<'_>,
 ) -> Result<LineFacts, AllocError>
+    requires found { AreFound areas.now book.now found.now }
     ensures { IfOk result (λ f. f ≡ facts_then (record { event = h.now.event.now; answer = h.now.answer.now; up = h.now.up; flight = option_copied h.now.flight }) register.now areas.now book.now tables.now (key_of b c n) line) }
 {
     let warning = book.find(n);
     let now = line_now(h, book.as_slice(), b, c, warning, line);
     let down = tables.is_down(b, c);
-    let places = places_for(found, n);
+    let coverages = coverages_for(found, n);
     facts_from(
-        alloc, register, areas, down, b, c, now, warning, places, alike,
+        alloc, register, areas, down, b, c, now, warning, coverages, alike,
     )
 }
 
@@ -91,11 +93,12 @@ fn then_of(
     register: &Register,
     areas: &Areas,
     book: &Book,
-    found: &[AreaPlaces],
+    found: &[AreaCoverages<'_>],
     tables: &KeptTables,
     held: &Held,
     done: &[Change],
 ) -> Result<LineFacts, AllocError>
+    requires found { AreFound areas.now book.now found.now }
     ensures { IfOk result (λ f. f ≡ facts_then (record { event = h.now.event.now; answer = h.now.answer.now; up = h.now.up; flight = option_copied h.now.flight }) register.now areas.now book.now tables.now held.now.key held.now.before.line) }
 {
     let Held { key, before } = held;
@@ -130,11 +133,12 @@ fn change_of(
     register: &Register,
     areas: &Areas,
     book: &Book,
-    found: &[AreaPlaces],
+    found: &[AreaCoverages<'_>],
     tables: &KeptTables,
     held: Held,
     done: &[Change],
 ) -> Result<Change, AllocError>
+    requires found { AreFound areas.now book.now found.now }
     ensures { IfOk result (λ x. x ≡ change_of (record { event = h.now.event.now; answer = h.now.answer.now; up = h.now.up; flight = option_copied h.now.flight }) register.now areas.now book.now tables.now held) }
 {
     let after = then_of(alloc, h, register, areas, book, found, tables, &held, done)?;
@@ -148,10 +152,11 @@ fn changes_of_all(
     register: &Register,
     areas: &Areas,
     book: &Book,
-    found: &[AreaPlaces],
+    found: &[AreaCoverages<'_>],
     tables: &KeptTables,
     held: Vec<Held>,
 ) -> Result<Vec<Change>, AllocError>
+    requires found { AreFound areas.now book.now found.now }
     ensures { IfOk result (λ v. v.items ≡ map (change_of (record { event = h.now.event.now; answer = h.now.answer.now; up = h.now.up; flight = option_copied h.now.flight }) register.now areas.now book.now tables.now) held.items) }
 {
     let mut out = Vec::with_capacity(alloc, held.len())?;
@@ -306,7 +311,7 @@ pub(crate) fn changes(
     if leaves_areas(h) {
         return covered_changes(alloc, h, register, book, tables, held);
     }
-    let found = area_places(alloc, areas, book, warnings)?;
+    let found = area_coverages(alloc, areas, book, warnings)?;
     changes_of_all(alloc, h, register, areas, book, &found, tables, held)
 }
 

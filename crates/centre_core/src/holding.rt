@@ -6,8 +6,9 @@ ghost use Rattle.std.specs.Option.{option_copied};
 ghost use Rattle.kept_tables.specs.Tables.{Tables};
 ghost use Rattle.kept_tables.specs.View.{key_of};
 ghost use Rattle.centre_core.specs.Following.{AsBefore, held_unless, held_at, held_lines, is_forget, is_idle, is_near, leaves_cover, passed_over};
+ghost use Rattle.centre_core.specs.Found.{AreFound};
 
-use crate::area_places::{AreaPlaces, places_for};
+use crate::area_coverages::{AreaCoverages, coverages_for};
 use crate::facts::{Alike, facts_from, is_covered};
 use crate::held::Held;
 use areas::Areas;
@@ -108,13 +109,14 @@ fn hold_line(
     register: &Register,
     areas: &Areas,
     book: &Book,
-    found: &[AreaPlaces],
+    found: &[AreaCoverages<'_>],
     tables: &mut KeptTables,
     b: BscId,
     c: Cell,
     n: WarningId,
     edit: &Edit,
 ) -> Result<(), AllocError>
+    requires found { AreFound areas.now book.now found.now }
     ensures held { (t : Tables) → AsBefore t tables.old → OnOk result (out.new.items ≡ out.old.items ++ held_unless edit.now register.now areas.now book.now t (key_of b c n)) }
     ensures kept { (t : Tables) → AsBefore t tables.old → AsBefore t tables.new }
     ensures meter { tables.new.lines.meter ≤ tables.old.lines.meter + 1 }
@@ -125,7 +127,7 @@ fn hold_line(
         return Ok(());
     }
     let down = tables.is_down(b, c);
-    let places = places_for(found, n);
+    let coverages = coverages_for(found, n);
     let before = facts_from(
         alloc,
         register,
@@ -135,7 +137,7 @@ fn hold_line(
         c,
         line,
         warning,
-        places,
+        coverages,
         last_held(out),
     )?;
     out.push(held_of(b, c, n, before))?;
@@ -149,13 +151,14 @@ fn hold_spot(
     register: &Register,
     areas: &Areas,
     book: &Book,
-    found: &[AreaPlaces],
+    found: &[AreaCoverages<'_>],
     tables: &mut KeptTables,
     b: BscId,
     c: Cell,
     warnings: &[WarningId],
     edit: &Edit,
 ) -> Result<(), AllocError>
+    requires found { AreFound areas.now book.now found.now }
     ensures held { (t : Tables) → AsBefore t tables.old → OnOk result (out.new.items ≡ out.old.items ++ held_at edit.now register.now areas.now book.now t warnings.now (record { bsc = b; cell = c })) }
     ensures kept { (t : Tables) → AsBefore t tables.old → AsBefore t tables.new }
     ensures meter { tables.new.lines.meter ≤ tables.old.lines.meter + length warnings.now }
@@ -201,14 +204,15 @@ fn hold_near(
     register: &Register,
     areas: &Areas,
     book: &Book,
-    found: &[AreaPlaces],
+    found: &[AreaCoverages<'_>],
     tables: &mut KeptTables,
     b: BscId,
     c: Cell,
     warnings: &[WarningId],
     edit: &Edit,
 ) -> Result<(), AllocError>
-    requires { leaves_cover edit.now ≡ true }
+    requires cover { leaves_cover edit.now ≡ true }
+    requires found { AreFound areas.now book.now found.now }
     ensures held { (t : Tables) → AsBefore t tables.old → OnOk result (out.new.items ≡ out.old.items ++ held_at edit.now register.now areas.now book.now t warnings.now (record { bsc = b; cell = c })) }
     ensures kept { (t : Tables) → AsBefore t tables.old → AsBefore t tables.new }
     ensures meter { tables.new.lines.meter ≤ tables.old.lines.meter + length warnings.now }
@@ -228,13 +232,14 @@ fn hold_there(
     register: &Register,
     areas: &Areas,
     book: &Book,
-    found: &[AreaPlaces],
+    found: &[AreaCoverages<'_>],
     tables: &mut KeptTables,
     b: BscId,
     c: Cell,
     warnings: &[WarningId],
     edit: &Edit,
 ) -> Result<(), AllocError>
+    requires found { AreFound areas.now book.now found.now }
     ensures held { (t : Tables) → AsBefore t tables.old → OnOk result (out.new.items ≡ out.old.items ++ held_at edit.now register.now areas.now book.now t warnings.now (record { bsc = b; cell = c })) }
     ensures kept { (t : Tables) → AsBefore t tables.old → AsBefore t tables.new }
     ensures meter { tables.new.lines.meter ≤ tables.old.lines.meter + length warnings.now }
@@ -255,12 +260,13 @@ pub(crate) fn hold(
     register: &Register,
     areas: &Areas,
     book: &Book,
-    found: &[AreaPlaces],
+    found: &[AreaCoverages<'_>],
     tables: &mut KeptTables,
     spots: &[Spot],
     warnings: &[WarningId],
     edit: &Edit,
 ) -> Result<Vec<Held>, AllocError>
+    requires found { AreFound areas.now book.now found.now }
     ensures held { (t : Tables) → AsBefore t tables.old → IfOk result (λ v. v.items ≡ held_lines edit.now register.now areas.now book.now t spots.now warnings.now) }
     ensures kept { (t : Tables) → AsBefore t tables.old → AsBefore t tables.new }
     ensures meter { tables.new.lines.meter ≤ tables.old.lines.meter + length spots.now * length warnings.now }
@@ -281,11 +287,12 @@ pub(crate) fn hold_keys(
     register: &Register,
     areas: &Areas,
     book: &Book,
-    found: &[AreaPlaces],
+    found: &[AreaCoverages<'_>],
     tables: &mut KeptTables,
     keys: &[LineKey],
     edit: &Edit,
 ) -> Result<Vec<Held>, AllocError>
+    requires found { AreFound areas.now book.now found.now }
     ensures held { (t : Tables) → AsBefore t tables.old → IfOk result (λ v. v.items ≡ flat_map (held_unless edit.now register.now areas.now book.now t) keys.now) }
     ensures kept { (t : Tables) → AsBefore t tables.old → AsBefore t tables.new }
     ensures meter { tables.new.lines.meter ≤ tables.old.lines.meter + length keys.now }

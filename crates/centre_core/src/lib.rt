@@ -6,7 +6,7 @@
 //! that contracts cite are in `specs/`, beginning with `Past` and `IsKept`.
 #![tactic(auto)]
 
-mod area_places;
+mod area_coverages;
 pub mod centre;
 mod changing;
 mod downs;

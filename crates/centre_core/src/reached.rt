@@ -13,7 +13,7 @@ ghost use Rattle.centre_events.specs.declared.answer.Answer as answer_spec;
 ghost use Rattle.centre_events.specs.declared.event.Event.TheVariants as event;
 ghost use Rattle.coverage_plan.specs.declared.edit.Edit.TheVariants as edit_spec;
 
-use crate::area_places::area_places;
+use crate::area_coverages::area_coverages;
 use crate::changing::hold_changing;
 use crate::entering::up_before;
 use crate::flights::flight_of;
@@ -54,7 +54,7 @@ fn reached_at_spots(alloc: Global, kept: &mut Kept, edit: &Edit) -> Result<Reach
         kept.tables.lines(),
         edit,
     )?;
-    let found = area_places(alloc, &kept.areas, &kept.book, &reach.warnings)?;
+    let found = area_coverages(alloc, &kept.areas, &kept.book, &reach.warnings)?;
     let held = hold(
         alloc,
         &kept.register,
@@ -88,7 +88,7 @@ fn reached_by_forget(
     tell_lines(kept.tables.lines());
     let keys = kept.tables.lines().places_of(n)?;
     let warnings = of_edit(alloc, &kept.book, edit)?;
-    let found = area_places(alloc, &kept.areas, &kept.book, &warnings)?;
+    let found = area_coverages(alloc, &kept.areas, &kept.book, &warnings)?;
     let held = hold_keys(
         alloc,
         &kept.register,
@@ -151,7 +151,7 @@ pub(crate) fn reached_by_other<'x>(
         up: up_before(kept.links.as_slice(), event),
         flight: flight_of(kept.flights.as_slice(), event),
     };
-    let found = area_places(alloc, &kept.areas, &kept.book, &reach.warnings)?;
+    let found = area_coverages(alloc, &kept.areas, &kept.book, &reach.warnings)?;
     let held = hold_changing(
         alloc,
         &h,

@@ -12,7 +12,7 @@ returns-clause-held c =
     c.in_ok-hold_spot.ensures.held t same
     ∙ ap (λ xs. c.args.out.now.items ++ xs)
     (ap (λ ns. held_at c.args.edit.now c.args.register.now c.args.areas.now c.args.book.now t ns p) (c.as_slice-near.ensures.value ∙ rw c.lines.ensures at c.in_ok-near.ensures)
-    ∙ near_held c.args.edit.now c.args.register.now c.args.areas.now c.args.book.now t c.args.tables.now p c.args.warnings.now same c.requires)
+    ∙ near_held c.args.edit.now c.args.register.now c.args.areas.now c.args.book.now t c.args.tables.now p c.args.warnings.now same c.requires.cover)
 
 pub returns-clause-meter : goal.returns-clause-meter
 returns-clause-meter c =
