@@ -1,12 +1,14 @@
--- An indication and a Retry leave a blank line blank.
+-- An indication and a Retry leave a blank line blank, and most edits leave every line as it is.
 use Rattle.std.proofs.Common.{◌≡◌, ℕ, zero, suc, Bool, true, false, nat_eq, List, [], ◌∷◌, Option, Some, None, replicate, refl, sym, ◌∙◌, ap}
 use Rattle.std.specs.Prelude.{slice_set, if◌then◌else◌}
+use Rattle.std.specs.List.{slice_index_or}
 use Rattle.cbsp_messages.specs.declared.message.Message.{Message}
 use Rattle.cbsp_messages.specs.declared.message.Message.TheVariants.{Restart}
 use Rattle.common.specs.declared.cell.Cell.{Cell}
+use Rattle.coverage_plan.specs.declared.edit.Edit.TheVariants as edit
 use Rattle.mirror.specs.Blank.{is_blank, line_eq}
 use Rattle.mirror.specs.BlankLaws.{blank_decides, line_decides}
-use Rattle.mirror.specs.Line.{blank, blank_line, with_state}
+use Rattle.mirror.specs.Line.{blank, blank_line, state_of, with_state}
 use Rattle.mirror.specs.declared.key_state.KeyState.{KeyState}
 use Rattle.mirror.specs.declared.line.Line.{Line}
 use Rattle.mirror.specs.declared.presence.Presence.TheVariants.{Absent}
@@ -14,7 +16,7 @@ use Rattle.serials.specs.Serials.{update_of}
 use Rattle.warning_book.specs.declared.warning.Warning.{Warning}
 use Rattle.centre_events.specs.Counts.{count_mark}
 use Rattle.centre_events.specs.Effects.{indicated_effect, is_among, state_after}
-use Rattle.centre_core.specs.Following.{Happens, leaves_blank, line_now}
+use Rattle.centre_core.specs.Following.{Happens, leaves_blank, leaves_lines, line_now}
 use Rattle.centre_events.specs.Presence.{effect}
 use Rattle.centre_events.specs.Stepping.{stepped}
 use Rattle.centre_events.specs.Warnings.{serials}
@@ -79,3 +81,35 @@ pub blank_left : (h : Happens) (ws : List Warning) (b : ℕ) (c : Cell) (o : Opt
 blank_left h ws b c o line e blanks =
     let same : line ≡ blank_line = (blank_decides line).0 blanks in
     sym ((line_decides (line_now h ws b c o line) line).1 (ap (line_now h ws b c o) same ∙ now_blank h ws b c o e ∙ sym same))
+
+-- An edit that is neither the end of a BSC nor a Forget leaves every line as it is.
+
+set_itself : (ks : List KeyState) (i : ℕ) → slice_set ks i (slice_index_or ks i blank) ≡ ks
+set_itself [] i = refl
+set_itself (k ∷ ks) zero = refl
+set_itself (k ∷ ks) (suc i) = ap (λ xs. k ∷ xs) (set_itself ks i)
+
+with_itself : (line : Line) (s : ℕ) → with_state line s (state_of line s) ≡ line
+with_itself line s = ap (λ (ks : List KeyState). let l : Line = record { states = ks } in l) (set_itself line.states (update_of s))
+
+stepped_itself : (f : ℕ → Effect) (n : ℕ → Option ℕ) → ((s : ℕ) → f s ≡ Leaves) → ((s : ℕ) → n s ≡ None) → (line : Line) (ss : List ℕ) → stepped f n line ss ≡ line
+stepped_itself f n leaves silent line [] = refl
+stepped_itself f n leaves silent line (s ∷ ss) =
+    ap (λ l. stepped f n l ss) (rw (leaves s, silent s) (with_itself line s)) ∙ stepped_itself f n leaves silent line ss
+
+leaves_effect : (b : ℕ) (c : Cell) (m s : ℕ) (e : Event) (a : Answer) (up : Bool) (f : Option InFlight) (ws : List Warning) → leaves_lines e ≡ true → effect b c m s e a up f ws ≡ Leaves
+leaves_effect b c m s (event.Edit (edit.RemoveBsc other)) a up f ws h = cc
+leaves_effect b c m s (event.Edit (edit.Forget n)) a up f ws h = cc
+leaves_effect b c m s (event.Edit e) a up f ws h = refl
+leaves_effect b c m s other a up f ws h = cc
+
+leaves_count : (b : ℕ) (c : Cell) (m s : ℕ) (e : Event) (a : Answer) (f : Option InFlight) (ws : List Warning) → leaves_lines e ≡ true → count_mark b c m s e a f ws ≡ None
+leaves_count b c m s (event.Edit (edit.RemoveBsc other)) a f ws h = cc
+leaves_count b c m s (event.Edit (edit.Forget n)) a f ws h = cc
+leaves_count b c m s (event.Edit e) a f ws h = refl
+leaves_count b c m s other a f ws h = cc
+
+pub edit_leaves : (h : Happens) (ws : List Warning) (b : ℕ) (c : Cell) (o : Option Warning) (line : Line) → leaves_lines h.event ≡ true → line ≡ line_now h ws b c o line
+edit_leaves h ws b c None line e = refl
+edit_leaves h ws b c (Some w) line e =
+    sym (stepped_itself (λ s. effect b c w.message_id s h.event h.answer h.up h.flight ws) (λ s. count_mark b c w.message_id s h.event h.answer h.flight ws) (λ s. leaves_effect b c w.message_id s h.event h.answer h.up h.flight ws e) (λ s. leaves_count b c w.message_id s h.event h.answer h.flight ws e) line (serials w))

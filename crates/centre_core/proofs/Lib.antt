@@ -19,6 +19,7 @@ pub mod GroupingLemmas
 pub mod ActingLemmas
 pub mod UniqueLemmas
 pub mod CountLemmas
+pub mod CoverageLemmas
 pub mod KnownLemmas
 pub mod HeadlineLemmas
 pub mod SpareLemmas

@@ -1,7 +1,7 @@
 -- Where an edit leaves what each area covers, the lines of the warnings that are not near a cell are passed over.
-use Rattle.std.proofs.Common.{◌≡◌, ℕ, Bool, true, false, ◌&&◌, ◌||◌, not, nat_eq, List, [], ◌∷◌, ◌++◌, Option, Some, None, cond, filter, refl, sym, ◌∙◌, ap}
+use Rattle.std.proofs.Common.{◌≡◌, ℕ, Bool, true, false, ◌&&◌, ◌||◌, not, List, [], ◌∷◌, ◌++◌, Option, Some, None, cond, filter, refl, sym, ◌∙◌, ap}
 use Rattle.std.specs.Prelude.{bytes_eq, find, if◌then◌else◌}
-use Rattle.std.specs.List.{flat_map, list_any}
+use Rattle.std.specs.List.{list_any}
 use Rattle.std.specs.Map.{lookup}
 use Rattle.std.specs.Option.{unwrap_or}
 use Rattle.std.proofs.lemmas.Slice.Eq.{bytes_eq-Decides}
@@ -23,8 +23,7 @@ use Rattle.warning_book.specs.Book.{has_number, is_so, names, names_one_of, warn
 use Rattle.warning_book.specs.declared.warning.Warning.{Warning}
 use Rattle.coverage_plan.specs.declared.edit.Edit.{Edit}
 use Rattle.coverage_plan.specs.declared.edit.Edit.TheVariants as edit
-use Rattle.centre_core.specs.Following.{AsBefore, held_at, held_line, held_unless, is_forget, is_idle, is_near, leaves_cover, passed_over}
-use Rattle.centre_core.specs.declared.held.Held.{Held}
+use Rattle.centre_core.specs.Following.{AsBefore, held_at, held_line, held_unless, is_idle, is_near, leaves_cover, passed_over}
 
 -- neither of two is so
 

@@ -1,5 +1,5 @@
 -- An event that is no edit changes nothing of a line but the line itself, and whether its cell is down.
-use Rattle.std.proofs.Common.{◌≡◌, ℕ, Bool, true, false, List, [], ◌∷◌, Option, Some, None, map, refl, sym, ◌∙◌, ap, subst}
+use Rattle.std.proofs.Common.{◌≡◌, ℕ, Bool, false, List, [], ◌∷◌, Option, Some, None, map, refl, sym, ◌∙◌, ap, subst}
 use Rattle.areas.specs.declared.area.Area.{Area}
 use Rattle.cell_register.specs.Register as register
 use Rattle.kept_tables.specs.Tables.{Tables}
@@ -11,7 +11,7 @@ use Rattle.warning_book.specs.Book as book
 use Rattle.warning_book.specs.Book.{warning_of}
 use Rattle.warning_book.specs.declared.warning.Warning.{Warning}
 use Rattle.centre_events.specs.Down.{is_down}
-use Rattle.centre_events.specs.Facts.{IsLineOf, facts, facts_of}
+use Rattle.centre_events.specs.Facts.{IsLineOf, facts_of}
 use Rattle.centre_events.specs.Kept.{IsRegisterOf, AreAreasOf, is_edit}
 use Rattle.centre_events.specs.Past.{Past, After}
 use Rattle.centre_events.specs.Warnings.{book_of}
@@ -19,11 +19,9 @@ use Rattle.centre_events.specs.declared.answer.Answer.{Answer}
 use Rattle.centre_events.specs.declared.event.Event.{Event}
 use Rattle.centre_events.specs.declared.event.Event.TheVariants as event
 use Rattle.centre_core.specs.Following.{AreRead, Bears, Happens, change_of, held_past, line_now, plain_change}
-use Rattle.centre_core.specs.Legal.{Legal}
 use Rattle.centre_core.specs.State.{facts_from}
 use Rattle.centre_core.specs.declared.held.Held.{Held}
 use Rattle.centre_core.proofs.FactsLemmas.{facts_same}
-use Rattle.centre_core.proofs.KnownLemmas.{legal_unfolded}
 
 -- of a line that was read so
 

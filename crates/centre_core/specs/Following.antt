@@ -137,6 +137,13 @@ leaves_blank (event.Retry b) answer = true
 leaves_blank (event.Report b generation message) (Listed cells) = true
 leaves_blank e answer = false
 
+-- an edit that leaves every line as it is: each but the end of a BSC and a Forget
+abbrev pub leaves_lines : Event → Bool
+leaves_lines (event.Edit (edit.RemoveBsc b)) = false
+leaves_lines (event.Edit (edit.Forget n)) = false
+leaves_lines (event.Edit e) = true
+leaves_lines other = false
+
 -- each line that isn't blank is of a warning in the book
 abbrev pub AreInBook : book.State → Tables → Type 0
 AreInBook st t = (b : ℕ) (c : Cell) (n : ℕ) → is_blank (line_at t.lines b c n) ≡ false → list_any (nat_eq n) (book.numbers st.warnings) ≡ true

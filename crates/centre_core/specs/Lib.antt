@@ -16,6 +16,7 @@ pub mod Sending
 pub mod Idle
 pub mod IsKept
 pub mod Following
+pub mod Found
 pub mod Asked
 pub mod Centre
 pub mod VerdictLaws

@@ -250,7 +250,7 @@ pub(crate) fn facts_from(
     coverages: &[Coverage<'_>],
     alike: Alike<'_>,
 ) -> Result<LineFacts, AllocError>
-    requires { IsFound areas.now (option_copied warning.entry) coverages.now }
+    requires { IsFound areas.now (option_copied warning) coverages.now }
     ensures { IfOk result (λ f. f ≡ facts_from register.now areas.now down b c line (option_copied warning.entry)) }
 {
     match warning {

@@ -10,7 +10,7 @@ ghost use Rattle.centre_events.specs.Kept.{is_edit};
 ghost use Rattle.centre_events.specs.Past.{After};
 ghost use Rattle.kept_tables.specs.View.{key_of};
 ghost use Rattle.std.specs.Option.{option_copied};
-ghost use Rattle.centre_core.specs.Following.{AreCovered, AreRead, Bears, entry_of, line_now, facts_then, change_of, covered_change, leaves_areas_then, plain_change};
+ghost use Rattle.centre_core.specs.Following.{AreCovered, AreRead, Bears, entry_of, line_now, facts_then, change_of, covered_change, leaves_areas_then, leaves_lines, plain_change};
 ghost use Rattle.centre_core.specs.Found.{AreFound};
 
 use crate::area_coverages::{AreaCoverages, area_coverages, coverages_for};
@@ -28,7 +28,19 @@ use mirror::{Line, LineKey};
 use std::alloc::{AllocError, Global};
 use warning_book::{Book, Warning, WarningId};
 
+/// Whether what happens is an edit that leaves every line as it is: each but the end of a BSC and a Forget.
+fn leaves_lines(h: &Happening<'_, '_>) -> bool
+    ensures { result ≡ leaves_lines h.now.event.now }
+{
+    match h.event {
+        Event::Edit(Edit::RemoveBsc(_) | Edit::Forget(_)) => false,
+        Event::Edit(_) => true,
+        _ => false,
+    }
+}
+
 /// The line after what happens, of a warning if the book has it.
+#[tactic(auto, using(crate::proofs::BlankLineLemmas::edit_leaves))]
 pub(crate) fn line_now(
     h: &Happening<'_, '_>,
     warnings: &[Warning],
@@ -40,8 +52,10 @@ pub(crate) fn line_now(
     ensures { result ≡ line_now (record { event = h.now.event.now; answer = h.now.answer.now; up = h.now.up; flight = option_copied h.now.flight }) warnings.now b c (option_copied warning.entry) line }
 {
     match warning {
-        Some(w) => stepped(h, b, c, w.message_id(), w.versions(), warnings, line),
-        None => line,
+        Some(w) if !leaves_lines(h) => {
+            stepped(h, b, c, w.message_id(), w.versions(), warnings, line)
+        }
+        _ => line,
     }
 }
 

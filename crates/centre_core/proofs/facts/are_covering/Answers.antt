@@ -1,8 +1,12 @@
 use Rattle.std.proofs.Common.{◌≡◌, arith, rules}
 use Rattle.areas.specs.Areas.{covers}
+use Rattle.centre_core.proofs.CoverageLemmas.{selected_here}
 use Rattle.centre_core.proofs.FactsLemmas.{passing_more, passing_same}
 use Rattle.centre_core.proofs.facts.are_covering.Goals as goal
 use Rattle.centre_core.proofs.facts.are_covering.Goals.{then-covers_at+else-count-others+else-ne, else-covers_at}
+
+pub covers_at-requires : goal.covers_at-requires
+covers_at-requires c = λ short. selected_here c.args.areas.now c.args.names.now c.args.coverages.now c.loop-i.i c.index-names-i.result c.requires c.index-names-i.is c.loop-i-test.true short
 
 pub loop-i-preserved : goal.loop-i-preserved
 loop-i-preserved c =
