@@ -1,100 +1,79 @@
--- Cells as a map keeps them, and as contracts see them.
-use Rattle.std.proofs.Common.{◌≡◌, ℕ, Bool, true, false, cond, ◌&&◌, not, List, [], ◌∷◌, None, Some, nat_eq, filter, map, if◌then◌else◌, refl, sym, ◌∙◌, ap, arith}
-use Rattle.std.proofs.lemmas.Bool.{and_from, and_parts, or_parts}
+-- Cells in order: where a cell stands, and what an edit at its place makes of them.
+use Rattle.std.proofs.Common.{◌≡◌, ℕ, zero, suc, ◌<◌, ◌≤◌, Bool, true, false, not, List, [], ◌∷◌, ◌++◌, None, Some, length, take, drop, set, get_or, filter, map, refl, sym, ◌∙◌, ap, arith}
+use Rattle.std.proofs.lemmas.Bool.{and_parts, or_from, or_parts}
 use Rattle.std.proofs.lemmas.Bool.Decides.{nat_tests}
 use Rattle.std.proofs.lemmas.Grind.{common_steps}
-use Rattle.std.proofs.lemmas.Map.Keys.{sorted_head, sorted_tail}
-use Rattle.std.specs.BTreeMap.{is_at, insert_entry}
-use Rattle.std.specs.List.{AllByRecursion, list_any, list_all}
-use Rattle.std.specs.List.Sorted.{IsStrictlySortedBy}
-use Rattle.std.specs.Map.{keys_of, lookup, remove_entry, set_value}
-use Rattle.std.specs.Option.{is_some}
-use Rattle.std.specs.Ordering.{is_le, is_lt, match_ordering}
-use Rattle.std.specs.declared.cmp.Ordering.{Ordering}
-use Rattle.std.specs.declared.cmp.Ordering.TheVariants.{Less, Equal, Greater}
+use Rattle.std.specs.List.{list_any, list_all}
+use Rattle.std.specs.List.Sorted.{IsPartitionedBy}
 use Rattle.common.specs.Cell.{cell_eq, cell_lt}
 use Rattle.common.specs.OnceLaws.{kept_whole}
 use Rattle.common.specs.Order.{inserted, is_ascending}
 use Rattle.common.specs.declared.cell.Cell.{Cell}
+use Rattle.cell_register.specs.CellLaws.{cell_lt_follows}
 use Rattle.cell_register.specs.Laws.{is_some_place_among, nowhere_after}
-use Rattle.cell_register.specs.Places.{cell_cmp, placed, identity_fits}
-use Rattle.cell_register.specs.Register.{cell_of, new_placed, place_among, placed_after_move, placed_lt}
+use Rattle.cell_register.specs.Places.{IsStart, StandsAt}
+use Rattle.cell_register.specs.Register.{new_placed, place_among, placed_after_move, placed_lt}
 use Rattle.cell_register.specs.declared.placed.Placed.{Placed}
+use Rattle.cell_register.proofs.RisingLemmas.{at_place, parted}
 
--- a cell is found where it is the same
-pub at_cell : (c d : Cell) → is_at (cell_cmp c) d ≡ cell_eq d c
-at_cell c d = grind (arith, nat_tests, common_steps)
+-- the registered cell comes before the cell
+abbrev pub comes_before : Cell → Placed → Bool
+comes_before c p = cell_lt p.cell c
 
--- what the map has at a cell is its BSC
-pub place_is : (c : Cell) (es : List (Cell × ℕ)) → lookup (is_at (cell_cmp c)) es ≡ place_among (placed es) c
-place_is c [] = refl
-place_is c (e ∷ es) = rw (at_cell c e.0, place_is c es) refl
+-- a cell before one that comes before c does so too
+pub parted_at : (c : Cell) (ps : List Placed) → is_ascending placed_lt ps ≡ true → IsPartitionedBy (comes_before c) ps
+parted_at c ps o = parted placed_lt (comes_before c) (λ p q h g. cell_lt_follows p.cell q.cell c h g) ps o
 
-lesser : (c d : Cell) → cell_cmp c d ≡ Less → cell_lt c d ≡ true
-lesser c d h = grind (arith, nat_tests, common_steps)
+-- a cell that comes before another is not that one
+apart_before : (c d : Cell) → cell_lt d c ≡ true → cell_eq d c ≡ false
+apart_before c d h = grind (arith, nat_tests, common_steps)
 
-after : (c : Cell) (b : ℕ) (es : List (Cell × ℕ)) → AllByRecursion (λ d. cell_cmp c d ≡ Less) (keys_of es) → list_all (placed_lt (new_placed c b)) (placed es) ≡ true
-after c b [] h = refl
-after c b (e ∷ es) h = and_from (cell_lt c e.0) (list_all (placed_lt (new_placed c b)) (placed es)) (lesser c e.0 h.0) (after c b es h.1)
+apart_after : (c d : Cell) → cell_lt c d ≡ true → cell_eq d c ≡ false
+apart_after c d h = grind (arith, nat_tests, common_steps)
 
--- a map's cells are in ascending order
-pub ascends : (es : List (Cell × ℕ)) → IsStrictlySortedBy cell_cmp (keys_of es) → is_ascending placed_lt (placed es) ≡ true
-ascends [] h = refl
-ascends (e ∷ es) h =
-    and_from (list_all (placed_lt (new_placed e.0 e.1)) (placed es)) (is_ascending placed_lt (placed es)) (after e.0 e.1 es (sorted_head cell_cmp e.0 (keys_of es) h)) (ascends es (sorted_tail cell_cmp e.0 (keys_of es) h))
+-- of two cells that differ, the one that doesn't come before the other comes after it
+comes_after : (c d : Cell) → cell_lt d c ≡ false → cell_eq d c ≡ false → cell_lt c d ≡ true
+comes_after c d h g = grind (arith, nat_tests, common_steps)
 
--- where nothing is found, nothing is set
-pub set_none : {K X : Type 0} (test : K → Bool) (es : List (K × X)) (w : X) → lookup test es ≡ None → set_value test es w ≡ es
-set_none test [] w h = refl
-set_none {K} {X} test (e ∷ es) w h = step (test e.0) (set_none test es w) h
-  where
-    step : (t : Bool) → (lookup test es ≡ None → set_value test es w ≡ es) → cond t (Some e.1) (lookup test es) ≡ None → cond t ((e.0, w) ∷ es) (e ∷ set_value test es w) ≡ e ∷ es
-    step true rest g = cc
-    step false rest g = ap (λ xs. e ∷ xs) (rest g)
+-- a cell that comes before one that is c is not c
+apart_first : (c d e : Cell) → cell_lt d e ≡ true → cell_eq e c ≡ true → cell_eq d c ≡ false
+apart_first c d e h g = grind (arith, nat_tests, common_steps)
 
-comes_after : (c d : Cell) → cell_cmp c d ≡ Less → cell_lt d c ≡ false
-comes_after c d h = grind (arith, nat_tests, common_steps)
+-- the same of the cells after the first
+start_behind : (c : Cell) (p : Placed) (ps : List Placed) (n : ℕ) → IsStart c (p ∷ ps) (suc n) → IsStart c ps n
+start_behind c p ps n start = (λ k d low high. start.0 (suc k) d (omega arith) (omega arith), λ k d low high. start.1 (suc k) d (omega arith) (omega arith))
 
-comes_before : (c d : Cell) → cell_cmp c d ≡ Greater → cell_lt d c ≡ true
-comes_before c d h = grind (arith, nat_tests, common_steps)
+-- at its start a cell stands before the first that does not come before it
+pub inserted_at : (c : Cell) (b : ℕ) (ps : List Placed) (n : ℕ) → n ≤ length ps → IsStart c ps n → take n ps ++ new_placed c b ∷ drop n ps ≡ inserted placed_lt (new_placed c b) ps
+inserted_at c b [] zero h start = refl
+inserted_at c b [] (suc n) h start = absurd (omega arith)
+inserted_at c b (p ∷ ps) zero h start = rw (start.1 0 p (omega arith) (omega arith)) refl
+inserted_at c b (p ∷ ps) (suc n) h start =
+    rw (start.0 0 p (omega arith) (omega arith)) (ap (λ qs. p ∷ qs) (inserted_at c b ps n (omega arith) (start_behind c p ps n start)))
 
-is_same : (c d : Cell) → cell_cmp c d ≡ Equal → cell_eq d c ≡ true
-is_same c d h = grind (arith, nat_tests, common_steps)
+-- none of the cells after one that comes after c is c
+none_behind : (c : Cell) (p : Placed) (ps : List Placed) → cell_lt c p.cell ≡ true → list_all (placed_lt p) ps ≡ true → list_any (λ q. cell_eq q.cell c) ps ≡ false
+none_behind c p [] h all = refl
+none_behind c p (q ∷ ps) h all =
+    let parts = and_parts (placed_lt p q) (list_all (placed_lt p) ps) all in
+    or_from (cell_eq q.cell c) (list_any (λ s. cell_eq s.cell c) ps) (apart_after c q.cell (cell_lt_follows c p.cell q.cell h parts.0)) (none_behind c p ps h parts.1)
 
--- a cell that is not there goes to its place in the order
-put : (c : Cell) (b : ℕ) (es : List (Cell × ℕ)) → list_any (λ p. cell_eq p.cell c) (placed es) ≡ false → placed (insert_entry cell_cmp es c b) ≡ inserted placed_lt (new_placed c b) (placed es)
-put c b [] h = refl
-put c b (e ∷ es) h = step (cell_cmp c e.0) refl (put c b es parts.1)
-  where
-    parts : (cell_eq e.0 c ≡ false) × (list_any (λ p. cell_eq p.cell c) (placed es) ≡ false)
-    parts = or_parts (cell_eq e.0 c) (list_any (λ p. cell_eq p.cell c) (placed es)) h
+-- where another stands at the start, the cell is none of them
+pub none_at : (c : Cell) (ps : List Placed) (n : ℕ) (d : Placed) → is_ascending placed_lt ps ≡ true → n ≤ length ps → IsStart c ps n → (n < length ps → cell_eq (get_or ps n d).cell c ≡ false) → list_any (λ p. cell_eq p.cell c) ps ≡ false
+none_at c [] n d o h start other = refl
+none_at c (p ∷ ps) zero d o h start other =
+    let differs : cell_eq p.cell c ≡ false = other (omega arith) in
+    let after : cell_lt c p.cell ≡ true = comes_after c p.cell (start.1 0 p (omega arith) (omega arith)) differs in
+    or_from (cell_eq p.cell c) (list_any (λ q. cell_eq q.cell c) ps) differs (none_behind c p ps after (and_parts (list_all (placed_lt p) ps) (is_ascending placed_lt ps) o).0)
+none_at c (p ∷ ps) (suc n) d o h start other =
+    or_from (cell_eq p.cell c) (list_any (λ q. cell_eq q.cell c) ps) (apart_before c p.cell (start.0 0 p (omega arith) (omega arith))) (none_at c ps n d (and_parts (list_all (placed_lt p) ps) (is_ascending placed_lt ps) o).1 (omega arith) (start_behind c p ps n start) (λ g. other (omega arith)))
 
-    with_order : Bool → List Placed
-    with_order t = if t then new_placed e.0 e.1 ∷ inserted placed_lt (new_placed c b) (placed es) else new_placed c b ∷ new_placed e.0 e.1 ∷ placed es
-
-    step : (o : Ordering) → cell_cmp c e.0 ≡ o → placed (insert_entry cell_cmp es c b) ≡ inserted placed_lt (new_placed c b) (placed es) → placed (match_ordering o ((c, b) ∷ e ∷ es) ((e.0, b) ∷ es) (e ∷ insert_entry cell_cmp es c b)) ≡ (if cell_lt e.0 c then new_placed e.0 e.1 ∷ inserted placed_lt (new_placed c b) (placed es) else new_placed c b ∷ new_placed e.0 e.1 ∷ placed es)
-    step Less g rest = rw (comes_after c e.0 g) refl
-    step Equal g rest = let no : true ≡ false = sym (is_same c e.0 g) ∙ parts.0 in cc
-    step Greater g rest = rw (comes_before c e.0 g) (ap (λ xs. new_placed e.0 e.1 ∷ xs) rest)
-
-pub placed_with : (c : Cell) (b : ℕ) (es : List (Cell × ℕ)) → is_some (place_among (placed es) c) ≡ false → placed (insert_entry cell_cmp es c b) ≡ inserted placed_lt (new_placed c b) (placed es)
-placed_with c b es h = put c b es (sym (is_some_place_among c (placed es)) ∙ h)
-
--- the cell of the first is none of the others
-none_after : (p : Placed) (ps : List Placed) (c : Cell) → list_all (placed_lt p) ps ≡ true → cell_eq p.cell c ≡ true → list_any (λ q. cell_eq q.cell c) ps ≡ false
-none_after p ps c order same = sym (is_some_place_among c ps) ∙ nowhere_after p ps c order same
-
--- without the cell
-pub placed_without : (c : Cell) (es : List (Cell × ℕ)) → is_ascending placed_lt (placed es) ≡ true → placed (remove_entry (is_at (cell_cmp c)) es) ≡ filter (λ p. not (cell_eq p.cell c)) (placed es)
-placed_without c [] h = refl
-placed_without c (e ∷ es) h = rw (at_cell c e.0) (step (cell_eq e.0 c) refl (placed_without c es order.1))
-  where
-    order : (list_all (placed_lt (new_placed e.0 e.1)) (placed es) ≡ true) × (is_ascending placed_lt (placed es) ≡ true)
-    order = and_parts (list_all (placed_lt (new_placed e.0 e.1)) (placed es)) (is_ascending placed_lt (placed es)) h
-
-    step : (t : Bool) → cell_eq e.0 c ≡ t → placed (remove_entry (is_at (cell_cmp c)) es) ≡ filter (λ p. not (cell_eq p.cell c)) (placed es) → placed (cond t es (e ∷ remove_entry (is_at (cell_cmp c)) es)) ≡ (if not t then new_placed e.0 e.1 ∷ filter (λ p. not (cell_eq p.cell c)) (placed es) else filter (λ p. not (cell_eq p.cell c)) (placed es))
-    step true g rest = sym (kept_whole (λ p. cell_eq p.cell c) (placed es) (none_after (new_placed e.0 e.1) (placed es) c order.0 g))
-    step false g rest = ap (λ ps. new_placed e.0 e.1 ∷ ps) rest
+-- a cell that is none of them has no place
+pub place_none : (c : Cell) (ps : List Placed) → list_any (λ p. cell_eq p.cell c) ps ≡ false → place_among ps c ≡ None
+place_none c [] h = refl
+place_none c (p ∷ ps) h =
+    let parts = or_parts (cell_eq p.cell c) (list_any (λ q. cell_eq q.cell c) ps) h in
+    rw (parts.0, place_none c ps parts.1) refl
 
 -- a move of a cell that is not there changes nothing
 pub moved_none : (c : Cell) (b : ℕ) (ps : List Placed) → list_any (λ p. cell_eq p.cell c) ps ≡ false → map (placed_after_move c b) ps ≡ ps
@@ -103,43 +82,45 @@ moved_none c b (p ∷ ps) h =
     let parts = or_parts (cell_eq p.cell c) (list_any (λ q. cell_eq q.cell c) ps) h in
     rw (parts.0, moved_none c b ps parts.1) refl
 
--- with the cell at another BSC
-pub placed_moved : (c : Cell) (b : ℕ) (es : List (Cell × ℕ)) → is_ascending placed_lt (placed es) ≡ true → placed (set_value (is_at (cell_cmp c)) es b) ≡ map (placed_after_move c b) (placed es)
-placed_moved c b [] h = refl
-placed_moved c b (e ∷ es) h = rw (at_cell c e.0) (step (cell_eq e.0 c) refl (placed_moved c b es order.1))
-  where
-    order : (list_all (placed_lt (new_placed e.0 e.1)) (placed es) ≡ true) × (is_ascending placed_lt (placed es) ≡ true)
-    order = and_parts (list_all (placed_lt (new_placed e.0 e.1)) (placed es)) (is_ascending placed_lt (placed es)) h
+-- the cell of the first is none of the others
+none_after : (p : Placed) (ps : List Placed) (c : Cell) → list_all (placed_lt p) ps ≡ true → cell_eq p.cell c ≡ true → list_any (λ q. cell_eq q.cell c) ps ≡ false
+none_after p ps c order same = sym (is_some_place_among c ps) ∙ nowhere_after p ps c order same
 
-    step : (t : Bool) → cell_eq e.0 c ≡ t → placed (set_value (is_at (cell_cmp c)) es b) ≡ map (placed_after_move c b) (placed es) → placed (cond t ((e.0, b) ∷ es) (e ∷ set_value (is_at (cell_cmp c)) es b)) ≡ (if t then new_placed e.0 b else new_placed e.0 e.1) ∷ map (placed_after_move c b) (placed es)
-    step true g rest = ap (λ ps. new_placed e.0 b ∷ ps) (sym (moved_none c b (placed es) (none_after (new_placed e.0 e.1) (placed es) c order.0 g)))
-    step false g rest = ap (λ ps. new_placed e.0 e.1 ∷ ps) rest
+-- the same of a place among the cells after the first
+stands_behind : (c : Cell) (p : Placed) (ps : List Placed) (n : ℕ) → StandsAt c (p ∷ ps) (suc n) → StandsAt c ps n
+stands_behind c p ps n at = record { bound = let b = at.bound in omega arith; same = λ d. at.same d }
 
--- the first and the last cell that a location area can have
-abbrev pub first_in : ℕ → Cell
-first_in lac = record { lac = lac; ci = 0 }
+-- the cell of the first is not c where c stands after it
+first_differs : (c : Cell) (p : Placed) (ps : List Placed) (n : ℕ) → list_all (placed_lt p) ps ≡ true → StandsAt c ps n → cell_eq p.cell c ≡ false
+first_differs c p ps n all at = apart_first c p.cell (get_or ps n p).cell (at_place (placed_lt p) ps n p at.bound all) (at.same p)
 
-abbrev pub last_in : ℕ → Cell
-last_in lac = record { lac = lac; ci = 65535 }
+-- the BSC at the place is the cell's
+pub place_at : (c : Cell) (ps : List Placed) (n : ℕ) (d : Placed) → is_ascending placed_lt ps ≡ true → StandsAt c ps n → place_among ps c ≡ Some (get_or ps n d).bsc
+place_at c [] n d o at = let b = at.bound in absurd (omega arith)
+place_at c (p ∷ ps) zero d o at = rw (at.same d) refl
+place_at c (p ∷ ps) (suc n) d o at =
+    let order = and_parts (list_all (placed_lt p) ps) (is_ascending placed_lt ps) o in
+    let rest = stands_behind c p ps n at in
+    rw (first_differs c p ps n order.0 rest) (place_at c ps n d order.1 rest)
 
--- between them are the cells of the area
-at_area : (lac : ℕ) (p : Placed) → identity_fits p ≡ true → (is_le (cell_cmp (first_in lac) p.cell) && not (is_lt (cell_cmp (last_in lac) p.cell))) ≡ nat_eq p.cell.lac lac
-at_area lac p h = grind (arith, nat_tests, common_steps)
+-- a change at the place is the move of the cell
+pub moved_at : (c : Cell) (b : ℕ) (ps : List Placed) (n : ℕ) (d : Placed) → is_ascending placed_lt ps ≡ true → StandsAt c ps n → set ps n (new_placed (get_or ps n d).cell b) ≡ map (placed_after_move c b) ps
+moved_at c b [] n d o at = let b = at.bound in absurd (omega arith)
+moved_at c b (p ∷ ps) zero d o at =
+    let order = and_parts (list_all (placed_lt p) ps) (is_ascending placed_lt ps) o in
+    rw (at.same d) (ap (λ qs. new_placed p.cell b ∷ qs) (sym (moved_none c b ps (none_after p ps c order.0 (at.same d)))))
+moved_at c b (p ∷ ps) (suc n) d o at =
+    let order = and_parts (list_all (placed_lt p) ps) (is_ascending placed_lt ps) o in
+    let rest = stands_behind c p ps n at in
+    rw (first_differs c p ps n order.0 rest) (ap (λ qs. p ∷ qs) (moved_at c b ps n d order.1 rest))
 
-between : (lac : ℕ) (es : List (Cell × ℕ)) → list_all identity_fits (placed es) ≡ true → placed (filter (λ e. is_le (cell_cmp (first_in lac) e.0) && not (is_lt (cell_cmp (last_in lac) e.0))) es) ≡ filter (λ p. nat_eq p.cell.lac lac) (placed es)
-between lac [] h = refl
-between lac (e ∷ es) h = rw (at_area lac (new_placed e.0 e.1) parts.0) (step (nat_eq e.0.lac lac) (between lac es parts.1))
-  where
-    parts : (identity_fits (new_placed e.0 e.1) ≡ true) × (list_all identity_fits (placed es) ≡ true)
-    parts = and_parts (identity_fits (new_placed e.0 e.1)) (list_all identity_fits (placed es)) h
-
-    kept : List (Cell × ℕ)
-    kept = filter (λ d. is_le (cell_cmp (first_in lac) d.0) && not (is_lt (cell_cmp (last_in lac) d.0))) es
-
-    step : (t : Bool) → placed kept ≡ filter (λ p. nat_eq p.cell.lac lac) (placed es) → placed (if t then e ∷ kept else kept) ≡ (if t then new_placed e.0 e.1 ∷ filter (λ p. nat_eq p.cell.lac lac) (placed es) else filter (λ p. nat_eq p.cell.lac lac) (placed es))
-    step true rest = ap (λ ps. new_placed e.0 e.1 ∷ ps) rest
-    step false rest = rest
-
--- so what the map gives between them is the cells of the area
-pub cells_between : (lac : ℕ) (given es : List (Cell × ℕ)) → list_all identity_fits (placed es) ≡ true → given ≡ filter (λ e. is_le (cell_cmp (first_in lac) e.0) && not (is_lt (cell_cmp (last_in lac) e.0))) es → map cell_of (placed given) ≡ map cell_of (filter (λ p. nat_eq p.cell.lac lac) (placed es))
-cells_between lac given es fits e = ap (λ ds. map cell_of (placed ds)) e ∙ ap (map cell_of) (between lac es fits)
+-- without what stands at the place they are without the cell
+pub without_at : (c : Cell) (ps : List Placed) (n : ℕ) (d : Placed) → is_ascending placed_lt ps ≡ true → StandsAt c ps n → take n ps ++ drop (suc n) ps ≡ filter (λ p. not (cell_eq p.cell c)) ps
+without_at c [] n d o at = let b = at.bound in absurd (omega arith)
+without_at c (p ∷ ps) zero d o at =
+    let order = and_parts (list_all (placed_lt p) ps) (is_ascending placed_lt ps) o in
+    rw (at.same d) (sym (kept_whole (λ q. cell_eq q.cell c) ps (none_after p ps c order.0 (at.same d))))
+without_at c (p ∷ ps) (suc n) d o at =
+    let order = and_parts (list_all (placed_lt p) ps) (is_ascending placed_lt ps) o in
+    let rest = stands_behind c p ps n at in
+    rw (first_differs c p ps n order.0 rest) (ap (λ qs. p ∷ qs) (without_at c ps n d order.1 rest))

@@ -1,23 +1,29 @@
 -- How a register keeps its cells: in their order, each with its BSC, and once more by BSC.
-use Rattle.std.specs.Prelude.{◌≡◌, ℕ, Bool, true, false, ◌&&◌, ◌||◌, not, List, Option, None, Some, nat_eq, ltb, map, if◌then◌else◌}
-use Rattle.std.specs.List.{list_any, list_all}
+use Rattle.std.specs.Prelude.{◌≡◌, ◌<◌, ℕ, Bool, true, false, ◌&&◌, ◌||◌, not, List, Option, None, Some, nat_eq, length, slice_index_or, if◌then◌else◌}
+use Rattle.std.specs.List.{list_any}
+use Rattle.std.specs.List.Sorted.{IsPartitionPoint}
 use Rattle.std.specs.Option.{IfSome, is_some}
 use Rattle.std.specs.Ordering.{nat_cmp, ordering_then}
 use Rattle.std.specs.declared.cmp.Ordering.{Ordering}
-use Rattle.common.specs.Cell.{cell_eq}
+use Rattle.common.specs.Cell.{cell_eq, cell_lt}
 use Rattle.common.specs.Order.{is_ascending}
 use Rattle.common.specs.declared.cell.Cell.{Cell}
-use Rattle.cell_register.specs.Register.{place_among, placed_lt, new_placed, is_place}
+use Rattle.cell_register.specs.Register.{place_among, placed_lt, is_place}
 use Rattle.cell_register.specs.declared.placed.Placed.{Placed}
 use Rattle.cell_register.specs.declared.seat.Seat.{Seat}
 
--- the order of cells, as a map compares them
+-- the order of cells, as a set compares them
 abbrev pub cell_cmp : Cell → Cell → Ordering
 cell_cmp x y = ordering_then (nat_cmp x.lac y.lac) (nat_cmp x.ci y.ci)
 
--- cells with their BSCs, as contracts see them
-abbrev pub placed : List (Cell × ℕ) → List Placed
-placed es = map (λ e. new_placed e.0 e.1) es
+-- before this place stand the cells that come before the cell, and from it on the others
+abbrev pub IsStart : Cell → List Placed → ℕ → Type 0
+IsStart c ps n = IsPartitionPoint (λ p. cell_lt p.cell c ≡ true) (λ p. cell_lt p.cell c ≡ false) ps n
+
+-- the cell stands at this place
+pub record StandsAt (c : Cell) (ps : List Placed) (n : ℕ) : Type 0 where
+  pub bound : n < length ps
+  pub same : (d : Placed) → cell_eq (slice_index_or ps n d).cell c ≡ true
 
 -- the cell with the number of its BSC
 abbrev pub seat : ℕ → Cell → Seat
@@ -67,12 +73,7 @@ IsIndexWithout old new c b = (place : Cell → Option ℕ) → place c ≡ Some 
 abbrev pub IsIndexAfterMove : Option (List Seat) → Option (List Seat) → Cell → ℕ → ℕ → Type 0
 IsIndexAfterMove old new c a b = (place : Cell → Option ℕ) → place c ≡ Some a → IsIndexed old place → IsIndexed new (with_place c b place)
 
--- a cell identity is a number of two octets
-abbrev pub identity_fits : Placed → Bool
-identity_fits p = ltb p.cell.ci 65536
-
 -- what holds of the cells and of their index
 pub record ArePlaces (cells : List Placed) (seats : Option (List Seat)) : Type 0 where
   pub ascend : is_ascending placed_lt cells ≡ true
-  pub identities_fit : list_all identity_fits cells ≡ true
   pub indexed : IsIndexed seats (place_among cells)

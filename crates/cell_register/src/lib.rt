@@ -8,6 +8,7 @@
 
 mod bsc_id;
 mod bscs;
+mod by_cell;
 mod placed;
 mod places;
 mod refusal;

@@ -1,26 +1,25 @@
 //! The registered cells, each with its BSC.
 
-ghost use Rattle.std.specs.Prelude.{◌≡◌, false, [], ◌++◌, ◌∷◌, length, filter, map, nat_eq, not, if◌then◌else◌, IfOk, OnOk, OnErr};
-ghost use Rattle.std.specs.BTreeMap.{is_at};
+ghost use Rattle.std.specs.Prelude.{◌≡◌, true, false, [], ◌++◌, ◌∷◌, length, filter, map, nat_eq, not, if◌then◌else◌, IfOk, OnOk, OnErr};
 ghost use Rattle.std.specs.List.{list_any};
-ghost use Rattle.std.specs.Map.{lookup, set_value};
 ghost use Rattle.std.specs.Option.{is_some};
 ghost use Rattle.common.specs.Cell.{cell_eq};
-ghost use Rattle.common.specs.Order.{inserted};
-ghost use Rattle.cell_register.specs.Places.{cell_cmp, placed, IsIndex, IsIndexWith, IsIndexWithout, IsIndexAfterMove};
+ghost use Rattle.common.specs.Order.{inserted, is_ascending};
+ghost use Rattle.cell_register.specs.Places.{IsIndex, IsIndexWith, IsIndexWithout, IsIndexAfterMove};
 ghost use Rattle.cell_register.specs.Register.{cell_of, new_placed, place_among, placed_after_move, placed_lt};
 
 use crate::bsc_id::BscId;
+use crate::by_cell;
+use crate::placed::Placed;
 use crate::seats::Seats;
 use common::{Cell, Cells};
 use std::alloc::{AllocError, Global};
-use std::collections::BTreeMap;
 use std::marker::Model;
 
 /// The registered cells in ascending order, each with its BSC.
 #[derive(Drop)]
 pub(crate) struct Places {
-    places: BTreeMap<Cell, BscId>,
+    places: Vec<Placed>,
     /// The same cells by BSC, as an index. `None` after a `set` for which it was refused memory; the next `insert` or
     /// `set` makes it anew.
     seats: Option<Seats>,
@@ -28,25 +27,14 @@ pub(crate) struct Places {
 
 impl Model for Places {
     ghost use Rattle.std.specs.Prelude.{List};
-    ghost use Rattle.cell_register.specs.Places.{placed, ArePlaces};
+    ghost use Rattle.cell_register.specs.Places.{ArePlaces};
     ghost use Rattle.cell_register.specs.declared.placed.Placed.{Placed};
 
     ghost Value = { List Placed };
 
-    ghost view = { λ p. placed p.places.entries };
+    ghost view = { λ p. p.places.items };
 
-    ghost invariant = { λ p. ArePlaces (placed p.places.entries) p.seats };
-}
-
-/// Registers the cell at another BSC, and returns the one where it was. Changes nothing where it was at none.
-fn set_bsc(c: Cell, b: BscId, places: &mut BTreeMap<Cell, BscId>) -> Option<BscId>
-    ensures old { result ≡ lookup (is_at (cell_cmp c)) places.old.entries }
-    ensures set { places.new.entries ≡ set_value (is_at (cell_cmp c)) places.old.entries b }
-{
-    let place = places.get_mut(&c)?;
-    let old = *place;
-    *place = b;
-    Some(old)
+    ghost invariant = { λ p. ArePlaces p.places.items p.seats };
 }
 
 /// Puts the cell at the BSC in the index, where there is an index. An `Err` leaves it as it was.
@@ -83,12 +71,13 @@ fn move_seat(old: BscId, b: BscId, c: Cell, seats: &mut Option<Seats>)
 }
 
 /// The index of the cells.
-fn index_of(alloc: Global, places: &BTreeMap<Cell, BscId>) -> Result<Seats, AllocError>
-    ensures { IfOk result (λ seats. IsIndex seats (place_among (placed places.now.entries))) }
+fn index_of(alloc: Global, places: &[Placed]) -> Result<Seats, AllocError>
+    requires { is_ascending placed_lt places.now ≡ true }
+    ensures { IfOk result (λ seats. IsIndex seats (place_among places.now)) }
 {
     let mut seats = Seats::new(alloc);
-    for (cell, bsc) in places {
-        seats.insert(*bsc, *cell)?;
+    for place in places {
+        seats.insert(place.bsc, place.cell)?;
     }
     Ok(seats)
 }
@@ -104,30 +93,32 @@ fn push_if(is_wanted: bool, c: Cell, out: &mut Vec<Cell>) -> Result<(), AllocErr
 }
 
 /// The cells of the BSC, found by a look at every cell.
-fn cells_without_index(
-    alloc: Global,
-    b: BscId,
-    places: &BTreeMap<Cell, BscId>,
-) -> Result<Cells, AllocError>
-    ensures { IfOk result (λ found. found ≡ map cell_of (filter (λ p. nat_eq p.bsc b) (placed places.now.entries))) }
+fn cells_without_index(alloc: Global, b: BscId, places: &[Placed]) -> Result<Cells, AllocError>
+    ensures { IfOk result (λ found. found ≡ map cell_of (filter (λ p. nat_eq p.bsc b) places.now)) }
 {
     let mut found = Vec::new(alloc);
-    for (cell, bsc) in places {
-        push_if(*bsc == b, *cell, &mut found)?;
+    for place in places {
+        push_if(place.bsc == b, place.cell, &mut found)?;
     }
     Ok(Cells::from_vec(found))
 }
 
 /// Whether a cell is registered at the BSC, found by a look at every cell.
-fn has_cells_without_index(b: BscId, places: &BTreeMap<Cell, BscId>) -> bool
-    ensures { result ≡ list_any (λ p. nat_eq p.bsc b) (placed places.now.entries) }
+fn has_cells_without_index(b: BscId, places: &[Placed]) -> bool
+    ensures { result ≡ list_any (λ p. nat_eq p.bsc b) places.now }
 {
-    for (_, bsc) in places {
-        if *bsc == b {
-            return true;
-        }
+    places.iter().any(|place| place.bsc == b)
+}
+
+/// The cells without their BSCs.
+fn cells_alone(alloc: Global, places: &[Placed]) -> Result<Cells, AllocError>
+    ensures { IfOk result (λ found. found ≡ map cell_of places.now) }
+{
+    let mut found = Vec::new(alloc);
+    for place in places {
+        found.push(place.cell)?;
     }
-    false
+    Ok(Cells::from_vec(found))
 }
 
 impl Places {
@@ -135,7 +126,7 @@ impl Places {
         ensures { result ≡ [] }
     {
         Places {
-            places: BTreeMap::new(alloc),
+            places: Vec::new(alloc),
             seats: Some(Seats::new(alloc)),
         }
     }
@@ -150,7 +141,7 @@ impl Places {
     pub(crate) fn bsc_of(&self, c: Cell) -> Option<BscId>
         ensures { result ≡ place_among self.now c }
     {
-        self.places.get(&c).copied()
+        by_cell::bsc_of(c, self.places.as_slice())
     }
 
     /// Whether a cell is registered at the BSC.
@@ -159,7 +150,7 @@ impl Places {
     {
         match &self.seats {
             Some(seats) => seats.has_cells(b),
-            None => has_cells_without_index(b, &self.places),
+            None => has_cells_without_index(b, self.places.as_slice()),
         }
     }
 
@@ -173,7 +164,7 @@ impl Places {
                 Ok(found)
             }
             None => {
-                let found = cells_without_index(alloc, b, &self.places)?;
+                let found = cells_without_index(alloc, b, self.places.as_slice())?;
                 Ok(found)
             }
         }
@@ -183,24 +174,17 @@ impl Places {
     pub(crate) fn cells_in(&self, alloc: Global, lac: u16) -> Result<Cells, AllocError>
         ensures { IfOk result (λ found. found ≡ map cell_of (filter (λ p. nat_eq p.cell.lac lac) self.now)) }
     {
-        let mut found = Vec::new(alloc);
-        let first = Cell { lac, ci: 0 };
-        let last = Cell { lac, ci: u16::MAX };
-        for (cell, _) in self.places.range(first..=last) {
-            found.push(*cell)?;
-        }
-        Ok(Cells::from_vec(found))
+        let area = by_cell::in_area(lac, self.places.as_slice());
+        let found = cells_alone(alloc, area)?;
+        Ok(found)
     }
 
     /// All registered cells.
     pub(crate) fn all_cells(&self, alloc: Global) -> Result<Cells, AllocError>
         ensures { IfOk result (λ found. found ≡ map cell_of self.now) }
     {
-        let mut found = Vec::new(alloc);
-        for (cell, _) in &self.places {
-            found.push(*cell)?;
-        }
-        Ok(Cells::from_vec(found))
+        let found = cells_alone(alloc, self.places.as_slice())?;
+        Ok(found)
     }
 
     /// Makes the index anew where there is none, unless memory for it is refused.
@@ -208,7 +192,7 @@ impl Places {
         ensures { self.new ≡ self.old }
     {
         if self.seats.is_none() {
-            self.seats = index_of(alloc, &self.places).ok();
+            self.seats = index_of(alloc, self.places.as_slice()).ok();
         }
     }
 
@@ -220,8 +204,8 @@ impl Places {
     {
         self.restore_index(alloc);
         insert_seat(b, c, &mut self.seats)?;
-        match self.places.insert(c, b) {
-            Ok(_) => Ok(()),
+        match by_cell::insert(c, b, &mut self.places) {
+            Ok(()) => Ok(()),
             Err(_) => {
                 remove_seat(b, c, &mut self.seats);
                 Err(AllocError)
@@ -234,7 +218,7 @@ impl Places {
         ensures { self.new ≡ map (placed_after_move c b) self.old }
     {
         self.restore_index(alloc);
-        let Some(old) = set_bsc(c, b, &mut self.places) else {
+        let Some(old) = by_cell::set_bsc(c, b, &mut self.places) else {
             return;
         };
         move_seat(old, b, c, &mut self.seats);
@@ -244,7 +228,7 @@ impl Places {
     pub(crate) fn remove(&mut self, c: Cell)
         ensures { self.new ≡ filter (λ p. not (cell_eq p.cell c)) self.old }
     {
-        if let Some(b) = self.places.remove(&c) {
+        if let Some(b) = by_cell::remove(c, &mut self.places) {
             remove_seat(b, c, &mut self.seats);
         }
     }
