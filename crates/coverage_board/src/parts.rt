@@ -4,19 +4,18 @@ ghost use Rattle.std.specs.Prelude.{◌≡◌, ◌<◌, ◌^◌, if◌then◌els
 ghost use Rattle.common.specs.Sums.{one, sum_of};
 ghost use Rattle.coverage_board.specs.Parts.{has_areas, broadcast_count, total_part};
 ghost use Rattle.coverage_board.specs.Reading.{stand_of};
-ghost use Rattle.coverage_board.specs.Standings.{stands};
 
 use crate::numbers::Numbers;
 use crate::stand::Stand;
-use crate::standing::stands;
+use crate::standing::{is_left, is_way, standing};
 use crate::way::Way;
 use mirror::Sight;
 
-/// 1 where the line is counted in that way, else 0.
-fn one(stand: &Stand<'_>, way: Way) -> u64
-    ensures { result ≡ one (stands way (stand_of stand.now)) }
+/// 1 where it holds, else 0.
+fn one(holds: bool) -> u64
+    ensures { result ≡ one holds }
 {
-    if stands(stand, way) { 1 } else { 0 }
+    if holds { 1 } else { 0 }
 }
 
 /// How often the versions of the warning were broadcast there.
@@ -41,11 +40,12 @@ pub(crate) fn total_part(stand: &Stand<'_>) -> Numbers
     } else {
         0
     };
+    let stands = standing(&stand.sight);
     Numbers {
-        awaited: one(stand, Way::Awaited),
-        on_air: one(stand, Way::OnAir),
-        failed: one(stand, Way::Failed),
-        left: one(stand, Way::Left),
+        awaited: one(is_way(Way::Awaited, stands)),
+        on_air: one(is_way(Way::OnAir, stands)),
+        failed: one(is_way(Way::Failed, stands)),
+        left: one(is_left(&stand.sight)),
         broadcasts,
     }
 }

@@ -2,10 +2,8 @@
 
 ghost use Rattle.std.specs.Prelude.{◌≡◌};
 ghost use Rattle.mirror.specs.Seen.{seen};
-ghost use Rattle.coverage_board.specs.Reading.{stand_of};
-ghost use Rattle.coverage_board.specs.Standings.{standing, standing_of, is_unwanted, is_left, stands};
+ghost use Rattle.coverage_board.specs.Standings.{standing, standing_of, is_way, is_unwanted, is_left};
 
-use crate::stand::Stand;
 use crate::way::Way;
 use mirror::{Presence, Sight};
 use serials::Serial;
@@ -27,12 +25,22 @@ fn standing_of(sight: &Sight<'_>, wanted: Serial) -> Way
 }
 
 /// How the line of the wanted version stands, if one is wanted.
-fn standing(sight: &Sight<'_>) -> Option<Way>
+pub(crate) fn standing(sight: &Sight<'_>) -> Option<Way>
     ensures { result ≡ standing (seen sight.now) sight.now.wanted }
 {
     match sight.wanted {
         Some(serial) => Some(standing_of(sight, serial)),
         None => None,
+    }
+}
+
+/// Whether a line that stands so, if it stands in a way, stands in that one.
+pub(crate) fn is_way(way: Way, standing: Option<Way>) -> bool
+    ensures { result ≡ is_way way standing }
+{
+    match standing {
+        Some(other) => way == other,
+        None => false,
     }
 }
 
@@ -44,21 +52,11 @@ fn is_unwanted(sight: &Sight<'_>, serial: Serial) -> bool
 }
 
 /// Whether a version of the warning is.
-fn is_left(sight: &Sight<'_>) -> bool
+pub(crate) fn is_left(sight: &Sight<'_>) -> bool
     ensures { result ≡ is_left (seen sight.now) }
 {
     sight
         .versions
         .iter()
         .any(|serial| is_unwanted(sight, *serial))
-}
-
-/// Whether the line is counted in that way.
-pub(crate) fn stands(stand: &Stand<'_>, way: Way) -> bool
-    ensures { result ≡ stands way (stand_of stand.now) }
-{
-    match way {
-        Way::Left => is_left(&stand.sight),
-        Way::Awaited | Way::OnAir | Way::Failed => standing(&stand.sight) == Some(way),
-    }
 }

@@ -29,6 +29,13 @@ impl KeyState {
         }
     }
 
+    /// Whether the same is kept in both.
+    pub(crate) fn same(&self, other: &KeyState) -> bool
+        ensures { result ≡ state_eq self.now other.now }
+    {
+        self.presence == other.presence && self.hold == other.hold && self.count == other.count
+    }
+
     /// Whether it is as each key begins.
     pub(crate) fn is_blank(&self) -> bool
         ensures { result ≡ state_eq self.now blank }

@@ -1,6 +1,7 @@
 //! What is kept of one BSC, cell and warning.
 
 ghost use Rattle.std.specs.Prelude.{◌≡◌, ◌↔◌, IsTrue};
+ghost use Rattle.std.specs.Cmp.Lexicographic.{pointwise};
 ghost use Rattle.std.specs.List.{list_all};
 ghost use Rattle.mirror.specs.Blank.{is_blank, state_eq};
 ghost use Rattle.mirror.specs.Line.{blank, blank_line, state_of, with_state};
@@ -9,7 +10,7 @@ use crate::key_state::KeyState;
 use serials::Serial;
 
 /// What is kept of the versions of one warning in one cell of a BSC, by their update numbers (TS 23.041, 9.4.1.2.1).
-#[derive(Clone, Copy, Debug, PartialEq, Eq)]
+#[derive(Clone, Copy, Debug)]
 pub struct Line {
     pub states: [KeyState; 16],
 }
@@ -19,6 +20,18 @@ fn are_blank(states: &[KeyState]) -> bool
 {
     for state in states {
         if !state.is_blank() {
+            return false;
+        }
+    }
+    true
+}
+
+/// Whether the same is kept in each. One loop over both compares them faster than the equality of arrays does.
+fn are_same(states: &[KeyState; 16], others: &[KeyState; 16]) -> bool
+    ensures { result ≡ pointwise state_eq states.now others.now }
+{
+    for index in 0..16 {
+        if !states[index].same(&others[index]) {
             return false;
         }
     }
@@ -64,4 +77,26 @@ impl Line {
         self.states[serial.update() as usize] = state;
         self
     }
+}
+
+impl PartialEq for Line {
+    ghost use Rattle.std.specs.Cmp.{decided, partial_equiv_from_equiv};
+    ghost use Rattle.mirror.specs.Blank.{line_eq};
+    ghost use Rattle.mirror.specs.BlankLaws.{line_decides};
+
+    ghost eq = { line_eq };
+
+    ghost laws = { partial_equiv_from_equiv (decided line_eq line_decides) };
+
+    fn eq(&self, other: &Line) -> bool {
+        are_same(&self.states, &other.states)
+    }
+}
+
+impl Eq for Line {
+    ghost use Rattle.std.specs.Cmp.{decided};
+    ghost use Rattle.mirror.specs.Blank.{line_eq};
+    ghost use Rattle.mirror.specs.BlankLaws.{line_decides};
+
+    ghost laws = { decided line_eq line_decides };
 }

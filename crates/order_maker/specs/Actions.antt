@@ -60,3 +60,17 @@ deeds v = fresh v v.wanted ++ kills v v.versions
 -- that, in the line's cell
 abbrev pub in_cell : Cell → Deed → Action
 in_cell c d = record { kind = d.kind; message_id = d.message_id; serial = d.serial; cell = c }
+
+-- a deed, if there is one, as a list
+abbrev pub listed : Option Deed → List Deed
+listed None = []
+listed (Some d) = d ∷ []
+
+-- the write of the wanted version, if there is one
+abbrev pub fresh_deed : Seen → Option ℕ → Option Deed
+fresh_deed v None = None
+fresh_deed v (Some s) = if needs v s then Some (deed v (fresh_kind (replaced v s)) s) else None
+
+-- the KILL of the version, if there is one
+abbrev pub kill_deed : Seen → ℕ → Option Deed
+kill_deed v t = if is_to_kill v t then Some (deed v Kill t) else None

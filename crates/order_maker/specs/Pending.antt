@@ -81,6 +81,14 @@ holds held b a = list_any (is_at (slot_cmp (slot_of b a))) held
 pub record Shifts (old new : List Slot) (b : ℕ) (gone come : List Action) : Type 0 where
   pub each : (d : ℕ) (a : Action) → holds new d a ≡ ((nat_eq d b && is_listed a come) || (holds old d a && not (nat_eq d b && is_listed a gone)))
 
+-- what was held, with these actions for the BSC
+abbrev pub IsWith : List Slot → List Slot → ℕ → List Action → Type 0
+IsWith old new b actions = (d : ℕ) (a : Action) → holds new d a ≡ ((nat_eq d b && is_listed a actions) || holds old d a)
+
+-- what was held, without these actions for the BSC
+abbrev pub IsWithout : List Slot → List Slot → ℕ → List Action → Type 0
+IsWithout old new b actions = (d : ℕ) (a : Action) → holds new d a ≡ (holds old d a && not (nat_eq d b && is_listed a actions))
+
 -- the actions that are held for the BSC, each once, in some order
 pub record IsListOf (actions : List Action) (held : List Slot) (b : ℕ) : Type 0 where
   pub once : each_once action_eq actions ≡ true

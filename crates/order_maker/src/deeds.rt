@@ -2,7 +2,7 @@
 
 ghost use Rattle.std.specs.Prelude.{◌≡◌, ◌↔◌, ◌++◌, ◌∷◌, [], IfOk, OnOk, IsTrue, if◌then◌else◌};
 ghost use Rattle.mirror.specs.Seen.{is_the, seen};
-ghost use Rattle.order_maker.specs.Actions.{needs, is_replaceable, newest, replaced, replaced_for, fresh_kind, deed, fresh, is_to_kill, kills, deeds};
+ghost use Rattle.order_maker.specs.Actions.{needs, is_replaceable, newest, replaced, replaced_for, fresh_kind, deed, fresh, is_to_kill, kills, deeds, fresh_deed, kill_deed};
 
 use crate::deed::Deed;
 use crate::order_kind::OrderKind;
@@ -99,6 +99,19 @@ fn fresh_kind(old: Option<Serial>) -> OrderKind
     }
 }
 
+/// The write of the wanted version, where there is one.
+pub(crate) fn fresh_deed(sight: &Sight<'_>) -> Option<Deed>
+    ensures { result ≡ fresh_deed (seen sight.now) sight.now.wanted }
+{
+    match sight.wanted {
+        Some(serial) if needs(sight, serial) => {
+            let kind = fresh_kind(replaced(sight, serial));
+            Some(deed(sight, kind, serial))
+        }
+        _ => None,
+    }
+}
+
 /// Adds the write of the wanted version, where there is one.
 fn add_fresh(out: &mut Vec<Deed>, sight: &Sight<'_>) -> Result<(), AllocError>
     ensures { OnOk result (out.new.items ≡ out.old.items ++ fresh (seen sight.now) sight.now.wanted) }
@@ -124,6 +137,17 @@ fn is_to_kill(sight: &Sight<'_>, serial: Serial) -> bool
         && !is_the(replaced_there(sight), serial)
 }
 
+/// The KILL of the version, where there is one.
+pub(crate) fn kill_deed(sight: &Sight<'_>, serial: Serial) -> Option<Deed>
+    ensures { result ≡ kill_deed (seen sight.now) serial }
+{
+    if is_to_kill(sight, serial) {
+        Some(deed(sight, OrderKind::Kill, serial))
+    } else {
+        None
+    }
+}
+
 /// Adds the KILLs of the versions.
 fn add_kills(out: &mut Vec<Deed>, sight: &Sight<'_>) -> Result<(), AllocError>
     ensures { OnOk result (out.new.items ≡ out.old.items ++ kills (seen sight.now) sight.now.versions.now) }
@@ -147,9 +171,28 @@ pub fn actions(alloc: Global, sight: &Sight<'_>) -> Result<Vec<Deed>, AllocError
     Ok(out)
 }
 
-/// Whether the two are one list.
-pub(crate) fn are_same(deeds: &[Deed], others: &[Deed]) -> bool
-    ensures { IsTrue result ↔ (deeds.now ≡ others.now) }
+/// Whether the two are one deed, or neither is there.
+pub(crate) fn is_same(deed: &Option<Deed>, other: &Option<Deed>) -> bool
+    ensures { IsTrue result ↔ (deed.now ≡ other.now) }
 {
-    deeds == others
+    *deed == *other
+}
+
+/// Whether the KILLs of both are seen to be the same, version by version. Where a version was added they aren't compared,
+/// and the answer is no.
+pub(crate) fn have_same_kills(sight: &Sight<'_>, other: &Sight<'_>) -> bool
+    ensures { IsTrue result → kills (seen sight.now) sight.now.versions.now ≡ kills (seen other.now) other.now.versions.now }
+{
+    let versions = sight.versions;
+    let others = other.versions;
+    if versions.len() != others.len() {
+        return false;
+    }
+    for index in 0..versions.len() {
+        let kill = kill_deed(sight, versions[index]);
+        if !is_same(&kill, &kill_deed(other, others[index])) {
+            return false;
+        }
+    }
+    true
 }

@@ -1,18 +1,18 @@
 //! The pending orders of each BSC, changed line by line.
 
-ghost use Rattle.std.specs.Prelude.{◌≡◌, ℕ, true, false, ◌&&◌, ◌||◌, not, nat_eq, List, map, take, IfOk, OnOk};
+ghost use Rattle.std.specs.Prelude.{◌≡◌, ℕ, true, false, ◌&&◌, ◌||◌, not, nat_eq, List, ◌++◌, map, take, IfOk, OnOk};
 ghost use Rattle.std.specs.List.{slice_get};
 ghost use Rattle.std.specs.Option.{is_some};
 ghost use Rattle.mirror.specs.Seen.{seen};
-ghost use Rattle.order_maker.specs.Actions.{deeds, in_cell};
+ghost use Rattle.order_maker.specs.Actions.{deeds, in_cell, kills, listed};
 ghost use Rattle.order_maker.specs.Grouping.{in_order, grouped, most_cells, first};
 ghost use Rattle.order_maker.specs.Joining.{leading_cells};
-ghost use Rattle.order_maker.specs.Pending.{action_eq, is_listed, action_of, holds, Shifts, IsListOf};
+ghost use Rattle.order_maker.specs.Pending.{action_eq, is_listed, action_of, holds, Shifts, IsWith, IsWithout, IsListOf};
 ghost use Rattle.order_maker.specs.declared.action.Action.{Action};
 
 use crate::action::Action;
 use crate::deed::Deed;
-use crate::deeds::{actions, are_same};
+use crate::deeds::{fresh_deed, have_same_kills, is_same, kill_deed};
 use crate::joining::{is_one_order, join_last};
 use crate::order::Order;
 use crate::orders::Orders;
@@ -76,36 +76,67 @@ impl Pending {
         self.slots.remove(&Slot::of(b, a));
     }
 
-    fn put_all(&mut self, b: BscId, c: Cell, deeds: &[Deed]) -> Result<(), AllocError>
-        ensures { OnOk result ((d : ℕ) (x : Action) → holds self.new d x ≡ ((nat_eq d b && is_listed x (map (in_cell c) deeds.now)) || holds self.old d x)) }
+    /// Puts in the deed, if there is one.
+    fn put_deed(&mut self, b: BscId, c: Cell, deed: Option<Deed>) -> Result<(), AllocError>
+        ensures { OnOk result (IsWith self.old self.new b (map (in_cell c) (listed deed))) }
     {
-        for deed in deeds {
+        if let Some(deed) = deed {
             self.put(b, deed.in_cell(c))?;
         }
         Ok(())
     }
 
-    fn take_all_out(&mut self, b: BscId, c: Cell, deeds: &[Deed])
-        ensures { (d : ℕ) (x : Action) → holds self.new d x ≡ (holds self.old d x && not (nat_eq d b && is_listed x (map (in_cell c) deeds.now))) }
+    /// Takes out the deed, if there is one.
+    fn take_deed_out(&mut self, b: BscId, c: Cell, deed: Option<Deed>)
+        ensures { IsWithout self.old self.new b (map (in_cell c) (listed deed)) }
     {
-        for deed in deeds {
+        if let Some(deed) = deed {
             self.take_out(b, deed.in_cell(c));
         }
     }
 
-    /// Takes the first out and puts the others in.
-    fn exchange(
+    /// Puts in the line's KILLs.
+    fn put_kills(&mut self, b: BscId, c: Cell, sight: &Sight<'_>) -> Result<(), AllocError>
+        ensures { OnOk result (IsWith self.old self.new b (map (in_cell c) (kills (seen sight.now) sight.now.versions.now))) }
+    {
+        let versions = sight.versions;
+        for serial in versions {
+            self.put_deed(b, c, kill_deed(sight, *serial))?;
+        }
+        Ok(())
+    }
+
+    /// Takes out the line's KILLs.
+    fn take_kills_out(&mut self, b: BscId, c: Cell, sight: &Sight<'_>)
+        ensures { IsWithout self.old self.new b (map (in_cell c) (kills (seen sight.now) sight.now.versions.now)) }
+    {
+        let versions = sight.versions;
+        for serial in versions {
+            self.take_deed_out(b, c, kill_deed(sight, *serial));
+        }
+    }
+
+    /// Puts in the line's write, if there is one, and its KILLs.
+    fn put_line(
         &mut self,
         b: BscId,
         c: Cell,
-        gone: &[Deed],
-        come: &[Deed],
+        fresh: Option<Deed>,
+        sight: &Sight<'_>,
     ) -> Result<(), AllocError>
-        ensures { OnOk result (Shifts self.old self.new b (map (in_cell c) gone.now) (map (in_cell c) come.now)) }
+        ensures { OnOk result (IsWith self.old self.new b (map (in_cell c) (listed fresh ++ kills (seen sight.now) sight.now.versions.now))) }
     {
-        self.take_all_out(b, c, gone);
-        self.put_all(b, c, come)?;
+        self.put_deed(b, c, fresh)?;
+        self.put_kills(b, c, sight)?;
         Ok(())
+    }
+
+    /// Takes out the line's write, if there is one, and its KILLs.
+    fn take_line_out(&mut self, b: BscId, c: Cell, fresh: Option<Deed>, sight: &Sight<'_>)
+        ensures { IsWithout self.old self.new b (map (in_cell c) (listed fresh ++ kills (seen sight.now) sight.now.versions.now)) }
+    {
+        self.take_deed_out(b, c, fresh);
+        self.take_kills_out(b, c, sight);
     }
 
     /// The line of the BSC, the cell and one warning was `before` and is `after`: what was to be ordered on it there is
@@ -119,13 +150,13 @@ impl Pending {
     ) -> Result<(), AllocError>
         ensures { OnOk result (Shifts self.old self.new b (map (in_cell c) (deeds (seen before.now))) (map (in_cell c) (deeds (seen after.now)))) }
     {
-        let alloc = self.alloc;
-        let gone = actions(alloc, before)?;
-        let come = actions(alloc, after)?;
-        self.exchange(b, c, gone.as_slice(), come.as_slice())
+        self.take_line_out(b, c, fresh_deed(before), before);
+        self.put_line(b, c, fresh_deed(after), after)?;
+        Ok(())
     }
 
-    /// The same, where what was to be ordered on the line is there. No action is looked up where none comes or goes.
+    /// The same, where what was to be ordered on the line is there. No action is looked up where none comes or goes and no
+    /// version was added.
     pub fn shift_held(
         &mut self,
         b: BscId,
@@ -136,13 +167,14 @@ impl Pending {
         requires { (a : Action) → is_listed a (map (in_cell c) (deeds (seen before.now))) ≡ true → holds self.old b a ≡ true }
         ensures { OnOk result (Shifts self.old self.new b (map (in_cell c) (deeds (seen before.now))) (map (in_cell c) (deeds (seen after.now)))) }
     {
-        let alloc = self.alloc;
-        let gone = actions(alloc, before)?;
-        let come = actions(alloc, after)?;
-        if are_same(gone.as_slice(), come.as_slice()) {
+        let gone = fresh_deed(before);
+        let come = fresh_deed(after);
+        if is_same(&gone, &come) && have_same_kills(before, after) {
             return Ok(());
         }
-        self.exchange(b, c, gone.as_slice(), come.as_slice())
+        self.take_line_out(b, c, gone, before);
+        self.put_line(b, c, come, after)?;
+        Ok(())
     }
 
     /// The slots of the BSC, in the order in which their actions are sent.
