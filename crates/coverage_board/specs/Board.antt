@@ -1,7 +1,5 @@
 -- The numbers that a board keeps.
-use Rattle.std.specs.Prelude.{ℕ, List, [], bytes_eq, unwrap_or}
-use Rattle.std.specs.Ordering.{nat_cmp}
-use Rattle.std.specs.BTreeMap.{is_at}
+use Rattle.std.specs.Prelude.{ℕ, List, [], bytes_eq, nat_eq, unwrap_or}
 use Rattle.std.specs.Map.{lookup}
 use Rattle.coverage_board.specs.Numbers.{zero_numbers}
 use Rattle.coverage_board.specs.declared.numbers.Numbers.{Numbers}
@@ -21,7 +19,7 @@ area_in areas a = unwrap_or (lookup (bytes_eq a) areas) zero_numbers
 
 -- the numbers of the warning of that number, from a board's entries
 abbrev pub row_of : List (ℕ × WarningNumbers) → ℕ → WarningNumbers
-row_of board w = unwrap_or (lookup (is_at (nat_cmp w)) board) nothing
+row_of board w = unwrap_or (lookup (nat_eq w) board) nothing
 
 -- the numbers of the warning of that number
 abbrev pub total_of : List (ℕ × WarningNumbers) → ℕ → Numbers

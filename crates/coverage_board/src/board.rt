@@ -4,8 +4,8 @@ use crate::numbers::Numbers;
 use crate::row::Row;
 use crate::stand::Stand;
 use common::Name;
+use indexmap::IndexMap;
 use std::alloc::{AllocError, Global};
-use std::collections::BTreeMap;
 use std::marker::Model;
 use warning_book::WarningId;
 
@@ -14,7 +14,7 @@ use warning_book::WarningId;
 #[derive(Drop)]
 pub struct Board {
     alloc: Global,
-    rows: BTreeMap<u32, Row>,
+    rows: IndexMap<u32, Row>,
 }
 
 impl Model for Board {
@@ -40,7 +40,7 @@ impl Board {
     {
         Board {
             alloc,
-            rows: BTreeMap::new(alloc),
+            rows: IndexMap::new(alloc),
         }
     }
 
