@@ -93,10 +93,6 @@ one_more true s h o d b e nowhere =
 one_more false true h o d b e nowhere = refl
 one_more false false h o d b e nowhere = refl
 
--- before the first cell
-pub index_begun : (ps : List Placed) → is_ascending placed_lt ps ≡ true → IsIndexOfFirst [] ps ps
-index_begun ps order = record { ascend = order; joined = λ b c. refl }
-
 -- one more cell
 pub index_more : (old new : List Seat) (p : Placed) (rest all : List Placed) → IsIndexOfFirst old (p ∷ rest) all → IsWithSeat old new p.bsc p.cell → IsIndexOfFirst new rest all
 index_more old new p rest all before with_seat = record {
@@ -109,12 +105,3 @@ index_more old new p rest all before with_seat = record {
 
     added : (b : ℕ) (c : Cell) → has_seat new b c ≡ ((nat_eq p.bsc b && cell_eq p.cell c) || has_seat old b c)
     added b c = rw (turned nat_eq unsigned_Decides p.bsc b, turned cell_eq cell_decides p.cell c) (with_seat b c)
-
--- after the last
-pub index_made : (seats : List Seat) (rest all : List Placed) → IsIndexOfFirst seats rest all → rest ≡ [] → IsIndex seats (place_among all)
-index_made seats rest all h none b c =
-    sym (h.joined b c ∙ ap (λ ps. has_seat seats b c || is_place (place_among ps c) b) none ∙ or_nothing (has_seat seats b c))
-  where
-    or_nothing : (t : Bool) → (t || false) ≡ t
-    or_nothing true = refl
-    or_nothing false = refl
