@@ -120,7 +120,7 @@ impl Areas {
     }
 
     /// Makes an area without selectors. Refused as `BadName`, `AreaExists` or `Limit`, the first that holds, else as
-    /// `Memory` where memory is wanting; an `Err` leaves the areas as they were.
+    /// `Memory` where memory runs out; an `Err` leaves the areas as they were.
     pub fn add_area(&mut self, a: &Name) -> Result<(), Refusal>
         ensures accepted { OnOk result (first_refusal (add_area_checks self.old a.now) ≡ None) }
         ensures changed { OnOk result (self.new ≡ with_area a.now self.old) }
@@ -148,7 +148,7 @@ impl Areas {
     }
 
     /// Puts a selector into an area, in its place by location area. Refused as `NoSuchArea`, `SelectorThere` or `Limit`,
-    /// the first that holds, else as `Memory` where memory is wanting; an `Err` leaves the areas as they were.
+    /// the first that holds, else as `Memory` where memory runs out; an `Err` leaves the areas as they were.
     pub fn put(&mut self, a: &Name, s: Selector) -> Result<(), Refusal>
         ensures accepted { OnOk result (first_refusal (put_checks self.old a.now s) ≡ None) }
         ensures changed { OnOk result (self.new ≡ with_selector a.now s self.old) }

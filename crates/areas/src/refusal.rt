@@ -14,7 +14,7 @@ pub enum Limit {
     Selectors,
 }
 
-/// Why an edit is refused, in the order in which the causes are looked at. The first that holds is the answer; want of
+/// Why an edit is refused, in the order in which the causes are looked at. The first that holds is the answer; lack of
 /// memory is the last.
 #[derive(Clone, Copy, Debug, PartialEq, Eq, Error)]
 pub enum Refusal {

@@ -15,7 +15,7 @@ pub enum Limit {
 }
 
 /// Why an event is refused, in the order in which the causes are looked at. The first that holds is the answer;
-/// want of memory is the last.
+/// lack of memory is the last.
 #[derive(Clone, Copy, Debug, PartialEq, Eq, Error)]
 pub enum Refusal {
     #[error("no such BSC")]

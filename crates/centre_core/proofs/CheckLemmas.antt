@@ -47,7 +47,7 @@ refused f ((false, x) ∷ checks) r e h = refused f checks r e h
 pub ok_after : {E : Type 0} (f : E → Refusal) (checks : List (Bool × E)) (r : Result Answer Refusal) → first_refusal checks ≡ None → IsOk r → IsOk (unless (translated f checks) r)
 ok_after f checks r h o = subst IsOk (sym (taken f checks r h)) o
 
--- what a lower crate refuses is the verdict, or that memory is wanting where none of its checks holds
+-- what a lower crate refuses is the verdict, or that memory runs out where none of its checks holds
 pub given : {E : Type 0} (f : E → Refusal) (memory : E) → f memory ≡ Memory → (checks : List (Bool × E)) (r : Result Answer Refusal) (e : E) → (first_refusal checks ≡ None → IsOk r) → (first_refusal checks ≡ Some e) ⊎ ((e ≡ memory) × (first_refusal checks ≡ None)) → Gives (unless (translated f checks) r) (Err (f e))
 given f memory is checks r e o (inl h) = inr (refused f checks r e h)
 given f memory is checks r e o (inr h) = inl (ap f h.0 ∙ is, ok_after f checks r h.1 (o h.1))

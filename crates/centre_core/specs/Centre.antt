@@ -20,7 +20,7 @@ pub record IsCentre (settings : Settings) (journal : List Entry) (stale : Bool) 
   pub legal : Legal settings (past_of journal)
   pub whole : stale ≡ false → IsKept (past_of journal) kept
 
--- why an event is refused in a whole centre: memory is wanting where it may be, or the verdict is that refusal
+-- why an event is refused in a whole centre: memory runs out where it may be, or the verdict is that refusal
 abbrev pub IsRefused : Settings → List Entry → Event → Refusal → Type 0
 IsRefused settings journal e r = ((r ≡ Memory) × MayStarve settings (past_of journal) e) ⊎ (verdict settings (past_of journal) e ≡ Err r)
 
@@ -28,6 +28,6 @@ IsRefused settings journal e r = ((r ≡ Memory) × MayStarve settings (past_of 
 abbrev pub Refuses : Known → Event → Refusal → Type 0
 Refuses centre e r = ((r ≡ Stale) × (centre.stale ≡ true)) ⊎ ((centre.stale ≡ false) × IsRefused centre.settings centre.journal e r)
 
--- what a refusal leaves of a centre: it is as it was, or memory was wanting and it is stale
+-- what a refusal leaves of a centre: it is as it was, or memory ran out and it is stale
 abbrev pub Leaves : Known → Refusal → Known → Type 0
 Leaves old r new = (new ≡ old) ⊎ ((r ≡ Memory) × (new ≡ record old { stale = true }))

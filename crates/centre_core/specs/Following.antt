@@ -103,7 +103,7 @@ held_at e r l st t ns p = flat_map (λ n. held_unless e r l st t (key_at p n)) n
 abbrev pub held_lines : Edit → register.State → List Area → book.State → Tables → List Spot → List ℕ → List Held
 held_lines e r l st t ps ns = flat_map (held_at e r l st t ns) ps
 
--- what happens at a key of the BSC: the effect by its serial number
+-- what happens: an event with its answer, whether the link of its BSC was up before it, and what was in flight to it
 pub record Happens : Type 0 where
   pub event : Event
   pub answer : Answer

@@ -30,7 +30,7 @@ use warning_book::WarningId;
 /// journal, its journal, the oldest entry first, whether it is stale, how often its lines were read or set, and how often
 /// entries of its journal were read.
 ///
-/// A centre is stale after want of memory while an event was entered: its journal is as it was, and what is kept beside it
+/// A centre is stale after lack of memory while an event was entered: its journal is as it was, and what is kept beside it
 /// is of no use until `rebuild` made it anew. While it is stale, every call but `position`, `entry`, `is_stale`, `meter`
 /// and `rebuild` answers `Stale`.
 #[derive(Drop)]
@@ -194,7 +194,7 @@ impl Centre {
         }
     }
 
-    /// Whether memory was wanting while an event was entered, and the centre wasn't rebuilt since.
+    /// Whether memory ran out while an event was entered, and the centre wasn't rebuilt since.
     pub fn is_stale(&self) -> bool
         ensures { result ≡ self.now.known.stale }
     {
@@ -202,7 +202,7 @@ impl Centre {
     }
 
     /// Makes what is kept beside the journal anew from its entries, each of which is read once, which makes a stale centre
-    /// whole. Where memory is wanting the centre is as it was, but for the entries that were read.
+    /// whole. Where memory runs out the centre is as it was, but for the entries that were read.
     pub fn rebuild(&mut self) -> Result<(), AllocError>
         ensures rebuilt { OnOk result (self.new.known ≡ record self.old.known { stale = false }) }
         ensures unchanged { OnErr result (self.new ≡ record self.old { entries = self.new.entries }) }

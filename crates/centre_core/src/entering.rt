@@ -23,7 +23,7 @@ use centre_events::event::Event;
 use coverage_plan::Edit;
 use std::alloc::{AllocError, Global};
 
-/// Makes an edit that is accepted. Where memory is wanting nothing changes.
+/// Makes an edit that is accepted. Where memory runs out nothing changes.
 pub(crate) fn make(kept: &mut Kept, edit: &Edit) -> Verdict
     ensures verdict { (past : Past) → IsKept past kept.old → IsOk (edit_answered past edit.now) → Gives (edit_answered past edit.now) result }
     ensures made { OnOk result (kept.new ≡ record kept.old { register = register_after edit.now kept.old.register; areas = areas_after edit.now kept.old.areas; book = book_after edit.now kept.old.book }) }
@@ -70,7 +70,7 @@ pub(crate) fn up_before(links: &[Link], event: &Event) -> bool
 }
 
 /// Follows an accepted event and enters it in the journal, which has room for it, as the entry of that number. An edit has
-/// been made. At an `Err` memory was wanting, and what is kept is of no use any more.
+/// been made. At an `Err` memory ran out, and what is kept is of no use any more.
 pub(crate) fn enter(
     alloc: Global,
     journal: &mut Journal,

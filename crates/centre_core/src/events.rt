@@ -82,7 +82,7 @@ pub(crate) fn tell_known()
     ensures { (settings : Settings) (past : Past) (s : Kept) → Legal settings past → IsKept past s → TellsLines s.tables.lines → AreKnownOf past s.tables.lines s.register }
 {}
 
-/// Makes an edit that is accepted. Where memory is wanting the register, the areas and the book are as before.
+/// Makes an edit that is accepted. Where memory runs out the register, the areas and the book are as before.
 pub(crate) fn make_edit(
     register: &mut Register,
     areas: &mut Areas,

@@ -68,13 +68,7 @@ fn serials_of(
 }
 
 /// Whether the area covers the cell, by what was found of it, if anything was.
-fn covers_at(
-    areas: &Areas,
-    name: &Name,
-    coverages: &[Coverage<'_>],
-    i: usize,
-    c: Cell,
-) -> bool
+fn covers_at(areas: &Areas, name: &Name, coverages: &[Coverage<'_>], i: usize, c: Cell) -> bool
     requires { i < length coverages.now → (x : List Selector) → x ≡ slice_index_or coverages.now i x → x ≡ selectors_of areas.now name.now }
     ensures { result ≡ covers areas.now name.now c }
 {
@@ -254,7 +248,9 @@ pub(crate) fn facts_from(
     ensures { IfOk result (λ f. f ≡ facts_from register.now areas.now down b c line (option_copied warning.entry)) }
 {
     match warning {
-        Some(w) => facts_of(alloc, register, areas, down, b, c, line, w, coverages, alike),
+        Some(w) => facts_of(
+            alloc, register, areas, down, b, c, line, w, coverages, alike,
+        ),
         None => Ok(LineFacts::none(down, is_here(register, b, c))),
     }
 }

@@ -16,7 +16,7 @@ use centre_events::stepping::Happening;
 use std::alloc::{AllocError, Global};
 
 /// Follows an accepted event, whose entry has that number, from how the lines on which it bears stood. At an `Err` memory
-/// was wanting, and what is kept is of no use any more.
+/// ran out, and what is kept is of no use any more.
 pub(crate) fn finish<'x>(
     alloc: Global,
     kept: &mut Kept,

@@ -329,7 +329,7 @@ pub(crate) fn changes(
     changes_of_all(alloc, h, register, areas, book, &found, tables, held)
 }
 
-/// Changes the lines on which an event bears that has been made, from how they stood. At an `Err` memory was wanting, and
+/// Changes the lines on which an event bears that has been made, from how they stood. At an `Err` memory ran out, and
 /// the tables are of no use any more.
 pub(crate) fn bear(
     alloc: Global,

@@ -89,7 +89,7 @@ fn follow_next(
     }
 }
 
-/// What the entries of a legal journal come to. Each is read once, or at most once where memory is wanting.
+/// What the entries of a legal journal come to. Each is read once, or at most once where memory runs out.
 pub(crate) fn kept_of(alloc: Global, journal: &mut Journal) -> Result<Kept, AllocError>
     requires { IsLegal journal.old.entries }
     ensures kept { IfOk result (IsKept (past_of journal.old.entries)) }

@@ -52,7 +52,7 @@ abbrev pub reads_lines : Question → Bool
 reads_lines (question.Table b) = true
 reads_lines other = false
 
--- why a centre refuses a question: it is stale, memory is wanting for the answer, or the answer is that refusal
+-- why a centre refuses a question: it is stale, memory runs out for the answer, or the answer is that refusal
 abbrev pub RefusesQuestion : Known → Question → Refusal → Type 0
 RefusesQuestion centre q r = ((r ≡ refusal.Stale) × (centre.stale ≡ true))
     ⊎ ((centre.stale ≡ false) × (((r ≡ refusal.Memory) × (takes_memory q ≡ true) × IsOk (value_of (past centre) q)) ⊎ (value_of (past centre) q ≡ Err r)))

@@ -32,7 +32,7 @@ unfolding clap_on_literals
 is_plain_and_free = refl
 
 module _ (words : List Text) (e : Error) (taken : AreTaken words → kind_of e ≡ OutOfMemory) (kinds : HasKind (fault_of command_line words) e) where
-  -- an error that isn't for want of memory has one of the kinds that clap's rules give
+  -- an error that isn't for lack of memory has one of the kinds that clap's rules give
   among : (r : NoRun) → (kind_of e ≡ OutOfMemory → r ≡ Memory) → (r ≡ Memory → ⊥) → IsAmong (kind_of e) (fault_of command_line words)
   among r memory other = elim kinds [ inl starved ↦ absurd (other (memory starved)) | inr found ↦ found ]
 
@@ -40,7 +40,7 @@ module _ (words : List Text) (e : Error) (taken : AreTaken words → kind_of e �
   asks_help found (inl help) = inl (subst (λ k. IsAmong k (fault_of command_line words)) help found)
   asks_help found (inr version) = inr (subst (λ k. IsAmong k (fault_of command_line words)) version found)
 
-  -- a command line that is taken is refused for want of memory alone, and another for a fault of its words
+  -- a command line that is taken is refused for lack of memory alone, and another for a fault of its words
   pub refuses_so : (r : NoRun) → (kind_of e ≡ OutOfMemory → r ≡ Memory) → ComesTo (kind_of e) r → Refuses words r
   refuses_so (Help text) memory comes =
       ((λ t. cc (memory (taken t))), asks_help (among (Help text) memory (λ same. cc same)) comes)

@@ -28,7 +28,7 @@ use Rattle.console.proofs.PartLemmas.{lines_from_start}
 use Rattle.console.proofs.StopLemmas.{goes_stops, written_after}
 use Rattle.console.proofs.TextLemmas.{text_append, goes_goes, goes_nowhere}
 
--- that memory was wanting is the answer to an event
+-- that memory ran out is the answer to an event
 event_starved : (old : SessionState) (e : Event) (r : Response) (new : SessionState) → StarvesAt old e r new → r ≡ response.Refused refusal.Memory
 event_starved old e r new (may, inl same) = same.0
 event_starved old e r new (may, inr left) = left.0
@@ -57,7 +57,7 @@ line_starved old (request.Table b) r new h = h.2.0
 line_starved old request.Rebuild r new h = h.0
 line_starved old l r new h = some_starved old (event_of old l) r new h
 
--- a line has its answer, or memory was wanting where it may be
+-- a line has its answer, or memory ran out where it may be
 line_or_want : (old : SessionState) (l : Option Line) (r : Response) (new : SessionState) → AnswersLine RespondsOrStarves old l r new
     → AnswersLine Responds old l r new ⊎ (AnswersLine Starves old l r new × (r ≡ response.Refused refusal.Memory))
 line_or_want old None r new h = inl h
@@ -74,7 +74,7 @@ words_or_want old (first ∷ words) r new h =
       | false ↦ λ answered. line_or_want old (line_of (first ∷ words)) r new answered
     ] h
 
--- the lines have their text, or memory was wanting for one of them
+-- the lines have their text, or memory ran out for one of them
 pub text_or_want : (old : SessionState) (lines : List (List ℕ)) (new : SessionState) (text : List ℕ) → IsTextOrStarves old lines new text
     → IsText old lines new text ⊎ MeetsWant old lines new text
 text_or_want old [] new text told = inl told

@@ -29,7 +29,7 @@ session_of centre kept = record { centre = centre; kept = kept }
 same_session : (old : SessionState) (new : SessionState) (centre : Known) → new.kept ≡ old.kept → new.centre ≡ centre → new ≡ record old { centre = centre }
 same_session old new centre kept same = ap (λ k. session_of new.centre k) kept ∙ ap (λ c. session_of c old.kept) same
 
--- an event that is refused: nothing changed, or memory was wanting and the centre is stale now
+-- an event that is refused: nothing changed, or memory ran out and the centre is stale now
 pub refused : (old new : SessionState) (e : Event) (r : Refusal) → new.kept ≡ old.kept → Refuses old.centre e r → Leaves old.centre r new.centre
     → SubmitsOrStarves old e (response.Refused r) new
 refused old new e r kept (inl stale) (inl same) = inl (verdict_stale old e stale.1 ∙ ap Err (sym stale.0), same_session old new old.centre kept same)

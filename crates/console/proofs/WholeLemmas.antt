@@ -1,4 +1,4 @@
--- A whole centre stays whole while memory is not wanting, and refuses nothing as stale.
+-- A whole centre stays whole while memory does not run out, and refuses nothing as stale.
 use Rattle.std.proofs.Common.{◌≡◌, inl, inr, ℕ, Bool, true, false, Option, Some, None, Result, Ok, Err, List, [], ◌∷◌, if◌then◌else◌, refl, sym, ap, ◌∙◌, subst}
 use Rattle.std.specs.Bool.{MatchBool}
 use Rattle.std.specs.Prelude.{MatchOption}

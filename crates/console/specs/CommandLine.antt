@@ -146,7 +146,7 @@ ComesTo k BadPlmn = ⊥
 ComesTo k BadJournal = ⊥
 ComesTo k Memory = Unit {0}
 
--- what no script is run for: help is asked for, or the server, the words have a mistake, the network or the number of entries is bad, or memory was wanting
+-- what no script is run for: help is asked for, or the server, the words have a mistake, the network or the number of entries is bad, or memory ran out
 abbrev pub Refuses : List Text → NoRun → Type 0
 Refuses words (Help text) = (AreTaken words → ⊥) × AsksHelp words
 Refuses words (Refused text) = (AreTaken words → ⊥) × IsMistaken words

@@ -15,7 +15,7 @@ use Rattle.console.specs.declared.response.Response.TheVariants as response
 abbrev pub new_session : List ℕ → ℕ → SessionState
 new_session plmn limit = record { centre = new_centre plmn limit; kept = [] }
 
--- memory was wanting for a line where it may be: the lines before it have their text, and it is answered by that
+-- memory ran out for a line where it may be: the lines before it have their text, and it is answered by that
 pub record MeetsWant (old : SessionState) (lines : List (List ℕ)) (new : SessionState) (text : List ℕ) : Type 0 where
   pub front : List (List ℕ)
   pub line : List ℕ

@@ -71,11 +71,11 @@ Runs start old new status = MatchBool (status == 0) (RunsWhole start old new) ((
 abbrev pub IsBadValue : List Text → List ℕ → Type 0
 IsBadValue words said = (AsksBadPlmn words × (said ≡ bad_plmn)) ⊎ (AsksBadJournal words × (said ≡ bad_journal))
 
--- what is said of a command line that is taken, where no script is run: memory was wanting, or a value is bad
+-- what is said of a command line that is taken, where no script is run: memory ran out, or a value is bad
 abbrev pub IsCause : List Text → ℕ → List ℕ → Type 0
 IsCause words status said = ((status ≡ 1) × (said ≡ fault_words Memory)) ⊎ ((status ≡ 2) × IsBadValue words said)
 
--- why a run without a script has status 1: memory was wanting, or help could not be written in full
+-- why a run without a script has status 1: memory ran out, or help could not be written in full
 abbrev pub IsUnable : List Text → Streams → Streams → List ℕ → Type 0
 IsUnable words old new said =
     ((said ≡ fault_words Memory) × (new.output ≡ old.output))

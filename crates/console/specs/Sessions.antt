@@ -200,53 +200,53 @@ Responds old (line.Table b) r new = Asks old (question.Table b) r new
 Responds old line.Rebuild r new = Rebuilds old r new
 Responds old l r new = SubmitsLine old (event_of old l) r new
 
--- memory may be wanting for an event: the centre is whole, and may answer so
+-- memory may run out for an event: the centre is whole, and may answer so
 abbrev pub MayStarveAt : SessionState → Event → Type 0
 MayStarveAt old e = (old.centre.stale ≡ false) × MayStarve old.centre.settings (past old.centre) e
 
--- memory was wanting, and nothing changed
+-- memory ran out, and nothing changed
 abbrev pub IsStarved : SessionState → Response → SessionState → Type 0
 IsStarved old r new = Says old (response.Refused refusal.Memory) r new
 
--- memory was wanting, and the centre is stale now
+-- memory ran out, and the centre is stale now
 abbrev pub LeavesStale : SessionState → Response → SessionState → Type 0
 LeavesStale old r new = Says (with_stale true old) (response.Refused refusal.Memory) r new
 
--- memory was wanting for an event where it may be: nothing changed, or the centre is stale now
+-- memory ran out for an event where it may be: nothing changed, or the centre is stale now
 abbrev pub StarvesAt : SessionState → Event → Response → SessionState → Type 0
 StarvesAt old e r new = MayStarveAt old e × (IsStarved old r new ⊎ LeavesStale old r new)
 
--- the event is submitted, or memory was wanting where it may be
+-- the event is submitted, or memory ran out where it may be
 abbrev pub SubmitsOrStarves : SessionState → Event → Response → SessionState → Type 0
 SubmitsOrStarves old e r new = Submits old e r new ⊎ StarvesAt old e r new
 
--- memory was wanting while a message of this type was read, and nothing changed, or for the event of the message
+-- memory ran out while a message of this type was read, and nothing changed, or for the event of the message
 abbrev pub BodyStarves : SessionState → ℕ → MessageType → List ℕ → Response → SessionState → Type 0
 BodyStarves old b t body r new =
     IsStarved old r new
     ⊎ ((m : Message) × Spells (code_of t) body m × StarvesAt old (event.Report b (generation_of old.kept b) m) r new)
 
--- the frame is of a type that a BSC sends, and memory was wanting for its message
+-- the frame is of a type that a BSC sends, and memory ran out for its message
 abbrev pub FrameStarves : SessionState → ℕ → Frame → Response → SessionState → Type 0
 FrameStarves old b frame r new = IsSomeAnd (report_type frame.kind) (λ t. BodyStarves old b t frame.body r new)
 
--- the octets are one frame, for whose message memory was wanting
+-- the octets are one frame, for whose message memory ran out
 abbrev pub OctetsStarve : SessionState → ℕ → List ℕ → Response → SessionState → Type 0
 OctetsStarve old b octets r new = (frame : Frame) × IsFrame octets frame × FrameStarves old b frame r new
 
--- memory was wanting for the answer that a whole centre has to a question
+-- memory ran out for the answer that a whole centre has to a question
 abbrev pub QuestionStarves : SessionState → Question → Response → SessionState → Type 0
 QuestionStarves old q r new = (old.centre.stale ≡ false) × (takes_memory q ≡ true) × IsOk (value_of (past old.centre) q) × IsStarved old r new
 
--- the centre is asked, or memory was wanting for the answer
+-- the centre is asked, or memory ran out for the answer
 abbrev pub AsksOrStarves : SessionState → Question → Response → SessionState → Type 0
 AsksOrStarves old q r new = Asks old q r new ⊎ QuestionStarves old q r new
 
--- memory was wanting for a list of a BSC that is there, of a whole centre
+-- memory ran out for a list of a BSC that is there, of a whole centre
 abbrev pub ListStarves : SessionState → ℕ → Response → SessionState → Type 0
 ListStarves old b r new = (old.centre.stale ≡ false) × (is_bsc (past old.centre) b ≡ true) × IsStarved old r new
 
--- memory was wanting for a line where it may be: for the message of an `rx`, for a list of a BSC, while the centre was
+-- memory ran out for a line where it may be: for the message of an `rx`, for a list of a BSC, while the centre was
 -- made whole, and at the event that the line stands for; at an event alone is the centre left stale
 abbrev pub Starves : SessionState → Line → Response → SessionState → Type 0
 Starves old (line.Report b text) r new = IsSomeAnd (octets_of text) (λ octets. OctetsStarve old b octets r new)
@@ -255,7 +255,7 @@ Starves old (line.Table b) r new = ListStarves old b r new
 Starves old line.Rebuild r new = IsStarved old r new
 Starves old l r new = IsSomeAnd (event_of old l) (λ e. StarvesAt old e r new)
 
--- the line has its answer, or memory was wanting where it may be
+-- the line has its answer, or memory ran out where it may be
 abbrev pub RespondsOrStarves : SessionState → Line → Response → SessionState → Type 0
 RespondsOrStarves old l r new = Responds old l r new ⊎ Starves old l r new
 
@@ -282,10 +282,10 @@ AnswersWords responds old (first ∷ words) r new = MatchBool (is_comment first)
 abbrev pub Answers : SessionState → List ℕ → Response → SessionState → Type 0
 Answers old octets r new = AnswersWords Responds old (words_of octets) r new
 
--- memory was wanting for a line of these octets
+-- memory ran out for a line of these octets
 abbrev pub LineStarves : SessionState → List ℕ → Response → SessionState → Type 0
 LineStarves old octets r new = AnswersWords Starves old (words_of octets) r new
 
--- a line of these octets is answered so, or memory was wanting where it may be
+-- a line of these octets is answered so, or memory ran out where it may be
 abbrev pub AnswersOrStarves : SessionState → List ℕ → Response → SessionState → Type 0
 AnswersOrStarves old octets r new = AnswersWords RespondsOrStarves old (words_of octets) r new

@@ -36,6 +36,6 @@ IsTextBy answers old (line ∷ lines) new text =
 abbrev pub IsText : SessionState → List (List ℕ) → SessionState → List ℕ → Type 0
 IsText old lines new text = IsTextBy Answers old lines new text
 
--- the same, where the lines at which memory may be wanting may be answered so
+-- the same, where the lines at which memory may run out may be answered so
 abbrev pub IsTextOrStarves : SessionState → List (List ℕ) → SessionState → List ℕ → Type 0
 IsTextOrStarves old lines new text = IsTextBy AnswersOrStarves old lines new text

@@ -237,7 +237,7 @@ impl KeptTables {
     }
 
     /// Changes one line: what is kept of it, what is pending for it, and what it adds to the numbers. At an `Err` memory
-    /// was wanting, and the tables are of no use any more.
+    /// ran out, and the tables are of no use any more.
     fn change(
         &mut self,
         key: LineKey,
@@ -258,7 +258,7 @@ impl KeptTables {
         self.board.shift(warning, &was, &is)
     }
 
-    /// Makes the changes, in their order. Each is of another line. At an `Err` memory was wanting, and the tables are of
+    /// Makes the changes, in their order. Each is of another line. At an `Err` memory ran out, and the tables are of
     /// no use any more.
     pub fn settle(&mut self, changes: &[Change]) -> Result<(), AllocError>
         requires { Begins self.old changes.now }

@@ -137,11 +137,20 @@ fn the_areas_of_a_cell_follow_each_edit(rt: HostRuntime) {
     have_areas(&rt, alloc, &areas, &[b"b"], &[b"b"], &[b"a", b"c"]);
 }
 
+/// What the area covers, once it was looked for, has the cell, or has not.
+fn has_cell(rt: &impl Abort, areas: &Areas, area: &Name, cell: Cell, want: bool) {
+    let coverage = areas.coverage(area);
+    assert_eq!(rt; coverage.covers(cell), want, "{cell:?}");
+}
+
 /// The first area covers the cell, or does not, and the other two do not.
 fn covers(rt: &impl Abort, areas: &Areas, names: &[Name; 3], cell: Cell, want: bool) {
     assert_eq!(rt; areas.covers(&names[0], cell), want, "{cell:?}");
     assert!(rt; !areas.covers(&names[1], cell), "{cell:?}");
     assert!(rt; !areas.covers(&names[2], cell), "{cell:?}");
+    has_cell(rt, areas, &names[0], cell, want);
+    has_cell(rt, areas, &names[1], cell, false);
+    has_cell(rt, areas, &names[2], cell, false);
 }
 
 #[test]

@@ -135,7 +135,7 @@ fn add_script(
     }
 }
 
-/// The script; where memory is wanting once it is made again.
+/// The script; where memory runs out once it is made again.
 pub(crate) fn script(rt: &impl Abort, alloc: Global, is_long: bool) -> Vec<Event> {
     let b = bsc(rt, 1);
     let d = bsc(rt, 2);

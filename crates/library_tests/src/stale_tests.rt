@@ -1,4 +1,4 @@
-//! What no clause says of a centre that is rebuilt or for which memory was wanting: that a rebuild succeeds and leaves all
+//! What no clause says of a centre that is rebuilt or for which memory ran out: that a rebuild succeeds and leaves all
 //! as it was, what the meter counts, and that an event that isn't entered leaves the centre as it was or stale. With ample
 //! memory each event is entered at once; `rt try --test --fail-alloc N` refuses the Nth allocation of each test.
 
@@ -86,7 +86,7 @@ fn is_rebuilt(rt: &impl Abort, centre: &mut Centre, b: BscId) {
     }
 }
 
-/// Memory was wanting for an event: the centre has no entry more, is whole or rebuilt, and is as it was before.
+/// Memory ran out for an event: the centre has no entry more, is whole or rebuilt, and is as it was before.
 fn is_left(rt: &impl Abort, centre: &mut Centre, b: BscId, position: u64, before: [u64; 6]) {
     assert_eq!(rt; centre.position(), position);
     if centre.is_stale() {
@@ -95,7 +95,7 @@ fn is_left(rt: &impl Abort, centre: &mut Centre, b: BscId, position: u64, before
     is_whole(rt, centre, b, before);
 }
 
-/// The event is entered, at once or where memory was wanting once.
+/// The event is entered, at once or where memory ran out once.
 fn enters(
     rt: &impl Abort,
     centre: &mut Centre,
@@ -160,7 +160,7 @@ fn want_of_memory_leaves_a_centre_whole_or_stale(rt: HostRuntime) {
     has_journal(&rt, &mut centre, events.as_slice());
 }
 
-/// A rebuild for which memory is wanting leaves the centre as it was.
+/// A rebuild for which memory runs out leaves the centre as it was.
 fn can_be_rebuilt(rt: &impl Abort, centre: &mut Centre, b: BscId, want: [u64; 6]) {
     if centre.rebuild().is_err() {
         is_whole(rt, centre, b, want);

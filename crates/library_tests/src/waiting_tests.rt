@@ -67,7 +67,7 @@ fn a_side_goes_on_for_what_is_to_be_done(rt: HostRuntime) {
     assert_eq!(rt; lost, Wake::Ended);
 }
 
-/// What a side is told after an event for which memory may be wanting.
+/// What a side is told after an event for which memory may run out.
 #[derive(Drop)]
 struct AfterIssue {
     is_stale: bool,
@@ -106,7 +106,7 @@ fn run_after_issue<R: Wait + Abort>(rt: &R, alloc: Global) -> AfterIssue {
     wakes_after_issue::<Brand, R>(rt, alloc, Blank::new(1025))
 }
 
-/// Where memory was wanting in the middle of an event, a side is told that the centre is stale, and a wish is refused, until it is
+/// Where memory ran out in the middle of an event, a side is told that the centre is stale, and a wish is refused, until it is
 /// whole again. With ample memory it is whole all the time.
 #[test]
 fn a_side_is_told_that_the_centre_is_stale(rt: HostRuntime) {

@@ -117,7 +117,7 @@ impl LineTable {
         }
     }
 
-    /// Keeps the line for that BSC, cell and warning. It is counted, also where memory is wanting; then each line stays
+    /// Keeps the line for that BSC, cell and warning. It is counted, also where memory runs out; then each line stays
     /// as it was. Memory is taken only for a line that isn't blank, in place of one that was.
     pub fn set_line(&mut self, key: LineKey, line: Line) -> Result<(), AllocError>
         ensures set { OnOk result ((b : ℕ) (c : Cell) (w : ℕ) → line_at self.new b c w ≡ (if is_key key b c w then line else line_at self.old b c w)) }
@@ -148,7 +148,7 @@ impl LineTable {
         }
     }
 
-    /// Keeps the line, which isn't blank. Where memory is wanting each line stays as it was.
+    /// Keeps the line, which isn't blank. Where memory runs out each line stays as it was.
     fn keep(&mut self, key: LineKey, line: Line) -> Result<(), AllocError>
         requires { is_blank line ≡ false }
         ensures set { OnOk result ((b : ℕ) (c : Cell) (w : ℕ) → line_at self.new b c w ≡ (if is_key key b c w then line else line_at self.old b c w)) }
@@ -226,7 +226,7 @@ impl LineTable {
         Ok(warnings)
     }
 
-    /// Sets whether the cell is down at the BSC. Where memory is wanting nothing changes. Memory is taken only for a
+    /// Sets whether the cell is down at the BSC. Where memory runs out nothing changes. Memory is taken only for a
     /// cell that is down and wasn't.
     pub fn set_down(&mut self, b: BscId, c: Cell, down: bool) -> Result<(), AllocError>
         ensures set { OnOk result ((d : ℕ) (e : Cell) → down_at self.new d e ≡ (if nat_eq b d && cell_eq c e then down else down_at self.old d e)) }

@@ -11,7 +11,7 @@ use Rattle.centre_events.specs.declared.refusal.Refusal.TheVariants as refusal
 abbrev pub CanWish : Known → ℕ → ℕ → Type 0
 CanWish centre b w = (centre.stale ≡ false) × (is_bsc (past centre) b ≡ true) × IsSome (board (past centre) w)
 
--- why a wish is refused: the first of these that holds. The centre is stale, the BSC or the warning isn't there, memory is wanting
+-- why a wish is refused: the first of these that holds. The centre is stale, the BSC or the warning isn't there, memory runs out
 abbrev pub RefusesWish : Known → ℕ → ℕ → Refusal → Type 0
 RefusesWish centre b w r = ((r ≡ refusal.Stale) × (centre.stale ≡ true))
     ⊎ (((r ≡ refusal.NoSuchBsc) × (centre.stale ≡ false) × (is_bsc (past centre) b ≡ false))

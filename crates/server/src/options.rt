@@ -89,7 +89,7 @@ fn options_of(alloc: Global, matches: &ArgMatches<'_>) -> Result<ServeOptions, O
     })
 }
 
-/// The options of the server in the words of a command line that asks for it, which the parser takes. So only want of memory
+/// The options of the server in the words of a command line that asks for it, which the parser takes. So only lack of memory
 /// keeps it from reading them a second time, and `Memory` is answered wherever it does not take them.
 pub(crate) fn read_options(alloc: Global, words: &[String]) -> Result<ServeOptions, OptionsFault> {
     match command_line(alloc)?.try_get_matches_from(words) {

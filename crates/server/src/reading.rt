@@ -17,10 +17,10 @@ use std::sync::ledger::Ledger;
 use std::time::{Clock, Duration};
 use std::{io, thread};
 
-/// How long to wait, in milliseconds, where a connection can't be accepted, or memory is wanting.
+/// How long to wait, in milliseconds, where a connection can't be accepted, or memory runs out.
 const PAUSE: u64 = 100;
 
-/// How often the loss of a link is submitted where memory is wanting.
+/// How often the loss of a link is submitted where memory runs out.
 const MOST_TRIES: u32 = 100;
 
 /// The generation of the link that the desk's last event brought up.

@@ -3,7 +3,7 @@ use Rattle.console.specs.CommandLine.{limit_in, meets_serve, network_in, replay_
 use Rattle.console.proofs.CommandLineLemmas.{kinds_of_line, refuses_so, taken_has_matches, taken_has_no_fault, taken_wants_memory}
 use Rattle.console.proofs.options.read_options.Goals as goal
 
--- the parser refuses a command line that it takes for want of memory alone, and another for a fault of its words
+-- the parser refuses a command line that it takes for lack of memory alone, and another for a fault of its words
 pub returns-in-Err-clause-refused : goal.returns-in-Err-clause-refused
 returns-in-Err-clause-refused c =
     let words = map string_bytes c.args.words.now in
