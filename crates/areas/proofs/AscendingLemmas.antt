@@ -8,7 +8,7 @@ use Rattle.std.proofs.lemmas.List.Folds.{list_any_at}
 use Rattle.std.proofs.lemmas.Slice.Eq.{bytes_eq-Decides}
 use Rattle.common.specs.Order.{inserted, is_ascending}
 use Rattle.common.specs.OrderLaws.{all_from_none, any_inserted, ascending_inserted}
-use Rattle.areas.proofs.RisingLemmas as rising
+use Rattle.common.specs.RisingLaws as rising
 use Rattle.areas.specs.Holders.{has_name}
 use Rattle.areas.specs.Name.{octets_lt}
 use Rattle.areas.specs.Order.{octets_lt-irreflexive, octets_lt-total, octets_lt-transitive}

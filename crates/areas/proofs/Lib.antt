@@ -1,6 +1,5 @@
 pub mod OrderLemmas
 pub mod PlaceLemmas
-pub mod RisingLemmas
 pub mod SearchLemmas
 pub mod SelectorSearch
 pub mod AscendingLemmas

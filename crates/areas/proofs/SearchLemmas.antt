@@ -8,7 +8,7 @@ use Rattle.std.proofs.lemmas.List.Sums.{position_or_len_is}
 use Rattle.std.proofs.lemmas.Slice.Eq.{bytes_eq-Decides}
 use Rattle.common.specs.Order.{is_ascending}
 use Rattle.areas.proofs.PlaceLemmas.{place_in, place_in-position}
-use Rattle.areas.proofs.RisingLemmas as rising
+use Rattle.common.specs.RisingLaws as rising
 use Rattle.areas.specs.Areas.{is_named, has_area, selectors_of, named_lt}
 use Rattle.areas.specs.Laws.{selectors_of_absent}
 use Rattle.areas.specs.Name.{octets_lt}

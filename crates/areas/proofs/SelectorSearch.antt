@@ -9,7 +9,7 @@ use Rattle.std.proofs.lemmas.List.{get_or-drop, length-drop, take-append-drop}
 use Rattle.std.proofs.lemmas.List.Folds.{list_any-append, list_any_at, list_any_none}
 use Rattle.common.specs.Order.{is_ascending}
 use Rattle.common.specs.declared.cell.Cell.{Cell}
-use Rattle.areas.proofs.RisingLemmas as rising
+use Rattle.common.specs.RisingLaws as rising
 use Rattle.areas.specs.Areas.{is_among}
 use Rattle.areas.specs.Equality.{selector_decides}
 use Rattle.areas.specs.Selector.{selector_eq, selector_lt}

@@ -7,9 +7,8 @@ use Rattle.std.proofs.lemmas.List.{take_more}
 use Rattle.std.proofs.lemmas.List.Folds.{list_any-append}
 use Rattle.std.specs.BTreeMap.{is_at}
 use Rattle.std.specs.List.{list_any}
-use Rattle.common.specs.Cell.{cell_eq}
+use Rattle.common.specs.Cell.{cell_eq, cell_cmp}
 use Rattle.common.specs.declared.cell.Cell.{Cell}
-use Rattle.bsc_sim.specs.Keys.{cell_cmp}
 
 -- two cells compare equal where they are the same
 at_cell : (a b : Cell) → is_at (cell_cmp a) b ≡ cell_eq a b

@@ -6,12 +6,9 @@ use Rattle.std.specs.List.{list_any}
 use Rattle.std.specs.Ordering.{nat_cmp, ordering_then}
 use Rattle.std.specs.Set.{remove_key}
 use Rattle.std.specs.declared.cmp.Ordering.{Ordering}
+use Rattle.common.specs.Cell.{cell_cmp}
 use Rattle.common.specs.declared.cell.Cell.{Cell}
 use Rattle.bsc_sim.specs.declared.key.Key.{Key}
-
--- the order of cells
-abbrev pub cell_cmp : Cell → Cell → Ordering
-cell_cmp a b = ordering_then (nat_cmp a.lac b.lac) (nat_cmp a.ci b.ci)
 
 -- the order of keys: by cell, then by message identifier, then by serial number
 abbrev pub key_cmp : Key → Key → Ordering

@@ -1,5 +1,5 @@
 -- The types of messages, and the elements of each (TS 48.049, 8.2.2 and 8.1.3).
-use Rattle.std.specs.Prelude.{ℕ, ◌==◌, ◌&&◌, Bool, true, false, List, [], ◌∷◌, ◌++◌, length, Option}
+use Rattle.std.specs.Prelude.{ℕ, ◌==◌, ◌&&◌, Bool, true, false, List, [], ◌∷◌, ◌++◌, length, Option, Some, None, option_and_then, if◌then◌else◌}
 use Rattle.std.specs.List.{count_by, find, list_all, list_any}
 use Rattle.cbsp_ie.specs.declared.element_id.ElementId.{ElementId}
 use Rattle.cbsp_ie.specs.declared.element_id.ElementId.TheVariants as id
@@ -36,6 +36,10 @@ is_report type.WriteReplace = false
 is_report type.Kill = false
 is_report type.StatusQuery = false
 is_report other = true
+
+-- the type of a report, by its octet; none for every other type, and where the octet names no type
+abbrev pub report_type : ℕ → Option MessageType
+report_type octet = option_and_then (λ t. if is_report t then Some t else None) (type_with octet)
 
 -- the elements that have to be there, in the order in which one that is missing is named
 abbrev pub demanded_of : MessageType → List ElementId

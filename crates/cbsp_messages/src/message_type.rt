@@ -1,7 +1,7 @@
 //! The types of messages.
 
 ghost use Rattle.std.specs.Prelude.{◌≡◌, ◌↔◌, IsTrue};
-ghost use Rattle.cbsp_messages.specs.MessageType.{code_of, type_with, is_report, demanded_of, optional_of, written_of};
+ghost use Rattle.cbsp_messages.specs.MessageType.{code_of, type_with, is_report, report_type, demanded_of, optional_of, written_of};
 
 use cbsp_ie::ElementId;
 
@@ -72,6 +72,15 @@ impl MessageType {
             MessageType::WriteReplace | MessageType::Kill | MessageType::StatusQuery => false,
             _ => true,
         }
+    }
+
+    /// The type of a report, by its octet. `None` for an octet of no type, and for the type of a message that the centre
+    /// sends.
+    pub fn of_report(code: u8) -> Option<MessageType>
+        ensures { result ≡ report_type code }
+    {
+        let kind = MessageType::of_code(code)?;
+        if kind.is_report() { Some(kind) } else { None }
     }
 
     /// The elements that have to be there, in the order in which one that is missing is named.

@@ -7,7 +7,7 @@ use Rattle.std.specs.List.Sorted.{IsPartitionPoint, IsPartitionedBy}
 use Rattle.common.specs.Order.{is_ascending}
 use Rattle.cell_register.specs.Register.{placed_lt}
 use Rattle.cell_register.specs.declared.placed.Placed.{Placed}
-use Rattle.cell_register.proofs.RisingLemmas.{parted}
+use Rattle.common.specs.RisingLaws.{parted}
 
 -- the cell is of a location area before this one
 abbrev pub is_before : ℕ → Placed → Bool

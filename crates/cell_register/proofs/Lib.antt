@@ -1,5 +1,4 @@
 pub mod RangeLemmas
-pub mod RisingLemmas
 pub mod SeatLemmas
 pub mod PlacesLemmas
 pub mod AreaLemmas

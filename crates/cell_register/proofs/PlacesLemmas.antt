@@ -14,7 +14,7 @@ use Rattle.cell_register.specs.Laws.{is_some_place_among, nowhere_after}
 use Rattle.cell_register.specs.Places.{IsStart, StandsAt}
 use Rattle.cell_register.specs.Register.{new_placed, place_among, placed_after_move, placed_lt}
 use Rattle.cell_register.specs.declared.placed.Placed.{Placed}
-use Rattle.cell_register.proofs.RisingLemmas.{at_place, parted}
+use Rattle.common.specs.RisingLaws.{at_place, parted}
 
 -- the registered cell comes before the cell
 abbrev pub comes_before : Cell → Placed → Bool

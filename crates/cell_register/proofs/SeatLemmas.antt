@@ -11,10 +11,10 @@ use Rattle.std.specs.List.Sorted.{IsStrictlySortedBy}
 use Rattle.std.specs.Ordering.{nat_cmp, ordering_then, is_le}
 use Rattle.std.specs.declared.cmp.Ordering.{Ordering}
 use Rattle.std.specs.declared.cmp.Ordering.TheVariants.{Less}
-use Rattle.common.specs.Cell.{cell_eq, cell_lt}
+use Rattle.common.specs.Cell.{cell_eq, cell_lt, cell_cmp}
 use Rattle.common.specs.Order.{is_ascending}
 use Rattle.common.specs.declared.cell.Cell.{Cell}
-use Rattle.cell_register.specs.Places.{cell_cmp, seat, least, has_seat, IsWithSeat, IsWithoutSeat}
+use Rattle.cell_register.specs.Places.{seat, least, has_seat, IsWithSeat, IsWithoutSeat}
 use Rattle.cell_register.specs.declared.seat.Seat.{Seat}
 
 -- the order of seats

@@ -3,18 +3,12 @@ use Rattle.std.specs.Prelude.{◌≡◌, ◌<◌, ℕ, Bool, true, false, ◌&&�
 use Rattle.std.specs.List.{list_any}
 use Rattle.std.specs.List.Sorted.{IsPartitionPoint}
 use Rattle.std.specs.Option.{IfSome, is_some}
-use Rattle.std.specs.Ordering.{nat_cmp, ordering_then}
-use Rattle.std.specs.declared.cmp.Ordering.{Ordering}
 use Rattle.common.specs.Cell.{cell_eq, cell_lt}
 use Rattle.common.specs.Order.{is_ascending}
 use Rattle.common.specs.declared.cell.Cell.{Cell}
 use Rattle.cell_register.specs.Register.{place_among, placed_lt, is_place}
 use Rattle.cell_register.specs.declared.placed.Placed.{Placed}
 use Rattle.cell_register.specs.declared.seat.Seat.{Seat}
-
--- the order of cells, as a set compares them
-abbrev pub cell_cmp : Cell → Cell → Ordering
-cell_cmp x y = ordering_then (nat_cmp x.lac y.lac) (nat_cmp x.ci y.ci)
 
 -- before this place stand the cells that come before the cell, and from it on the others
 abbrev pub IsStart : Cell → List Placed → ℕ → Type 0

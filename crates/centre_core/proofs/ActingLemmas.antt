@@ -26,7 +26,7 @@ use Rattle.order_maker.specs.declared.deed.Deed.{Deed}
 use Rattle.order_maker.specs.declared.order_kind.OrderKind.{OrderKind}
 use Rattle.order_maker.specs.declared.order_kind.OrderKind.TheVariants.{Kill}
 use Rattle.centre_core.proofs.AnyLemmas.{or_none, and_none, and_over_or, any_same, any_never, any_flat, any_reverse}
-use Rattle.centre_core.proofs.GroupingLemmas.{touches}
+use Rattle.order_maker.specs.GroupingLaws.{touches}
 use Rattle.centre_events.proofs.PastLemmas.{any_image}
 
 -- what the write does, by g

@@ -22,11 +22,13 @@ use Rattle.areas.specs.declared.refusal.Refusal as areas_refusal
 use Rattle.areas.specs.declared.refusal.Refusal.TheVariants as areas_refusal_is
 use Rattle.areas.specs.declared.selector.Selector.{Selector}
 use Rattle.centre_events.specs.Cover.{area_mark, is_area, areas, area_count, added_area, selector_mark, has_selector, selectors, selector_count, put_selector}
-use Rattle.centre_events.specs.Kept.{AreAreasOf, Gives, areas_after, areas_then}
+use Rattle.centre_events.specs.Kept.{AreAreasOf, Gives, areas_then}
+use Rattle.coverage_plan.specs.Edited.{areas_after}
 use Rattle.centre_events.specs.Base.{Base, empty_base}
 use Rattle.centre_events.specs.Past.{Past, From, After, IsUnfolded, by_edit, with_new}
 use Rattle.centre_events.specs.Refusals.{of_areas}
-use Rattle.centre_events.specs.Verdict.{translated, answered, edit_answered, unless, add_area, add_area_checks, put, put_checks, cut, cut_checks}
+use Rattle.coverage_plan.specs.Checks.{translated}
+use Rattle.centre_events.specs.Verdict.{answered, edit_answered, unless, add_area, add_area_checks, put, put_checks, cut, cut_checks}
 use Rattle.centre_events.specs.declared.answer.Answer.{Answer}
 use Rattle.centre_events.specs.declared.answer.Answer.TheVariants as answer
 use Rattle.coverage_plan.specs.declared.edit.Edit.{Edit}

@@ -39,7 +39,7 @@ use Rattle.centre_events.specs.Settings.{Settings}
 use Rattle.centre_core.specs.Spare.{brings, brought, is_brought, AwaitedIsPending}
 use Rattle.centre_events.specs.Warnings.{book_of, warnings_of, is_version, has_key}
 use Rattle.centre_core.proofs.AnyLemmas.{and_none, any_same, any_never, all_flat, contrary}
-use Rattle.centre_core.proofs.GroupingLemmas.{kind_same}
+use Rattle.order_maker.specs.GroupingLaws.{kind_same}
 use Rattle.centre_core.proofs.HeadlineLemmas.{plans, is_free, airs_pending, key_of_plan}
 use Rattle.centre_core.proofs.KeyLemmas.{action_keyed, line_keyed}
 use Rattle.centre_core.proofs.KnownLemmas.{known_place, legal_unfolded}

@@ -17,6 +17,8 @@ use Rattle.warning_book.specs.Book.{current_of}
 use Rattle.warning_book.specs.declared.version.Version.{Version}
 use Rattle.warning_book.specs.declared.warning.Warning.{Warning}
 use Rattle.order_maker.specs.Actions.{deed, deeds, kills, in_cell}
+use Rattle.order_maker.specs.OrderingLaws.{IsOrder, action_order, action_decides}
+use Rattle.order_maker.specs.Pending.{action_eq}
 use Rattle.centre_core.specs.Beginning.{IsAtBeginning, AreTheCells, CountsNoOther, IsBscAtBeginning, AreTheBscs, CountsNoOtherBsc}
 use Rattle.centre_events.specs.Counts.{count}
 use Rattle.centre_events.specs.Cover.{is_covered}
@@ -48,7 +50,7 @@ use Rattle.centre_core.proofs.BscLemmas.{bsc_named, place_bsc}
 use Rattle.centre_core.proofs.CountLemmas.{named_once}
 use Rattle.centre_core.proofs.MarkLemmas.{known_presence, unknown_bsc_presence}
 use Rattle.centre_core.proofs.KnownLemmas.{known_place, legal_unfolded}
-use Rattle.centre_core.proofs.OrderingLemmas.{IsOrder, action_same, action_order, action_decides, Key, bare_lt, bare_same, bare_order, bare_decides, sorted_map}
+use Rattle.centre_core.proofs.OrderingLemmas.{Key, bare_lt, bare_same, bare_order, bare_decides, sorted_map}
 use Rattle.centre_events.proofs.PastLemmas.{map_joined}
 
 -- A line where nothing is wanted and nothing on air, whatever is held there and be the cell down or not.
@@ -237,7 +239,7 @@ counts_no_other settings past cs legal here = record {
       (λ c h. not_broadcast past w b c (ap (λ o. is_place o b) (here.others c h).nowhere)) (λ c h. not_broadcast past w b c (ap (λ o. is_place o b) (there.others c h).nowhere));
   orders = λ b.
       ap grouped
-      (sorted_over action_same action_lt action_decides action_order (actions past b) (warnings_of past) cs (cells past) here.once there.once
+      (sorted_over action_eq action_lt action_decides action_order (actions past b) (warnings_of past) cs (cells past) here.once there.once
       (λ w c h. no_actions past b w c (at_cell past b w c (here.others c h))) (λ w c h. no_actions past b w c (at_cell past b w c (there.others c h))));
   tables = λ b. two_lists past cs (cells past) here there b;
 }

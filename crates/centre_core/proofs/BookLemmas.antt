@@ -14,7 +14,8 @@ use Rattle.warning_book.specs.declared.notice.Notice.{Notice}
 use Rattle.warning_book.specs.declared.warning.Warning.{Warning}
 use Rattle.centre_core.specs.Following.{forgets}
 use Rattle.centre_events.specs.Past.{Past, After}
-use Rattle.centre_events.specs.Warnings.{with_issue, book_after, book_then, book_of, warnings_of, is_version, has_key}
+use Rattle.centre_events.specs.Warnings.{book_then, book_of, warnings_of, is_version, has_key}
+use Rattle.coverage_plan.specs.Edited.{with_issue, book_after}
 use Rattle.coverage_plan.specs.declared.edit.Edit.{Edit}
 use Rattle.coverage_plan.specs.declared.edit.Edit.TheVariants as edit
 use Rattle.centre_events.specs.declared.entry.Entry.{Entry}

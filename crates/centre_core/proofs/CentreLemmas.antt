@@ -14,14 +14,15 @@ use Rattle.centre_core.specs.Flights.{up_before}
 use Rattle.centre_core.specs.Following.{Finishes, WasReached, held_past}
 use Rattle.centre_core.specs.IsKept.{IsKept, OnlyReadsIn}
 use Rattle.centre_events.specs.Facts.{facts}
-use Rattle.centre_events.specs.Kept.{Gives, IsChecked, is_edit, register_after, areas_after, register_then, areas_then}
+use Rattle.centre_events.specs.Kept.{Gives, IsChecked, is_edit, register_then, areas_then}
+use Rattle.coverage_plan.specs.Edited.{register_after, areas_after, book_after}
 use Rattle.centre_core.specs.Legal.{Known, Legal}
 use Rattle.centre_events.specs.Past.{Past, After, past_of, entry_count, position}
 use Rattle.centre_core.specs.Reach.{edit_reach, looked_at, size, reach, reach_of}
 use Rattle.centre_events.specs.Settings.{Settings}
 use Rattle.centre_core.specs.State.{AreLinksOf}
 use Rattle.centre_events.specs.Verdict.{verdict, answered, edit_answered}
-use Rattle.centre_events.specs.Warnings.{book_after, book_then}
+use Rattle.centre_events.specs.Warnings.{book_then}
 use Rattle.centre_events.specs.declared.answer.Answer.{Answer}
 use Rattle.coverage_plan.specs.declared.edit.Edit.{Edit}
 use Rattle.centre_events.specs.declared.entry.Entry.{Entry}

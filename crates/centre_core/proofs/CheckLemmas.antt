@@ -4,7 +4,8 @@ use Rattle.std.specs.Prelude.{IsOk}
 use Rattle.common.specs.CheckLaws.{NoneHolds}
 use Rattle.common.specs.Checks.{first_refusal}
 use Rattle.centre_events.specs.Kept.{Gives}
-use Rattle.centre_events.specs.Verdict.{unless, translated}
+use Rattle.coverage_plan.specs.Checks.{translated}
+use Rattle.centre_events.specs.Verdict.{unless}
 use Rattle.centre_events.specs.declared.answer.Answer.{Answer}
 use Rattle.centre_events.specs.declared.refusal.Refusal.{Refusal}
 use Rattle.centre_events.specs.declared.refusal.Refusal.TheVariants.{Memory}

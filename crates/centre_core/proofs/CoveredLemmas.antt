@@ -19,7 +19,8 @@ use Rattle.centre_events.specs.Cover.{covers}
 use Rattle.centre_events.specs.Facts.{facts_of}
 use Rattle.centre_events.specs.Kept.{AreAreasOf}
 use Rattle.centre_events.specs.Past.{Past, After}
-use Rattle.centre_events.specs.Warnings.{book_after, book_of, book_then}
+use Rattle.centre_events.specs.Warnings.{book_of, book_then}
+use Rattle.coverage_plan.specs.Edited.{book_after}
 use Rattle.centre_events.specs.declared.answer.Answer.{Answer}
 use Rattle.centre_events.specs.declared.event.Event.{Event}
 use Rattle.centre_events.specs.declared.event.Event.TheVariants as event

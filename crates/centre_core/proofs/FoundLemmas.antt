@@ -16,7 +16,8 @@ use Rattle.warning_book.specs.declared.warning.Warning.{Warning}
 use Rattle.centre_core.specs.Issued.{edit_makes}
 use Rattle.centre_events.specs.Past.{Past, by_edit}
 use Rattle.centre_events.specs.Verdict.{answered, edit_answered, issue, issue_checks, issue_answer}
-use Rattle.centre_events.specs.Warnings.{book_of, warnings_of, book_after, book_then, with_issue}
+use Rattle.centre_events.specs.Warnings.{book_of, warnings_of, book_then}
+use Rattle.coverage_plan.specs.Edited.{book_after, with_issue}
 use Rattle.centre_events.specs.declared.answer.Answer.{Answer}
 use Rattle.centre_events.specs.declared.answer.Answer.TheVariants as answer
 use Rattle.coverage_plan.specs.declared.edit.Edit.{Edit}

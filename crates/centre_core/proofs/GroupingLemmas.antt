@@ -1,80 +1,18 @@
--- Sorting and grouping change no test of what the actions touch.
-use Rattle.std.proofs.Common.{◌≡◌, ℕ, Bool, true, false, ◌&&◌, ◌||◌, nat_eq, List, [], ◌∷◌, refl, ◌∙◌, ap, eqb-true}
-use Rattle.std.specs.Prelude.{if◌then◌else◌}
-use Rattle.std.proofs.lemmas.Bool.{and_parts, and_from}
+-- What pending orders touch is what their actions touch, and what is so of each action is so of each order.
+use Rattle.std.proofs.Common.{◌≡◌, ℕ, Bool, true}
 use Rattle.std.specs.List.{list_any, list_all}
-use Rattle.common.specs.Cell.{cell_eq}
 use Rattle.common.specs.declared.cell.Cell.{Cell}
-use Rattle.centre_core.specs.Headline.{names_cell}
-use Rattle.order_maker.specs.Grouping.{kind_eq, action_lt, in_order, alone, fits, joined, grouped}
-use Rattle.centre_events.specs.Past.{Past}
-use Rattle.centre_events.specs.Pending.{all_actions, pending}
-use Rattle.centre_events.specs.Effects.{is_among}
-use Rattle.common.specs.SortingLaws.{any_sorted, all_sorted}
+use Rattle.order_maker.specs.GroupingLaws.{tests, touches, any_ordered, all_ordered}
 use Rattle.order_maker.specs.declared.action.Action.{Action}
 use Rattle.order_maker.specs.declared.order.Order.{Order}
 use Rattle.order_maker.specs.declared.order_kind.OrderKind.{OrderKind}
-use Rattle.order_maker.specs.declared.order_kind.OrderKind.TheVariants.{Write, Replace, Kill}
-
--- an order names the cell with this message identifier, and what it does passes g
-abbrev pub tests : (OrderKind → ℕ → Bool) → Cell → ℕ → Order → Bool
-tests g c m order = names_cell order c m && g order.kind order.serial
-
--- the same of one action
-abbrev pub touches : (OrderKind → ℕ → Bool) → Cell → ℕ → Action → Bool
-touches g c m a = tests g c m (alone a)
-
-pub kind_same : (x y : OrderKind) → kind_eq x y ≡ true → x ≡ y
-kind_same Write Write h = refl
-kind_same (Replace old) (Replace other) h = ap (λ s. Replace s) (eqb-true old other h)
-kind_same Kill Kill h = refl
-kind_same x y h = cc
-
-one_more : (x y z g r : Bool) → (((x && (y || z)) && g) || r) ≡ (((x && (y || false)) && g) || (((x && z) && g) || r))
-one_more false y z g r = refl
-one_more true true z true r = refl
-one_more true true true false r = refl
-one_more true true false false r = refl
-one_more true false z g r = refl
-
-any_joined : (g : OrderKind → ℕ → Bool) (c : Cell) (m : ℕ) (a : Action) (orders : List Order) → list_any (tests g c m) (joined a orders) ≡ (touches g c m a || list_any (tests g c m) orders)
-any_joined g c m a [] = refl
-any_joined g c m a (order ∷ orders) = step (fits a order) refl
-  where
-    at_same : (k : OrderKind) (n t : ℕ) → k ≡ order.kind → n ≡ order.message_id → t ≡ order.serial → (((nat_eq order.message_id m && (cell_eq c a.cell || is_among c order.cells)) && g order.kind order.serial) || list_any (tests g c m) orders) ≡ (((nat_eq n m && (cell_eq c a.cell || false)) && g k t) || (tests g c m order || list_any (tests g c m) orders))
-    at_same k n t e f h = rw (e, f, h) (one_more (nat_eq order.message_id m) (cell_eq c a.cell) (is_among c order.cells) (g order.kind order.serial) (list_any (tests g c m) orders))
-
-    step : (t : Bool) → fits a order ≡ t → list_any (tests g c m) (joined a (order ∷ orders)) ≡ (touches g c m a || list_any (tests g c m) (order ∷ orders))
-    step true h =
-        let parts = and_parts (kind_eq a.kind order.kind) (nat_eq a.message_id order.message_id && nat_eq a.serial order.serial) h in
-        let ids = and_parts (nat_eq a.message_id order.message_id) (nat_eq a.serial order.serial) parts.1 in
-        rw h (at_same a.kind a.message_id a.serial (kind_same a.kind order.kind parts.0) (eqb-true a.message_id order.message_id ids.0) (eqb-true a.serial order.serial ids.1))
-    step false h = rw h refl
-
-pub any_grouped : (g : OrderKind → ℕ → Bool) (c : Cell) (m : ℕ) (xs : List Action) → list_any (tests g c m) (grouped xs) ≡ list_any (touches g c m) xs
-any_grouped g c m [] = refl
-any_grouped g c m (a ∷ xs) = any_joined g c m a (grouped xs) ∙ ap (λ t. touches g c m a || t) (any_grouped g c m xs)
+use Rattle.centre_events.specs.Past.{Past}
+use Rattle.centre_events.specs.Pending.{all_actions, pending}
 
 -- what the pending orders touch is what the actions touch
 pub any_pending : (g : OrderKind → ℕ → Bool) (c : Cell) (m : ℕ) (past : Past) (b : ℕ) → list_any (tests g c m) (pending past b) ≡ list_any (touches g c m) (all_actions past b)
-any_pending g c m past b = any_grouped g c m (in_order (all_actions past b)) ∙ any_sorted action_lt (touches g c m) (all_actions past b)
+any_pending g c m past b = any_ordered g c m (all_actions past b)
 
--- what is so of the kind, the message identifier and the serial number of each action is so of each order's
-
-all_joined_to : (p : OrderKind → ℕ → ℕ → Bool) (a : Action) (orders : List Order) → p a.kind a.message_id a.serial ≡ true → list_all (λ (o : Order). p o.kind o.message_id o.serial) orders ≡ true → list_all (λ (o : Order). p o.kind o.message_id o.serial) (joined a orders) ≡ true
-all_joined_to p a [] h g = and_from (p a.kind a.message_id a.serial) true h refl
-all_joined_to p a (order ∷ orders) h g = step (fits a order)
-  where
-    step : (t : Bool) → list_all (λ (o : Order). p o.kind o.message_id o.serial) (if t then record order { cells = a.cell ∷ order.cells } ∷ orders else alone a ∷ order ∷ orders) ≡ true
-    step true = g
-    step false = and_from (p a.kind a.message_id a.serial) (list_all (λ (o : Order). p o.kind o.message_id o.serial) (order ∷ orders)) h g
-
-all_grouped : (p : OrderKind → ℕ → ℕ → Bool) (xs : List Action) → list_all (λ (a : Action). p a.kind a.message_id a.serial) xs ≡ true → list_all (λ (o : Order). p o.kind o.message_id o.serial) (grouped xs) ≡ true
-all_grouped p [] h = refl
-all_grouped p (a ∷ xs) h =
-    let parts = and_parts (p a.kind a.message_id a.serial) (list_all (λ (x : Action). p x.kind x.message_id x.serial) xs) h in
-    all_joined_to p a (grouped xs) parts.0 (all_grouped p xs parts.1)
-
+-- what is so of the kind, the message identifier and the serial number of each action is so of each pending order's
 pub all_pending : (p : OrderKind → ℕ → ℕ → Bool) (past : Past) (b : ℕ) → list_all (λ (a : Action). p a.kind a.message_id a.serial) (all_actions past b) ≡ true → list_all (λ (o : Order). p o.kind o.message_id o.serial) (pending past b) ≡ true
-all_pending p past b h =
-    all_grouped p (in_order (all_actions past b)) (all_sorted action_lt (λ (a : Action). p a.kind a.message_id a.serial) (all_actions past b) h)
+all_pending p past b h = all_ordered p (all_actions past b) h

@@ -37,7 +37,8 @@ use Rattle.centre_events.specs.Presence.{presence, hold, effect}
 use Rattle.centre_events.specs.Reported.{names_serial, flight_names, is_in_flight, is_present, is_reported_in, is_reported_at, is_reported}
 use Rattle.centre_events.specs.Settings.{Settings}
 use Rattle.centre_events.specs.Verdict.{verdict, answered, forget_checks}
-use Rattle.centre_events.specs.Warnings.{warnings_of, book_of, book_after, book_then, with_issue, serials, is_version, has_key, is_key}
+use Rattle.centre_events.specs.Warnings.{warnings_of, book_of, book_then, serials, is_version, has_key, is_key}
+use Rattle.coverage_plan.specs.Edited.{book_after, with_issue}
 use Rattle.centre_events.specs.declared.answer.Answer.{Answer}
 use Rattle.centre_events.specs.declared.answer.Answer.TheVariants as answer
 use Rattle.coverage_plan.specs.declared.edit.Edit.{Edit}

@@ -40,7 +40,8 @@ use Rattle.centre_core.proofs.AnyLemmas.{any_filter}
 use Rattle.centre_core.proofs.AskLemmas.{IsQuery, ask_query}
 use Rattle.centre_core.proofs.CheckLemmas.{unless_ok}
 use Rattle.centre_core.proofs.CountLemmas.{among_more, among_new}
-use Rattle.centre_core.proofs.GroupingLemmas.{tests, any_pending}
+use Rattle.centre_core.proofs.GroupingLemmas.{any_pending}
+use Rattle.order_maker.specs.GroupingLaws.{tests}
 use Rattle.centre_core.proofs.UniqueLemmas.{verdict_answered}
 
 placed_after : (d : Cell) (other : ℕ) (before : Past) (b : ℕ) (c : Cell) → (is_place (place before c) b ≡ true → is_among c (cells before) ≡ true) → is_place (unwrap_or (cond (cell_eq d c) (Some (Some other)) None) (place before c)) b ≡ true → is_among c (with_new cell_eq (Some d) (cells before)) ≡ true

@@ -22,7 +22,8 @@ use Rattle.centre_core.specs.Legal.{Legal}
 use Rattle.centre_events.specs.Past.{Past, After}
 use Rattle.centre_events.specs.Settings.{Settings}
 use Rattle.centre_events.specs.Verdict.{verdict}
-use Rattle.centre_events.specs.Warnings.{book_of, warnings_of, with_issue, is_version, has_key, is_key}
+use Rattle.centre_events.specs.Warnings.{book_of, warnings_of, is_version, has_key, is_key}
+use Rattle.coverage_plan.specs.Edited.{with_issue}
 use Rattle.centre_events.specs.declared.answer.Answer.{Answer}
 use Rattle.coverage_plan.specs.declared.edit.Edit.TheVariants as edit
 use Rattle.centre_events.specs.declared.event.Event.TheVariants as event

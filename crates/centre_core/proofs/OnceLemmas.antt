@@ -43,7 +43,7 @@ use Rattle.centre_core.proofs.ActingLemmas.{does, writes_by, any_deeds}
 use Rattle.centre_core.proofs.AnyLemmas.{and_none, any_implies, contrary}
 use Rattle.centre_core.proofs.AskLemmas.{IsQuery}
 use Rattle.centre_core.proofs.CountLemmas.{named_once}
-use Rattle.centre_core.proofs.GroupingLemmas.{tests, touches, any_grouped}
+use Rattle.order_maker.specs.GroupingLaws.{tests, touches, any_grouped}
 use Rattle.centre_core.proofs.HeadlineLemmas.{wanted_version}
 use Rattle.centre_core.proofs.KnownLemmas.{legal_unfolded, flight_from, flight_none, among_front}
 use Rattle.centre_events.proofs.PastLemmas.{any_image}

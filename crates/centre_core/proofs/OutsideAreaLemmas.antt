@@ -22,7 +22,8 @@ use Rattle.centre_events.specs.Facts.{key_state, facts_of}
 use Rattle.centre_core.specs.Legal.{Legal}
 use Rattle.centre_events.specs.Past.{Past, From, After, by_edit}
 use Rattle.centre_events.specs.Places.{place}
-use Rattle.centre_core.specs.Reach.{Reach, bears, spot, is_named_by, placed_where, numbers_where}
+use Rattle.centre_core.specs.Reach.{Reach, bears, spot, placed_where, numbers_where}
+use Rattle.coverage_plan.specs.Reach.{is_named_by}
 use Rattle.centre_events.specs.Settings.{Settings}
 use Rattle.centre_events.specs.Verdict.{answered, edit_answered, add_area_checks, drop_area_checks, put_checks}
 use Rattle.centre_events.specs.Warnings.{book_of, warnings_of}

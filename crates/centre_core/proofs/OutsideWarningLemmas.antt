@@ -31,7 +31,8 @@ use Rattle.centre_events.specs.Places.{place}
 use Rattle.centre_core.specs.Reach.{Reach, bears, spot, placed_where, known_at, reach_of}
 use Rattle.centre_events.specs.Settings.{Settings}
 use Rattle.centre_events.specs.Verdict.{verdict}
-use Rattle.centre_events.specs.Warnings.{book_of, warnings_of, with_issue, is_version, has_key, is_key}
+use Rattle.centre_events.specs.Warnings.{book_of, warnings_of, is_version, has_key, is_key}
+use Rattle.coverage_plan.specs.Edited.{with_issue}
 use Rattle.centre_events.specs.declared.answer.Answer.{Answer}
 use Rattle.coverage_plan.specs.declared.edit.Edit.TheVariants as edit
 use Rattle.centre_events.specs.declared.effect.Effect.TheVariants.{Frees, Leaves}

@@ -10,13 +10,13 @@ use Rattle.centre_events.specs.Base.{empty_base}
 use Rattle.centre_core.specs.Flights.{up_before}
 use Rattle.centre_core.specs.Following.{Finishes, Follows, IsLegal, WasReached}
 use Rattle.centre_core.specs.IsKept.{IsKept, OnlyReadsIn}
-use Rattle.centre_events.specs.Kept.{is_edit, register_after, areas_after}
+use Rattle.centre_events.specs.Kept.{is_edit}
+use Rattle.coverage_plan.specs.Edited.{register_after, areas_after, book_after}
 use Rattle.centre_core.specs.Legal.{Legal}
 use Rattle.centre_events.specs.Past.{Past, After, since, past_of}
 use Rattle.centre_events.specs.Settings.{Settings}
 use Rattle.centre_core.specs.State.{AreLinksOf}
 use Rattle.centre_events.specs.Verdict.{answered, edit_answered, verdict}
-use Rattle.centre_events.specs.Warnings.{book_after}
 use Rattle.centre_events.specs.declared.answer.Answer.{Answer}
 use Rattle.centre_events.specs.declared.entry.Entry.{Entry}
 use Rattle.centre_events.specs.declared.event.Event.{Event}

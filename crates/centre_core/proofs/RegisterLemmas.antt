@@ -20,13 +20,15 @@ use Rattle.cell_register.specs.Sound.{IsRegister}
 use Rattle.cell_register.specs.declared.placed.Placed.{Placed}
 use Rattle.cell_register.specs.declared.refusal.Refusal as register_refusal
 use Rattle.cell_register.specs.declared.refusal.Refusal.TheVariants as register_refusal_is
-use Rattle.centre_events.specs.Kept.{IsRegisterOf, Gives, register_after, register_then}
+use Rattle.centre_events.specs.Kept.{IsRegisterOf, Gives, register_then}
+use Rattle.coverage_plan.specs.Edited.{register_after}
 use Rattle.centre_events.specs.Links.{bsc_mark, bscs, is_bsc, bsc_count, added_bsc}
 use Rattle.centre_events.specs.Past.{Past, After, IsUnfolded, by_edit}
 use Rattle.centre_events.specs.Places.{place_mark, place, cells, is_registered, cell_count, added_cell}
 use Rattle.cell_register.specs.Register.{is_place}
 use Rattle.centre_events.specs.Refusals.{of_register}
-use Rattle.centre_events.specs.Verdict.{translated, answered, edit_answered, unless, has_cells, remove_bsc, remove_bsc_checks, add_bsc, add_bsc_checks, add_cell, add_cell_checks, move_cell, move_cell_checks, remove_cell, remove_cell_checks}
+use Rattle.coverage_plan.specs.Checks.{translated}
+use Rattle.centre_events.specs.Verdict.{answered, edit_answered, unless, has_cells, remove_bsc, remove_bsc_checks, add_bsc, add_bsc_checks, add_cell, add_cell_checks, move_cell, move_cell_checks, remove_cell, remove_cell_checks}
 use Rattle.centre_events.specs.declared.answer.Answer.{Answer}
 use Rattle.centre_events.specs.declared.answer.Answer.TheVariants as answer
 use Rattle.coverage_plan.specs.declared.edit.Edit.{Edit}

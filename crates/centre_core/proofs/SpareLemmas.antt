@@ -41,7 +41,7 @@ use Rattle.centre_core.proofs.ActingLemmas.{does, writes_by, any_deeds, has_seri
 use Rattle.centre_core.proofs.AnyLemmas.{or_none, any_implies, contrary}
 use Rattle.centre_core.proofs.ApplyingLemmas.{applied_airs}
 use Rattle.centre_core.proofs.CountLemmas.{named_once}
-use Rattle.centre_core.proofs.GroupingLemmas.{kind_same, tests, touches}
+use Rattle.order_maker.specs.GroupingLaws.{kind_same, tests, touches}
 use Rattle.centre_core.proofs.HeadlineLemmas.{is_free, the_some, wanted_version, airs_pending, clears_pending}
 use Rattle.centre_core.proofs.KeyLemmas.{keyed, order_keyed, pending_keyed, replaced_version}
 use Rattle.centre_core.proofs.KnownLemmas.{legal_unfolded}

@@ -34,7 +34,8 @@ use Rattle.centre_core.specs.Legal.{Legal}
 use Rattle.centre_events.specs.Outcomes.{listed_cells, failed_ids}
 use Rattle.centre_events.specs.Past.{Past}
 use Rattle.centre_events.specs.Places.{place, cells}
-use Rattle.centre_core.specs.Reach.{Reach, IsReach, spot, at_bsc, is_named_by, placed_where, known_at, numbers_where, flight_reach, edit_reach, report_reach, reach_of}
+use Rattle.centre_core.specs.Reach.{Reach, IsReach, spot, at_bsc, placed_where, known_at, numbers_where, flight_reach, edit_reach, report_reach, reach_of}
+use Rattle.coverage_plan.specs.Reach.{is_named_by}
 use Rattle.centre_core.specs.Reaching.{AreSpots, AreThose, Told, TellsLines, EditTold, IsFlightOf, bsc_of, is_placed, is_known_at}
 use Rattle.centre_events.specs.Reported.{names_warning}
 use Rattle.centre_events.specs.Settings.{Settings}

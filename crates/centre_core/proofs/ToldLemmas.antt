@@ -17,7 +17,8 @@ use Rattle.centre_core.specs.Legal.{Legal}
 use Rattle.centre_events.specs.Past.{Past, From, After}
 use Rattle.centre_events.specs.Settings.{Settings}
 use Rattle.centre_events.specs.Verdict.{answered, edit_answered, update, update_checks, update_answer, widen, widen_checks}
-use Rattle.centre_events.specs.Warnings.{book_of, warnings_of, book_after, book_then, with_issue}
+use Rattle.centre_events.specs.Warnings.{book_of, warnings_of, book_then}
+use Rattle.coverage_plan.specs.Edited.{book_after, with_issue}
 use Rattle.centre_events.specs.declared.answer.Answer.{Answer}
 use Rattle.centre_events.specs.declared.answer.Answer.TheVariants as answer
 use Rattle.coverage_plan.specs.declared.edit.Edit.{Edit}

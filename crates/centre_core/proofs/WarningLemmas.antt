@@ -31,7 +31,8 @@ use Rattle.centre_events.specs.Refusals.{of_book}
 use Rattle.centre_events.specs.Reported.{is_reported, is_in_flight}
 use Rattle.centre_events.specs.Settings.{Settings}
 use Rattle.centre_events.specs.Verdict.{unless, answered, edit_answered, by_book, issue, issue_answer, update, update_answer, widen, narrow, stop, forget, idle_checks}
-use Rattle.centre_events.specs.Warnings.{book_of, book_after, book_then, with_issue}
+use Rattle.centre_events.specs.Warnings.{book_of, book_then}
+use Rattle.coverage_plan.specs.Edited.{book_after, with_issue}
 use Rattle.centre_events.specs.declared.answer.Answer.{Answer}
 use Rattle.centre_events.specs.declared.answer.Answer.TheVariants as answer
 use Rattle.coverage_plan.specs.declared.edit.Edit.{Edit}

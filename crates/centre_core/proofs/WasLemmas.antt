@@ -23,7 +23,8 @@ use Rattle.centre_events.specs.Past.{Past, After}
 use Rattle.centre_events.specs.Settings.{Settings}
 use Rattle.centre_events.specs.Stepping.{at_update, WasLine}
 use Rattle.centre_events.specs.Verdict.{verdict}
-use Rattle.centre_events.specs.Warnings.{with_issue, book_after, book_then, book_of, warnings_of, is_version, has_key, is_key}
+use Rattle.centre_events.specs.Warnings.{book_then, book_of, warnings_of, is_version, has_key, is_key}
+use Rattle.coverage_plan.specs.Edited.{with_issue, book_after}
 use Rattle.coverage_plan.specs.declared.edit.Edit.{Edit}
 use Rattle.coverage_plan.specs.declared.edit.Edit.TheVariants as edit
 use Rattle.centre_events.specs.declared.entry.Entry.{Entry}

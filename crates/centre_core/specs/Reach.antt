@@ -1,9 +1,6 @@
 -- On which lines an event bears: cells at BSCs, and warnings.
 use Rattle.std.specs.Prelude.{◌≡◌, ℕ, ◌+◌, ◌*◌, Bool, true, ◌&&◌, List, [], ◌∷◌, Option, Some, None, Result, Ok, Err, map, nat_eq, length, if◌then◌else◌}
 use Rattle.std.specs.List.{filter, flat_map, list_any}
-use Rattle.areas.specs.declared.selector.Selector.{Selector}
-use Rattle.areas.specs.declared.selector.Selector.TheVariants as selector
-use Rattle.common.specs.Cell.{cell_eq}
 use Rattle.common.specs.Order.{each_once}
 use Rattle.common.specs.declared.cell.Cell.{Cell}
 use Rattle.kept_tables.specs.View.{spot_eq}
@@ -11,6 +8,7 @@ use Rattle.kept_tables.specs.declared.spot.Spot.{Spot}
 use Rattle.mirror.specs.declared.line_key.LineKey.{LineKey}
 use Rattle.warning_book.specs.Book.{names, areas_of}
 use Rattle.warning_book.specs.declared.warning.Warning.{Warning}
+use Rattle.coverage_plan.specs.Reach.{is_named_by}
 use Rattle.centre_events.specs.Cover.{covers, is_covered}
 use Rattle.centre_events.specs.InFlight.{in_flight, cells_of}
 use Rattle.centre_events.specs.Known.{is_known}
@@ -48,11 +46,6 @@ bears r k = list_any (spot_eq (spot k.bsc k.cell)) r.spots && list_any (nat_eq k
 -- how many lines they are
 abbrev pub size : Reach → ℕ
 size r = length r.spots * length r.warnings
-
--- the selector names the cell, or its location area
-abbrev pub is_named_by : Selector → Cell → Bool
-is_named_by (selector.Cell d) c = cell_eq d c
-is_named_by (selector.Lac lac) c = nat_eq lac c.lac
 
 -- the cell at the BSC, if there is one
 abbrev pub at_bsc : Cell → Option ℕ → List Spot

@@ -4,11 +4,11 @@ ghost use Rattle.std.specs.Prelude.{◌≡◌, ◌≤◌, ◌+◌, ◌++◌, ◌
 ghost use Rattle.centre_core.specs.Flights.{up_before};
 ghost use Rattle.centre_core.specs.Following.{Finishes};
 ghost use Rattle.centre_core.specs.IsKept.{IsKept};
-ghost use Rattle.centre_events.specs.Kept.{Gives, is_plain, register_after, areas_after};
+ghost use Rattle.centre_events.specs.Kept.{Gives, is_plain};
+ghost use Rattle.coverage_plan.specs.Edited.{register_after, areas_after, book_after};
 ghost use Rattle.centre_events.specs.Past.{Past, After};
 ghost use Rattle.centre_core.specs.State.{AreLinksOf};
 ghost use Rattle.centre_events.specs.Verdict.{edit_answered};
-ghost use Rattle.centre_events.specs.Warnings.{book_after};
 
 use crate::events::{Verdict, make_edit};
 use crate::finishing::finish;

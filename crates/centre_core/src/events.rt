@@ -15,7 +15,8 @@ ghost use Rattle.std.specs.Prelude.{◌≡◌, ◌≤◌, ◌+◌, ℕ, true, fa
 ghost use Rattle.order_maker.specs.Pending.{IsListOf};
 ghost use Rattle.centre_core.specs.Idle.{AreKnownOf};
 ghost use Rattle.centre_core.specs.IsKept.{IsKept, OnlyReadsIn};
-ghost use Rattle.centre_events.specs.Kept.{IsRegisterOf, AreAreasOf, register_after, areas_after, is_edit, is_plain, Gives, IsChecked};
+ghost use Rattle.centre_events.specs.Kept.{IsRegisterOf, AreAreasOf, is_edit, is_plain, Gives, IsChecked};
+ghost use Rattle.coverage_plan.specs.Edited.{register_after, areas_after, book_after};
 ghost use Rattle.centre_core.specs.Legal.{Legal};
 ghost use Rattle.centre_events.specs.Past.{Past, position};
 ghost use Rattle.centre_events.specs.Pending.{all_actions};
@@ -23,7 +24,7 @@ ghost use Rattle.centre_core.specs.Reach.{looked_at};
 ghost use Rattle.centre_core.specs.Reaching.{TellsLines};
 ghost use Rattle.centre_events.specs.Settings.{Settings};
 ghost use Rattle.centre_events.specs.Verdict.{answered, edit_answered};
-ghost use Rattle.centre_events.specs.Warnings.{book_of, book_after};
+ghost use Rattle.centre_events.specs.Warnings.{book_of};
 ghost use Rattle.centre_core.specs.declared.kept.Kept.{Kept};
 
 use crate::kept::Kept;

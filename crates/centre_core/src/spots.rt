@@ -5,7 +5,8 @@ ghost use Rattle.std.specs.List.{list_any, flat_map};
 ghost use Rattle.areas.specs.Areas.{covers};
 ghost use Rattle.cell_register.specs.Register.{place_in};
 ghost use Rattle.common.specs.Order.{each_once};
-ghost use Rattle.centre_core.specs.Reach.{spot, at_bsc, is_named_by};
+ghost use Rattle.centre_core.specs.Reach.{spot, at_bsc};
+ghost use Rattle.coverage_plan.specs.Reach.{is_named_by};
 ghost use Rattle.centre_core.specs.Reaching.{AreSpots, is_placed, is_known_at};
 
 use areas::{Areas, Selector};

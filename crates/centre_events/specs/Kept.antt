@@ -4,11 +4,11 @@
 use Rattle.std.specs.Prelude.{◌≡◌, ◌⊎◌, ℕ, Bool, true, false, not, List, Option, Result, Ok, Err, IsOk, find, nat_eq}
 use Rattle.std.specs.List.{filter}
 use Rattle.std.specs.Option.{option_map}
-use Rattle.areas.specs.Areas.{has_area, with_area, without_area, with_selector, without_selector}
+use Rattle.areas.specs.Areas.{has_area}
 use Rattle.areas.specs.Areas as kept
 use Rattle.areas.specs.declared.area.Area.{Area}
 use Rattle.areas.specs.declared.selector.Selector.{Selector}
-use Rattle.cell_register.specs.Register.{State, has_bsc, place_in, with_bsc, without_bsc, with_cell, moved, without_cell}
+use Rattle.cell_register.specs.Register.{State, has_bsc, place_in}
 use Rattle.common.specs.declared.cell.Cell.{Cell}
 use Rattle.centre_events.specs.Cover.{is_area, has_selector}
 use Rattle.centre_events.specs.InFlight.{in_flight}
@@ -19,8 +19,7 @@ use Rattle.centre_events.specs.Settings.{Settings}
 use Rattle.centre_events.specs.Verdict.{verdict}
 use Rattle.centre_events.specs.declared.answer.Answer.{Answer}
 use Rattle.centre_events.specs.declared.answer.Answer.TheVariants.{Sent, Asked, Replied, Listed}
-use Rattle.coverage_plan.specs.declared.edit.Edit.{Edit}
-use Rattle.coverage_plan.specs.declared.edit.Edit.TheVariants as edit
+use Rattle.coverage_plan.specs.Edited.{register_after, areas_after}
 use Rattle.centre_events.specs.declared.event.Event.{Event}
 use Rattle.centre_events.specs.declared.event.Event.TheVariants as event
 use Rattle.centre_events.specs.declared.flight.Flight.{Flight}
@@ -55,23 +54,6 @@ without_flight b fs = filter (λ f. not (is_of b f)) fs
 -- the flights tell of each BSC what the past says
 abbrev pub AreFlightsOf : Past → List Flight → Type 0
 AreFlightsOf past fs = (b : ℕ) → flight_in fs b ≡ in_flight past b
-
--- the register after the edit
-abbrev pub register_after : Edit → State → State
-register_after (edit.AddBsc b) register = with_bsc b register
-register_after (edit.RemoveBsc b) register = without_bsc b register
-register_after (edit.AddCell c b) register = with_cell c b register
-register_after (edit.MoveCell c b) register = moved c b register
-register_after (edit.RemoveCell c) register = without_cell c register
-register_after other register = register
-
--- the areas after the edit
-abbrev pub areas_after : Edit → List Area → List Area
-areas_after (edit.AddArea a) areas = with_area a areas
-areas_after (edit.DropArea a) areas = without_area a areas
-areas_after (edit.Put a s) areas = with_selector a s areas
-areas_after (edit.Cut a s) areas = without_selector a s areas
-areas_after other areas = areas
 
 -- no event but an edit changes the register
 abbrev pub register_then : Event → State → State

@@ -30,6 +30,7 @@ use Rattle.centre_events.specs.Settings.{Settings}
 use Rattle.centre_events.specs.Warnings.{book_of, warnings_of}
 use Rattle.centre_events.specs.declared.answer.Answer.{Answer}
 use Rattle.centre_events.specs.declared.answer.Answer.TheVariants as answer
+use Rattle.coverage_plan.specs.Checks.{translated}
 use Rattle.coverage_plan.specs.declared.edit.Edit.{Edit}
 use Rattle.coverage_plan.specs.declared.edit.Edit.TheVariants as edit
 use Rattle.centre_events.specs.declared.event.Event.{Event}
@@ -124,11 +125,6 @@ cut_checks past a s = (not (is_area past a), refusal.NoSuchArea) ∷ (not (has_s
 -- what a Cut is answered
 abbrev pub cut : Past → List ℕ → Selector → Result Answer Refusal
 cut past a s = unless (cut_checks past a s) (Ok answer.Done)
-
--- the checks that a lower crate makes, each with the centre's refusal
-abbrev pub translated : {E : Type 0} → (E → Refusal) → List (Bool × E) → List (Bool × Refusal)
-translated f [] = []
-translated f (check ∷ checks) = (check.0, f check.1) ∷ translated f checks
 
 -- the checks that the book makes
 abbrev pub by_book : List (Bool × book_refusal.Refusal) → List (Bool × Refusal)

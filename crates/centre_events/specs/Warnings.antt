@@ -1,30 +1,13 @@
 -- The book of warnings that the entries make.
-use Rattle.std.specs.Prelude.{ℕ, Bool, ◌&&◌, List, Option, Some, None, map, nat_eq}
+use Rattle.std.specs.Prelude.{ℕ, Bool, ◌&&◌, List, map, nat_eq}
 use Rattle.std.specs.List.{list_any}
-use Rattle.warning_book.specs.Book.{State, new_serial, after_issue, after_update, after_widen, after_narrow, after_stop, after_forget}
-use Rattle.warning_book.specs.declared.notice.Notice.{Notice}
+use Rattle.warning_book.specs.Book.{State}
 use Rattle.warning_book.specs.declared.version.Version.{Version}
 use Rattle.warning_book.specs.declared.warning.Warning.{Warning}
 use Rattle.centre_events.specs.Past.{Past, From, After}
-use Rattle.coverage_plan.specs.declared.edit.Edit.{Edit}
-use Rattle.coverage_plan.specs.declared.edit.Edit.TheVariants.{Issue, Update, Widen, Narrow, Stop, Forget}
+use Rattle.coverage_plan.specs.Edited.{book_after}
 use Rattle.centre_events.specs.declared.event.Event.{Event}
 use Rattle.centre_events.specs.declared.event.Event.TheVariants as event
-
--- a warning with that serial number is put into the book; without one there is none
-abbrev pub with_issue : Notice → List (List ℕ) → Option ℕ → State → State
-with_issue notice areas None st = st
-with_issue notice areas (Some s) st = after_issue notice areas s st
-
--- the book after the edit: a new warning has the serial number with the least free code
-abbrev pub book_after : Edit → State → State
-book_after (Issue notice areas) st = with_issue notice areas (new_serial st notice) st
-book_after (Update n content) st = after_update n content st
-book_after (Widen n a) st = after_widen n a st
-book_after (Narrow n a) st = after_narrow n a st
-book_after (Stop n) st = after_stop n st
-book_after (Forget n) st = after_forget n st
-book_after other st = st
 
 -- no event but an edit changes the book
 abbrev pub book_then : Event → State → State

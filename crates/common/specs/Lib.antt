@@ -4,6 +4,7 @@ pub mod Checks
 pub mod CheckLaws
 pub mod Order
 pub mod OrderLaws
+pub mod RisingLaws
 pub mod OnceLaws
 pub mod Sorting
 pub mod SortingLaws

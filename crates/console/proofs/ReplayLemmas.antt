@@ -14,7 +14,8 @@ use Rattle.console.specs.Generations.{generation_of}
 use Rattle.console.specs.Grammar.{line_of}
 use Rattle.console.specs.HexText.{octets_of}
 use Rattle.console.specs.Replays.{IsLeft, MeetsWant, Replays, BreaksOff}
-use Rattle.console.specs.Sessions.{SessionState, Says, report_type, event_of, Responds, RespondsOrStarves, StarvesAt, BodyStarves, OctetsStarve, Starves, is_comment, AnswersLine, AnswersWords, AnswersOrStarves, LineStarves}
+use Rattle.console.specs.Sessions.{SessionState, Says, event_of, Responds, RespondsOrStarves, StarvesAt, BodyStarves, OctetsStarve, Starves, is_comment, AnswersLine, AnswersWords, AnswersOrStarves, LineStarves}
+use Rattle.cbsp_messages.specs.MessageType.{report_type}
 use Rattle.console.specs.Text.{lines_from, lines_of, without_return, IsText, IsTextOrStarves}
 use Rattle.console.specs.Texts.{response_text, refused_text}
 use Rattle.console.specs.Words.{words_of}

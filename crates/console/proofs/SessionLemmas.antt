@@ -10,7 +10,8 @@ use Rattle.centre_events.specs.declared.event.Event.{Event}
 use Rattle.centre_events.specs.declared.refusal.Refusal.{Refusal}
 use Rattle.centre_events.specs.declared.refusal.Refusal.TheVariants as refusal
 use Rattle.framing.specs.declared.frame.Frame.{Frame}
-use Rattle.console.specs.Sessions.{SessionState, verdict_in, entry_of, ReportsBody, ReportsFrame, report_type, SubmitsOrStarves, BodyStarves, FrameStarves}
+use Rattle.console.specs.Sessions.{SessionState, verdict_in, entry_of, ReportsBody, ReportsFrame, SubmitsOrStarves, BodyStarves, FrameStarves}
+use Rattle.cbsp_messages.specs.MessageType.{report_type}
 use Rattle.console.specs.declared.kept.Kept.{Kept}
 use Rattle.console.specs.declared.response.Response.{Response}
 use Rattle.console.specs.declared.response.Response.TheVariants as response

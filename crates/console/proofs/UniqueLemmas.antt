@@ -3,7 +3,7 @@ use Rattle.std.proofs.Common.{◌≡◌, inl, inr, ℕ, ◌+◌, true, false, Op
 use Rattle.std.specs.Bool.{MatchBool}
 use Rattle.std.specs.Prelude.{MatchOption}
 use Rattle.cbsp_messages.specs.Faults.{IsFaultAs}
-use Rattle.cbsp_messages.specs.MessageType.{code_of, type_with}
+use Rattle.cbsp_messages.specs.MessageType.{code_of, type_with, report_type}
 use Rattle.cbsp_messages.specs.Spelling.{Spells}
 use Rattle.cbsp_messages.specs.declared.fault.MessageFault.{MessageFault}
 use Rattle.cbsp_messages.specs.declared.fault.MessageFault.TheVariants as fault
@@ -24,7 +24,7 @@ use Rattle.centre_questions.specs.declared.seen_value.SeenValue.{SeenValue}
 use Rattle.console.specs.Generations.{generation_of}
 use Rattle.console.specs.Grammar.{line_of}
 use Rattle.console.specs.HexText.{octets_of}
-use Rattle.console.specs.Sessions.{SessionState, Says, verdict_in, entered, with_link, Submits, BringsUp, Asks, AsksWhole, SaysValue, told, ReportsBody, ReportsFrame, ReportsOctets, report_type, event_of, SubmitsLine, Responds, is_comment, AnswersLine, AnswersWords}
+use Rattle.console.specs.Sessions.{SessionState, Says, verdict_in, entered, with_link, Submits, BringsUp, Asks, AsksWhole, SaysValue, told, ReportsBody, ReportsFrame, ReportsOctets, event_of, SubmitsLine, Responds, is_comment, AnswersLine, AnswersWords}
 use Rattle.console.specs.Text.{IsText, without_return}
 use Rattle.console.specs.Texts.{response_text}
 use Rattle.console.specs.Words.{words_of}

@@ -31,7 +31,8 @@ use Rattle.console.specs.Generations.{generation_of}
 use Rattle.console.specs.Grammar.{line_of}
 use Rattle.console.specs.HexText.{octets_of}
 use Rattle.console.specs.Laws.{StaysWhole}
-use Rattle.console.specs.Sessions.{SessionState, Says, verdict_in, entered, with_link, Submits, BringsUp, Asks, AsksWhole, SaysValue, told, ReportsBody, ReportsOctets, report_type, event_of, SubmitsLine, Responds, is_comment, AnswersLine, AnswersWords}
+use Rattle.console.specs.Sessions.{SessionState, Says, verdict_in, entered, with_link, Submits, BringsUp, Asks, AsksWhole, SaysValue, told, ReportsBody, ReportsOctets, event_of, SubmitsLine, Responds, is_comment, AnswersLine, AnswersWords}
+use Rattle.cbsp_messages.specs.MessageType.{report_type}
 use Rattle.console.specs.Text.{without_return}
 use Rattle.console.specs.Words.{words_of}
 use Rattle.console.specs.declared.line.Line.{Line}

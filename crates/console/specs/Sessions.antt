@@ -2,7 +2,7 @@
 use Rattle.std.specs.Prelude.{◌≡◌, ◌⊎◌, ℕ, ◌+◌, ◌==◌, Bool, true, false, List, [], ◌∷◌, ◌++◌, length, Option, Some, None, Result, Ok, Err, IsOk, IsSomeAnd, MatchOption, option_and_then, option_map, if◌then◌else◌}
 use Rattle.std.specs.Bool.{MatchBool}
 use Rattle.cbsp_messages.specs.Faults.{IsFaultAs}
-use Rattle.cbsp_messages.specs.MessageType.{code_of, type_with, is_report}
+use Rattle.cbsp_messages.specs.MessageType.{code_of, report_type}
 use Rattle.cbsp_messages.specs.Spelling.{Spells}
 use Rattle.cbsp_messages.specs.declared.fault.MessageFault.{MessageFault}
 use Rattle.cbsp_messages.specs.declared.message.Message.{Message}
@@ -133,10 +133,6 @@ Rebuilds old r new = (r ≡ response.Rebuilt) × (new ≡ with_stale false old)
 -- the generation is kept for the BSC, which need not be there
 abbrev pub Keeps : SessionState → ℕ → ℕ → Response → SessionState → Type 0
 Keeps old b generation r new = (r ≡ response.Set) × (new ≡ record old { kept = with_generation b generation old.kept })
-
--- the type of a message that a BSC sends, by its octet
-abbrev pub report_type : ℕ → Option MessageType
-report_type octet = option_and_then (λ t. if is_report t then Some t else None) (type_with octet)
 
 -- the message of this type that the octets spell, or what is wrong with them
 abbrev pub ReportsBody : SessionState → ℕ → MessageType → List ℕ → Response → SessionState → Type 0

@@ -1,7 +1,7 @@
 //! One run of the console: a centre, and the generations that its lines speak of.
 
 ghost use Rattle.std.specs.Prelude.{◌≡◌};
-ghost use Rattle.console.specs.Sessions.{IsToldInLine, report_type, told};
+ghost use Rattle.console.specs.Sessions.{IsToldInLine, told};
 ghost use Rattle.console.specs.Texts.{ResponseFits};
 
 use crate::content_heading::ContentHeading;
@@ -208,7 +208,7 @@ impl Session {
         ensures answer { ReportsFrame self.old bsc frame.now result self.new ⊎ FrameStarves self.old bsc frame.now result self.new }
         ensures fits { ResponseFits result }
     {
-        match report_type(frame.kind) {
+        match MessageType::of_report(frame.kind) {
             Some(kind) => self.report_body(bsc, kind, frame.body.as_slice()),
             None => Response::Skipped,
         }
@@ -323,14 +323,6 @@ impl Session {
             None => Ok(Response::BadLine),
         }
     }
-}
-
-/// The type of a message that a BSC sends, by its octet.
-fn report_type(octet: u8) -> Option<MessageType>
-    ensures { result ≡ report_type octet }
-{
-    let kind = MessageType::of_code(octet)?;
-    if kind.is_report() { Some(kind) } else { None }
 }
 
 /// What a question is answered, as a line tells it.

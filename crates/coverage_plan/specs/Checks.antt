@@ -24,8 +24,8 @@ use Rattle.coverage_plan.specs.declared.refusal.Refusal.TheVariants.{NoSuchArea,
 abbrev pub IsRefusal : List (Bool × Refusal) → Refusal → Type 0
 IsRefusal checks e = (first_refusal checks ≡ Some e) ⊎ ((e ≡ Memory) × (first_refusal checks ≡ None))
 
--- the checks that a lower crate makes, each with the plan's refusal
-abbrev pub translated : {E : Type 0} → (E → Refusal) → List (Bool × E) → List (Bool × Refusal)
+-- the checks that a lower crate makes, each with the refusal that stands for its own
+abbrev pub translated : {E F : Type 0} → (E → F) → List (Bool × E) → List (Bool × F)
 translated f [] = []
 translated f (check ∷ checks) = (check.0, f check.1) ∷ translated f checks
 

@@ -8,7 +8,7 @@ use Rattle.std.proofs.lemmas.Option.{option_and_then_some}
 use Rattle.common.specs.OrderLaws.{find_passes}
 use Rattle.cbsp_messages.specs.Faults.{IsFaultAs}
 use Rattle.cbsp_messages.specs.Message.{type_of}
-use Rattle.cbsp_messages.specs.MessageType.{code_of, is_report, message_types, type_with}
+use Rattle.cbsp_messages.specs.MessageType.{code_of, is_report, message_types, type_with, report_type}
 use Rattle.cbsp_messages.specs.Spelling.{Spells}
 use Rattle.cbsp_messages.specs.declared.fault.MessageFault.{MessageFault}
 use Rattle.cbsp_messages.specs.declared.fault.MessageFault.TheVariants as bad
@@ -26,7 +26,7 @@ use Rattle.framing.proofs.StreamLemmas.{no_frame-nil, pieces_join}
 use Rattle.link_worker.specs.declared.end.End.{End}
 use Rattle.link_worker.specs.declared.end.End.TheVariants as end
 use Rattle.link_worker.specs.Ends.{IsRefusedEnd, fault_end, report_end}
-use Rattle.link_worker.specs.Reports.{AreReceiptsFor, EndsAsRefused, EndsAt, EndsBefore, EndsReading, EndsWithin, IsPartial, IsReport, IsSubmitEnd, IsTaken, MayGet, Reads, StopsAmong, StopsInPiece, TakesPiece, TakesReports, report_type, stream_end}
+use Rattle.link_worker.specs.Reports.{AreReceiptsFor, EndsAsRefused, EndsAt, EndsBefore, EndsReading, EndsWithin, IsPartial, IsReport, IsSubmitEnd, IsTaken, MayGet, Reads, StopsAmong, StopsInPiece, TakesPiece, TakesReports, stream_end}
 use Rattle.link_worker.proofs.ListLemmas.{AllByRecursion-append, AllByRecursion-back, AllByRecursion-front}
 use Rattle.cbsp_messages.specs.declared.message.Message.{Message}
 use Rattle.link_worker.proofs.OrderLemmas.{refused_room}

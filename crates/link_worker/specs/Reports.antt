@@ -1,10 +1,10 @@
 -- What the side that reads does: the frames that it takes, and the reports that it submits.
-use Rattle.std.specs.Prelude.{◌≡◌, ◌≢◌, ◌⊎◌, ℕ, true, List, [], ◌∷◌, ◌++◌, Option, Some, None, option_and_then, if◌then◌else◌}
+use Rattle.std.specs.Prelude.{◌≡◌, ◌≢◌, ◌⊎◌, ℕ, true, List, [], ◌∷◌, ◌++◌, Option, Some, None, if◌then◌else◌}
 use Rattle.std.specs.Io.KnownBytes.{Consumes, IsAtEnd}
 use Rattle.std.specs.List.{AllByRecursion, flat_map}
 use Rattle.cbsp_messages.specs.Faults.{IsFaultAs}
 use Rattle.cbsp_messages.specs.Message.{type_of}
-use Rattle.cbsp_messages.specs.MessageType.{is_report, type_with}
+use Rattle.cbsp_messages.specs.MessageType.{report_type}
 use Rattle.cbsp_messages.specs.Spelling.{Spells}
 use Rattle.cbsp_messages.specs.declared.fault.MessageFault.{MessageFault}
 use Rattle.cbsp_messages.specs.declared.message.Message.{Message}
@@ -21,10 +21,6 @@ use Rattle.link_worker.specs.declared.end.End.TheVariants as end
 use Rattle.office.specs.Desks.{DeskState}
 use Rattle.office.specs.Offices.{IsRefusedSomewhere}
 use Rattle.office.specs.declared.receipt.Receipt.{Receipt}
-
--- the type of a report, by its octet; none for every other type, and where the octet names no type
-abbrev pub report_type : ℕ → Option MessageType
-report_type octet = option_and_then (λ t. if is_report t then Some t else None) (type_with octet)
 
 -- the frame is that of a report, and its body is an encoding of the message
 pub record IsReport (frame : Frame) (m : Message) : Type 0 where

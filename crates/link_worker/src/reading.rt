@@ -3,7 +3,7 @@
 ghost use Rattle.std.specs.Prelude.{◌≡◌, ◌⊎◌, [], true, false, IfSome};
 ghost use Rattle.framing.specs.Source.{counted};
 ghost use Rattle.link_worker.specs.Ends.{IsRefusedEnd, is_read_fault, report_end};
-ghost use Rattle.link_worker.specs.Reports.{EndsReading, report_type, stream_end};
+ghost use Rattle.link_worker.specs.Reports.{EndsReading, stream_end};
 
 use crate::end::End;
 use crate::gate::{Gate, Step};
@@ -139,7 +139,7 @@ impl<'o, 'g, L: Ledger, G: Gate> Link<'o, 'g, L, G> {
         ensures taken { OnOk result (TakesReports self.now.bsc self.now.generation (frame.now ∷ []) desk.old desk.new) }
         ensures ended { IfErr result (StopsAmong self.now.bsc self.now.generation (frame.now ∷ []) desk.old desk.new) }
     {
-        let Some(kind) = report_type(frame.kind) else {
+        let Some(kind) = MessageType::of_report(frame.kind) else {
             return Ok(());
         };
         match read_as(self.alloc, kind, frame.body.as_slice()) {
@@ -181,14 +181,6 @@ fn end_of_stream(framer: &Framer) -> End
     } else {
         End::CutFrame
     }
-}
-
-/// The type of a report, by its octet.
-fn report_type(octet: u8) -> Option<MessageType>
-    ensures { result ≡ report_type octet }
-{
-    let kind = MessageType::of_code(octet)?;
-    if kind.is_report() { Some(kind) } else { None }
 }
 
 /// The end that the refusal of a report makes; none where the side goes on.

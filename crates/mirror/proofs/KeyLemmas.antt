@@ -5,10 +5,10 @@ use Rattle.std.proofs.lemmas.Grind.{common_steps}
 use Rattle.std.specs.BTreeMap.{is_at}
 use Rattle.std.specs.BTreeMap.Range.{range_contains}
 use Rattle.std.specs.declared.ops.Bound.TheVariants.{Included, Excluded}
-use Rattle.common.specs.Cell.{cell_eq, cell_lt}
+use Rattle.common.specs.Cell.{cell_eq, cell_lt, cell_cmp}
 use Rattle.common.specs.declared.cell.Cell.{Cell}
 use Rattle.mirror.specs.OnAir.{is_slot_for}
-use Rattle.mirror.specs.Order.{Place, Slot, cell_cmp, slot_cmp, place_cmp, slot_of, least_slot, place_of, least_place}
+use Rattle.mirror.specs.Order.{Place, Slot, slot_cmp, place_cmp, slot_of, least_slot, place_of, least_place}
 use Rattle.mirror.specs.Table.{is_slot, is_that_place}
 
 pub at_cell : (c d : Cell) → is_at (cell_cmp c) d ≡ cell_eq c d

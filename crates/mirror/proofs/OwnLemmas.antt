@@ -12,13 +12,13 @@ use Rattle.std.specs.declared.ops.Bound.TheVariants.{Included, Excluded}
 use Rattle.cbsp_ie.specs.CellId.{names}
 use Rattle.cbsp_ie.specs.declared.cell_id.CellId.{CellId}
 use Rattle.cbsp_ie.specs.declared.cell_id.CellId.TheVariants as id
-use Rattle.common.specs.Cell.{cell_eq}
+use Rattle.common.specs.Cell.{cell_eq, cell_cmp}
 use Rattle.common.specs.Equality.{cell_decides}
 use Rattle.common.specs.OnceLaws.{turned}
 use Rattle.common.specs.declared.cell.Cell.{Cell}
 use Rattle.mirror.proofs.GatherLemmas.{one_more}
 use Rattle.mirror.specs.Known.{is_named, own_cell}
-use Rattle.mirror.specs.Order.{Slot, cell_cmp, slot_cmp, slot_of, least_slot}
+use Rattle.mirror.specs.Order.{Slot, slot_cmp, slot_of, least_slot}
 use Rattle.mirror.specs.Table.{is_slot_in}
 use Rattle.mirror.specs.declared.line.Line.{Line}
 

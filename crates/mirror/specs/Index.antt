@@ -5,11 +5,11 @@ use Rattle.std.specs.Map.{lookup}
 use Rattle.std.specs.Option.{unwrap_or}
 use Rattle.std.specs.Ordering.{ordering_then, nat_cmp}
 use Rattle.std.specs.declared.cmp.Ordering.{Ordering}
-use Rattle.common.specs.Cell.{cell_eq, cell_lt}
+use Rattle.common.specs.Cell.{cell_eq, cell_lt, cell_cmp}
 use Rattle.common.specs.declared.cell.Cell.{Cell}
 use Rattle.mirror.specs.Blank.{is_blank}
 use Rattle.mirror.specs.Line.{blank_line}
-use Rattle.mirror.specs.Order.{Slot, cell_cmp}
+use Rattle.mirror.specs.Order.{Slot}
 use Rattle.mirror.specs.Table.{Table, is_key, is_slot, line_at}
 use Rattle.mirror.specs.declared.line.Line.{Line}
 use Rattle.mirror.specs.declared.line_key.LineKey.{LineKey}

@@ -2,6 +2,7 @@
 use Rattle.std.specs.Prelude.{ℕ, ◌/◌, ◌%◌, ◌^◌}
 use Rattle.std.specs.Ordering.{ordering_then, nat_cmp}
 use Rattle.std.specs.declared.cmp.Ordering.{Ordering}
+use Rattle.common.specs.Cell.{cell_cmp}
 use Rattle.common.specs.declared.cell.Cell.{Cell}
 
 -- a cell at a BSC
@@ -14,10 +15,6 @@ pub record Slot : Type 0 where
   pub bsc : ℕ
   pub cell : Cell
   pub warning : ℕ
-
--- cells by location area, then by cell identity
-abbrev pub cell_cmp : Cell → Cell → Ordering
-cell_cmp x y = ordering_then (nat_cmp x.lac y.lac) (nat_cmp x.ci y.ci)
 
 -- lines by BSC, then by cell, then by warning
 abbrev pub slot_cmp : Slot → Slot → Ordering

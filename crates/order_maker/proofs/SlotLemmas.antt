@@ -9,13 +9,13 @@ use Rattle.std.specs.Option.{is_some, option_cmp}
 use Rattle.std.specs.Ordering.{ordering_then, nat_cmp, bool_cmp, is_eq, is_lt, is_le}
 use Rattle.std.specs.declared.cmp.Ordering.{Ordering}
 use Rattle.std.specs.declared.cmp.Ordering.TheVariants.{Less, Equal, Greater}
-use Rattle.common.specs.Cell.{cell_lt}
+use Rattle.common.specs.Cell.{cell_lt, cell_cmp}
 use Rattle.common.specs.Equality.{both, amounts}
 use Rattle.common.specs.Sorting.{comes_before}
 use Rattle.common.specs.declared.cell.Cell.{Cell}
 use Rattle.order_maker.specs.Grouping.{kind_rank, old_rank, action_lt}
 use Rattle.order_maker.specs.OrderingLaws.{action_decides}
-use Rattle.order_maker.specs.Pending.{Slot, action_eq, is_kill, old_of, kind_of, slot_of, action_of, least, cell_cmp, slot_cmp, is_proper}
+use Rattle.order_maker.specs.Pending.{Slot, action_eq, is_kill, old_of, kind_of, slot_of, action_of, least, slot_cmp, is_proper}
 use Rattle.order_maker.specs.declared.action.Action.{Action}
 use Rattle.order_maker.specs.declared.order_kind.OrderKind.{OrderKind}
 use Rattle.order_maker.specs.declared.order_kind.OrderKind.TheVariants.{Write, Replace, Kill}

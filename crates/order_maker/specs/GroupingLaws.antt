@@ -23,7 +23,7 @@ tests g c m order = names_cell order c m && g order.kind order.serial
 abbrev pub touches : (OrderKind → ℕ → Bool) → Cell → ℕ → Action → Bool
 touches g c m a = tests g c m (alone a)
 
-kind_same : (x y : OrderKind) → kind_eq x y ≡ true → x ≡ y
+pub kind_same : (x y : OrderKind) → kind_eq x y ≡ true → x ≡ y
 kind_same Write Write h = refl
 kind_same (Replace old) (Replace other) h = ap (λ s. Replace s) (eqb-true old other h)
 kind_same Kill Kill h = refl

@@ -5,7 +5,7 @@ use Rattle.std.specs.List.{list_any}
 use Rattle.std.specs.Option.{is_some, option_cmp}
 use Rattle.std.specs.Ordering.{ordering_then, nat_cmp, bool_cmp}
 use Rattle.std.specs.declared.cmp.Ordering.{Ordering}
-use Rattle.common.specs.Cell.{cell_eq}
+use Rattle.common.specs.Cell.{cell_eq, cell_cmp}
 use Rattle.common.specs.Order.{each_once}
 use Rattle.common.specs.declared.cell.Cell.{Cell}
 use Rattle.order_maker.specs.Grouping.{kind_eq}
@@ -59,10 +59,6 @@ action_of t = record { kind = kind_of t.is_kill t.old; message_id = t.message_id
 -- no slot of the BSC, nor of one with a greater number, comes before it
 abbrev pub least : ℕ → Slot
 least b = record { bsc = b; is_kill = false; message_id = 0; serial = 0; old = None; cell = record { lac = 0; ci = 0 } }
-
--- by location area, then by cell identity
-abbrev pub cell_cmp : Cell → Cell → Ordering
-cell_cmp x y = ordering_then (nat_cmp x.lac y.lac) (nat_cmp x.ci y.ci)
 
 -- by BSC, then as orders are sent: KILLs last, then by message identifier, serial number, replaced serial number and cell
 abbrev pub slot_cmp : Slot → Slot → Ordering

@@ -1,27 +1,20 @@
 -- Where a search by halves over warnings in order ends is the place of the number.
-use Rattle.std.proofs.Common.{◌≡◌, ℕ, suc, zero, ◌<◌, ◌≤◌, Bool, true, false, List, [], ◌∷◌, inl, inr, length, get_or, refl, sym, ap, ◌∙◌, ltb, ltb-true, arith}
+use Rattle.std.proofs.Common.{◌≡◌, ℕ, ◌<◌, ◌≤◌, Bool, true, false, List, [], ◌∷◌, inl, inr, length, get_or, refl, sym, ap, ◌∙◌, ltb, ltb-true, arith}
 use Rattle.std.specs.Prelude.{nat_eq}
-use Rattle.std.specs.List.{position_or_len, list_all}
+use Rattle.std.specs.List.{position_or_len}
 use Rattle.std.specs.List.Sorted.{IsNonDecreasingBy, IsPartitionPoint}
-use Rattle.std.proofs.lemmas.Bool.{and_parts, cases_lt}
+use Rattle.std.proofs.lemmas.Bool.{cases_lt}
 use Rattle.std.proofs.lemmas.Bool.Decides.{nat_tests}
 use Rattle.std.proofs.lemmas.Grind.{common_steps}
 use Rattle.std.proofs.lemmas.List.Sums.{position_or_len_is}
 use Rattle.common.specs.Order.{is_ascending}
+use Rattle.common.specs.RisingLaws.{rises}
 use Rattle.warning_book.specs.Book.{has_number, number_lt}
 use Rattle.warning_book.specs.declared.warning.Warning.{Warning}
 
-all_at : (p : Warning → Bool) (l : List Warning) (k : ℕ) (d : Warning) → list_all p l ≡ true → k < length l → p (get_or l k d) ≡ true
-all_at p [] k d h b = absurd (omega arith)
-all_at p (w ∷ l) zero d h b = (and_parts (p w) (list_all p l) h).0
-all_at p (w ∷ l) (suc k) d h b = all_at p l k d (and_parts (p w) (list_all p l) h).1 (omega arith)
-
 -- of two places the later one has the greater number
 number_below : (l : List Warning) (i j : ℕ) (d : Warning) → is_ascending number_lt l ≡ true → i < j → j < length l → (get_or l i d).number < (get_or l j d).number
-number_below [] i j d o h b = absurd (omega arith)
-number_below (w ∷ l) i zero d o h b = absurd (omega arith)
-number_below (w ∷ l) zero (suc j) d o h b = ltb-true w.number (get_or l j d).number (all_at (number_lt w) l j d (and_parts (list_all (number_lt w) l) (is_ascending number_lt l) o).0 (omega arith))
-number_below (w ∷ l) (suc i) (suc j) d o h b = number_below l i j d (and_parts (list_all (number_lt w) l) (is_ascending number_lt l) o).1 (omega arith) (omega arith)
+number_below l i j d o h b = ltb-true (get_or l i d).number (get_or l j d).number (rises number_lt l i j d o h b)
 
 -- the numbers do not fall from one place to a later one
 pub numbers_rise : (l : List Warning) → is_ascending number_lt l ≡ true → IsNonDecreasingBy (λ (w : Warning). w.number) l

@@ -7,7 +7,8 @@ ghost use Rattle.warning_book.specs.Book.{new_serial, after_update, after_widen,
 ghost use Rattle.centre_events.specs.Kept.{AreAreasOf, Gives, IsChecked, is_plain};
 ghost use Rattle.centre_events.specs.Past.{Past};
 ghost use Rattle.centre_events.specs.Verdict.{issue, update, widen, narrow, stop};
-ghost use Rattle.centre_events.specs.Warnings.{book_of, with_issue};
+ghost use Rattle.centre_events.specs.Warnings.{book_of};
+ghost use Rattle.coverage_plan.specs.Edited.{with_issue};
 
 use areas::Areas;
 use centre_events::answer::Answer;

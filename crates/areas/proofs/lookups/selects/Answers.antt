@@ -1,6 +1,6 @@
 use Rattle.std.proofs.Common.{◌≡◌, ◌∙◌, ◌||◌, sym, ap, true, false, get_or, arith, rules}
 use Rattle.std.proofs.lemmas.List.Sorted.{IsPartitionPoint-from_clause}
-use Rattle.areas.proofs.RisingLemmas.{taken_ascend}
+use Rattle.common.specs.RisingLaws.{taken_ascend}
 use Rattle.areas.proofs.SelectorSearch.{comes_before, parted, found_there, none_at_point, lac_before}
 use Rattle.areas.specs.Areas.{is_among}
 use Rattle.areas.specs.Selector.{selector_eq, selector_lt}

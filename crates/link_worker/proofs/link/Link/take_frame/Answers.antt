@@ -4,15 +4,15 @@ use Rattle.link_worker.proofs.link.Link.take_frame.Goals as goal
 
 pub returns-in-Ok-clause-taken : goal.returns-in-Ok-clause-taken
 returns-in-Ok-clause-taken g c =
-    let is = report_read c.args.frame.now c.in-Some.kind c.as_slice.result.now c.in-Ok.message (sym c.report_type.ensures ∙ c.in-Some.is) c.as_slice.ensures c.in-Ok.ensures.kind c.in-Ok.ensures.found in
+    let is = report_read c.args.frame.now c.in-Some.kind c.as_slice.result.now c.in-Ok.message (sym c.of_report.ensures ∙ c.in-Some.is) c.as_slice.ensures c.in-Ok.ensures.kind c.in-Ok.ensures.found in
     taken_if c.submit_report.result _ _ _ c.in-Ok.message _ _ is c.submit_report.ensures.got
 
 pub returns-in-Ok-clause-ended : goal.returns-in-Ok-clause-ended
 returns-in-Ok-clause-ended g c =
-    let is = report_read c.args.frame.now c.in-Some.kind c.as_slice.result.now c.in-Ok.message (sym c.report_type.ensures ∙ c.in-Some.is) c.as_slice.ensures c.in-Ok.ensures.kind c.in-Ok.ensures.found in
+    let is = report_read c.args.frame.now c.in-Some.kind c.as_slice.result.now c.in-Ok.message (sym c.of_report.ensures ∙ c.in-Some.is) c.as_slice.ensures c.in-Ok.ensures.kind c.in-Ok.ensures.found in
     ended_if c.submit_report.result _ _ _ c.in-Ok.message _ _ is c.submit_report.ensures.got c.submit_report.ensures.ended
 
 pub returns-in-Err-clause-ended : goal.returns-in-Err-clause-ended
 returns-in-Err-clause-ended g c =
     rw c.of_fault.ensures
-    (Stops-before _ _ _ _ _ (report_unread _ _ _ c.args.frame.now c.in-Some.kind c.as_slice.result.now c.in-Err.fault (sym c.report_type.ensures ∙ c.in-Some.is) c.as_slice.ensures c.in-Err.ensures.fault))
+    (Stops-before _ _ _ _ _ (report_unread _ _ _ c.args.frame.now c.in-Some.kind c.as_slice.result.now c.in-Err.fault (sym c.of_report.ensures ∙ c.in-Some.is) c.as_slice.ensures c.in-Err.ensures.fault))
