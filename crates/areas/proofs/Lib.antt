@@ -2,6 +2,7 @@ pub mod OrderLemmas
 pub mod PlaceLemmas
 pub mod SearchLemmas
 pub mod SelectorSearch
+pub mod ShareLemmas
 pub mod AscendingLemmas
 pub mod HolderLemmas
 pub mod IndexLemmas

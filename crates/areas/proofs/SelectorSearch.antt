@@ -1,21 +1,29 @@
 -- In a list in order a selector stands where those before it end.
-use Rattle.std.proofs.Common.{◌≡◌, ℕ, ◌+◌, ◌<◌, ◌≤◌, Bool, true, false, ◌||◌, List, [], ◌∷◌, length, take, drop, get_or, ltb, ltb-true, ltb-false, refl, sym, ap, ◌∙◌, arith}
+use Rattle.std.proofs.Common.{◌≡◌, ℕ, ◌<◌, ◌≤◌, Bool, true, false, ◌||◌, List, length, take, drop, get_or, nat_eq, ltb, ltb-true, ltb-false, refl, sym, ap, ◌∙◌, arith}
 use Rattle.std.specs.List.Sorted.{IsPartitionPoint, IsPartitionedBy}
 use Rattle.std.proofs.lemmas.Bool.{false_from_ne_true}
 use Rattle.std.proofs.lemmas.List.Elements.{All-from_get_or}
 use Rattle.std.proofs.lemmas.Bool.Decides.{nat_tests}
 use Rattle.std.proofs.lemmas.Grind.{common_steps}
-use Rattle.std.proofs.lemmas.List.{get_or-drop, length-drop, take-append-drop}
+use Rattle.std.proofs.lemmas.List.{get_or-take, length-take-le, take-append-drop}
 use Rattle.std.proofs.lemmas.List.Folds.{list_any-append, list_any_at, list_any_none}
 use Rattle.common.specs.Order.{is_ascending}
 use Rattle.common.specs.declared.cell.Cell.{Cell}
 use Rattle.common.specs.RisingLaws as rising
-use Rattle.areas.specs.Areas.{is_among}
+use Rattle.areas.specs.Areas.{is_among, selects}
 use Rattle.areas.specs.Equality.{selector_decides}
-use Rattle.areas.specs.Selector.{selector_eq, selector_lt}
+use Rattle.areas.specs.Selector.{lac_of, selector_eq, selector_lt}
 use Rattle.areas.specs.SelectorLaws.{selector_follows, selector_other}
 use Rattle.areas.specs.declared.selector.Selector.{Selector}
 use Rattle.areas.specs.declared.selector.Selector.TheVariants as selector
+
+pub or_true : (t : Bool) → (t || true) ≡ true
+or_true true = refl
+or_true false = refl
+
+pub or_none : (t : Bool) → (t || false) ≡ t
+or_none true = refl
+or_none false = refl
 
 -- the selector comes before the other
 abbrev pub comes_before : Selector → Selector → Bool
@@ -30,7 +38,7 @@ other_before : (s x : Selector) → comes_before s x ≡ true → selector_eq x 
 other_before s x h = selector_other x s h
 
 -- a selector after one that doesn't come before s is another
-other_after : (s x y : Selector) → selector_lt x y ≡ true → comes_before s x ≡ false → selector_eq y s ≡ false
+pub other_after : (s x y : Selector) → selector_lt x y ≡ true → comes_before s x ≡ false → selector_eq y s ≡ false
 other_after s x y h g =
     false_from_ne_true (selector_eq y s) (λ e. let no : true ≡ false = sym h ∙ ap (selector_lt x) ((selector_decides y s).0 e) ∙ g in cc)
 
@@ -58,45 +66,76 @@ told_at_point s xs n d o h point = step (selector_eq (get_or xs n d) s) refl
     step true e = sym (list_any_at (λ t. selector_eq t s) xs n d h e)
     step false e = none_at_point s xs n d o (omega arith) point (λ g. e)
 
--- where the last comes before s none is s
-pub none_before_last : (s : Selector) (xs : List Selector) (n : ℕ) (d : Selector) → is_ascending selector_lt xs ≡ true → length xs ≡ n + 1 → comes_before s (get_or xs n d) ≡ true → false ≡ is_among s xs
-none_before_last s xs n d o h last =
-    sym (list_any_none (λ t. selector_eq t s) xs (All-from_get_or (λ t. selector_eq t s ≡ false) xs d other))
+-- a selector before a location area is no cell of it
+less_area : (c : Cell) (x : Selector) → comes_before (selector.Lac c.lac) x ≡ true → selector_eq x (selector.Cell c) ≡ false
+less_area c (selector.Cell d) h = grind (arith, nat_tests, common_steps)
+less_area c (selector.Lac l) h = refl
+
+-- nor is a selector of another location area
+pub other_area : (c : Cell) (x : Selector) → nat_eq (lac_of x) c.lac ≡ false → selector_eq x (selector.Cell c) ≡ false
+other_area c (selector.Cell d) h = grind (arith, nat_tests, common_steps)
+other_area c (selector.Lac l) h = refl
+
+-- nor one after a selector of a greater one
+past_area : (c : Cell) (x y : Selector) → selector_lt x y ≡ true → comes_before (selector.Lac c.lac) x ≡ false → nat_eq (lac_of x) c.lac ≡ false → selector_eq y (selector.Cell c) ≡ false
+past_area c (selector.Cell d) (selector.Cell e) g h k = grind (arith, nat_tests, common_steps)
+past_area c (selector.Lac l) (selector.Cell e) g h k = grind (arith, nat_tests, common_steps)
+past_area c x (selector.Lac m) g h k = refl
+
+-- where the first that doesn't come before the location area of a cell is of another, none is the cell
+pub none_of_area : (c : Cell) (xs : List Selector) (n : ℕ) (d : Selector) → is_ascending selector_lt xs ≡ true → n ≤ length xs → IsPartitionPoint (λ x. comes_before (selector.Lac c.lac) x ≡ true) (λ x. comes_before (selector.Lac c.lac) x ≡ false) xs n → (n < length xs → nat_eq (lac_of (get_or xs n d)) c.lac ≡ false) → false ≡ is_among (selector.Cell c) xs
+none_of_area c xs n d o h point e =
+    sym (list_any_none (λ t. selector_eq t (selector.Cell c)) xs (All-from_get_or (λ t. selector_eq t (selector.Cell c) ≡ false) xs d other))
   where
-    other : (k : ℕ) → k < length xs → selector_eq (get_or xs k d) s ≡ false
-    other k g = earlier (ltb k n) refl
+    other : (k : ℕ) → k < length xs → selector_eq (get_or xs k d) (selector.Cell c) ≡ false
+    other k g = before (ltb k n) refl
       where
-        earlier : (t : Bool) → ltb k n ≡ t → selector_eq (get_or xs k d) s ≡ false
-        earlier true f = other_before s (get_or xs k d) (selector_follows (get_or xs k d) (get_or xs n d) s (rising.rises selector_lt xs k n d o (ltb-true k n f) (omega arith)) last)
-        earlier false f = let same : k ≡ n = omega (arith, ltb-false k n f) in ap (λ m. selector_eq (get_or xs m d) s) same ∙ other_before s (get_or xs n d) last
+        after : (t : Bool) → ltb n k ≡ t → n ≤ k → selector_eq (get_or xs k d) (selector.Cell c) ≡ false
+        after true f b = past_area c (get_or xs n d) (get_or xs k d) (rising.rises selector_lt xs n k d o (ltb-true n k f) g) (point.1 n d (omega arith) (omega arith)) (e (omega arith))
+        after false f b = let same : k ≡ n = omega (arith, ltb-false n k f) in ap (λ m. selector_eq (get_or xs m d) (selector.Cell c)) same ∙ other_area c (get_or xs n d) (e (omega arith))
 
--- no list has a thing where there is none
-pub none_in_none : (s : Selector) (xs : List Selector) → length xs ≡ 0 → false ≡ is_among s xs
-none_in_none s [] h = refl
-none_in_none s (x ∷ xs) h = absurd (omega arith)
+        before : (t : Bool) → ltb k n ≡ t → selector_eq (get_or xs k d) (selector.Cell c) ≡ false
+        before true f = less_area c (get_or xs k d) (point.0 k d (omega arith) (ltb-true k n f))
+        before false f = after (ltb n k) refl (ltb-false k n f)
 
--- the selector at a place is among them
-pub found_there : (s : Selector) (xs : List Selector) (n : ℕ) (d : Selector) → n < length xs → selector_eq (get_or xs n d) s ≡ true → true ≡ is_among s xs
-found_there s xs n d h e = sym (list_any_at (λ t. selector_eq t s) xs n d h e)
+-- where all come before the location area of a cell it is not selected
+pub none_from : (c : Cell) (xs : List Selector) (n : ℕ) (d : Selector) → is_ascending selector_lt xs ≡ true → n ≡ length xs → IsPartitionPoint (λ x. comes_before (selector.Lac c.lac) x ≡ true) (λ x. comes_before (selector.Lac c.lac) x ≡ false) xs n → false ≡ selects xs c
+none_from c xs n d o h point =
+    let cell : false ≡ is_among (selector.Cell c) xs = none_of_area c xs n d o (omega arith) point (λ g. absurd (omega arith)) in
+    let lac : false ≡ is_among (selector.Lac c.lac) xs = none_at_point (selector.Lac c.lac) xs n d o (omega arith) point (λ g. absurd (omega arith)) in
+    lac ∙ ap (λ t. t || is_among (selector.Lac c.lac) xs) cell
 
--- the location area of a cell comes before it, so it is not where the cell stands or after it
-not_after : (c : Cell) (x : Selector) → selector_lt x (selector.Cell c) ≡ false → selector_eq x (selector.Lac c.lac) ≡ false
-not_after c (selector.Cell d) h = refl
-not_after c (selector.Lac l) h = grind (arith, nat_tests, common_steps)
-
--- so it is among all where it is among those before the cell
-pub lac_before : (c : Cell) (xs : List Selector) (n : ℕ) → n ≤ length xs → IsPartitionPoint (λ x. comes_before (selector.Cell c) x ≡ true) (λ x. comes_before (selector.Cell c) x ≡ false) xs n → is_among (selector.Lac c.lac) (take n xs) ≡ is_among (selector.Lac c.lac) xs
-lac_before c xs n h point =
-    let lac : Selector = selector.Lac c.lac in
-    or_after (is_among lac (take n xs)) (is_among lac (drop n xs)) (list_any_none (λ t. selector_eq t lac) (drop n xs) (All-from_get_or (λ t. selector_eq t lac ≡ false) (drop n xs) lac later))
-    ∙ sym (list_any-append (λ t. selector_eq t lac) (take n xs) (drop n xs))
-    ∙ ap (is_among lac) (take-append-drop n xs)
+-- where the first that doesn't is a location area, that decides
+pub lac_decides : (c : Cell) (xs : List Selector) (n : ℕ) (d : Selector) (k : ℕ) → is_ascending selector_lt xs ≡ true → n < length xs → IsPartitionPoint (λ x. comes_before (selector.Lac c.lac) x ≡ true) (λ x. comes_before (selector.Lac c.lac) x ≡ false) xs n → get_or xs n d ≡ selector.Lac k → nat_eq k c.lac ≡ selects xs c
+lac_decides c xs n d k o h point e = step (nat_eq k c.lac) refl
   where
-    or_after : (t u : Bool) → u ≡ false → t ≡ (t || u)
-    or_after true u e = refl
-    or_after false u e = sym e
+    lac : nat_eq k c.lac ≡ is_among (selector.Lac c.lac) xs
+    lac = sym (ap (λ x. selector_eq x (selector.Lac c.lac)) e) ∙ told_at_point (selector.Lac c.lac) xs n d o h point
 
-    later : (k : ℕ) → k < length (drop n xs) → selector_eq (get_or (drop n xs) k (selector.Lac c.lac)) (selector.Lac c.lac) ≡ false
-    later k g =
-        let within : n + k < length xs = omega (arith, length-drop n xs) in
-        ap (λ x. selector_eq x (selector.Lac c.lac)) (get_or-drop n xs k (selector.Lac c.lac)) ∙ not_after c (get_or xs (n + k) (selector.Lac c.lac)) (point.1 (n + k) (selector.Lac c.lac) (omega arith) within)
+    step : (t : Bool) → nat_eq k c.lac ≡ t → t ≡ selects xs c
+    step true g = sym (ap (λ t. is_among (selector.Cell c) xs || t) (sym lac ∙ g) ∙ or_true (is_among (selector.Cell c) xs))
+    step false g = sym g ∙ lac ∙ ap (λ t. t || is_among (selector.Lac c.lac) xs) (none_of_area c xs n d o (omega arith) point (λ f. ap (λ x. nat_eq (lac_of x) c.lac) e ∙ g))
+
+-- where it is a cell, the cells decide
+pub cell_decides : (c : Cell) (xs : List Selector) (n : ℕ) (d : Selector) (e : Cell) → is_ascending selector_lt xs ≡ true → n < length xs → IsPartitionPoint (λ x. comes_before (selector.Lac c.lac) x ≡ true) (λ x. comes_before (selector.Lac c.lac) x ≡ false) xs n → get_or xs n d ≡ selector.Cell e → is_among (selector.Cell c) xs ≡ selects xs c
+cell_decides c xs n d e o h point s =
+    let lac : false ≡ is_among (selector.Lac c.lac) xs = sym (ap (λ x. selector_eq x (selector.Lac c.lac)) s) ∙ told_at_point (selector.Lac c.lac) xs n d o h point in
+    sym (ap (λ t. is_among (selector.Cell c) xs || t) (sym lac) ∙ or_none (is_among (selector.Cell c) xs))
+
+-- and of another location area none of its own is selected
+pub other_decides : (c : Cell) (xs : List Selector) (n : ℕ) (d : Selector) (e : Cell) → is_ascending selector_lt xs ≡ true → n < length xs → IsPartitionPoint (λ x. comes_before (selector.Lac c.lac) x ≡ true) (λ x. comes_before (selector.Lac c.lac) x ≡ false) xs n → get_or xs n d ≡ selector.Cell e → nat_eq e.lac c.lac ≡ false → nat_eq e.lac c.lac ≡ selects xs c
+other_decides c xs n d e o h point s g =
+    g ∙ none_of_area c xs n d o (omega arith) point (λ f. ap (λ x. nat_eq (lac_of x) c.lac) s ∙ g) ∙ cell_decides c xs n d e o h point s
+
+-- a cell is among those from where its location area begins, or nowhere
+pub cell_behind : (c : Cell) (xs : List Selector) (n : ℕ) → IsPartitionPoint (λ x. comes_before (selector.Lac c.lac) x ≡ true) (λ x. comes_before (selector.Lac c.lac) x ≡ false) xs n → n ≤ length xs → is_among (selector.Cell c) (drop n xs) ≡ is_among (selector.Cell c) xs
+cell_behind c xs n point h =
+    let cell : Selector = selector.Cell c in
+    ap (λ t. t || is_among cell (drop n xs)) (sym (list_any_none (λ t. selector_eq t cell) (take n xs) (All-from_get_or (λ t. selector_eq t cell ≡ false) (take n xs) cell other)))
+    ∙ sym (list_any-append (λ t. selector_eq t cell) (take n xs) (drop n xs))
+    ∙ ap (is_among cell) (take-append-drop n xs)
+  where
+    other : (k : ℕ) → k < length (take n xs) → selector_eq (get_or (take n xs) k (selector.Cell c)) (selector.Cell c) ≡ false
+    other k g =
+        let within : k < n = omega (arith, length-take-le n xs h) in
+        ap (λ x. selector_eq x (selector.Cell c)) (get_or-take n xs k (selector.Cell c) within) ∙ less_area c (get_or xs k (selector.Cell c)) (point.0 k (selector.Cell c) (omega arith) within)

@@ -5,5 +5,6 @@ pub mod Name
 pub mod Order
 pub mod Areas
 pub mod Holders
+pub mod Shares
 pub mod Checks
 pub mod Laws

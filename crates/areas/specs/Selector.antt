@@ -1,5 +1,5 @@
 -- When two selectors select the same, and the order in which an area's selectors are kept.
-use Rattle.std.specs.Prelude.{Bool, false, nat_eq, nat_le, ltb}
+use Rattle.std.specs.Prelude.{ℕ, Bool, false, nat_eq, nat_le, ltb}
 use Rattle.common.specs.Cell.{cell_eq, cell_lt}
 use Rattle.areas.specs.declared.selector.Selector.{Selector}
 use Rattle.areas.specs.declared.selector.Selector.TheVariants.{Cell, Lac}
@@ -17,3 +17,8 @@ selector_lt (Cell c) (Cell d) = cell_lt c d
 selector_lt (Cell c) (Lac k) = ltb c.lac k
 selector_lt (Lac l) (Cell d) = nat_le l d.lac
 selector_lt (Lac l) (Lac k) = ltb l k
+
+-- the selector's location area: that of its cell, or the whole one
+abbrev pub lac_of : Selector → ℕ
+lac_of (Cell c) = c.lac
+lac_of (Lac l) = l

@@ -213,9 +213,7 @@ impl Areas {
     pub fn coverage(&self, a: &Name) -> Coverage<'_>
         ensures { result ≡ selectors_of self.now a.now }
     {
-        Coverage {
-            selectors: lookups::selectors_of(self.list.as_slice(), a),
-        }
+        Coverage::of(lookups::selectors_of(self.list.as_slice(), a))
     }
 
     /// The names of the areas that cover the cell, in the order of their octets.

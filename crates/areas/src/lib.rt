@@ -20,6 +20,8 @@ mod refusal;
 mod selector;
 mod selector_key;
 mod selectors;
+mod share;
+mod shares;
 
 pub use area::Area;
 pub use areas::Areas;

@@ -1,7 +1,8 @@
 //! What a list of areas has.
 
-ghost use Rattle.std.specs.Prelude.{◌≡◌, true, List, ℕ, length};
+ghost use Rattle.std.specs.Prelude.{◌≡◌, ◌≤◌, true, false, List, ℕ, length};
 ghost use Rattle.std.specs.List.{position_or_len};
+ghost use Rattle.std.specs.List.Sorted.{IsPartitionPoint};
 ghost use Rattle.common.specs.Order.{is_ascending};
 ghost use Rattle.areas.specs.Areas.{is_named, has_area, selectors_of, has_selector, is_among, selects, covers, named_lt};
 ghost use Rattle.areas.specs.Selector.{selector_lt};
@@ -9,7 +10,7 @@ ghost use Rattle.areas.specs.declared.selector.Selector.TheVariants as selector;
 
 use crate::area::Area;
 use crate::naming::is_before;
-use crate::selector::{Selector, is_before_cell, is_before_lac, is_cell, is_lac};
+use crate::selector::{Selector, is_before_cell, is_before_lac, is_cell};
 use common::{Cell, Name, Ordered};
 
 /// Where the area of that name stands among areas in order; past the last where there is none.
@@ -72,33 +73,59 @@ pub(crate) fn selector_count(areas: &[Area], a: &Name) -> usize
     selectors_of(areas, a).len()
 }
 
-/// Whether the location area is one of those selectors, which stand in their order. The last is looked at first.
-fn has_lac(selectors: &[Selector], lac: u16) -> bool
+/// How many selectors are few enough to be looked at one by one.
+const FEW: usize = 64;
+
+/// Whether the cell is one of the selectors, which stand in their order. They are looked at one by one.
+fn has_cell_by_steps(selectors: &[Selector], c: Cell) -> bool
     requires { is_ascending selector_lt selectors.now ≡ true }
-    ensures { result ≡ is_among (selector.Lac lac) selectors.now }
+    ensures { result ≡ is_among (selector.Cell c) selectors.now }
 {
-    let count = selectors.len();
-    if count == 0 {
-        return false;
+    for s in selectors {
+        if !is_before_cell(*s, c) {
+            return is_cell(*s, c);
+        }
     }
-    let last = selectors[count - 1];
-    if is_before_lac(last, lac) {
-        return false;
-    }
-    is_lac(last, lac) || is_among(selectors, Selector::Lac(lac))
+    false
 }
 
-/// Whether one of the selectors, which stand in their order, is the cell or its location area. One search does where no
-/// other cell of that location area stands before the cell.
+/// Whether the cell is one of the selectors, which stand in their order.
+fn has_cell(selectors: &[Selector], c: Cell) -> bool
+    requires { is_ascending selector_lt selectors.now ≡ true }
+    ensures { result ≡ is_among (selector.Cell c) selectors.now }
+{
+    if selectors.len() <= FEW {
+        return has_cell_by_steps(selectors, c);
+    }
+    is_among(selectors, Selector::Cell(c))
+}
+
+/// Where the selectors of the location area, or of one after it, begin. The first is looked at first.
+fn start_of(selectors: &[Selector], lac: u16) -> usize
+    requires { is_ascending selector_lt selectors.now ≡ true }
+    ensures bound { result ≤ length selectors.now }
+    ensures start { IsPartitionPoint (λ s. selector_lt s (selector.Lac lac) ≡ true) (λ s. selector_lt s (selector.Lac lac) ≡ false) selectors.now result }
+{
+    match selectors {
+        [first, ..] if !is_before_lac(*first, lac) => 0,
+        _ => selectors.partition_point(|other| is_before_lac(*other, lac)),
+    }
+}
+
+/// Whether one of the selectors, which stand in their order, is the cell or its location area. The first of that location
+/// area tells, unless it is another cell of it.
 pub(crate) fn selects(selectors: &[Selector], c: Cell) -> bool
     requires { is_ascending selector_lt selectors.now ≡ true }
     ensures { result ≡ selects selectors.now c }
 {
-    let place = selectors.partition_point(|other| is_before_cell(*other, c));
-    if place < selectors.len() && is_cell(selectors[place], c) {
-        return true;
+    let start = start_of(selectors, c.lac);
+    if start == selectors.len() {
+        return false;
     }
-    has_lac(&selectors[..place], c.lac)
+    match selectors[start] {
+        Selector::Lac(lac) => lac == c.lac,
+        Selector::Cell(first) => first.lac == c.lac && has_cell(&selectors[start..], c),
+    }
 }
 
 /// Whether the area covers the cell.

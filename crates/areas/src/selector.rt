@@ -1,7 +1,7 @@
 //! What an area selects.
 
 ghost use Rattle.std.specs.Prelude.{◌≡◌};
-ghost use Rattle.areas.specs.Selector.{selector_eq, selector_lt};
+ghost use Rattle.areas.specs.Selector.{lac_of, selector_eq, selector_lt};
 ghost use Rattle.areas.specs.declared.selector.Selector.TheVariants as selector;
 
 use common::{Cell, Ordered};
@@ -59,12 +59,12 @@ pub(crate) fn is_before_lac(s: Selector, lac: u16) -> bool
     }
 }
 
-/// Whether the selector is the location area.
-pub(crate) fn is_lac(s: Selector, lac: u16) -> bool
-    ensures { result ≡ selector_eq s (selector.Lac lac) }
+/// The selector's location area: that of its cell, or the whole one.
+pub(crate) fn lac_of(s: Selector) -> u16
+    ensures { result ≡ lac_of s }
 {
     match s {
-        Selector::Cell(_) => false,
-        Selector::Lac(l) => l == lac,
+        Selector::Cell(c) => c.lac,
+        Selector::Lac(lac) => lac,
     }
 }

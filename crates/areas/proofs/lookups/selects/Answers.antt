@@ -1,40 +1,45 @@
-use Rattle.std.proofs.Common.{◌≡◌, ◌∙◌, ◌||◌, sym, ap, true, false, get_or, arith, rules}
-use Rattle.std.proofs.lemmas.List.Sorted.{IsPartitionPoint-from_clause}
-use Rattle.common.specs.RisingLaws.{taken_ascend}
-use Rattle.areas.proofs.SelectorSearch.{comes_before, parted, found_there, none_at_point, lac_before}
+use Rattle.std.proofs.Common.{◌≡◌, ◌∙◌, ◌-◌, length, take, drop, ap, arith}
+use Rattle.std.proofs.lemmas.Bool.{ne_eqb}
+use Rattle.std.proofs.lemmas.List.{length-drop, take_all}
+use Rattle.areas.proofs.SelectorSearch.{none_from, lac_decides, cell_decides, cell_behind, other_decides}
+use Rattle.areas.proofs.ShareLemmas.{dropped_ascend}
 use Rattle.areas.specs.Areas.{is_among}
-use Rattle.areas.specs.Selector.{selector_eq, selector_lt}
 use Rattle.areas.specs.declared.selector.Selector.{Selector}
 use Rattle.areas.specs.declared.selector.Selector.TheVariants as selector
-use Rattle.areas.proofs.lookups.selects.Goals.{else-place-selectors-via-then-place-selectors+else-is_cell, else-place-selectors-via-else-place-selectors}
 use Rattle.areas.proofs.lookups.selects.Goals as goal
 
-pub has_lac-requires : goal.has_lac-requires
-has_lac-requires c = taken_ascend selector_lt c.partition_point-place.result c.args.selectors.now c.requires
+pub returns-then-start-selectors : goal.returns-then-start-selectors
+returns-then-start-selectors c =
+    none_from c.args.c c.args.selectors.now c.start_of-start.result (selector.Lac c.args.c.lac) c.requires c.if-start-selectors.true c.start_of-start.ensures.start
 
-pub returns : goal.returns
-returns c =
-    let cell : Selector = selector.Cell c.args.c in
+pub returns-in-Lac : goal.returns-in-Lac
+returns-in-Lac c =
+    let first : Selector = selector.Cell (record { lac = 0; ci = 0 }) in
+    let bound = c.start_of-start.ensures.bound in
+    lac_decides c.args.c c.args.selectors.now c.start_of-start.result first c.in-Lac.lac c.requires (omega arith) c.start_of-start.ensures.start c.in-Lac.is
+
+pub has_cell-requires : goal.has_cell-requires
+has_cell-requires c =
+    let xs = c.args.selectors.now in
+    let start = c.start_of-start.result in
+    let rest : take (length xs - start) (drop start xs) ≡ drop start xs = take_all (length xs - start) (drop start xs) (omega (arith, length-drop start xs)) in
+    rw rest (dropped_ascend start xs c.requires)
+
+pub returns-then-first-c : goal.returns-then-first-c
+returns-then-first-c c =
     let first : Selector = selector.Cell (record { lac = 0; ci = 0 }) in
     let xs = c.args.selectors.now in
-    let place = c.partition_point-place.result in
-    let point = IsPartitionPoint-from_clause (comes_before cell) _ _ c.partition_point-place.ensures.partitioned (parted cell xs c.requires) (λ x r q k. search rules) in
-    let lac = c.has_lac.ensures ∙ lac_before c.args.c xs place c.partition_point-place.ensures.bound point in
-    elim c.else-place-selectors.branch [
-      | else-place-selectors-via-then-place-selectors+else-is_cell w ↦
-          let other : selector_eq (get_or xs place first) cell ≡ false = sym w.is_cell.ensures ∙ w.if-is_cell.false in
-          let none : false ≡ is_among cell xs = none_at_point cell xs place first c.requires c.partition_point-place.ensures.bound point (λ h. other) in
-          lac ∙ ap (λ t. t || is_among (selector.Lac c.args.c.lac) xs) none
-      | else-place-selectors-via-else-place-selectors w ↦
-          let none : false ≡ is_among cell xs = none_at_point cell xs place cell c.requires c.partition_point-place.ensures.bound point (λ h. absurd (omega (arith, w.if-place-selectors.false))) in
-          lac ∙ ap (λ t. t || is_among (selector.Lac c.args.c.lac) xs) none
-    ]
+    let start = c.start_of-start.result in
+    let bound = c.start_of-start.ensures.bound in
+    let point = c.start_of-start.ensures.start in
+    let rest : take (length xs - start) (drop start xs) ≡ drop start xs = take_all (length xs - start) (drop start xs) (omega (arith, length-drop start xs)) in
+    c.has_cell.ensures
+    ∙ ap (is_among (selector.Cell c.args.c)) rest
+    ∙ cell_behind c.args.c xs start point bound
+    ∙ cell_decides c.args.c xs start first c.in-Cell.first c.requires (omega arith) point c.in-Cell.is
 
-pub returns-then-is_cell : goal.returns-then-is_cell
-returns-then-is_cell c =
-    let cell : Selector = selector.Cell c.args.c in
+pub returns-else-first-c : goal.returns-else-first-c
+returns-else-first-c c =
     let first : Selector = selector.Cell (record { lac = 0; ci = 0 }) in
-    let xs = c.args.selectors.now in
-    let place = c.partition_point-place.result in
-    let found : true ≡ is_among cell xs = found_there cell xs place first c.if-place-selectors.true (sym c.is_cell.ensures ∙ c.if-is_cell.true) in
-    ap (λ t. t || is_among (selector.Lac c.args.c.lac) xs) found
+    let bound = c.start_of-start.ensures.bound in
+    other_decides c.args.c c.args.selectors.now c.start_of-start.result first c.in-Cell.first c.requires (omega arith) c.start_of-start.ensures.start c.in-Cell.is (ne_eqb c.in-Cell.first.lac c.args.c.lac c.if-first-c.false)
