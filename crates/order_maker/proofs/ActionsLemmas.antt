@@ -21,7 +21,7 @@ pub fresh_listed : (v : Seen) (wanted : Option ℕ) → listed (fresh_deed v wan
 fresh_listed v None = refl
 fresh_listed v (Some s) = listed_if (needs v s) (deed v (fresh_kind (replaced v s)) s)
 
-kills-append : (v : Seen) (xs ys : List ℕ) → kills v (xs ++ ys) ≡ kills v xs ++ kills v ys
+pub kills-append : (v : Seen) (xs ys : List ℕ) → kills v (xs ++ ys) ≡ kills v xs ++ kills v ys
 kills-append v [] ys = refl
 kills-append v (t ∷ xs) ys =
     let first : List Deed = if is_to_kill v t then deed v Kill t ∷ [] else [] in
@@ -38,7 +38,3 @@ kills_more v xs i d h =
 -- what is to be ordered is the write and the KILLs
 pub deeds_listed : (v : Seen) → deeds v ≡ listed (fresh_deed v v.wanted) ++ kills v v.versions
 deeds_listed v = ap (λ ds. ds ++ kills v v.versions) (sym (fresh_listed v v.wanted))
-
--- where the write and the KILLs are the same, so is what is to be ordered
-pub same_deeds : (v w : Seen) → fresh_deed v v.wanted ≡ fresh_deed w w.wanted → kills v v.versions ≡ kills w w.versions → deeds v ≡ deeds w
-same_deeds v w e f = deeds_listed v ∙ (λ i. listed (e i) ++ f i) ∙ sym (deeds_listed w)

@@ -4,3 +4,4 @@ pub mod JoiningLemmas
 pub mod SlotLemmas
 pub mod NumberLemmas
 pub mod ShiftLemmas
+pub mod KillLemmas

@@ -2,16 +2,11 @@
 use Rattle.std.proofs.Common.{◌≡◌, ℕ, ◌+◌, ◌<◌, Bool, true, false, ◌&&◌, ◌||◌, not, nat_eq, List, ◌++◌, length, get_or, take, map, refl, sym, ◌∙◌, ap}
 use Rattle.std.proofs.lemmas.List.{map-append}
 use Rattle.std.proofs.lemmas.List.Folds.{list_any-append}
-use Rattle.std.specs.Bool.{Decides}
-use Rattle.std.specs.Cmp.{unsigned_Decides}
 use Rattle.std.specs.List.{list_any}
-use Rattle.common.specs.Equality.{both, amounts}
 use Rattle.common.specs.declared.cell.Cell.{Cell}
 use Rattle.mirror.specs.Seen.{Seen}
 use Rattle.order_maker.proofs.ActionsLemmas.{kills_more, deeds_listed}
 use Rattle.order_maker.specs.Actions.{kills, deeds, in_cell, listed, fresh_deed, kill_deed}
-use Rattle.order_maker.specs.Grouping.{kind_eq}
-use Rattle.order_maker.specs.OrderingLaws.{kind_decides}
 use Rattle.order_maker.specs.Pending.{Slot, action_eq, is_listed, holds, Shifts, IsWith, IsWithout}
 use Rattle.order_maker.specs.declared.action.Action.{Action}
 use Rattle.order_maker.specs.declared.deed.Deed.{Deed}
@@ -21,7 +16,7 @@ or_none true = refl
 or_none false = refl
 
 -- an action is one of two lists where it is one of either
-listed_both : (c : Cell) (xs ys : List Deed) (x : Action) → is_listed x (map (in_cell c) (xs ++ ys)) ≡ (is_listed x (map (in_cell c) xs) || is_listed x (map (in_cell c) ys))
+pub listed_both : (c : Cell) (xs ys : List Deed) (x : Action) → is_listed x (map (in_cell c) (xs ++ ys)) ≡ (is_listed x (map (in_cell c) xs) || is_listed x (map (in_cell c) ys))
 listed_both c xs ys x =
     ap (list_any (action_eq x)) (map-append (in_cell c) xs ys) ∙ list_any-append (action_eq x) (map (in_cell c) xs) (map (in_cell c) ys)
 
@@ -73,30 +68,3 @@ pub taken_put : (b : ℕ) (c : Cell) (v w : Seen) (old held new : List Slot) →
 taken_put b c v w old held new gone come = record {
   each = λ d a. come d a ∙ (λ i. (nat_eq d b && is_listed a (map (in_cell c) (sym (deeds_listed w) i))) || (gone d a ∙ (λ j. holds old d a && not (nat_eq d b && is_listed a (map (in_cell c) (sym (deeds_listed v) j))))) i);
 }
-
--- what is done for two messages is one thing
-abbrev pub deed_eq : Deed → Deed → Bool
-deed_eq x y = kind_eq x.kind y.kind && (nat_eq x.message_id y.message_id && nat_eq x.serial y.serial)
-
-pub deed_decides : (x y : Deed) → Decides (deed_eq x y) (x ≡ y)
-deed_decides x y =
-    amounts (both (kind_eq x.kind y.kind) (nat_eq x.message_id y.message_id && nat_eq x.serial y.serial) (kind_decides x.kind y.kind) (both (nat_eq x.message_id y.message_id) (nat_eq x.serial y.serial) (unsigned_Decides x.message_id y.message_id) (unsigned_Decides x.serial y.serial)))
-    (λ e. λ i. record { kind = e.0 i; message_id = e.1.0 i; serial = e.1.1 i }) (λ e. (λ i. (e i).kind, (λ i. (e i).message_id, λ i. (e i).serial)))
-
--- where the actions of the line are held and the same come, nothing changes
-pub same_come : (held : List Slot) (b : ℕ) (gone come : List Action) → gone ≡ come → ((a : Action) → is_listed a gone ≡ true → holds held b a ≡ true) → Shifts held held b gone come
-same_come held b gone come e there = record {
-  each = λ d a. step d a (nat_eq d b) refl (is_listed a gone) refl ∙ ap (λ xs. (nat_eq d b && is_listed a xs) || (holds held d a && not (nat_eq d b && is_listed a gone))) e;
-}
-  where
-    off : (n h : Bool) → n ≡ false → h ≡ (n || (h && not n))
-    off true h q = cc
-    off false true q = refl
-    off false false q = refl
-
-    step : (d : ℕ) (a : Action) (n : Bool) → nat_eq d b ≡ n → (l : Bool) → is_listed a gone ≡ l → holds held d a ≡ ((nat_eq d b && is_listed a gone) || (holds held d a && not (nat_eq d b && is_listed a gone)))
-    step d a true f true g =
-        let is : holds held d a ≡ true = ap (λ k. holds held k a) ((unsigned_Decides d b).0 f) ∙ there a g in
-        is ∙ sym (λ i. (f i && g i) || (is i && not (f i && g i)))
-    step d a true f false g = off (nat_eq d b && is_listed a gone) (holds held d a) (λ i. f i && g i)
-    step d a false f l g = off (nat_eq d b && is_listed a gone) (holds held d a) (ap (λ t. t && is_listed a gone) f)

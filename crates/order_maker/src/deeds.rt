@@ -1,8 +1,8 @@
 //! What is to be ordered on one line: for a BSC, a cell and a warning.
 
-ghost use Rattle.std.specs.Prelude.{◌≡◌, ◌↔◌, ◌++◌, ◌∷◌, [], IfOk, OnOk, IsTrue, if◌then◌else◌};
+ghost use Rattle.std.specs.Prelude.{◌≡◌, ◌↔◌, ◌≤◌, ◌++◌, ◌∷◌, [], length, take, IfOk, OnOk, IsTrue, if◌then◌else◌};
 ghost use Rattle.mirror.specs.Seen.{is_the, seen};
-ghost use Rattle.order_maker.specs.Actions.{needs, is_replaceable, newest, replaced, replaced_for, fresh_kind, deed, fresh, is_to_kill, kills, deeds, fresh_deed, kill_deed};
+ghost use Rattle.order_maker.specs.Actions.{needs, is_replaceable, newest, replaced, replaced_for, fresh_kind, deed, fresh, is_to_kill, kills, deeds, fresh_deed};
 
 use crate::deed::Deed;
 use crate::order_kind::OrderKind;
@@ -99,16 +99,52 @@ fn fresh_kind(old: Option<Serial>) -> OrderKind
     }
 }
 
-/// The write of the wanted version, where there is one.
-pub(crate) fn fresh_deed(sight: &Sight<'_>) -> Option<Deed>
-    ensures { result ≡ fresh_deed (seen sight.now) sight.now.wanted }
-{
-    match sight.wanted {
-        Some(serial) if needs(sight, serial) => {
-            let kind = fresh_kind(replaced(sight, serial));
-            Some(deed(sight, kind, serial))
+/// A line, with the version that its write replaces, which is so found once.
+#[derive(Clone, Copy)]
+pub(crate) struct ReplacingSight<'a> {
+    pub(crate) sight: &'a Sight<'a>,
+    replaced: Option<Serial>,
+    ghost found: { replaced ≡ replaced_for (seen sight.now) sight.now.wanted },
+}
+
+impl<'a> ReplacingSight<'a> {
+    pub(crate) fn of(sight: &'a Sight<'a>) -> ReplacingSight<'a>
+        ensures { result.sight.now ≡ sight.now }
+    {
+        ReplacingSight {
+            sight,
+            replaced: replaced_there(sight),
         }
-        _ => None,
+    }
+
+    /// The write of the wanted version, where there is one.
+    pub(crate) fn write(&self) -> Option<Deed>
+        ensures { result ≡ fresh_deed (seen self.now.sight.now) self.now.sight.now.wanted }
+    {
+        match self.sight.wanted {
+            Some(serial) if needs(self.sight, serial) => {
+                Some(deed(self.sight, fresh_kind(self.replaced), serial))
+            }
+            _ => None,
+        }
+    }
+
+    /// Whether the version is on air, or may be, and neither wanted nor replaced there, its cell up and its key not held.
+    pub(crate) fn is_to_kill(&self, serial: Serial) -> bool
+        ensures { result ≡ is_to_kill (seen self.now.sight.now) serial }
+    {
+        presence(self.sight, serial) != Presence::Absent
+            && !is_held(self.sight, serial)
+            && !self.sight.down
+            && !is_the(self.sight.wanted, serial)
+            && !is_the(self.replaced, serial)
+    }
+
+    /// The KILL of the version.
+    pub(crate) fn kill(&self, serial: Serial) -> Deed
+        ensures { result ≡ deed (seen self.now.sight.now) OrderKind.Kill serial }
+    {
+        deed(self.sight, OrderKind::Kill, serial)
     }
 }
 
@@ -126,36 +162,14 @@ fn add_fresh(out: &mut Vec<Deed>, sight: &Sight<'_>) -> Result<(), AllocError>
     }
 }
 
-/// Whether the version is on air, or may be, and neither wanted nor replaced there, its cell up and its key not held.
-fn is_to_kill(sight: &Sight<'_>, serial: Serial) -> bool
-    ensures { result ≡ is_to_kill (seen sight.now) serial }
-{
-    !sight.down
-        && !is_the(sight.wanted, serial)
-        && !is_held(sight, serial)
-        && presence(sight, serial) != Presence::Absent
-        && !is_the(replaced_there(sight), serial)
-}
-
-/// The KILL of the version, where there is one.
-pub(crate) fn kill_deed(sight: &Sight<'_>, serial: Serial) -> Option<Deed>
-    ensures { result ≡ kill_deed (seen sight.now) serial }
-{
-    if is_to_kill(sight, serial) {
-        Some(deed(sight, OrderKind::Kill, serial))
-    } else {
-        None
-    }
-}
-
 /// Adds the KILLs of the versions.
-fn add_kills(out: &mut Vec<Deed>, sight: &Sight<'_>) -> Result<(), AllocError>
-    ensures { OnOk result (out.new.items ≡ out.old.items ++ kills (seen sight.now) sight.now.versions.now) }
+fn add_kills(out: &mut Vec<Deed>, line: &ReplacingSight<'_>) -> Result<(), AllocError>
+    ensures { OnOk result (out.new.items ≡ out.old.items ++ kills (seen line.now.sight.now) line.now.sight.now.versions.now) }
 {
-    let versions = sight.versions;
+    let versions = line.sight.versions;
     for serial in versions {
-        if is_to_kill(sight, *serial) {
-            out.push(deed(sight, OrderKind::Kill, *serial))?;
+        if line.is_to_kill(*serial) {
+            out.push(deed(line.sight, OrderKind::Kill, *serial))?;
         }
     }
     Ok(())
@@ -167,7 +181,7 @@ pub fn actions(alloc: Global, sight: &Sight<'_>) -> Result<Vec<Deed>, AllocError
 {
     let mut out = Vec::new(alloc);
     add_fresh(&mut out, sight)?;
-    add_kills(&mut out, sight)?;
+    add_kills(&mut out, &ReplacingSight::of(sight))?;
     Ok(out)
 }
 
@@ -178,21 +192,12 @@ pub(crate) fn is_same(deed: &Option<Deed>, other: &Option<Deed>) -> bool
     *deed == *other
 }
 
-/// Whether the KILLs of both are seen to be the same, version by version. Where a version was added they aren't compared,
-/// and the answer is no.
-pub(crate) fn have_same_kills(sight: &Sight<'_>, other: &Sight<'_>) -> bool
-    ensures { IsTrue result → kills (seen sight.now) sight.now.versions.now ≡ kills (seen other.now) other.now.versions.now }
+/// Whether both lines are of one message, and the second has the versions of the first: these first, and then others, if
+/// it has more.
+pub(crate) fn keeps_versions(before: &Sight<'_>, after: &Sight<'_>) -> bool
+    ensures message { IsTrue result → before.now.message_id ≡ after.now.message_id }
+    ensures fewer { IsTrue result → length before.now.versions.now ≤ length after.now.versions.now }
+    ensures first { IsTrue result → take (length before.now.versions.now) after.now.versions.now ≡ before.now.versions.now }
 {
-    let versions = sight.versions;
-    let others = other.versions;
-    if versions.len() != others.len() {
-        return false;
-    }
-    for index in 0..versions.len() {
-        let kill = kill_deed(sight, versions[index]);
-        if !is_same(&kill, &kill_deed(other, others[index])) {
-            return false;
-        }
-    }
-    true
+    before.message_id == after.message_id && after.versions.starts_with(before.versions)
 }

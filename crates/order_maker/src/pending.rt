@@ -1,6 +1,6 @@
 //! The pending orders of each BSC, changed line by line.
 
-ghost use Rattle.std.specs.Prelude.{◌≡◌, ℕ, true, false, ◌&&◌, ◌||◌, not, nat_eq, List, ◌++◌, map, take, IfOk, OnOk};
+ghost use Rattle.std.specs.Prelude.{◌≡◌, ℕ, true, false, ◌&&◌, ◌||◌, not, nat_eq, List, map, take, if◌then◌else◌, IfOk, OnOk};
 ghost use Rattle.std.specs.List.{slice_get};
 ghost use Rattle.std.specs.Option.{is_some};
 ghost use Rattle.mirror.specs.Seen.{seen};
@@ -12,7 +12,7 @@ ghost use Rattle.order_maker.specs.declared.action.Action.{Action};
 
 use crate::action::Action;
 use crate::deed::Deed;
-use crate::deeds::{fresh_deed, have_same_kills, is_same, kill_deed};
+use crate::deeds::{ReplacingSight, is_same, keeps_versions};
 use crate::joining::{is_one_order, join_last};
 use crate::order::Order;
 use crate::orders::Orders;
@@ -20,6 +20,7 @@ use crate::slot::Slot;
 use cell_register::BscId;
 use common::{Cell, Cells};
 use mirror::Sight;
+use serials::Serial;
 use std::alloc::{AllocError, Global};
 use std::collections::BTreeSet;
 use std::collections::btree_set::Range;
@@ -95,48 +96,33 @@ impl Pending {
         }
     }
 
-    /// Puts in the line's KILLs.
-    fn put_kills(&mut self, b: BscId, c: Cell, sight: &Sight<'_>) -> Result<(), AllocError>
-        ensures { OnOk result (IsWith self.old self.new b (map (in_cell c) (kills (seen sight.now) sight.now.versions.now))) }
-    {
-        let versions = sight.versions;
-        for serial in versions {
-            self.put_deed(b, c, kill_deed(sight, *serial))?;
-        }
-        Ok(())
-    }
-
-    /// Takes out the line's KILLs.
-    fn take_kills_out(&mut self, b: BscId, c: Cell, sight: &Sight<'_>)
-        ensures { IsWithout self.old self.new b (map (in_cell c) (kills (seen sight.now) sight.now.versions.now)) }
-    {
-        let versions = sight.versions;
-        for serial in versions {
-            self.take_deed_out(b, c, kill_deed(sight, *serial));
-        }
-    }
-
-    /// Puts in the line's write, if there is one, and its KILLs.
-    fn put_line(
+    /// Puts in those of the versions' KILLs that the line has.
+    fn put_kills(
         &mut self,
         b: BscId,
         c: Cell,
-        fresh: Option<Deed>,
-        sight: &Sight<'_>,
+        line: &ReplacingSight<'_>,
+        versions: &[Serial],
     ) -> Result<(), AllocError>
-        ensures { OnOk result (IsWith self.old self.new b (map (in_cell c) (listed fresh ++ kills (seen sight.now) sight.now.versions.now))) }
+        ensures { OnOk result (IsWith self.old self.new b (map (in_cell c) (kills (seen line.now.sight.now) versions.now))) }
     {
-        self.put_deed(b, c, fresh)?;
-        self.put_kills(b, c, sight)?;
+        for serial in versions {
+            if line.is_to_kill(*serial) {
+                self.put(b, line.kill(*serial).in_cell(c))?;
+            }
+        }
         Ok(())
     }
 
-    /// Takes out the line's write, if there is one, and its KILLs.
-    fn take_line_out(&mut self, b: BscId, c: Cell, fresh: Option<Deed>, sight: &Sight<'_>)
-        ensures { IsWithout self.old self.new b (map (in_cell c) (listed fresh ++ kills (seen sight.now) sight.now.versions.now)) }
+    /// Takes out those of the versions' KILLs that the line has.
+    fn take_kills_out(&mut self, b: BscId, c: Cell, line: &ReplacingSight<'_>, versions: &[Serial])
+        ensures { IsWithout self.old self.new b (map (in_cell c) (kills (seen line.now.sight.now) versions.now)) }
     {
-        self.take_deed_out(b, c, fresh);
-        self.take_kills_out(b, c, sight);
+        for serial in versions {
+            if line.is_to_kill(*serial) {
+                self.take_out(b, line.kill(*serial).in_cell(c));
+            }
+        }
     }
 
     /// The line of the BSC, the cell and one warning was `before` and is `after`: what was to be ordered on it there is
@@ -150,13 +136,72 @@ impl Pending {
     ) -> Result<(), AllocError>
         ensures { OnOk result (Shifts self.old self.new b (map (in_cell c) (deeds (seen before.now))) (map (in_cell c) (deeds (seen after.now)))) }
     {
-        self.take_line_out(b, c, fresh_deed(before), before);
-        self.put_line(b, c, fresh_deed(after), after)?;
+        let was = ReplacingSight::of(before);
+        let is = ReplacingSight::of(after);
+        self.take_deed_out(b, c, was.write());
+        self.take_kills_out(b, c, &was, before.versions);
+        self.put_deed(b, c, is.write())?;
+        self.put_kills(b, c, &is, after.versions)?;
         Ok(())
     }
 
-    /// The same, where what was to be ordered on the line is there. No action is looked up where none comes or goes and no
-    /// version was added.
+    /// The line's write was `gone`, which is there, and is `come`: where these differ, the one is taken out and the other put
+    /// in.
+    fn shift_write(
+        &mut self,
+        b: BscId,
+        c: Cell,
+        gone: Option<Deed>,
+        come: Option<Deed>,
+    ) -> Result<(), AllocError>
+        requires { (a : Action) → is_listed a (map (in_cell c) (listed gone)) ≡ true → holds self.old b a ≡ true }
+        ensures { OnOk result (Shifts self.old self.new b (map (in_cell c) (listed gone)) (map (in_cell c) (listed come))) }
+    {
+        if is_same(&gone, &come) {
+            return Ok(());
+        }
+        self.take_deed_out(b, c, gone);
+        self.put_deed(b, c, come)?;
+        Ok(())
+    }
+
+    /// Puts in a KILL that comes, or takes out one that goes.
+    fn shift_kill(&mut self, b: BscId, kill: Action, comes: bool) -> Result<(), AllocError>
+        ensures { OnOk result ((d : ℕ) (x : Action) → holds self.new d x ≡ (if comes then (nat_eq d b && action_eq x kill) || holds self.old d x else holds self.old d x && not (nat_eq d b && action_eq x kill))) }
+    {
+        if comes {
+            self.put(b, kill)?;
+        } else {
+            self.take_out(b, kill);
+        }
+        Ok(())
+    }
+
+    /// The line had these versions and has them still: of their KILLs, those that went are taken out, and those that came
+    /// are put in. Those that it had are there.
+    fn shift_kills(
+        &mut self,
+        b: BscId,
+        c: Cell,
+        before: &ReplacingSight<'_>,
+        after: &ReplacingSight<'_>,
+        versions: &[Serial],
+    ) -> Result<(), AllocError>
+        requires message { before.now.sight.now.message_id ≡ after.now.sight.now.message_id }
+        requires there { (a : Action) → is_listed a (map (in_cell c) (kills (seen before.now.sight.now) versions.now)) ≡ true → holds self.old b a ≡ true }
+        ensures { OnOk result (Shifts self.old self.new b (map (in_cell c) (kills (seen before.now.sight.now) versions.now)) (map (in_cell c) (kills (seen after.now.sight.now) versions.now))) }
+    {
+        for serial in versions {
+            let comes = after.is_to_kill(*serial);
+            if before.is_to_kill(*serial) != comes {
+                self.shift_kill(b, after.kill(*serial).in_cell(c), comes)?;
+            }
+        }
+        Ok(())
+    }
+
+    /// The same, where what was to be ordered on the line is there. Where the line keeps its versions, no action is looked up
+    /// but those that come or go.
     pub fn shift_held(
         &mut self,
         b: BscId,
@@ -167,13 +212,14 @@ impl Pending {
         requires { (a : Action) → is_listed a (map (in_cell c) (deeds (seen before.now))) ≡ true → holds self.old b a ≡ true }
         ensures { OnOk result (Shifts self.old self.new b (map (in_cell c) (deeds (seen before.now))) (map (in_cell c) (deeds (seen after.now)))) }
     {
-        let gone = fresh_deed(before);
-        let come = fresh_deed(after);
-        if is_same(&gone, &come) && have_same_kills(before, after) {
-            return Ok(());
+        if !keeps_versions(before, after) {
+            return self.shift(b, c, before, after);
         }
-        self.take_line_out(b, c, gone, before);
-        self.put_line(b, c, come, after)?;
+        let was = ReplacingSight::of(before);
+        let is = ReplacingSight::of(after);
+        self.shift_write(b, c, was.write(), is.write())?;
+        self.shift_kills(b, c, &was, &is, before.versions)?;
+        self.put_kills(b, c, &is, &after.versions[before.versions.len()..])?;
         Ok(())
     }
 
