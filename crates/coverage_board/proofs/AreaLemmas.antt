@@ -1,12 +1,12 @@
 -- How the numbers of one area change, and those of no other.
-use Rattle.std.proofs.Common.{◌≡◌, ℕ, zero, suc, ◌+◌, ◌<◌, Bool, true, false, ◌||◌, cond, List, [], ◌∷◌, Some, None, bytes_eq, if◌then◌else◌, refl, sym, ap, ◌∙◌, unwrap_or, length, take, get_or, arith}
+use Rattle.std.proofs.Common.{◌≡◌, ℕ, zero, suc, ◌+◌, ◌<◌, Bool, true, false, ◌||◌, cond, List, [], ◌∷◌, Some, None, slice_get, bytes_eq, if◌then◌else◌, refl, sym, ap, ◌∙◌, unwrap_or, length, take, get_or, arith}
 use Rattle.std.proofs.lemmas.Bool.{or_right}
 use Rattle.std.proofs.lemmas.List.{take_more}
 use Rattle.std.proofs.lemmas.List.Folds.{list_any-append}
 use Rattle.std.specs.Bool.{Decides}
 use Rattle.std.specs.Cmp.{unsigned_Decides}
 use Rattle.std.specs.Cmp.Lexicographic.{pointwise_decides}
-use Rattle.std.specs.Map.{lookup}
+use Rattle.std.specs.Map.{lookup, lookup_key}
 use Rattle.coverage_board.specs.Board.{area_in}
 use Rattle.coverage_board.specs.Numbers.{zero_numbers}
 use Rattle.coverage_board.specs.Parts.{has_area}
@@ -66,24 +66,55 @@ has_again xs i x is h there a = has_next xs i x is h a ∙ step (bytes_eq x a) r
 
 -- where each area of the first has what g makes of its numbers, and a new one then has it too, so has each area of one
 -- more
-pub part_next : (g : Numbers → Bool → Numbers) → ((n : Numbers) → g n false ≡ n) → (xs : List (List ℕ)) (i : ℕ) (x : List ℕ) (old mid new : List (List ℕ × Numbers)) → x ≡ get_or xs i x → i < length xs → has_area (take i xs) x ≡ false → ((b : List ℕ) → area_in mid b ≡ g (area_in old b) (has_area (take i xs) b)) → ((b : List ℕ) → area_in new b ≡ (if bytes_eq x b then g (area_in mid b) true else area_in mid b)) → (a : List ℕ) → area_in new a ≡ g (area_in old a) (has_area (take (i + 1) xs) a)
-part_next g none xs i x old mid new is h absent before change a =
-    step (bytes_eq x a) refl (change a) ∙ ap (g (area_in old a)) (sym (has_next xs i x is h a))
+pub part_next : (g : List ℕ → Numbers → Bool → Numbers) → ((b : List ℕ) (n : Numbers) → g b n false ≡ n) → (f : Numbers → Numbers) (xs : List (List ℕ)) (i : ℕ) (x : List ℕ) (old mid new : List (List ℕ × Numbers)) → ((n : Numbers) → f n ≡ g x n true) → x ≡ get_or xs i x → i < length xs → has_area (take i xs) x ≡ false → ((b : List ℕ) → area_in mid b ≡ g b (area_in old b) (has_area (take i xs) b)) → ((b : List ℕ) → area_in new b ≡ (if bytes_eq x b then f (area_in mid b) else area_in mid b)) → (a : List ℕ) → area_in new a ≡ g a (area_in old a) (has_area (take (i + 1) xs) a)
+part_next g none f xs i x old mid new same is h absent before change a =
+    step (bytes_eq x a) refl (change a) ∙ ap (g a (area_in old a)) (sym (has_next xs i x is h a))
   where
-    step : (t : Bool) → bytes_eq x a ≡ t → area_in new a ≡ (if t then g (area_in mid a) true else area_in mid a) → area_in new a ≡ g (area_in old a) (has_area (take i xs) a || t)
-    step true e f =
-        let out : has_area (take i xs) a ≡ false = ap (has_area (take i xs)) (sym ((names_decide x a).0 e)) ∙ absent in
-        let kept : area_in mid a ≡ area_in old a = before a ∙ ap (g (area_in old a)) out ∙ none (area_in old a) in
-        f ∙ ap (λ n. g n true) kept ∙ ap (λ t. g (area_in old a) (t || true)) (sym out)
-    step false e f = f ∙ before a ∙ ap (g (area_in old a)) (sym (or_none (has_area (take i xs) a)))
+    step : (t : Bool) → bytes_eq x a ≡ t → area_in new a ≡ (if t then f (area_in mid a) else area_in mid a) → area_in new a ≡ g a (area_in old a) (has_area (take i xs) a || t)
+    step true e c =
+        let at : x ≡ a = (names_decide x a).0 e in
+        let out : has_area (take i xs) a ≡ false = ap (has_area (take i xs)) (sym at) ∙ absent in
+        let kept : area_in mid a ≡ area_in old a = before a ∙ ap (g a (area_in old a)) out ∙ none a (area_in old a) in
+        c ∙ ap f kept ∙ same (area_in old a) ∙ ap (λ b. g b (area_in old a) true) at ∙ ap (λ t. g a (area_in old a) (t || true)) (sym out)
+    step false e c = c ∙ before a ∙ ap (g a (area_in old a)) (sym (or_none (has_area (take i xs) a)))
+
+-- where g leaves the numbers of one more as they are, nothing changes
+pub part_kept : (g : List ℕ → Numbers → Bool → Numbers) → ((b : List ℕ) (n : Numbers) → g b n false ≡ n) → (xs : List (List ℕ)) (i : ℕ) (x : List ℕ) (old mid : List (List ℕ × Numbers)) → ((n : Numbers) → g x n true ≡ n) → x ≡ get_or xs i x → i < length xs → ((b : List ℕ) → area_in mid b ≡ g b (area_in old b) (has_area (take i xs) b)) → (a : List ℕ) → area_in mid a ≡ g a (area_in old a) (has_area (take (i + 1) xs) a)
+part_kept g none xs i x old mid same is h before a =
+    before a ∙ step (bytes_eq x a) refl (has_area (take i xs) a) ∙ ap (g a (area_in old a)) (sym (has_next xs i x is h a))
+  where
+    step : (t : Bool) → bytes_eq x a ≡ t → (u : Bool) → g a (area_in old a) u ≡ g a (area_in old a) (u || t)
+    step true e true = refl
+    step true e false = none a (area_in old a) ∙ sym (same (area_in old a)) ∙ ap (λ b. g b (area_in old a) true) ((names_decide x a).0 e)
+    step false e u = ap (g a (area_in old a)) (sym (or_none u))
+
+-- and an area that was among those before has what it had
+pub part_again : (g : List ℕ → Numbers → Bool → Numbers) (xs : List (List ℕ)) (i : ℕ) (x : List ℕ) (old mid : List (List ℕ × Numbers)) → x ≡ get_or xs i x → i < length xs → has_area (take i xs) x ≡ true → ((b : List ℕ) → area_in mid b ≡ g b (area_in old b) (has_area (take i xs) b)) → (a : List ℕ) → area_in mid a ≡ g a (area_in old a) (has_area (take (i + 1) xs) a)
+part_again g xs i x old mid is h there before a =
+    before a ∙ ap (g a (area_in old a)) (sym (has_again xs i x is h there a))
 
 -- an area that isn't among the first has the numbers that it had
-pub part_first : (g : Numbers → Bool → Numbers) → ((n : Numbers) → g n false ≡ n) → (xs : List (List ℕ)) (i : ℕ) (x : List ℕ) (old mid : List (List ℕ × Numbers)) → has_area (take i xs) x ≡ false → ((b : List ℕ) → area_in mid b ≡ g (area_in old b) (has_area (take i xs) b)) → area_in mid x ≡ area_in old x
+pub part_first : (g : List ℕ → Numbers → Bool → Numbers) → ((b : List ℕ) (n : Numbers) → g b n false ≡ n) → (xs : List (List ℕ)) (i : ℕ) (x : List ℕ) (old mid : List (List ℕ × Numbers)) → has_area (take i xs) x ≡ false → ((b : List ℕ) → area_in mid b ≡ g b (area_in old b) (has_area (take i xs) b)) → area_in mid x ≡ area_in old x
 part_first g none xs i x old mid absent before =
-    before x ∙ ap (g (area_in old x)) absent ∙ none (area_in old x)
+    before x ∙ ap (g x (area_in old x)) absent ∙ none x (area_in old x)
 
 -- the name at an index is among the names
 pub has_at : (xs : List (List ℕ)) (i : ℕ) (x : List ℕ) → x ≡ get_or xs i x → i < length xs → has_area xs x ≡ true
 has_at [] i x is h = absurd (omega arith)
 has_at (y ∷ xs) zero x is h = rw ((names_decide y x).1 (sym is)) refl
 has_at (y ∷ xs) (suc i) x is h = or_right (bytes_eq y x) (has_area xs x) (has_at xs i x is (omega arith))
+
+-- a key that is found is the one that was sought
+pub key_found : {K X : Type 0} (same : K → K → Bool) → ((a b : K) → Decides (same a b) (a ≡ b)) → (k : K) (entries : List (K × X)) (x : K) → lookup_key (same k) entries ≡ Some x → x ≡ k
+key_found same d k [] x h = cc
+key_found {K} {X} same d k (e ∷ es) x h = step (key_found same d k es x) (same k e.0) refl h
+  where
+    step : (lookup_key (same k) es ≡ Some x → x ≡ k) → (t : Bool) → same k e.0 ≡ t → cond t (Some e.0) (lookup_key (same k) es) ≡ Some x → x ≡ k
+    step rest true f g = let is : e.0 ≡ x = cc in sym is ∙ sym ((d k e.0).0 f)
+    step rest false f g = rest g
+
+-- the entry at the place of an area is the area and its numbers
+pub entry_is : (k : List ℕ) (entries : List (List ℕ × Numbers)) (i : ℕ) (x : List ℕ) (n : Numbers) → slice_get entries i ≡ Some (x, n) → slice_get entries i ≡ Some (k, area_in entries k) → (x ≡ k) × (n ≡ area_in entries k)
+entry_is k entries i x n h g =
+    let both : ◌≡◌ {A = List ℕ × Numbers} (x, n) (k, area_in entries k) = cc in
+    (λ j. (both j).0, λ j. (both j).1)

@@ -1,6 +1,7 @@
 //! The numbers of the areas of one warning.
 
-ghost use Rattle.std.specs.Prelude.{◌≡◌};
+ghost use Rattle.std.specs.Prelude.{◌≡◌, IsTrue, slice_get};
+ghost use Rattle.coverage_board.specs.Board.{area_in};
 ghost use Rattle.coverage_board.specs.Parts.{has_area};
 
 use crate::numbers::Numbers;
@@ -9,6 +10,9 @@ use indexmap::IndexMap;
 use std::alloc::{AllocError, Global};
 use std::marker::Model;
 
+/// The most areas of a list whose places are remembered.
+const REMEMBERED: usize = 16;
+
 /// Whether the area of that name is among these.
 fn is_among(areas: &[Name], area: &Name) -> bool
     ensures { result ≡ has_area areas.now area.now }
@@ -16,11 +20,33 @@ fn is_among(areas: &[Name], area: &Name) -> bool
     areas.iter().any(|name| *name == *area)
 }
 
+/// The same, where it mostly is the one at that index.
+fn is_among_from(areas: &[Name], index: usize, area: &Name) -> bool
+    ensures { result ≡ has_area areas.now area.now }
+{
+    match areas.get(index) {
+        Some(name) if *name == *area => true,
+        _ => is_among(areas, area),
+    }
+}
+
+/// Whether the area has numbers, and they stand at that place.
+fn is_at(map: &IndexMap<Name, Numbers>, place: usize, area: &Name) -> bool
+    ensures { IsTrue result → slice_get map.now.entries place ≡ Some (area.now, area_in map.now.entries area.now) }
+{
+    match map.get_index(place) {
+        Some((name, _)) => *name == *area,
+        None => false,
+    }
+}
+
 /// Numbers by the name of an area. An area that isn't there has 0 everywhere.
 #[derive(Drop)]
 pub(crate) struct AreaNumbers {
     alloc: Global,
     map: IndexMap<Name, Numbers>,
+    /// By index in a list of areas: the place of the area that was found last for this index.
+    places: [usize; REMEMBERED],
 }
 
 impl Model for AreaNumbers {
@@ -33,9 +59,10 @@ impl Model for AreaNumbers {
 }
 
 impl AreaNumbers {
-    ghost use Rattle.std.specs.Prelude.{◌≡◌, ℕ, List, [], bytes_eq, if◌then◌else◌, OnOk};
+    ghost use Rattle.std.specs.Prelude.{◌≡◌, ℕ, List, [], ◌&&◌, not, bytes_eq, if◌then◌else◌, slice_get, OnOk, IfSome, IfNone};
+    ghost use Rattle.std.specs.Map.{lookup};
     ghost use Rattle.coverage_board.specs.Board.{area_in};
-    ghost use Rattle.coverage_board.specs.Numbers.{less, added, moved, Holds, FitsWith, HasRoom};
+    ghost use Rattle.coverage_board.specs.Numbers.{less, added, moved, zero_numbers, Holds, FitsWith, HasRoom};
     ghost use Rattle.coverage_board.specs.Parts.{has_area, part_where};
 
     pub(crate) fn new(alloc: Global) -> AreaNumbers
@@ -44,6 +71,7 @@ impl AreaNumbers {
         AreaNumbers {
             alloc,
             map: IndexMap::new(alloc),
+            places: [0; REMEMBERED],
         }
     }
 
@@ -56,22 +84,50 @@ impl AreaNumbers {
         }
     }
 
-    /// Takes a part of the area's numbers out of them.
-    fn take_out(&mut self, area: &Name, part: Numbers)
+    /// The place of the area, if it has numbers, found by its hash and remembered for that index of a list.
+    fn look_up(&mut self, index: usize, area: &Name) -> Option<usize>
+        ensures same { self.new ≡ self.old }
+        ensures found { IfSome result (λ place. slice_get self.old place ≡ Some (area.now, area_in self.old area.now)) }
+        ensures none { IfNone result (lookup (bytes_eq area.now) self.old ≡ None) }
+    {
+        let (place, _, _) = self.map.get_full(area)?;
+        if let Some(last) = self.places.get_mut(index) {
+            *last = place;
+        }
+        Some(place)
+    }
+
+    /// The place of the area, if it has numbers, the area being at that index of a list. The lists of two lines that follow
+    /// one another are mostly the same, so that the area is where the one at that index was.
+    fn place_of(&mut self, index: usize, area: &Name) -> Option<usize>
+        ensures same { self.new ≡ self.old }
+        ensures found { IfSome result (λ place. slice_get self.old place ≡ Some (area.now, area_in self.old area.now)) }
+        ensures none { IfNone result (lookup (bytes_eq area.now) self.old ≡ None) }
+    {
+        match self.places.get(index) {
+            Some(last) if is_at(&self.map, *last, area) => Some(*last),
+            _ => self.look_up(index, area),
+        }
+    }
+
+    /// Takes a part of the area's numbers out of them, the area being at that index of a list.
+    fn take_out(&mut self, index: usize, area: &Name, part: Numbers)
         requires { Holds (area_in self.old area.now) part }
         ensures { (a : List ℕ) → area_in self.new a ≡ (if bytes_eq area.now a then less (area_in self.old a) part else area_in self.old a) }
     {
-        if let Some(numbers) = self.map.get_mut(area) {
+        if let Some(place) = self.place_of(index, area) {
+            let (_, numbers) = self.map.pair_mut(place);
             *numbers = numbers.less(part);
         }
     }
 
-    /// Adds a part to the area's numbers.
-    fn put_in(&mut self, area: &Name, part: Numbers) -> Result<(), AllocError>
+    /// Adds a part to the area's numbers, the area being at that index of a list.
+    fn put_in(&mut self, index: usize, area: &Name, part: Numbers) -> Result<(), AllocError>
         requires { FitsWith (area_in self.old area.now) part }
         ensures { OnOk result ((a : List ℕ) → area_in self.new a ≡ (if bytes_eq area.now a then added (area_in self.old a) part else area_in self.old a)) }
     {
-        if let Some(numbers) = self.map.get_mut(area) {
+        if let Some(place) = self.place_of(index, area) {
+            let (_, numbers) = self.map.pair_mut(place);
             *numbers = numbers.added(part);
             return Ok(());
         }
@@ -79,30 +135,77 @@ impl AreaNumbers {
         Ok(())
     }
 
-    /// Takes a part out of the area's numbers, and adds another.
-    fn exchange(&mut self, area: &Name, out: Numbers, part: Numbers) -> Result<(), AllocError>
+    /// Takes a part out of the area's numbers, which is not nothing, and adds another, the area being at that index of a
+    /// list.
+    fn exchange(&mut self, index: usize, area: &Name, out: Numbers, part: Numbers)
+        requires some { out ≡ zero_numbers → ⊥ }
         requires there { Holds (area_in self.old area.now) out }
         requires room { HasRoom (area_in self.old area.now) out part }
-        ensures { OnOk result ((a : List ℕ) → area_in self.new a ≡ (if bytes_eq area.now a then moved (area_in self.old a) out part else area_in self.old a)) }
+        ensures { (a : List ℕ) → area_in self.new a ≡ (if bytes_eq area.now a then moved (area_in self.old a) out part else area_in self.old a) }
     {
-        if let Some(numbers) = self.map.get_mut(area) {
+        if let Some(place) = self.place_of(index, area) {
+            let (_, numbers) = self.map.pair_mut(place);
             *numbers = numbers.less(out).added(part);
-            return Ok(());
         }
-        self.map.insert(area.copied(self.alloc)?, part)?;
+    }
+
+    /// Takes a part out of the numbers of each of the areas that isn't among the others, once each.
+    fn take_out_gone(&mut self, areas: &[Name], others: &[Name], part: Numbers)
+        requires { (a : List ℕ) → Holds (area_in self.old a) (part_where (has_area areas.now a) part) }
+        ensures { (a : List ℕ) → area_in self.new a ≡ less (area_in self.old a) (part_where (has_area areas.now a && not (has_area others.now a)) part) }
+    {
+        for (i, area) in areas.iter().enumerate() {
+            if !is_among_from(others, i, area) && !is_among(&areas[..i], area) {
+                self.take_out(i, area, part);
+            }
+        }
+    }
+
+    /// Adds a part to the area's numbers, and takes another, which is not nothing, out of them if the line had the area. The
+    /// area is at that index of a list.
+    fn move_in(
+        &mut self,
+        index: usize,
+        area: &Name,
+        had: bool,
+        out: Numbers,
+        part: Numbers,
+    ) -> Result<(), AllocError>
+        requires some { out ≡ zero_numbers → ⊥ }
+        requires there { Holds (area_in self.old area.now) (part_where had out) }
+        requires room { HasRoom (area_in self.old area.now) (part_where had out) part }
+        ensures { OnOk result ((a : List ℕ) → area_in self.new a ≡ (if bytes_eq area.now a then moved (area_in self.old a) (part_where had out) part else area_in self.old a)) }
+    {
+        if !had {
+            return self.put_in(index, area, part);
+        }
+        if out != part {
+            self.exchange(index, area, out, part);
+        }
         Ok(())
     }
 
-    /// Takes a part out of the numbers of each of the areas, once each.
-    fn take_out_all(&mut self, areas: &[Name], part: Numbers)
-        requires { (a : List ℕ) → Holds (area_in self.old a) (part_where (has_area areas.now a) part) }
-        ensures { (a : List ℕ) → area_in self.new a ≡ less (area_in self.old a) (part_where (has_area areas.now a) part) }
+    /// Adds a part to the numbers of each of the areas, and takes another, which is not nothing, out of those that are among
+    /// the others, once each.
+    fn move_in_all(
+        &mut self,
+        areas: &[Name],
+        others: &[Name],
+        out: Numbers,
+        part: Numbers,
+    ) -> Result<(), AllocError>
+        requires some { out ≡ zero_numbers → ⊥ }
+        requires there { (a : List ℕ) → Holds (area_in self.old a) (part_where (has_area areas.now a && has_area others.now a) out) }
+        requires room { (a : List ℕ) → HasRoom (area_in self.old a) (part_where (has_area areas.now a && has_area others.now a) out) (part_where (has_area areas.now a) part) }
+        ensures { OnOk result ((a : List ℕ) → area_in self.new a ≡ moved (area_in self.old a) (part_where (has_area areas.now a && has_area others.now a) out) (part_where (has_area areas.now a) part)) }
     {
         for (i, area) in areas.iter().enumerate() {
             if !is_among(&areas[..i], area) {
-                self.take_out(area, part);
+                let had = is_among_from(others, i, area);
+                self.move_in(i, area, had, out, part)?;
             }
         }
+        Ok(())
     }
 
     /// Adds a part to the numbers of each of the areas, once each.
@@ -115,45 +218,31 @@ impl AreaNumbers {
         }
         for (i, area) in areas.iter().enumerate() {
             if !is_among(&areas[..i], area) {
-                self.put_in(area, part)?;
+                self.put_in(i, area, part)?;
             }
         }
         Ok(())
     }
 
-    /// Takes a part out of the numbers of each of the areas, and adds another, once each.
-    fn exchange_all(
-        &mut self,
-        areas: &[Name],
-        out: Numbers,
-        part: Numbers,
-    ) -> Result<(), AllocError>
+    /// Takes a part, which is not nothing, out of the numbers of each of the areas, and adds another, once each.
+    fn exchange_all(&mut self, areas: &[Name], out: Numbers, part: Numbers)
+        requires some { out ≡ zero_numbers → ⊥ }
         requires there { (a : List ℕ) → Holds (area_in self.old a) (part_where (has_area areas.now a) out) }
         requires room { (a : List ℕ) → HasRoom (area_in self.old a) (part_where (has_area areas.now a) out) (part_where (has_area areas.now a) part) }
-        ensures { OnOk result ((a : List ℕ) → area_in self.new a ≡ moved (area_in self.old a) (part_where (has_area areas.now a) out) (part_where (has_area areas.now a) part)) }
-    {
-        for (i, area) in areas.iter().enumerate() {
-            if !is_among(&areas[..i], area) {
-                self.exchange(area, out, part)?;
-            }
-        }
-        Ok(())
-    }
-
-    /// The same where nothing changes if the parts are equal.
-    fn shift_same(&mut self, areas: &[Name], out: Numbers, part: Numbers) -> Result<(), AllocError>
-        requires there { (a : List ℕ) → Holds (area_in self.old a) (part_where (has_area areas.now a) out) }
-        requires room { (a : List ℕ) → HasRoom (area_in self.old a) (part_where (has_area areas.now a) out) (part_where (has_area areas.now a) part) }
-        ensures { OnOk result ((a : List ℕ) → area_in self.new a ≡ moved (area_in self.old a) (part_where (has_area areas.now a) out) (part_where (has_area areas.now a) part)) }
+        ensures { (a : List ℕ) → area_in self.new a ≡ moved (area_in self.old a) (part_where (has_area areas.now a) out) (part_where (has_area areas.now a) part) }
     {
         if out == part {
-            return Ok(());
+            return;
         }
-        self.exchange_all(areas, out, part)
+        for (i, area) in areas.iter().enumerate() {
+            if !is_among(&areas[..i], area) {
+                self.exchange(i, area, out, part);
+            }
+        }
     }
 
     /// Takes a part out of the numbers of the areas that a line had, and adds one to those of the areas that it has. It
-    /// looks up no area where nothing is taken out or added, and each area once where the areas are the same.
+    /// looks up no area whose numbers stay, and each other area once.
     pub(crate) fn shift(
         &mut self,
         before: &[Name],
@@ -168,14 +257,11 @@ impl AreaNumbers {
         if out.is_zero() {
             return self.put_in_all(after, part);
         }
-        if part.is_zero() {
-            self.take_out_all(before, out);
+        if before == after {
+            self.exchange_all(after, out, part);
             return Ok(());
         }
-        if before == after {
-            return self.shift_same(after, out, part);
-        }
-        self.take_out_all(before, out);
-        self.put_in_all(after, part)
+        self.take_out_gone(before, after, out);
+        self.move_in_all(after, before, out, part)
     }
 }

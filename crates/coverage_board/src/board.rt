@@ -1,5 +1,9 @@
 //! The numbers of all warnings.
 
+ghost use Rattle.std.specs.Prelude.{◌≡◌, nat_eq, slice_get, IfSome, IfNone};
+ghost use Rattle.std.specs.Map.{lookup};
+ghost use Rattle.coverage_board.specs.Board.{row_of};
+
 use crate::numbers::Numbers;
 use crate::row::Row;
 use crate::stand::Stand;
@@ -15,6 +19,8 @@ use warning_book::WarningId;
 pub struct Board {
     alloc: Global,
     rows: IndexMap<u32, Row>,
+    /// The place of the row that was changed last.
+    last: usize,
 }
 
 impl Model for Board {
@@ -24,6 +30,21 @@ impl Model for Board {
     ghost Value = { List (ℕ × WarningNumbers) };
 
     ghost view = { λ b. b.rows.entries };
+}
+
+/// The place of the row of that number, if there is one. It is mostly the one that was found last; else it is found by its
+/// hash.
+fn place_of(rows: &IndexMap<u32, Row>, last: usize, number: u32) -> Option<usize>
+    ensures found { IfSome result (λ place. slice_get rows.now.entries place ≡ Some (number, row_of rows.now.entries number)) }
+    ensures none { IfNone result (lookup (nat_eq number) rows.now.entries ≡ None) }
+{
+    match rows.get_index(last) {
+        Some((found, _)) if *found == number => Some(last),
+        _ => {
+            let (place, _, _) = rows.get_full(&number)?;
+            Some(place)
+        }
+    }
 }
 
 impl Board {
@@ -41,6 +62,7 @@ impl Board {
         Board {
             alloc,
             rows: IndexMap::new(alloc),
+            last: 0,
         }
     }
 
@@ -79,8 +101,11 @@ impl Board {
         ensures total { OnOk result ((v : ℕ) → total_of self.new v ≡ (if nat_eq w v then moved (total_of self.old v) (total_part (stand_of before.now)) (total_part (stand_of after.now)) else total_of self.old v)) }
         ensures area { OnOk result ((v : ℕ) (a : List ℕ) → area_of self.new v a ≡ (if nat_eq w v then moved (area_of self.old v a) (area_part a (stand_of before.now)) (area_part a (stand_of after.now)) else area_of self.old v a)) }
     {
-        if let Some(row) = self.rows.get_mut(&w.number()) {
-            return row.shift(before, after);
+        if let Some(place) = place_of(&self.rows, self.last, w.number()) {
+            self.last = place;
+            let (_, row) = self.rows.pair_mut(place);
+            row.shift(before, after)?;
+            return Ok(());
         }
         let mut row = Row::new(self.alloc);
         row.shift(before, after)?;

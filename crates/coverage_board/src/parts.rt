@@ -4,12 +4,12 @@ ghost use Rattle.std.specs.Prelude.{◌≡◌, ◌<◌, ◌^◌, if◌then◌els
 ghost use Rattle.common.specs.Sums.{one, sum_of};
 ghost use Rattle.coverage_board.specs.Parts.{has_areas, broadcast_count, total_part};
 ghost use Rattle.coverage_board.specs.Reading.{stand_of};
+ghost use Rattle.coverage_board.specs.Standings.{is_left};
 
 use crate::numbers::Numbers;
 use crate::stand::Stand;
-use crate::standing::{is_left, is_way, standing};
+use crate::standing::{is_unwanted, is_way, standing};
 use crate::way::Way;
-use mirror::Sight;
 
 /// 1 where it holds, else 0.
 fn one(holds: bool) -> u64
@@ -18,16 +18,30 @@ fn one(holds: bool) -> u64
     if holds { 1 } else { 0 }
 }
 
-/// How often the versions of the warning were broadcast there.
-fn broadcast_count(stand: &Stand<'_>) -> u64
-    requires { broadcast_count (stand_of stand.now) < 2 ^ 64 }
-    ensures { result ≡ broadcast_count (stand_of stand.now) }
+/// What the versions of a line add to the numbers.
+struct VersionsPart {
+    /// A version is left there.
+    left: bool,
+    /// How often they were broadcast there.
+    broadcasts: u64,
+}
+
+/// What the versions of the line add, found in one walk over them. Where the count doesn't fit 64 bits, what it is said to
+/// be is open.
+fn part_of_versions(stand: &Stand<'_>) -> VersionsPart
+    ensures left { result.left ≡ is_left (stand_of stand.now).seen }
+    ensures broadcasts { broadcast_count (stand_of stand.now) < 2 ^ 64 → result.broadcasts ≡ broadcast_count (stand_of stand.now) }
 {
-    let mut sum = 0;
+    let mut left = false;
+    let mut broadcasts: u64 = 0;
     for serial in stand.sight.versions {
-        sum += stand.sight.line.state(*serial).count as u64;
+        let state = stand.sight.line.state(*serial);
+        broadcasts = broadcasts.wrapping_add(u64::from(state.count));
+        if is_unwanted(&stand.sight, *serial) {
+            left = true;
+        }
     }
-    sum
+    VersionsPart { left, broadcasts }
 }
 
 /// The line's part in the numbers of its warning.
@@ -35,17 +49,14 @@ pub(crate) fn total_part(stand: &Stand<'_>) -> Numbers
     requires { (total_part (stand_of stand.now)).broadcasts < 2 ^ 64 }
     ensures { result ≡ total_part (stand_of stand.now) }
 {
-    let broadcasts = if stand.here && !stand.areas.is_empty() {
-        broadcast_count(stand)
-    } else {
-        0
-    };
+    let VersionsPart { left, broadcasts } = part_of_versions(stand);
+    let is_counted = stand.here && !stand.areas.is_empty();
     let stands = standing(&stand.sight);
     Numbers {
         awaited: one(is_way(Way::Awaited, stands)),
         on_air: one(is_way(Way::OnAir, stands)),
         failed: one(is_way(Way::Failed, stands)),
-        left: one(is_left(&stand.sight)),
-        broadcasts,
+        left: one(left),
+        broadcasts: if is_counted { broadcasts } else { 0 },
     }
 }

@@ -45,18 +45,8 @@ pub(crate) fn is_way(way: Way, standing: Option<Way>) -> bool
 }
 
 /// Whether the version is on air there, or may be, and not wanted.
-fn is_unwanted(sight: &Sight<'_>, serial: Serial) -> bool
+pub(crate) fn is_unwanted(sight: &Sight<'_>, serial: Serial) -> bool
     ensures { result ≡ is_unwanted (seen sight.now) serial }
 {
-    sight.wanted != Some(serial) && sight.line.state(serial).presence != Presence::Absent
-}
-
-/// Whether a version of the warning is.
-pub(crate) fn is_left(sight: &Sight<'_>) -> bool
-    ensures { result ≡ is_left (seen sight.now) }
-{
-    sight
-        .versions
-        .iter()
-        .any(|serial| is_unwanted(sight, *serial))
+    sight.line.state(serial).presence != Presence::Absent && sight.wanted != Some(serial)
 }

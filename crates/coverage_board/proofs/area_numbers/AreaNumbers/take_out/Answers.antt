@@ -1,20 +1,21 @@
-use Rattle.std.proofs.Common.{◌∙◌, sym, ap, rules}
+use Rattle.std.proofs.Common.{sym, ◌∙◌, ap}
+use Rattle.std.specs.Cmp.Lexicographic.{nat_list_eq_equiv}
+use Rattle.indexmap.proofs.CallerLemmas.{updates-with_value_at}
 use Rattle.coverage_board.specs.Numbers.{less}
-use Rattle.coverage_board.proofs.AreaLemmas.{area_changed, area_absent, area_found}
-use Rattle.coverage_board.proofs.NumbersLemmas.{zero_less}
+use Rattle.coverage_board.proofs.AreaLemmas.{area_changed, entry_is}
 use Rattle.coverage_board.proofs.area_numbers.AreaNumbers.take_out.Goals as goal
-use Rattle.coverage_board.proofs.area_numbers.AreaNumbers.take_out.Goals.{in-Some, in_default}
 
 pub less-requires : goal.less-requires
 less-requires c =
-    rw (sym (area_found c.args.area.now c.self.inside.map.entries c.in-Some.numbers.now (sym c.in-Some.ensures.value)), c.self.view_is) c.requires
+    let same = c.self.view_is ∙ c.in-Some.ensures.same in
+    let at = c.pair_mut-numbers.ensures in
+    let entry = entry_is c.args.area.now c.self.inside.map.entries c.in-Some.place c.pair_mut-numbers.result.0.now c.pair_mut-numbers.result.1.now at.value (rw (sym same) at c.in-Some.ensures.found) in
+    rw (entry.1, same) c.requires
 
-pub returns : goal.returns
-returns c =
-    elim c.match-get_mut.branch [
-      | in-Some w ↦
-          let is = w.less.ensures ∙ ap (λ n. less n c.args.part) (sym (area_found c.args.area.now c.self.inside.map.entries w.in-Some.numbers.now (sym w.in-Some.ensures.value))) in
-          rw (w.self-inside-is, ← c.self.view_is) (area_changed (λ n. less n c.args.part) c.args.area.now w.less.result c.self.inside.map.entries (c.get_mut.follows.lender w.less.result).entries is ((c.get_mut.follows.holds w.less.result).3 (search rules)).0)
-      | in_default w ↦
-          rw (w.self-inside-is, c.get_mut.follows.holds-at-none, ← c.self.view_is) (area_absent (λ n. less n c.args.part) (zero_less c.args.part) c.args.area.now c.self.inside.map.entries (sym w.in_default.ensures.value))
-    ]
+pub returns-in-Some : goal.returns-in-Some
+returns-in-Some c =
+    let same = c.self.view_is ∙ c.in-Some.ensures.same in
+    let at = c.pair_mut-numbers.ensures in
+    let entry = entry_is c.args.area.now c.self.inside.map.entries c.in-Some.place c.pair_mut-numbers.result.0.now c.pair_mut-numbers.result.1.now at.value (rw (sym same) at c.in-Some.ensures.found) in
+    let new = updates-with_value_at c.self.inside.map c.in-Some.place c.less.result nat_list_eq_equiv at.unique c.pair_mut-numbers.result.0.now c.pair_mut-numbers.result.1.now at.value in
+    rw (← same) (area_changed (λ n. less n c.args.part) c.args.area.now c.less.result c.self.inside.map.entries _ (c.less.ensures ∙ ap (λ n. less n c.args.part) entry.1) (rw entry.0 at new.0))

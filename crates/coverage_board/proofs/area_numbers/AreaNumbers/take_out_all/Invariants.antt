@@ -1,9 +1,0 @@
-use Rattle.std.proofs.Common.{◌≡◌, ℕ, List, take}
-use Rattle.coverage_board.specs.Board.{area_in}
-use Rattle.coverage_board.specs.Numbers.{less}
-use Rattle.coverage_board.specs.Parts.{has_area, part_where}
-use Rattle.coverage_board.proofs.area_numbers.AreaNumbers.take_out_all.Given as goal
-
--- the part is taken out of the areas passed
-abbrev pub invariant-loop-i : goal.invariant-loop-i
-invariant-loop-i l = (a : List ℕ) → area_in l.self a ≡ less (area_in l.initial.self a) (part_where (has_area (take l.i l.areas) a) l.part)
