@@ -2,3 +2,5 @@ pub mod PastLemmas
 pub mod EffectLemmas
 pub mod ReplyLemmas
 pub mod LookupLemmas
+pub mod SteppedLemmas
+pub mod FindingLemmas

@@ -89,7 +89,7 @@ any_found p (x ∷ xs) = step (p x) (any_found p xs)
     step true h = refl
     step false h = h
 
-all_at : {E : Type 0} (p : E → Bool) (xs : List E) (k : ℕ) (d : E) → list_all p xs ≡ true → k < length xs → p (get_or xs k d) ≡ true
+pub all_at : {E : Type 0} (p : E → Bool) (xs : List E) (k : ℕ) (d : E) → list_all p xs ≡ true → k < length xs → p (get_or xs k d) ≡ true
 all_at p [] k d h b = absurd (omega arith)
 all_at p (x ∷ xs) zero d h b = (and_parts (p x) (list_all p xs) h).0
 all_at p (x ∷ xs) (suc k) d h b = all_at p xs k d (and_parts (p x) (list_all p xs) h).1 (omega arith)

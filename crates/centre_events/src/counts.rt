@@ -3,17 +3,12 @@
 
 ghost use Rattle.std.specs.Prelude.{◌≡◌, true};
 ghost use Rattle.std.specs.Option.{option_copied};
-ghost use Rattle.centre_events.specs.Counts.{number_in, number_of, reported_in, is_counted_key, replied_count, edit_count, count_mark};
+ghost use Rattle.centre_events.specs.Counts.{number_in, number_of, edit_count};
 ghost use Rattle.centre_events.specs.Lookups.{are_counts_ordered, IsOrderOf};
 
-use crate::answer::Answer;
-use crate::effects::{is_among, is_of_warning};
-use crate::event::Event;
-use crate::in_flight::InFlight;
+use crate::effects::is_of_warning;
 use crate::in_order::InOrder;
 use crate::lookups::{number_among, numbers_of};
-use crate::replies::Replies;
-use crate::replying::{cells_of, id_of, old_of};
 use cbsp_ie::Counts;
 use cbsp_messages::Message;
 use cell_register::BscId;
@@ -51,43 +46,8 @@ pub(crate) fn number_of(
     }
 }
 
-/// What the replies report of the cell.
-fn reported_in(c: Cell, replies: &Replies) -> Option<u16>
-    ensures { result ≡ reported_in c replies.now }
-{
-    match replies.of_cell(c) {
-        Some(reply) => reply.count,
-        None => None,
-    }
-}
-
-/// Whether the key is that of the version which was on air before what is in flight, in one of its cells.
-fn is_counted_key(flight: &InFlight, c: Cell, message_id: u16, serial: Serial) -> bool
-    ensures { result ≡ is_counted_key flight.now c message_id serial }
-{
-    id_of(flight) == message_id
-        && old_of(flight) == Some(serial.to_u16())
-        && is_among(c, cells_of(flight))
-}
-
-/// What the replies report of a key of the BSC to which that is in flight.
-fn replied_count(
-    flight: Option<&InFlight>,
-    replies: &Replies,
-    c: Cell,
-    message_id: u16,
-    serial: Serial,
-) -> Option<u16>
-    ensures { result ≡ replied_count (option_copied flight.entry) replies.now c message_id serial }
-{
-    match flight {
-        Some(flight) if is_counted_key(flight, c, message_id, serial) => { reported_in(c, replies) }
-        _ => None,
-    }
-}
-
 /// What an edit sets of a key of the BSC, from the warnings in the book before it.
-fn edit_count(
+pub(crate) fn edit_count(
     b: BscId,
     message_id: u16,
     serial: Serial,
@@ -99,29 +59,6 @@ fn edit_count(
     match edit {
         Edit::RemoveBsc(other) if *other == b => Some(0),
         Edit::Forget(number) if is_of_warning(*number, message_id, serial, warnings) => Some(0),
-        _ => None,
-    }
-}
-
-/// The number of broadcasts that the event sets of a key of the BSC, by its answer, what was in flight, and the warnings in
-/// the book before it.
-pub fn count_mark(
-    b: BscId,
-    c: Cell,
-    message_id: u16,
-    serial: Serial,
-    event: &Event,
-    answer: &Answer,
-    flight: Option<&InFlight>,
-    warnings: &[Warning],
-) -> Option<u16>
-    ensures { result ≡ count_mark b c message_id serial event.now answer.now (option_copied flight.entry) warnings.now }
-{
-    match (event, answer) {
-        (Event::Edit(edit), _) => edit_count(b, message_id, serial, edit, warnings),
-        (Event::Report(other, _, _), Answer::Replied(replies)) if *other == b => {
-            replied_count(flight, replies, c, message_id, serial)
-        }
         _ => None,
     }
 }

@@ -2,22 +2,17 @@
 
 ghost use Rattle.std.specs.Prelude.{◌≡◌, ◌&&◌, true, None};
 ghost use Rattle.std.specs.List.{list_any};
-ghost use Rattle.std.specs.Option.{option_copied};
 ghost use Rattle.warning_book.specs.Book.{has_number};
 ghost use Rattle.centre_events.specs.Down.{says_down, listed_down, edit_down, down_mark};
-ghost use Rattle.centre_events.specs.Effects.{is_among, write_refused, replace_refused, kill_refused, new_effect, old_refused, old_effect, query_effect, replaces, key_effect, order_effect, flight_effect, outcome_in, said_effect, restart_effect, indicated_effect, report_effect, presence_mark, hold_mark, state_after};
-ghost use Rattle.centre_events.specs.Presence.{edit_effect, effect};
-ghost use Rattle.centre_events.specs.Reported.{names_version};
+ghost use Rattle.centre_events.specs.Effects.{is_among, write_refused, replace_refused, kill_refused, new_effect, old_refused, old_effect, query_effect, replaces, key_effect, restart_effect, indicated_effect, presence_mark, hold_mark, state_after};
+ghost use Rattle.centre_events.specs.Presence.{edit_effect};
 ghost use Rattle.centre_events.specs.Warnings.{has_key, is_version};
 
 use crate::answer::Answer;
 use crate::effect::Effect;
 use crate::event::Event;
-use crate::in_flight::InFlight;
-use crate::naming::names_serial;
+use crate::finding::place_of;
 use crate::outcome::Outcome;
-use crate::replies::Replies;
-use crate::replying::id_of;
 use cbsp_ie::Cause;
 use cbsp_messages::Message;
 use cell_register::BscId;
@@ -28,19 +23,11 @@ use order_maker::{Order, OrderKind};
 use serials::Serial;
 use warning_book::{Version, Warning, WarningId};
 
-/// Whether the cell stands where it does in a list in ascending order.
-fn is_in_place(c: Cell, cells: &[Cell]) -> bool
-    ensures { result ≡ true → is_among c cells.now ≡ true }
-{
-    let place = cells.partition_point(|d| d.is_before(&c));
-    place < cells.len() && c == cells[place]
-}
-
 /// Whether the cell is one of the list. In a list in ascending order one that is there is found by halves.
 pub fn is_among(c: Cell, cells: &[Cell]) -> bool
     ensures { result ≡ is_among c cells.now }
 {
-    is_in_place(c, cells) || cells.iter().any(|d| c == *d)
+    place_of(c, cells).is_some()
 }
 
 /// What an order that was refused does at the key of its serial number.
@@ -110,120 +97,13 @@ pub fn key_effect(order: &Order, outcome: Outcome, serial: Serial) -> Effect
     }
 }
 
-/// What an order does at a key of its BSC.
-fn order_effect(order: &Order, outcome: Outcome, c: Cell, message_id: u16, serial: Serial) -> Effect
-    ensures { result ≡ order_effect order.now outcome c message_id serial }
-{
-    if order.message_id == message_id && is_among(c, order.cells.as_slice()) {
-        key_effect(order, outcome, serial)
-    } else {
-        Effect::Leaves
-    }
-}
-
-/// What comes of what is in flight, if anything is, at a key of its BSC.
-pub fn flight_effect(
-    flight: Option<&InFlight>,
-    outcome: Outcome,
-    c: Cell,
-    message_id: u16,
-    serial: Serial,
-) -> Effect
-    ensures { result ≡ flight_effect (option_copied flight.entry) outcome c message_id serial }
-{
-    match flight {
-        Some(InFlight::Order(order)) => order_effect(order, outcome, c, message_id, serial),
-        Some(
-            InFlight::Query {
-                message_id: asked,
-                serial: version,
-                cells,
-            },
-        ) if *asked == message_id && is_among(c, cells.as_slice()) && *version == serial => {
-            query_effect(outcome)
-        }
-        _ => Effect::Leaves,
-    }
-}
-
-/// What the replies say of the cell.
-pub fn outcome_in(c: Cell, replies: &Replies) -> Option<Outcome>
-    ensures { result ≡ outcome_in c replies.now }
-{
-    match replies.of_cell(c) {
-        Some(reply) => Some(reply.outcome),
-        None => None,
-    }
-}
-
-/// What a reply that says this of the cell, or nothing, does at a key.
-pub fn said_effect(
-    said: Option<Outcome>,
-    flight: Option<&InFlight>,
-    c: Cell,
-    message_id: u16,
-    serial: Serial,
-) -> Effect
-    ensures { result ≡ said_effect said (option_copied flight.entry) c message_id serial }
-{
-    match said {
-        Some(outcome) => flight_effect(flight, outcome, c, message_id, serial),
-        None => Effect::Leaves,
-    }
-}
-
 /// What an indication does at each key of a cell that it lists.
-fn indicated_effect(message: &Message) -> Effect
+pub(crate) fn indicated_effect(message: &Message) -> Effect
     ensures { result ≡ indicated_effect message.now }
 {
     match message {
         Message::Restart(restart) if restart.recovery == 0 => Effect::Frees,
         Message::Restart(_) => Effect::Sets(Presence::Absent),
-        _ => Effect::Leaves,
-    }
-}
-
-/// Whether what is in flight, if anything is, names the version of that message identifier and serial number.
-fn names_version(flight: Option<&InFlight>, message_id: u16, serial: Serial) -> bool
-    ensures { result ≡ names_version (option_copied flight.entry) message_id serial }
-{
-    match flight {
-        Some(flight) => id_of(flight) == message_id && names_serial(flight, serial),
-        None => false,
-    }
-}
-
-/// What the replies do at a key. They are looked through only where what is in flight names the version.
-#[tactic(auto, using(crate::proofs::EffectLemmas::unnamed))]
-fn replied_effect(
-    replies: &Replies,
-    flight: Option<&InFlight>,
-    c: Cell,
-    message_id: u16,
-    serial: Serial,
-) -> Effect
-    ensures { result ≡ said_effect (outcome_in c replies.now) (option_copied flight.entry) c message_id serial }
-{
-    if !names_version(flight, message_id, serial) {
-        return Effect::Leaves;
-    }
-    said_effect(outcome_in(c, replies), flight, c, message_id, serial)
-}
-
-/// What a report that was answered so does at a key of its BSC.
-pub fn report_effect(
-    message: &Message,
-    answer: &Answer,
-    flight: Option<&InFlight>,
-    c: Cell,
-    message_id: u16,
-    serial: Serial,
-) -> Effect
-    ensures { result ≡ report_effect message.now answer.now (option_copied flight.entry) c message_id serial }
-{
-    match answer {
-        Answer::Replied(replies) => replied_effect(replies, flight, c, message_id, serial),
-        Answer::Listed(cells) if is_among(c, cells.as_slice()) => indicated_effect(message),
         _ => Effect::Leaves,
     }
 }
@@ -271,37 +151,6 @@ pub fn edit_effect(
         Edit::Forget(number) if is_of_warning(*number, message_id, serial, warnings) => {
             Effect::Frees
         }
-        _ => Effect::Leaves,
-    }
-}
-
-/// What the event does at a key of the BSC, by its answer, whether the link was up, what was in flight, and the warnings
-/// in the book before it.
-pub fn effect(
-    b: BscId,
-    c: Cell,
-    message_id: u16,
-    serial: Serial,
-    event: &Event,
-    answer: &Answer,
-    up: bool,
-    flight: Option<&InFlight>,
-    warnings: &[Warning],
-) -> Effect
-    ensures { result ≡ effect b c message_id serial event.now answer.now up (option_copied flight.entry) warnings.now }
-{
-    match event {
-        Event::Edit(edit) => edit_effect(b, message_id, serial, edit, warnings),
-        Event::Report(other, _, message) if *other == b => {
-            report_effect(message, answer, flight, c, message_id, serial)
-        }
-        Event::LinkUp(other) if *other == b && up => {
-            flight_effect(flight, Outcome::Silent, c, message_id, serial)
-        }
-        Event::LinkDown(other, _) if *other == b => {
-            flight_effect(flight, Outcome::Silent, c, message_id, serial)
-        }
-        Event::Retry(other) if *other == b => Effect::Frees,
         _ => Effect::Leaves,
     }
 }

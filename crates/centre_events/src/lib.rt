@@ -1,8 +1,8 @@
 //! What a cell broadcast centre accepts, and what each event does to what is stored of one version in one cell.
 //!
-//! Begin with `event`, `answer` and `refusal`; what an event makes of a presence is in `effects`, of a count in `counts`,
-//! and both together in `stepping`. The definitions over the past that contracts cite are in `specs/`, beginning with
-//! `Past`.
+//! Begin with `event`, `answer` and `refusal`; what an event makes of a line is in `stepping`, of the presence of one version
+//! in `effects`, and of a count in `counts`. The definitions over the past that contracts cite are in `specs/`, beginning
+//! with `Past`.
 #![tactic(auto)]
 
 pub mod answer;
@@ -11,6 +11,7 @@ pub mod effect;
 pub mod effects;
 pub mod entry;
 pub mod event;
+mod finding;
 pub mod flight;
 pub mod in_flight;
 pub mod in_order;

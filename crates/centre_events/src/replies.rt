@@ -10,6 +10,7 @@ ghost use Rattle.common.specs.Order.{is_ascending};
 ghost use Rattle.centre_events.specs.Equality.{replies_decide};
 ghost use Rattle.centre_events.specs.Replies.{reply_eq, reply_lt};
 
+use crate::finding::comes_before;
 use crate::reply::Reply;
 use common::Cell;
 use std::alloc::{AllocError, Global};
@@ -55,7 +56,7 @@ fn start_of(replies: &[Reply], c: Cell) -> usize
     requires { is_ascending reply_lt replies.now ≡ true }
     ensures { IsPartitionPoint (λ r. cell_lt r.cell c ≡ true) (λ r. cell_lt r.cell c ≡ false) replies.now result }
 {
-    replies.partition_point(|reply| reply.cell.is_before(&c))
+    replies.partition_point(|reply| comes_before(reply.cell, c))
 }
 
 /// The reply of the cell, found by halves among replies in ascending order. Where it isn't there, none is of the cell.
@@ -91,6 +92,16 @@ impl Replies {
         match first_of(&self.replies, c) {
             Some(reply) => Some(*reply),
             None => None,
+        }
+    }
+
+    /// The first reply of the cell, which is looked at first where the cell is expected.
+    pub(crate) fn of_cell_near(&self, c: Cell, place: usize) -> Option<Reply>
+        ensures { result ≡ find (λ r. cell_eq c r.cell) self.now }
+    {
+        match self.replies.get(place) {
+            Some(reply) if self.is_ordered && c == reply.cell => Some(*reply),
+            _ => self.of_cell(c),
         }
     }
 

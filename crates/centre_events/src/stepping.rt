@@ -1,20 +1,33 @@
 //! What an event makes of one line.
 
-ghost use Rattle.std.specs.Prelude.{◌≡◌, map};
+ghost use Rattle.std.specs.Prelude.{◌≡◌, ◌&&◌, ℕ, true, None, Some, nat_eq, map, if◌then◌else◌};
 ghost use Rattle.std.specs.Option.{option_copied};
-ghost use Rattle.centre_events.specs.Counts.{count_mark};
-ghost use Rattle.centre_events.specs.Presence.{effect};
-ghost use Rattle.centre_events.specs.Effects.{state_after};
+ghost use Rattle.common.specs.declared.cell.Cell.{Cell};
+ghost use Rattle.mirror.specs.Line.{state_of, with_state};
+ghost use Rattle.centre_events.specs.Counts.{count_mark, edit_count, is_counted_key, replied_count, report_count};
+ghost use Rattle.centre_events.specs.Presence.{edit_effect, effect};
+ghost use Rattle.centre_events.specs.Effects.{flight_effect, is_among, outcome_in, report_effect, said_effect, state_after};
+ghost use Rattle.centre_events.specs.InFlight.{cells_of, id_of};
 ghost use Rattle.centre_events.specs.Stepping.{stepped};
 
 use crate::answer::Answer;
-use crate::counts::count_mark;
-use crate::effects::{effect, state_after};
+use crate::counts::edit_count;
+use crate::effect::Effect;
+use crate::effects::{
+    edit_effect, indicated_effect, is_among, key_effect, query_effect, state_after,
+};
 use crate::event::Event;
+use crate::finding::place_of;
 use crate::in_flight::InFlight;
+use crate::naming::names_serial;
+use crate::outcome::Outcome;
+use crate::replies::Replies;
+use crate::replying::{cells_of, id_of, old_of};
+use cbsp_messages::Message;
 use cell_register::BscId;
 use common::Cell;
-use mirror::{KeyState, Line};
+use coverage_plan::Edit;
+use mirror::Line;
 use serials::Serial;
 use warning_book::{Version, Warning};
 
@@ -27,25 +40,146 @@ pub struct Happening<'a, 'b> {
     pub flight: Option<&'b InFlight>,
 }
 
-/// What is kept of a version after what happens, from what was kept of it.
-fn state_then(
-    h: &Happening<'_, '_>,
+/// Changes what is kept of a version by the effect on it, and by the number of broadcasts that is reported, if one is.
+fn step(line: &mut Line, serial: Serial, effect: Effect, count: Option<u16>)
+    ensures { line.new ≡ with_state line.old serial (state_after effect count (state_of line.old serial)) }
+{
+    let place = serial.update() as usize;
+    line.states[place] = state_after(effect, count, line.states[place]);
+}
+
+/// Does the same to each of the versions.
+fn step_each(line: &mut Line, versions: &[Version], effect: Effect, count: Option<u16>)
+    ensures { line.new ≡ stepped (λ s. effect) (λ s. count) line.old (map (λ v. v.serial) versions.now) }
+{
+    for version in versions {
+        step(line, version.serial, effect, count);
+    }
+}
+
+/// Does to each of the versions what the edit does.
+fn step_by_edit(
+    line: &mut Line,
     b: BscId,
+    message_id: u16,
+    versions: &[Version],
+    edit: &Edit,
+    warnings: &[Warning],
+)
+    ensures { line.new ≡ stepped (λ s. edit_effect b message_id s edit.now warnings.now) (λ s. edit_count b message_id s edit.now warnings.now) line.old (map (λ v. v.serial) versions.now) }
+{
+    for version in versions {
+        let effect = edit_effect(b, message_id, version.serial, edit, warnings);
+        let count = edit_count(b, message_id, version.serial, edit, warnings);
+        step(line, version.serial, effect, count);
+    }
+}
+
+/// What is in flight does with that outcome to a version of its message identifier, in one of its cells.
+fn named_effect(flight: &InFlight, outcome: Outcome, serial: Serial) -> Effect
+    ensures { (c : Cell) → is_among c (cells_of flight.now) ≡ true → result ≡ flight_effect (Some flight.now) outcome c (id_of flight.now) serial }
+{
+    match flight {
+        InFlight::Order(order) => key_effect(order, outcome, serial),
+        InFlight::Query { serial: asked, .. } if *asked == serial => query_effect(outcome),
+        InFlight::Query { .. } => Effect::Leaves,
+    }
+}
+
+/// The number of broadcasts of a version, where it is the one that was on air before what is in flight.
+fn named_count(flight: &InFlight, count: Option<u16>, serial: Serial) -> Option<u16>
+    ensures { (c : Cell) → is_among c (cells_of flight.now) ≡ true → result ≡ (if is_counted_key flight.now c (id_of flight.now) serial then count else None) }
+{
+    if old_of(flight) == Some(serial.to_u16()) {
+        count
+    } else {
+        None
+    }
+}
+
+/// Does to the versions that are named what comes of what is in flight in one of its cells.
+fn step_named(
+    line: &mut Line,
+    versions: &[Version],
+    flight: &InFlight,
+    outcome: Outcome,
+    count: Option<u16>,
+)
+    ensures { (c : Cell) → is_among c (cells_of flight.now) ≡ true → line.new ≡ stepped (λ s. flight_effect (Some flight.now) outcome c (id_of flight.now) s) (λ s. (if is_counted_key flight.now c (id_of flight.now) s then count else None)) line.old (map (λ v. v.serial) versions.now) }
+{
+    for version in versions {
+        let serial = version.serial;
+        if names_serial(flight, serial) {
+            let effect = named_effect(flight, outcome, serial);
+            step(line, serial, effect, named_count(flight, count, serial));
+        }
+    }
+}
+
+/// Does to the versions what the loss of the link does: nothing is said of what was in flight.
+fn step_by_loss(
+    line: &mut Line,
     c: Cell,
     message_id: u16,
-    serial: Serial,
-    warnings: &[Warning],
-    state: KeyState,
-) -> KeyState
-    ensures { result ≡ state_after (effect b c message_id serial h.now.event.now h.now.answer.now h.now.up (option_copied h.now.flight) warnings.now) (count_mark b c message_id serial h.now.event.now h.now.answer.now (option_copied h.now.flight) warnings.now) state }
+    versions: &[Version],
+    flight: Option<&InFlight>,
+)
+    ensures { line.new ≡ stepped (λ s. flight_effect (option_copied flight.entry) Outcome.Silent c message_id s) (λ s. None) line.old (map (λ v. v.serial) versions.now) }
 {
-    let effect = effect(
-        b, c, message_id, serial, h.event, h.answer, h.up, h.flight, warnings,
-    );
-    let count = count_mark(
-        b, c, message_id, serial, h.event, h.answer, h.flight, warnings,
-    );
-    state_after(effect, count, state)
+    match flight {
+        Some(flight) if id_of(flight) == message_id && is_among(c, cells_of(flight)) => {
+            step_named(line, versions, flight, Outcome::Silent, None);
+        }
+        _ => {}
+    }
+}
+
+/// Does to the versions what the replies say of the cell. The reply of a cell mostly stands where the cell does in what was
+/// in flight.
+fn step_by_replies(
+    line: &mut Line,
+    c: Cell,
+    message_id: u16,
+    versions: &[Version],
+    flight: &InFlight,
+    replies: &Replies,
+)
+    ensures { line.new ≡ stepped (λ s. said_effect (outcome_in c replies.now) (Some flight.now) c message_id s) (λ s. replied_count (Some flight.now) replies.now c message_id s) line.old (map (λ v. v.serial) versions.now) }
+{
+    if id_of(flight) != message_id {
+        return;
+    }
+    let Some(place) = place_of(c, cells_of(flight)) else {
+        return;
+    };
+    if let Some(reply) = replies.of_cell_near(c, place) {
+        step_named(line, versions, flight, reply.outcome, reply.count);
+    }
+}
+
+/// Does to the versions what a report of their BSC does that was answered so.
+fn step_by_report(
+    line: &mut Line,
+    c: Cell,
+    message_id: u16,
+    versions: &[Version],
+    message: &Message,
+    answer: &Answer,
+    flight: Option<&InFlight>,
+)
+    ensures { line.new ≡ stepped (λ s. report_effect message.now answer.now (option_copied flight.entry) c message_id s) (λ s. report_count answer.now (option_copied flight.entry) c message_id s) line.old (map (λ v. v.serial) versions.now) }
+{
+    match answer {
+        Answer::Replied(replies) => {
+            if let Some(flight) = flight {
+                step_by_replies(line, c, message_id, versions, flight, replies);
+            }
+        }
+        Answer::Listed(cells) if is_among(c, cells.as_slice()) => {
+            step_each(line, versions, indicated_effect(message), None);
+        }
+        _ => {}
+    }
 }
 
 /// The line of the versions of a message in the cell at the BSC, after what happens. What a Forget does is said by the
@@ -62,10 +196,21 @@ pub fn stepped(
     ensures { result ≡ stepped (λ s. effect b c message_id s h.now.event.now h.now.answer.now h.now.up (option_copied h.now.flight) warnings.now) (λ s. count_mark b c message_id s h.now.event.now h.now.answer.now (option_copied h.now.flight) warnings.now) line (map (λ v. v.serial) versions.now) }
 {
     let mut line = line;
-    for version in versions {
-        let state = line.state(version.serial);
-        let then = state_then(h, b, c, message_id, version.serial, warnings, state);
-        line = line.with_state(version.serial, then);
+    match h.event {
+        Event::Edit(edit) => step_by_edit(&mut line, b, message_id, versions, edit, warnings),
+        Event::Report(other, _, message) if *other == b => {
+            step_by_report(
+                &mut line, c, message_id, versions, message, h.answer, h.flight,
+            );
+        }
+        Event::LinkUp(other) if *other == b && h.up => {
+            step_by_loss(&mut line, c, message_id, versions, h.flight);
+        }
+        Event::LinkDown(other, _) if *other == b => {
+            step_by_loss(&mut line, c, message_id, versions, h.flight);
+        }
+        Event::Retry(other) if *other == b => step_each(&mut line, versions, Effect::Frees, None),
+        _ => {}
     }
     line
 }
