@@ -77,10 +77,14 @@ now_blank h ws b c None e = refl
 now_blank h ws b c (Some w) e =
     stepped_blank (λ s. effect b c w.message_id s h.event h.answer h.up h.flight ws) (λ s. count_mark b c w.message_id s h.event h.answer h.flight ws) (λ s. key_blank b c w.message_id s h.event h.answer h.up h.flight ws e) (serials w)
 
+pub blank_stays : (h : Happens) (ws : List Warning) (b : ℕ) (c : Cell) (o : Option Warning) (line : Line) → leaves_blank h.event h.answer ≡ true → is_blank line ≡ true → line ≡ line_now h ws b c o line
+blank_stays h ws b c o line e blanks =
+    let same : line ≡ blank_line = (blank_decides line).0 blanks in
+    sym (ap (line_now h ws b c o) same ∙ now_blank h ws b c o e ∙ sym same)
+
 pub blank_left : (h : Happens) (ws : List Warning) (b : ℕ) (c : Cell) (o : Option Warning) (line : Line) → leaves_blank h.event h.answer ≡ true → is_blank line ≡ true → true ≡ line_eq (line_now h ws b c o line) line
 blank_left h ws b c o line e blanks =
-    let same : line ≡ blank_line = (blank_decides line).0 blanks in
-    sym ((line_decides (line_now h ws b c o line) line).1 (ap (line_now h ws b c o) same ∙ now_blank h ws b c o e ∙ sym same))
+    sym ((line_decides (line_now h ws b c o line) line).1 (sym (blank_stays h ws b c o line e blanks)))
 
 -- An edit that is neither the end of a BSC nor a Forget leaves every line as it is.
 

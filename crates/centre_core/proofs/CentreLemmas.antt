@@ -11,7 +11,7 @@ use Rattle.mirror.specs.Table.{down_at}
 use Rattle.warning_book.specs.Book as book
 use Rattle.centre_core.specs.Centre.{IsCentre, IsRefused, Leaves, Refuses}
 use Rattle.centre_core.specs.Flights.{up_before}
-use Rattle.centre_core.specs.Following.{Finishes, WasReached, held_past}
+use Rattle.centre_core.specs.Following.{Finishes, WasReached, held_in, held_past}
 use Rattle.centre_core.specs.IsKept.{IsKept, OnlyReadsIn}
 use Rattle.centre_events.specs.Facts.{facts}
 use Rattle.centre_events.specs.Kept.{Gives, IsChecked, is_edit, register_then, areas_then}
@@ -28,7 +28,7 @@ use Rattle.coverage_plan.specs.declared.edit.Edit.{Edit}
 use Rattle.centre_events.specs.declared.entry.Entry.{Entry}
 use Rattle.centre_events.specs.declared.event.Event.{Event}
 use Rattle.centre_events.specs.declared.event.Event.TheVariants as event
-use Rattle.centre_core.specs.declared.held.Held.{Held}
+use Rattle.centre_core.specs.declared.held_lines.HeldLines.{HeldLines}
 use Rattle.centre_core.specs.declared.kept.Kept.{Kept}
 use Rattle.centre_events.specs.declared.refusal.Refusal.{Refusal}
 use Rattle.centre_events.specs.declared.refusal.Refusal.TheVariants.{JournalFull, Memory}
@@ -87,7 +87,7 @@ edit_reach_is past e (Err x) = omega arith
 
 -- After an edit is made, or at once where the event is none.
 
-abbrev pub finishes : (settings : Settings) (past : Past) (desk : ℕ) (e : Event) (a : Answer) (s t : Kept) (place : ℕ) (up : Bool) (spots : List Spot) (held : List Held) → Legal settings past → verdict settings past e ≡ Ok a → IsKept past s → t.register ≡ register_then e s.register → t.areas ≡ areas_then e s.areas → t.book ≡ book_then e s.book → t.links ≡ s.links → t.flights ≡ s.flights → t.tables ≡ s.tables → up ≡ up_before past e → place ≡ position past + 1 → WasReached past e a spots held → Finishes t e a place up spots held
+abbrev pub finishes : (settings : Settings) (past : Past) (desk : ℕ) (e : Event) (a : Answer) (s t : Kept) (place : ℕ) (up : Bool) (spots : List Spot) (held : HeldLines) → Legal settings past → verdict settings past e ≡ Ok a → IsKept past s → t.register ≡ register_then e s.register → t.areas ≡ areas_then e s.areas → t.book ≡ book_then e s.book → t.links ≡ s.links → t.flights ≡ s.flights → t.tables ≡ s.tables → up ≡ up_before past e → place ≡ position past + 1 → WasReached past e a spots held → Finishes t e a place up spots held
 finishes settings past desk e a s t place up spots held legal accepted kept registered selected booked linked flying tables is_up is_place reached = record {
   settings = settings;
   past = past;
@@ -106,11 +106,11 @@ finishes settings past desk e a s t place up spots held legal accepted kept regi
   reached = reached;
 }
 
-abbrev pub finishes_edit : (settings : Settings) (past : Past) (desk : ℕ) (e : Edit) (a : Answer) (s t : Kept) (place : ℕ) (spots : List Spot) (held : List Held) → Legal settings past → verdict settings past (event.Edit e) ≡ Ok a → IsKept past s → t ≡ record s { register = register_after e s.register; areas = areas_after e s.areas; book = book_after e s.book } → place ≡ position past + 1 → WasReached past (event.Edit e) a spots held → Finishes t (event.Edit e) a place false spots held
+abbrev pub finishes_edit : (settings : Settings) (past : Past) (desk : ℕ) (e : Edit) (a : Answer) (s t : Kept) (place : ℕ) (spots : List Spot) (held : HeldLines) → Legal settings past → verdict settings past (event.Edit e) ≡ Ok a → IsKept past s → t ≡ record s { register = register_after e s.register; areas = areas_after e s.areas; book = book_after e s.book } → place ≡ position past + 1 → WasReached past (event.Edit e) a spots held → Finishes t (event.Edit e) a place false spots held
 finishes_edit settings past desk e a s t place spots held legal accepted kept made is_place reached =
     finishes settings past desk (event.Edit e) a s t place false spots held legal accepted kept (ap (λ (k : Kept). k.register) made) (ap (λ (k : Kept). k.areas) made) (ap (λ (k : Kept). k.book) made) (ap (λ (k : Kept). k.links) made) (ap (λ (k : Kept). k.flights) made) (ap (λ (k : Kept). k.tables) made) refl is_place reached
 
-abbrev pub finishes_other : (settings : Settings) (past : Past) (desk : ℕ) (e : Event) (a : Answer) (s : Kept) (place : ℕ) (up : Bool) (spots : List Spot) (held : List Held) → Legal settings past → verdict settings past e ≡ Ok a → IsKept past s → is_edit e ≡ false → up ≡ up_before past e → place ≡ position past + 1 → WasReached past e a spots held → Finishes s e a place up spots held
+abbrev pub finishes_other : (settings : Settings) (past : Past) (desk : ℕ) (e : Event) (a : Answer) (s : Kept) (place : ℕ) (up : Bool) (spots : List Spot) (held : HeldLines) → Legal settings past → verdict settings past e ≡ Ok a → IsKept past s → is_edit e ≡ false → up ≡ up_before past e → place ≡ position past + 1 → WasReached past e a spots held → Finishes s e a place up spots held
 finishes_other settings past desk e a s place up spots held legal accepted kept other is_up is_place reached =
     finishes settings past desk e a s s place up spots held legal accepted kept (sym (register_stays e s.register other)) (sym (areas_stay e s.areas other)) (sym (book_stays e s.book other)) refl refl refl is_up is_place reached
 
@@ -196,7 +196,7 @@ refuses_starved settings journal stale e (Err y) h whole given = inr (whole, inl
 -- The lines that were read or set.
 
 -- no more lines were read than the event bears on
-pub held_counted : (past : Past) (e : Event) (a : Answer) (spots : List Spot) (held : List Held) → WasReached past e a spots held → length held ≤ size (reach_of past e a)
+pub held_counted : (past : Past) (e : Event) (a : Answer) (spots : List Spot) (held : HeldLines) → WasReached past e a spots held → length (held_in held) ≤ size (reach_of past e a)
 held_counted past e a spots held was =
     subst (λ n. n ≤ size (reach_of past e a)) (sym (ap length was.lines ∙ length-map was.keys (held_past past))) was.few
 
@@ -206,11 +206,11 @@ within_four settings journal e old new h = omega (arith, h)
 pub edit_lines : (settings : Settings) (journal : List Entry) (e : Edit) (old new : ℕ) → new ≤ old + size (edit_reach (past_of journal) e) → new ≤ old + 4 * reach (past_of journal) (event.Edit e) (verdict settings (past_of journal) (event.Edit e))
 edit_lines settings journal e old new h = omega (arith, h, edit_reach_is (past_of journal) e (verdict settings (past_of journal) (event.Edit e)))
 
-pub edit_lines_then : (settings : Settings) (journal : List Entry) (e : Edit) (a : Answer) (old mid new : ℕ) (spots : List Spot) (held : List Held) → mid ≤ old + size (edit_reach (past_of journal) e) → new ≤ mid + length held → WasReached (past_of journal) (event.Edit e) a spots held → new ≤ old + 4 * reach (past_of journal) (event.Edit e) (verdict settings (past_of journal) (event.Edit e))
+pub edit_lines_then : (settings : Settings) (journal : List Entry) (e : Edit) (a : Answer) (old mid new : ℕ) (spots : List Spot) (held : HeldLines) → mid ≤ old + size (edit_reach (past_of journal) e) → new ≤ mid + length (held_in held) → WasReached (past_of journal) (event.Edit e) a spots held → new ≤ old + 4 * reach (past_of journal) (event.Edit e) (verdict settings (past_of journal) (event.Edit e))
 edit_lines_then settings journal e a old mid new spots held before now was =
     omega (arith, before, now, held_counted (past_of journal) (event.Edit e) a spots held was, edit_reach_is (past_of journal) e (verdict settings (past_of journal) (event.Edit e)))
 
-pub lines_then : (settings : Settings) (journal : List Entry) (e : Event) (a : Answer) (old mid new : ℕ) (spots : List Spot) (held : List Held) → verdict settings (past_of journal) e ≡ Ok a → mid ≤ old + reach (past_of journal) e (verdict settings (past_of journal) e) → new ≤ mid + length held → WasReached (past_of journal) e a spots held → new ≤ old + 4 * reach (past_of journal) e (verdict settings (past_of journal) e)
+pub lines_then : (settings : Settings) (journal : List Entry) (e : Event) (a : Answer) (old mid new : ℕ) (spots : List Spot) (held : HeldLines) → verdict settings (past_of journal) e ≡ Ok a → mid ≤ old + reach (past_of journal) e (verdict settings (past_of journal) e) → new ≤ mid + length (held_in held) → WasReached (past_of journal) e a spots held → new ≤ old + 4 * reach (past_of journal) e (verdict settings (past_of journal) e)
 lines_then settings journal e a old mid new spots held is before now was =
     omega (arith, before, now, held_counted (past_of journal) e a spots held was, ap (reach (past_of journal) e) is)
 
@@ -227,12 +227,12 @@ pub made_refused : (settings : Settings) (journal : List Entry) (e : Edit) (x : 
 made_refused settings journal e x room given (inl h) = inl (h.0, given)
 made_refused settings journal e x room given (inr h) = inr (room_is settings journal (event.Edit e) room ∙ h)
 
-pub record Enters (t : Kept) (e : Entry) (past : Past) (place : ℕ) (up : Bool) (spots : List Spot) (held : List Held) : Type 0 where
+pub record Enters (t : Kept) (e : Entry) (past : Past) (place : ℕ) (up : Bool) (spots : List Spot) (held : HeldLines) : Type 0 where
   pub known : Finishes t e.event e.answer place up spots held
   pub desk : known.desk ≡ e.desk
   pub is_past : known.past ≡ past
 
-pub edit_enters : (settings : Settings) (journal base : List Entry) (desk : ℕ) (e : Edit) (a : Answer) (entry : Entry) (r s t : Kept) (len : ℕ) (spots : List Spot) (held : List Held) → IsCentre settings journal false r → length journal < settings.limit → base ≡ journal → len ≡ length base → OnlyReadsIn r s → edit_answered (past_of journal) e ≡ Ok a → t ≡ record s { register = register_after e s.register; areas = areas_after e s.areas; book = book_after e s.book } → entry ≡ record { desk = desk; event = event.Edit e; answer = a } → ((b : Answer) → verdict settings (past_of journal) (event.Edit e) ≡ Ok b → WasReached (past_of journal) (event.Edit e) b spots held) → Enters t entry (past_of journal) (len + 1) false spots held
+pub edit_enters : (settings : Settings) (journal base : List Entry) (desk : ℕ) (e : Edit) (a : Answer) (entry : Entry) (r s t : Kept) (len : ℕ) (spots : List Spot) (held : HeldLines) → IsCentre settings journal false r → length journal < settings.limit → base ≡ journal → len ≡ length base → OnlyReadsIn r s → edit_answered (past_of journal) e ≡ Ok a → t ≡ record s { register = register_after e s.register; areas = areas_after e s.areas; book = book_after e s.book } → entry ≡ record { desk = desk; event = event.Edit e; answer = a } → ((b : Answer) → verdict settings (past_of journal) (event.Edit e) ≡ Ok b → WasReached (past_of journal) (event.Edit e) b spots held) → Enters t entry (past_of journal) (len + 1) false spots held
 edit_enters settings journal base desk e a entry r s t len spots held sound room same is reads answered made entered reached =
     subst (λ x. Enters t x (past_of journal) (len + 1) false spots held) (sym entered) (record {
       known = finishes_edit settings (past_of journal) desk e a s t (len + 1) spots held sound.legal (made_is settings journal e a room answered) (reads_kept (past_of journal) r s (sound.whole refl) reads) made (ap (λ n. n + 1) (is ∙ ap length same) ∙ next_place journal) (reached a (made_is settings journal e a room answered));
@@ -240,7 +240,7 @@ edit_enters settings journal base desk e a entry r s t len spots held sound room
       is_past = refl;
     })
 
-pub other_enters : (settings : Settings) (journal base : List Entry) (desk : ℕ) (e : Event) (a : Answer) (entry : Entry) (r s : Kept) (len : ℕ) (up : Bool) (spots : List Spot) (held : List Held) → IsCentre settings journal false r → base ≡ journal → len ≡ length base → OnlyReadsIn r s → verdict settings (past_of journal) e ≡ Ok a → is_edit e ≡ false → entry ≡ record { desk = desk; event = e; answer = a } → ((past : Past) → AreLinksOf past s.links.items → up ≡ up_before past entry.event) → WasReached (past_of journal) e a spots held → Enters s entry (past_of journal) (len + 1) up spots held
+pub other_enters : (settings : Settings) (journal base : List Entry) (desk : ℕ) (e : Event) (a : Answer) (entry : Entry) (r s : Kept) (len : ℕ) (up : Bool) (spots : List Spot) (held : HeldLines) → IsCentre settings journal false r → base ≡ journal → len ≡ length base → OnlyReadsIn r s → verdict settings (past_of journal) e ≡ Ok a → is_edit e ≡ false → entry ≡ record { desk = desk; event = e; answer = a } → ((past : Past) → AreLinksOf past s.links.items → up ≡ up_before past entry.event) → WasReached (past_of journal) e a spots held → Enters s entry (past_of journal) (len + 1) up spots held
 other_enters settings journal base desk e a entry r s len up spots held sound same is reads accepted other entered up_is reached =
     subst (λ x. Enters s x (past_of journal) (len + 1) up spots held) (sym entered) (record {
       known = finishes_other settings (past_of journal) desk e a s (len + 1) up spots held sound.legal accepted kept other (up_is (past_of journal) kept.linked ∙ ap (λ (x : Entry). up_before (past_of journal) x.event) entered) (ap (λ n. n + 1) (is ∙ ap length same) ∙ next_place journal) reached;
@@ -252,7 +252,7 @@ other_enters settings journal base desk e a entry r s len up spots held sound sa
     kept = reads_kept (past_of journal) r s (sound.whole refl) reads
 
 -- what is kept then
-pub kept_entered : (t new : Kept) (e : Entry) (past : Past) (place : ℕ) (up : Bool) (spots : List Spot) (held : List Held) → Enters t e past place up spots held → ((x : Finishes t e.event e.answer place up spots held) → IsKept (After (record { desk = x.desk; event = e.event; answer = e.answer }) x.past) new) → IsKept (After e past) new
+pub kept_entered : (t new : Kept) (e : Entry) (past : Past) (place : ℕ) (up : Bool) (spots : List Spot) (held : HeldLines) → Enters t e past place up spots held → ((x : Finishes t e.event e.answer place up spots held) → IsKept (After (record { desk = x.desk; event = e.event; answer = e.answer }) x.past) new) → IsKept (After e past) new
 kept_entered t new e past place up spots held x f =
     subst (λ p. IsKept (After e p) new) x.is_past (subst (λ d. IsKept (After (record { desk = d; event = e.event; answer = e.answer }) x.known.past) new) x.desk (f x.known))
 

@@ -27,7 +27,7 @@ use Rattle.warning_book.specs.Book.{has_number, number_lt, numbers, warning_of}
 use Rattle.warning_book.specs.declared.warning.Warning.{Warning}
 use Rattle.centre_events.specs.Down.{down_mark}
 use Rattle.centre_events.specs.Facts.{facts_of}
-use Rattle.centre_core.specs.Following.{AreInBook, AsBefore, Happens, bearing, changing_at, held_line, is_idle, keeps_down, leaves_blank, line_now, stays}
+use Rattle.centre_core.specs.Following.{AreInBook, AsBefore, Happens, bearing, changing_at, held_line, is_idle, keeps_down, leaves_blank, line_now, stays, step_of}
 use Rattle.centre_core.specs.IsKept.{IsKept}
 use Rattle.centre_core.specs.Legal.{Legal}
 use Rattle.centre_core.specs.Reach.{IsReach, reach_of}
@@ -38,7 +38,6 @@ use Rattle.centre_events.specs.declared.answer.Answer.{Answer}
 use Rattle.centre_events.specs.declared.answer.Answer.TheVariants.{Listed}
 use Rattle.centre_events.specs.declared.event.Event.{Event}
 use Rattle.centre_events.specs.declared.event.Event.TheVariants as event
-use Rattle.centre_core.specs.declared.held.Held.{Held}
 use Rattle.centre_core.specs.declared.kept.Kept.{Kept}
 use Rattle.centre_core.proofs.BlankLineLemmas.{blank_left}
 use Rattle.centre_core.proofs.ReachedWarningLemmas.{all_listed}
@@ -51,10 +50,10 @@ not_before : (x : ℕ) → ltb x x ≡ false
 not_before x = grind (arith, nat_tests)
 
 -- the line, if it does not pass
-abbrev unless : (ℕ → Bool) → (ℕ → Held) → ℕ → List Held
+abbrev unless : {A : Type 0} → (ℕ → Bool) → (ℕ → A) → ℕ → List A
 unless passes line n = if passes n then [] else line n ∷ []
 
-failing : (passes : ℕ → Bool) (line : ℕ → Held) (ns : List ℕ) → flat_map (unless passes line) ns ≡ map line (filter (λ n. not (passes n)) ns)
+failing : {A : Type 0} (passes : ℕ → Bool) (line : ℕ → A) (ns : List ℕ) → flat_map (unless passes line) ns ≡ map line (filter (λ n. not (passes n)) ns)
 failing passes line [] = refl
 failing passes line (n ∷ ns) = step (passes n) (failing passes line ns)
   where
@@ -62,7 +61,7 @@ failing passes line (n ∷ ns) = step (passes n) (failing passes line ns)
     step true rest = rest
     step false rest = ap (λ ls. line n ∷ ls) rest
 
-pub failing_same : (passes : ℕ → Bool) (line : ℕ → Held) (ns ms : List ℕ) → is_ascending ltb ns ≡ true → is_ascending ltb ms ≡ true → ((n : ℕ) → passes n ≡ false → list_any (nat_eq n) ns ≡ list_any (nat_eq n) ms) → flat_map (unless passes line) ns ≡ flat_map (unless passes line) ms
+pub failing_same : {A : Type 0} (passes : ℕ → Bool) (line : ℕ → A) (ns ms : List ℕ) → is_ascending ltb ns ≡ true → is_ascending ltb ms ≡ true → ((n : ℕ) → passes n ≡ false → list_any (nat_eq n) ns ≡ list_any (nat_eq n) ms) → flat_map (unless passes line) ns ≡ flat_map (unless passes line) ms
 failing_same passes line ns ms first second same =
     failing passes line ns ∙ ap (map line) (same_ascending nat_eq ltb unsigned_Decides not_before ltb_follows (filter fails ns) (filter fails ms) (ascending_filter ltb fails ns first) (ascending_filter ltb fails ms second) each) ∙ sym (failing passes line ms)
   where
@@ -123,7 +122,7 @@ may_change h l st t k blanks down changes = (kept (is_blank line) refl, booked (
 -- so those of the kept lines are those of all
 pub known_same : (h : Happens) (r : register.State) (l : List Area) (st : book.State) (t : Tables) (p : Spot) (ws : List ℕ) → leaves_blank h.event h.answer ≡ true → keeps_down (down_mark p.bsc p.cell h.event h.answer) (down_at t.lines p.bsc p.cell) ≡ true → is_ascending number_lt st.warnings ≡ true → is_ascending ltb ws ≡ true → ((n : ℕ) → list_any (nat_eq n) ws ≡ not (is_blank (line_at t.lines p.bsc p.cell n))) → changing_at h r l st t ws p ≡ changing_at h r l st t (numbers st.warnings) p
 known_same h r l st t p ws blanks down ordered ascend which =
-    failing_same (λ n. stays h l st t (key_at p n)) (λ n. held_line r l st t (key_at p n)) ws (numbers st.warnings) ascend (numbers_ascend st.warnings ordered)
+    failing_same (λ n. stays h l st t (key_at p n)) (λ n. step_of h st (held_line r l st t (key_at p n))) ws (numbers st.warnings) ascend (numbers_ascend st.warnings ordered)
     (λ n changes. let both = may_change h l st t (key_at p n) blanks down changes in which n ∙ ap not both.0 ∙ sym both.1)
 
 -- What is kept of a legal past: each line that isn't blank is of a warning in the book.

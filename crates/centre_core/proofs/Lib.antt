@@ -41,6 +41,7 @@ pub mod DownLemmas
 pub mod JoinLemmas
 pub mod StayLemmas
 pub mod BlankLineLemmas
+pub mod ChangingLemmas
 mod PassedLemmas
 pub mod HoldLemmas
 pub mod ForgottenLemmas

@@ -52,7 +52,7 @@ use Rattle.centre_core.proofs.UniqueLemmas.{verdict_answered}
 
 -- an event that is no edit leaves the register, the areas and the book
 
-book_stays : (desk : ℕ) (e : Event) (a : Answer) (past : Past) → is_edit e ≡ false → book_of (After (record { desk = desk; event = e; answer = a }) past) ≡ book_of past
+pub book_stays : (desk : ℕ) (e : Event) (a : Answer) (past : Past) → is_edit e ≡ false → book_of (After (record { desk = desk; event = e; answer = a }) past) ≡ book_of past
 book_stays desk (event.Edit x) a past h = cc
 book_stays desk other a past h = refl
 

@@ -13,6 +13,7 @@ use Rattle.kept_tables.specs.View.{key_at, key_eq, spot_eq}
 use Rattle.kept_tables.specs.declared.change.Change.{Change}
 use Rattle.kept_tables.specs.declared.line_facts.LineFacts.{LineFacts}
 use Rattle.kept_tables.specs.declared.spot.Spot.{Spot}
+use Rattle.kept_tables.specs.declared.step.Step.{Step}
 use Rattle.mirror.specs.Blank.{is_blank, line_eq}
 use Rattle.mirror.specs.Table.{Table, line_at, down_at}
 use Rattle.mirror.specs.declared.line.Line.{Line}
@@ -26,7 +27,7 @@ use Rattle.centre_events.specs.Facts.{facts}
 use Rattle.centre_core.specs.Flights.{up_before}
 use Rattle.centre_events.specs.InFlight.{in_flight}
 use Rattle.centre_core.specs.IsKept.{IsKept}
-use Rattle.centre_events.specs.Kept.{IsRegisterOf, AreAreasOf, AreFlightsOf, flight_in}
+use Rattle.centre_events.specs.Kept.{IsRegisterOf, AreAreasOf, AreFlightsOf, flight_in, is_edit}
 use Rattle.centre_core.specs.Legal.{Legal}
 use Rattle.centre_events.specs.Past.{Past, After, position, past_of}
 use Rattle.centre_events.specs.Presence.{effect}
@@ -45,6 +46,8 @@ use Rattle.centre_events.specs.declared.event.Event.TheVariants as event
 use Rattle.centre_events.specs.declared.entry.Entry.{Entry}
 use Rattle.centre_events.specs.declared.flight.Flight.{Flight}
 use Rattle.centre_core.specs.declared.held.Held.{Held}
+use Rattle.centre_core.specs.declared.held_lines.HeldLines.{HeldLines}
+use Rattle.centre_core.specs.declared.held_lines.HeldLines.TheVariants as lines
 use Rattle.centre_events.specs.declared.in_flight.InFlight.{InFlight}
 use Rattle.centre_core.specs.declared.kept.Kept.{Kept}
 
@@ -153,25 +156,29 @@ AreInBook st t = (b : ℕ) (c : Cell) (n : ℕ) → is_blank (line_at t.lines b 
 abbrev pub bearing : Event → Answer → book.State → List ℕ → List ℕ
 bearing e a st ns = if leaves_blank e a then book.numbers st.warnings else ns
 
--- the line as it stands, if it does not stay so
-abbrev pub changing_line : Happens → register.State → List Area → book.State → Tables → LineKey → List Held
-changing_line h r l st t k = if stays h l st t k then [] else held_line r l st t k ∷ []
+-- the step that what happens makes of a line that was held, where it is no edit
+abbrev pub step_of : Happens → book.State → Held → Step
+step_of h st x = record { key = x.key; before = x.before; line = line_now h st.warnings x.key.bsc x.key.cell (warning_of st x.key.warning) x.before.line; down = unwrap_or (down_mark x.key.bsc x.key.cell h.event h.answer) x.before.down }
+
+-- the line that a step is of, as it stood
+abbrev pub held_of : Step → Held
+held_of s = record { key = s.key; before = s.before }
+
+-- the step of the line, if it does not stay as it stands
+abbrev pub changing_line : Happens → register.State → List Area → book.State → Tables → LineKey → List Step
+changing_line h r l st t k = if stays h l st t k then [] else step_of h st (held_line r l st t k) ∷ []
 
 -- those of each of the warnings at the spot
-abbrev pub changing_at : Happens → register.State → List Area → book.State → Tables → List ℕ → Spot → List Held
+abbrev pub changing_at : Happens → register.State → List Area → book.State → Tables → List ℕ → Spot → List Step
 changing_at h r l st t ns p = flat_map (λ n. changing_line h r l st t (key_at p n)) ns
 
 -- at each of the spots
-abbrev pub changing_lines : Happens → register.State → List Area → book.State → Tables → List Spot → List ℕ → List Held
+abbrev pub changing_lines : Happens → register.State → List Area → book.State → Tables → List Spot → List ℕ → List Step
 changing_lines h r l st t ps ns = flat_map (changing_at h r l st t ns) ps
 
 -- the change of the line
 abbrev pub change_of : Happens → register.State → List Area → book.State → Tables → Held → Change
 change_of h r l st t x = record { key = x.key; before = x.before; after = facts_then h r l st t x.key x.before.line }
-
--- the change of the line where nothing of it changes but the line itself, and whether its cell is down
-abbrev pub plain_change : Happens → book.State → Tables → Held → Change
-plain_change h st t x = record { key = x.key; before = x.before; after = record x.before { line = line_now h st.warnings x.key.bsc x.key.cell (warning_of st x.key.warning) x.before.line; down = down_at t.lines x.key.bsc x.key.cell } }
 
 -- the change of the line where the areas that cover its cell are those that did
 abbrev pub covered_change : Happens → register.State → book.State → Tables → Held → Change
@@ -265,18 +272,33 @@ pub record Bears (r : register.State) (l : List Area) (st : book.State) (t : Tab
   pub once : each_once key_eq keys ≡ true
   pub rest : (k : LineKey) → list_any (key_eq k) keys ≡ false → SamePart (facts past k) (facts (After (entry_of desk h) past) k)
 
--- the lines that an accepted event changes were read before it; each other line has the same part after it, and each cell
--- away from the spots stays down, or up
-pub record WasReached (past : Past) (e : Event) (a : Answer) (spots : List Spot) (held : List Held) : Type 0 where
+-- the lines as they stood
+abbrev pub held_in : HeldLines → List Held
+held_in (lines.Whole held) = held.items
+held_in (lines.Steps steps) = map held_of steps.items
+
+-- the steps, if there are any, are those that what happens makes of their lines, which is no edit then
+abbrev pub AreSteps : Happens → book.State → HeldLines → Type 0
+AreSteps h st (lines.Whole held) = Unit {0}
+AreSteps h st (lines.Steps steps) = (is_edit h.event ≡ false) × (steps.items ≡ map (step_of h st) (map held_of steps.items))
+
+-- the event with its answer, as the past before it tells what happens
+abbrev pub happens_after : Past → Event → Answer → Happens
+happens_after past e a = record { event = e; answer = a; up = up_before past e; flight = flight_before past e }
+
+-- the lines that an accepted event changes were read before it, with the steps that it makes of them where it is no edit;
+-- each other line has the same part after it, and each cell away from the spots stays down, or up
+pub record WasReached (past : Past) (e : Event) (a : Answer) (spots : List Spot) (held : HeldLines) : Type 0 where
   pub away : (settings : Settings) → Legal settings past → LeavesDown past e a spots
   pub keys : List LineKey
-  pub lines : held ≡ map (held_past past) keys
+  pub lines : held_in held ≡ map (held_past past) keys
+  pub steps : AreSteps (happens_after past e a) (book_of past) held
   pub once : each_once key_eq keys ≡ true
   pub few : length keys ≤ size (reach_of past e a)
   pub rest : (settings : Settings) (desk : ℕ) → Legal settings past → verdict settings past e ≡ Ok a → (k : LineKey) → list_any (key_eq k) keys ≡ false → SamePart (facts past k) (facts (After (record { desk = desk; event = e; answer = a }) past) k)
 
 -- what is known of what is kept where an accepted event has been made, but for the lines, the links and the flights
-pub record Finishes (s : Kept) (e : Event) (a : Answer) (place : ℕ) (up : Bool) (spots : List Spot) (held : List Held) : Type 0 where
+pub record Finishes (s : Kept) (e : Event) (a : Answer) (place : ℕ) (up : Bool) (spots : List Spot) (held : HeldLines) : Type 0 where
   pub settings : Settings
   pub past : Past
   pub desk : ℕ

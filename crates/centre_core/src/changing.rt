@@ -1,6 +1,6 @@
 //! The lines on which an event bears that is no edit, read before it.
 
-ghost use Rattle.std.specs.Prelude.{◌≡◌, ◌≤◌, ◌+◌, ◌*◌, ◌++◌, ◌&&◌, ◌||◌, true, length, IfOk, OnOk};
+ghost use Rattle.std.specs.Prelude.{◌≡◌, ◌≤◌, ◌+◌, ◌*◌, ◌++◌, ◌&&◌, ◌||◌, true, length, unwrap_or, IfOk, OnOk};
 ghost use Rattle.std.specs.Option.{option_copied};
 ghost use Rattle.kept_tables.specs.Tables.{Tables};
 ghost use Rattle.kept_tables.specs.View.{key_of};
@@ -13,8 +13,8 @@ ghost use Rattle.centre_core.specs.Found.{AreFound};
 use crate::area_coverages::{AreaCoverages, coverages_for};
 use crate::facts::facts_from;
 use crate::following::line_now;
-use crate::held::Held;
-use crate::holding::{held_of, is_idle, key_of, last_held};
+use crate::holding::{is_idle, key_of};
+use crate::shared_lists::SharedLists;
 use areas::Areas;
 use cell_register::{BscId, Register};
 use centre_events::answer::Answer;
@@ -22,7 +22,7 @@ use centre_events::effects::down_mark;
 use centre_events::event::Event;
 use centre_events::stepping::Happening;
 use common::Cell;
-use kept_tables::{KeptTables, Spot};
+use kept_tables::{KeptTables, LineFacts, Spot, Step};
 use mirror::Line;
 use std::alloc::{AllocError, Global};
 use warning_book::{Book, Warning, WarningId};
@@ -48,45 +48,66 @@ fn leaves_blank(h: &Happening<'_, '_>) -> bool
     }
 }
 
-/// Whether what happens leaves the line as it is.
-#[tactic(auto, using(crate::proofs::BlankLineLemmas::blank_left))]
-fn is_left(
+/// The line after what happens. A blank line is left at once where what happens leaves such a line blank.
+#[tactic(auto, using(crate::proofs::BlankLineLemmas::blank_stays))]
+fn line_then(
     h: &Happening<'_, '_>,
     book: &Book,
     b: BscId,
     c: Cell,
     warning: Option<&Warning>,
     line: Line,
-) -> bool
-    ensures { result ≡ line_eq (line_now (record { event = h.now.event.now; answer = h.now.answer.now; up = h.now.up; flight = option_copied h.now.flight }) book.now.warnings b c (option_copied warning.entry) line) line }
+) -> Line
+    ensures { result ≡ line_now (record { event = h.now.event.now; answer = h.now.answer.now; up = h.now.up; flight = option_copied h.now.flight }) book.now.warnings b c (option_copied warning.entry) line }
 {
     if leaves_blank(h) && line.is_blank() {
-        return true;
+        return line;
     }
-    line_now(h, book.as_slice(), b, c, warning, line) == line
+    line_now(h, book.as_slice(), b, c, warning, line)
 }
 
-/// Whether what happens leaves the line as it is, and the cell down, or up, as it was; an idle line stays so in any case.
+/// Whether what happens leaves the line, which becomes that one, as it is, and the cell down, or up, as it was; an idle line
+/// stays so in any case.
 fn stays(
     h: &Happening<'_, '_>,
     areas: &Areas,
-    book: &Book,
     b: BscId,
     c: Cell,
     warning: Option<&Warning>,
-    line: Line,
+    line: &Line,
+    then: &Line,
     down: bool,
 ) -> bool
-    ensures { result ≡ (line_eq (line_now (record { event = h.now.event.now; answer = h.now.answer.now; up = h.now.up; flight = option_copied h.now.flight }) book.now.warnings b c (option_copied warning.entry) line) line && (keeps_down (down_mark b c h.now.event.now h.now.answer.now) down || is_idle areas.now (option_copied warning.entry) c line)) }
+    ensures { result ≡ (line_eq then.now line.now && (keeps_down (down_mark b c h.now.event.now h.now.answer.now) down || is_idle areas.now (option_copied warning.entry) c line.now)) }
 {
-    is_left(h, book, b, c, warning, line)
-        && (keeps_down(h, b, c, down) || is_idle(areas, warning, c, &line))
+    *then == *line && (keeps_down(h, b, c, down) || is_idle(areas, warning, c, line))
 }
 
-/// Reads a line, and holds it if what happens does not leave it as it is.
+/// The step from how a line stood to the line after what happens.
+fn step_of(
+    h: &Happening<'_, '_>,
+    b: BscId,
+    c: Cell,
+    n: WarningId,
+    before: LineFacts,
+    line: Line,
+) -> Step
+    ensures { result ≡ record { key = key_of b c n; before = before; line = line; down = unwrap_or (down_mark b c h.now.event.now h.now.answer.now) before.down } }
+{
+    let down = down_mark(b, c, h.event, h.answer).unwrap_or(before.down);
+    Step {
+        key: key_of(b, c, n),
+        before,
+        line,
+        down,
+    }
+}
+
+/// Reads a line, and holds the step that what happens makes of it, if it does not leave it as it is.
 #[tactic(auto, using(crate::proofs::FollowLemmas::facts_as, crate::proofs::FollowLemmas::as_read))]
 fn hold_changing_line(
-    out: &mut Vec<Held>,
+    out: &mut Vec<Step>,
+    lists: &mut SharedLists,
     alloc: Global,
     h: &Happening<'_, '_>,
     register: &Register,
@@ -106,29 +127,23 @@ fn hold_changing_line(
     let line = tables.read_line(key_of(b, c, n));
     let down = tables.is_down(b, c);
     let warning = book.find(n);
-    if stays(h, areas, book, b, c, warning, line, down) {
+    let then = line_then(h, book, b, c, warning, line);
+    if stays(h, areas, b, c, warning, &line, &then, down) {
         return Ok(());
     }
     let coverages = coverages_for(found, n);
     let before = facts_from(
-        alloc,
-        register,
-        areas,
-        down,
-        b,
-        c,
-        line,
-        warning,
-        coverages,
-        last_held(out),
+        alloc, register, areas, down, b, c, line, warning, coverages, lists,
     )?;
-    out.push(held_of(b, c, n, before))?;
+    out.push(step_of(h, b, c, n, before, then))?;
     Ok(())
 }
 
-/// Reads the lines of the warnings in the cell at the BSC, and holds those that what happens does not leave as they are.
+/// Reads the lines of the warnings in the cell at the BSC, and holds the steps of those that what happens does not leave as
+/// they are.
 fn hold_changing_spot(
-    out: &mut Vec<Held>,
+    out: &mut Vec<Step>,
+    lists: &mut SharedLists,
     alloc: Global,
     h: &Happening<'_, '_>,
     register: &Register,
@@ -147,7 +162,7 @@ fn hold_changing_spot(
 {
     for warning in warnings {
         hold_changing_line(
-            out, alloc, h, register, areas, book, found, tables, b, c, *warning,
+            out, lists, alloc, h, register, areas, book, found, tables, b, c, *warning,
         )?;
     }
     Ok(())
@@ -157,7 +172,8 @@ fn hold_changing_spot(
 /// as they are. It leaves a blank line blank, so that only the lines that are kept are read where it leaves the cell down,
 /// or up, as it was. Else those of all warnings are.
 fn hold_indicated_spot(
-    out: &mut Vec<Held>,
+    out: &mut Vec<Step>,
+    lists: &mut SharedLists,
     alloc: Global,
     h: &Happening<'_, '_>,
     register: &Register,
@@ -179,14 +195,14 @@ fn hold_indicated_spot(
     book.tell_soundness();
     if !keeps_down(h, b, c, tables.is_down(b, c)) {
         hold_changing_spot(
-            out, alloc, h, register, areas, book, found, tables, b, c, all,
+            out, lists, alloc, h, register, areas, book, found, tables, b, c, all,
         )?;
         return Ok(());
     }
     let known = tables.lines().warnings_at(b, c)?;
     let known = known.as_slice();
     hold_changing_spot(
-        out, alloc, h, register, areas, book, found, tables, b, c, known,
+        out, lists, alloc, h, register, areas, book, found, tables, b, c, known,
     )?;
     Ok(())
 }
@@ -202,7 +218,7 @@ fn hold_indicated(
     found: &[AreaCoverages<'_>],
     tables: &mut KeptTables,
     spots: &[Spot],
-) -> Result<Vec<Held>, AllocError>
+) -> Result<Vec<Step>, AllocError>
     requires blank { leaves_blank h.now.event.now h.now.answer.now ≡ true }
     requires found { AreFound areas.now book.now found.now }
     ensures held { (t : Tables) → AsBefore t tables.old → IfOk result (λ v. v.items ≡ changing_lines (record { event = h.now.event.now; answer = h.now.answer.now; up = h.now.up; flight = option_copied h.now.flight }) register.now areas.now book.now t spots.now (numbers book.now.warnings)) }
@@ -211,9 +227,11 @@ fn hold_indicated(
 {
     let all = book.warnings()?;
     let mut out = Vec::new(alloc);
+    let mut lists = SharedLists::new(alloc);
     for spot in spots {
         hold_indicated_spot(
             &mut out,
+            &mut lists,
             alloc,
             h,
             register,
@@ -241,16 +259,18 @@ fn hold_named(
     tables: &mut KeptTables,
     spots: &[Spot],
     warnings: &[WarningId],
-) -> Result<Vec<Held>, AllocError>
+) -> Result<Vec<Step>, AllocError>
     requires found { AreFound areas.now book.now found.now }
     ensures held { (t : Tables) → AsBefore t tables.old → IfOk result (λ v. v.items ≡ changing_lines (record { event = h.now.event.now; answer = h.now.answer.now; up = h.now.up; flight = option_copied h.now.flight }) register.now areas.now book.now t spots.now warnings.now) }
     ensures kept { (t : Tables) → AsBefore t tables.old → AsBefore t tables.new }
     ensures meter { tables.new.lines.meter ≤ tables.old.lines.meter + length spots.now * length warnings.now }
 {
     let mut out = Vec::new(alloc);
+    let mut lists = SharedLists::new(alloc);
     for spot in spots {
         hold_changing_spot(
-            &mut out, alloc, h, register, areas, book, found, tables, spot.bsc, spot.cell, warnings,
+            &mut out, &mut lists, alloc, h, register, areas, book, found, tables, spot.bsc,
+            spot.cell, warnings,
         )?;
     }
     Ok(out)
@@ -268,7 +288,7 @@ pub(crate) fn hold_changing(
     tables: &mut KeptTables,
     spots: &[Spot],
     warnings: &[WarningId],
-) -> Result<Vec<Held>, AllocError>
+) -> Result<Vec<Step>, AllocError>
     requires found { AreFound areas.now book.now found.now }
     ensures held { (t : Tables) → AsBefore t tables.old → IfOk result (λ v. v.items ≡ changing_lines (record { event = h.now.event.now; answer = h.now.answer.now; up = h.now.up; flight = option_copied h.now.flight }) register.now areas.now book.now t spots.now (bearing h.now.event.now h.now.answer.now book.now warnings.now)) }
     ensures kept { (t : Tables) → AsBefore t tables.old → AsBefore t tables.new }

@@ -2,7 +2,7 @@
 
 ghost use Rattle.std.specs.Prelude.{◌≡◌, ◌≤◌, ◌+◌, ◌++◌, ◌∷◌, [], length, true, IfOk, IsOk, OnOk, OnErr};
 ghost use Rattle.centre_core.specs.Flights.{up_before};
-ghost use Rattle.centre_core.specs.Following.{Finishes};
+ghost use Rattle.centre_core.specs.Following.{Finishes, held_in};
 ghost use Rattle.centre_core.specs.IsKept.{IsKept};
 ghost use Rattle.centre_events.specs.Kept.{Gives, is_plain};
 ghost use Rattle.coverage_plan.specs.Edited.{register_after, areas_after, book_after};
@@ -81,12 +81,12 @@ pub(crate) fn enter(
     entry: Entry,
 ) -> Result<(), AllocError>
     requires room { 1 ≤ journal.old.room }
-    requires finishes { Finishes kept.old entry.event entry.answer place up reached.spots.items reached.held.items }
+    requires finishes { Finishes kept.old entry.event entry.answer place up reached.spots.items reached.lines }
     ensures entry { OnOk result (journal.new.entries ≡ journal.old.entries ++ entry ∷ []) }
     ensures entries_stay { OnErr result (journal.new.entries ≡ journal.old.entries) }
     ensures unread { journal.new.reads ≡ journal.old.reads }
-    ensures kept { OnOk result ((x : Finishes kept.old entry.event entry.answer place up reached.spots.items reached.held.items) → IsKept (After (record { desk = x.desk; event = entry.event; answer = entry.answer }) x.past) kept.new) }
-    ensures meter { kept.new.tables.lines.meter ≤ kept.old.tables.lines.meter + length reached.held.items }
+    ensures kept { OnOk result ((x : Finishes kept.old entry.event entry.answer place up reached.spots.items reached.lines) → IsKept (After (record { desk = x.desk; event = entry.event; answer = entry.answer }) x.past) kept.new) }
+    ensures meter { kept.new.tables.lines.meter ≤ kept.old.tables.lines.meter + length (held_in reached.lines) }
     ensures least { kept.old.tables.lines.meter ≤ kept.new.tables.lines.meter }
 {
     finish(alloc, kept, &entry.event, &entry.answer, place, up, reached)?;

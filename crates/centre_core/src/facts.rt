@@ -11,64 +11,24 @@ ghost use Rattle.centre_core.specs.Found.{AreSelected, IsFound};
 ghost use Rattle.centre_core.specs.State.{covered_facts, facts_from};
 ghost use Rattle.centre_events.specs.Warnings.{serials};
 
+use crate::shared_lists::SharedLists;
 use areas::{Areas, Coverage};
 use cell_register::{BscId, Register};
 use common::{Cell, Name};
-use kept_tables::{AreaNames, LineFacts, Serials};
+use kept_tables::{AreaNames, LineFacts};
 use mirror::Line;
 use serials::Serial;
 use std::alloc::{AllocError, Global};
-use warning_book::{Version, Warning};
-
-/// Whether these are the serial numbers of the versions.
-fn are_serials_of(versions: &[Version], numbers: &[Serial]) -> bool
-    ensures { result ≡ true → numbers.now ≡ map (λ v. v.serial) versions.now }
-{
-    if versions.len() != numbers.len() {
-        return false;
-    }
-    for (i, version) in versions.iter().enumerate() {
-        if numbers[i] != version.serial {
-            return false;
-        }
-    }
-    true
-}
-
-/// The serial numbers of the versions, in memory of their own.
-fn own_serials_of(alloc: Global, versions: &[Version]) -> Result<Serials, AllocError>
-    ensures { IfOk result (λ s. s ≡ map (λ v. v.serial) versions.now) }
-{
-    let mut numbers = Vec::new(alloc);
-    for version in versions {
-        numbers.push(version.serial)?;
-    }
-    Serials::from_vec(alloc, numbers)
-}
-
-/// Lines that were read before, which may have the same versions, or be covered by the same areas, as one that is read now.
-#[derive(Clone, Copy)]
-pub(crate) struct Alike<'a> {
-    pub(crate) versions: Option<&'a LineFacts>,
-    pub(crate) areas: Option<&'a LineFacts>,
-}
-
-/// The serial numbers of the versions. They are shared with those of a line that is alike, where they are the same.
-fn serials_of(
-    alloc: Global,
-    versions: &[Version],
-    like: Option<&LineFacts>,
-) -> Result<Serials, AllocError>
-    ensures { IfOk result (λ s. s ≡ map (λ v. v.serial) versions.now) }
-{
-    match like {
-        Some(like) if are_serials_of(versions, like.versions.as_slice()) => like.versions.shared(),
-        _ => own_serials_of(alloc, versions),
-    }
-}
+use warning_book::Warning;
 
 /// Whether the area covers the cell, by what was found of it, if anything was.
-fn covers_at(areas: &Areas, name: &Name, coverages: &[Coverage<'_>], i: usize, c: Cell) -> bool
+pub(crate) fn covers_at(
+    areas: &Areas,
+    name: &Name,
+    coverages: &[Coverage<'_>],
+    i: usize,
+    c: Cell,
+) -> bool
     requires { i < length coverages.now → (x : List Selector) → x ≡ slice_index_or coverages.now i x → x ≡ selectors_of areas.now name.now }
     ensures { result ≡ covers areas.now name.now c }
 {
@@ -76,69 +36,6 @@ fn covers_at(areas: &Areas, name: &Name, coverages: &[Coverage<'_>], i: usize, c
         return coverages[i].covers(c);
     }
     areas.covers(name, c)
-}
-
-/// Whether these are those of the areas that cover the cell.
-fn are_covering(
-    areas: &Areas,
-    names: &[Name],
-    coverages: &[Coverage<'_>],
-    c: Cell,
-    others: &[Name],
-) -> bool
-    requires { AreSelected areas.now names.now coverages.now }
-    ensures { result ≡ true → others.now ≡ filter (λ a. covers areas.now a c) names.now }
-{
-    let mut count = 0;
-    for (i, name) in names.iter().enumerate() {
-        if covers_at(areas, name, coverages, i, c) {
-            if count >= others.len() || others[count] != *name {
-                return false;
-            }
-            count += 1;
-        }
-    }
-    count == others.len()
-}
-
-/// Those of the areas that cover the cell, in memory of their own.
-fn own_covering(
-    alloc: Global,
-    areas: &Areas,
-    names: &[Name],
-    coverages: &[Coverage<'_>],
-    c: Cell,
-) -> Result<AreaNames, AllocError>
-    requires { AreSelected areas.now names.now coverages.now }
-    ensures { IfOk result (λ n. n ≡ filter (λ a. covers areas.now a c) names.now) }
-{
-    let mut out = Vec::new(alloc);
-    for (i, name) in names.iter().enumerate() {
-        if covers_at(areas, name, coverages, i, c) {
-            out.push(name.copied(alloc)?)?;
-        }
-    }
-    AreaNames::from_vec(alloc, out)
-}
-
-/// Those of the areas that cover the cell. They are shared with those of a line that is alike, where they are the same.
-fn covering(
-    alloc: Global,
-    areas: &Areas,
-    names: &[Name],
-    coverages: &[Coverage<'_>],
-    c: Cell,
-    like: Option<&LineFacts>,
-) -> Result<AreaNames, AllocError>
-    requires { AreSelected areas.now names.now coverages.now }
-    ensures { IfOk result (λ n. n ≡ filter (λ a. covers areas.now a c) names.now) }
-{
-    match like {
-        Some(like) if are_covering(areas, names, coverages, c, like.areas.as_slice()) => {
-            like.areas.shared()
-        }
-        _ => own_covering(alloc, areas, names, coverages, c),
-    }
 }
 
 /// Whether one of the areas covers the cell.
@@ -180,12 +77,12 @@ pub(crate) fn covered_facts(
     line: Line,
     covering: AreaNames,
     w: &Warning,
-    like: Option<&LineFacts>,
+    lists: &mut SharedLists,
 ) -> Result<LineFacts, AllocError>
     ensures { IfOk result (λ f. f ≡ covered_facts register.now down b c line covering (Some w.now)) }
 {
     let here = is_here(register, b, c);
-    let versions = serials_of(alloc, w.versions(), like)?;
+    let versions = lists.serials_of(alloc, w.versions())?;
     let wanted = wanted(w, here, !covering.as_slice().is_empty());
     Ok(LineFacts {
         line,
@@ -210,28 +107,18 @@ fn facts_of(
     line: Line,
     w: &Warning,
     coverages: &[Coverage<'_>],
-    alike: Alike<'_>,
+    lists: &mut SharedLists,
 ) -> Result<LineFacts, AllocError>
     requires { AreSelected areas.now w.now.areas coverages.now }
     ensures { IfOk result (λ f. f ≡ facts_from register.now areas.now down b c line (Some w.now)) }
 {
-    let covering = covering(alloc, areas, w.areas(), coverages, c, alike.areas)?;
-    let facts = covered_facts(
-        alloc,
-        register,
-        down,
-        b,
-        c,
-        line,
-        covering,
-        w,
-        alike.versions,
-    )?;
+    let covering = lists.covering(alloc, areas, w.areas(), coverages, c)?;
+    let facts = covered_facts(alloc, register, down, b, c, line, covering, w, lists)?;
     Ok(facts)
 }
 
 /// What is read of the line of a warning, if the book has it, in a cell that is down or not. What its areas cover was
-/// found before, or is looked for. Its lists are shared with those of lines that are alike, where they are the same.
+/// found before, or is looked for. Its lists are shared with those of other lines, where they are the same.
 pub(crate) fn facts_from(
     alloc: Global,
     register: &Register,
@@ -242,14 +129,14 @@ pub(crate) fn facts_from(
     line: Line,
     warning: Option<&Warning>,
     coverages: &[Coverage<'_>],
-    alike: Alike<'_>,
+    lists: &mut SharedLists,
 ) -> Result<LineFacts, AllocError>
     requires { IsFound areas.now (option_copied warning) coverages.now }
     ensures { IfOk result (λ f. f ≡ facts_from register.now areas.now down b c line (option_copied warning.entry)) }
 {
     match warning {
         Some(w) => facts_of(
-            alloc, register, areas, down, b, c, line, w, coverages, alike,
+            alloc, register, areas, down, b, c, line, w, coverages, lists,
         ),
         None => Ok(LineFacts::none(down, is_here(register, b, c))),
     }

@@ -1,7 +1,7 @@
 //! What an accepted event makes of what is kept, once an edit has been made: lines, links and what is in flight.
 
 ghost use Rattle.std.specs.Prelude.{◌≡◌, ◌≤◌, ◌+◌, length, OnOk};
-ghost use Rattle.centre_core.specs.Following.{Finishes};
+ghost use Rattle.centre_core.specs.Following.{Finishes, held_in};
 ghost use Rattle.centre_core.specs.IsKept.{IsKept};
 ghost use Rattle.centre_events.specs.Past.{After};
 
@@ -26,15 +26,15 @@ pub(crate) fn finish<'x>(
     up: bool,
     reached: Reached,
 ) -> Result<(), AllocError>
-    requires { Finishes kept.old event.now answer.now place up reached.spots.items reached.held.items }
-    ensures kept { OnOk result ((x : Finishes kept.old event.now answer.now place up reached.spots.items reached.held.items) → IsKept (After (record { desk = x.desk; event = event.now; answer = answer.now }) x.past) kept.new) }
-    ensures meter { kept.new.tables.lines.meter ≤ kept.old.tables.lines.meter + length reached.held.items }
+    requires { Finishes kept.old event.now answer.now place up reached.spots.items reached.lines }
+    ensures kept { OnOk result ((x : Finishes kept.old event.now answer.now place up reached.spots.items reached.lines) → IsKept (After (record { desk = x.desk; event = event.now; answer = answer.now }) x.past) kept.new) }
+    ensures meter { kept.new.tables.lines.meter ≤ kept.old.tables.lines.meter + length (held_in reached.lines) }
     ensures least { kept.old.tables.lines.meter ≤ kept.new.tables.lines.meter }
 {
     let Reached {
         spots,
         warnings,
-        held,
+        lines,
     } = reached;
     let h = Happening {
         event,
@@ -51,7 +51,7 @@ pub(crate) fn finish<'x>(
         &mut kept.tables,
         spots.as_slice(),
         warnings.as_slice(),
-        held,
+        lines,
     )?;
     links::follow(&mut kept.links, event, place)?;
     flights::follow(alloc, &mut kept.flights, event, answer, up)?;

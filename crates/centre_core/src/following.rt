@@ -6,17 +6,18 @@ ghost use Rattle.kept_tables.specs.Consistent.{Consistent};
 ghost use Rattle.mirror.specs.Table.{down_at};
 ghost use Rattle.centre_events.specs.Down.{is_down};
 ghost use Rattle.centre_events.specs.Facts.{facts};
-ghost use Rattle.centre_events.specs.Kept.{is_edit};
 ghost use Rattle.centre_events.specs.Past.{After};
 ghost use Rattle.kept_tables.specs.View.{key_of};
 ghost use Rattle.std.specs.Option.{option_copied};
-ghost use Rattle.centre_core.specs.Following.{AreCovered, AreRead, Bears, entry_of, line_now, facts_then, change_of, covered_change, leaves_areas_then, leaves_lines, plain_change};
+ghost use Rattle.centre_core.specs.Following.{AreCovered, AreSteps, Bears, entry_of, held_in, line_now, facts_then, change_of, covered_change, leaves_areas_then, leaves_lines};
 ghost use Rattle.centre_core.specs.Found.{AreFound};
 
 use crate::area_coverages::{AreaCoverages, area_coverages, coverages_for};
 use crate::downs::mark_downs;
-use crate::facts::{Alike, covered_facts, facts_from, is_here};
+use crate::facts::{covered_facts, facts_from, is_here};
 use crate::held::Held;
+use crate::held_lines::HeldLines;
+use crate::shared_lists::SharedLists;
 use areas::Areas;
 use cell_register::{BscId, Register};
 use centre_events::event::Event;
@@ -72,7 +73,7 @@ fn facts_then(
     c: Cell,
     n: WarningId,
     line: Line,
-    alike: Alike<'_>,
+    lists: &mut SharedLists,
 ) -> Result<LineFacts, AllocError>
     requires found { AreFound areas.now book.now found.now }
     ensures { IfOk result (λ f. f ≡ facts_then (record { event = h.now.event.now; answer = h.now.answer.now; up = h.now.up; flight = option_copied h.now.flight }) register.now areas.now book.now tables.now (key_of b c n) line) }
@@ -82,22 +83,8 @@ fn facts_then(
     let down = tables.is_down(b, c);
     let coverages = coverages_for(found, n);
     facts_from(
-        alloc, register, areas, down, b, c, now, warning, coverages, alike,
+        alloc, register, areas, down, b, c, now, warning, coverages, lists,
     )
-}
-
-/// The lines with which a line may share its lists after an edit: the line that was changed last, and for the areas itself
-/// before the edit, if an area covered its cell then.
-fn alike_then<'a>(before: &'a LineFacts, done: &'a [Change]) -> Alike<'a> {
-    let last = done.last().map(|change| &change.after);
-    let areas = match before.areas.as_slice().is_empty() {
-        true => last,
-        false => Some(before),
-    };
-    Alike {
-        versions: last,
-        areas,
-    }
 }
 
 /// What is read of a line after what happens, from how it stood.
@@ -110,7 +97,7 @@ fn then_of(
     found: &[AreaCoverages<'_>],
     tables: &KeptTables,
     held: &Held,
-    done: &[Change],
+    lists: &mut SharedLists,
 ) -> Result<LineFacts, AllocError>
     requires found { AreFound areas.now book.now found.now }
     ensures { IfOk result (λ f. f ≡ facts_then (record { event = h.now.event.now; answer = h.now.answer.now; up = h.now.up; flight = option_copied h.now.flight }) register.now areas.now book.now tables.now held.now.key held.now.before.line) }
@@ -128,7 +115,7 @@ fn then_of(
         key.cell,
         key.warning,
         before.line,
-        alike_then(before, done),
+        lists,
     )
 }
 
@@ -150,12 +137,12 @@ fn change_of(
     found: &[AreaCoverages<'_>],
     tables: &KeptTables,
     held: Held,
-    done: &[Change],
+    lists: &mut SharedLists,
 ) -> Result<Change, AllocError>
     requires found { AreFound areas.now book.now found.now }
     ensures { IfOk result (λ x. x ≡ change_of (record { event = h.now.event.now; answer = h.now.answer.now; up = h.now.up; flight = option_copied h.now.flight }) register.now areas.now book.now tables.now held) }
 {
-    let after = then_of(alloc, h, register, areas, book, found, tables, &held, done)?;
+    let after = then_of(alloc, h, register, areas, book, found, tables, &held, lists)?;
     Ok(changed(held, after))
 }
 
@@ -174,54 +161,12 @@ fn changes_of_all(
     ensures { IfOk result (λ v. v.items ≡ map (change_of (record { event = h.now.event.now; answer = h.now.answer.now; up = h.now.up; flight = option_copied h.now.flight }) register.now areas.now book.now tables.now) held.items) }
 {
     let mut out = Vec::with_capacity(alloc, held.len())?;
+    let mut lists = SharedLists::new(alloc);
     for line in held {
         let change = change_of(
-            alloc,
-            h,
-            register,
-            areas,
-            book,
-            found,
-            tables,
-            line,
-            out.as_slice(),
+            alloc, h, register, areas, book, found, tables, line, &mut lists,
         )?;
         out.push(change)?;
-    }
-    Ok(out)
-}
-
-/// What is read of a line after what happens that is no edit: of what was read of it, the line alone can change, and whether
-/// its cell is down.
-fn plain_then(
-    h: &Happening<'_, '_>,
-    book: &Book,
-    tables: &KeptTables,
-    held: &Held,
-) -> Result<LineFacts, AllocError>
-    ensures { IfOk result (λ f. f ≡ (plain_change (record { event = h.now.event.now; answer = h.now.answer.now; up = h.now.up; flight = option_copied h.now.flight }) book.now tables.now held.now).after) }
-{
-    let Held { key, before } = held;
-    let LineKey { bsc, cell, warning } = *key;
-    let warning = book.find(warning);
-    let line = line_now(h, book.as_slice(), bsc, cell, warning, before.line);
-    before.with(line, tables.is_down(bsc, cell))
-}
-
-/// The changes of the lines by what happens that is no edit.
-fn plain_changes(
-    alloc: Global,
-    h: &Happening<'_, '_>,
-    book: &Book,
-    tables: &KeptTables,
-    held: Vec<Held>,
-) -> Result<Vec<Change>, AllocError>
-    ensures { IfOk result (λ v. v.items ≡ map (plain_change (record { event = h.now.event.now; answer = h.now.answer.now; up = h.now.up; flight = option_copied h.now.flight }) book.now tables.now) held.items) }
-{
-    let mut out = Vec::with_capacity(alloc, held.len())?;
-    for line in held {
-        let after = plain_then(h, book, tables, &line)?;
-        out.push(changed(line, after))?;
     }
     Ok(out)
 }
@@ -234,7 +179,7 @@ fn covered_then(
     book: &Book,
     tables: &KeptTables,
     held: &Held,
-    done: &[Change],
+    lists: &mut SharedLists,
 ) -> Result<LineFacts, AllocError>
     ensures { IfOk result (λ f. f ≡ (covered_change (record { event = h.now.event.now; answer = h.now.answer.now; up = h.now.up; flight = option_copied h.now.flight }) register.now book.now tables.now held.now).after) }
 {
@@ -252,7 +197,7 @@ fn covered_then(
             line,
             held.before.areas.shared()?,
             w,
-            done.last().map(|change| &change.after),
+            lists,
         ),
         None => Ok(LineFacts::none(down, is_here(register, bsc, cell))),
     }
@@ -270,8 +215,9 @@ fn covered_changes(
     ensures { IfOk result (λ v. v.items ≡ map (covered_change (record { event = h.now.event.now; answer = h.now.answer.now; up = h.now.up; flight = option_copied h.now.flight }) register.now book.now tables.now) held.items) }
 {
     let mut out = Vec::with_capacity(alloc, held.len())?;
+    let mut lists = SharedLists::new(alloc);
     for line in held {
-        let after = covered_then(alloc, h, register, book, tables, &line, out.as_slice())?;
+        let after = covered_then(alloc, h, register, book, tables, &line, &mut lists)?;
         out.push(changed(line, after))?;
     }
     Ok(out)
@@ -295,16 +241,8 @@ fn leaves_areas(h: &Happening<'_, '_>) -> bool
     }
 }
 
-/// Whether what happens is an edit.
-fn is_edit(h: &Happening<'_, '_>) -> bool
-    ensures { result ≡ is_edit h.now.event.now }
-{
-    matches!(h.event, Event::Edit(_))
-}
-
-/// The changes of the lines, from how they stood. Only an edit can change more of a line than the line itself, and whether
-/// its cell is down; and few edits change the areas that cover its cell.
-#[tactic(auto, using(crate::proofs::PlainLemmas::plain_all, crate::proofs::CoveredLemmas::covered_all))]
+/// The changes of the lines, from how they stood. Few edits change the areas that cover a cell.
+#[tactic(auto, using(crate::proofs::CoveredLemmas::covered_all))]
 pub(crate) fn changes(
     alloc: Global,
     h: &Happening<'_, '_>,
@@ -315,13 +253,9 @@ pub(crate) fn changes(
     warnings: &[WarningId],
     held: Vec<Held>,
 ) -> Result<Vec<Change>, AllocError>
-    requires read { is_edit h.now.event.now ≡ false → AreRead register.now areas.now book.now held.items }
     requires covered { leaves_areas_then h.now.event.now ≡ true → AreCovered areas.now book.now held.items }
     ensures { IfOk result (λ v. v.items ≡ map (change_of (record { event = h.now.event.now; answer = h.now.answer.now; up = h.now.up; flight = option_copied h.now.flight }) register.now areas.now book.now tables.now) held.items) }
 {
-    if !is_edit(h) {
-        return plain_changes(alloc, h, book, tables, held);
-    }
     if leaves_areas(h) {
         return covered_changes(alloc, h, register, book, tables, held);
     }
@@ -340,16 +274,21 @@ pub(crate) fn bear(
     tables: &mut KeptTables,
     spots: &[Spot],
     warnings: &[WarningId],
-    held: Vec<Held>,
+    lines: HeldLines,
 ) -> Result<(), AllocError>
-    requires { Bears register.now areas.now book.now tables.old (record { event = h.now.event.now; answer = h.now.answer.now; up = h.now.up; flight = option_copied h.now.flight }) spots.now held.items }
-    ensures tables { OnOk result ((x : Bears register.now areas.now book.now tables.old (record { event = h.now.event.now; answer = h.now.answer.now; up = h.now.up; flight = option_copied h.now.flight }) spots.now held.items) → Consistent tables.new (facts (After (entry_of x.desk (record { event = h.now.event.now; answer = h.now.answer.now; up = h.now.up; flight = option_copied h.now.flight })) x.past))) }
-    ensures downs { OnOk result ((x : Bears register.now areas.now book.now tables.old (record { event = h.now.event.now; answer = h.now.answer.now; up = h.now.up; flight = option_copied h.now.flight }) spots.now held.items) → (b : ℕ) (c : Cell) → down_at tables.new.lines b c ≡ is_down (After (entry_of x.desk (record { event = h.now.event.now; answer = h.now.answer.now; up = h.now.up; flight = option_copied h.now.flight })) x.past) b c) }
-    ensures meter { tables.new.lines.meter ≤ tables.old.lines.meter + length held.items }
+    requires bears { Bears register.now areas.now book.now tables.old (record { event = h.now.event.now; answer = h.now.answer.now; up = h.now.up; flight = option_copied h.now.flight }) spots.now (held_in lines) }
+    requires steps { AreSteps (record { event = h.now.event.now; answer = h.now.answer.now; up = h.now.up; flight = option_copied h.now.flight }) book.now lines }
+    ensures tables { OnOk result ((x : Bears register.now areas.now book.now tables.old (record { event = h.now.event.now; answer = h.now.answer.now; up = h.now.up; flight = option_copied h.now.flight }) spots.now (held_in lines)) → Consistent tables.new (facts (After (entry_of x.desk (record { event = h.now.event.now; answer = h.now.answer.now; up = h.now.up; flight = option_copied h.now.flight })) x.past))) }
+    ensures downs { OnOk result ((x : Bears register.now areas.now book.now tables.old (record { event = h.now.event.now; answer = h.now.answer.now; up = h.now.up; flight = option_copied h.now.flight }) spots.now (held_in lines)) → (b : ℕ) (c : Cell) → down_at tables.new.lines b c ≡ is_down (After (entry_of x.desk (record { event = h.now.event.now; answer = h.now.answer.now; up = h.now.up; flight = option_copied h.now.flight })) x.past) b c) }
+    ensures meter { tables.new.lines.meter ≤ tables.old.lines.meter + length (held_in lines) }
     ensures least { tables.old.lines.meter ≤ tables.new.lines.meter }
 {
     mark_downs(tables, spots, h.event, h.answer)?;
-    let changes = changes(alloc, h, register, areas, book, tables, warnings, held)?;
-    tables.settle(changes.as_slice())?;
-    Ok(())
+    match lines {
+        HeldLines::Whole(held) => {
+            let changes = changes(alloc, h, register, areas, book, tables, warnings, held)?;
+            tables.settle(changes.as_slice())
+        }
+        HeldLines::Steps(steps) => tables.take_steps(steps.as_slice()),
+    }
 }

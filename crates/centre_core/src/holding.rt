@@ -9,8 +9,9 @@ ghost use Rattle.centre_core.specs.Following.{AsBefore, held_unless, held_at, he
 ghost use Rattle.centre_core.specs.Found.{AreFound};
 
 use crate::area_coverages::{AreaCoverages, coverages_for};
-use crate::facts::{Alike, facts_from, is_covered};
+use crate::facts::{facts_from, is_covered};
 use crate::held::Held;
+use crate::shared_lists::SharedLists;
 use areas::Areas;
 use cell_register::{BscId, Register};
 use common::Cell;
@@ -38,15 +39,6 @@ pub(crate) fn held_of(b: BscId, c: Cell, n: WarningId, before: LineFacts) -> Hel
     Held {
         key: key_of(b, c, n),
         before,
-    }
-}
-
-/// The line that was held last, with which the next may share its lists.
-pub(crate) fn last_held(held: &[Held]) -> Alike<'_> {
-    let last = held.last().map(|line| &line.before);
-    Alike {
-        versions: last,
-        areas: last,
     }
 }
 
@@ -105,6 +97,7 @@ fn is_passed_over(
 #[tactic(auto, using(crate::proofs::FollowLemmas::facts_as, crate::proofs::FollowLemmas::as_read))]
 fn hold_line(
     out: &mut Vec<Held>,
+    lists: &mut SharedLists,
     alloc: Global,
     register: &Register,
     areas: &Areas,
@@ -129,16 +122,7 @@ fn hold_line(
     let down = tables.is_down(b, c);
     let coverages = coverages_for(found, n);
     let before = facts_from(
-        alloc,
-        register,
-        areas,
-        down,
-        b,
-        c,
-        line,
-        warning,
-        coverages,
-        last_held(out),
+        alloc, register, areas, down, b, c, line, warning, coverages, lists,
     )?;
     out.push(held_of(b, c, n, before))?;
     Ok(())
@@ -147,6 +131,7 @@ fn hold_line(
 /// Reads the lines of the warnings in the cell at the BSC.
 fn hold_spot(
     out: &mut Vec<Held>,
+    lists: &mut SharedLists,
     alloc: Global,
     register: &Register,
     areas: &Areas,
@@ -165,7 +150,7 @@ fn hold_spot(
 {
     for warning in warnings {
         hold_line(
-            out, alloc, register, areas, book, found, tables, b, c, *warning, edit,
+            out, lists, alloc, register, areas, book, found, tables, b, c, *warning, edit,
         )?;
     }
     Ok(())
@@ -200,6 +185,7 @@ fn near(
 /// lines of the others are idle.
 fn hold_near(
     out: &mut Vec<Held>,
+    lists: &mut SharedLists,
     alloc: Global,
     register: &Register,
     areas: &Areas,
@@ -220,7 +206,7 @@ fn hold_near(
     let near = near(alloc, areas, book, tables.lines(), b, c, warnings)?;
     let near = near.as_slice();
     hold_spot(
-        out, alloc, register, areas, book, found, tables, b, c, near, edit,
+        out, lists, alloc, register, areas, book, found, tables, b, c, near, edit,
     )?;
     Ok(())
 }
@@ -228,6 +214,7 @@ fn hold_near(
 /// Reads the lines in the cell at the BSC, and holds those that are not passed over.
 fn hold_there(
     out: &mut Vec<Held>,
+    lists: &mut SharedLists,
     alloc: Global,
     register: &Register,
     areas: &Areas,
@@ -246,11 +233,11 @@ fn hold_there(
 {
     if leaves_cover(edit) {
         return hold_near(
-            out, alloc, register, areas, book, found, tables, b, c, warnings, edit,
+            out, lists, alloc, register, areas, book, found, tables, b, c, warnings, edit,
         );
     }
     hold_spot(
-        out, alloc, register, areas, book, found, tables, b, c, warnings, edit,
+        out, lists, alloc, register, areas, book, found, tables, b, c, warnings, edit,
     )
 }
 
@@ -272,10 +259,11 @@ pub(crate) fn hold(
     ensures meter { tables.new.lines.meter ≤ tables.old.lines.meter + length spots.now * length warnings.now }
 {
     let mut out = Vec::new(alloc);
+    let mut lists = SharedLists::new(alloc);
     for spot in spots {
         hold_there(
-            &mut out, alloc, register, areas, book, found, tables, spot.bsc, spot.cell, warnings,
-            edit,
+            &mut out, &mut lists, alloc, register, areas, book, found, tables, spot.bsc, spot.cell,
+            warnings, edit,
         )?;
     }
     Ok(out)
@@ -298,10 +286,12 @@ pub(crate) fn hold_keys(
     ensures meter { tables.new.lines.meter ≤ tables.old.lines.meter + length keys.now }
 {
     let mut out = Vec::new(alloc);
+    let mut lists = SharedLists::new(alloc);
     for key in keys {
         let LineKey { bsc, cell, warning } = *key;
         hold_line(
-            &mut out, alloc, register, areas, book, found, tables, bsc, cell, warning, edit,
+            &mut out, &mut lists, alloc, register, areas, book, found, tables, bsc, cell, warning,
+            edit,
         )?;
     }
     Ok(out)

@@ -19,6 +19,7 @@ mod follow_lemmas;
 mod following;
 pub mod headline;
 mod held;
+mod held_lines;
 mod hold_lemmas;
 mod holding;
 mod journal;
@@ -37,6 +38,7 @@ mod reached;
 mod reached_warnings;
 mod rebuilding;
 pub mod reported;
+mod shared_lists;
 mod spots;
 
 pub use areas::Selector;

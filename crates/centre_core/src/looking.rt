@@ -61,7 +61,7 @@ pub(crate) fn prepare_edit(
     ensures reads { OnlyReadsIn kept.old kept.new }
     ensures accepted { (network : List ℕ) → IsCentre (record { network = network; limit = limit }) journal.old.entries false kept.old → OnOk result (IsOk (verdict (record { network = network; limit = limit }) (past_of journal.old.entries) (event.Edit edit.now))) }
     ensures refusal { (network : List ℕ) → IsCentre (record { network = network; limit = limit }) journal.old.entries false kept.old → IfErr result (IsRefused (record { network = network; limit = limit }) journal.old.entries (event.Edit edit.now)) }
-    ensures reached { (network : List ℕ) → IsCentre (record { network = network; limit = limit }) journal.old.entries false kept.old → (a : answer_spec.Answer) → verdict (record { network = network; limit = limit }) (past_of journal.old.entries) (event.Edit edit.now) ≡ Ok a → IfOk result (λ x. WasReached (past_of journal.old.entries) (event.Edit edit.now) a x.spots.items x.held.items) }
+    ensures reached { (network : List ℕ) → IsCentre (record { network = network; limit = limit }) journal.old.entries false kept.old → (a : answer_spec.Answer) → verdict (record { network = network; limit = limit }) (past_of journal.old.entries) (event.Edit edit.now) ≡ Ok a → IfOk result (λ x. WasReached (past_of journal.old.entries) (event.Edit edit.now) a x.spots.items x.lines) }
     ensures meter { (network : List ℕ) → IsCentre (record { network = network; limit = limit }) journal.old.entries false kept.old → kept.new.tables.lines.meter ≤ kept.old.tables.lines.meter + size (edit_reach (past_of journal.old.entries) edit.now) }
 {
     look_at_edit(limit, journal, kept, edit)?;
@@ -121,7 +121,7 @@ pub(crate) fn prepare_other(
     ensures reads { OnlyReadsIn kept.old kept.new }
     ensures verdict { IsCentre (record { network = network; limit = limit }) journal.old.entries false kept.old → IfOk result (λ x. verdict (record { network = network; limit = limit }) (past_of journal.old.entries) event.now ≡ Ok x.answer) }
     ensures refusal { IsCentre (record { network = network; limit = limit }) journal.old.entries false kept.old → IfErr result (IsRefused (record { network = network; limit = limit }) journal.old.entries event.now) }
-    ensures reached { IsCentre (record { network = network; limit = limit }) journal.old.entries false kept.old → IfOk result (λ x. WasReached (past_of journal.old.entries) event.now x.answer x.reached.spots.items x.reached.held.items) }
+    ensures reached { IsCentre (record { network = network; limit = limit }) journal.old.entries false kept.old → IfOk result (λ x. WasReached (past_of journal.old.entries) event.now x.answer x.reached.spots.items x.reached.lines) }
     ensures meter { IsCentre (record { network = network; limit = limit }) journal.old.entries false kept.old → kept.new.tables.lines.meter ≤ kept.old.tables.lines.meter + reach (past_of journal.old.entries) event.now (verdict (record { network = network; limit = limit }) (past_of journal.old.entries) event.now) }
 {
     let answer = look_at_other(alloc, network, limit, journal, kept, event)?;

@@ -17,7 +17,7 @@ use crate::area_coverages::area_coverages;
 use crate::changing::hold_changing;
 use crate::entering::up_before;
 use crate::flights::flight_of;
-use crate::held::Held;
+use crate::held_lines::HeldLines;
 use crate::holding::{hold, hold_keys};
 use crate::kept::Kept;
 use crate::reach::{reach_of_edit, reach_of_other, tell_lines};
@@ -35,14 +35,14 @@ use warning_book::WarningId;
 pub(crate) struct Reached {
     pub(crate) spots: Vec<Spot>,
     pub(crate) warnings: Vec<WarningId>,
-    pub(crate) held: Vec<Held>,
+    pub(crate) lines: HeldLines,
 }
 
 /// The lines that an accepted edit may change which is no Forget, as they stand before it, found among the lines on which it
 /// bears.
 fn reached_at_spots(alloc: Global, kept: &mut Kept, edit: &Edit) -> Result<Reached, AllocError>
     requires { is_forget edit.now ≡ false }
-    ensures reached { (settings : Settings) (past : Past) (a : answer_spec.Answer) → Legal settings past → IsKept past kept.old → edit_answered past edit.now ≡ Ok a → IfOk result (λ x. WasReached past (event.Edit edit.now) a x.spots.items x.held.items) }
+    ensures reached { (settings : Settings) (past : Past) (a : answer_spec.Answer) → Legal settings past → IsKept past kept.old → edit_answered past edit.now ≡ Ok a → IfOk result (λ x. WasReached past (event.Edit edit.now) a x.spots.items x.lines) }
     ensures reads { OnlyReadsIn kept.old kept.new }
     ensures meter { (settings : Settings) (past : Past) (a : answer_spec.Answer) → Legal settings past → IsKept past kept.old → edit_answered past edit.now ≡ Ok a → kept.new.tables.lines.meter ≤ kept.old.tables.lines.meter + size (edit_reach past edit.now) }
 {
@@ -69,7 +69,7 @@ fn reached_at_spots(alloc: Global, kept: &mut Kept, edit: &Edit) -> Result<Reach
     Ok(Reached {
         spots: reach.spots,
         warnings: reach.warnings,
-        held,
+        lines: HeldLines::Whole(held),
     })
 }
 
@@ -81,7 +81,7 @@ fn reached_by_forget(
     n: WarningId,
 ) -> Result<Reached, AllocError>
     requires { edit.now ≡ edit_spec.Forget n }
-    ensures reached { (settings : Settings) (past : Past) (a : answer_spec.Answer) → Legal settings past → IsKept past kept.old → edit_answered past edit.now ≡ Ok a → IfOk result (λ x. WasReached past (event.Edit edit.now) a x.spots.items x.held.items) }
+    ensures reached { (settings : Settings) (past : Past) (a : answer_spec.Answer) → Legal settings past → IsKept past kept.old → edit_answered past edit.now ≡ Ok a → IfOk result (λ x. WasReached past (event.Edit edit.now) a x.spots.items x.lines) }
     ensures reads { OnlyReadsIn kept.old kept.new }
     ensures meter { (settings : Settings) (past : Past) (a : answer_spec.Answer) → Legal settings past → IsKept past kept.old → edit_answered past edit.now ≡ Ok a → kept.new.tables.lines.meter ≤ kept.old.tables.lines.meter + size (edit_reach past edit.now) }
 {
@@ -102,7 +102,7 @@ fn reached_by_forget(
     Ok(Reached {
         spots: Vec::new(alloc),
         warnings,
-        held,
+        lines: HeldLines::Whole(held),
     })
 }
 
@@ -113,7 +113,7 @@ pub(crate) fn reached_by_edit(
     kept: &mut Kept,
     edit: &Edit,
 ) -> Result<Reached, AllocError>
-    ensures reached { (settings : Settings) (past : Past) (a : answer_spec.Answer) → Legal settings past → IsKept past kept.old → edit_answered past edit.now ≡ Ok a → IfOk result (λ x. WasReached past (event.Edit edit.now) a x.spots.items x.held.items) }
+    ensures reached { (settings : Settings) (past : Past) (a : answer_spec.Answer) → Legal settings past → IsKept past kept.old → edit_answered past edit.now ≡ Ok a → IfOk result (λ x. WasReached past (event.Edit edit.now) a x.spots.items x.lines) }
     ensures reads { OnlyReadsIn kept.old kept.new }
     ensures meter { (settings : Settings) (past : Past) (a : answer_spec.Answer) → Legal settings past → IsKept past kept.old → edit_answered past edit.now ≡ Ok a → kept.new.tables.lines.meter ≤ kept.old.tables.lines.meter + size (edit_reach past edit.now) }
 {
@@ -124,7 +124,7 @@ pub(crate) fn reached_by_edit(
     Ok(reached)
 }
 
-/// The lines that an accepted event changes which is no edit, as they stand before it.
+/// The lines that an accepted event changes which is no edit, as they stand before it, with the steps that it makes of them.
 pub(crate) fn reached_by_other<'x>(
     alloc: Global,
     kept: &mut Kept,
@@ -132,7 +132,7 @@ pub(crate) fn reached_by_other<'x>(
     answer: &'x Answer,
 ) -> Result<Reached, AllocError>
     requires other { is_edit event.now ≡ false }
-    ensures reached { (settings : Settings) (past : Past) → Legal settings past → IsKept past kept.old → answered settings.network past event.now ≡ Ok answer.now → IfOk result (λ x. WasReached past event.now answer.now x.spots.items x.held.items) }
+    ensures reached { (settings : Settings) (past : Past) → Legal settings past → IsKept past kept.old → answered settings.network past event.now ≡ Ok answer.now → IfOk result (λ x. WasReached past event.now answer.now x.spots.items x.lines) }
     ensures reads { OnlyReadsIn kept.old kept.new }
     ensures meter { (settings : Settings) (past : Past) → Legal settings past → IsKept past kept.old → answered settings.network past event.now ≡ Ok answer.now → kept.new.tables.lines.meter ≤ kept.old.tables.lines.meter + size (reach_of past event.now answer.now) }
 {
@@ -152,7 +152,7 @@ pub(crate) fn reached_by_other<'x>(
         flight: flight_of(kept.flights.as_slice(), event),
     };
     let found = area_coverages(alloc, &kept.areas, &kept.book, &reach.warnings)?;
-    let held = hold_changing(
+    let steps = hold_changing(
         alloc,
         &h,
         &kept.register,
@@ -166,6 +166,6 @@ pub(crate) fn reached_by_other<'x>(
     Ok(Reached {
         spots: reach.spots,
         warnings: reach.warnings,
-        held,
+        lines: HeldLines::Steps(steps),
     })
 }

@@ -1,12 +1,12 @@
 -- How a list of changes takes tables from one view to another, change by change.
-use Rattle.std.proofs.Common.{◌≡◌, ℕ, ◌+◌, ◌<◌, ◌≤◌, Bool, true, false, ◌||◌, List, [], ◌∷◌, ◌++◌, Option, Some, length, get_or, take, drop, refl, sym, ◌∙◌, ap, subst, if◌then◌else◌}
+use Rattle.std.proofs.Common.{◌≡◌, ℕ, ◌+◌, ◌<◌, ◌≤◌, Bool, true, false, ◌||◌, List, [], ◌∷◌, ◌++◌, Option, Some, length, get_or, map, take, drop, refl, sym, ◌∙◌, ap, subst, if◌then◌else◌}
 use Rattle.std.proofs.lemmas.Bool.{or_parts, or_from}
-use Rattle.std.proofs.lemmas.List.{drop_more, take-append-drop, take_all, take_more}
+use Rattle.std.proofs.lemmas.List.{drop_more, get_or-map, length-map, take-append-drop, take_all, take_more}
 use Rattle.std.proofs.lemmas.List.Folds.{list_any-append}
 use Rattle.common.specs.OnceLaws.{turned}
 use Rattle.kept_tables.proofs.BroadcastLemmas.{few_between, mixed_between}
 use Rattle.kept_tables.proofs.ViewLemmas.{changed, has_part}
-use Rattle.kept_tables.specs.Changes.{Begins, changes_key, mixed, Tells}
+use Rattle.kept_tables.specs.Changes.{Begins, change_of, changes_key, mixed, Tells}
 use Rattle.kept_tables.specs.Consistent.{Consistent, is_deed, is_in_range, Owned}
 use Rattle.kept_tables.specs.Facts.{deeds_of}
 use Rattle.kept_tables.specs.SpotLaws.{key_decides}
@@ -14,6 +14,7 @@ use Rattle.kept_tables.specs.Tables.{HasPart, Shifted, Tables}
 use Rattle.kept_tables.specs.View.{key_eq, spot_of, updated, View}
 use Rattle.kept_tables.specs.declared.change.Change.{Change}
 use Rattle.kept_tables.specs.declared.line_facts.LineFacts.{LineFacts}
+use Rattle.kept_tables.specs.declared.step.Step.{Step}
 use Rattle.mirror.specs.Line.{state_of}
 use Rattle.mirror.specs.declared.line_key.LineKey.{LineKey}
 use Rattle.order_maker.specs.declared.deed.Deed.{Deed}
@@ -94,3 +95,8 @@ settled_more old changes b t u i x below e fit low is shifted =
 -- all changes are done
 pub settled_whole : (u : Tables) (from to : View) (changes : List Change) (i : ℕ) → length changes ≤ i → Consistent u (mixed from to (take i changes)) → Consistent u (mixed from to changes)
 settled_whole u from to changes i end is = subst (λ xs. Consistent u (mixed from to xs)) (take_all i changes end) is
+
+-- the change that is next among those of steps
+pub next_change : (steps : List Step) (i : ℕ) (x : Step) → i < length steps → x ≡ get_or steps i x → (i < length (map change_of steps)) × (change_of x ≡ get_or (map change_of steps) i (change_of x))
+next_change steps i x below e =
+    (subst (λ n. i < n) (sym (length-map steps change_of)) below, sym (get_or-map change_of steps i x (change_of x) below ∙ ap change_of (sym e)))

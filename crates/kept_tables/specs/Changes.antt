@@ -6,7 +6,12 @@ use Rattle.kept_tables.specs.Consistent.{Consistent, Owned}
 use Rattle.kept_tables.specs.Tables.{Tables}
 use Rattle.kept_tables.specs.View.{View, key_eq}
 use Rattle.kept_tables.specs.declared.change.Change.{Change}
+use Rattle.kept_tables.specs.declared.step.Step.{Step}
 use Rattle.mirror.specs.declared.line_key.LineKey.{LineKey}
+
+-- the change that a step is: of what is read of the line, the line itself and whether its cell is down may be another
+abbrev pub change_of : Step → Change
+change_of s = record { key = s.key; before = s.before; after = record s.before { line = s.line; down = s.down } }
 
 -- one of the changes is of the line
 abbrev pub changes_key : LineKey → List Change → Bool

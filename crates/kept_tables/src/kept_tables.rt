@@ -9,6 +9,7 @@ ghost use Rattle.mirror.specs.Table.{is_key, line_at};
 
 use crate::change::Change;
 use crate::line_facts::LineFacts;
+use crate::step::Step;
 use cbsp_ie::CellId;
 use cell_register::{BscId, Register};
 use common::{Cell, Cells, Name};
@@ -82,14 +83,14 @@ fn change_line(
 }
 
 impl KeptTables {
-    ghost use Rattle.std.specs.Prelude.{◌≡◌, ◌≤◌, ◌+◌, ◌&&◌, ℕ, List, true, false, if◌then◌else◌, length, nat_eq, take, OnOk, OnErr, IfOk};
+    ghost use Rattle.std.specs.Prelude.{◌≡◌, ◌≤◌, ◌+◌, ◌&&◌, ℕ, List, true, false, if◌then◌else◌, length, map, nat_eq, take, OnOk, OnErr, IfOk};
     ghost use Rattle.std.specs.List.{list_any};
     ghost use Rattle.std.specs.Option.{is_some};
     ghost use Rattle.common.specs.Cell.{cell_eq, cell_lt};
     ghost use Rattle.common.specs.Order.{is_ascending};
     ghost use Rattle.common.specs.declared.cell.Cell.{Cell};
     ghost use Rattle.coverage_board.specs.Board.{total_of, area_of};
-    ghost use Rattle.kept_tables.specs.Changes.{Begins, mixed};
+    ghost use Rattle.kept_tables.specs.Changes.{Begins, change_of, mixed};
     ghost use Rattle.kept_tables.specs.Consistent.{Consistent};
     ghost use Rattle.kept_tables.specs.Tables.{HasPart, IsEmpty, SameTables, Shifted};
     ghost use Rattle.mirror.specs.Known.{is_known, is_named};
@@ -258,6 +259,22 @@ impl KeptTables {
         self.board.shift(warning, &was, &is)
     }
 
+    /// The same for a step.
+    fn take_step(&mut self, step: &Step) -> Result<(), AllocError>
+        requires { HasPart self.old step.now.key step.now.before (change_of step.now).after }
+        ensures changed { OnOk result (Shifted self.old self.new step.now.key step.now.before (change_of step.now).after) }
+        ensures downs { self.new.lines.downs ≡ self.old.lines.downs }
+        ensures meter { self.new.lines.meter ≤ self.old.lines.meter + 1 }
+        ensures least { self.old.lines.meter ≤ self.new.lines.meter }
+    {
+        let LineKey { bsc, cell, warning } = step.key;
+        change_line(&mut self.lines, step.key, &step.before.line, &step.line)?;
+        let was = step.before.stand();
+        let then = step.before.stand_with(step.line, step.down);
+        self.pending.shift_held(bsc, cell, &was.sight, &then.sight)?;
+        self.board.shift(warning, &was, &then)
+    }
+
     /// Makes the changes, in their order. Each is of another line. At an `Err` memory ran out, and the tables are of
     /// no use any more.
     pub fn settle(&mut self, changes: &[Change]) -> Result<(), AllocError>
@@ -271,6 +288,22 @@ impl KeptTables {
             tell_range(change.key);
             tell_counts(change.after.line);
             self.change(change.key, &change.before, &change.after)?;
+        }
+        Ok(())
+    }
+
+    /// The same for steps.
+    pub fn take_steps(&mut self, steps: &[Step]) -> Result<(), AllocError>
+        requires { Begins self.old (map change_of steps.now) }
+        ensures settled { OnOk result ((b : Begins self.old (map change_of steps.now)) → Consistent self.new (mixed b.from b.to (map change_of steps.now))) }
+        ensures downs { (b : ℕ) (c : Cell) → down_at self.new.lines b c ≡ down_at self.old.lines b c }
+        ensures meter { self.new.lines.meter ≤ self.old.lines.meter + length steps.now }
+        ensures least { self.old.lines.meter ≤ self.new.lines.meter }
+    {
+        for step in steps {
+            tell_range(step.key);
+            tell_counts(step.line);
+            self.take_step(step)?;
         }
         Ok(())
     }

@@ -12,6 +12,7 @@ mod kept_tables;
 mod line_facts;
 mod serial_list;
 mod spot;
+mod step;
 
 pub use area_names::AreaNames;
 pub use change::Change;
@@ -19,3 +20,4 @@ pub use kept_tables::KeptTables;
 pub use line_facts::LineFacts;
 pub use serial_list::Serials;
 pub use spot::Spot;
+pub use step::Step;

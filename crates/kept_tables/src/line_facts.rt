@@ -49,34 +49,29 @@ impl LineFacts {
         }
     }
 
-    /// The same, but for the line and whether the cell is down. Its lists are shared, and the only `Err` is that of a list
-    /// that is shared 2^64 - 1 times.
-    pub fn with(&self, line: Line, down: bool) -> Result<LineFacts, AllocError>
-        ensures { IfOk result (λ f. f ≡ record self.now { line = line; down = down }) }
-    {
-        Ok(LineFacts {
-            line,
-            message_id: self.message_id,
-            versions: self.versions.shared()?,
-            wanted: self.wanted,
-            down,
-            areas: self.areas.shared()?,
-            here: self.here,
-            active: self.active,
-        })
-    }
-
-    /// What its orders depend on.
-    pub fn sight(&self) -> Sight<'_>
-        ensures seen { seen result ≡ seen_of self.now }
-        ensures line { result.line ≡ self.now.line }
+    /// What its orders depend on, with this line, and the cell down or not.
+    pub fn sight_with(&self, line: Line, down: bool) -> Sight<'_>
+        ensures seen { seen result ≡ seen_of (record self.now { line = line; down = down }) }
+        ensures line { result.line ≡ line }
     {
         Sight {
-            line: self.line,
+            line,
             message_id: self.message_id,
             versions: self.versions.as_slice(),
             wanted: self.wanted,
-            down: self.down,
+            down,
+        }
+    }
+
+    /// What the board counts of it, with this line, and the cell down or not.
+    pub fn stand_with(&self, line: Line, down: bool) -> Stand<'_>
+        ensures { stand_kept result ≡ stand_of (record self.now { line = line; down = down }) }
+    {
+        Stand {
+            sight: self.sight_with(line, down),
+            areas: self.areas.as_slice(),
+            here: self.here,
+            active: self.active,
         }
     }
 
@@ -84,11 +79,6 @@ impl LineFacts {
     pub fn stand(&self) -> Stand<'_>
         ensures { stand_kept result ≡ stand_of self.now }
     {
-        Stand {
-            sight: self.sight(),
-            areas: self.areas.as_slice(),
-            here: self.here,
-            active: self.active,
-        }
+        self.stand_with(self.line, self.down)
     }
 }

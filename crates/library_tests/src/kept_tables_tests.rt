@@ -7,8 +7,8 @@ use cbsp_ie::CellId;
 use cell_register::{BscId, Register};
 use common::Cell;
 use coverage_board::Numbers;
-use kept_tables::{AreaNames, Change, KeptTables, LineFacts, Serials};
-use mirror::{Line, LineKey};
+use kept_tables::{AreaNames, Change, KeptTables, LineFacts, Serials, Step};
+use mirror::{KeyState, Line, LineKey, Presence};
 use order_maker::OrderKind;
 use serials::Serial;
 use std::alloc::Global;
@@ -166,12 +166,29 @@ fn lists_are_shared(rt: HostRuntime) {
     assert!(rt; shared.as_slice()[0].as_slice() == b"Coast".as_slice());
 }
 
+/// Tables in which that line became another by a step.
+fn stepped(rt: &impl Abort, alloc: Global, key: LineKey, line: Line) -> KeptTables {
+    let mut tables = KeptTables::new(alloc);
+    let step = Step {
+        key,
+        before: LineFacts::none(false, true),
+        line,
+        down: false,
+    };
+    tables.take_steps(&[step]).expect(rt, "memory");
+    tables
+}
+
 #[test]
-fn another_line_is_read_with_the_same_lists(rt: HostRuntime) {
-    let alloc = rt.alloc();
-    let before = wanted(&rt, alloc);
-    let after = before.with(before.line, true).expect(&rt, "memory");
-    assert!(rt; after.down && !before.down);
-    assert!(rt; after.versions.as_slice() == before.versions.as_slice());
-    assert!(rt; after.areas.as_slice() == before.areas.as_slice());
+fn a_step_keeps_its_line(rt: HostRuntime) {
+    let b = bsc(&rt, 1);
+    let version = Serial::from_u16(0xc000);
+    let on_air = KeyState {
+        presence: Presence::OnAir,
+        ..KeyState::blank()
+    };
+    let line = Line::blank().with_state(version, on_air);
+    let mut tables = stepped(&rt, rt.alloc(), key(b), line);
+    assert!(rt; tables.read_line(key(b)) == line);
+    assert!(rt; !tables.has(b));
 }

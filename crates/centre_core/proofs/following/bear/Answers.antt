@@ -1,21 +1,61 @@
-use Rattle.std.proofs.Common.{◌∙◌}
+use Rattle.std.proofs.Common.{◌≡◌, false, map, sym, ◌∙◌, ap, subst}
+use Rattle.std.proofs.lemmas.Result.{on_ok_weaker}
+use Rattle.std.specs.Option.{option_copied}
+use Rattle.kept_tables.specs.Changes.{Begins, change_of as change_of_step}
+use Rattle.centre_core.specs.Following.{AreCovered, AreSteps, Happens, change_of, held_in, held_of, step_of}
+use Rattle.centre_events.specs.Kept.{is_edit}
 use Rattle.centre_core.proofs.JoinLemmas.{begins, settled, downs_then}
 use Rattle.centre_core.proofs.CoveredLemmas.{bears_covered}
-use Rattle.centre_core.proofs.PlainLemmas.{bears_read}
+use Rattle.centre_core.proofs.PlainLemmas.{steps_change}
 use Rattle.centre_core.proofs.following.bear.Goals as goal
 
-pub changes-requires-clause-read : goal.changes-requires-clause-read
-changes-requires-clause-read c = λ other. bears_read c.requires other
+-- of an edit
 
-pub changes-requires-clause-covered : goal.changes-requires-clause-covered
-changes-requires-clause-covered c = λ leaves. bears_covered c.requires leaves
+pub changes-requires : goal.changes-requires
+changes-requires c = record {
+  covered = λ leaves. subst (AreCovered c.args.areas.now c.args.book.now) (ap held_in c.in-Whole.is) (bears_covered c.requires.bears leaves);
+}
 
 pub settle-requires : goal.settle-requires
-settle-requires c = rw (c.as_slice.ensures.value, c.in_ok-changes.ensures) (begins c.requires c.mark_downs.new.tables c.in_ok-mark_downs.ensures.lines c.in_ok-mark_downs.ensures.downs)
+settle-requires c =
+    let h : Happens = record { event = c.args.h.now.event.now; answer = c.args.h.now.answer.now; up = c.args.h.now.up; flight = option_copied c.args.h.now.flight } in
+    subst (Begins c.mark_downs.new.tables)
+    (sym (c.as_slice.ensures.value ∙ c.in_ok-changes-in-Whole.ensures ∙ ap (map (change_of h c.args.register.now c.args.areas.now c.args.book.now c.mark_downs.new.tables)) (sym (ap held_in c.in-Whole.is))))
+    (begins c.requires.bears c.mark_downs.new.tables c.in_ok-mark_downs.ensures.lines c.in_ok-mark_downs.ensures.downs)
 
-pub returns-clause-tables : goal.returns-clause-tables
-returns-clause-tables c =
-    λ x. settled x c.mark_downs.new.tables c.settle.new.self c.as_slice.result.now (c.as_slice.ensures.value ∙ c.in_ok-changes.ensures) c.in_ok-mark_downs.ensures.lines c.in_ok-mark_downs.ensures.downs c.in_ok-settle.ensures.settled
+pub returns-in_ok-changes-in-Whole-clause-tables : goal.returns-in_ok-changes-in-Whole-clause-tables
+returns-in_ok-changes-in-Whole-clause-tables c =
+    let h : Happens = record { event = c.args.h.now.event.now; answer = c.args.h.now.answer.now; up = c.args.h.now.up; flight = option_copied c.args.h.now.flight } in
+    on_ok_weaker c.settle.result
+    (λ done x.
+    settled x c.mark_downs.new.tables c.settle.new.self c.as_slice.result.now
+    (c.as_slice.ensures.value ∙ c.in_ok-changes-in-Whole.ensures ∙ ap (map (change_of h c.args.register.now c.args.areas.now c.args.book.now c.mark_downs.new.tables)) (sym (ap held_in c.in-Whole.is)))
+    c.in_ok-mark_downs.ensures.lines c.in_ok-mark_downs.ensures.downs done)
+    c.settle.ensures.settled
 
-pub returns-clause-downs : goal.returns-clause-downs
-returns-clause-downs c = λ x b d. c.settle.ensures.downs b d ∙ c.in_ok-mark_downs.ensures.downs b d ∙ downs_then x b d
+pub returns-in_ok-changes-in-Whole-clause-downs : goal.returns-in_ok-changes-in-Whole-clause-downs
+returns-in_ok-changes-in-Whole-clause-downs c = on_ok_weaker c.settle.result (λ done x b d. c.settle.ensures.downs b d ∙ c.in_ok-mark_downs.ensures.downs b d ∙ downs_then x b d) c.settle.ensures.settled
+
+-- of another event
+
+pub take_steps-requires : goal.take_steps-requires
+take_steps-requires c =
+    let h : Happens = record { event = c.args.h.now.event.now; answer = c.args.h.now.answer.now; up = c.args.h.now.up; flight = option_copied c.args.h.now.flight } in
+    let steps : (is_edit h.event ≡ false) × (c.in-Steps.steps.items ≡ map (step_of h c.args.book.now) (map held_of c.in-Steps.steps.items)) = subst (AreSteps h c.args.book.now) c.in-Steps.is c.requires.steps in
+    subst (Begins c.mark_downs.new.tables)
+    (sym (ap (map change_of_step) c.as_slice-in-Steps.ensures.value ∙ steps_change c.in-Steps.steps.items c.requires.bears c.mark_downs.new.tables (λ b d. c.in_ok-mark_downs.ensures.downs b d ∙ downs_then c.requires.bears b d) steps.0 (steps.1 ∙ ap (map (step_of h c.args.book.now)) (sym (ap held_in c.in-Steps.is)))))
+    (begins c.requires.bears c.mark_downs.new.tables c.in_ok-mark_downs.ensures.lines c.in_ok-mark_downs.ensures.downs)
+
+pub returns-in-Steps-clause-tables : goal.returns-in-Steps-clause-tables
+returns-in-Steps-clause-tables c =
+    let h : Happens = record { event = c.args.h.now.event.now; answer = c.args.h.now.answer.now; up = c.args.h.now.up; flight = option_copied c.args.h.now.flight } in
+    let steps : (is_edit h.event ≡ false) × (c.in-Steps.steps.items ≡ map (step_of h c.args.book.now) (map held_of c.in-Steps.steps.items)) = subst (AreSteps h c.args.book.now) c.in-Steps.is c.requires.steps in
+    on_ok_weaker c.take_steps.result
+    (λ done x.
+    settled x c.mark_downs.new.tables c.take_steps.new.self (map change_of_step c.as_slice-in-Steps.result.now)
+    (ap (map change_of_step) c.as_slice-in-Steps.ensures.value ∙ steps_change c.in-Steps.steps.items x c.mark_downs.new.tables (λ b d. c.in_ok-mark_downs.ensures.downs b d ∙ downs_then x b d) steps.0 (steps.1 ∙ ap (map (step_of h c.args.book.now)) (sym (ap held_in c.in-Steps.is))))
+    c.in_ok-mark_downs.ensures.lines c.in_ok-mark_downs.ensures.downs done)
+    c.take_steps.ensures.settled
+
+pub returns-in-Steps-clause-downs : goal.returns-in-Steps-clause-downs
+returns-in-Steps-clause-downs c = on_ok_weaker c.take_steps.result (λ done x b d. c.take_steps.ensures.downs b d ∙ c.in_ok-mark_downs.ensures.downs b d ∙ downs_then x b d) c.take_steps.ensures.settled

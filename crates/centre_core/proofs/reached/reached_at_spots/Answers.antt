@@ -1,6 +1,7 @@
 use Rattle.std.proofs.Common.{refl, ◌∙◌, ap}
 use Rattle.centre_core.specs.Following.{held_lines}
 use Rattle.centre_core.specs.Reach.{edit_reach}
+use Rattle.centre_core.specs.declared.held_lines.HeldLines.TheVariants as lines
 use Rattle.centre_core.proofs.FollowLemmas.{as_itself}
 use Rattle.centre_core.proofs.HoldLemmas.{told_kept, edit_was_reached, reads_as, reads_within}
 use Rattle.centre_core.proofs.reached.reached_at_spots.Goals as goal
@@ -12,13 +13,14 @@ returns-in_err-held-clause-reads c =
 pub returns-clause-reached : goal.returns-clause-reached
 returns-clause-reached c =
     λ settings past a legal kept accepted.
-    edit_was_reached past c.args.kept.now c.args.edit.now a c.in_ok-reach.reach.spots.items c.in_ok-reach.reach.warnings.items c.in_ok-held.held.items kept
+    edit_was_reached past c.args.kept.now c.args.edit.now a c.in_ok-reach.reach.spots.items c.in_ok-reach.reach.warnings.items (lines.Whole c.in_ok-held.held) kept
     (c.in_ok-reach.ensures settings past (record {
       told = rw (c.lines.ensures) (told_kept settings past c.args.kept.now legal kept);
       selected = kept.selected;
       answer = a;
       accepted = accepted;
     }))
+    tt
     (c.in_ok-held.ensures.held c.args.kept.now.tables (as_itself c.args.kept.now.tables)
     ∙ ap (λ ps. held_lines c.args.edit.now c.args.kept.now.register c.args.kept.now.areas c.args.kept.now.book c.args.kept.now.tables ps c.as_slice-2.result.now) c.as_slice.ensures.value
     ∙ ap (held_lines c.args.edit.now c.args.kept.now.register c.args.kept.now.areas c.args.kept.now.book c.args.kept.now.tables c.in_ok-reach.reach.spots.items) c.as_slice-2.ensures.value)

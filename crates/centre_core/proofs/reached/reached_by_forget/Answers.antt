@@ -3,6 +3,7 @@ use Rattle.std.specs.List.{flat_map}
 use Rattle.coverage_plan.specs.declared.edit.Edit.TheVariants as edit
 use Rattle.centre_core.specs.Following.{held_unless}
 use Rattle.centre_core.specs.Reaching.{TellsLines}
+use Rattle.centre_core.specs.declared.held_lines.HeldLines.TheVariants as lines
 use Rattle.centre_core.proofs.FollowLemmas.{as_itself}
 use Rattle.centre_core.proofs.ForgottenLemmas.{forgotten_few, forgotten_read, forgotten_was_reached}
 use Rattle.centre_core.proofs.HoldLemmas.{reads_as}
@@ -29,6 +30,7 @@ returns-clause-meter c = λ settings past a legal kept accepted.
 pub returns-clause-reached : goal.returns-clause-reached
 returns-clause-reached c = λ settings past a legal kept accepted.
     rw (c.requires, c.new.ensures.items)
-    (forgotten_was_reached past c.args.kept.now c.args.n a c.in_ok-keys.keys.items c.in_ok-held.held.items kept (rw (c.lines-2.ensures) at (c.in_ok-keys.ensures.which)) c.in_ok-keys.ensures.order
+    (forgotten_was_reached past c.args.kept.now c.args.n a c.in_ok-keys.keys.items (lines.Whole c.in_ok-held.held) kept (rw (c.lines-2.ensures) at (c.in_ok-keys.ensures.which)) c.in_ok-keys.ensures.order
     (forgotten_few settings past c.args.kept.now c.args.n legal kept (subst TellsLines c.lines.ensures c.tell_lines.ensures) c.in_ok-keys.keys.items (rw (c.lines-2.ensures) at (c.in_ok-keys.ensures.few)))
+    tt
     (rw (c.requires) at (c.in_ok-held.ensures.held c.args.kept.now.tables (as_itself c.args.kept.now.tables)) ∙ ap (flat_map (held_unless (edit.Forget c.args.n) c.args.kept.now.register c.args.kept.now.areas c.args.kept.now.book c.args.kept.now.tables)) c.as_slice.ensures.value))

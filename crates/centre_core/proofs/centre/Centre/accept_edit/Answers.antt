@@ -47,7 +47,7 @@ enter-requires-clause-finishes c =
     let whole : c.self.inside.stale ≡ false = ap (λ (v : CentreState). v.known.stale) c.self.view_is ∙ c.requires.whole in
     let centre : IsCentre (record { network = c.self.inside.plmn; limit = c.self.inside.limit }) c.self.inside.journal.entries false c.self.inside.kept = subst (λ b. IsCentre (record { network = c.self.inside.plmn; limit = c.self.inside.limit }) c.self.inside.journal.entries b c.self.inside.kept) whole c.self.invariant in
     let len : c.len-place.result ≡ length c.prepare_edit.new.journal.entries = c.len-place.ensures in
-    (edit_enters (record { network = c.self.inside.plmn; limit = c.self.inside.limit }) c.self.inside.journal.entries c.prepare_edit.new.journal.entries c.args.desk c.args.edit c.in_ok-answer.answer c.in_ok-entry.entry c.self.inside.kept c.prepare_edit.new.kept c.make.new.kept c.len-place.result c.in_ok-reached.reached.spots.items c.in_ok-reached.reached.held.items centre c.in_ok-reached.ensures.few c.prepare_edit.ensures.entries len c.prepare_edit.ensures.reads (c.in_ok-answer.ensures.verdict (past_of c.self.inside.journal.entries) (reads_kept (past_of c.self.inside.journal.entries) c.self.inside.kept c.prepare_edit.new.kept (c.self.invariant.whole whole) c.prepare_edit.ensures.reads) (may_be_made (record { network = c.self.inside.plmn; limit = c.self.inside.limit }) c.self.inside.journal.entries c.args.edit c.in_ok-reached.ensures.few (c.in_ok-reached.ensures.accepted c.self.inside.plmn centre))) c.in_ok-answer.ensures.made c.in_ok-entry.ensures.entry (c.in_ok-reached.ensures.reached c.self.inside.plmn centre)).known
+    (edit_enters (record { network = c.self.inside.plmn; limit = c.self.inside.limit }) c.self.inside.journal.entries c.prepare_edit.new.journal.entries c.args.desk c.args.edit c.in_ok-answer.answer c.in_ok-entry.entry c.self.inside.kept c.prepare_edit.new.kept c.make.new.kept c.len-place.result c.in_ok-reached.reached.spots.items c.in_ok-reached.reached.lines centre c.in_ok-reached.ensures.few c.prepare_edit.ensures.entries len c.prepare_edit.ensures.reads (c.in_ok-answer.ensures.verdict (past_of c.self.inside.journal.entries) (reads_kept (past_of c.self.inside.journal.entries) c.self.inside.kept c.prepare_edit.new.kept (c.self.invariant.whole whole) c.prepare_edit.ensures.reads) (may_be_made (record { network = c.self.inside.plmn; limit = c.self.inside.limit }) c.self.inside.journal.entries c.args.edit c.in_ok-reached.ensures.few (c.in_ok-reached.ensures.accepted c.self.inside.plmn centre))) c.in_ok-answer.ensures.made c.in_ok-entry.ensures.entry (c.in_ok-reached.ensures.reached c.self.inside.plmn centre)).known
 
 pub returns-in_err-enter-clause-refusal : goal.returns-in_err-enter-clause-refusal
 returns-in_err-enter-clause-refusal c =
@@ -59,7 +59,7 @@ pub returns-in_err-enter-clause-lines : goal.returns-in_err-enter-clause-lines
 returns-in_err-enter-clause-lines c =
     let whole : c.self.inside.stale ≡ false = ap (λ (v : CentreState). v.known.stale) c.self.view_is ∙ c.requires.whole in
     let centre : IsCentre (record { network = c.self.inside.plmn; limit = c.self.inside.limit }) c.self.inside.journal.entries false c.self.inside.kept = subst (λ b. IsCentre (record { network = c.self.inside.plmn; limit = c.self.inside.limit }) c.self.inside.journal.entries b c.self.inside.kept) whole c.self.invariant in
-    rw (← c.self.view_is) (edit_lines_then (record { network = c.self.inside.plmn; limit = c.self.inside.limit }) c.self.inside.journal.entries c.args.edit c.in_ok-answer.answer c.self.inside.kept.tables.lines.meter c.make.new.kept.tables.lines.meter c.enter.new.kept.tables.lines.meter c.in_ok-reached.reached.spots.items c.in_ok-reached.reached.held.items
+    rw (← c.self.view_is) (edit_lines_then (record { network = c.self.inside.plmn; limit = c.self.inside.limit }) c.self.inside.journal.entries c.args.edit c.in_ok-answer.answer c.self.inside.kept.tables.lines.meter c.make.new.kept.tables.lines.meter c.enter.new.kept.tables.lines.meter c.in_ok-reached.reached.spots.items c.in_ok-reached.reached.lines
     (subst (λ n. n ≤ c.self.inside.kept.tables.lines.meter + size (edit_reach (past_of c.self.inside.journal.entries) c.args.edit)) (sym (ap (λ (k : Kept). k.tables.lines.meter) c.in_ok-answer.ensures.made)) (c.prepare_edit.ensures.meter c.self.inside.plmn centre))
     c.enter.ensures.meter (c.in_ok-reached.ensures.reached c.self.inside.plmn centre c.in_ok-answer.answer (made_is (record { network = c.self.inside.plmn; limit = c.self.inside.limit }) c.self.inside.journal.entries c.args.edit c.in_ok-answer.answer c.in_ok-reached.ensures.few (c.in_ok-answer.ensures.verdict (past_of c.self.inside.journal.entries) (reads_kept (past_of c.self.inside.journal.entries) c.self.inside.kept c.prepare_edit.new.kept (c.self.invariant.whole whole) c.prepare_edit.ensures.reads) (may_be_made (record { network = c.self.inside.plmn; limit = c.self.inside.limit }) c.self.inside.journal.entries c.args.edit c.in_ok-reached.ensures.few (c.in_ok-reached.ensures.accepted c.self.inside.plmn centre))))))
 
@@ -78,8 +78,8 @@ invariant_of-self-2 c =
     let len : c.len-place.result ≡ length c.prepare_edit.new.journal.entries = c.len-place.ensures in
     centre_entered (record { network = c.self.inside.plmn; limit = c.self.inside.limit }) c.self.inside.journal.entries c.prepare_edit.new.journal.entries c.enter.new.journal.entries c.self.inside.stale c.self.inside.kept c.enter.new.kept c.in_ok-entry.entry c.self.invariant c.in_ok-reached.ensures.few c.prepare_edit.ensures.entries c.in_ok-enter.ensures.entry
     (entry_accepted (record { network = c.self.inside.plmn; limit = c.self.inside.limit }) (past_of c.self.inside.journal.entries) c.args.desk (event.Edit c.args.edit) c.in_ok-answer.answer c.in_ok-entry.entry (made_is (record { network = c.self.inside.plmn; limit = c.self.inside.limit }) c.self.inside.journal.entries c.args.edit c.in_ok-answer.answer c.in_ok-reached.ensures.few (c.in_ok-answer.ensures.verdict (past_of c.self.inside.journal.entries) (reads_kept (past_of c.self.inside.journal.entries) c.self.inside.kept c.prepare_edit.new.kept (c.self.invariant.whole whole) c.prepare_edit.ensures.reads) (may_be_made (record { network = c.self.inside.plmn; limit = c.self.inside.limit }) c.self.inside.journal.entries c.args.edit c.in_ok-reached.ensures.few (c.in_ok-reached.ensures.accepted c.self.inside.plmn centre)))) c.in_ok-entry.ensures.entry)
-    (kept_entered c.make.new.kept c.enter.new.kept c.in_ok-entry.entry (past_of c.self.inside.journal.entries) (c.len-place.result + 1) false c.in_ok-reached.reached.spots.items c.in_ok-reached.reached.held.items
-    (edit_enters (record { network = c.self.inside.plmn; limit = c.self.inside.limit }) c.self.inside.journal.entries c.prepare_edit.new.journal.entries c.args.desk c.args.edit c.in_ok-answer.answer c.in_ok-entry.entry c.self.inside.kept c.prepare_edit.new.kept c.make.new.kept c.len-place.result c.in_ok-reached.reached.spots.items c.in_ok-reached.reached.held.items centre c.in_ok-reached.ensures.few c.prepare_edit.ensures.entries len c.prepare_edit.ensures.reads (c.in_ok-answer.ensures.verdict (past_of c.self.inside.journal.entries) (reads_kept (past_of c.self.inside.journal.entries) c.self.inside.kept c.prepare_edit.new.kept (c.self.invariant.whole whole) c.prepare_edit.ensures.reads) (may_be_made (record { network = c.self.inside.plmn; limit = c.self.inside.limit }) c.self.inside.journal.entries c.args.edit c.in_ok-reached.ensures.few (c.in_ok-reached.ensures.accepted c.self.inside.plmn centre))) c.in_ok-answer.ensures.made c.in_ok-entry.ensures.entry (c.in_ok-reached.ensures.reached c.self.inside.plmn centre))
+    (kept_entered c.make.new.kept c.enter.new.kept c.in_ok-entry.entry (past_of c.self.inside.journal.entries) (c.len-place.result + 1) false c.in_ok-reached.reached.spots.items c.in_ok-reached.reached.lines
+    (edit_enters (record { network = c.self.inside.plmn; limit = c.self.inside.limit }) c.self.inside.journal.entries c.prepare_edit.new.journal.entries c.args.desk c.args.edit c.in_ok-answer.answer c.in_ok-entry.entry c.self.inside.kept c.prepare_edit.new.kept c.make.new.kept c.len-place.result c.in_ok-reached.reached.spots.items c.in_ok-reached.reached.lines centre c.in_ok-reached.ensures.few c.prepare_edit.ensures.entries len c.prepare_edit.ensures.reads (c.in_ok-answer.ensures.verdict (past_of c.self.inside.journal.entries) (reads_kept (past_of c.self.inside.journal.entries) c.self.inside.kept c.prepare_edit.new.kept (c.self.invariant.whole whole) c.prepare_edit.ensures.reads) (may_be_made (record { network = c.self.inside.plmn; limit = c.self.inside.limit }) c.self.inside.journal.entries c.args.edit c.in_ok-reached.ensures.few (c.in_ok-reached.ensures.accepted c.self.inside.plmn centre))) c.in_ok-answer.ensures.made c.in_ok-entry.ensures.entry (c.in_ok-reached.ensures.reached c.self.inside.plmn centre))
     c.in_ok-enter.ensures.kept)
 
 pub returns-clause-answer : goal.returns-clause-answer
@@ -92,6 +92,6 @@ pub returns-clause-lines : goal.returns-clause-lines
 returns-clause-lines c =
     let whole : c.self.inside.stale ≡ false = ap (λ (v : CentreState). v.known.stale) c.self.view_is ∙ c.requires.whole in
     let centre : IsCentre (record { network = c.self.inside.plmn; limit = c.self.inside.limit }) c.self.inside.journal.entries false c.self.inside.kept = subst (λ b. IsCentre (record { network = c.self.inside.plmn; limit = c.self.inside.limit }) c.self.inside.journal.entries b c.self.inside.kept) whole c.self.invariant in
-    rw (← c.self.view_is) (edit_lines_then (record { network = c.self.inside.plmn; limit = c.self.inside.limit }) c.self.inside.journal.entries c.args.edit c.in_ok-answer.answer c.self.inside.kept.tables.lines.meter c.make.new.kept.tables.lines.meter c.enter.new.kept.tables.lines.meter c.in_ok-reached.reached.spots.items c.in_ok-reached.reached.held.items
+    rw (← c.self.view_is) (edit_lines_then (record { network = c.self.inside.plmn; limit = c.self.inside.limit }) c.self.inside.journal.entries c.args.edit c.in_ok-answer.answer c.self.inside.kept.tables.lines.meter c.make.new.kept.tables.lines.meter c.enter.new.kept.tables.lines.meter c.in_ok-reached.reached.spots.items c.in_ok-reached.reached.lines
     (subst (λ n. n ≤ c.self.inside.kept.tables.lines.meter + size (edit_reach (past_of c.self.inside.journal.entries) c.args.edit)) (sym (ap (λ (k : Kept). k.tables.lines.meter) c.in_ok-answer.ensures.made)) (c.prepare_edit.ensures.meter c.self.inside.plmn centre))
     c.enter.ensures.meter (c.in_ok-reached.ensures.reached c.self.inside.plmn centre c.in_ok-answer.answer (made_is (record { network = c.self.inside.plmn; limit = c.self.inside.limit }) c.self.inside.journal.entries c.args.edit c.in_ok-answer.answer c.in_ok-reached.ensures.few (c.in_ok-answer.ensures.verdict (past_of c.self.inside.journal.entries) (reads_kept (past_of c.self.inside.journal.entries) c.self.inside.kept c.prepare_edit.new.kept (c.self.invariant.whole whole) c.prepare_edit.ensures.reads) (may_be_made (record { network = c.self.inside.plmn; limit = c.self.inside.limit }) c.self.inside.journal.entries c.args.edit c.in_ok-reached.ensures.few (c.in_ok-reached.ensures.accepted c.self.inside.plmn centre))))))

@@ -38,13 +38,13 @@ enter-requires-clause-finishes c =
     let whole : c.self.inside.stale ≡ false = ap (λ (v : CentreState). v.known.stale) c.self.view_is ∙ c.requires.whole in
     let centre : IsCentre (record { network = c.self.inside.plmn; limit = c.self.inside.limit }) c.self.inside.journal.entries false c.self.inside.kept = subst (λ b. IsCentre (record { network = c.self.inside.plmn; limit = c.self.inside.limit }) c.self.inside.journal.entries b c.self.inside.kept) whole c.self.invariant in
     let len : c.len-place.result ≡ length c.prepare_other.new.journal.entries = c.len-place.ensures in
-    (other_enters (record { network = c.self.inside.plmn; limit = c.self.inside.limit }) c.self.inside.journal.entries c.prepare_other.new.journal.entries c.args.desk c.args.event c.in_ok-found.found.answer c.in_ok-entry.entry c.self.inside.kept c.prepare_other.new.kept c.len-place.result c.up_before-up.result c.in_ok-found.found.reached.spots.items c.in_ok-found.found.reached.held.items centre c.prepare_other.ensures.entries len c.prepare_other.ensures.reads (c.in_ok-found.ensures.verdict centre) c.requires.other c.in_ok-entry.ensures.entry (λ past linked. c.up_before-up.ensures past (subst (AreLinksOf past) (sym c.as_slice.ensures.value) linked)) (c.in_ok-found.ensures.reached centre)).known
+    (other_enters (record { network = c.self.inside.plmn; limit = c.self.inside.limit }) c.self.inside.journal.entries c.prepare_other.new.journal.entries c.args.desk c.args.event c.in_ok-found.found.answer c.in_ok-entry.entry c.self.inside.kept c.prepare_other.new.kept c.len-place.result c.up_before-up.result c.in_ok-found.found.reached.spots.items c.in_ok-found.found.reached.lines centre c.prepare_other.ensures.entries len c.prepare_other.ensures.reads (c.in_ok-found.ensures.verdict centre) c.requires.other c.in_ok-entry.ensures.entry (λ past linked. c.up_before-up.ensures past (subst (AreLinksOf past) (sym c.as_slice.ensures.value) linked)) (c.in_ok-found.ensures.reached centre)).known
 
 pub returns-in_err-enter-clause-lines : goal.returns-in_err-enter-clause-lines
 returns-in_err-enter-clause-lines c =
     let whole : c.self.inside.stale ≡ false = ap (λ (v : CentreState). v.known.stale) c.self.view_is ∙ c.requires.whole in
     let centre : IsCentre (record { network = c.self.inside.plmn; limit = c.self.inside.limit }) c.self.inside.journal.entries false c.self.inside.kept = subst (λ b. IsCentre (record { network = c.self.inside.plmn; limit = c.self.inside.limit }) c.self.inside.journal.entries b c.self.inside.kept) whole c.self.invariant in
-    rw (← c.self.view_is) (lines_then (record { network = c.self.inside.plmn; limit = c.self.inside.limit }) c.self.inside.journal.entries c.args.event c.in_ok-found.found.answer c.self.inside.kept.tables.lines.meter c.prepare_other.new.kept.tables.lines.meter c.enter.new.kept.tables.lines.meter c.in_ok-found.found.reached.spots.items c.in_ok-found.found.reached.held.items (c.in_ok-found.ensures.verdict centre) (c.prepare_other.ensures.meter centre)
+    rw (← c.self.view_is) (lines_then (record { network = c.self.inside.plmn; limit = c.self.inside.limit }) c.self.inside.journal.entries c.args.event c.in_ok-found.found.answer c.self.inside.kept.tables.lines.meter c.prepare_other.new.kept.tables.lines.meter c.enter.new.kept.tables.lines.meter c.in_ok-found.found.reached.spots.items c.in_ok-found.found.reached.lines (c.in_ok-found.ensures.verdict centre) (c.prepare_other.ensures.meter centre)
     c.enter.ensures.meter (c.in_ok-found.ensures.reached centre))
 
 pub invariant_of-self-in_err-enter : goal.invariant_of-self-in_err-enter
@@ -68,13 +68,13 @@ invariant_of-self-2 c =
     let len : c.len-place.result ≡ length c.prepare_other.new.journal.entries = c.len-place.ensures in
     centre_entered (record { network = c.self.inside.plmn; limit = c.self.inside.limit }) c.self.inside.journal.entries c.prepare_other.new.journal.entries c.enter.new.journal.entries c.self.inside.stale c.self.inside.kept c.enter.new.kept c.in_ok-entry.entry c.self.invariant c.in_ok-found.ensures.few c.prepare_other.ensures.entries c.in_ok-enter.ensures.entry
     (entry_accepted (record { network = c.self.inside.plmn; limit = c.self.inside.limit }) (past_of c.self.inside.journal.entries) c.args.desk c.args.event c.in_ok-found.found.answer c.in_ok-entry.entry (c.in_ok-found.ensures.verdict centre) c.in_ok-entry.ensures.entry)
-    (kept_entered c.prepare_other.new.kept c.enter.new.kept c.in_ok-entry.entry (past_of c.self.inside.journal.entries) (c.len-place.result + 1) c.up_before-up.result c.in_ok-found.found.reached.spots.items c.in_ok-found.found.reached.held.items
-    (other_enters (record { network = c.self.inside.plmn; limit = c.self.inside.limit }) c.self.inside.journal.entries c.prepare_other.new.journal.entries c.args.desk c.args.event c.in_ok-found.found.answer c.in_ok-entry.entry c.self.inside.kept c.prepare_other.new.kept c.len-place.result c.up_before-up.result c.in_ok-found.found.reached.spots.items c.in_ok-found.found.reached.held.items centre c.prepare_other.ensures.entries len c.prepare_other.ensures.reads (c.in_ok-found.ensures.verdict centre) c.requires.other c.in_ok-entry.ensures.entry (λ past linked. c.up_before-up.ensures past (subst (AreLinksOf past) (sym c.as_slice.ensures.value) linked)) (c.in_ok-found.ensures.reached centre))
+    (kept_entered c.prepare_other.new.kept c.enter.new.kept c.in_ok-entry.entry (past_of c.self.inside.journal.entries) (c.len-place.result + 1) c.up_before-up.result c.in_ok-found.found.reached.spots.items c.in_ok-found.found.reached.lines
+    (other_enters (record { network = c.self.inside.plmn; limit = c.self.inside.limit }) c.self.inside.journal.entries c.prepare_other.new.journal.entries c.args.desk c.args.event c.in_ok-found.found.answer c.in_ok-entry.entry c.self.inside.kept c.prepare_other.new.kept c.len-place.result c.up_before-up.result c.in_ok-found.found.reached.spots.items c.in_ok-found.found.reached.lines centre c.prepare_other.ensures.entries len c.prepare_other.ensures.reads (c.in_ok-found.ensures.verdict centre) c.requires.other c.in_ok-entry.ensures.entry (λ past linked. c.up_before-up.ensures past (subst (AreLinksOf past) (sym c.as_slice.ensures.value) linked)) (c.in_ok-found.ensures.reached centre))
     c.in_ok-enter.ensures.kept)
 
 pub returns-clause-lines : goal.returns-clause-lines
 returns-clause-lines c =
     let whole : c.self.inside.stale ≡ false = ap (λ (v : CentreState). v.known.stale) c.self.view_is ∙ c.requires.whole in
     let centre : IsCentre (record { network = c.self.inside.plmn; limit = c.self.inside.limit }) c.self.inside.journal.entries false c.self.inside.kept = subst (λ b. IsCentre (record { network = c.self.inside.plmn; limit = c.self.inside.limit }) c.self.inside.journal.entries b c.self.inside.kept) whole c.self.invariant in
-    rw (← c.self.view_is) (lines_then (record { network = c.self.inside.plmn; limit = c.self.inside.limit }) c.self.inside.journal.entries c.args.event c.in_ok-found.found.answer c.self.inside.kept.tables.lines.meter c.prepare_other.new.kept.tables.lines.meter c.enter.new.kept.tables.lines.meter c.in_ok-found.found.reached.spots.items c.in_ok-found.found.reached.held.items (c.in_ok-found.ensures.verdict centre) (c.prepare_other.ensures.meter centre)
+    rw (← c.self.view_is) (lines_then (record { network = c.self.inside.plmn; limit = c.self.inside.limit }) c.self.inside.journal.entries c.args.event c.in_ok-found.found.answer c.self.inside.kept.tables.lines.meter c.prepare_other.new.kept.tables.lines.meter c.enter.new.kept.tables.lines.meter c.in_ok-found.found.reached.spots.items c.in_ok-found.found.reached.lines (c.in_ok-found.ensures.verdict centre) (c.prepare_other.ensures.meter centre)
     c.enter.ensures.meter (c.in_ok-found.ensures.reached centre))
