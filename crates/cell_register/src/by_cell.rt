@@ -53,12 +53,49 @@ fn find(c: Cell, places: &[Placed]) -> Option<usize>
     }
 }
 
+/// Whether the cell stands at that place.
+fn is_at(c: Cell, places: &[Placed], index: usize) -> bool
+    ensures { result ≡ true → StandsAt c places.now index }
+{
+    match places.get(index) {
+        Some(place) => place.cell == c,
+        None => false,
+    }
+}
+
+/// The same as `find`. The cell is looked for first at the given place and at the next one.
+fn find_near(c: Cell, places: &[Placed], near: usize) -> Option<usize>
+    requires { is_ascending placed_lt places.now ≡ true }
+    ensures there { IfSome result (λ n. StandsAt c places.now n) }
+    ensures absent { IfNone result (list_any (λ p. cell_eq p.cell c) places.now ≡ false) }
+{
+    let next = near.saturating_add(1);
+    if is_at(c, places, next) {
+        return Some(next);
+    }
+    if is_at(c, places, near) {
+        return Some(near);
+    }
+    find(c, places)
+}
+
 /// The BSC at which the cell is registered.
 pub(crate) fn bsc_of(c: Cell, places: &[Placed]) -> Option<BscId>
     requires { is_ascending placed_lt places.now ≡ true }
     ensures { result ≡ place_among places.now c }
 {
     let index = find(c, places)?;
+    Some(places[index].bsc)
+}
+
+/// The same as `bsc_of`. The cell is looked for first at the given place and at the next one, and where it is found, that
+/// is the place from then on.
+pub(crate) fn bsc_near(c: Cell, places: &[Placed], near: &mut usize) -> Option<BscId>
+    requires { is_ascending placed_lt places.now ≡ true }
+    ensures { result ≡ place_among places.now c }
+{
+    let index = find_near(c, places, *near)?;
+    *near = index;
     Some(places[index].bsc)
 }
 

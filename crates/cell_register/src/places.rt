@@ -114,7 +114,7 @@ fn has_cells_without_index(b: BscId, places: &[Placed]) -> bool
 fn cells_alone(alloc: Global, places: &[Placed]) -> Result<Cells, AllocError>
     ensures { IfOk result (λ found. found ≡ map cell_of places.now) }
 {
-    let mut found = Vec::new(alloc);
+    let mut found = Vec::with_capacity(alloc, places.len())?;
     for place in places {
         found.push(place.cell)?;
     }
@@ -142,6 +142,14 @@ impl Places {
         ensures { result ≡ place_among self.now c }
     {
         by_cell::bsc_of(c, self.places.as_slice())
+    }
+
+    /// The same as `bsc_of`. The cell is looked for first at the given place and at the next one, and where it is found,
+    /// that is the place from then on.
+    pub(crate) fn bsc_near(&self, c: Cell, near: &mut usize) -> Option<BscId>
+        ensures { result ≡ place_among self.now c }
+    {
+        by_cell::bsc_near(c, self.places.as_slice(), near)
     }
 
     /// Whether a cell is registered at the BSC.

@@ -79,6 +79,16 @@ impl Register {
         self.places.bsc_of(c)
     }
 
+    /// The same as `bsc_of`, for a caller who asks for several cells in ascending order. `near` is where the last of them
+    /// stands among the registered cells, and 0 before the first. The cell is looked for there and at the next place, and
+    /// otherwise by a binary search. Where it is registered, `near` becomes its place; otherwise `near` stays. Only the
+    /// time depends on `near`, which can be any number.
+    pub fn bsc_near(&self, c: Cell, near: &mut usize) -> Option<BscId>
+        ensures { result ≡ place_in self.now c }
+    {
+        self.places.bsc_near(c, near)
+    }
+
     /// The cells that are registered at the BSC, in ascending order; none where there is no such BSC.
     pub fn cells_of(&self, b: BscId) -> Result<Cells, AllocError>
         ensures { IfOk result (λ cells. cells ≡ cells_of self.now b) }
