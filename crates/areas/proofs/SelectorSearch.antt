@@ -1,11 +1,12 @@
 -- In a list in order a selector stands where those before it end.
 use Rattle.std.proofs.Common.{◌≡◌, ℕ, ◌<◌, ◌≤◌, Bool, true, false, ◌||◌, List, length, take, drop, get_or, nat_eq, ltb, ltb-true, ltb-false, refl, sym, ap, ◌∙◌, arith}
+use Rattle.std.specs.List.{AllWithin}
 use Rattle.std.specs.List.Sorted.{IsPartitionPoint, IsPartitionedBy}
 use Rattle.std.proofs.lemmas.Bool.{false_from_ne_true}
 use Rattle.std.proofs.lemmas.List.Elements.{All-from_get_or}
 use Rattle.std.proofs.lemmas.Bool.Decides.{nat_tests}
 use Rattle.std.proofs.lemmas.Grind.{common_steps}
-use Rattle.std.proofs.lemmas.List.{get_or-take, length-take-le, take-append-drop}
+use Rattle.std.proofs.lemmas.List.{get_or_default, get_or-take, length-take-le, take-append-drop}
 use Rattle.std.proofs.lemmas.List.Folds.{list_any-append, list_any_at, list_any_none}
 use Rattle.common.specs.Order.{is_ascending}
 use Rattle.common.specs.declared.cell.Cell.{Cell}
@@ -32,6 +33,14 @@ comes_before s x = selector_lt x s
 -- a selector before one that comes before s does so too
 pub parted : (s : Selector) (xs : List Selector) → is_ascending selector_lt xs ≡ true → IsPartitionedBy (comes_before s) xs
 parted s xs o = rising.parted selector_lt (comes_before s) (λ x y h g. selector_follows x y s h g) xs o
+
+-- where all before a place come before s, and the one there doesn't, is the point
+pub point_at : (s : Selector) (xs : List Selector) (n : ℕ) (d : Selector) → is_ascending selector_lt xs ≡ true → n < length xs → AllWithin (λ x. comes_before s x ≡ true) xs 0 n → comes_before s (get_or xs n d) ≡ false → IsPartitionPoint (λ x. comes_before s x ≡ true) (λ x. comes_before s x ≡ false) xs n
+point_at s xs n d o h before at = (before, later)
+  where
+    later : AllWithin (λ x. comes_before s x ≡ false) xs n (length xs)
+    later k e a b =
+        false_from_ne_true (comes_before s (get_or xs k e)) (λ t. let no : true ≡ false = sym (parted s xs o n k e a b t) ∙ ap (comes_before s) (get_or_default xs n e d h) ∙ at in cc)
 
 -- a selector that comes before s is another
 other_before : (s x : Selector) → comes_before s x ≡ true → selector_eq x s ≡ false

@@ -1,17 +1,19 @@
 -- What is told of a location area: alike of all, with one more selector, and what it says of a cell.
-use Rattle.std.proofs.Common.{◌≡◌, ℕ, zero, suc, ◌≤◌, ◌-◌, Bool, true, false, ◌||◌, not, cond, List, [], ◌∷◌, ◌++◌, length, take, drop, get_or, nat_le, replicate, refl, sym, ap, ◌∙◌, arith}
+use Rattle.std.proofs.Common.{◌≡◌, ℕ, zero, suc, ◌≤◌, ◌-◌, ◌/◌, ◌%◌, ◌^◌, Bool, true, false, ◌&&◌, ◌||◌, not, cond, List, [], ◌∷◌, ◌++◌, length, take, drop, get_or, nat_eq, nat_le, replicate, refl, sym, ap, ◌∙◌, arith}
+use Rattle.std.proofs.Math.Nat.{div-one}
 use Rattle.std.proofs.Math.Seq.{take-append_seam}
 use Rattle.std.specs.List.{list_any, list_all}
-use Rattle.std.proofs.lemmas.Bool.{and_from, and_parts, or_from, or_parts}
+use Rattle.std.proofs.lemmas.Bool.{eqb-true, and_from, and_parts, or_from, or_parts}
 use Rattle.std.proofs.lemmas.Bool.Decides.{nat_tests}
+use Rattle.std.proofs.lemmas.Grind.{common_steps}
 use Rattle.std.proofs.lemmas.List.{length-append, take-append-drop, take-append-le}
 use Rattle.std.proofs.lemmas.List.Folds.{list_any-append}
 use Rattle.common.specs.Order.{is_ascending}
 use Rattle.common.specs.declared.cell.Cell.{Cell}
 use Rattle.areas.proofs.SelectorSearch.{comes_before, or_none, or_true, other_after, other_area}
 use Rattle.areas.specs.Areas.{is_among, selects}
-use Rattle.areas.specs.Selector.{selector_eq, selector_lt}
-use Rattle.areas.specs.Shares.{is_of, tells, with_selector, share_of, Tells}
+use Rattle.areas.specs.Selector.{lac_of, selector_eq, selector_lt}
+use Rattle.areas.specs.Shares.{is_of, tells, are_together, is_whole, range_of, with_selector, share_of, Tells}
 use Rattle.areas.specs.declared.selector.Selector.{Selector}
 use Rattle.areas.specs.declared.selector.Selector.TheVariants as selector
 use Rattle.areas.specs.declared.share.Share.{Share}
@@ -40,10 +42,11 @@ pub from_start : (xs : List Selector) (l : ℕ) → tells xs l (From 0) ≡ true
 from_start xs l = and_from (nat_le 0 (length xs)) (not (list_any (is_of l) (take 0 xs))) (grind (arith, nat_tests)) refl
 
 -- where what is told of each location area holds of it, all that is told holds
-pub alike_tells : (xs : List Selector) (first : ℕ) (x : Share) → ((l : ℕ) → tells xs l x ≡ true) → Tells xs (record { first = first; shares = replicate 64 x })
-alike_tells xs first x h l =
+pub alike_tells : (xs : List Selector) (first shift : ℕ) (x : Share) → ((l : ℕ) → tells xs l x ≡ true) → Tells xs (record { first = first; shift = shift; shares = replicate 64 x })
+alike_tells xs first shift x h l =
     let P = λ (s : Share). tells xs l s ≡ true in
-    either P (nat_le first l) (get_or (replicate 64 x) (l - first) (From 0)) (From 0) (alike_at P x (From 0) (h l) (from_start xs l) 64 (l - first)) (from_start xs l)
+    let range : ℕ = (l - first) / 2 ^ (shift % 16) in
+    either P (nat_le first l) (get_or (replicate 64 x) range (From 0)) (From 0) (alike_at P x (From 0) (h l) (from_start xs l) 64 range) (from_start xs l)
 
 -- one more that fails the test, one more that passes it, and one more after one that does
 none_more : (p : Selector → Bool) (xs : List Selector) (s : Selector) → list_any p xs ≡ false → p s ≡ false → list_any p (xs ++ s ∷ []) ≡ false
@@ -80,12 +83,14 @@ from_end xs s l h =
     let more : nat_le (length xs) (length (xs ++ s ∷ [])) ≡ true = grind (arith, nat_tests, length-append xs (s ∷ [])) in
     and_from (nat_le (length xs) (length (xs ++ s ∷ []))) (not (list_any (is_of l) (take (length xs) (xs ++ s ∷ [])))) more (ap (λ ys. not (list_any (is_of l) ys)) (take-append_seam xs (s ∷ [])) ∙ h)
 
--- what is told holds with one more selector of the location area
-here_more : (xs : List Selector) (s : Selector) (l : ℕ) (x : Share) → is_of l s ≡ true → tells xs l x ≡ true → tells (xs ++ s ∷ []) l (with_selector x s (length xs)) ≡ true
-here_more xs (selector.Lac k) l Nothing g h = any_last (λ t. selector_eq t (selector.Lac l)) xs (selector.Lac k) g
-here_more xs (selector.Cell c) l Nothing g h = from_end xs (selector.Cell c) l h
-here_more xs s l All g h = any_still (λ t. selector_eq t (selector.Lac l)) xs s h
-here_more xs s l (From n) g h = from_more xs s l n h
+-- what is told of a range holds with one more selector in it, if that is the location area itself where it is the whole
+here_more : (xs : List Selector) (s : Selector) (l : ℕ) (whole : Bool) (x : Share) → (whole ≡ true → selector_eq s (selector.Lac l) ≡ true) → tells xs l x ≡ true → tells (xs ++ s ∷ []) l (with_selector whole x (length xs)) ≡ true
+here_more xs s l true Nothing g h = any_last (λ t. selector_eq t (selector.Lac l)) xs s (g refl)
+here_more xs s l false Nothing g h = from_end xs s l h
+here_more xs s l true All g h = any_still (λ t. selector_eq t (selector.Lac l)) xs s h
+here_more xs s l false All g h = any_still (λ t. selector_eq t (selector.Lac l)) xs s h
+here_more xs s l true (From n) g h = from_more xs s l n h
+here_more xs s l false (From n) g h = from_more xs s l n h
 
 -- and with one more of another
 other_more : (xs : List Selector) (s : Selector) (l : ℕ) (x : Share) → is_of l s ≡ false → tells xs l x ≡ true → tells (xs ++ s ∷ []) l x ≡ true
@@ -93,13 +98,37 @@ other_more xs s l Nothing g h = not_so (list_any (is_of l) (xs ++ s ∷ [])) (no
 other_more xs s l All g h = any_still (λ t. selector_eq t (selector.Lac l)) xs s h
 other_more xs s l (From n) g h = from_more xs s l n h
 
--- what is told with one more selector holds
-pub tells_more : (xs : List Selector) (s : Selector) (old new : Shares) → ((l : ℕ) → share_of new l ≡ cond (is_of l s) (with_selector (share_of old l) s (length xs)) (share_of old l)) → Tells xs old → Tells (xs ++ s ∷ []) new
-tells_more xs s old new e h l = ap (tells (xs ++ s ∷ []) l) (e l) ∙ step (is_of l s) refl
+-- a selector that is all of its range is each location area of the range
+whole_is : (t : Shares) (s : Selector) (l : ℕ) → is_whole t s ≡ true → are_together t (lac_of s) l ≡ true → selector_eq s (selector.Lac l) ≡ true
+whole_is t (selector.Lac k) l w g = one (t.shift % 16) (eqb-true (t.shift % 16) 0 w) g
   where
-    step : (t : Bool) → is_of l s ≡ t → tells (xs ++ s ∷ []) l (cond t (with_selector (share_of old l) s (length xs)) (share_of old l)) ≡ true
-    step true g = here_more xs s l (share_of old l) g (h l)
-    step false g = other_more xs s l (share_of old l) g (h l)
+    one : (n : ℕ) → n ≡ 0 → (nat_le t.first k && (nat_le t.first l && nat_eq ((k - t.first) / 2 ^ n) ((l - t.first) / 2 ^ n))) ≡ true → nat_eq k l ≡ true
+    one zero e g =
+        let whole_k : (k - t.first) / 2 ^ 0 ≡ k - t.first = div-one (k - t.first) in
+        let whole_l : (l - t.first) / 2 ^ 0 ≡ l - t.first = div-one (l - t.first) in
+        grind (arith, nat_tests, common_steps)
+    one (suc n) e g = cc
+whole_is t (selector.Cell c) l w g = cc
+
+-- a location area in another range is another
+apart : (t : Shares) (k l : ℕ) → are_together t k l ≡ false → nat_le t.first l ≡ true → nat_eq k l ≡ false
+apart t k l g h = step (nat_eq k l) refl
+  where
+    step : (e : Bool) → nat_eq k l ≡ e → e ≡ false
+    step false e = refl
+    step true e = let same : k ≡ l = eqb-true k l e in grind (arith, nat_tests, common_steps)
+
+-- what is told with one more selector holds
+pub tells_more : (xs : List Selector) (s : Selector) (old new : Shares) → ((l : ℕ) → share_of new l ≡ cond (are_together old (lac_of s) l) (with_selector (is_whole old s) (share_of old l) (length xs)) (share_of old l)) → Tells xs old → Tells (xs ++ s ∷ []) new
+tells_more xs s old new e h l = ap (tells (xs ++ s ∷ []) l) (e l) ∙ step (are_together old (lac_of s) l) refl
+  where
+    other : (t : Bool) → nat_le old.first l ≡ t → are_together old (lac_of s) l ≡ false → tells (xs ++ s ∷ []) l (share_of old l) ≡ true
+    other true f g = other_more xs s l (share_of old l) (apart old (lac_of s) l g f) (h l)
+    other false f g = ap (λ t. tells (xs ++ s ∷ []) l (cond t (get_or old.shares (range_of old l) (From 0)) (From 0))) f ∙ from_start (xs ++ s ∷ []) l
+
+    step : (t : Bool) → are_together old (lac_of s) l ≡ t → tells (xs ++ s ∷ []) l (cond t (with_selector (is_whole old s) (share_of old l) (length xs)) (share_of old l)) ≡ true
+    step true g = here_more xs s l (is_whole old s) (share_of old l) (λ w. whole_is old s l w g) (h l)
+    step false g = other (nat_le old.first l) refl g
 
 -- nor is a cell of it
 none_is_cell : (c : Cell) (xs : List Selector) → list_any (is_of c.lac) xs ≡ false → is_among (selector.Cell c) xs ≡ false

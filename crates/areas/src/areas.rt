@@ -157,7 +157,7 @@ impl Areas {
     {
         self.check_put(a, s)?;
         self.holders.insert(self.alloc, s, a)?;
-        match edits::put(&mut self.list, a, s) {
+        match edits::put(self.alloc, &mut self.list, a, s) {
             Ok(()) => Ok(()),
             Err(_) => {
                 self.holders.remove(s, a);
@@ -206,14 +206,14 @@ impl Areas {
     pub fn covers(&self, a: &Name, c: Cell) -> bool
         ensures { result ≡ covers self.now a.now c }
     {
-        lookups::covers(self.list.as_slice(), a, c)
+        self.coverage(a).covers(c)
     }
 
     /// What the area covers, to ask of many cells; nothing where there is no such area.
     pub fn coverage(&self, a: &Name) -> Coverage<'_>
         ensures { result ≡ selectors_of self.now a.now }
     {
-        Coverage::of(lookups::selectors_of(self.list.as_slice(), a))
+        Coverage::of(self.list.as_slice(), a)
     }
 
     /// The names of the areas that cover the cell, in the order of their octets.

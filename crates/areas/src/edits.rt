@@ -32,7 +32,12 @@ pub(crate) fn drop_area(areas: &mut Vec<Area>, a: &Name)
 }
 
 /// Puts the selector into the area.
-pub(crate) fn put(areas: &mut Vec<Area>, a: &Name, s: Selector) -> Result<(), AllocError>
+pub(crate) fn put(
+    alloc: Global,
+    areas: &mut Vec<Area>,
+    a: &Name,
+    s: Selector,
+) -> Result<(), AllocError>
     requires { is_ascending named_lt areas.old.items ≡ true }
     ensures put { OnOk result (areas.new.items ≡ with_selector a.now s areas.old.items) }
     ensures unchanged { OnErr result (areas.new.items ≡ areas.old.items) }
@@ -40,7 +45,7 @@ pub(crate) fn put(areas: &mut Vec<Area>, a: &Name, s: Selector) -> Result<(), Al
     let place = place_of(areas.as_slice(), a);
     if place < areas.len() {
         let area = &mut areas[place];
-        area.selectors.insert(s)?;
+        area.selectors.insert(alloc, s)?;
     }
     Ok(())
 }

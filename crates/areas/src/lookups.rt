@@ -1,10 +1,10 @@
 //! What a list of areas has.
 
-ghost use Rattle.std.specs.Prelude.{◌≡◌, ◌≤◌, true, false, List, ℕ, length};
+ghost use Rattle.std.specs.Prelude.{◌≡◌, ◌≤◌, true, false, List, ℕ, length, IfSome};
 ghost use Rattle.std.specs.List.{position_or_len};
 ghost use Rattle.std.specs.List.Sorted.{IsPartitionPoint};
 ghost use Rattle.common.specs.Order.{is_ascending};
-ghost use Rattle.areas.specs.Areas.{is_named, has_area, selectors_of, has_selector, is_among, selects, covers, named_lt};
+ghost use Rattle.areas.specs.Areas.{is_named, has_area, selectors_of, has_selector, is_among, selects, named_lt};
 ghost use Rattle.areas.specs.Selector.{selector_lt};
 ghost use Rattle.areas.specs.declared.selector.Selector.TheVariants as selector;
 
@@ -100,20 +100,41 @@ fn has_cell(selectors: &[Selector], c: Cell) -> bool
     is_among(selectors, Selector::Cell(c))
 }
 
-/// Where the selectors of the location area, or of one after it, begin. The first is looked at first.
+/// How many selectors are looked at before the others are searched.
+const NEAR: usize = 32;
+
+/// Where the selectors of the location area, or of one after it, begin, if the first ones tell.
+fn start_near(selectors: &[Selector], lac: u16) -> Option<usize>
+    requires { is_ascending selector_lt selectors.now ≡ true }
+    ensures bound { IfSome result (λ n. n ≤ length selectors.now) }
+    ensures start { IfSome result (IsPartitionPoint (λ s. selector_lt s (selector.Lac lac) ≡ true) (λ s. selector_lt s (selector.Lac lac) ≡ false) selectors.now) }
+{
+    for (place, s) in selectors.iter().enumerate() {
+        if !is_before_lac(*s, lac) {
+            return Some(place);
+        }
+        if place == NEAR {
+            return None;
+        }
+    }
+    Some(selectors.len())
+}
+
+/// Where the selectors of the location area, or of one after it, begin. The first ones are looked at first.
 fn start_of(selectors: &[Selector], lac: u16) -> usize
     requires { is_ascending selector_lt selectors.now ≡ true }
     ensures bound { result ≤ length selectors.now }
     ensures start { IsPartitionPoint (λ s. selector_lt s (selector.Lac lac) ≡ true) (λ s. selector_lt s (selector.Lac lac) ≡ false) selectors.now result }
 {
-    match selectors {
-        [first, ..] if !is_before_lac(*first, lac) => 0,
-        _ => selectors.partition_point(|other| is_before_lac(*other, lac)),
+    match start_near(selectors, lac) {
+        Some(start) => start,
+        None => selectors.partition_point(|other| is_before_lac(*other, lac)),
     }
 }
 
 /// Whether one of the selectors, which stand in their order, is the cell or its location area. The first of that location
 /// area tells, unless it is another cell of it.
+#[inline(never)]
 pub(crate) fn selects(selectors: &[Selector], c: Cell) -> bool
     requires { is_ascending selector_lt selectors.now ≡ true }
     ensures { result ≡ selects selectors.now c }
@@ -126,13 +147,4 @@ pub(crate) fn selects(selectors: &[Selector], c: Cell) -> bool
         Selector::Lac(lac) => lac == c.lac,
         Selector::Cell(first) => first.lac == c.lac && has_cell(&selectors[start..], c),
     }
-}
-
-/// Whether the area covers the cell.
-pub(crate) fn covers(areas: &[Area], a: &Name, c: Cell) -> bool
-    requires ascending { is_ascending named_lt areas.now ≡ true }
-    requires ordered { (a : List ℕ) → is_ascending selector_lt (selectors_of areas.now a) ≡ true }
-    ensures { result ≡ covers areas.now a.now c }
-{
-    selects(selectors_of(areas, a), c)
 }

@@ -33,5 +33,14 @@ pub(crate) fn is_before(a: &Name, b: &Name) -> bool
 {
     let first = a.as_slice();
     let second = b.as_slice();
-    first < second
+    for (place, octet) in first.iter().enumerate() {
+        if place >= second.len() {
+            return false;
+        }
+        let other = second[place];
+        if *octet != other {
+            return *octet < other;
+        }
+    }
+    first.len() < second.len()
 }

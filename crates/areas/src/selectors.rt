@@ -1,30 +1,57 @@
 //! A list of selectors.
 
-ghost use Rattle.std.specs.Prelude.{◌≡◌, ◌↔◌, IsTrue, OnOk, OnErr};
+ghost use Rattle.std.specs.Prelude.{◌≡◌, ◌↔◌, IsTrue, IfSome, OnOk, OnErr};
 ghost use Rattle.std.specs.Cmp.{decided, partial_equiv_from_equiv};
 ghost use Rattle.std.specs.Cmp.Lexicographic.{pointwise};
+ghost use Rattle.std.specs.Option.{option_copied};
 ghost use Rattle.areas.specs.Areas.{with_one, without};
 ghost use Rattle.areas.specs.Equality.{selectors_decide};
 ghost use Rattle.areas.specs.Selector.{selector_eq};
+ghost use Rattle.areas.specs.Shares.{Tells};
 
 use crate::selector::Selector;
+use crate::shares::Shares;
 use common::insert_in_order;
-use std::alloc::AllocError;
+use std::alloc::{AllocError, Global};
 use std::marker::Model;
 
 /// Selectors. An area's are kept in their order, by location area, each once.
 #[derive(Clone, Debug, Drop)]
 pub struct Selectors {
     selectors: Vec<Selector>,
+    /// What is told by them. It is not there before the first is put in, nor where there was no memory for it.
+    shares: Option<Box<Shares>>,
 }
 
 impl Model for Selectors {
-    ghost use Rattle.std.specs.Prelude.{List};
+    ghost use Rattle.std.specs.Prelude.{List, IfSome};
+    ghost use Rattle.areas.specs.Shares.{Tells};
     ghost use Rattle.areas.specs.declared.selector.Selector.{Selector};
 
     ghost Value = { List Selector };
 
     ghost view = { λ s. s.selectors.items };
+
+    ghost invariant = { λ s. IfSome s.shares (λ kept. Tells s.selectors.items kept.value) };
+}
+
+/// Has what is kept be what those selectors tell, if anything is kept.
+fn tell(selectors: &[Selector], shares: &mut Option<Box<Shares>>)
+    ensures { IfSome shares.new (λ kept. Tells selectors.now kept.value) }
+{
+    if let Some(kept) = shares {
+        **kept = Shares::of(selectors);
+    }
+}
+
+/// What those selectors tell, in memory of its own, if there is any.
+fn kept_if_possible(alloc: Global, selectors: &[Selector]) -> Option<Box<Shares>>
+    ensures { IfSome result (λ kept. Tells selectors.now kept.value) }
+{
+    match Box::new(alloc, Shares::of(selectors)) {
+        Ok(kept) => Some(kept),
+        Err(_) => None,
+    }
 }
 
 impl Selectors {
@@ -32,7 +59,10 @@ impl Selectors {
     pub fn from_vec(selectors: Vec<Selector>) -> Selectors
         ensures { result ≡ selectors.items }
     {
-        Selectors { selectors }
+        Selectors {
+            selectors,
+            shares: None,
+        }
     }
 
     pub fn as_slice(&self) -> &[Selector]
@@ -45,16 +75,33 @@ impl Selectors {
     pub fn into_vec(self) -> Vec<Selector>
         ensures { result.items ≡ self }
     {
-        let Selectors { selectors } = self;
+        let Selectors {
+            selectors,
+            shares: _,
+        } = self;
         selectors
     }
 
+    /// What is told by the selectors, if it is kept.
+    pub(crate) fn shares(&self) -> Option<&Shares>
+        ensures { IfSome (option_copied result) (Tells self.now) }
+    {
+        match &self.shares {
+            Some(kept) => Some(&**kept),
+            None => None,
+        }
+    }
+
     /// Puts the selector in its place.
-    pub(crate) fn insert(&mut self, s: Selector) -> Result<(), AllocError>
+    pub(crate) fn insert(&mut self, alloc: Global, s: Selector) -> Result<(), AllocError>
         ensures put { OnOk result (self.new ≡ with_one s self.old) }
         ensures unchanged { OnErr result (self.new ≡ self.old) }
     {
         insert_in_order(s, &mut self.selectors)?;
+        match &self.shares {
+            Some(_) => tell(self.selectors.as_slice(), &mut self.shares),
+            None => self.shares = kept_if_possible(alloc, self.selectors.as_slice()),
+        }
         Ok(())
     }
 
@@ -63,6 +110,7 @@ impl Selectors {
         ensures { self.new ≡ without s self.old }
     {
         self.selectors.retain(|t| *t != s);
+        tell(self.selectors.as_slice(), &mut self.shares);
     }
 }
 

@@ -1,6 +1,10 @@
-use Rattle.areas.proofs.OrderLemmas.{octets_before}
+use Rattle.std.proofs.Common.{◌≡◌, ◌∙◌, length, arith}
+use Rattle.areas.proofs.OrderLemmas.{first_ends}
 use Rattle.areas.proofs.naming.is_before.Goals as goal
 
 pub returns : goal.returns
 returns c =
-    rw (← c.as_slice-first.ensures, ← c.as_slice-second.ensures) (octets_before c.as_slice-first.result.now c.as_slice-second.result.now c.lt.result c.lt.ensures)
+    let first = c.as_slice-first.result.now in
+    let second = c.as_slice-second.result.now in
+    let all : length first ≡ c.loop-place.place = omega arith in
+    rw (← c.as_slice-first.ensures, ← c.as_slice-second.ensures) (first_ends first second c.loop-place.place all ∙ c.loop-place.invariant)

@@ -9,7 +9,7 @@ use Rattle.areas.proofs.coverage.Coverage.covers.Goals as goal
 pub returns-in-Nothing : goal.returns-in-Nothing
 returns-in-Nothing c =
     let xs = c.self.inside.selectors.now in
-    let told : tells xs c.args.c.lac Nothing ≡ true = ap (tells xs c.args.c.lac) (sym c.in-Nothing.is ∙ c.share.ensures) ∙ c.self.invariant.told c.args.c.lac in
+    let told : tells xs c.args.c.lac Nothing ≡ true = ap (tells xs c.args.c.lac) (sym c.in-Nothing.is) ∙ rw c.self.view_is c.share.ensures in
     rw (← c.self.view_is) (none_selected c.args.c xs told)
 
 pub selects-requires : goal.selects-requires
@@ -21,6 +21,6 @@ selects-requires c =
 pub returns-in-From : goal.returns-in-From
 returns-in-From c =
     let xs = c.self.inside.selectors.now in
-    let told : tells xs c.args.c.lac (From c.in-From.place) ≡ true = ap (tells xs c.args.c.lac) (sym c.in-From.is ∙ c.share.ensures) ∙ c.self.invariant.told c.args.c.lac in
+    let told : tells xs c.args.c.lac (From c.in-From.place) ≡ true = ap (tells xs c.args.c.lac) (sym c.in-From.is) ∙ rw c.self.view_is c.share.ensures in
     let rest : take (length xs - c.from.result) (drop c.from.result xs) ≡ drop c.from.result xs = take_all (length xs - c.from.result) (drop c.from.result xs) (omega (arith, length-drop c.from.result xs)) in
     rw (← c.self.view_is) (c.selects.ensures ∙ ap (λ ys. selects ys c.args.c) (rest ∙ ap (λ n. drop n xs) c.from.ensures) ∙ selected_behind c.args.c xs c.in-From.place told)
