@@ -1,29 +1,25 @@
 -- The lines of a warning at a BSC, by their cells: each cell's at its own line, in ascending order.
-use Rattle.std.proofs.Common.{◌≡◌, ℕ, ◌+◌, ◌≤◌, ◌<◌, ◌%◌, Bool, true, false, cond, ◌&&◌, ◌||◌, not, nat_eq, List, [], ◌∷◌, Option, Some, None, length, map, filter, if◌then◌else◌, refl, sym, ◌∙◌, ap, arith, Less}
+use Rattle.std.proofs.Common.{◌≡◌, ℕ, ◌+◌, ◌≤◌, Bool, true, false, cond, ◌&&◌, ◌||◌, not, nat_eq, List, [], ◌∷◌, Some, None, length, map, filter, if◌then◌else◌, refl, sym, ◌∙◌, ap, arith, Less}
 use Rattle.std.proofs.lemmas.Bool.{and_parts, and_from, and_right, not-true, false_from_ne_true}
-use Rattle.std.proofs.lemmas.List.{get_or-replicate, length-map}
+use Rattle.std.proofs.lemmas.List.{length-map}
 use Rattle.std.proofs.lemmas.Map.Keys.{sorted_head, sorted_tail}
 use Rattle.std.specs.List.{list_any, list_all, AllByRecursion}
 use Rattle.std.specs.List.Sorted.{IsStrictlySortedBy}
 use Rattle.std.specs.Map.{keys_of, lookup}
 use Rattle.std.specs.Option.{unwrap_or}
-use Rattle.cell_register.specs.CellLaws.{cell_lt_follows}
 use Rattle.common.specs.Cell.{cell_eq, cell_lt}
 use Rattle.common.specs.Equality.{cell_decides}
 use Rattle.common.specs.OnceLaws.{DecidesAll, any_turned, any_without_key, ascending_once}
 use Rattle.common.specs.Order.{is_ascending, each_once}
 use Rattle.common.specs.OrderLaws.{length_filter}
-use Rattle.common.specs.SortingLaws.{same_ascending}
 use Rattle.common.specs.declared.cell.Cell.{Cell}
-use Rattle.mirror.proofs.KeyLemmas.{before_cell_of, other_slot, not_before_itself, cell_apart}
-use Rattle.mirror.proofs.OnAirLemmas.{filter_twice}
+use Rattle.mirror.proofs.KeyLemmas.{before_cell_of, other_slot, cell_apart}
 use Rattle.mirror.specs.Blank.{is_blank}
 use Rattle.mirror.specs.BlankLaws.{blank_decides}
-use Rattle.mirror.specs.Line.{blank, blank_line, state_of}
-use Rattle.mirror.specs.OnAir.{is_after, AreOnAir, is_slot_for, on_air_cells}
+use Rattle.mirror.specs.Line.{blank_line}
+use Rattle.mirror.specs.OnAir.{is_slot_for}
 use Rattle.mirror.specs.Order.{Slot, slot_cmp}
-use Rattle.mirror.specs.Seen.{is_on_air}
-use Rattle.mirror.specs.Table.{Table, is_slot}
+use Rattle.mirror.specs.Table.{is_slot}
 use Rattle.mirror.specs.declared.line.Line.{Line}
 
 -- The cells of those lines of a warning that pass a test.
@@ -58,7 +54,8 @@ none_later b c w s h [] l = refl
 none_later b c w s h (e ∷ es) l =
     ap (λ t. cond t (Some e.1) (lookup (is_slot b c w) es)) (other_slot b c w s e.0 h l.0) ∙ none_later b c w s h es l.1
 
-any_kept : {A : Type 0} (keep : A → Bool) (cell : A → Cell) (c : Cell) (x : A) (xs : List A) → list_any (cell_eq c) (map cell (filter keep (x ∷ xs))) ≡ ((keep x && cell_eq c (cell x)) || list_any (cell_eq c) (map cell (filter keep xs)))
+-- of what a test keeps, a cell is one where it is the first's and that is kept, or is of the others
+pub any_kept : {A : Type 0} (keep : A → Bool) (cell : A → Cell) (c : Cell) (x : A) (xs : List A) → list_any (cell_eq c) (map cell (filter keep (x ∷ xs))) ≡ ((keep x && cell_eq c (cell x)) || list_any (cell_eq c) (map cell (filter keep xs)))
 any_kept keep cell c x xs = step (keep x)
   where
     step : (t : Bool) → list_any (cell_eq c) (map cell (if t then x ∷ filter keep xs else filter keep xs)) ≡ ((t && cell_eq c (cell x)) || list_any (cell_eq c) (map cell (filter keep xs)))
@@ -91,42 +88,7 @@ kept_have b w q c h (e ∷ es) o =
         ap (λ found. q c e.1 || q c (unwrap_or found blank_line)) (none_later b c w e.0 g es (sorted_head slot_cmp e.0 (keys_of es) o)) ∙ ap (λ t. q c e.1 || t) h ∙ alone (q c e.1)
     step false g = refl
 
--- The cells in which a version is on air.
-
--- in a blank line nothing is on air
-blank_off_air : (s : ℕ) → is_on_air (state_of blank_line s).presence ≡ false
-blank_off_air s =
-    let below : s % 16 < 16 = omega arith in
-    ap (λ k. is_on_air k.presence) (get_or-replicate 16 (s % 16) blank blank below)
-
--- those of the lines after the given cell's, in order, are any list of them in order
-pub air_listed : (t : Table) → IsStrictlySortedBy slot_cmp (keys_of t.lines) → (b w s : ℕ) (after : Option Cell) (cells : List Cell) → AreOnAir t b w s after cells → on_air_cells s (filter (λ e. is_slot_for b w e.0 && is_after after e.0.cell) t.lines) ≡ cells
-air_listed t o b w s after cells list =
-    ap (map (λ e. e.0.cell)) (filter_twice (λ e. is_slot_for b w e.0 && is_after after e.0.cell) (λ e. is_on_air (state_of e.1 s).presence) (λ e. is_slot_for b w e.0 && passes e.0.cell e.1) (λ e. together (is_slot_for b w e.0) (is_after after e.0.cell) (is_on_air (state_of e.1 s).presence)) t.lines)
-    ∙ same_ascending cell_eq cell_lt cell_decides not_before_itself cell_lt_follows (kept_cells b w passes t.lines) cells (kept_ascend b w passes t.lines o) list.ascending
-    (λ c. kept_have b w passes c (and_right (is_after after c) (is_on_air (state_of blank_line s).presence) (blank_off_air s)) t.lines o ∙ sym (list.exact c))
-  where
-    passes : Cell → Line → Bool
-    passes c line = is_after after c && is_on_air (state_of line s).presence
-
-    together : (x y z : Bool) → ((x && y) && z) ≡ (x && (y && z))
-    together true y z = refl
-    together false y z = refl
-
 -- How many lines of a warning there are.
-
-fewer : {A : Type 0} (p q : A → Bool) (xs : List A) → length (filter (λ x. p x && q x) xs) ≤ length (filter p xs)
-fewer p q [] = omega arith
-fewer {A} p q (x ∷ xs) = step (p x) (q x) (fewer p q xs)
-  where
-    step : (t u : Bool) → length (filter (λ y. p y && q y) xs) ≤ length (filter p xs) → length (if t && u then x ∷ filter (λ y. p y && q y) xs else filter (λ y. p y && q y) xs) ≤ length (if t then x ∷ filter p xs else filter p xs)
-    step true true rest = omega arith
-    step true false rest = omega arith
-    step false u rest = rest
-
--- those after a cell's are no more than all
-pub later_few : (b w : ℕ) (after : Option Cell) (es : List (Slot × Line)) → length (filter (λ e. is_slot_for b w e.0 && is_after after e.0.cell) es) ≤ length (filter (λ e. is_slot_for b w e.0) es)
-later_few b w after es = fewer (λ e. is_slot_for b w e.0) (λ e. is_after after e.0.cell) es
 
 kept_all : {A : Type 0} (p q : A → Bool) (xs : List A) → list_all q xs ≡ true → filter (λ x. p x && q x) xs ≡ filter p xs
 kept_all p q [] h = refl
@@ -188,3 +150,35 @@ lines_few es o none_blank b w cells all =
     among c h =
         let line : not (is_blank (unwrap_or (lookup (is_slot b c w) es) blank_line)) ≡ true = sym (kept_have b w says c (ap not ((blank_decides blank_line).1 refl)) es o) ∙ any_turned cell_eq cell_decides c there ∙ h in
         sym (any_turned cell_eq cell_decides c cells) ∙ all c (not-true (is_blank (unwrap_or (lookup (is_slot b c w) es) blank_line)) line)
+
+-- where a cell's line isn't blank, it is one of the warning's
+line_there : (b : ℕ) (c : Cell) (w : ℕ) (es : List (Slot × Line)) → is_blank (unwrap_or (lookup (is_slot b c w) es) blank_line) ≡ false → list_any (cell_eq c) (map (λ e. e.0.cell) (filter (λ e. is_slot_for b w e.0) es)) ≡ true
+line_there b c w [] h = let no : true ≡ false = sym ((blank_decides blank_line).1 refl) ∙ h in cc
+line_there b c w (e ∷ es) h =
+    any_kept (λ (x : Slot × Line). is_slot_for b w x.0) (λ x. x.0.cell) c e es
+    ∙ ap (λ t. t || list_any (cell_eq c) (map (λ (x : Slot × Line). x.0.cell) (filter (λ x. is_slot_for b w x.0) es))) (in_order (nat_eq b e.0.bsc) (nat_eq w e.0.warning) (cell_eq c e.0.cell))
+    ∙ step (is_slot b c w e.0) (line_there b c w es) h
+  where
+    in_order : (x z u : Bool) → ((x && z) && u) ≡ (x && (u && z))
+    in_order true true true = refl
+    in_order true true false = refl
+    in_order true false true = refl
+    in_order true false false = refl
+    in_order false z u = refl
+
+    step : (t : Bool) → (is_blank (unwrap_or (lookup (is_slot b c w) es) blank_line) ≡ false → list_any (cell_eq c) (map (λ (x : Slot × Line). x.0.cell) (filter (λ x. is_slot_for b w x.0) es)) ≡ true) → is_blank (unwrap_or (cond t (Some e.1) (lookup (is_slot b c w) es)) blank_line) ≡ false → (t || list_any (cell_eq c) (map (λ (x : Slot × Line). x.0.cell) (filter (λ x. is_slot_for b w x.0) es))) ≡ true
+    step true rest g = refl
+    step false rest g = rest g
+
+-- and no fewer than cells in order in which its line isn't blank
+pub lines_many : (es : List (Slot × Line)) (b w : ℕ) (cells : List Cell) → is_ascending cell_lt cells ≡ true → ((c : Cell) → list_any (cell_eq c) cells ≡ true → is_blank (unwrap_or (lookup (is_slot b c w) es) blank_line) ≡ false) → length cells ≤ length (filter (λ e. is_slot_for b w e.0) es)
+lines_many es b w cells order all =
+    let few = once_few cell_eq cell_decides cells there (ascending_once cell_eq cell_lt cell_apart cells order) among in
+    let long : length there ≡ length (filter (λ e. is_slot_for b w e.0) es) = length-map (filter (λ e. is_slot_for b w e.0) es) (λ e. e.0.cell) in
+    omega arith
+  where
+    there : List Cell
+    there = map (λ e. e.0.cell) (filter (λ e. is_slot_for b w e.0) es)
+
+    among : (c : Cell) → list_any (λ d. cell_eq d c) cells ≡ true → list_any (λ d. cell_eq d c) there ≡ true
+    among c h = sym (any_turned cell_eq cell_decides c there) ∙ line_there b c w es (all c (any_turned cell_eq cell_decides c cells ∙ h))

@@ -1,5 +1,5 @@
 -- What the orders of slots, places and cells say of their numbers.
-use Rattle.std.proofs.Common.{◌≡◌, ℕ, ◌+◌, true, false, ◌&&◌, nat_eq, arith, Less}
+use Rattle.std.proofs.Common.{◌≡◌, ℕ, ◌+◌, true, false, nat_eq, arith, Less}
 use Rattle.std.proofs.lemmas.Bool.Decides.{nat_tests}
 use Rattle.std.proofs.lemmas.Grind.{common_steps}
 use Rattle.std.specs.BTreeMap.{is_at}
@@ -22,10 +22,6 @@ at_place b c p = grind (arith, nat_tests, common_steps)
 
 pub slots_between : (b : ℕ) (s : Slot) → range_contains slot_cmp (Included (least_slot b)) (Excluded (least_slot (b + 1))) s ≡ nat_eq b s.bsc
 slots_between b s = grind (arith, nat_tests, common_steps)
-
--- after the slot of a cell and a warning, the BSC's slots of that warning are of later cells
-pub slots_after : (b : ℕ) (d : Cell) (w : ℕ) (s : Slot) → (range_contains slot_cmp (Excluded (slot_of b d w)) (Excluded (least_slot (b + 1))) s && nat_eq w s.warning) ≡ (is_slot_for b w s && cell_lt d s.cell)
-slots_after b d w s = grind (arith, nat_tests, common_steps)
 
 pub places_between : (b : ℕ) (p : Place) → range_contains place_cmp (Included (least_place b)) (Excluded (least_place (b + 1))) p ≡ nat_eq b p.bsc
 places_between b p = grind (arith, nat_tests, common_steps)

@@ -9,3 +9,5 @@ mod OwnLemmas
 mod CellLineLemmas
 mod IndexLemmas
 mod TableLemmas
+mod OnAirCellLemmas
+mod DownLemmas

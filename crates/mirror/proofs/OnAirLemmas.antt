@@ -1,15 +1,20 @@
--- Which lines of a warning stand after a cell's, and the cells of those in which a version is on air.
-use Rattle.std.proofs.Common.{◌≡◌, ℕ, suc, ◌+◌, ◌-◌, ◌<◌, Bool, true, false, ◌&&◌, nat_eq, List, [], ◌∷◌, ◌++◌, Option, Some, None, length, take, map, filter, if◌then◌else◌, refl, sym, ◌∙◌, ap, arith, append_assoc, length-append}
+-- Which slots of a warning at a BSC stand after a cell's, and the cells of those in which a version is on air.
+use Rattle.std.proofs.Common.{◌≡◌, ℕ, suc, ◌+◌, ◌-◌, ◌≤◌, ◌<◌, Bool, true, false, cond, ◌&&◌, List, [], ◌∷◌, ◌++◌, Option, Some, None, length, take, map, filter, if◌then◌else◌, refl, sym, ◌∙◌, ap, arith, Less, append_assoc, length-append}
+use Rattle.std.proofs.lemmas.Bool.Decides.{nat_tests}
+use Rattle.std.proofs.lemmas.Grind.{common_steps}
+use Rattle.std.proofs.lemmas.List.Sums.{take_while-cons}
+use Rattle.std.proofs.lemmas.Map.Keys.{sorted_head, sorted_tail}
 use Rattle.std.specs.BTreeMap.Range.{range_contains}
+use Rattle.std.specs.List.{AllByRecursion}
+use Rattle.std.specs.List.Sorted.{IsStrictlySortedBy}
 use Rattle.std.specs.declared.ops.Bound.{Bound}
-use Rattle.std.specs.declared.ops.Bound.TheVariants.{Included, Excluded}
+use Rattle.std.specs.declared.ops.Bound.TheVariants.{Included, Excluded, Unbounded}
 use Rattle.common.specs.declared.cell.Cell.{Cell}
-use Rattle.mirror.proofs.KeyLemmas.{slots_between, slots_after}
-use Rattle.mirror.specs.Line.{state_of}
-use Rattle.mirror.specs.OnAir.{is_after, is_slot_for, lines_for, on_air_cells}
-use Rattle.mirror.specs.Order.{Slot, slot_cmp, slot_of, least_slot}
-use Rattle.mirror.specs.Seen.{is_on_air}
+use Rattle.mirror.specs.Index.{warning_slot, warning_slot_cmp}
+use Rattle.mirror.specs.OnAir.{is_after, is_on_air_in, is_warning_slot_for, on_air_cells, slots_for}
+use Rattle.mirror.specs.Order.{Slot}
 use Rattle.mirror.specs.declared.line.Line.{Line}
+use Rattle.mirror.specs.declared.warning_slot.WarningSlot.{WarningSlot}
 
 -- what passes one test and then another passes both
 pub filter_twice : {A : Type 0} (p q r : A → Bool) → ((x : A) → (p x && q x) ≡ r x) → (xs : List A) → filter q (filter p xs) ≡ filter r xs
@@ -20,29 +25,80 @@ filter_twice {A} p q r e (x ∷ xs) = step (p x) (filter_twice p q r e xs) ∙ a
     step true rest = ap (λ ys. if q x then x ∷ ys else ys) rest
     step false rest = rest
 
--- where the lines of the warning after a cell's begin
-abbrev pub first_slot : ℕ → ℕ → Option Cell → Bound Slot
-first_slot b w None = Included (least_slot b)
-first_slot b w (Some d) = Excluded (slot_of b d w)
+-- one slot more of the BSC and the warning
+slot_more : (b w : ℕ) (s : WarningSlot) (rest : List WarningSlot) → is_warning_slot_for b w s ≡ true → slots_for b w (s ∷ rest) ≡ s ∷ slots_for b w rest
+slot_more b w s rest own = take_while-cons (is_warning_slot_for b w) s rest ∙ ap (λ t. cond t (s ∷ slots_for b w rest) []) own
 
--- the warning's slots from there to the BSC's end are its slots of later cells
-slot_after : (b w : ℕ) (after : Option Cell) (s : Slot) → (range_contains slot_cmp (first_slot b w after) (Excluded (least_slot (b + 1))) s && nat_eq w s.warning) ≡ (is_slot_for b w s && is_after after s.cell)
-slot_after b w None s = ap (λ t. t && nat_eq w s.warning) (slots_between b s) ∙ with_true (is_slot_for b w s)
+-- one of another ends them
+slots_ended : (b w : ℕ) (s : WarningSlot) (rest : List WarningSlot) → is_warning_slot_for b w s ≡ false → slots_for b w (s ∷ rest) ≡ []
+slots_ended b w s rest other = take_while-cons (is_warning_slot_for b w) s rest ∙ ap (λ t. cond t (s ∷ slots_for b w rest) []) other
+
+-- where the slots of the warning at the BSC after a cell's begin
+abbrev pub first_slot : ℕ → ℕ → Option Cell → Bound WarningSlot
+first_slot b w None = Included (warning_slot b (record { lac = 0; ci = 0 }) w)
+first_slot b w (Some d) = Excluded (warning_slot b d w)
+
+abbrev is_begun : ℕ → ℕ → Option Cell → WarningSlot → Bool
+is_begun b w after s = range_contains warning_slot_cmp (first_slot b w after) Unbounded s
+
+own_begun : (b w : ℕ) (after : Option Cell) (s : WarningSlot) → is_warning_slot_for b w s ≡ true → is_begun b w after s ≡ is_after after s.cell
+own_begun b w None s h = grind (arith, nat_tests, common_steps)
+own_begun b w (Some d) s h = grind (arith, nat_tests, common_steps)
+
+other_after : (b w : ℕ) (after : Option Cell) (s t : WarningSlot) → is_begun b w after s ≡ true → is_warning_slot_for b w s ≡ false → warning_slot_cmp s t ≡ Less → is_warning_slot_for b w t ≡ false
+other_after b w None s t h g l = grind (arith, nat_tests, common_steps)
+other_after b w (Some d) s t h g l = grind (arith, nat_tests, common_steps)
+
+-- those of the slots that are the warning's at the BSC, of cells after the given one
+abbrev pub own_slots : ℕ → ℕ → Option Cell → List WarningSlot → List WarningSlot
+own_slots b w after slots = filter (λ s. is_warning_slot_for b w s && is_after after s.cell) slots
+
+none_after : (b w : ℕ) (after : Option Cell) (s : WarningSlot) → is_begun b w after s ≡ true → is_warning_slot_for b w s ≡ false → (slots : List WarningSlot) → AllByRecursion (λ t. warning_slot_cmp s t ≡ Less) slots → own_slots b w after slots ≡ []
+none_after b w after s h g [] l = refl
+none_after b w after s h g (t ∷ slots) l =
+    ap (λ v. if v && is_after after t.cell then t ∷ own_slots b w after slots else own_slots b w after slots) (other_after b w after s t h g l.0) ∙ none_after b w after s h g slots l.1
+
+-- from there on they come first
+pub slots_later : (b w : ℕ) (after : Option Cell) (slots : List WarningSlot) → IsStrictlySortedBy warning_slot_cmp slots → slots_for b w (filter (range_contains warning_slot_cmp (first_slot b w after) Unbounded) slots) ≡ own_slots b w after slots
+slots_later b w after [] o = refl
+slots_later b w after (s ∷ slots) o =
+    step (is_begun b w after s) refl (is_warning_slot_for b w s) refl (slots_later b w after slots (sorted_tail warning_slot_cmp s slots o))
   where
-    with_true : (t : Bool) → t ≡ (t && true)
-    with_true true = refl
-    with_true false = refl
-slot_after b w (Some d) s = slots_after b d w s
+    begun : List WarningSlot
+    begun = filter (range_contains warning_slot_cmp (first_slot b w after) Unbounded) slots
 
--- and its lines likewise
-pub lines_later : (b w : ℕ) (after : Option Cell) (es : List (Slot × Line)) → lines_for w (filter (λ e. range_contains slot_cmp (first_slot b w after) (Excluded (least_slot (b + 1))) e.0) es) ≡ filter (λ e. is_slot_for b w e.0 && is_after after e.0.cell) es
-lines_later b w after es =
-    filter_twice (λ e. range_contains slot_cmp (first_slot b w after) (Excluded (least_slot (b + 1))) e.0) (λ e. nat_eq w e.0.warning) (λ e. is_slot_for b w e.0 && is_after after e.0.cell) (λ e. slot_after b w after e.0) es
+    later : (t : Bool) → is_begun b w after s ≡ t → is_warning_slot_for b w s ≡ true → t ≡ is_after after s.cell
+    later t e f = sym e ∙ own_begun b w after s f
 
--- a line more of the warning in which the version is on air, after those passed
-pub air_more : (w s : ℕ) (e : Slot × Line) (es : List (Slot × Line)) → nat_eq w e.0.warning ≡ true → is_on_air (state_of e.1 s).presence ≡ true → on_air_cells s (lines_for w (e ∷ es)) ≡ e.0.cell ∷ on_air_cells s (lines_for w es)
-air_more w s e es own air =
-    ap (λ t. on_air_cells s (if t then e ∷ lines_for w es else lines_for w es)) own ∙ ap (λ t. map (λ (x : Slot × Line). x.0.cell) (if t then e ∷ filter (λ (x : Slot × Line). is_on_air (state_of x.1 s).presence) (lines_for w es) else filter (λ (x : Slot × Line). is_on_air (state_of x.1 s).presence) (lines_for w es))) air
+    step : (t : Bool) → is_begun b w after s ≡ t → (u : Bool) → is_warning_slot_for b w s ≡ u → slots_for b w begun ≡ own_slots b w after slots → slots_for b w (if t then s ∷ begun else begun) ≡ (if u && is_after after s.cell then s ∷ own_slots b w after slots else own_slots b w after slots)
+    step true e true f rest =
+        slot_more b w s begun f ∙ ap (λ xs. s ∷ xs) rest ∙ ap (λ v. if v then s ∷ own_slots b w after slots else own_slots b w after slots) (later true e f)
+    step false e true f rest = rest ∙ ap (λ v. if v then s ∷ own_slots b w after slots else own_slots b w after slots) (later false e f)
+    step true e false f rest = slots_ended b w s begun f ∙ sym (none_after b w after s e f slots (sorted_head warning_slot_cmp s slots o))
+    step false e false f rest = rest
+
+air_more : (es : List (Slot × Line)) (b w v : ℕ) (s : WarningSlot) (rest : List WarningSlot) → is_on_air_in es b w v s.cell ≡ true → on_air_cells es b w v (s ∷ rest) ≡ s.cell ∷ on_air_cells es b w v rest
+air_more es b w v s rest air =
+    ap (λ t. map (λ (x : WarningSlot). x.cell) (if t then s ∷ filter (λ (x : WarningSlot). is_on_air_in es b w v x.cell) rest else filter (λ (x : WarningSlot). is_on_air_in es b w v x.cell) rest)) air
+
+air_passed : (es : List (Slot × Line)) (b w v : ℕ) (s : WarningSlot) (rest : List WarningSlot) → is_on_air_in es b w v s.cell ≡ false → on_air_cells es b w v (s ∷ rest) ≡ on_air_cells es b w v rest
+air_passed es b w v s rest air =
+    ap (λ t. map (λ (x : WarningSlot). x.cell) (if t then s ∷ filter (λ (x : WarningSlot). is_on_air_in es b w v x.cell) rest else filter (λ (x : WarningSlot). is_on_air_in es b w v x.cell) rest)) air
+
+-- the slot that comes is of one line more that is counted
+pub next_counted : (b w : ℕ) (s : WarningSlot) (rest slots : List WarningSlot) → slots ≡ s ∷ rest → is_warning_slot_for b w s ≡ true → length (slots_for b w slots) ≡ length (slots_for b w rest) + 1
+next_counted b w s rest slots came own =
+    let more : length (slots_for b w slots) ≡ length (s ∷ slots_for b w rest) = ap (λ xs. length (slots_for b w xs)) came ∙ ap length (slot_more b w s rest own) in
+    omega arith
+
+-- and of one cell more, where the version is on air in it
+pub next_on_air : (es : List (Slot × Line)) (b w v : ℕ) (s : WarningSlot) (rest slots : List WarningSlot) → slots ≡ s ∷ rest → is_warning_slot_for b w s ≡ true → is_on_air_in es b w v s.cell ≡ true → on_air_cells es b w v (slots_for b w slots) ≡ s.cell ∷ on_air_cells es b w v (slots_for b w rest)
+next_on_air es b w v s rest slots came own air =
+    ap (λ xs. on_air_cells es b w v (slots_for b w xs)) came ∙ ap (on_air_cells es b w v) (slot_more b w s rest own) ∙ air_more es b w v s (slots_for b w rest) air
+
+pub next_off_air : (es : List (Slot × Line)) (b w v : ℕ) (s : WarningSlot) (rest slots : List WarningSlot) → slots ≡ s ∷ rest → is_warning_slot_for b w s ≡ true → is_on_air_in es b w v s.cell ≡ false → on_air_cells es b w v (slots_for b w slots) ≡ on_air_cells es b w v (slots_for b w rest)
+next_off_air es b w v s rest slots came own air =
+    ap (λ xs. on_air_cells es b w v (slots_for b w xs)) came ∙ ap (on_air_cells es b w v) (slot_more b w s rest own) ∙ air_passed es b w v s (slots_for b w rest) air
 
 take_one : {A : Type 0} (m n : ℕ) (c : A) (cs : List A) → n < m → take (m - n) (c ∷ cs) ≡ c ∷ take (m - (n + 1)) cs
 take_one m n c cs h =
@@ -56,8 +112,9 @@ cells_more most c cells rest few =
     ∙ ap (λ k. cells ++ c ∷ take (most - k) rest) (length-append cells (c ∷ []))
     ∙ ap (λ cs. cells ++ cs) (sym (take_one most (length cells) c rest few))
 
--- a line more of the warning, whatever is on air
-pub own_more : (w : ℕ) (e : Slot × Line) (es : List (Slot × Line)) → nat_eq w e.0.warning ≡ true → length (lines_for w (e ∷ es)) ≡ length (lines_for w es) + 1
-own_more w e es own =
-    let more : length (lines_for w (e ∷ es)) ≡ length (e ∷ lines_for w es) = ap (λ t. length (if t then e ∷ lines_for w es else lines_for w es)) own in
+-- where there is room and one is to come, there is one
+pub one_there : (most : ℕ) (c : Cell) (cells rest : List Cell) → length cells < most → 1 ≤ length (cells ++ take (most - length cells) (c ∷ rest))
+one_there most c cells rest few =
+    let some : length (cells ++ take (most - length cells) (c ∷ rest)) ≡ length (cells ++ c ∷ take (most - (length cells + 1)) rest) = ap (λ xs. length (cells ++ xs)) (take_one most (length cells) c rest few) in
+    let long = length-append cells (c ∷ take (most - (length cells + 1)) rest) in
     omega arith

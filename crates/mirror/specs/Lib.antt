@@ -6,6 +6,7 @@ pub mod Order
 pub mod PartsLaws
 pub mod OrderLaws
 pub mod Table
+pub mod Downs
 pub mod Index
 pub mod Known
 pub mod OnAir

@@ -30,7 +30,7 @@ impl KeyState {
     }
 
     /// Whether the same is kept in both.
-    pub(crate) fn same(&self, other: &KeyState) -> bool
+    pub fn same(&self, other: &KeyState) -> bool
         ensures { result ≡ state_eq self.now other.now }
     {
         self.presence == other.presence && self.hold == other.hold && self.count == other.count

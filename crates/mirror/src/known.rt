@@ -21,6 +21,9 @@ use std::collections::BTreeMap;
 use std::ops::Bound;
 use warning_book::WarningId;
 
+/// Room for as many warnings as most cells have.
+const FEW: usize = 16;
+
 /// Whether the cell is registered at the BSC.
 pub(crate) fn is_registered(register: &Register, b: BscId, c: Cell) -> bool
     ensures { result ≡ is_place (place_in register.now c) b }
@@ -58,8 +61,9 @@ pub(crate) fn warnings_at(
     ensures ordered { IsOrdered slot_cmp lines.now }
 {
     let bsc = u32::from(b.number());
-    let mut warnings = Vec::new(alloc);
-    for (slot, _) in lines.range(Slot::first_of(b, c)..Slot::least(bsc + 1)) {
+    let later = lines.range(Slot::first_of(b, c)..Slot::least(bsc + 1));
+    let mut warnings = Vec::with_capacity(alloc, FEW)?;
+    for (slot, _) in later {
         if !slot.is_in(b, c) {
             return Ok(warnings);
         }

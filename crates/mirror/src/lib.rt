@@ -3,9 +3,11 @@
 //!
 //! A line is what is kept of one BSC, cell and warning. Begin with `line_table`; the definitions that contracts cite
 //! are in `specs/`: `Line` and `Seen` for one line, `Table` for all of them, `Index` for the lines of one warning, `Known`
-//! for the cells that a report names, `OnAir` for the cells in which a version is on air.
+//! for the cells that a report names, `OnAir` for the cells in which a version is on air, `Downs` for how the cells
+//! that are down are counted.
 #![tactic(auto)]
 
+mod downs;
 mod gathering;
 mod key_state;
 mod known;
@@ -16,8 +18,10 @@ mod naming;
 mod on_air;
 mod place;
 mod presence;
+mod reading;
 mod sight;
 mod slot;
+mod version_at;
 mod warning_slot;
 mod warning_slots;
 

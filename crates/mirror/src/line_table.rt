@@ -13,14 +13,16 @@ ghost use Rattle.mirror.specs.Known.{are_of_cells, is_known, is_named, warnings_
 ghost use Rattle.mirror.specs.OnAir.{AreOnAir, line_count};
 ghost use Rattle.mirror.specs.declared.line_key.LineKey.{LineKey};
 
-use crate::gathering::{add_cells, add_downs, add_line_cells, cells_in_order};
+use crate::downs::Downs;
+use crate::gathering::{add_downs, add_line_cells, cells_in_order, put_in_order};
 use crate::known::{has_line, is_registered, take_line, warnings_at};
 use crate::line::Line;
 use crate::line_key::LineKey;
 use crate::naming::{are_of_cells, named, own_cell};
-use crate::on_air::{first_on_air, lines_after};
-use crate::place::Place;
+use crate::on_air::first_on_air;
+use crate::reading::line_of;
 use crate::slot::Slot;
+use crate::version_at::VersionAt;
 use crate::warning_slots::WarningSlots;
 use cbsp_ie::CellId;
 use cell_register::{BscId, Register};
@@ -39,7 +41,7 @@ pub struct LineTable {
     lines: BTreeMap<Slot, Line>,
     /// The lines that aren't blank, by warning.
     index: WarningSlots,
-    downs: BTreeSet<Place>,
+    downs: Downs,
     meter: u64,
 }
 
@@ -49,9 +51,9 @@ impl Model for LineTable {
 
     ghost Value = { Table };
 
-    ghost view = { λ t. record { lines = t.lines.entries; downs = t.downs.keys; meter = t.meter } };
+    ghost view = { λ t. record { lines = t.lines.entries; downs = t.downs; meter = t.meter } };
 
-    ghost invariant = { λ t. IsTable (record { lines = t.lines.entries; downs = t.downs.keys; meter = t.meter }) t.index };
+    ghost invariant = { λ t. IsTable (record { lines = t.lines.entries; downs = t.downs; meter = t.meter }) t.index };
 }
 
 impl LineTable {
@@ -65,7 +67,7 @@ impl LineTable {
             alloc,
             lines: BTreeMap::new(alloc),
             index: WarningSlots::new(alloc),
-            downs: BTreeSet::new(alloc),
+            downs: Downs::new(alloc),
             meter: 0,
         }
     }
@@ -111,10 +113,7 @@ impl LineTable {
         ensures least { self.old.meter ≤ self.new.meter }
     {
         self.count();
-        match self.lines.get(&Slot::of(key)) {
-            Some(line) => *line,
-            None => Line::blank(),
-        }
+        line_of(&self.lines, key)
     }
 
     /// Keeps the line for that BSC, cell and warning. It is counted, also where memory runs out; then each line stays
@@ -201,8 +200,20 @@ impl LineTable {
         ensures least { self.old.meter ≤ self.new.meter }
         ensures counted { IfOk result (λ cells. self.new.meter < 2 ^ 64 - 1 → self.old.meter + length cells ≤ self.new.meter) }
     {
-        let lines = lines_after(&self.lines, b, w, after);
-        let cells = first_on_air(self.alloc, lines, w, serial, most, &mut self.meter)?;
+        let slots = self.index.later(b, w, after);
+        let version = VersionAt {
+            bsc: b,
+            warning: w,
+            serial,
+        };
+        let cells = first_on_air(
+            self.alloc,
+            slots,
+            &self.lines,
+            &version,
+            most,
+            &mut self.meter,
+        )?;
         Ok(cells)
     }
 
@@ -211,7 +222,7 @@ impl LineTable {
     pub fn is_down(&self, b: BscId, c: Cell) -> bool
         ensures { result ≡ down_at self.now b c }
     {
-        self.downs.contains(&Place::of(b, c))
+        self.downs.is_down(b, c)
     }
 
     /// The numbers of the warnings whose line in the cell at the BSC isn't blank, in ascending order. No line is read, and
@@ -235,13 +246,11 @@ impl LineTable {
         ensures lines { self.new.lines ≡ self.old.lines }
         ensures meter { self.new.meter ≡ self.old.meter }
     {
-        let place = Place::of(b, c);
         if !down {
-            self.downs.remove(&place);
+            self.downs.remove(b, c);
             return Ok(());
         }
-        self.downs.insert(place)?;
-        Ok(())
+        self.downs.insert(b, c)
     }
 
     /// The cells that are known at the BSC, in ascending order: those registered there, those that are down there, and
@@ -250,14 +259,12 @@ impl LineTable {
         ensures order { IfOk result (λ cells. is_ascending cell_lt cells ≡ true) }
         ensures known { IfOk result (λ cells. (c : Cell) → list_any (cell_eq c) cells ≡ is_known self.now register.now b c) }
     {
-        let registered = register.cells_of(b)?;
-        let mut gathered = BTreeSet::new(self.alloc);
-        add_cells(registered.as_slice(), &mut gathered)?;
-        add_downs(b, &self.downs, &mut gathered)?;
+        let mut gathered = register.cells_of(b)?.into_vec();
+        add_downs(b, self.downs.places(), &mut gathered)?;
         add_line_cells(b, &self.lines, &mut gathered)?;
         register.tell_soundness();
-        let cells = cells_in_order(self.alloc, &gathered)?;
-        Ok(cells)
+        put_in_order(&mut gathered)?;
+        Ok(Cells::from_vec(gathered))
     }
 
     /// Those cells known at the BSC that one of the identifications names, in ascending order (TS 48.049, 8.2.6). The

@@ -1,75 +1,61 @@
 //! In which cells of a BSC a version of a warning is on air.
 
-ghost use Rattle.std.specs.Prelude.{◌≡◌, ◌≤◌, ◌<◌, ◌+◌, ◌-◌, ◌^◌, ◌&&◌, length, take, filter, IfOk, OnErr};
-ghost use Rattle.std.specs.BTreeMap.{IsOrdered};
-ghost use Rattle.mirror.specs.Order.{slot_cmp};
-ghost use Rattle.mirror.specs.OnAir.{is_after, is_slot_for, lines_for, on_air_cells};
+ghost use Rattle.std.specs.Prelude.{◌≡◌, ◌≤◌, ◌<◌, ◌+◌, ◌-◌, ◌^◌, length, take, IfOk, OnErr};
+ghost use Rattle.mirror.specs.OnAir.{is_on_air_in, on_air_cells, slots_for};
 
 use crate::line::Line;
 use crate::line_key::LineKey;
 use crate::presence::Presence;
+use crate::reading::line_of;
 use crate::slot::Slot;
-use cell_register::BscId;
+use crate::version_at::VersionAt;
+use crate::warning_slot::WarningSlot;
 use common::{Cell, Cells};
-use serials::Serial;
 use std::alloc::{AllocError, Global};
 use std::collections::BTreeMap;
-use std::collections::btree_map::Range;
-use std::ops::Bound;
-use warning_book::WarningId;
+use std::collections::btree_set::Range;
 
-/// The BSC's lines after the line of the given cell and the warning, or all of the BSC's. Those of the warning among
-/// them are of later cells.
-pub(crate) fn lines_after(
-    lines: &BTreeMap<Slot, Line>,
-    b: BscId,
-    w: WarningId,
-    after: Option<Cell>,
-) -> Range<'_, Slot, Line>
-    ensures of { lines_for w result ≡ filter (λ e. is_slot_for b w e.0 && is_after after e.0.cell) lines.now.entries }
-    ensures ordered { IsOrdered slot_cmp lines.now }
+/// Whether the version is on air in the cell.
+fn is_on_air_in(lines: &BTreeMap<Slot, Line>, v: &VersionAt, c: Cell) -> bool
+    ensures { result ≡ is_on_air_in lines.now.entries v.now.bsc v.now.warning v.now.serial c }
 {
-    let bsc = u32::from(b.number());
-    let first = match after {
-        Some(cell) => Bound::Excluded(Slot::of(LineKey {
-            bsc: b,
-            cell,
-            warning: w,
-        })),
-        None => Bound::Included(Slot::least(bsc)),
-    };
-    lines.range((first, Bound::Excluded(Slot::least(bsc + 1))))
+    let line = line_of(
+        lines,
+        LineKey {
+            bsc: v.bsc,
+            cell: c,
+            warning: v.warning,
+        },
+    );
+    line.state(v.serial).presence == Presence::OnAir
 }
 
-/// The first `most` cells of the warning's lines in which the version of that serial number is on air. Each line of the
-/// warning that is read is counted.
+/// The first `most` cells in which the version is on air, among the cells of the slots. The first slot of another BSC or
+/// warning ends them. Each line that is read is counted.
 pub(crate) fn first_on_air(
     alloc: Global,
-    lines: Range<'_, Slot, Line>,
-    w: WarningId,
-    serial: Serial,
+    slots: Range<'_, WarningSlot>,
+    lines: &BTreeMap<Slot, Line>,
+    v: &VersionAt,
     most: usize,
     meter: &mut u64,
 ) -> Result<Cells, AllocError>
-    ensures first { IfOk result (λ cells. cells ≡ take most (on_air_cells serial (lines_for w lines.entry))) }
-    ensures some { OnErr result (1 ≤ length (take most (on_air_cells serial (lines_for w lines.entry)))) }
-    ensures meter { meter.new ≤ meter.old + length (lines_for w lines.entry) }
+    ensures first { IfOk result (λ cells. cells ≡ take most (on_air_cells lines.now.entries v.now.bsc v.now.warning v.now.serial (slots_for v.now.bsc v.now.warning slots.entry))) }
+    ensures some { OnErr result (1 ≤ length (take most (on_air_cells lines.now.entries v.now.bsc v.now.warning v.now.serial (slots_for v.now.bsc v.now.warning slots.entry)))) }
+    ensures meter { meter.new ≤ meter.old + length (slots_for v.now.bsc v.now.warning slots.entry) }
     ensures least { meter.old ≤ meter.new }
     ensures counted { IfOk result (λ cells. meter.new < 2 ^ 64 - 1 → meter.old + length cells ≤ meter.new) }
 {
     let mut cells = Vec::new(alloc);
-    for (slot, line) in lines {
-        if cells.len() >= most {
+    for slot in slots {
+        if cells.len() >= most || !slot.is_for(v.bsc, v.warning) {
             return Ok(Cells::from_vec(cells));
         }
-        if slot.warning() != w.number() {
-            continue;
-        }
         *meter = meter.saturating_add(1);
-        if line.state(serial).presence != Presence::OnAir {
+        if !is_on_air_in(lines, v, slot.cell) {
             continue;
         }
-        cells.push(slot.cell())?;
+        cells.push(slot.cell)?;
     }
     Ok(Cells::from_vec(cells))
 }

@@ -1,7 +1,7 @@
 //! A cell at a BSC.
 
 ghost use Rattle.std.specs.Prelude.{◌≡◌};
-ghost use Rattle.mirror.specs.Order.{place_of, least_place};
+ghost use Rattle.mirror.specs.Order.{place_in, place_of, least_place};
 
 use cell_register::BscId;
 use common::Cell;
@@ -47,6 +47,13 @@ impl Place {
         Place {
             number: u64::from(bsc) * NEXT_BSC,
         }
+    }
+
+    /// The number in which the place stands.
+    pub(crate) fn number(&self) -> u64
+        ensures { self.now ≡ place_in result }
+    {
+        self.number
     }
 
     pub(crate) fn bsc(&self) -> u32

@@ -127,10 +127,17 @@ impl Ord for Slot {
 
     ghost matches_eq = { λ x y. refl };
 
+    /// A search asks at each key whether the slot that it seeks comes after it. So that is tested first, most often by one
+    /// comparison.
     fn cmp(&self, other: &Slot) -> Ordering {
-        match self.place.cmp(&other.place) {
-            Ordering::Equal => self.warning.cmp(&other.warning),
-            order => order,
+        let place = self.place.number();
+        let other_place = other.place.number();
+        if place > other_place || (place == other_place && self.warning > other.warning) {
+            Ordering::Greater
+        } else if place == other_place && self.warning == other.warning {
+            Ordering::Equal
+        } else {
+            Ordering::Less
         }
     }
 }

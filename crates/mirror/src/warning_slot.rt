@@ -2,9 +2,12 @@
 
 ghost use Rattle.std.specs.Prelude.{◌≡◌, ◌<◌};
 ghost use Rattle.mirror.specs.Index.{first_of, slot_of_key};
+ghost use Rattle.mirror.specs.OnAir.{is_warning_slot_for};
 
 use crate::line_key::LineKey;
+use cell_register::BscId;
 use common::Cell;
+use warning_book::WarningId;
 
 /// The warning, the BSC and the cell of a line, in this order. The warning's field is wider than its number, so that the
 /// lines of each warning end before those of a number one greater.
@@ -36,5 +39,12 @@ impl WarningSlot {
             bsc: 0,
             cell: Cell { lac: 0, ci: 0 },
         }
+    }
+
+    /// Whether it is one of the BSC and the warning.
+    pub(crate) fn is_for(&self, b: BscId, w: WarningId) -> bool
+        ensures { result ≡ is_warning_slot_for b w self.now }
+    {
+        b.number() == self.bsc && u64::from(w.number()) == self.warning
     }
 }

@@ -1,21 +1,26 @@
 //! The lines of which something is kept, by their warning.
 
-ghost use Rattle.std.specs.Prelude.{◌≡◌, ◌<◌, ◌&&◌, true, [], nat_eq, ltb, List, ℕ, IfOk, OnOk, OnErr};
+ghost use Rattle.std.specs.Prelude.{◌≡◌, ◌<◌, ◌&&◌, true, [], nat_eq, ltb, filter, List, ℕ, IfOk, OnOk, OnErr};
 ghost use Rattle.std.specs.List.{list_any};
+ghost use Rattle.std.specs.List.Sorted.{IsStrictlySortedBy};
 ghost use Rattle.common.specs.Order.{is_ascending};
 ghost use Rattle.common.specs.declared.cell.Cell.{Cell};
-ghost use Rattle.mirror.specs.Index.{has_slot, key_before, IsWithSlot, IsWithoutSlot};
+ghost use Rattle.mirror.specs.Index.{has_slot, key_before, warning_slot_cmp, IsWithSlot, IsWithoutSlot};
+ghost use Rattle.mirror.specs.OnAir.{is_after, is_warning_slot_for, slots_for};
 ghost use Rattle.mirror.specs.Table.{is_key};
 
 use crate::line_key::LineKey;
 use crate::warning_slot::WarningSlot;
 use cell_register::BscId;
+use common::Cell;
 use std::alloc::{AllocError, Global};
 use std::collections::BTreeSet;
+use std::collections::btree_set::Range;
 use std::marker::Model;
+use std::ops::Bound;
 use warning_book::WarningId;
 
-/// Which lines there are, by warning. Contracts say only which.
+/// Which lines there are, by warning.
 #[derive(Drop)]
 pub(crate) struct WarningSlots {
     slots: BTreeSet<WarningSlot>,
@@ -54,6 +59,32 @@ impl WarningSlots {
         ensures { IsWithoutSlot self.old self.new key }
     {
         self.slots.remove(&WarningSlot::of(key));
+    }
+
+    /// The lines from the first of the warning at the BSC on, or from the first after the given cell. Those of the warning at
+    /// the BSC come first, and the lines of other BSCs and warnings follow.
+    pub(crate) fn later(
+        &self,
+        b: BscId,
+        w: WarningId,
+        after: Option<Cell>,
+    ) -> Range<'_, WarningSlot>
+        ensures of { slots_for b w result ≡ filter (λ s. is_warning_slot_for b w s && is_after after s.cell) self.now }
+        ensures ordered { IsStrictlySortedBy warning_slot_cmp self.now }
+    {
+        let first = match after {
+            Some(cell) => Bound::Excluded(WarningSlot::of(LineKey {
+                bsc: b,
+                cell,
+                warning: w,
+            })),
+            None => Bound::Included(WarningSlot::of(LineKey {
+                bsc: b,
+                cell: Cell { lac: 0, ci: 0 },
+                warning: w,
+            })),
+        };
+        self.slots.range((first, Bound::Unbounded))
     }
 
     /// The warning's lines, in the order of their BSCs and cells.

@@ -8,9 +8,9 @@ use Rattle.mirror.proofs.known.warnings_at.Goals as goal
 
 pub loop-slot-init : goal.loop-slot-init
 loop-slot-init c =
-    let part = rw (c.first_of.ensures, c.least.ensures, c.from-bsc.ensures, c.number.ensures.value) at (c.range-slot-items.ensures.between tt) in
+    let part = rw (c.first_of.ensures, c.least.ensures, c.from-bsc.ensures, c.number.ensures.value) at (c.range-later.ensures.between tt) in
     let gives = c.into_iter-slot-iterator.ensures.into_iter_gives ∙ part in
-    rw gives (from_all c.args.b c.args.c c.args.lines.now.entries c.range-slot-items.ensures.ordered, rw c.new-warnings.ensures.items (ap (map (λ (e : Slot × Line). e.0.warning)) (own_among c.args.b c.args.c c.args.lines.now.entries)))
+    rw gives (from_all c.args.b c.args.c c.args.lines.now.entries c.range-later.ensures.ordered, rw c.in_ok-warnings.ensures.items (ap (map (λ (e : Slot × Line). e.0.warning)) (own_among c.args.b c.args.c c.args.lines.now.entries)))
 
 pub loop-slot-preserved : goal.loop-slot-preserved
 loop-slot-preserved c =

@@ -1,0 +1,99 @@
+//! The cells that are down.
+
+ghost use Rattle.std.specs.Prelude.{◌≡◌, ◌<◌, ◌&&◌, ℕ, true, false, [], replicate, if◌then◌else◌, nat_eq, OnOk, OnErr};
+ghost use Rattle.std.specs.List.{list_any};
+ghost use Rattle.common.specs.Cell.{cell_eq};
+ghost use Rattle.common.specs.declared.cell.Cell.{Cell};
+ghost use Rattle.mirror.specs.Downs.{octet_of};
+ghost use Rattle.mirror.specs.Table.{is_that_place};
+
+use crate::place::Place;
+use cell_register::BscId;
+use common::Cell;
+use std::alloc::{AllocError, Global};
+use std::collections::BTreeSet;
+use std::marker::Model;
+
+/// The cells that are down, each at its BSC. Few are down, and each line that is read asks for its cell. So the places are
+/// counted by the low octet of their cell's identity: where none has that octet, no place is searched for.
+#[derive(Drop)]
+pub(crate) struct Downs {
+    places: BTreeSet<Place>,
+    counts: [usize; 256],
+}
+
+impl Model for Downs {
+    ghost use Rattle.std.specs.Prelude.{List};
+    ghost use Rattle.mirror.specs.Downs.{AreCounts};
+    ghost use Rattle.mirror.specs.Order.{Place};
+
+    ghost Value = { List Place };
+
+    ghost view = { λ d. d.places.keys };
+
+    ghost invariant = { λ d. AreCounts d.counts d.places.keys };
+}
+
+/// The low octet of the cell's identity, by which places are counted.
+fn octet_of(c: Cell) -> usize
+    ensures octet { result ≡ octet_of c }
+    ensures small { result < 256 }
+{
+    usize::from(c.ci % 256)
+}
+
+/// The counts of no places.
+fn no_counts() -> [usize; 256]
+    ensures { result ≡ replicate 256 0 }
+{
+    [0; 256]
+}
+
+impl Downs {
+    pub(crate) fn new(alloc: Global) -> Downs
+        ensures { result ≡ [] }
+    {
+        Downs {
+            places: BTreeSet::new(alloc),
+            counts: no_counts(),
+        }
+    }
+
+    /// The places, in ascending order.
+    pub(crate) fn places(&self) -> &BTreeSet<Place>
+        ensures { result.now.keys ≡ self.now }
+    {
+        &self.places
+    }
+
+    /// Whether the cell is down at the BSC.
+    pub(crate) fn is_down(&self, b: BscId, c: Cell) -> bool
+        ensures { result ≡ list_any (is_that_place b c) self.now }
+    {
+        self.counts[octet_of(c)] != 0 && self.places.contains(&Place::of(b, c))
+    }
+
+    /// Sets the cell down at the BSC. Where memory runs out nothing changes. Memory is taken only for a cell that wasn't
+    /// down.
+    pub(crate) fn insert(&mut self, b: BscId, c: Cell) -> Result<(), AllocError>
+        ensures set { OnOk result ((d : ℕ) (e : Cell) → list_any (is_that_place d e) self.new ≡ (if nat_eq b d && cell_eq c e then true else list_any (is_that_place d e) self.old)) }
+        ensures unchanged { OnErr result (self.new ≡ self.old) }
+        ensures grows { OnErr result (list_any (is_that_place b c) self.old ≡ false) }
+    {
+        if self.places.insert(Place::of(b, c))? {
+            // How many places there are bounds how many are counted.
+            let _ = self.places.len();
+            self.counts[octet_of(c)] += 1;
+        }
+        Ok(())
+    }
+
+    /// Sets the cell up at the BSC.
+    pub(crate) fn remove(&mut self, b: BscId, c: Cell)
+        ensures { (d : ℕ) (e : Cell) → list_any (is_that_place d e) self.new ≡ (if nat_eq b d && cell_eq c e then false else list_any (is_that_place d e) self.old) }
+    {
+        if self.places.remove(&Place::of(b, c)) {
+            self.counts[octet_of(c)] -= 1;
+        }
+    }
+}
