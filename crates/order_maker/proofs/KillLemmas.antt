@@ -13,7 +13,7 @@ use Rattle.order_maker.proofs.ActionsLemmas.{kills-append, deeds_listed}
 use Rattle.order_maker.proofs.ShiftLemmas.{listed_both}
 use Rattle.order_maker.specs.Actions.{needs, replaced, fresh_kind, deed, is_to_kill, kills, deeds, in_cell, listed, fresh_deed, kill_deed}
 use Rattle.order_maker.specs.Grouping.{kind_eq}
-use Rattle.order_maker.specs.Pending.{Slot, action_eq, is_listed, holds, Shifts, IsWith, IsWithout}
+use Rattle.order_maker.specs.Pending.{HeldOrders, action_eq, is_listed, holds, Shifts, IsWith, IsWithout}
 use Rattle.order_maker.specs.declared.action.Action.{Action}
 use Rattle.order_maker.specs.declared.order_kind.OrderKind.{OrderKind}
 use Rattle.order_maker.specs.declared.order_kind.OrderKind.TheVariants.{Write, Replace, Kill}
@@ -135,7 +135,7 @@ in_order_of true true false true = refl
 in_order_of true true false false = refl
 
 -- the KILL of one version more, which the line had before and has now, is taken out, put in, or neither
-pub kill_step : (b : ℕ) (c : Cell) (v w : Seen) (versions : List ℕ) (i serial : ℕ) (old held next : List Slot) → v.message_id ≡ w.message_id → i < length versions → serial ≡ get_or versions i serial
+pub kill_step : (b : ℕ) (c : Cell) (v w : Seen) (versions : List ℕ) (i serial : ℕ) (old held next : HeldOrders) → v.message_id ≡ w.message_id → i < length versions → serial ≡ get_or versions i serial
     → ((a : Action) → is_listed a (map (in_cell c) (kills v versions)) ≡ true → holds old b a ≡ true)
     → Shifts old held b (map (in_cell c) (kills v (take i versions))) (map (in_cell c) (kills w (take i versions)))
     → ((d : ℕ) (x : Action) → holds next d x ≡ turned (is_to_kill v serial) (is_to_kill w serial) (nat_eq d b && action_eq x (in_cell c (deed w Kill serial))) (holds held d x))
@@ -190,14 +190,14 @@ kill_if : (v : Seen) (serial : ℕ) (t : Bool) → is_to_kill v serial ≡ t →
 kill_if v serial t e = ap (λ k. listed (if k then Some (deed v Kill serial) else None)) e
 
 -- the KILL is put in
-pub kill_put : (b : ℕ) (c : Cell) (v : Seen) (serial : ℕ) (held next : List Slot) → is_to_kill v serial ≡ true → ((d : ℕ) (x : Action) → holds next d x ≡ ((nat_eq d b && action_eq x (in_cell c (deed v Kill serial))) || holds held d x)) → IsWith held next b (map (in_cell c) (listed (kill_deed v serial)))
+pub kill_put : (b : ℕ) (c : Cell) (v : Seen) (serial : ℕ) (held next : HeldOrders) → is_to_kill v serial ≡ true → ((d : ℕ) (x : Action) → holds next d x ≡ ((nat_eq d b && action_eq x (in_cell c (deed v Kill serial))) || holds held d x)) → IsWith held next b (map (in_cell c) (listed (kill_deed v serial)))
 kill_put b c v serial held next e now d x =
     now d x
     ∙ (λ i. (nat_eq d b && sym (or_none (action_eq x (in_cell c (deed v Kill serial)))) i) || holds held d x)
     ∙ (λ i. (nat_eq d b && is_listed x (map (in_cell c) (sym (kill_if v serial true e) i))) || holds held d x)
 
 -- and taken out
-pub kill_taken : (b : ℕ) (c : Cell) (v : Seen) (serial : ℕ) (held next : List Slot) → is_to_kill v serial ≡ true → ((d : ℕ) (x : Action) → holds next d x ≡ (holds held d x && not (nat_eq d b && action_eq x (in_cell c (deed v Kill serial))))) → IsWithout held next b (map (in_cell c) (listed (kill_deed v serial)))
+pub kill_taken : (b : ℕ) (c : Cell) (v : Seen) (serial : ℕ) (held next : HeldOrders) → is_to_kill v serial ≡ true → ((d : ℕ) (x : Action) → holds next d x ≡ (holds held d x && not (nat_eq d b && action_eq x (in_cell c (deed v Kill serial))))) → IsWithout held next b (map (in_cell c) (listed (kill_deed v serial)))
 kill_taken b c v serial held next e now d x =
     now d x
     ∙ (λ i. holds held d x && not (nat_eq d b && sym (or_none (action_eq x (in_cell c (deed v Kill serial)))) i))
@@ -214,12 +214,12 @@ without_none false true = refl
 without_none false false = refl
 
 -- where there is none, nothing is put in
-pub none_put : (b : ℕ) (c : Cell) (v : Seen) (serial : ℕ) (held : List Slot) → is_to_kill v serial ≡ false → IsWith held held b (map (in_cell c) (listed (kill_deed v serial)))
+pub none_put : (b : ℕ) (c : Cell) (v : Seen) (serial : ℕ) (held : HeldOrders) → is_to_kill v serial ≡ false → IsWith held held b (map (in_cell c) (listed (kill_deed v serial)))
 none_put b c v serial held e d x =
     with_none (nat_eq d b) (holds held d x) ∙ (λ i. (nat_eq d b && is_listed x (map (in_cell c) (sym (kill_if v serial false e) i))) || holds held d x)
 
 -- and nothing taken out
-pub none_taken : (b : ℕ) (c : Cell) (v : Seen) (serial : ℕ) (held : List Slot) → is_to_kill v serial ≡ false → IsWithout held held b (map (in_cell c) (listed (kill_deed v serial)))
+pub none_taken : (b : ℕ) (c : Cell) (v : Seen) (serial : ℕ) (held : HeldOrders) → is_to_kill v serial ≡ false → IsWithout held held b (map (in_cell c) (listed (kill_deed v serial)))
 none_taken b c v serial held e d x =
     without_none (nat_eq d b) (holds held d x) ∙ (λ i. holds held d x && not (nat_eq d b && is_listed x (map (in_cell c) (sym (kill_if v serial false e) i))))
 
@@ -260,7 +260,7 @@ deeds_both : (v : Seen) (c : Cell) (x : Action) → is_listed x (map (in_cell c)
 deeds_both v c x = ap (λ ds. is_listed x (map (in_cell c) ds)) (deeds_listed v) ∙ listed_both c (listed (fresh_deed v v.wanted)) (kills v v.versions) x
 
 -- where all that was to be ordered on the line is held, so are its KILLs after its write has changed
-pub kills_held : (b : ℕ) (c : Cell) (v w : Seen) (old first : List Slot) → ((a : Action) → is_listed a (map (in_cell c) (deeds v)) ≡ true → holds old b a ≡ true) → Shifts old first b (map (in_cell c) (listed (fresh_deed v v.wanted))) (map (in_cell c) (listed (fresh_deed w w.wanted))) → (a : Action) → is_listed a (map (in_cell c) (kills v v.versions)) ≡ true → holds first b a ≡ true
+pub kills_held : (b : ℕ) (c : Cell) (v w : Seen) (old first : HeldOrders) → ((a : Action) → is_listed a (map (in_cell c) (deeds v)) ≡ true → holds old b a ≡ true) → Shifts old first b (map (in_cell c) (listed (fresh_deed v v.wanted))) (map (in_cell c) (listed (fresh_deed w w.wanted))) → (a : Action) → is_listed a (map (in_cell c) (kills v v.versions)) ≡ true → holds first b a ≡ true
 kills_held b c v w old first there shift a h =
     shift.each b a
     ∙ (λ i. (nat_eq b b && is_listed a (map (in_cell c) (listed (fresh_deed w w.wanted)))) || (is_there i && not (nat_eq b b && not_both v v v.versions c a h i)))
@@ -296,7 +296,7 @@ all_changed true false false false false false true apart = refl
 all_changed true false false false false false false apart = refl
 
 -- the write has changed, then the KILLs of the versions that the line had, and then those of later ones are put in
-pub line_changed : (b : ℕ) (c : Cell) (v w : Seen) (old first second new : List Slot) → take (length v.versions) w.versions ≡ v.versions
+pub line_changed : (b : ℕ) (c : Cell) (v w : Seen) (old first second new : HeldOrders) → take (length v.versions) w.versions ≡ v.versions
     → Shifts old first b (map (in_cell c) (listed (fresh_deed v v.wanted))) (map (in_cell c) (listed (fresh_deed w w.wanted)))
     → Shifts first second b (map (in_cell c) (kills v v.versions)) (map (in_cell c) (kills w v.versions))
     → IsWith second new b (map (in_cell c) (kills w (drop (length v.versions) w.versions)))

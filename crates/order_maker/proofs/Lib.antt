@@ -1,7 +1,8 @@
 pub mod ActionsLemmas
 pub mod HeldLemmas
-pub mod JoiningLemmas
-pub mod SlotLemmas
+pub mod KeyLemmas
+pub mod CellLemmas
 pub mod NumberLemmas
 pub mod ShiftLemmas
 pub mod KillLemmas
+pub mod AlikeLemmas

@@ -1,7 +1,7 @@
 -- What is to be ordered on one line: a write where the wanted version is not on air, which replaces the newest other
 -- version that is on air; and a KILL of each version that is on air, or may be, and neither wanted nor replaced. A cell
 -- that is down is ordered nothing, and so is a key that is held.
-use Rattle.std.specs.Prelude.{ℕ, Bool, ◌&&◌, not, List, [], ◌∷◌, ◌++◌, Option, Some, None, nat_eq, find, reverse, if◌then◌else◌}
+use Rattle.std.specs.Prelude.{ℕ, Bool, false, ◌&&◌, not, List, [], ◌∷◌, ◌++◌, Option, Some, None, nat_eq, find, reverse, if◌then◌else◌}
 use Rattle.common.specs.declared.cell.Cell.{Cell}
 use Rattle.mirror.specs.Seen.{Seen, is_absent, is_on_air, is_the}
 use Rattle.order_maker.specs.declared.action.Action.{Action}
@@ -38,6 +38,11 @@ deed v kind s = record { kind = kind; message_id = v.message_id; serial = s }
 abbrev pub fresh : Seen → Option ℕ → List Deed
 fresh v None = []
 fresh v (Some s) = if needs v s then deed v (fresh_kind (replaced v s)) s ∷ [] else []
+
+-- a version is wanted, and is to be written
+abbrev pub is_written : Seen → Option ℕ → Bool
+is_written v None = false
+is_written v (Some s) = needs v s
 
 -- the version that the write replaces, where there is a write
 abbrev pub replaced_for : Seen → Option ℕ → Option ℕ

@@ -1,9 +1,9 @@
 pub mod Actions
+pub mod Alike
 pub mod Grouping
-pub mod Joining
 pub mod GroupingLaws
 pub mod OrderingLaws
 pub mod OrderMessage
 pub mod Pending
-pub mod SlotNumber
-pub mod SlotLaws
+pub mod KeyNumber
+pub mod KeyLaws

@@ -2,7 +2,8 @@
 
 ghost use Rattle.std.specs.Prelude.{◌≡◌, ◌↔◌, ◌≤◌, ◌++◌, ◌∷◌, [], length, take, IfOk, OnOk, IsTrue, if◌then◌else◌};
 ghost use Rattle.mirror.specs.Seen.{is_the, seen};
-ghost use Rattle.order_maker.specs.Actions.{needs, is_replaceable, newest, replaced, replaced_for, fresh_kind, deed, fresh, is_to_kill, kills, deeds, fresh_deed};
+ghost use Rattle.order_maker.specs.Actions.{needs, is_replaceable, newest, replaced, replaced_for, fresh_kind, deed, fresh, is_to_kill, is_written, kills, deeds, fresh_deed};
+ghost use Rattle.order_maker.specs.Alike.{AreAlike, IsSamePlan, IsWantedAlike};
 
 use crate::deed::Deed;
 use crate::order_kind::OrderKind;
@@ -14,12 +15,6 @@ fn presence(sight: &Sight<'_>, serial: Serial) -> Presence
     ensures { result ≡ (seen sight.now).presence serial }
 {
     sight.line.state(serial).presence
-}
-
-fn is_held(sight: &Sight<'_>, serial: Serial) -> bool
-    ensures { result ≡ (seen sight.now).is_held serial }
-{
-    sight.line.state(serial).hold.is_some()
 }
 
 fn is_the(found: Option<Serial>, serial: Serial) -> bool
@@ -45,14 +40,16 @@ fn deed(sight: &Sight<'_>, kind: OrderKind, serial: Serial) -> Deed
 fn needs(sight: &Sight<'_>, serial: Serial) -> bool
     ensures { result ≡ needs (seen sight.now) serial }
 {
-    !sight.down && !is_held(sight, serial) && presence(sight, serial) != Presence::OnAir
+    let state = sight.line.state(serial);
+    !sight.down && state.hold.is_none() && state.presence != Presence::OnAir
 }
 
 /// Whether another version is on air there and not held.
 fn is_replaceable(sight: &Sight<'_>, serial: Serial, other: Serial) -> bool
     ensures { result ≡ is_replaceable (seen sight.now) serial other }
 {
-    other != serial && presence(sight, other) == Presence::OnAir && !is_held(sight, other)
+    let state = sight.line.state(other);
+    other != serial && state.presence == Presence::OnAir && state.hold.is_none()
 }
 
 /// The newest other version that a write can replace.
@@ -80,16 +77,6 @@ fn replaced(sight: &Sight<'_>, serial: Serial) -> Option<Serial>
     }
 }
 
-/// The version that the write replaces, where there is a write.
-fn replaced_there(sight: &Sight<'_>) -> Option<Serial>
-    ensures { result ≡ replaced_for (seen sight.now) sight.now.wanted }
-{
-    match sight.wanted {
-        Some(serial) if needs(sight, serial) => replaced(sight, serial),
-        _ => None,
-    }
-}
-
 fn fresh_kind(old: Option<Serial>) -> OrderKind
     ensures { result ≡ fresh_kind old }
 {
@@ -99,11 +86,34 @@ fn fresh_kind(old: Option<Serial>) -> OrderKind
     }
 }
 
-/// A line, with the version that its write replaces, which is so found once.
+/// Whether a version is wanted, and is to be written.
+fn is_written(sight: &Sight<'_>) -> bool
+    ensures { result ≡ is_written (seen sight.now) sight.now.wanted }
+{
+    match sight.wanted {
+        Some(serial) => needs(sight, serial),
+        None => false,
+    }
+}
+
+/// The version that the write replaces, where there is a write.
+fn replaced_there(sight: &Sight<'_>, writes: bool) -> Option<Serial>
+    requires { writes ≡ is_written (seen sight.now) sight.now.wanted }
+    ensures { result ≡ replaced_for (seen sight.now) sight.now.wanted }
+{
+    match sight.wanted {
+        Some(serial) if writes => replaced(sight, serial),
+        _ => None,
+    }
+}
+
+/// A line, with whether there is a write, and the version that it replaces, which are so found once.
 #[derive(Clone, Copy)]
 pub(crate) struct ReplacingSight<'a> {
     pub(crate) sight: &'a Sight<'a>,
+    writes: bool,
     replaced: Option<Serial>,
+    ghost written: { writes ≡ is_written (seen sight.now) sight.now.wanted },
     ghost found: { replaced ≡ replaced_for (seen sight.now) sight.now.wanted },
 }
 
@@ -111,9 +121,11 @@ impl<'a> ReplacingSight<'a> {
     pub(crate) fn of(sight: &'a Sight<'a>) -> ReplacingSight<'a>
         ensures { result.sight.now ≡ sight.now }
     {
+        let writes = is_written(sight);
         ReplacingSight {
             sight,
-            replaced: replaced_there(sight),
+            writes,
+            replaced: replaced_there(sight, writes),
         }
     }
 
@@ -122,7 +134,7 @@ impl<'a> ReplacingSight<'a> {
         ensures { result ≡ fresh_deed (seen self.now.sight.now) self.now.sight.now.wanted }
     {
         match self.sight.wanted {
-            Some(serial) if needs(self.sight, serial) => {
+            Some(serial) if self.writes => {
                 Some(deed(self.sight, fresh_kind(self.replaced), serial))
             }
             _ => None,
@@ -133,8 +145,9 @@ impl<'a> ReplacingSight<'a> {
     pub(crate) fn is_to_kill(&self, serial: Serial) -> bool
         ensures { result ≡ is_to_kill (seen self.now.sight.now) serial }
     {
-        presence(self.sight, serial) != Presence::Absent
-            && !is_held(self.sight, serial)
+        let state = self.sight.line.state(serial);
+        state.presence != Presence::Absent
+            && state.hold.is_none()
             && !self.sight.down
             && !is_the(self.sight.wanted, serial)
             && !is_the(self.replaced, serial)
@@ -190,6 +203,66 @@ pub(crate) fn is_same(deed: &Option<Deed>, other: &Option<Deed>) -> bool
     ensures { IsTrue result ↔ (deed.now ≡ other.now) }
 {
     *deed == *other
+}
+
+/// Whether the version is as much on air on both lines, and held on both or on neither.
+fn is_alike(before: &Sight<'_>, after: &Sight<'_>, serial: Serial) -> bool
+    ensures presence { IsTrue result → (seen before.now).presence serial ≡ (seen after.now).presence serial }
+    ensures held { IsTrue result → (seen before.now).is_held serial ≡ (seen after.now).is_held serial }
+{
+    let was = before.line.state(serial);
+    let is = after.line.state(serial);
+    was.presence == is.presence && was.hold.is_some() == is.hold.is_some()
+}
+
+/// Whether each of the versions is.
+fn are_alike(before: &Sight<'_>, after: &Sight<'_>, versions: &[Serial]) -> bool
+    ensures { IsTrue result → AreAlike (seen before.now) (seen after.now) versions.now }
+{
+    for serial in versions {
+        if !is_alike(before, after, *serial) {
+            return false;
+        }
+    }
+    true
+}
+
+/// Whether the wanted version is, if one is wanted.
+fn is_wanted_alike(before: &Sight<'_>, after: &Sight<'_>) -> bool
+    ensures { IsTrue result → IsWantedAlike (seen before.now) (seen after.now) before.now.wanted }
+{
+    match before.wanted {
+        Some(serial) => is_alike(before, after, serial),
+        None => true,
+    }
+}
+
+/// Whether both lists have the same versions, in the same order.
+fn are_same(versions: &[Serial], others: &[Serial]) -> bool
+    ensures { IsTrue result ↔ (versions.now ≡ others.now) }
+{
+    versions == others
+}
+
+/// Whether both lines are of one message and its versions, the same one wanted and the cell up on both or on neither.
+pub(crate) fn has_same_plan(before: &Sight<'_>, after: &Sight<'_>) -> bool
+    ensures message { IsTrue result → before.now.message_id ≡ after.now.message_id }
+    ensures down { IsTrue result → before.now.down ≡ after.now.down }
+    ensures wanted { IsTrue result → before.now.wanted ≡ after.now.wanted }
+    ensures versions { IsTrue result → before.now.versions.now ≡ after.now.versions.now }
+{
+    before.message_id == after.message_id
+        && before.down == after.down
+        && before.wanted == after.wanted
+        && are_same(before.versions, after.versions)
+}
+
+/// Whether no version of two such lines stands otherwise on the one than on the other, so that the same is to be ordered
+/// on both.
+pub(crate) fn has_same_states(before: &Sight<'_>, after: &Sight<'_>) -> bool
+    ensures { IsTrue result → IsSamePlan (seen before.now) (seen after.now) → deeds (seen before.now) ≡ deeds (seen after.now) }
+{
+    is_wanted_alike(before, after) && are_alike(before, after, before.versions)
 }
 
 /// Whether both lines are of one message, and the second has the versions of the first: these first, and then others, if

@@ -7,15 +7,16 @@
 #![tactic(auto)]
 
 mod action;
+mod cell_number;
 mod deed;
 mod deeds;
-mod joining;
 mod order;
+mod order_cells;
+mod order_key;
 mod order_kind;
 mod order_message;
 mod orders;
 mod pending;
-mod slot;
 
 pub use action::Action;
 pub use deed::Deed;

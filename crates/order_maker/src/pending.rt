@@ -1,49 +1,49 @@
 //! The pending orders of each BSC, changed line by line.
 
-ghost use Rattle.std.specs.Prelude.{◌≡◌, ℕ, true, false, ◌&&◌, ◌||◌, not, nat_eq, List, map, take, if◌then◌else◌, IfOk, OnOk};
-ghost use Rattle.std.specs.List.{slice_get};
+ghost use Rattle.std.specs.Prelude.{◌≡◌, ◌≤◌, ℕ, [], true, false, ◌&&◌, ◌||◌, not, nat_eq, List, length, map, take, if◌then◌else◌, IfOk, IsTrue, OnOk};
+ghost use Rattle.std.specs.BTreeMap.{is_at};
+ghost use Rattle.std.specs.Map.{remove_entry};
 ghost use Rattle.std.specs.Option.{is_some};
 ghost use Rattle.mirror.specs.Seen.{seen};
 ghost use Rattle.order_maker.specs.Actions.{deeds, in_cell, kills, listed};
 ghost use Rattle.order_maker.specs.Grouping.{in_order, grouped, most_cells, first};
-ghost use Rattle.order_maker.specs.Joining.{leading_cells};
-ghost use Rattle.order_maker.specs.Pending.{action_eq, is_listed, action_of, holds, Shifts, IsWith, IsWithout, IsListOf};
+ghost use Rattle.order_maker.specs.Pending.{action_eq, is_listed, order_of, key_cmp, cells_at, holds, AreWhole, IsWithoutCell, Shifts, IsWith, IsWithout, IsListOf};
 ghost use Rattle.order_maker.specs.declared.action.Action.{Action};
 
 use crate::action::Action;
 use crate::deed::Deed;
-use crate::deeds::{ReplacingSight, is_same, keeps_versions};
-use crate::joining::{is_one_order, join_last};
+use crate::deeds::{ReplacingSight, has_same_plan, has_same_states, is_same, keeps_versions};
 use crate::order::Order;
+use crate::order_cells::OrderCells;
+use crate::order_key::OrderKey;
 use crate::orders::Orders;
-use crate::slot::Slot;
 use cell_register::BscId;
-use common::{Cell, Cells};
+use common::Cell;
 use mirror::Sight;
 use serials::Serial;
 use std::alloc::{AllocError, Global};
-use std::collections::BTreeSet;
-use std::collections::btree_set::Range;
+use std::collections::BTreeMap;
+use std::collections::btree_map::Range;
 use std::marker::Model;
 
-/// What is to be ordered, for each BSC. After an `Err` of `shift` it is no longer of use: some of a line's actions may
-/// be there and others not.
+/// What is to be ordered, for each BSC: by order, in the order in which they are sent, its cells. After an `Err` of
+/// `shift` it is no longer of use: some of a line's actions may be there and others not.
 #[derive(Drop)]
 pub struct Pending {
     alloc: Global,
-    slots: BTreeSet<Slot>,
+    orders: BTreeMap<OrderKey, OrderCells>,
 }
 
 impl Model for Pending {
-    ghost use Rattle.std.specs.Prelude.{◌≡◌, List, true};
+    ghost use Rattle.std.specs.Prelude.{◌≡◌, true};
     ghost use Rattle.std.specs.List.{list_all};
-    ghost use Rattle.order_maker.specs.Pending.{Slot, is_proper};
+    ghost use Rattle.order_maker.specs.Pending.{HeldOrders, is_whole};
 
-    ghost Value = { List Slot };
+    ghost Value = { HeldOrders };
 
-    ghost view = { λ p. p.slots.keys };
+    ghost view = { λ p. p.orders.entries };
 
-    ghost invariant = { λ p. list_all is_proper p.slots.keys ≡ true };
+    ghost invariant = { λ p. list_all is_whole p.orders.entries ≡ true };
 }
 
 /// The greatest number of cells that one order names.
@@ -53,6 +53,20 @@ fn most_cells() -> usize
     1000
 }
 
+/// Takes the cell out of those of the order, if it is there, and returns whether none of them is left.
+fn take_cell(orders: &mut BTreeMap<OrderKey, OrderCells>, key: &OrderKey, c: Cell) -> bool
+    ensures without { IsWithoutCell orders.old.entries orders.new.entries key.now c }
+    ensures none { IsTrue result → cells_at orders.new.entries key.now ≡ [] }
+    ensures whole { AreWhole orders.old.entries → result ≡ false → AreWhole orders.new.entries }
+    ensures others { AreWhole orders.old.entries → AreWhole (remove_entry (is_at (key_cmp key.now)) orders.new.entries) }
+{
+    let Some(cells) = orders.get_mut(key) else {
+        return false;
+    };
+    cells.take_out(c);
+    !cells.has_some()
+}
+
 impl Pending {
     /// Nothing is to be ordered.
     pub fn new(alloc: Global) -> Pending
@@ -60,21 +74,32 @@ impl Pending {
     {
         Pending {
             alloc,
-            slots: BTreeSet::new(alloc),
+            orders: BTreeMap::new(alloc),
         }
     }
 
     fn put(&mut self, b: BscId, a: Action) -> Result<(), AllocError>
         ensures { OnOk result ((d : ℕ) (x : Action) → holds self.new d x ≡ ((nat_eq d b && action_eq x a) || holds self.old d x)) }
     {
-        self.slots.insert(Slot::of(b, a))?;
+        let alloc = self.alloc;
+        let cell = a.cell;
+        let key = OrderKey::of(b, a);
+        if let Some(cells) = self.orders.get_mut(&key) {
+            return cells.put(cell);
+        }
+        let cells = OrderCells::of(alloc, cell)?;
+        self.orders.insert(key, cells)?;
         Ok(())
     }
 
     fn take_out(&mut self, b: BscId, a: Action)
         ensures { (d : ℕ) (x : Action) → holds self.new d x ≡ (holds self.old d x && not (nat_eq d b && action_eq x a)) }
     {
-        self.slots.remove(&Slot::of(b, a));
+        let cell = a.cell;
+        let key = OrderKey::of(b, a);
+        if take_cell(&mut self.orders, &key, cell) {
+            self.orders.remove(&key);
+        }
     }
 
     /// Puts in the deed, if there is one.
@@ -200,8 +225,48 @@ impl Pending {
         Ok(())
     }
 
-    /// The same, where what was to be ordered on the line is there. Where the line keeps its versions, no action is looked up
-    /// but those that come or go.
+    /// The line is of the same message before and after, and the versions that it had come first among those that it has:
+    /// no action is looked up but those that come or go. What was to be ordered on it is there.
+    fn shift_kept(
+        &mut self,
+        b: BscId,
+        c: Cell,
+        before: &Sight<'_>,
+        after: &Sight<'_>,
+    ) -> Result<(), AllocError>
+        requires message { before.now.message_id ≡ after.now.message_id }
+        requires fewer { length before.now.versions.now ≤ length after.now.versions.now }
+        requires first { take (length before.now.versions.now) after.now.versions.now ≡ before.now.versions.now }
+        requires there { (a : Action) → is_listed a (map (in_cell c) (deeds (seen before.now))) ≡ true → holds self.old b a ≡ true }
+        ensures { OnOk result (Shifts self.old self.new b (map (in_cell c) (deeds (seen before.now))) (map (in_cell c) (deeds (seen after.now)))) }
+    {
+        let was = ReplacingSight::of(before);
+        let is = ReplacingSight::of(after);
+        self.shift_write(b, c, was.write(), is.write())?;
+        self.shift_kills(b, c, &was, &is, before.versions)?;
+        self.put_kills(b, c, &is, &after.versions[before.versions.len()..])?;
+        Ok(())
+    }
+
+    /// The same of any line.
+    fn shift_other(
+        &mut self,
+        b: BscId,
+        c: Cell,
+        before: &Sight<'_>,
+        after: &Sight<'_>,
+    ) -> Result<(), AllocError>
+        requires { (a : Action) → is_listed a (map (in_cell c) (deeds (seen before.now))) ≡ true → holds self.old b a ≡ true }
+        ensures { OnOk result (Shifts self.old self.new b (map (in_cell c) (deeds (seen before.now))) (map (in_cell c) (deeds (seen after.now)))) }
+    {
+        if keeps_versions(before, after) {
+            return self.shift_kept(b, c, before, after);
+        }
+        self.shift(b, c, before, after)
+    }
+
+    /// The same as `shift`, where what was to be ordered on the line is there. Where no version stands otherwise than before
+    /// no action is looked up, and where the line keeps its versions only those that come or go.
     pub fn shift_held(
         &mut self,
         b: BscId,
@@ -212,23 +277,61 @@ impl Pending {
         requires { (a : Action) → is_listed a (map (in_cell c) (deeds (seen before.now))) ≡ true → holds self.old b a ≡ true }
         ensures { OnOk result (Shifts self.old self.new b (map (in_cell c) (deeds (seen before.now))) (map (in_cell c) (deeds (seen after.now)))) }
     {
-        if !keeps_versions(before, after) {
-            return self.shift(b, c, before, after);
+        if !has_same_plan(before, after) {
+            return self.shift_other(b, c, before, after);
         }
-        let was = ReplacingSight::of(before);
-        let is = ReplacingSight::of(after);
-        self.shift_write(b, c, was.write(), is.write())?;
-        self.shift_kills(b, c, &was, &is, before.versions)?;
-        self.put_kills(b, c, &is, &after.versions[before.versions.len()..])?;
-        Ok(())
+        if has_same_states(before, after) {
+            return Ok(());
+        }
+        self.shift_kept(b, c, before, after)
     }
 
-    /// The slots of the BSC, in the order in which their actions are sent.
-    fn slots_of(&self, b: BscId) -> Range<'_, Slot>
-        ensures { (xs : List Action) → IsListOf xs self.now b → map action_of result ≡ in_order xs }
+    /// The same as `shift_held`, where the line itself is as it was, and only what is wanted on it may be another.
+    pub fn shift_wanted(
+        &mut self,
+        b: BscId,
+        c: Cell,
+        before: &Sight<'_>,
+        after: &Sight<'_>,
+    ) -> Result<(), AllocError>
+        requires line { before.now.line ≡ after.now.line }
+        requires there { (a : Action) → is_listed a (map (in_cell c) (deeds (seen before.now))) ≡ true → holds self.old b a ≡ true }
+        ensures { OnOk result (Shifts self.old self.new b (map (in_cell c) (deeds (seen before.now))) (map (in_cell c) (deeds (seen after.now)))) }
+    {
+        if has_same_plan(before, after) {
+            return Ok(());
+        }
+        self.shift_other(b, c, before, after)
+    }
+
+    /// The same as `shift_held`, where the same version of one message is wanted, out of the same versions, and only how the
+    /// versions stand there, or whether the cell is down, may be another.
+    pub fn shift_states(
+        &mut self,
+        b: BscId,
+        c: Cell,
+        before: &Sight<'_>,
+        after: &Sight<'_>,
+    ) -> Result<(), AllocError>
+        requires message { before.now.message_id ≡ after.now.message_id }
+        requires wanted { before.now.wanted ≡ after.now.wanted }
+        requires versions { before.now.versions.now ≡ after.now.versions.now }
+        requires there { (a : Action) → is_listed a (map (in_cell c) (deeds (seen before.now))) ≡ true → holds self.old b a ≡ true }
+        ensures { OnOk result (Shifts self.old self.new b (map (in_cell c) (deeds (seen before.now))) (map (in_cell c) (deeds (seen after.now)))) }
+    {
+        if before.down == after.down && has_same_states(before, after) {
+            return Ok(());
+        }
+        self.shift_kept(b, c, before, after)
+    }
+
+    /// The orders of the BSC, in the order in which they are sent.
+    fn orders_of(&self, b: BscId) -> Range<'_, OrderKey, OrderCells>
+        ensures { (xs : List Action) → IsListOf xs self.now b → map order_of result ≡ grouped (in_order xs) }
     {
         let bsc = b.number() as u32;
-        self.slots.range(Slot::least(bsc)..Slot::least(bsc + 1))
+        self.orders
+            .range(OrderKey::least(bsc)..OrderKey::least(bsc + 1))
     }
 
     /// The pending orders of the BSC, in the order in which they are sent.
@@ -237,58 +340,29 @@ impl Pending {
     {
         let alloc = self.alloc;
         let mut orders = Vec::new(alloc);
-        for slot in self.slots_of(b) {
-            join_last(alloc, &slot.action(), &mut orders)?;
+        for (key, cells) in self.orders_of(b) {
+            orders.push(key.order(cells.all(alloc)?))?;
         }
         Ok(Orders::from_vec(orders))
-    }
-
-    /// The action that is sent first.
-    fn first_action(&self, b: BscId) -> Option<Action>
-        ensures { (xs : List Action) → IsListOf xs self.now b → result ≡ slice_get (in_order xs) 0 }
-    {
-        let mut slots = self.slots_of(b);
-        match slots.next() {
-            Some(slot) => Some(slot.action()),
-            None => None,
-        }
-    }
-
-    /// The cells of the order that is sent first, so many at most, where the action is the first of it.
-    fn first_cells(&self, b: BscId, first: &Action, most: usize) -> Result<Cells, AllocError>
-        ensures { (xs : List Action) → IsListOf xs self.now b → IfOk result (λ cells. cells ≡ take most (leading_cells first.now (in_order xs))) }
-    {
-        let mut cells = Vec::new(self.alloc);
-        for slot in self.slots_of(b) {
-            let action = slot.action();
-            if cells.len() >= most || !is_one_order(&action, first) {
-                return Ok(Cells::from_vec(cells));
-            }
-            cells.push(action.cell)?;
-        }
-        Ok(Cells::from_vec(cells))
     }
 
     /// The order that is sent next, for its first cells. `None` where nothing is pending.
     pub fn first(&self, b: BscId) -> Result<Option<Order>, AllocError>
         ensures { (xs : List Action) → IsListOf xs self.now b → IfOk result (λ o. o ≡ first (grouped (in_order xs))) }
     {
-        let Some(action) = self.first_action(b) else {
+        let mut orders = self.orders_of(b);
+        let Some((key, cells)) = orders.next() else {
             return Ok(None);
         };
-        let cells = self.first_cells(b, &action, most_cells())?;
-        Ok(Some(Order {
-            kind: action.kind,
-            message_id: action.message_id,
-            serial: action.serial,
-            cells,
-        }))
+        let first = cells.first(self.alloc, most_cells())?;
+        Ok(Some(key.order(first)))
     }
 
     /// Whether an order is pending.
     pub fn has(&self, b: BscId) -> bool
         ensures { (xs : List Action) → IsListOf xs self.now b → result ≡ is_some (first (grouped (in_order xs))) }
     {
-        self.first_action(b).is_some()
+        let mut orders = self.orders_of(b);
+        orders.next().is_some()
     }
 }

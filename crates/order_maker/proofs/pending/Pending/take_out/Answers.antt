@@ -1,13 +1,23 @@
-use Rattle.std.proofs.Common.{false, cond, ◌∙◌, ap}
+use Rattle.std.proofs.Common.{◌≡◌, ℕ, [], None, cond, ◌&&◌, not, nat_eq}
 use Rattle.std.specs.BTreeMap.{is_at}
-use Rattle.order_maker.specs.Pending.{slot_of, slot_cmp, holds}
-use Rattle.order_maker.proofs.HeldLemmas.{proper_without, held_without}
+use Rattle.std.specs.Map.{lookup}
+use Rattle.order_maker.specs.Pending.{OrderKey, action_eq, key_of, key_cmp, cells_at, holds, IsWithoutCell}
+use Rattle.order_maker.specs.declared.action.Action.{Action}
+use Rattle.order_maker.proofs.HeldLemmas.{none_left, action_taken}
+use Rattle.order_maker.proofs.pending.Pending.take_out.Goals.{in-Some-1, in-None-1}
 use Rattle.order_maker.proofs.pending.Pending.take_out.Goals as goal
 
-pub invariant_of-self : goal.invariant_of-self
-invariant_of-self c =
-    rw (c.remove.ensures.keys) (proper_without (is_at (slot_cmp c.of.result)) c.self.inside.slots.keys c.self.invariant)
-
-pub returns : goal.returns
-returns c =
-    λ d x. rw (← c.self.view_is) (c.remove.ensures.updates.0 (slot_of d x) ∙ ap (λ s. cond (is_at (slot_cmp s) (slot_of d x)) false (holds c.self.inside.slots.keys d x)) c.of.ensures ∙ held_without c.self.inside.slots.keys c.args.b d c.args.a x)
+pub returns-then-take_cell : goal.returns-then-take_cell
+returns-then-take_cell c =
+    let old = c.self.inside.orders.entries in
+    let mid = c.take_cell.new.orders.entries in
+    let new = c.remove.new.self.entries in
+    let k = key_of c.args.b c.args.a in
+    let without : IsWithoutCell old mid k c.args.a.cell = rw c.of-key.ensures at c.take_cell.ensures.without in
+    let none : cells_at mid k ≡ [] = rw c.of-key.ensures at (c.take_cell.ensures.none c.if-take_cell.true) in
+    let gone : (q : OrderKey) → lookup (is_at (key_cmp q)) new ≡ cond (is_at (key_cmp k) q) None (lookup (is_at (key_cmp q)) mid) = λ q. rw c.of-key.ensures at (c.remove.ensures.updates.0 q) in
+    let taken : (d : ℕ) (x : Action) → holds new d x ≡ (holds c.args.self.now d x && not (nat_eq d c.args.b && action_eq x c.args.a)) = rw (← c.self.view_is) (action_taken c.args.b c.args.a old new (none_left k c.args.a.cell old mid new without none gone)) in
+    elim c.match-remove.branch [
+      | in-Some-1 w ↦ rw w.self-is taken
+      | in-None-1 w ↦ rw w.self-is taken
+    ]

@@ -1,0 +1,14 @@
+use Rattle.std.proofs.Common.{arith, ◌<◌, ◌-◌, ◌++◌, ◌∷◌, length, take, sym, ◌∙◌, ap}
+use Rattle.order_maker.proofs.CellLemmas.{first_more}
+use Rattle.order_maker.proofs.order_cells.OrderCells.first.Goals as goal
+
+pub loop-cell-preserved : goal.loop-cell-preserved
+loop-cell-preserved c =
+    let cells = c.loop-cell.first.items in
+    let most = c.args.most in
+    let rest = c.next.new.self in
+    let few : length cells < most = omega arith in
+    rw c.in_ok-push.ensures.items (first_more most c.cell.result rest cells few
+    ∙ ap (λ x. cells ++ take (most - length cells) (x ∷ rest)) c.cell.ensures
+    ∙ ap (λ found. cells ++ take (most - length cells) found) (sym c.in-Some.ensures.steps)
+    ∙ c.loop-cell.invariant)
