@@ -1,6 +1,6 @@
 //! The numbers of the areas of one warning.
 
-ghost use Rattle.std.specs.Prelude.{◌≡◌, IsTrue, slice_get};
+ghost use Rattle.std.specs.Prelude.{◌≡◌, ◌↔◌, IsTrue, slice_get};
 ghost use Rattle.coverage_board.specs.Board.{area_in};
 ghost use Rattle.coverage_board.specs.Parts.{has_area};
 
@@ -28,6 +28,13 @@ fn is_among_from(areas: &[Name], index: usize, area: &Name) -> bool
         Some(name) if *name == *area => true,
         _ => is_among(areas, area),
     }
+}
+
+/// Whether both lists have the same names, in the same order.
+pub(crate) fn are_same(areas: &[Name], others: &[Name]) -> bool
+    ensures { IsTrue result ↔ (areas.now ≡ others.now) }
+{
+    areas == others
 }
 
 /// Whether the area has numbers, and they stand at that place.
@@ -241,6 +248,24 @@ impl AreaNumbers {
         }
     }
 
+    /// Takes a part out of the numbers of each of the areas, and adds another, once each.
+    pub(crate) fn exchange_in(
+        &mut self,
+        areas: &[Name],
+        out: Numbers,
+        part: Numbers,
+    ) -> Result<(), AllocError>
+        requires there { (a : List ℕ) → Holds (area_in self.old a) (part_where (has_area areas.now a) out) }
+        requires room { (a : List ℕ) → HasRoom (area_in self.old a) (part_where (has_area areas.now a) out) (part_where (has_area areas.now a) part) }
+        ensures { OnOk result ((a : List ℕ) → area_in self.new a ≡ moved (area_in self.old a) (part_where (has_area areas.now a) out) (part_where (has_area areas.now a) part)) }
+    {
+        if out.is_zero() {
+            return self.put_in_all(areas, part);
+        }
+        self.exchange_all(areas, out, part);
+        Ok(())
+    }
+
     /// Takes a part out of the numbers of the areas that a line had, and adds one to those of the areas that it has. It
     /// looks up no area whose numbers stay, and each other area once.
     pub(crate) fn shift(
@@ -257,7 +282,7 @@ impl AreaNumbers {
         if out.is_zero() {
             return self.put_in_all(after, part);
         }
-        if before == after {
+        if are_same(before, after) {
             self.exchange_all(after, out, part);
             return Ok(());
         }

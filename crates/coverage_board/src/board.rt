@@ -112,4 +112,28 @@ impl Board {
         self.rows.insert(w.number(), row)?;
         Ok(())
     }
+
+    /// The same for a line that the same areas cover before and after, so that their names need not be compared.
+    pub fn shift_standing(
+        &mut self,
+        w: WarningId,
+        before: &Stand<'_>,
+        after: &Stand<'_>,
+    ) -> Result<(), AllocError>
+        requires areas { (stand_of before.now).areas ≡ (stand_of after.now).areas }
+        requires total_there { Holds (total_of self.old w) (total_part (stand_of before.now)) }
+        requires total_room { HasRoom (total_of self.old w) (total_part (stand_of before.now)) (total_part (stand_of after.now)) }
+        requires area_there { (a : List ℕ) → Holds (area_of self.old w a) (area_part a (stand_of before.now)) }
+        requires area_room { (a : List ℕ) → HasRoom (area_of self.old w a) (area_part a (stand_of before.now)) (area_part a (stand_of after.now)) }
+        ensures total { OnOk result ((v : ℕ) → total_of self.new v ≡ (if nat_eq w v then moved (total_of self.old v) (total_part (stand_of before.now)) (total_part (stand_of after.now)) else total_of self.old v)) }
+        ensures area { OnOk result ((v : ℕ) (a : List ℕ) → area_of self.new v a ≡ (if nat_eq w v then moved (area_of self.old v a) (area_part a (stand_of before.now)) (area_part a (stand_of after.now)) else area_of self.old v a)) }
+    {
+        if let Some(place) = place_of(&self.rows, self.last, w.number()) {
+            self.last = place;
+            let (_, row) = self.rows.pair_mut(place);
+            row.shift_standing(before, after)?;
+            return Ok(());
+        }
+        self.shift(w, before, after)
+    }
 }

@@ -42,6 +42,13 @@ impl Numbers {
         self == Numbers::zero()
     }
 
+    /// Whether the two are the same numbers.
+    pub(crate) fn same(self, other: Numbers) -> bool
+        ensures { IsTrue result ↔ (self ≡ other) }
+    {
+        self == other
+    }
+
     /// The numbers without a part of them.
     pub(crate) fn less(self, part: Numbers) -> Numbers
         requires { Holds self part }

@@ -37,7 +37,7 @@ fn part_of_versions(stand: &Stand<'_>) -> VersionsPart
     for serial in stand.sight.versions {
         let state = stand.sight.line.state(*serial);
         broadcasts = broadcasts.wrapping_add(u64::from(state.count));
-        if is_unwanted(&stand.sight, *serial) {
+        if is_unwanted(stand.sight.wanted, *serial, state.presence) {
             left = true;
         }
     }

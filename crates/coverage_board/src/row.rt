@@ -1,6 +1,6 @@
 //! The numbers of one warning.
 
-use crate::area_numbers::AreaNumbers;
+use crate::area_numbers::{AreaNumbers, are_same};
 use crate::numbers::Numbers;
 use crate::parts::total_part;
 use crate::stand::Stand;
@@ -52,7 +52,18 @@ impl Row {
         self.areas.area(area)
     }
 
-    /// Moves the numbers from what a line added as it was to what it adds as it is.
+    /// Takes a part out of the total, and adds another.
+    fn move_total(&mut self, out: Numbers, part: Numbers)
+        requires there { Holds self.old.total out }
+        requires room { HasRoom self.old.total out part }
+        ensures total { self.new.total ≡ moved self.old.total out part }
+        ensures areas { self.new.areas ≡ self.old.areas }
+    {
+        self.total = self.total.less(out).added(part);
+    }
+
+    /// Moves the numbers from what a line added as it was to what it adds as it is. Where that is the same, in the same
+    /// areas, no area is looked up.
     pub(crate) fn shift(&mut self, before: &Stand<'_>, after: &Stand<'_>) -> Result<(), AllocError>
         requires total_there { Holds self.old.total (total_part (stand_of before.now)) }
         requires total_room { HasRoom self.old.total (total_part (stand_of before.now)) (total_part (stand_of after.now)) }
@@ -65,12 +76,42 @@ impl Row {
         let _broadcasts = self.total.broadcasts;
         let part_before = total_part(before);
         let part_after = total_part(after);
-        self.total = self.total.less(part_before).added(part_after);
+        if part_before.same(part_after) && are_same(before.areas, after.areas) {
+            return Ok(());
+        }
+        self.move_total(part_before, part_after);
         self.areas.shift(
             before.areas,
             part_before.without_left(),
             after.areas,
             part_after.without_left(),
         )
+    }
+
+    /// The same, where the same areas cover the cell before and after, so that their names need not be compared.
+    pub(crate) fn shift_standing(
+        &mut self,
+        before: &Stand<'_>,
+        after: &Stand<'_>,
+    ) -> Result<(), AllocError>
+        requires areas { (stand_of before.now).areas ≡ (stand_of after.now).areas }
+        requires total_there { Holds self.old.total (total_part (stand_of before.now)) }
+        requires total_room { HasRoom self.old.total (total_part (stand_of before.now)) (total_part (stand_of after.now)) }
+        requires area_there { (a : List ℕ) → Holds (area_in self.old.areas a) (area_part a (stand_of before.now)) }
+        requires area_room { (a : List ℕ) → HasRoom (area_in self.old.areas a) (area_part a (stand_of before.now)) (area_part a (stand_of after.now)) }
+        ensures total { OnOk result (self.new.total ≡ moved self.old.total (total_part (stand_of before.now)) (total_part (stand_of after.now))) }
+        ensures areas { OnOk result ((a : List ℕ) → area_in self.new.areas a ≡ moved (area_in self.old.areas a) (area_part a (stand_of before.now)) (area_part a (stand_of after.now))) }
+    {
+        // Read, so that the part of it is known to fit 64 bits.
+        let _broadcasts = self.total.broadcasts;
+        let part_before = total_part(before);
+        let part_after = total_part(after);
+        if part_before.same(part_after) {
+            return Ok(());
+        }
+        self.move_total(part_before, part_after);
+        let out = part_before.without_left();
+        self.areas
+            .exchange_in(after.areas, out, part_after.without_left())
     }
 }

@@ -1,8 +1,8 @@
 //! In which way a line is counted.
 
-ghost use Rattle.std.specs.Prelude.{◌≡◌};
-ghost use Rattle.mirror.specs.Seen.{seen};
-ghost use Rattle.coverage_board.specs.Standings.{standing, standing_of, is_way, is_unwanted, is_left};
+ghost use Rattle.std.specs.Prelude.{◌≡◌, ◌&&◌, not};
+ghost use Rattle.mirror.specs.Seen.{is_absent, is_the, seen};
+ghost use Rattle.coverage_board.specs.Standings.{standing, standing_of, is_way};
 
 use crate::way::Way;
 use mirror::{Presence, Sight};
@@ -44,9 +44,9 @@ pub(crate) fn is_way(way: Way, standing: Option<Way>) -> bool
     }
 }
 
-/// Whether the version is on air there, or may be, and not wanted.
-pub(crate) fn is_unwanted(sight: &Sight<'_>, serial: Serial) -> bool
-    ensures { result ≡ is_unwanted (seen sight.now) serial }
+/// Whether a version in that presence is on air, or may be, and not wanted.
+pub(crate) fn is_unwanted(wanted: Option<Serial>, serial: Serial, presence: Presence) -> bool
+    ensures { result ≡ (not (is_the wanted serial) && not (is_absent presence)) }
 {
-    sight.line.state(serial).presence != Presence::Absent && sight.wanted != Some(serial)
+    presence != Presence::Absent && wanted != Some(serial)
 }
