@@ -8,12 +8,11 @@ use Rattle.common.specs.Sums.{count_of, one, sum_of}
 use Rattle.coverage_board.specs.Parts.{broadcast_count, has_areas}
 use Rattle.coverage_board.specs.SumLaws.{count_at_most}
 use Rattle.kept_tables.proofs.SpotLemmas.{parts_below}
-use Rattle.kept_tables.specs.Changes.{changes_key, FewVersions, mixed, Placed}
+use Rattle.kept_tables.specs.Changes.{Change, changes_key, FewVersions, mixed, Placed}
 use Rattle.kept_tables.specs.Consistent.{is_in_range}
 use Rattle.kept_tables.specs.Facts.{stand_of, total_of_line}
 use Rattle.kept_tables.specs.SpotLaws.{spot_decides}
 use Rattle.kept_tables.specs.View.{key_at, spot_eq, View}
-use Rattle.kept_tables.specs.declared.change.Change.{Change}
 use Rattle.kept_tables.specs.declared.line_facts.LineFacts.{LineFacts}
 use Rattle.kept_tables.specs.declared.spot.Spot.{Spot}
 use Rattle.mirror.specs.Line.{blank, state_of}

@@ -6,13 +6,12 @@ use Rattle.std.proofs.lemmas.List.Folds.{list_any-append}
 use Rattle.common.specs.OnceLaws.{turned}
 use Rattle.kept_tables.proofs.BroadcastLemmas.{few_between, mixed_between}
 use Rattle.kept_tables.proofs.ViewLemmas.{changed, has_part}
-use Rattle.kept_tables.specs.Changes.{Begins, change_of, changes_key, mixed, Tells}
+use Rattle.kept_tables.specs.Changes.{Begins, Change, change_of, changes_key, mixed, Tells}
 use Rattle.kept_tables.specs.Consistent.{Consistent, is_deed, is_in_range, Owned}
 use Rattle.kept_tables.specs.Facts.{deeds_of}
 use Rattle.kept_tables.specs.SpotLaws.{key_decides}
 use Rattle.kept_tables.specs.Tables.{HasPart, Shifted, Tables}
 use Rattle.kept_tables.specs.View.{key_eq, spot_of, updated, View}
-use Rattle.kept_tables.specs.declared.change.Change.{Change}
 use Rattle.kept_tables.specs.declared.line_facts.LineFacts.{LineFacts}
 use Rattle.kept_tables.specs.declared.step.Step.{Step}
 use Rattle.mirror.specs.Line.{state_of}
@@ -61,36 +60,38 @@ owned_mixed owner from to changes first second = record { owns = λ k d h. step 
     step k d false h = first.owns k d h
 
 -- the changes that are done, the one that is next, and the later ones
-whole : (changes : List Change) (i : ℕ) (x : Change) → i < length changes → x ≡ get_or changes i x → changes ≡ take i changes ++ x ∷ drop (i + 1) changes
+pub whole : (changes : List Change) (i : ℕ) (x : Change) → i < length changes → x ≡ get_or changes i x → changes ≡ take i changes ++ x ∷ drop (i + 1) changes
 whole changes i x below e =
     sym (take-append-drop i changes) ∙ ap (λ rest. take i changes ++ rest) (drop_more changes i x below ∙ ap (λ y. y ∷ drop (i + 1) changes) (sym e))
 
-next_tells : (from to : View) (changes : List Change) (i : ℕ) (x : Change) → i < length changes → x ≡ get_or changes i x → Tells from to changes → (changes_key x.key (take i changes) ≡ false) × ((from x.key ≡ x.before) × (to x.key ≡ x.after))
-next_tells from to changes i x below e tells =
-    tells_at from to (take i changes) x (drop (i + 1) changes) (subst (Tells from to) (whole changes i x below e) tells)
+-- those that are done then
+pub done_more : (changes : List Change) (i : ℕ) (x : Change) → i < length changes → x ≡ get_or changes i x → take i changes ++ x ∷ [] ≡ take (i + 1) changes
+done_more changes i x below e = ap (λ y. take i changes ++ y ∷ []) e ∙ sym (take_more changes i x below)
 
-next_before : (from to : View) (changes : List Change) (i : ℕ) (x : Change) → i < length changes → x ≡ get_or changes i x → Tells from to changes → mixed from to (take i changes) x.key ≡ x.before
-next_before from to changes i x below e tells =
-    let next = next_tells from to changes i x below e tells in
+next_tells : (from to : View) (changes done : List Change) (x : Change) (later : List Change) → changes ≡ done ++ x ∷ later → Tells from to changes → (changes_key x.key done ≡ false) × ((from x.key ≡ x.before) × (to x.key ≡ x.after))
+next_tells from to changes done x later split tells = tells_at from to done x later (subst (Tells from to) split tells)
+
+next_before : (from to : View) (changes done : List Change) (x : Change) (later : List Change) → changes ≡ done ++ x ∷ later → Tells from to changes → mixed from to done x.key ≡ x.before
+next_before from to changes done x later split tells =
+    let next = next_tells from to changes done x later split tells in
     ap (λ b. if b then to x.key else from x.key) next.0 ∙ next.1.0
 
 -- the tables have the part of the change that is next
-pub next_part : (old : Tables) (changes : List Change) (b : Begins old changes) (t : Tables) (i : ℕ) (x : Change) → i < length changes → x ≡ get_or changes i x → is_in_range (spot_of x.key) ≡ true → ((s : ℕ) → (state_of x.after.line s).count < 65536) → Consistent t (mixed b.from b.to (take i changes)) → HasPart t x.key x.before x.after
-next_part old changes b t i x below e fit low is =
-    let next = next_tells b.from b.to changes i x below e b.tells in
-    let between = mixed_between b.from b.to (take i changes) in
-    let few = few_between (mixed b.from b.to (take i changes)) b.from b.to between b.few_from b.few_to in
+pub next_part : (old : Tables) (changes : List Change) (b : Begins old changes) (t : Tables) (done : List Change) (x : Change) (later : List Change) → changes ≡ done ++ x ∷ later → is_in_range (spot_of x.key) ≡ true → ((s : ℕ) → (state_of x.after.line s).count < 65536) → Consistent t (mixed b.from b.to done) → HasPart t x.key x.before x.after
+next_part old changes b t done x later split fit low is =
+    let next = next_tells b.from b.to changes done x later split b.tells in
+    let between = mixed_between b.from b.to done in
+    let few = few_between (mixed b.from b.to done) b.from b.to between b.few_from b.few_to in
     let short : length x.after.versions ≤ 16 = subst (λ (f : LineFacts). length f.versions ≤ 16) next.1.1 (b.few_to x.key) in
-    has_part t (mixed b.from b.to (take i changes)) b.from b.to x.key x.before x.after fit (next_before b.from b.to changes i x below e b.tells) between b.placed_from b.placed_to few low short is
+    has_part t (mixed b.from b.to done) b.from b.to x.key x.before x.after fit (next_before b.from b.to changes done x later split b.tells) between b.placed_from b.placed_to few low short is
 
 -- one more change is done
-pub settled_more : (old : Tables) (changes : List Change) (b : Begins old changes) (t u : Tables) (i : ℕ) (x : Change) → i < length changes → x ≡ get_or changes i x → is_in_range (spot_of x.key) ≡ true → ((s : ℕ) → (state_of x.after.line s).count < 65536) → Consistent t (mixed b.from b.to (take i changes)) → Shifted t u x.key x.before x.after → Consistent u (mixed b.from b.to (take (i + 1) changes))
-settled_more old changes b t u i x below e fit low is shifted =
-    let next = next_tells b.from b.to changes i x below e b.tells in
-    let more : mixed b.from b.to (take i changes ++ x ∷ []) ≡ mixed b.from b.to (take (i + 1) changes) = ap (mixed b.from b.to) (ap (λ y. take i changes ++ y ∷ []) e ∙ sym (take_more changes i x below)) in
-    let whole : updated (mixed b.from b.to (take i changes)) x.key x.after ≡ mixed b.from b.to (take (i + 1) changes) = mixed_more b.from b.to (take i changes) x next.1.1 ∙ more in
-    let also : Owned b.owner (updated (mixed b.from b.to (take i changes)) x.key x.after) = subst (Owned b.owner) (sym whole) (owned_mixed b.owner b.from b.to (take (i + 1) changes) b.owns_from b.owns_to) in
-    subst (Consistent u) whole (changed t u (mixed b.from b.to (take i changes)) x.key x.before x.after b.owner fit (next_before b.from b.to changes i x below e b.tells) (owned_mixed b.owner b.from b.to (take i changes) b.owns_from b.owns_to) also low shifted is)
+pub settled_more : (old : Tables) (changes : List Change) (b : Begins old changes) (t u : Tables) (done : List Change) (x : Change) (later : List Change) → changes ≡ done ++ x ∷ later → is_in_range (spot_of x.key) ≡ true → ((s : ℕ) → (state_of x.after.line s).count < 65536) → Consistent t (mixed b.from b.to done) → Shifted t u x.key x.before x.after → Consistent u (mixed b.from b.to (done ++ x ∷ []))
+settled_more old changes b t u done x later split fit low is shifted =
+    let next = next_tells b.from b.to changes done x later split b.tells in
+    let whole : updated (mixed b.from b.to done) x.key x.after ≡ mixed b.from b.to (done ++ x ∷ []) = mixed_more b.from b.to done x next.1.1 in
+    let also : Owned b.owner (updated (mixed b.from b.to done) x.key x.after) = subst (Owned b.owner) (sym whole) (owned_mixed b.owner b.from b.to (done ++ x ∷ []) b.owns_from b.owns_to) in
+    subst (Consistent u) whole (changed t u (mixed b.from b.to done) x.key x.before x.after b.owner fit (next_before b.from b.to changes done x later split b.tells) (owned_mixed b.owner b.from b.to done b.owns_from b.owns_to) also low shifted is)
 
 -- all changes are done
 pub settled_whole : (u : Tables) (from to : View) (changes : List Change) (i : ℕ) → length changes ≤ i → Consistent u (mixed from to (take i changes)) → Consistent u (mixed from to changes)

@@ -1,13 +1,19 @@
 -- Changes of lines, which take one view to another.
-use Rattle.std.specs.Prelude.{◌≡◌, ◌≤◌, ℕ, Bool, true, false, List, [], ◌∷◌, Option, Some, length, if◌then◌else◌}
+use Rattle.std.specs.Prelude.{◌≡◌, ◌≤◌, ℕ, Bool, true, false, List, [], ◌∷◌, ◌++◌, Option, Some, length, if◌then◌else◌}
 use Rattle.std.specs.List.{list_any}
 use Rattle.common.specs.declared.cell.Cell.{Cell}
 use Rattle.kept_tables.specs.Consistent.{Consistent, Owned}
 use Rattle.kept_tables.specs.Tables.{Tables}
 use Rattle.kept_tables.specs.View.{View, key_eq}
-use Rattle.kept_tables.specs.declared.change.Change.{Change}
+use Rattle.kept_tables.specs.declared.line_facts.LineFacts.{LineFacts}
 use Rattle.kept_tables.specs.declared.step.Step.{Step}
 use Rattle.mirror.specs.declared.line_key.LineKey.{LineKey}
+
+-- what is read of one line before an event and after it
+pub record Change : Type 0 where
+  pub key : LineKey
+  pub before : LineFacts
+  pub after : LineFacts
 
 -- the change that a step is: of what is read of the line, the line itself and whether its cell is down may be another
 abbrev pub change_of : Step → Change
@@ -48,3 +54,13 @@ pub record Begins (t : Tables) (changes : List Change) : Type 0 where
   pub few_from : FewVersions from
   pub few_to : FewVersions to
   pub tells : Tells from to changes
+
+-- the change is the next of those that tables began with: the ones before it are made
+pub record IsNext (t : Tables) (x : Change) : Type 0 where
+  pub start : Tables
+  pub changes : List Change
+  pub begins : Begins start changes
+  pub done : List Change
+  pub later : List Change
+  pub split : changes ≡ done ++ x ∷ later
+  pub made : Consistent t (mixed begins.from begins.to done)

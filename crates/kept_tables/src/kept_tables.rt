@@ -1,20 +1,23 @@
 //! The lines, the pending orders and the board of a centre.
 
-ghost use Rattle.std.specs.Prelude.{◌≡◌, ◌<◌, ◌≤◌, ◌+◌, ℕ, true, if◌then◌else◌, OnOk};
+ghost use Rattle.std.specs.Prelude.{◌≡◌, ◌<◌, ◌≤◌, ◌+◌, ℕ, true, if◌then◌else◌, OnOk, map};
 ghost use Rattle.common.specs.declared.cell.Cell.{Cell};
 ghost use Rattle.kept_tables.specs.Consistent.{is_in_range};
 ghost use Rattle.kept_tables.specs.View.{spot_of};
 ghost use Rattle.mirror.specs.Line.{state_of};
+ghost use Rattle.mirror.specs.Seen.{seen};
 ghost use Rattle.mirror.specs.Table.{is_key, line_at};
+ghost use Rattle.order_maker.specs.Actions.{deeds, in_cell};
+ghost use Rattle.order_maker.specs.Pending.{Shifts, holds, is_listed};
+ghost use Rattle.order_maker.specs.declared.action.Action.{Action};
 
-use crate::change::Change;
 use crate::line_facts::LineFacts;
 use crate::step::Step;
 use cbsp_ie::CellId;
 use cell_register::{BscId, Register};
 use common::{Cell, Cells, Name};
 use coverage_board::{Board, Numbers};
-use mirror::{KeyState, Line, LineKey, LineTable};
+use mirror::{KeyState, Line, LineKey, LineTable, Sight};
 use order_maker::{Order, Orders, Pending};
 use serials::Serial;
 use std::alloc::{AllocError, Global};
@@ -22,7 +25,7 @@ use std::marker::Model;
 use warning_book::WarningId;
 
 /// What is kept of every line, what is pending for each BSC, and the numbers of the board. All three change in step, by
-/// `settle` alone. Which cells are down is kept beside the lines, and changes by `set_down` alone.
+/// `make` and `take_steps` alone. Which cells are down is kept beside the lines, and changes by `set_down` alone.
 #[derive(Drop)]
 pub struct KeptTables {
     lines: LineTable,
@@ -55,42 +58,72 @@ fn tell_count(state: KeyState)
 }
 
 /// A lemma, not a test: it returns nothing, and its clause says that each count of broadcasts of the line fits 16 bits.
-fn tell_counts(line: Line)
-    ensures { (s : ℕ) → (state_of line s).count < 65536 }
+fn tell_counts(line: &Line)
+    ensures { (s : ℕ) → (state_of line.now s).count < 65536 }
 {
-    for state in line.states {
-        tell_count(state);
+    for state in &line.states {
+        tell_count(*state);
     }
 }
 
-/// Sets the line, where it is another than before. Memory is taken as `LineTable::set_line` does.
+/// Whether the line is the same after as before. It is not compared where it is known to stay.
+fn is_kept(before: &Line, after: &Line, stays: bool) -> bool
+    requires { stays ≡ true → before.now ≡ after.now }
+    ensures { result ≡ true → before.now ≡ after.now }
+{
+    stays || before.same(after)
+}
+
+/// Sets the line, where it is another than before. It is not compared where it is known to stay. Memory is taken as
+/// `LineTable::set_line` does.
 fn change_line(
     lines: &mut LineTable,
     key: LineKey,
     before: &Line,
     after: &Line,
+    stays: bool,
 ) -> Result<(), AllocError>
-    requires { line_at lines.old key.bsc key.cell key.warning ≡ before.now }
+    requires there { line_at lines.old key.bsc key.cell key.warning ≡ before.now }
+    requires stays { stays ≡ true → before.now ≡ after.now }
     ensures set { OnOk result ((b : ℕ) (c : Cell) (w : ℕ) → line_at lines.new b c w ≡ (if is_key key b c w then after.now else line_at lines.old b c w)) }
     ensures downs { lines.new.downs ≡ lines.old.downs }
     ensures meter { lines.new.meter ≤ lines.old.meter + 1 }
     ensures least { lines.old.meter ≤ lines.new.meter }
 {
-    if before.same(after) {
+    if is_kept(before, after, stays) {
         return Ok(());
     }
     lines.set_line(key, *after)
 }
 
+/// Changes what is pending for a line of the BSC and the cell. The line itself may be known to stay.
+fn shift_orders(
+    pending: &mut Pending,
+    b: BscId,
+    c: Cell,
+    before: &Sight<'_>,
+    after: &Sight<'_>,
+    stays: bool,
+) -> Result<(), AllocError>
+    requires there { (a : Action) → is_listed a (map (in_cell c) (deeds (seen before.now))) ≡ true → holds pending.old b a ≡ true }
+    requires stays { stays ≡ true → before.now.line ≡ after.now.line }
+    ensures { OnOk result (Shifts pending.old pending.new b (map (in_cell c) (deeds (seen before.now))) (map (in_cell c) (deeds (seen after.now)))) }
+{
+    if stays {
+        return pending.shift_wanted(b, c, before, after);
+    }
+    pending.shift_held(b, c, before, after)
+}
+
 impl KeptTables {
-    ghost use Rattle.std.specs.Prelude.{◌≡◌, ◌≤◌, ◌+◌, ◌&&◌, ℕ, List, true, false, if◌then◌else◌, length, map, nat_eq, take, OnOk, OnErr, IfOk};
+    ghost use Rattle.std.specs.Prelude.{◌≡◌, ◌≤◌, ◌+◌, ◌++◌, ◌∷◌, [], ◌&&◌, ℕ, List, true, false, if◌then◌else◌, length, map, nat_eq, take, OnOk, OnErr, IfOk};
     ghost use Rattle.std.specs.List.{list_any};
     ghost use Rattle.std.specs.Option.{is_some};
     ghost use Rattle.common.specs.Cell.{cell_eq, cell_lt};
     ghost use Rattle.common.specs.Order.{is_ascending};
     ghost use Rattle.common.specs.declared.cell.Cell.{Cell};
     ghost use Rattle.coverage_board.specs.Board.{total_of, area_of};
-    ghost use Rattle.kept_tables.specs.Changes.{Begins, change_of, mixed};
+    ghost use Rattle.kept_tables.specs.Changes.{Begins, IsNext, change_of, mixed};
     ghost use Rattle.kept_tables.specs.Consistent.{Consistent};
     ghost use Rattle.kept_tables.specs.Tables.{HasPart, IsEmpty, SameTables, Shifted};
     ghost use Rattle.mirror.specs.Known.{is_known, is_named};
@@ -237,25 +270,27 @@ impl KeptTables {
         self.board.area(w, a)
     }
 
-    /// Changes one line: what is kept of it, what is pending for it, and what it adds to the numbers. At an `Err` memory
-    /// ran out, and the tables are of no use any more.
+    /// Changes one line: what is kept of it, what is pending for it, and what it adds to the numbers. The line itself is
+    /// neither read nor set where it is known to stay. At an `Err` memory ran out, and the tables are of no use any more.
     fn change(
         &mut self,
         key: LineKey,
         before: &LineFacts,
         after: &LineFacts,
+        stays: bool,
     ) -> Result<(), AllocError>
-        requires { HasPart self.old key before.now after.now }
+        requires part { HasPart self.old key before.now after.now }
+        requires stays { stays ≡ true → before.now.line ≡ after.now.line }
         ensures changed { OnOk result (Shifted self.old self.new key before.now after.now) }
         ensures downs { self.new.lines.downs ≡ self.old.lines.downs }
         ensures meter { self.new.lines.meter ≤ self.old.lines.meter + 1 }
         ensures least { self.old.lines.meter ≤ self.new.lines.meter }
     {
         let LineKey { bsc, cell, warning } = key;
-        change_line(&mut self.lines, key, &before.line, &after.line)?;
+        change_line(&mut self.lines, key, &before.line, &after.line, stays)?;
         let was = before.stand();
         let is = after.stand();
-        self.pending.shift_held(bsc, cell, &was.sight, &is.sight)?;
+        shift_orders(&mut self.pending, bsc, cell, &was.sight, &is.sight, stays)?;
         self.board.shift(warning, &was, &is)
     }
 
@@ -268,31 +303,43 @@ impl KeptTables {
         ensures least { self.old.lines.meter ≤ self.new.lines.meter }
     {
         let LineKey { bsc, cell, warning } = step.key;
-        change_line(&mut self.lines, step.key, &step.before.line, &step.line)?;
+        change_line(
+            &mut self.lines,
+            step.key,
+            &step.before.line,
+            &step.line,
+            false,
+        )?;
         let was = step.before.stand();
         let then = step.before.stand_with(step.line, step.down);
-        self.pending.shift_held(bsc, cell, &was.sight, &then.sight)?;
-        self.board.shift(warning, &was, &then)
+        self.pending
+            .shift_states(bsc, cell, &was.sight, &then.sight)?;
+        self.board.shift_standing(warning, &was, &then)
     }
 
-    /// Makes the changes, in their order. Each is of another line. At an `Err` memory ran out, and the tables are of
-    /// no use any more.
-    pub fn settle(&mut self, changes: &[Change]) -> Result<(), AllocError>
-        requires { Begins self.old changes.now }
-        ensures settled { OnOk result ((b : Begins self.old changes.now) → Consistent self.new (mixed b.from b.to changes.now)) }
-        ensures downs { (b : ℕ) (c : Cell) → down_at self.new.lines b c ≡ down_at self.old.lines b c }
-        ensures meter { self.new.lines.meter ≤ self.old.lines.meter + length changes.now }
+    /// Makes the change that is next. The line itself is neither read nor set where the caller knows that it stays. At an
+    /// `Err` memory ran out, and the tables are of no use any more.
+    pub fn make(
+        &mut self,
+        key: &LineKey,
+        before: &LineFacts,
+        after: &LineFacts,
+        stays: bool,
+    ) -> Result<(), AllocError>
+        requires next { IsNext self.old (record { key = key.now; before = before.now; after = after.now }) }
+        requires stays { stays ≡ true → before.now.line ≡ after.now.line }
+        ensures made { OnOk result ((n : IsNext self.old (record { key = key.now; before = before.now; after = after.now })) → Consistent self.new (mixed n.begins.from n.begins.to (n.done ++ record { key = key.now; before = before.now; after = after.now } ∷ []))) }
+        ensures downs { self.new.lines.downs ≡ self.old.lines.downs }
+        ensures meter { self.new.lines.meter ≤ self.old.lines.meter + 1 }
         ensures least { self.old.lines.meter ≤ self.new.lines.meter }
     {
-        for change in changes {
-            tell_range(change.key);
-            tell_counts(change.after.line);
-            self.change(change.key, &change.before, &change.after)?;
-        }
-        Ok(())
+        tell_range(*key);
+        tell_counts(&after.line);
+        self.change(*key, before, after, stays)
     }
 
-    /// The same for steps.
+    /// Takes the steps, in their order. Each is of another line. At an `Err` memory ran out, and the tables are of no use any
+    /// more.
     pub fn take_steps(&mut self, steps: &[Step]) -> Result<(), AllocError>
         requires { Begins self.old (map change_of steps.now) }
         ensures settled { OnOk result ((b : Begins self.old (map change_of steps.now)) → Consistent self.new (mixed b.from b.to (map change_of steps.now))) }
@@ -302,7 +349,7 @@ impl KeptTables {
     {
         for step in steps {
             tell_range(step.key);
-            tell_counts(step.line);
+            tell_counts(&step.line);
             self.take_step(step)?;
         }
         Ok(())

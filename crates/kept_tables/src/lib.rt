@@ -7,7 +7,6 @@
 #![tactic(auto)]
 
 mod area_names;
-mod change;
 mod kept_tables;
 mod line_facts;
 mod serial_list;
@@ -15,7 +14,6 @@ mod spot;
 mod step;
 
 pub use area_names::AreaNames;
-pub use change::Change;
 pub use kept_tables::KeptTables;
 pub use line_facts::LineFacts;
 pub use serial_list::Serials;

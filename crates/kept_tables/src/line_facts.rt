@@ -65,7 +65,8 @@ impl LineFacts {
 
     /// What the board counts of it, with this line, and the cell down or not.
     pub fn stand_with(&self, line: Line, down: bool) -> Stand<'_>
-        ensures { stand_kept result ≡ stand_of (record self.now { line = line; down = down }) }
+        ensures stand { stand_kept result ≡ stand_of (record self.now { line = line; down = down }) }
+        ensures line { result.sight.line ≡ line }
     {
         Stand {
             sight: self.sight_with(line, down),
@@ -77,7 +78,8 @@ impl LineFacts {
 
     /// What the board counts of it.
     pub fn stand(&self) -> Stand<'_>
-        ensures { stand_kept result ≡ stand_of self.now }
+        ensures stand { stand_kept result ≡ stand_of self.now }
+        ensures line { result.sight.line ≡ self.now.line }
     {
         self.stand_with(self.line, self.down)
     }

@@ -4,4 +4,4 @@ use Rattle.kept_tables.proofs.kept_tables.tell_counts.Given as goal
 
 -- the counts of the states passed fit 16 bits
 abbrev pub invariant-loop-state : goal.invariant-loop-state
-invariant-loop-state l = (i : ℕ) → i < l.state-index → (get_or l.fn.line.states i blank).count < 65536
+invariant-loop-state l = (i : ℕ) → i < l.state-index → (get_or l.line.states i blank).count < 65536
