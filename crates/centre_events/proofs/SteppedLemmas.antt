@@ -7,6 +7,8 @@ use Rattle.std.proofs.lemmas.Bool.{not-true}
 use Rattle.cbsp_messages.specs.declared.message.Message.{Message}
 use Rattle.common.specs.Cell.{cell_eq}
 use Rattle.common.specs.declared.cell.Cell.{Cell}
+use Rattle.mirror.specs.Blank.{state_eq}
+use Rattle.mirror.specs.BlankLaws.{state_decides}
 use Rattle.mirror.specs.Line.{blank, state_of, with_state}
 use Rattle.mirror.specs.declared.key_state.KeyState.{KeyState}
 use Rattle.mirror.specs.declared.line.Line.{Line}
@@ -40,6 +42,10 @@ with_itself line s = ap (λ (ks : List KeyState). let l : Line = record { states
 -- a version to which nothing is done, and of which nothing is reported, stays as it is
 pub left_at : (line : Line) (s : ℕ) (e : Effect) (n : Option ℕ) → e ≡ Leaves → n ≡ None → with_state line s (state_after e n (state_of line s)) ≡ line
 left_at line s e n leaves silent = rw (leaves, silent) (with_itself line s)
+
+-- and so does one that is given the value that it has
+pub same_at : (line : Line) (s : ℕ) (k : KeyState) → state_eq k (state_of line s) ≡ true → with_state line s k ≡ line
+same_at line s k same = ap (with_state line s) ((state_decides k (state_of line s)).0 same) ∙ with_itself line s
 
 -- and so does the line of such versions
 pub stepped_left : (f : ℕ → Effect) (n : ℕ → Option ℕ) → ((s : ℕ) → f s ≡ Leaves) → ((s : ℕ) → n s ≡ None) → (line : Line) (ss : List ℕ) → stepped f n line ss ≡ line

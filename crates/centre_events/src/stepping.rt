@@ -1,9 +1,10 @@
 //! What an event makes of one line.
 
-ghost use Rattle.std.specs.Prelude.{◌≡◌, ◌&&◌, ℕ, true, None, Some, nat_eq, map, if◌then◌else◌};
+ghost use Rattle.std.specs.Prelude.{◌≡◌, ◌&&◌, ℕ, true, false, None, Some, nat_eq, map, if◌then◌else◌};
 ghost use Rattle.std.specs.Option.{option_copied};
 ghost use Rattle.common.specs.declared.cell.Cell.{Cell};
 ghost use Rattle.mirror.specs.Line.{state_of, with_state};
+ghost use Rattle.mirror.specs.declared.key_state.KeyState.{KeyState};
 ghost use Rattle.centre_events.specs.Counts.{count_mark, edit_count, is_counted_key, replied_count, report_count};
 ghost use Rattle.centre_events.specs.Presence.{edit_effect, effect};
 ghost use Rattle.centre_events.specs.Effects.{flight_effect, is_among, outcome_in, report_effect, said_effect, state_after};
@@ -40,24 +41,47 @@ pub struct Happening<'a, 'b> {
     pub flight: Option<&'b InFlight>,
 }
 
-/// Changes what is kept of a version by the effect on it, and by the number of broadcasts that is reported, if one is.
-fn step(line: &mut Line, serial: Serial, effect: Effect, count: Option<u16>)
-    ensures { line.new ≡ with_state line.old serial (state_after effect count (state_of line.old serial)) }
+/// Whether the effect and the number of broadcasts leave every key as it is.
+fn leaves_all(effect: Effect, count: Option<u16>) -> bool
+    ensures { result ≡ true → (k : KeyState) → state_after effect count k ≡ k }
 {
-    let place = serial.update() as usize;
-    line.states[place] = state_after(effect, count, line.states[place]);
-}
-
-/// Does the same to each of the versions.
-fn step_each(line: &mut Line, versions: &[Version], effect: Effect, count: Option<u16>)
-    ensures { line.new ≡ stepped (λ s. effect) (λ s. count) line.old (map (λ v. v.serial) versions.now) }
-{
-    for version in versions {
-        step(line, version.serial, effect, count);
+    match effect {
+        Effect::Leaves => count.is_none(),
+        _ => false,
     }
 }
 
-/// Does to each of the versions what the edit does.
+/// Changes what is kept of a version by the effect on it, and by the number of broadcasts that is reported, if one is.
+/// The result says whether that is another value than before.
+fn step(line: &mut Line, serial: Serial, effect: Effect, count: Option<u16>) -> bool
+    ensures line { line.new ≡ with_state line.old serial (state_after effect count (state_of line.old serial)) }
+    ensures same { result ≡ false → line.new ≡ line.old }
+{
+    if leaves_all(effect, count) {
+        return false;
+    }
+    let state = line.state(serial);
+    let after = state_after(effect, count, state);
+    if after.same(&state) {
+        return false;
+    }
+    line.states[serial.update() as usize] = after;
+    true
+}
+
+/// Does the same to each of the versions. The result says whether one was given another value.
+fn step_each(line: &mut Line, versions: &[Version], effect: Effect, count: Option<u16>) -> bool
+    ensures line { line.new ≡ stepped (λ s. effect) (λ s. count) line.old (map (λ v. v.serial) versions.now) }
+    ensures same { result ≡ false → line.new ≡ line.old }
+{
+    let mut is_changed = false;
+    for version in versions {
+        is_changed = step(line, version.serial, effect, count) || is_changed;
+    }
+    is_changed
+}
+
+/// Does to each of the versions what the edit does. The result says whether one was given another value.
 fn step_by_edit(
     line: &mut Line,
     b: BscId,
@@ -65,14 +89,17 @@ fn step_by_edit(
     versions: &[Version],
     edit: &Edit,
     warnings: &[Warning],
-)
-    ensures { line.new ≡ stepped (λ s. edit_effect b message_id s edit.now warnings.now) (λ s. edit_count b message_id s edit.now warnings.now) line.old (map (λ v. v.serial) versions.now) }
+) -> bool
+    ensures line { line.new ≡ stepped (λ s. edit_effect b message_id s edit.now warnings.now) (λ s. edit_count b message_id s edit.now warnings.now) line.old (map (λ v. v.serial) versions.now) }
+    ensures same { result ≡ false → line.new ≡ line.old }
 {
+    let mut is_changed = false;
     for version in versions {
         let effect = edit_effect(b, message_id, version.serial, edit, warnings);
         let count = edit_count(b, message_id, version.serial, edit, warnings);
-        step(line, version.serial, effect, count);
+        is_changed = step(line, version.serial, effect, count) || is_changed;
     }
+    is_changed
 }
 
 /// What is in flight does with that outcome to a version of its message identifier, in one of its cells.
@@ -97,45 +124,52 @@ fn named_count(flight: &InFlight, count: Option<u16>, serial: Serial) -> Option<
     }
 }
 
-/// Does to the versions that are named what comes of what is in flight in one of its cells.
+/// Does to the versions that are named what comes of what is in flight in one of its cells. The result says whether one was
+/// given another value.
 fn step_named(
     line: &mut Line,
     versions: &[Version],
     flight: &InFlight,
     outcome: Outcome,
     count: Option<u16>,
-)
-    ensures { (c : Cell) → is_among c (cells_of flight.now) ≡ true → line.new ≡ stepped (λ s. flight_effect (Some flight.now) outcome c (id_of flight.now) s) (λ s. (if is_counted_key flight.now c (id_of flight.now) s then count else None)) line.old (map (λ v. v.serial) versions.now) }
+) -> bool
+    ensures line { (c : Cell) → is_among c (cells_of flight.now) ≡ true → line.new ≡ stepped (λ s. flight_effect (Some flight.now) outcome c (id_of flight.now) s) (λ s. (if is_counted_key flight.now c (id_of flight.now) s then count else None)) line.old (map (λ v. v.serial) versions.now) }
+    ensures same { result ≡ false → line.new ≡ line.old }
 {
+    let mut is_changed = false;
     for version in versions {
         let serial = version.serial;
         if names_serial(flight, serial) {
             let effect = named_effect(flight, outcome, serial);
-            step(line, serial, effect, named_count(flight, count, serial));
+            let count = named_count(flight, count, serial);
+            is_changed = step(line, serial, effect, count) || is_changed;
         }
     }
+    is_changed
 }
 
-/// Does to the versions what the loss of the link does: nothing is said of what was in flight.
+/// Does to the versions what the loss of the link does: nothing is said of what was in flight. The result says whether one
+/// was given another value.
 fn step_by_loss(
     line: &mut Line,
     c: Cell,
     message_id: u16,
     versions: &[Version],
     flight: Option<&InFlight>,
-)
-    ensures { line.new ≡ stepped (λ s. flight_effect (option_copied flight.entry) Outcome.Silent c message_id s) (λ s. None) line.old (map (λ v. v.serial) versions.now) }
+) -> bool
+    ensures line { line.new ≡ stepped (λ s. flight_effect (option_copied flight.entry) Outcome.Silent c message_id s) (λ s. None) line.old (map (λ v. v.serial) versions.now) }
+    ensures same { result ≡ false → line.new ≡ line.old }
 {
     match flight {
         Some(flight) if id_of(flight) == message_id && is_among(c, cells_of(flight)) => {
-            step_named(line, versions, flight, Outcome::Silent, None);
+            step_named(line, versions, flight, Outcome::Silent, None)
         }
-        _ => {}
+        _ => false,
     }
 }
 
 /// Does to the versions what the replies say of the cell. The reply of a cell mostly stands where the cell does in what was
-/// in flight.
+/// in flight. The result says whether a version was given another value.
 fn step_by_replies(
     line: &mut Line,
     c: Cell,
@@ -143,21 +177,24 @@ fn step_by_replies(
     versions: &[Version],
     flight: &InFlight,
     replies: &Replies,
-)
-    ensures { line.new ≡ stepped (λ s. said_effect (outcome_in c replies.now) (Some flight.now) c message_id s) (λ s. replied_count (Some flight.now) replies.now c message_id s) line.old (map (λ v. v.serial) versions.now) }
+) -> bool
+    ensures line { line.new ≡ stepped (λ s. said_effect (outcome_in c replies.now) (Some flight.now) c message_id s) (λ s. replied_count (Some flight.now) replies.now c message_id s) line.old (map (λ v. v.serial) versions.now) }
+    ensures same { result ≡ false → line.new ≡ line.old }
 {
     if id_of(flight) != message_id {
-        return;
+        return false;
     }
     let Some(place) = place_of(c, cells_of(flight)) else {
-        return;
+        return false;
     };
-    if let Some(reply) = replies.of_cell_near(c, place) {
-        step_named(line, versions, flight, reply.outcome, reply.count);
+    match replies.of_cell_near(c, place) {
+        Some(reply) => step_named(line, versions, flight, reply.outcome, reply.count),
+        None => false,
     }
 }
 
-/// Does to the versions what a report of their BSC does that was answered so.
+/// Does to the versions what a report of their BSC does that was answered so. The result says whether one was given another
+/// value.
 fn step_by_report(
     line: &mut Line,
     c: Cell,
@@ -166,19 +203,49 @@ fn step_by_report(
     message: &Message,
     answer: &Answer,
     flight: Option<&InFlight>,
-)
-    ensures { line.new ≡ stepped (λ s. report_effect message.now answer.now (option_copied flight.entry) c message_id s) (λ s. report_count answer.now (option_copied flight.entry) c message_id s) line.old (map (λ v. v.serial) versions.now) }
+) -> bool
+    ensures line { line.new ≡ stepped (λ s. report_effect message.now answer.now (option_copied flight.entry) c message_id s) (λ s. report_count answer.now (option_copied flight.entry) c message_id s) line.old (map (λ v. v.serial) versions.now) }
+    ensures same { result ≡ false → line.new ≡ line.old }
 {
     match answer {
-        Answer::Replied(replies) => {
-            if let Some(flight) = flight {
-                step_by_replies(line, c, message_id, versions, flight, replies);
-            }
-        }
+        Answer::Replied(replies) => match flight {
+            Some(flight) => step_by_replies(line, c, message_id, versions, flight, replies),
+            None => false,
+        },
         Answer::Listed(cells) if is_among(c, cells.as_slice()) => {
-            step_each(line, versions, indicated_effect(message), None);
+            step_each(line, versions, indicated_effect(message), None)
         }
-        _ => {}
+        _ => false,
+    }
+}
+
+/// Changes the line of the versions of a message in the cell at the BSC by what happens. What a Forget does is said by the
+/// warnings. The result says whether a version was given another value; most lines stay as they are.
+pub fn step_line(
+    h: &Happening<'_, '_>,
+    b: BscId,
+    c: Cell,
+    message_id: u16,
+    versions: &[Version],
+    warnings: &[Warning],
+    line: &mut Line,
+) -> bool
+    ensures line { line.new ≡ stepped (λ s. effect b c message_id s h.now.event.now h.now.answer.now h.now.up (option_copied h.now.flight) warnings.now) (λ s. count_mark b c message_id s h.now.event.now h.now.answer.now (option_copied h.now.flight) warnings.now) line.old (map (λ v. v.serial) versions.now) }
+    ensures same { result ≡ false → line.new ≡ line.old }
+{
+    match h.event {
+        Event::Edit(edit) => step_by_edit(line, b, message_id, versions, edit, warnings),
+        Event::Report(other, _, message) if *other == b => {
+            step_by_report(line, c, message_id, versions, message, h.answer, h.flight)
+        }
+        Event::LinkUp(other) if *other == b && h.up => {
+            step_by_loss(line, c, message_id, versions, h.flight)
+        }
+        Event::LinkDown(other, _) if *other == b => {
+            step_by_loss(line, c, message_id, versions, h.flight)
+        }
+        Event::Retry(other) if *other == b => step_each(line, versions, Effect::Frees, None),
+        _ => false,
     }
 }
 
@@ -196,21 +263,6 @@ pub fn stepped(
     ensures { result ≡ stepped (λ s. effect b c message_id s h.now.event.now h.now.answer.now h.now.up (option_copied h.now.flight) warnings.now) (λ s. count_mark b c message_id s h.now.event.now h.now.answer.now (option_copied h.now.flight) warnings.now) line (map (λ v. v.serial) versions.now) }
 {
     let mut line = line;
-    match h.event {
-        Event::Edit(edit) => step_by_edit(&mut line, b, message_id, versions, edit, warnings),
-        Event::Report(other, _, message) if *other == b => {
-            step_by_report(
-                &mut line, c, message_id, versions, message, h.answer, h.flight,
-            );
-        }
-        Event::LinkUp(other) if *other == b && h.up => {
-            step_by_loss(&mut line, c, message_id, versions, h.flight);
-        }
-        Event::LinkDown(other, _) if *other == b => {
-            step_by_loss(&mut line, c, message_id, versions, h.flight);
-        }
-        Event::Retry(other) if *other == b => step_each(&mut line, versions, Effect::Frees, None),
-        _ => {}
-    }
+    step_line(h, b, c, message_id, versions, warnings, &mut line);
     line
 }

@@ -1,7 +1,10 @@
-use Rattle.std.proofs.Common.{◌≡◌, drop, map}
+use Rattle.std.proofs.Common.{◌≡◌, false, drop, map}
 use Rattle.centre_events.specs.Stepping.{stepped}
 use Rattle.centre_events.proofs.stepping.step_each.Given as goal
 
--- what is still done to the versions ahead
+-- what is still done to the versions ahead, and that the line is as it was where no version was given another value
 abbrev pub invariant-loop-version : goal.invariant-loop-version
-invariant-loop-version l = stepped (λ s. l.effect) (λ s. l.count) l.line (map (λ v. v.serial) (drop l.version-index l.versions)) ≡ stepped (λ s. l.effect) (λ s. l.count) l.fn.line (map (λ v. v.serial) l.versions)
+invariant-loop-version l = record {
+  line : stepped (λ s. l.effect) (λ s. l.count) l.line (map (λ v. v.serial) (drop l.version-index l.versions)) ≡ stepped (λ s. l.effect) (λ s. l.count) l.fn.line (map (λ v. v.serial) l.versions);
+  same : l.is_changed ≡ false → l.line ≡ l.fn.line;
+}
