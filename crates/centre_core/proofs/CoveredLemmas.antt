@@ -1,5 +1,5 @@
 -- Where an edit leaves the areas that cover a cell, those that were read of its lines are those that cover it.
-use Rattle.std.proofs.Common.{◌≡◌, ℕ, Bool, true, false, List, [], ◌∷◌, Option, Some, None, filter, map, refl, sym, ◌∙◌, ap, subst}
+use Rattle.std.proofs.Common.{◌≡◌, ℕ, Bool, true, false, List, [], ◌∷◌, Option, Some, None, filter, map, refl, sym, ◌∙◌, ap, subst, zero, suc, ◌<◌, length, get_or, arith}
 use Rattle.std.specs.Prelude.{find, if◌then◌else◌}
 use Rattle.std.specs.Option.{option_map}
 use Rattle.areas.specs.Areas as kept
@@ -40,15 +40,15 @@ covered_one : (r : register.State) (l : List Area) (down : Bool) (b : ℕ) (c : 
 covered_one r l down b c line names None are = refl
 covered_one r l down b c line names (Some w) are = covered_is r l down b c line names w are
 
-covered_held : (h : Happens) (r : register.State) (l : List Area) (st : book.State) (t : Tables) (x : Held) → AreCovering l x.key.cell x.before.areas (warning_of st x.key.warning) → covered_change h r st t x ≡ change_of h r l st t x
+pub covered_held : (h : Happens) (r : register.State) (l : List Area) (st : book.State) (t : Tables) (x : Held) → AreCovering l x.key.cell x.before.areas (warning_of st x.key.warning) → covered_change h r st t x ≡ change_of h r l st t x
 covered_held h r l st t x are =
     λ i. record { key = x.key; before = x.before; after = covered_one r l (down_at t.lines x.key.bsc x.key.cell) x.key.bsc x.key.cell (line_now h st.warnings x.key.bsc x.key.cell (warning_of st x.key.warning) x.before.line) x.before.areas (warning_of st x.key.warning) are i }
 
--- of each of the lines
-pub covered_all : (h : Happens) (r : register.State) (l : List Area) (st : book.State) (t : Tables) (held : List Held) → AreCovered l st held → map (covered_change h r st t) held ≡ map (change_of h r l st t) held
-covered_all h r l st t [] are = refl
-covered_all h r l st t (x ∷ xs) are =
-    ap (λ y. y ∷ map (covered_change h r st t) xs) (covered_held h r l st t x are.0) ∙ ap (λ ys. change_of h r l st t x ∷ ys) (covered_all h r l st t xs are.1)
+-- of the line at a place
+pub covered_at : (l : List Area) (st : book.State) (xs : List Held) (i : ℕ) (x : Held) → AreCovered l st xs → i < length xs → x ≡ get_or xs i x → AreCovering l x.key.cell x.before.areas (warning_of st x.key.warning)
+covered_at l st [] i x are below is = grind (arith, below)
+covered_at l st (y ∷ ys) zero x are below is = rw is are.0
+covered_at l st (y ∷ ys) (suc i) x are below is = covered_at l st ys i x are.1 (grind (arith, below)) is
 
 -- the areas of a warning that such an edit leaves in the book are those that it had
 

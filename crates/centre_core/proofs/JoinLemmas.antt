@@ -13,13 +13,12 @@ use Rattle.cell_register.specs.Register as register
 use Rattle.cell_register.specs.Register.{is_place}
 use Rattle.common.specs.Sums.{count_of}
 use Rattle.common.specs.declared.cell.Cell.{Cell}
-use Rattle.kept_tables.specs.Changes.{changes_key, Tells, mixed, Begins, FewVersions, Placed}
+use Rattle.kept_tables.specs.Changes.{Change, changes_key, Tells, mixed, Begins, FewVersions, Placed}
 use Rattle.kept_tables.specs.Consistent.{Consistent}
 use Rattle.kept_tables.specs.ConsistentLaws.{same_parts, same_tables}
 use Rattle.kept_tables.specs.Same.{SamePart}
 use Rattle.kept_tables.specs.Tables.{Tables}
 use Rattle.kept_tables.specs.View.{key_eq, spot_eq}
-use Rattle.kept_tables.specs.declared.change.Change.{Change}
 use Rattle.kept_tables.specs.declared.line_facts.LineFacts.{LineFacts}
 use Rattle.kept_tables.specs.declared.spot.Spot.{Spot}
 use Rattle.mirror.specs.Table.{down_at}

@@ -79,3 +79,4 @@ pub mod RebuildLemmas
 pub mod PlainLemmas
 pub mod NearLemmas
 pub mod CoveredLemmas
+pub mod MakingLemmas

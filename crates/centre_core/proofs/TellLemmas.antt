@@ -8,10 +8,9 @@ use Rattle.areas.specs.declared.area.Area.{Area}
 use Rattle.cell_register.specs.Register as register
 use Rattle.common.specs.Cell.{cell_eq}
 use Rattle.common.specs.Order.{each_once}
-use Rattle.kept_tables.specs.Changes.{changes_key, Tells}
+use Rattle.kept_tables.specs.Changes.{Change, changes_key, Tells}
 use Rattle.kept_tables.specs.Tables.{Tables}
 use Rattle.kept_tables.specs.View.{View, key_eq, key_at, spot_of, spot_eq}
-use Rattle.kept_tables.specs.declared.change.Change.{Change}
 use Rattle.kept_tables.specs.declared.spot.Spot.{Spot}
 use Rattle.mirror.specs.declared.line_key.LineKey.{LineKey}
 use Rattle.warning_book.specs.Book as book

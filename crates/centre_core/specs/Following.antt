@@ -6,11 +6,11 @@ use Rattle.areas.specs.declared.area.Area.{Area}
 use Rattle.cell_register.specs.Register as register
 use Rattle.common.specs.Order.{each_once}
 use Rattle.common.specs.declared.cell.Cell.{Cell}
+use Rattle.kept_tables.specs.Changes.{Change}
 use Rattle.kept_tables.specs.Consistent.{Consistent}
 use Rattle.kept_tables.specs.Same.{SamePart}
 use Rattle.kept_tables.specs.Tables.{Tables, SameTables}
 use Rattle.kept_tables.specs.View.{key_at, key_eq, spot_eq}
-use Rattle.kept_tables.specs.declared.change.Change.{Change}
 use Rattle.kept_tables.specs.declared.line_facts.LineFacts.{LineFacts}
 use Rattle.kept_tables.specs.declared.spot.Spot.{Spot}
 use Rattle.kept_tables.specs.declared.step.Step.{Step}

@@ -1,6 +1,6 @@
 //! The lines on which an event bears that is no edit, read before it.
 
-ghost use Rattle.std.specs.Prelude.{◌≡◌, ◌≤◌, ◌+◌, ◌*◌, ◌++◌, ◌&&◌, ◌||◌, true, length, unwrap_or, IfOk, OnOk};
+ghost use Rattle.std.specs.Prelude.{◌≡◌, ◌≤◌, ◌+◌, ◌*◌, ◌++◌, ◌&&◌, ◌||◌, true, false, length, unwrap_or, IfOk, OnOk};
 ghost use Rattle.std.specs.Option.{option_copied};
 ghost use Rattle.kept_tables.specs.Tables.{Tables};
 ghost use Rattle.kept_tables.specs.View.{key_of};
@@ -13,7 +13,7 @@ ghost use Rattle.centre_core.specs.Found.{AreFound};
 use crate::area_coverages::{AreaCoverages, coverages_for};
 use crate::facts::facts_from;
 use crate::following::line_now;
-use crate::holding::{is_idle, key_of};
+use crate::holding::{is_idle, key_of, near};
 use crate::shared_lists::SharedLists;
 use areas::Areas;
 use cell_register::{BscId, Register};
@@ -48,22 +48,15 @@ fn leaves_blank(h: &Happening<'_, '_>) -> bool
     }
 }
 
-/// The line after what happens. A blank line is left at once where what happens leaves such a line blank.
-#[tactic(auto, using(crate::proofs::BlankLineLemmas::blank_stays))]
-fn line_then(
-    h: &Happening<'_, '_>,
-    book: &Book,
-    b: BscId,
-    c: Cell,
-    warning: Option<&Warning>,
-    line: Line,
-) -> Line
-    ensures { result ≡ line_now (record { event = h.now.event.now; answer = h.now.answer.now; up = h.now.up; flight = option_copied h.now.flight }) book.now.warnings b c (option_copied warning.entry) line }
+/// Whether a line becomes what it was. Where no version of it was given another state, it does.
+fn is_left(line: &Line, then: &Line, stepped: bool) -> bool
+    requires { stepped ≡ false → then.now ≡ line.now }
+    ensures { result ≡ line_eq then.now line.now }
 {
-    if leaves_blank(h) && line.is_blank() {
-        return line;
+    if stepped {
+        return *then == *line;
     }
-    line_now(h, book.as_slice(), b, c, warning, line)
+    true
 }
 
 /// Whether what happens leaves the line, which becomes that one, as it is, and the cell down, or up, as it was; an idle line
@@ -76,11 +69,13 @@ fn stays(
     warning: Option<&Warning>,
     line: &Line,
     then: &Line,
+    stepped: bool,
     down: bool,
 ) -> bool
+    requires { stepped ≡ false → then.now ≡ line.now }
     ensures { result ≡ (line_eq then.now line.now && (keeps_down (down_mark b c h.now.event.now h.now.answer.now) down || is_idle areas.now (option_copied warning.entry) c line.now)) }
 {
-    *then == *line && (keeps_down(h, b, c, down) || is_idle(areas, warning, c, line))
+    is_left(line, then, stepped) && (keeps_down(h, b, c, down) || is_idle(areas, warning, c, line))
 }
 
 /// The step from how a line stood to the line after what happens.
@@ -108,7 +103,6 @@ fn step_of(
 fn hold_changing_line(
     out: &mut Vec<Step>,
     lists: &mut SharedLists,
-    alloc: Global,
     h: &Happening<'_, '_>,
     register: &Register,
     areas: &Areas,
@@ -127,14 +121,13 @@ fn hold_changing_line(
     let line = tables.read_line(key_of(b, c, n));
     let down = tables.is_down(b, c);
     let warning = book.find(n);
-    let then = line_then(h, book, b, c, warning, line);
-    if stays(h, areas, b, c, warning, &line, &then, down) {
+    let mut then = line;
+    let stepped = line_now(h, book.as_slice(), b, c, warning, &mut then);
+    if stays(h, areas, b, c, warning, &line, &then, stepped, down) {
         return Ok(());
     }
     let coverages = coverages_for(found, n);
-    let before = facts_from(
-        alloc, register, areas, down, b, c, line, warning, coverages, lists,
-    )?;
+    let before = facts_from(register, areas, down, b, c, line, warning, coverages, lists)?;
     out.push(step_of(h, b, c, n, before, then))?;
     Ok(())
 }
@@ -144,7 +137,6 @@ fn hold_changing_line(
 fn hold_changing_spot(
     out: &mut Vec<Step>,
     lists: &mut SharedLists,
-    alloc: Global,
     h: &Happening<'_, '_>,
     register: &Register,
     areas: &Areas,
@@ -162,15 +154,45 @@ fn hold_changing_spot(
 {
     for warning in warnings {
         hold_changing_line(
-            out, lists, alloc, h, register, areas, book, found, tables, b, c, *warning,
+            out, lists, h, register, areas, book, found, tables, b, c, *warning,
         )?;
     }
     Ok(())
 }
 
+/// Reads the lines of those of the warnings that are near the cell at the BSC, and holds the steps of those that what happens
+/// does not leave as they are. What leaves a blank line blank leaves the lines of the others as they are: they are idle.
+fn hold_changing_near(
+    out: &mut Vec<Step>,
+    lists: &mut SharedLists,
+    alloc: Global,
+    h: &Happening<'_, '_>,
+    register: &Register,
+    areas: &Areas,
+    book: &Book,
+    found: &[AreaCoverages<'_>],
+    tables: &mut KeptTables,
+    b: BscId,
+    c: Cell,
+    warnings: &[WarningId],
+) -> Result<(), AllocError>
+    requires blank { leaves_blank h.now.event.now h.now.answer.now ≡ true }
+    requires found { AreFound areas.now book.now found.now }
+    ensures held { (t : Tables) → AsBefore t tables.old → OnOk result (out.new.items ≡ out.old.items ++ changing_at (record { event = h.now.event.now; answer = h.now.answer.now; up = h.now.up; flight = option_copied h.now.flight }) register.now areas.now book.now t warnings.now (record { bsc = b; cell = c })) }
+    ensures kept { (t : Tables) → AsBefore t tables.old → AsBefore t tables.new }
+    ensures meter { tables.new.lines.meter ≤ tables.old.lines.meter + length warnings.now }
+{
+    let near = near(alloc, areas, book, tables.lines(), b, c, warnings)?;
+    let near = near.as_slice();
+    hold_changing_spot(
+        out, lists, h, register, areas, book, found, tables, b, c, near,
+    )?;
+    Ok(())
+}
+
 /// Reads the lines in the cell at the BSC that an indication or a Retry may change, and holds those that it does not leave
 /// as they are. It leaves a blank line blank, so that only the lines that are kept are read where it leaves the cell down,
-/// or up, as it was. Else those of all warnings are.
+/// or up, as it was. Else those of all warnings that are near the cell are.
 fn hold_indicated_spot(
     out: &mut Vec<Step>,
     lists: &mut SharedLists,
@@ -194,15 +216,14 @@ fn hold_indicated_spot(
 {
     book.tell_soundness();
     if !keeps_down(h, b, c, tables.is_down(b, c)) {
-        hold_changing_spot(
+        return hold_changing_near(
             out, lists, alloc, h, register, areas, book, found, tables, b, c, all,
-        )?;
-        return Ok(());
+        );
     }
     let known = tables.lines().warnings_at(b, c)?;
     let known = known.as_slice();
     hold_changing_spot(
-        out, lists, alloc, h, register, areas, book, found, tables, b, c, known,
+        out, lists, h, register, areas, book, found, tables, b, c, known,
     )?;
     Ok(())
 }
@@ -265,12 +286,12 @@ fn hold_named(
     ensures kept { (t : Tables) → AsBefore t tables.old → AsBefore t tables.new }
     ensures meter { tables.new.lines.meter ≤ tables.old.lines.meter + length spots.now * length warnings.now }
 {
-    let mut out = Vec::new(alloc);
+    let mut out = Vec::with_capacity(alloc, spots.len())?;
     let mut lists = SharedLists::new(alloc);
     for spot in spots {
         hold_changing_spot(
-            &mut out, &mut lists, alloc, h, register, areas, book, found, tables, spot.bsc,
-            spot.cell, warnings,
+            &mut out, &mut lists, h, register, areas, book, found, tables, spot.bsc, spot.cell,
+            warnings,
         )?;
     }
     Ok(out)

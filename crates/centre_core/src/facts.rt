@@ -18,7 +18,7 @@ use common::{Cell, Name};
 use kept_tables::{AreaNames, LineFacts};
 use mirror::Line;
 use serials::Serial;
-use std::alloc::{AllocError, Global};
+use std::alloc::AllocError;
 use warning_book::Warning;
 
 /// Whether the area covers the cell, by what was found of it, if anything was.
@@ -45,16 +45,6 @@ pub(crate) fn is_covered(areas: &Areas, names: &[Name], c: Cell) -> bool
     names.iter().any(|name| areas.covers(name, c))
 }
 
-/// Whether the cell is registered at the BSC.
-pub(crate) fn is_here(register: &Register, b: BscId, c: Cell) -> bool
-    ensures { result ≡ is_place (place_in register.now c) b }
-{
-    match register.bsc_of(c) {
-        Some(other) => other == b,
-        None => false,
-    }
-}
-
 /// The serial number that is wanted in a cell that is registered at the BSC or isn't, and covered or isn't.
 fn wanted(w: &Warning, here: bool, covered: bool) -> Option<Serial>
     ensures { result ≡ (if w.now.active && (here && covered) then current_of w.now else None) }
@@ -69,7 +59,6 @@ fn wanted(w: &Warning, here: bool, covered: bool) -> Option<Serial>
 /// What is read of the line of a warning in a cell that is down or not, where these are those of its areas that cover the
 /// cell.
 pub(crate) fn covered_facts(
-    alloc: Global,
     register: &Register,
     down: bool,
     b: BscId,
@@ -81,8 +70,8 @@ pub(crate) fn covered_facts(
 ) -> Result<LineFacts, AllocError>
     ensures { IfOk result (λ f. f ≡ covered_facts register.now down b c line covering (Some w.now)) }
 {
-    let here = is_here(register, b, c);
-    let versions = lists.serials_of(alloc, w.versions())?;
+    let here = lists.is_here(register, b, c);
+    let versions = lists.serials_of(w.number(), w.versions())?;
     let wanted = wanted(w, here, !covering.as_slice().is_empty());
     Ok(LineFacts {
         line,
@@ -98,7 +87,6 @@ pub(crate) fn covered_facts(
 
 /// What is read of the line of a warning in a cell that is down or not.
 fn facts_of(
-    alloc: Global,
     register: &Register,
     areas: &Areas,
     down: bool,
@@ -112,15 +100,14 @@ fn facts_of(
     requires { AreSelected areas.now w.now.areas coverages.now }
     ensures { IfOk result (λ f. f ≡ facts_from register.now areas.now down b c line (Some w.now)) }
 {
-    let covering = lists.covering(alloc, areas, w.areas(), coverages, c)?;
-    let facts = covered_facts(alloc, register, down, b, c, line, covering, w, lists)?;
+    let covering = lists.covering(w.number(), areas, w.areas(), coverages, c)?;
+    let facts = covered_facts(register, down, b, c, line, covering, w, lists)?;
     Ok(facts)
 }
 
 /// What is read of the line of a warning, if the book has it, in a cell that is down or not. What its areas cover was
 /// found before, or is looked for. Its lists are shared with those of other lines, where they are the same.
 pub(crate) fn facts_from(
-    alloc: Global,
     register: &Register,
     areas: &Areas,
     down: bool,
@@ -135,9 +122,7 @@ pub(crate) fn facts_from(
     ensures { IfOk result (λ f. f ≡ facts_from register.now areas.now down b c line (option_copied warning.entry)) }
 {
     match warning {
-        Some(w) => facts_of(
-            alloc, register, areas, down, b, c, line, w, coverages, lists,
-        ),
-        None => Ok(LineFacts::none(down, is_here(register, b, c))),
+        Some(w) => facts_of(register, areas, down, b, c, line, w, coverages, lists),
+        None => Ok(LineFacts::none(down, lists.is_here(register, b, c))),
     }
 }

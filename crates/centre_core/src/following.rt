@@ -1,7 +1,8 @@
 //! How what is kept follows an event: the lines that it changes are changed after it.
 
-ghost use Rattle.std.specs.Prelude.{◌≡◌, ℕ, ◌≤◌, ◌+◌, true, false, length, map, IfOk, OnOk};
+ghost use Rattle.std.specs.Prelude.{◌≡◌, ℕ, ◌≤◌, ◌+◌, ◌++◌, ◌∷◌, ◌&&◌, [], true, false, not, nat_eq, length, map, IfOk, OnOk};
 ghost use Rattle.common.specs.declared.cell.Cell.{Cell};
+ghost use Rattle.kept_tables.specs.Changes.{Begins, IsNext, mixed};
 ghost use Rattle.kept_tables.specs.Consistent.{Consistent};
 ghost use Rattle.mirror.specs.Table.{down_at};
 ghost use Rattle.centre_events.specs.Down.{is_down};
@@ -11,20 +12,22 @@ ghost use Rattle.kept_tables.specs.View.{key_of};
 ghost use Rattle.std.specs.Option.{option_copied};
 ghost use Rattle.centre_core.specs.Following.{AreCovered, AreSteps, Bears, entry_of, held_in, line_now, facts_then, change_of, covered_change, leaves_areas_then, leaves_lines};
 ghost use Rattle.centre_core.specs.Found.{AreFound};
+ghost use Rattle.centre_core.specs.State.{AreCovering};
+ghost use Rattle.warning_book.specs.Book.{warning_of};
 
 use crate::area_coverages::{AreaCoverages, area_coverages, coverages_for};
 use crate::downs::mark_downs;
-use crate::facts::{covered_facts, facts_from, is_here};
+use crate::facts::{covered_facts, facts_from};
 use crate::held::Held;
 use crate::held_lines::HeldLines;
 use crate::shared_lists::SharedLists;
 use areas::Areas;
 use cell_register::{BscId, Register};
 use centre_events::event::Event;
-use centre_events::stepping::{Happening, stepped};
+use centre_events::stepping::{Happening, step_line};
 use common::Cell;
 use coverage_plan::Edit;
-use kept_tables::{Change, KeptTables, LineFacts, Spot};
+use kept_tables::{KeptTables, LineFacts, Spot};
 use mirror::{Line, LineKey};
 use std::alloc::{AllocError, Global};
 use warning_book::{Book, Warning, WarningId};
@@ -40,7 +43,7 @@ fn leaves_lines(h: &Happening<'_, '_>) -> bool
     }
 }
 
-/// The line after what happens, of a warning if the book has it.
+/// Makes of the line what it is after what happens, of a warning if the book has it. At `false` it stayed as it was.
 #[tactic(auto, using(crate::proofs::BlankLineLemmas::edit_leaves))]
 pub(crate) fn line_now(
     h: &Happening<'_, '_>,
@@ -48,21 +51,21 @@ pub(crate) fn line_now(
     b: BscId,
     c: Cell,
     warning: Option<&Warning>,
-    line: Line,
-) -> Line
-    ensures { result ≡ line_now (record { event = h.now.event.now; answer = h.now.answer.now; up = h.now.up; flight = option_copied h.now.flight }) warnings.now b c (option_copied warning.entry) line }
+    line: &mut Line,
+) -> bool
+    ensures line { line.new ≡ line_now (record { event = h.now.event.now; answer = h.now.answer.now; up = h.now.up; flight = option_copied h.now.flight }) warnings.now b c (option_copied warning.entry) line.old }
+    ensures stays { result ≡ false → line.new ≡ line.old }
 {
     match warning {
         Some(w) if !leaves_lines(h) => {
-            stepped(h, b, c, w.message_id(), w.versions(), warnings, line)
+            step_line(h, b, c, w.message_id(), w.versions(), warnings, line)
         }
-        _ => line,
+        _ => false,
     }
 }
 
 /// What is read of a line after what happens.
 fn facts_then(
-    alloc: Global,
     h: &Happening<'_, '_>,
     register: &Register,
     areas: &Areas,
@@ -79,101 +82,15 @@ fn facts_then(
     ensures { IfOk result (λ f. f ≡ facts_then (record { event = h.now.event.now; answer = h.now.answer.now; up = h.now.up; flight = option_copied h.now.flight }) register.now areas.now book.now tables.now (key_of b c n) line) }
 {
     let warning = book.find(n);
-    let now = line_now(h, book.as_slice(), b, c, warning, line);
+    let mut now = line;
+    line_now(h, book.as_slice(), b, c, warning, &mut now);
     let down = tables.is_down(b, c);
     let coverages = coverages_for(found, n);
-    facts_from(
-        alloc, register, areas, down, b, c, now, warning, coverages, lists,
-    )
-}
-
-/// What is read of a line after what happens, from how it stood.
-fn then_of(
-    alloc: Global,
-    h: &Happening<'_, '_>,
-    register: &Register,
-    areas: &Areas,
-    book: &Book,
-    found: &[AreaCoverages<'_>],
-    tables: &KeptTables,
-    held: &Held,
-    lists: &mut SharedLists,
-) -> Result<LineFacts, AllocError>
-    requires found { AreFound areas.now book.now found.now }
-    ensures { IfOk result (λ f. f ≡ facts_then (record { event = h.now.event.now; answer = h.now.answer.now; up = h.now.up; flight = option_copied h.now.flight }) register.now areas.now book.now tables.now held.now.key held.now.before.line) }
-{
-    let Held { key, before } = held;
-    facts_then(
-        alloc,
-        h,
-        register,
-        areas,
-        book,
-        found,
-        tables,
-        key.bsc,
-        key.cell,
-        key.warning,
-        before.line,
-        lists,
-    )
-}
-
-/// The change of a line to what is read of it then.
-fn changed(held: Held, after: LineFacts) -> Change
-    ensures { result ≡ record { key = held.key; before = held.before; after = after } }
-{
-    let Held { key, before } = held;
-    Change { key, before, after }
-}
-
-/// The change of a line, from how it stood.
-fn change_of(
-    alloc: Global,
-    h: &Happening<'_, '_>,
-    register: &Register,
-    areas: &Areas,
-    book: &Book,
-    found: &[AreaCoverages<'_>],
-    tables: &KeptTables,
-    held: Held,
-    lists: &mut SharedLists,
-) -> Result<Change, AllocError>
-    requires found { AreFound areas.now book.now found.now }
-    ensures { IfOk result (λ x. x ≡ change_of (record { event = h.now.event.now; answer = h.now.answer.now; up = h.now.up; flight = option_copied h.now.flight }) register.now areas.now book.now tables.now held) }
-{
-    let after = then_of(alloc, h, register, areas, book, found, tables, &held, lists)?;
-    Ok(changed(held, after))
-}
-
-/// The changes of the lines, from how they stood.
-fn changes_of_all(
-    alloc: Global,
-    h: &Happening<'_, '_>,
-    register: &Register,
-    areas: &Areas,
-    book: &Book,
-    found: &[AreaCoverages<'_>],
-    tables: &KeptTables,
-    held: Vec<Held>,
-) -> Result<Vec<Change>, AllocError>
-    requires found { AreFound areas.now book.now found.now }
-    ensures { IfOk result (λ v. v.items ≡ map (change_of (record { event = h.now.event.now; answer = h.now.answer.now; up = h.now.up; flight = option_copied h.now.flight }) register.now areas.now book.now tables.now) held.items) }
-{
-    let mut out = Vec::with_capacity(alloc, held.len())?;
-    let mut lists = SharedLists::new(alloc);
-    for line in held {
-        let change = change_of(
-            alloc, h, register, areas, book, found, tables, line, &mut lists,
-        )?;
-        out.push(change)?;
-    }
-    Ok(out)
+    facts_from(register, areas, down, b, c, now, warning, coverages, lists)
 }
 
 /// What is read of a line after an edit that leaves the areas that cover its cell.
 fn covered_then(
-    alloc: Global,
     h: &Happening<'_, '_>,
     register: &Register,
     book: &Book,
@@ -185,11 +102,11 @@ fn covered_then(
 {
     let LineKey { bsc, cell, warning } = held.key;
     let warning = book.find(warning);
-    let line = line_now(h, book.as_slice(), bsc, cell, warning, held.before.line);
+    let mut line = held.before.line;
+    line_now(h, book.as_slice(), bsc, cell, warning, &mut line);
     let down = tables.is_down(bsc, cell);
     match warning {
         Some(w) => covered_facts(
-            alloc,
             register,
             down,
             bsc,
@@ -199,28 +116,8 @@ fn covered_then(
             w,
             lists,
         ),
-        None => Ok(LineFacts::none(down, is_here(register, bsc, cell))),
+        None => Ok(LineFacts::none(down, lists.is_here(register, bsc, cell))),
     }
-}
-
-/// The changes of the lines by an edit that leaves the areas that cover their cells.
-fn covered_changes(
-    alloc: Global,
-    h: &Happening<'_, '_>,
-    register: &Register,
-    book: &Book,
-    tables: &KeptTables,
-    held: Vec<Held>,
-) -> Result<Vec<Change>, AllocError>
-    ensures { IfOk result (λ v. v.items ≡ map (covered_change (record { event = h.now.event.now; answer = h.now.answer.now; up = h.now.up; flight = option_copied h.now.flight }) register.now book.now tables.now) held.items) }
-{
-    let mut out = Vec::with_capacity(alloc, held.len())?;
-    let mut lists = SharedLists::new(alloc);
-    for line in held {
-        let after = covered_then(alloc, h, register, book, tables, &line, &mut lists)?;
-        out.push(changed(line, after))?;
-    }
-    Ok(out)
 }
 
 /// Whether what happens is an edit that leaves which areas cover each cell, and which areas each warning has.
@@ -241,26 +138,113 @@ fn leaves_areas(h: &Happening<'_, '_>) -> bool
     }
 }
 
-/// The changes of the lines, from how they stood. Few edits change the areas that cover a cell.
-#[tactic(auto, using(crate::proofs::CoveredLemmas::covered_all))]
-pub(crate) fn changes(
+/// What the areas of the warnings cover, where an edit may change which of them cover a cell. Few edits do.
+fn coverages_then<'a>(
+    alloc: Global,
+    h: &Happening<'_, '_>,
+    areas: &'a Areas,
+    book: &Book,
+    warnings: &[WarningId],
+) -> Result<Vec<AreaCoverages<'a>>, AllocError>
+    ensures { IfOk result (λ v. AreFound areas.now book.now v.items) }
+{
+    if leaves_areas(h) {
+        return Ok(Vec::new(alloc));
+    }
+    area_coverages(alloc, areas, book, warnings)
+}
+
+/// What is read of a line after an edit, from how it stood.
+fn then_of(
+    h: &Happening<'_, '_>,
+    register: &Register,
+    areas: &Areas,
+    book: &Book,
+    found: &[AreaCoverages<'_>],
+    tables: &KeptTables,
+    held: &Held,
+    lists: &mut SharedLists,
+) -> Result<LineFacts, AllocError>
+    requires found { AreFound areas.now book.now found.now }
+    requires covered { leaves_areas_then h.now.event.now ≡ true → AreCovering areas.now held.now.key.cell held.now.before.areas (warning_of book.now held.now.key.warning) }
+    ensures { IfOk result (λ f. f ≡ facts_then (record { event = h.now.event.now; answer = h.now.answer.now; up = h.now.up; flight = option_copied h.now.flight }) register.now areas.now book.now tables.now held.now.key held.now.before.line) }
+{
+    if leaves_areas(h) {
+        let facts = covered_then(h, register, book, tables, held, lists)?;
+        return Ok(facts);
+    }
+    let Held { key, before } = held;
+    facts_then(
+        h,
+        register,
+        areas,
+        book,
+        found,
+        tables,
+        key.bsc,
+        key.cell,
+        key.warning,
+        before.line,
+        lists,
+    )
+}
+
+/// Whether the line itself is known to stay: what happens leaves every line as it is, and the warning is in the book, since
+/// the line has versions.
+fn line_stays(h: &Happening<'_, '_>, after: &LineFacts) -> bool
+    ensures { result ≡ (leaves_lines h.now.event.now && not (nat_eq (length after.now.versions) 0)) }
+{
+    leaves_lines(h) && !after.versions.as_slice().is_empty()
+}
+
+/// Changes a line by an edit, from how it stood. It is the next of the lines that the edit changes.
+fn change_line(
+    h: &Happening<'_, '_>,
+    register: &Register,
+    areas: &Areas,
+    book: &Book,
+    found: &[AreaCoverages<'_>],
+    tables: &mut KeptTables,
+    held: &Held,
+    lists: &mut SharedLists,
+) -> Result<(), AllocError>
+    requires found { AreFound areas.now book.now found.now }
+    requires covered { leaves_areas_then h.now.event.now ≡ true → AreCovering areas.now held.now.key.cell held.now.before.areas (warning_of book.now held.now.key.warning) }
+    requires next { IsNext tables.old (change_of (record { event = h.now.event.now; answer = h.now.answer.now; up = h.now.up; flight = option_copied h.now.flight }) register.now areas.now book.now tables.old held.now) }
+    ensures made { OnOk result ((n : IsNext tables.old (change_of (record { event = h.now.event.now; answer = h.now.answer.now; up = h.now.up; flight = option_copied h.now.flight }) register.now areas.now book.now tables.old held.now)) → Consistent tables.new (mixed n.begins.from n.begins.to (n.done ++ change_of (record { event = h.now.event.now; answer = h.now.answer.now; up = h.now.up; flight = option_copied h.now.flight }) register.now areas.now book.now tables.old held.now ∷ []))) }
+    ensures downs { tables.new.lines.downs ≡ tables.old.lines.downs }
+    ensures meter { tables.new.lines.meter ≤ tables.old.lines.meter + 1 }
+    ensures least { tables.old.lines.meter ≤ tables.new.lines.meter }
+{
+    let after = then_of(h, register, areas, book, found, tables, held, lists)?;
+    let stays = line_stays(h, &after);
+    tables.make(&held.key, &held.before, &after, stays)
+}
+
+/// Changes the lines by an edit, from how they stood.
+fn change_lines(
     alloc: Global,
     h: &Happening<'_, '_>,
     register: &Register,
     areas: &Areas,
     book: &Book,
-    tables: &KeptTables,
-    warnings: &[WarningId],
-    held: Vec<Held>,
-) -> Result<Vec<Change>, AllocError>
-    requires covered { leaves_areas_then h.now.event.now ≡ true → AreCovered areas.now book.now held.items }
-    ensures { IfOk result (λ v. v.items ≡ map (change_of (record { event = h.now.event.now; answer = h.now.answer.now; up = h.now.up; flight = option_copied h.now.flight }) register.now areas.now book.now tables.now) held.items) }
+    found: &[AreaCoverages<'_>],
+    tables: &mut KeptTables,
+    held: &[Held],
+) -> Result<(), AllocError>
+    requires found { AreFound areas.now book.now found.now }
+    requires covered { leaves_areas_then h.now.event.now ≡ true → AreCovered areas.now book.now held.now }
+    requires begins { Begins tables.old (map (change_of (record { event = h.now.event.now; answer = h.now.answer.now; up = h.now.up; flight = option_copied h.now.flight }) register.now areas.now book.now tables.old) held.now) }
+    ensures made { OnOk result ((b : Begins tables.old (map (change_of (record { event = h.now.event.now; answer = h.now.answer.now; up = h.now.up; flight = option_copied h.now.flight }) register.now areas.now book.now tables.old) held.now)) → Consistent tables.new (mixed b.from b.to (map (change_of (record { event = h.now.event.now; answer = h.now.answer.now; up = h.now.up; flight = option_copied h.now.flight }) register.now areas.now book.now tables.old) held.now))) }
+    ensures downs { tables.new.lines.downs ≡ tables.old.lines.downs }
+    ensures meter { tables.new.lines.meter ≤ tables.old.lines.meter + length held.now }
+    ensures least { tables.old.lines.meter ≤ tables.new.lines.meter }
 {
-    if leaves_areas(h) {
-        return covered_changes(alloc, h, register, book, tables, held);
+    let mut lists = SharedLists::new(alloc);
+    for line in held {
+        change_line(h, register, areas, book, found, tables, line, &mut lists)?;
     }
-    let found = area_coverages(alloc, areas, book, warnings)?;
-    changes_of_all(alloc, h, register, areas, book, &found, tables, held)
+    Ok(())
 }
 
 /// Changes the lines on which an event bears that has been made, from how they stood. At an `Err` memory ran out, and
@@ -286,8 +270,17 @@ pub(crate) fn bear(
     mark_downs(tables, spots, h.event, h.answer)?;
     match lines {
         HeldLines::Whole(held) => {
-            let changes = changes(alloc, h, register, areas, book, tables, warnings, held)?;
-            tables.settle(changes.as_slice())
+            let found = coverages_then(alloc, h, areas, book, warnings)?;
+            change_lines(
+                alloc,
+                h,
+                register,
+                areas,
+                book,
+                &found,
+                tables,
+                held.as_slice(),
+            )
         }
         HeldLines::Steps(steps) => tables.take_steps(steps.as_slice()),
     }

@@ -98,7 +98,6 @@ fn is_passed_over(
 fn hold_line(
     out: &mut Vec<Held>,
     lists: &mut SharedLists,
-    alloc: Global,
     register: &Register,
     areas: &Areas,
     book: &Book,
@@ -121,9 +120,7 @@ fn hold_line(
     }
     let down = tables.is_down(b, c);
     let coverages = coverages_for(found, n);
-    let before = facts_from(
-        alloc, register, areas, down, b, c, line, warning, coverages, lists,
-    )?;
+    let before = facts_from(register, areas, down, b, c, line, warning, coverages, lists)?;
     out.push(held_of(b, c, n, before))?;
     Ok(())
 }
@@ -132,7 +129,6 @@ fn hold_line(
 fn hold_spot(
     out: &mut Vec<Held>,
     lists: &mut SharedLists,
-    alloc: Global,
     register: &Register,
     areas: &Areas,
     book: &Book,
@@ -150,7 +146,7 @@ fn hold_spot(
 {
     for warning in warnings {
         hold_line(
-            out, lists, alloc, register, areas, book, found, tables, b, c, *warning, edit,
+            out, lists, register, areas, book, found, tables, b, c, *warning, edit,
         )?;
     }
     Ok(())
@@ -158,7 +154,7 @@ fn hold_spot(
 
 /// Those of the warnings of which something is kept in the cell at the BSC, or of which an area covers the cell. No line is
 /// read.
-fn near(
+pub(crate) fn near(
     alloc: Global,
     areas: &Areas,
     book: &Book,
@@ -206,7 +202,7 @@ fn hold_near(
     let near = near(alloc, areas, book, tables.lines(), b, c, warnings)?;
     let near = near.as_slice();
     hold_spot(
-        out, lists, alloc, register, areas, book, found, tables, b, c, near, edit,
+        out, lists, register, areas, book, found, tables, b, c, near, edit,
     )?;
     Ok(())
 }
@@ -237,7 +233,7 @@ fn hold_there(
         );
     }
     hold_spot(
-        out, lists, alloc, register, areas, book, found, tables, b, c, warnings, edit,
+        out, lists, register, areas, book, found, tables, b, c, warnings, edit,
     )
 }
 
@@ -258,7 +254,7 @@ pub(crate) fn hold(
     ensures kept { (t : Tables) → AsBefore t tables.old → AsBefore t tables.new }
     ensures meter { tables.new.lines.meter ≤ tables.old.lines.meter + length spots.now * length warnings.now }
 {
-    let mut out = Vec::new(alloc);
+    let mut out = Vec::with_capacity(alloc, spots.len())?;
     let mut lists = SharedLists::new(alloc);
     for spot in spots {
         hold_there(
@@ -285,13 +281,12 @@ pub(crate) fn hold_keys(
     ensures kept { (t : Tables) → AsBefore t tables.old → AsBefore t tables.new }
     ensures meter { tables.new.lines.meter ≤ tables.old.lines.meter + length keys.now }
 {
-    let mut out = Vec::new(alloc);
+    let mut out = Vec::with_capacity(alloc, keys.len())?;
     let mut lists = SharedLists::new(alloc);
     for key in keys {
         let LineKey { bsc, cell, warning } = *key;
         hold_line(
-            &mut out, &mut lists, alloc, register, areas, book, found, tables, bsc, cell, warning,
-            edit,
+            &mut out, &mut lists, register, areas, book, found, tables, bsc, cell, warning, edit,
         )?;
     }
     Ok(out)

@@ -1,29 +1,25 @@
 //! Lists that several lines share.
 
-ghost use Rattle.std.specs.Prelude.{◌≡◌, ◌<◌, ℕ, Bool, true, List, filter, length, map, IfOk, IfSome, OnOk};
+ghost use Rattle.std.specs.Prelude.{◌≡◌, ◌<◌, ℕ, true, List, filter, length, map, IfOk, IfSome};
 ghost use Rattle.std.specs.List.{slice_index_or};
 ghost use Rattle.areas.specs.Areas.{covers};
+ghost use Rattle.cell_register.specs.Register.{place_in, is_place};
 ghost use Rattle.centre_core.specs.Found.{AreSelected};
 
 use crate::facts::covers_at;
 use areas::{Areas, Coverage};
+use cell_register::{BscId, Register};
 use common::{Cell, Name};
 use kept_tables::{AreaNames, Serials};
 use serials::Serial;
 use std::alloc::{AllocError, Global};
-use warning_book::Version;
+use warning_book::{Version, WarningId};
 
-/// How many lists of areas are remembered.
-const MOST: usize = 8;
+/// How many lists of areas are remembered of one warning.
+const MOST_LISTS: usize = 8;
 
-/// Lists that were read of lines, with which those of a line that is read later are shared where they are the same.
-#[derive(Drop)]
-pub(crate) struct SharedLists {
-    serials: Serials,
-    names: Vec<AreaNames>,
-    /// For each of a warning's areas, whether it covers the cell that is looked at.
-    marks: Vec<bool>,
-}
+/// Of how many warnings lists are remembered.
+const MOST_WARNINGS: usize = 16;
 
 /// Whether these are the serial numbers of the versions.
 fn are_serials_of(versions: &[Version], numbers: &[Serial]) -> bool
@@ -51,38 +47,20 @@ fn own_serials_of(alloc: Global, versions: &[Version]) -> Result<Serials, AllocE
     Serials::from_vec(alloc, numbers)
 }
 
-/// Says of each of the areas whether it covers the cell.
-fn mark(
-    marks: &mut Vec<bool>,
+/// Whether the others are the names of those of the areas that cover the cell.
+fn are_covering(
     areas: &Areas,
     names: &[Name],
     coverages: &[Coverage<'_>],
     c: Cell,
-) -> Result<(), AllocError>
+    others: &[Name],
+) -> bool
     requires { AreSelected areas.now names.now coverages.now }
-    ensures { OnOk result (marks.new.items ≡ map (λ a. covers areas.now a c) names.now) }
-{
-    marks.clear();
-    for (i, name) in names.iter().enumerate() {
-        marks.push(covers_at(areas, name, coverages, i, c))?;
-    }
-    Ok(())
-}
-
-/// Whether the element at that place is marked.
-fn is_marked(marks: &[bool], i: usize) -> bool
-    ensures { (f : List ℕ → Bool) (names : List (List ℕ)) (name : List ℕ) → marks.now ≡ map f names → i < length names → name ≡ slice_index_or names i name → result ≡ f name }
-{
-    i < marks.len() && marks[i]
-}
-
-/// Whether these are the names that are marked.
-fn are_marked(names: &[Name], marks: &[bool], others: &[Name]) -> bool
-    ensures { (f : List ℕ → Bool) → marks.now ≡ map f names.now → result ≡ true → others.now ≡ filter f names.now }
+    ensures { result ≡ true → others.now ≡ filter (λ a. covers areas.now a c) names.now }
 {
     let mut count = 0;
     for (i, name) in names.iter().enumerate() {
-        if is_marked(marks, i) {
+        if covers_at(areas, name, coverages, i, c) {
             if count >= others.len() || others[count] != *name {
                 return false;
             }
@@ -92,13 +70,20 @@ fn are_marked(names: &[Name], marks: &[bool], others: &[Name]) -> bool
     count == others.len()
 }
 
-/// The names that are marked, in memory of their own.
-fn own_marked(alloc: Global, names: &[Name], marks: &[bool]) -> Result<AreaNames, AllocError>
-    ensures { (f : List ℕ → Bool) → marks.now ≡ map f names.now → IfOk result (λ n. n ≡ filter f names.now) }
+/// The names of those of the areas that cover the cell, in memory of their own.
+fn own_covering(
+    alloc: Global,
+    areas: &Areas,
+    names: &[Name],
+    coverages: &[Coverage<'_>],
+    c: Cell,
+) -> Result<AreaNames, AllocError>
+    requires { AreSelected areas.now names.now coverages.now }
+    ensures { IfOk result (λ n. n ≡ filter (λ a. covers areas.now a c) names.now) }
 {
     let mut out = Vec::new(alloc);
     for (i, name) in names.iter().enumerate() {
-        if is_marked(marks, i) {
+        if covers_at(areas, name, coverages, i, c) {
             out.push(name.copied(alloc)?)?;
         }
     }
@@ -108,35 +93,45 @@ fn own_marked(alloc: Global, names: &[Name], marks: &[bool]) -> Result<AreaNames
     AreaNames::from_vec(alloc, out)
 }
 
-/// Where the list stands that has the names that are marked, if one of these has.
-fn find(lists: &[AreaNames], names: &[Name], marks: &[bool]) -> Option<usize>
+/// Where the list stands that has the names of those of the areas that cover the cell, if one of these has.
+fn find(
+    lists: &[AreaNames],
+    areas: &Areas,
+    names: &[Name],
+    coverages: &[Coverage<'_>],
+    c: Cell,
+) -> Option<usize>
+    requires { AreSelected areas.now names.now coverages.now }
     ensures bound { IfSome result (λ n. n < length lists.now) }
-    ensures found { (f : List ℕ → Bool) → marks.now ≡ map f names.now → IfSome result (λ n. (d : List (List ℕ)) → slice_index_or lists.now n d ≡ filter f names.now) }
+    ensures found { IfSome result (λ n. (d : List (List ℕ)) → slice_index_or lists.now n d ≡ filter (λ a. covers areas.now a c) names.now) }
 {
     for (i, list) in lists.iter().enumerate() {
-        if are_marked(names, marks, list.as_slice()) {
+        if are_covering(areas, names, coverages, c, list.as_slice()) {
             return Some(i);
         }
     }
     None
 }
 
-impl SharedLists {
+/// Lists that were read of lines of one warning, with which those of a line that is read later are shared where they are the
+/// same.
+#[derive(Drop)]
+struct WarningLists {
+    serials: Serials,
+    names: Vec<AreaNames>,
+}
+
+impl WarningLists {
     /// No lists.
-    pub(crate) fn new(alloc: Global) -> SharedLists {
-        SharedLists {
+    fn new(alloc: Global) -> WarningLists {
+        WarningLists {
             serials: Serials::none(),
             names: Vec::new(alloc),
-            marks: Vec::new(alloc),
         }
     }
 
     /// The serial numbers of the versions.
-    pub(crate) fn serials_of(
-        &mut self,
-        alloc: Global,
-        versions: &[Version],
-    ) -> Result<Serials, AllocError>
+    fn serials_of(&mut self, alloc: Global, versions: &[Version]) -> Result<Serials, AllocError>
         ensures { IfOk result (λ s. s ≡ map (λ v. v.serial) versions.now) }
     {
         if are_serials_of(versions, self.serials.as_slice()) {
@@ -149,19 +144,25 @@ impl SharedLists {
 
     /// Remembers the list, in the place of the last where there are many.
     fn remember(&mut self, list: AreaNames) -> Result<(), AllocError> {
-        if self.names.len() >= MOST {
+        if self.names.len() >= MOST_LISTS {
             self.names.pop();
         }
         self.names.push(list)?;
         Ok(())
     }
 
-    /// The list of the names that are marked, if it is remembered. It is looked for first the next time.
-    fn find(&mut self, names: &[Name]) -> Result<Option<AreaNames>, AllocError>
-        ensures found { (f : List ℕ → Bool) → self.old.marks.items ≡ map f names.now → IfOk result (λ o. IfSome o (λ n. n ≡ filter f names.now)) }
-        ensures marks { self.new.marks.items ≡ self.old.marks.items }
+    /// The list of those of the areas that cover the cell, if it is remembered. It is looked for first the next time.
+    fn find(
+        &mut self,
+        areas: &Areas,
+        names: &[Name],
+        coverages: &[Coverage<'_>],
+        c: Cell,
+    ) -> Result<Option<AreaNames>, AllocError>
+        requires { AreSelected areas.now names.now coverages.now }
+        ensures { IfOk result (λ o. IfSome o (λ n. n ≡ filter (λ a. covers areas.now a c) names.now)) }
     {
-        let Some(i) = find(self.names.as_slice(), names, self.marks.as_slice()) else {
+        let Some(i) = find(self.names.as_slice(), areas, names, coverages, c) else {
             return Ok(None);
         };
         let list = self.names[i].shared()?;
@@ -169,8 +170,8 @@ impl SharedLists {
         Ok(Some(list))
     }
 
-    /// Those of the areas that cover the cell. What they cover was found before, or is looked for.
-    pub(crate) fn covering(
+    /// Those of the areas that cover the cell.
+    fn covering(
         &mut self,
         alloc: Global,
         areas: &Areas,
@@ -181,12 +182,80 @@ impl SharedLists {
         requires { AreSelected areas.now names.now coverages.now }
         ensures { IfOk result (λ n. n ≡ filter (λ a. covers areas.now a c) names.now) }
     {
-        mark(&mut self.marks, areas, names, coverages, c)?;
-        if let Some(list) = self.find(names)? {
+        if let Some(list) = self.find(areas, names, coverages, c)? {
             return Ok(list);
         }
-        let list = own_marked(alloc, names, self.marks.as_slice())?;
+        let list = own_covering(alloc, areas, names, coverages, c)?;
         self.remember(list.shared()?)?;
         Ok(list)
+    }
+}
+
+/// Lists that were read of lines of several warnings, and where the register was looked in last.
+#[derive(Drop)]
+pub(crate) struct SharedLists {
+    alloc: Global,
+    /// Each at the place that the warning's number gives. Two warnings of one place take turns.
+    warnings: Vec<WarningLists>,
+    near: usize,
+}
+
+impl SharedLists {
+    /// No lists.
+    pub(crate) fn new(alloc: Global) -> SharedLists {
+        SharedLists {
+            alloc,
+            warnings: Vec::new(alloc),
+            near: 0,
+        }
+    }
+
+    /// The place of the lists of the warning.
+    fn place_of(&mut self, n: WarningId) -> Result<usize, AllocError>
+        ensures { IfOk result (λ place. place < length self.new.warnings.items) }
+    {
+        let place = n.number() as usize % MOST_WARNINGS;
+        for _ in self.warnings.len()..place + 1 {
+            self.warnings.push(WarningLists::new(self.alloc))?;
+        }
+        Ok(place)
+    }
+
+    /// The serial numbers of the versions of the warning.
+    pub(crate) fn serials_of(
+        &mut self,
+        n: WarningId,
+        versions: &[Version],
+    ) -> Result<Serials, AllocError>
+        ensures { IfOk result (λ s. s ≡ map (λ v. v.serial) versions.now) }
+    {
+        let place = self.place_of(n)?;
+        self.warnings[place].serials_of(self.alloc, versions)
+    }
+
+    /// Those of the areas of the warning that cover the cell. What they cover was found before, or is looked for.
+    pub(crate) fn covering(
+        &mut self,
+        n: WarningId,
+        areas: &Areas,
+        names: &[Name],
+        coverages: &[Coverage<'_>],
+        c: Cell,
+    ) -> Result<AreaNames, AllocError>
+        requires { AreSelected areas.now names.now coverages.now }
+        ensures { IfOk result (λ n. n ≡ filter (λ a. covers areas.now a c) names.now) }
+    {
+        let place = self.place_of(n)?;
+        self.warnings[place].covering(self.alloc, areas, names, coverages, c)
+    }
+
+    /// Whether the cell is registered at the BSC.
+    pub(crate) fn is_here(&mut self, register: &Register, b: BscId, c: Cell) -> bool
+        ensures { result ≡ is_place (place_in register.now c) b }
+    {
+        match register.bsc_near(c, &mut self.near) {
+            Some(other) => other == b,
+            None => false,
+        }
     }
 }

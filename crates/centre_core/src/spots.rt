@@ -21,7 +21,7 @@ use std::alloc::{AllocError, Global};
 pub(crate) fn spots_at(alloc: Global, b: BscId, cells: &[Cell]) -> Result<Vec<Spot>, AllocError>
     ensures { IfOk result (λ spots. spots.items ≡ map (spot b) cells.now) }
 {
-    let mut spots = Vec::new(alloc);
+    let mut spots = Vec::with_capacity(alloc, cells.len())?;
     for cell in cells {
         spots.push(Spot {
             bsc: b,
@@ -77,9 +77,10 @@ pub(crate) fn moved(
 fn placed_all(alloc: Global, register: &Register, cells: &[Cell]) -> Result<Vec<Spot>, AllocError>
     ensures { IfOk result (λ spots. spots.items ≡ flat_map (λ c. at_bsc c (place_in register.now c)) cells.now) }
 {
-    let mut spots = Vec::new(alloc);
+    let mut spots = Vec::with_capacity(alloc, cells.len())?;
+    let mut near = 0;
     for cell in cells {
-        if let Some(bsc) = register.bsc_of(*cell) {
+        if let Some(bsc) = register.bsc_near(*cell, &mut near) {
             spots.push(Spot { bsc, cell: *cell })?;
         }
     }

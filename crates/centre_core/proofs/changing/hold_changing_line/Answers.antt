@@ -20,9 +20,9 @@ returns-clause-held c =
     c.in_ok-push.ensures.items
     ∙ ap (λ x. c.args.out.now.items ++ x ∷ []) c.step_of.ensures
     ∙ ap (λ xs. c.args.out.now.items ++ xs)
-    (changing_held h c.args.register.now c.args.areas.now c.args.book.now t k c.read_line-line.result c.line_then-then.result c.in_ok-before.before c.is_down-down.result
+    (changing_held h c.args.register.now c.args.areas.now c.args.book.now t k c.read_line-line.result c.line_now-stepped.new.line c.in_ok-before.before c.is_down-down.result
     (c.read_line-line.ensures.line ∙ ap (λ (q : LineKey). line_at c.args.tables.now.lines q.bsc q.cell q.warning) c.key_of.ensures ∙ ap (λ ls. unwrap_or (lookup (is_slot k.bsc k.cell k.warning) ls) blank_line) same.lines)
     (c.is_down-down.ensures ∙ ap (list_any (is_that_place k.bsc k.cell)) (c.read_line-line.ensures.downs ∙ same.downs))
-    (c.line_then-then.ensures ∙ ap (λ o. line_now h c.args.book.now.warnings k.bsc k.cell o c.read_line-line.result) c.find-warning.ensures)
+    (c.line_now-stepped.ensures.line ∙ ap (λ ws. line_now h ws k.bsc k.cell (option_copied c.find-warning.result) c.read_line-line.result) c.as_slice.ensures ∙ ap (λ o. line_now h c.args.book.now.warnings k.bsc k.cell o c.read_line-line.result) c.find-warning.ensures)
     (c.in_ok-before.ensures ∙ ap (facts_from c.args.register.now c.args.areas.now c.is_down-down.result k.bsc k.cell c.read_line-line.result) c.find-warning.ensures)
-    (ap (λ o. line_eq c.line_then-then.result c.read_line-line.result && (keeps_down (down_mark k.bsc k.cell h.event h.answer) c.is_down-down.result || is_idle c.args.areas.now o k.cell c.read_line-line.result)) (sym c.find-warning.ensures) ∙ sym c.stays.ensures ∙ c.if-stays.false))
+    (ap (λ o. line_eq c.line_now-stepped.new.line c.read_line-line.result && (keeps_down (down_mark k.bsc k.cell h.event h.answer) c.is_down-down.result || is_idle c.args.areas.now o k.cell c.read_line-line.result)) (sym c.find-warning.ensures) ∙ sym c.stays.ensures ∙ c.if-stays.false))

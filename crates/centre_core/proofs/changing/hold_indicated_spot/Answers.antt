@@ -10,7 +10,7 @@ returns-clause-held c =
     let h : Happens = record { event = c.args.h.now.event.now; answer = c.args.h.now.answer.now; up = c.args.h.now.up; flight = option_copied c.args.h.now.flight } in
     let p : Spot = record { bsc = c.args.b; cell = c.args.c } in
     λ t same.
-    c.in_ok-hold_changing_spot-2.ensures.held t same
+    c.in_ok-hold_changing_spot.ensures.held t same
     ∙ ap (λ xs. c.args.out.now.items ++ xs)
     (ap (λ ns. changing_at h c.args.register.now c.args.areas.now c.args.book.now t ns p) c.as_slice-known.ensures.value
     ∙ known_before h c.args.register.now c.args.areas.now c.args.book.now t c.args.tables.now p c.in_ok-known.known.items same c.requires.blank (search rules) c.tell_soundness.ensures.ordered c.in_ok-known.ensures.order (rw c.lines.ensures at c.in_ok-known.ensures.which)

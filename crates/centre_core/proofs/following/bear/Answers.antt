@@ -1,6 +1,8 @@
 use Rattle.std.proofs.Common.{◌≡◌, false, map, sym, ◌∙◌, ap, subst}
 use Rattle.std.proofs.lemmas.Result.{on_ok_weaker}
+use Rattle.std.specs.List.{list_any}
 use Rattle.std.specs.Option.{option_copied}
+use Rattle.mirror.specs.Table.{is_that_place}
 use Rattle.kept_tables.specs.Changes.{Begins, change_of as change_of_step}
 use Rattle.centre_core.specs.Following.{AreCovered, AreSteps, Happens, change_of, held_in, held_of, step_of}
 use Rattle.centre_events.specs.Kept.{is_edit}
@@ -11,30 +13,29 @@ use Rattle.centre_core.proofs.following.bear.Goals as goal
 
 -- of an edit
 
-pub changes-requires : goal.changes-requires
-changes-requires c = record {
-  covered = λ leaves. subst (AreCovered c.args.areas.now c.args.book.now) (ap held_in c.in-Whole.is) (bears_covered c.requires.bears leaves);
-}
+pub change_lines-requires-clause-covered : goal.change_lines-requires-clause-covered
+change_lines-requires-clause-covered c =
+    λ leaves. subst (AreCovered c.args.areas.now c.args.book.now) (ap held_in c.in-Whole.is ∙ sym c.as_slice.ensures.value) (bears_covered c.requires.bears leaves)
 
-pub settle-requires : goal.settle-requires
-settle-requires c =
+pub change_lines-requires-clause-begins : goal.change_lines-requires-clause-begins
+change_lines-requires-clause-begins c =
     let h : Happens = record { event = c.args.h.now.event.now; answer = c.args.h.now.answer.now; up = c.args.h.now.up; flight = option_copied c.args.h.now.flight } in
     subst (Begins c.mark_downs.new.tables)
-    (sym (c.as_slice.ensures.value ∙ c.in_ok-changes-in-Whole.ensures ∙ ap (map (change_of h c.args.register.now c.args.areas.now c.args.book.now c.mark_downs.new.tables)) (sym (ap held_in c.in-Whole.is))))
+    (ap (map (change_of h c.args.register.now c.args.areas.now c.args.book.now c.mark_downs.new.tables)) (ap held_in c.in-Whole.is ∙ sym c.as_slice.ensures.value))
     (begins c.requires.bears c.mark_downs.new.tables c.in_ok-mark_downs.ensures.lines c.in_ok-mark_downs.ensures.downs)
 
-pub returns-in_ok-changes-in-Whole-clause-tables : goal.returns-in_ok-changes-in-Whole-clause-tables
-returns-in_ok-changes-in-Whole-clause-tables c =
+pub returns-in_ok-found-in-Whole-clause-tables : goal.returns-in_ok-found-in-Whole-clause-tables
+returns-in_ok-found-in-Whole-clause-tables c =
     let h : Happens = record { event = c.args.h.now.event.now; answer = c.args.h.now.answer.now; up = c.args.h.now.up; flight = option_copied c.args.h.now.flight } in
-    on_ok_weaker c.settle.result
+    on_ok_weaker c.change_lines.result
     (λ done x.
-    settled x c.mark_downs.new.tables c.settle.new.self c.as_slice.result.now
-    (c.as_slice.ensures.value ∙ c.in_ok-changes-in-Whole.ensures ∙ ap (map (change_of h c.args.register.now c.args.areas.now c.args.book.now c.mark_downs.new.tables)) (sym (ap held_in c.in-Whole.is)))
+    settled x c.mark_downs.new.tables c.change_lines.new.tables (map (change_of h c.args.register.now c.args.areas.now c.args.book.now c.mark_downs.new.tables) c.as_slice.result.now)
+    (ap (map (change_of h c.args.register.now c.args.areas.now c.args.book.now c.mark_downs.new.tables)) (c.as_slice.ensures.value ∙ sym (ap held_in c.in-Whole.is)))
     c.in_ok-mark_downs.ensures.lines c.in_ok-mark_downs.ensures.downs done)
-    c.settle.ensures.settled
+    c.change_lines.ensures.made
 
-pub returns-in_ok-changes-in-Whole-clause-downs : goal.returns-in_ok-changes-in-Whole-clause-downs
-returns-in_ok-changes-in-Whole-clause-downs c = on_ok_weaker c.settle.result (λ done x b d. c.settle.ensures.downs b d ∙ c.in_ok-mark_downs.ensures.downs b d ∙ downs_then x b d) c.settle.ensures.settled
+pub returns-in_ok-found-in-Whole-clause-downs : goal.returns-in_ok-found-in-Whole-clause-downs
+returns-in_ok-found-in-Whole-clause-downs c = on_ok_weaker c.change_lines.result (λ done x b d. ap (list_any (is_that_place b d)) c.change_lines.ensures.downs ∙ c.in_ok-mark_downs.ensures.downs b d ∙ downs_then x b d) c.change_lines.ensures.made
 
 -- of another event
 
