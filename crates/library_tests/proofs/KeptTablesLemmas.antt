@@ -3,14 +3,13 @@ use Rattle.std.proofs.Common.{◌≡◌, ◌≤◌, ℕ, Bool, true, false, [], 
 use Rattle.common.specs.Cell.{cell_eq}
 use Rattle.common.specs.Equality.{cell_decides}
 use Rattle.common.specs.declared.cell.Cell.{Cell}
-use Rattle.kept_tables.specs.Changes.{Begins}
+use Rattle.kept_tables.specs.Changes.{Begins, Change, IsNext}
 use Rattle.kept_tables.specs.Consistent.{is_deed}
 use Rattle.kept_tables.specs.ConsistentLaws.{empty_consistent}
 use Rattle.kept_tables.specs.Facts.{deeds_of, no_facts}
 use Rattle.kept_tables.specs.SpotLaws.{key_decides, spot_decides}
 use Rattle.kept_tables.specs.Tables.{IsEmpty, Tables}
 use Rattle.kept_tables.specs.View.{key_eq, spot_eq, spot_of, updated, View}
-use Rattle.kept_tables.specs.declared.change.Change.{Change}
 use Rattle.mirror.specs.declared.line_key.LineKey.{LineKey}
 use Rattle.order_maker.specs.declared.deed.Deed.{Deed}
 
@@ -57,3 +56,9 @@ first_change t x empty before few = record {
     then_few : (k : LineKey) (b : Bool) → length (if b then x.after else none x.key k).versions ≤ 16
     then_few k true = few
     then_few k false = omega arith
+
+-- it is the next change then
+pub next_change : (t : Tables) (x : Change) → IsEmpty t → x.before ≡ no_facts false true → length x.after.versions ≤ 16 → IsNext t x
+next_change t x empty before few =
+    let begins = first_change t x empty before few in
+    record { start = t; changes = x ∷ []; begins = begins; done = []; later = []; split = refl; made = begins.is }

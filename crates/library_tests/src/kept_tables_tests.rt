@@ -7,7 +7,7 @@ use cbsp_ie::CellId;
 use cell_register::{BscId, Register};
 use common::Cell;
 use coverage_board::Numbers;
-use kept_tables::{AreaNames, Change, KeptTables, LineFacts, Serials, Step};
+use kept_tables::{AreaNames, KeptTables, LineFacts, Serials, Step};
 use mirror::{KeyState, Line, LineKey, Presence};
 use order_maker::OrderKind;
 use serials::Serial;
@@ -54,12 +54,11 @@ fn wanted(rt: &impl Abort, alloc: Global) -> LineFacts
 /// Tables in which a version is wanted on that line, and on no other.
 fn issued(rt: &impl Abort, alloc: Global, key: LineKey) -> KeptTables {
     let mut tables = KeptTables::new(alloc);
-    let change = Change {
-        key,
-        before: LineFacts::none(false, true),
-        after: wanted(rt, alloc),
-    };
-    tables.settle(&[change]).expect(rt, "memory");
+    let before = LineFacts::none(false, true);
+    let after = wanted(rt, alloc);
+    tables
+        .make(&key, &before, &after, false)
+        .expect(rt, "memory");
     tables
 }
 

@@ -1,5 +1,7 @@
 //! What no clause says of orders: that each call can succeed, and the orders of one BSC, worked by hand.
 
+ghost use Rattle.std.specs.Prelude.{◌≡◌};
+
 use crate::values::{bsc, content};
 use cbsp_messages::Message;
 use cell_register::BscId;
@@ -43,7 +45,12 @@ fn on_air(serial: Serial) -> Line {
 }
 
 /// The line of a cell that is up.
-fn sight(line: Line, versions: &[Serial], wanted: Option<Serial>) -> Sight<'_> {
+fn sight(line: Line, versions: &[Serial], wanted: Option<Serial>) -> Sight<'_>
+    ensures line { result.line ≡ line }
+    ensures message { result.message_id ≡ 4370 }
+    ensures versions { result.versions.now ≡ versions.now }
+    ensures wanted { result.wanted ≡ wanted }
+{
     Sight {
         line,
         message_id: 4370,
@@ -166,6 +173,36 @@ fn every_call_answers(rt: HostRuntime) {
     assert!(rt; pending.has(b));
     orders_are_copied(&rt, alloc, &pending, b);
     a_write_is_carried(&rt, alloc, &first(&rt, &pending, b));
+}
+
+/// A version comes to be wanted on a blank line, which stays.
+fn want(rt: &impl Abort, pending: &mut Pending, b: BscId) {
+    let serials = versions();
+    let idle = sight(Line::blank(), &[], None);
+    let wanted = sight(Line::blank(), &serials, Some(current()));
+    pending
+        .shift_wanted(b, FIRST, &idle, &wanted)
+        .expect(rt, "memory");
+}
+
+/// The cell of a line of which nothing is known comes to be down.
+fn fail(rt: &impl Abort, pending: &mut Pending, b: BscId, cell: Cell) {
+    let idle = sight(Line::blank(), &[], None);
+    let down = Sight { down: true, ..idle };
+    pending
+        .shift_states(b, cell, &idle, &down)
+        .expect(rt, "memory");
+}
+
+#[test]
+fn what_comes_to_be_wanted_on_a_line_that_stays_is_written(rt: HostRuntime) {
+    let b = bsc(&rt, 1);
+    let mut pending = Pending::new(rt.alloc());
+    want(&rt, &mut pending, b);
+    fail(&rt, &mut pending, b, SECOND);
+    let orders = groups(&rt, &pending, b);
+    assert_eq!(rt; orders.len(), 1);
+    assert!(rt; is_order(&orders[0], OrderKind::Write, current(), &[FIRST]));
 }
 
 /// Nothing is pending for the BSC.

@@ -50,11 +50,23 @@ fn is_taken_out(rt: &impl Abort, register: &mut Register, b: BscId, other: BscId
     assert_eq!(rt; register.bsc_of(FIRST), Some(other));
 }
 
+/// Each cell is found from where the one before it stood, and from anywhere else.
+fn are_near(rt: &impl Abort, register: &Register) {
+    let mut near = 0;
+    for (cell, number) in [(FIRST, 1), (SECOND, 2), (THIRD, 1), (FIRST, 1)] {
+        let found = register.bsc_near(cell, &mut near);
+        assert_eq!(rt; found, Some(bsc(rt, number)));
+    }
+    let unknown = Cell { lac: 100, ci: 8 };
+    assert_eq!(rt; register.bsc_near(unknown, &mut near), None);
+}
+
 #[test]
 fn every_call_answers(rt: HostRuntime) {
     let mut register = begun(&rt, rt.alloc());
     has_cells_of(&rt, &register, 1, &[FIRST, THIRD]);
     has_cells_in(&rt, &register, 100, &[FIRST, SECOND]);
+    are_near(&rt, &register);
     let cells = register.all_cells().expect(&rt, "memory");
     assert!(rt; cells.as_slice() == [FIRST, SECOND, THIRD].as_slice());
     is_taken_out(&rt, &mut register, bsc(&rt, 1), bsc(&rt, 2));
