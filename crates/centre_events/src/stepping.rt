@@ -248,21 +248,3 @@ pub fn step_line(
         _ => false,
     }
 }
-
-/// The line of the versions of a message in the cell at the BSC, after what happens. What a Forget does is said by the
-/// warnings.
-pub fn stepped(
-    h: &Happening<'_, '_>,
-    b: BscId,
-    c: Cell,
-    message_id: u16,
-    versions: &[Version],
-    warnings: &[Warning],
-    line: Line,
-) -> Line
-    ensures { result ≡ stepped (λ s. effect b c message_id s h.now.event.now h.now.answer.now h.now.up (option_copied h.now.flight) warnings.now) (λ s. count_mark b c message_id s h.now.event.now h.now.answer.now (option_copied h.now.flight) warnings.now) line (map (λ v. v.serial) versions.now) }
-{
-    let mut line = line;
-    step_line(h, b, c, message_id, versions, warnings, &mut line);
-    line
-}

@@ -47,7 +47,7 @@ IsLeft ReadFault lines = length lines ≡ 1
 IsLeft LongLine lines = BeginsLong lines
 IsLeft other lines = Unit {0}
 
--- a fault ended the run: some of the lines that were read are answered, and what is written is a front of their text
+-- a fault ended the run: some of the lines that were read are answered, and what is written is a prefix of their text
 pub record BreaksOff (start : SessionState) (given left before after : Option (List ℕ)) (fault : ReplayFault) : Type 0 where
   pub octets : List ℕ
   pub lines : List (List ℕ)

@@ -38,7 +38,7 @@ pub record Streams : Type 0 where
   pub errors : Option (List ℕ)
   pub is_mute : Bool
 
--- the text is said, or a front of it where that fails
+-- the text is said, or a prefix of it where that fails
 abbrev pub IsTold : Option (List ℕ) → Option (List ℕ) → Bool → List ℕ → Type 0
 IsTold before after has_failed text = Appends before after text ⊎ (AppendsFront before after text × (has_failed ≡ true))
 

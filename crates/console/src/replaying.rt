@@ -38,7 +38,7 @@ fn turn<R: Source, W: Sink>(
 /// `journal_limit` entries. The reads are at most 1,000,000,000,000.
 ///
 /// A line ends at 0A or at the end of the input; one 0D before that is dropped. Every bad line is answered and the
-/// run goes on. At an `Err` what was written is a front of the text of lines that were read. At `ReadFault` every line
+/// run goes on. At an `Err` what was written is a prefix of the text of lines that were read. At `ReadFault` every line
 /// that had ended is answered, at `LongLine` every line before the long one. No clause says that an answer is written before
 /// the next read: the contract has what was read and written in the end.
 pub fn replay<R: Source, W: Sink>(

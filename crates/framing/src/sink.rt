@@ -89,7 +89,7 @@ impl<W: Write + Drop> Sink for FromWrite<W> {
 }
 
 /// Writes all the octets, in as many writes as it takes. At an `Err` a write was refused or took
-/// none, and what was taken before it is a front of the octets.
+/// none, and what was taken before it is a prefix of the octets.
 pub fn write_all<W: Sink>(writer: &mut W, octets: &[u8]) -> Result<(), Failed>
     ensures all { OnOk result (Appends (W.written writer.old) (W.written writer.new) octets.now) }
     ensures part { OnErr result (AppendsFront (W.written writer.old) (W.written writer.new) octets.now) }

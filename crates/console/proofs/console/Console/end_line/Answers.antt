@@ -2,7 +2,7 @@ use Rattle.std.proofs.Common.{length, ap, ◌∙◌, arith}
 use Rattle.console.specs.Text.{without_return}
 use Rattle.console.proofs.console.Console.end_line.Goals as goal
 
--- the answer is that of the line that had begun, and a front of it was written
+-- the answer is that of the line that had begun, and a prefix of it was written
 pub returns-clause-err : goal.returns-clause-err
 returns-clause-err g c =
     let line = c.without_return-line.ensures ∙ ap without_return c.deref.ensures.value in
