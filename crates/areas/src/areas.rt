@@ -206,7 +206,7 @@ impl Areas {
     pub fn covers(&self, a: &Name, c: Cell) -> bool
         ensures { result ≡ covers self.now a.now c }
     {
-        self.coverage(a).covers(c)
+        lookups::covers(self.list.as_slice(), a, c)
     }
 
     /// What the area covers, to ask of many cells; nothing where there is no such area.

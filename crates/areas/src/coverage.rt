@@ -58,7 +58,6 @@ impl<'a> Coverage<'a> {
     }
 
     /// What is told of the location area.
-    #[inline(always)]
     fn share(&self, lac: u16) -> Share
         ensures { tells self.now lac result ≡ true }
     {
@@ -69,7 +68,6 @@ impl<'a> Coverage<'a> {
     }
 
     /// Whether the area covers the cell.
-    #[inline(always)]
     pub fn covers(&self, c: Cell) -> bool
         ensures { result ≡ selects self.now c }
     {

@@ -4,7 +4,7 @@ ghost use Rattle.std.specs.Prelude.{◌≡◌, ◌≤◌, true, false, List, ℕ
 ghost use Rattle.std.specs.List.{position_or_len};
 ghost use Rattle.std.specs.List.Sorted.{IsPartitionPoint};
 ghost use Rattle.common.specs.Order.{is_ascending};
-ghost use Rattle.areas.specs.Areas.{is_named, has_area, selectors_of, has_selector, is_among, selects, named_lt};
+ghost use Rattle.areas.specs.Areas.{is_named, has_area, selectors_of, has_selector, is_among, selects, covers, named_lt};
 ghost use Rattle.areas.specs.Selector.{selector_lt};
 ghost use Rattle.areas.specs.declared.selector.Selector.TheVariants as selector;
 
@@ -134,7 +134,6 @@ fn start_of(selectors: &[Selector], lac: u16) -> usize
 
 /// Whether one of the selectors, which stand in their order, is the cell or its location area. The first of that location
 /// area tells, unless it is another cell of it.
-#[inline(never)]
 pub(crate) fn selects(selectors: &[Selector], c: Cell) -> bool
     requires { is_ascending selector_lt selectors.now ≡ true }
     ensures { result ≡ selects selectors.now c }
@@ -147,4 +146,13 @@ pub(crate) fn selects(selectors: &[Selector], c: Cell) -> bool
         Selector::Lac(lac) => lac == c.lac,
         Selector::Cell(first) => first.lac == c.lac && has_cell(&selectors[start..], c),
     }
+}
+
+/// Whether the area covers the cell.
+pub(crate) fn covers(areas: &[Area], a: &Name, c: Cell) -> bool
+    requires ascending { is_ascending named_lt areas.now ≡ true }
+    requires ordered { (a : List ℕ) → is_ascending selector_lt (selectors_of areas.now a) ≡ true }
+    ensures { result ≡ covers areas.now a.now c }
+{
+    selects(selectors_of(areas, a), c)
 }
