@@ -7,14 +7,18 @@ ghost use Rattle.std.specs.Cmp.Lexicographic.{nat_list_eq_equiv, pointwise};
 ghost use Rattle.std.specs.Cmp.Rules.{hashing};
 ghost use Rattle.std.specs.Hash as fed;
 
+use smallvec::SmallVec;
 use std::alloc::{AllocError, Global};
 use std::hash::{Hash, Hasher};
 use std::marker::Model;
 
+/// How many octets of a name stand in the name itself. More stand in memory of their own.
+const INLINE: usize = 16;
+
 /// A name, as its octets.
 #[derive(Clone, Debug, Drop)]
 pub struct Name {
-    octets: Vec<u8>,
+    octets: SmallVec<u8, INLINE>,
 }
 
 impl Model for Name {
@@ -30,29 +34,23 @@ impl Name {
     pub fn from_vec(octets: Vec<u8>) -> Name
         ensures { result ≡ octets.items }
     {
-        Name { octets }
+        Name {
+            octets: SmallVec::from_vec(octets),
+        }
     }
 
     pub fn as_slice(&self) -> &[u8]
         ensures { result.now ≡ self.now }
     {
-        &self.octets
+        self.octets.as_slice()
     }
 
-    /// The octets as a vector, which is moved and not copied.
-    pub fn into_vec(self) -> Vec<u8>
-        ensures { result.items ≡ self }
-    {
-        let Name { octets } = self;
-        octets
-    }
-
-    /// The same name in memory of its own.
+    /// The same name, which takes no memory where it is short.
     pub fn copied(&self, alloc: Global) -> Result<Name, AllocError>
         ensures { IfOk result (λ copy. copy ≡ self.now) }
     {
-        let octets = Vec::from_slice(alloc, self.as_slice())?;
-        Ok(Name::from_vec(octets))
+        let octets = SmallVec::from_slice(alloc, self.as_slice())?;
+        Ok(Name { octets })
     }
 
     pub fn same(&self, other: &Name) -> bool
