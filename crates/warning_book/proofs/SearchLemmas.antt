@@ -42,6 +42,17 @@ pub found_at_start : (n : ℕ) (l : List Warning) (i : ℕ) (w : Warning) → Is
 found_at_start n l i w start within g e =
     sym (position_or_len_is (has_number n) l i w (omega arith) (λ k b. less_is_other (get_or l k w).number n (start.0 k w (omega arith) b)) (λ b. ap (has_number n) (sym g) ∙ e))
 
+-- a warning that has the number is the one that a search ends at, since no other has it
+pub found_there : (n : ℕ) (l : List Warning) (i : ℕ) (w : Warning) → is_ascending number_lt l ≡ true → i < length l → w ≡ get_or l i w → has_number n w ≡ true → i ≡ position_or_len (has_number n) l
+found_there n l i w o within g e =
+    sym (position_or_len_is (has_number n) l i w (omega arith) other (λ b. ap (has_number n) (sym g) ∙ e))
+  where
+    other : (k : ℕ) → k < i → has_number n (get_or l k w) ≡ false
+    other k b =
+        let less : (get_or l k w).number < (get_or l i w).number = number_below l k i w o b within in
+        let is : (get_or l i w).number ≡ w.number = ap (λ (x : Warning). x.number) (sym g) in
+        grind (arith, nat_tests, common_steps, less, is, e)
+
 -- it has another number, and so has each of the warnings
 pub none_at_start : (n : ℕ) (l : List Warning) (i : ℕ) (w : Warning) → is_ascending number_lt l ≡ true → IsStart n l i → i < length l → w ≡ get_or l i w → has_number n w ≡ false → length l ≡ position_or_len (has_number n) l
 none_at_start n l i w o start within g e =

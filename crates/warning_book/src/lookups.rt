@@ -22,8 +22,16 @@ fn start_of(warnings: &[Warning], number: WarningId) -> usize
     warnings.partition_point(|warning| warning.number.number() < number.number())
 }
 
-/// Where the warning of that number stands; past the last where there is none.
-pub(crate) fn place_of(warnings: &[Warning], number: WarningId) -> usize
+/// Where the warning of that number stands if none was forgotten between the first and this one.
+fn likely_place(warnings: &[Warning], number: WarningId) -> usize {
+    match warnings.first() {
+        Some(first) => number.number().saturating_sub(first.number.number()) as usize,
+        None => 0,
+    }
+}
+
+/// Where the warning of that number stands, found by halves; past the last where there is none.
+fn searched_place(warnings: &[Warning], number: WarningId) -> usize
     requires { is_ascending number_lt warnings.now ≡ true }
     ensures { result ≡ position_or_len (has_number number) warnings.now }
 {
@@ -31,6 +39,19 @@ pub(crate) fn place_of(warnings: &[Warning], number: WarningId) -> usize
     match warnings.get(place) {
         Some(warning) if warning.number == number => place,
         _ => warnings.len(),
+    }
+}
+
+/// Where the warning of that number stands; past the last where there is none. It is first looked for where it likely is.
+#[tactic(auto, using(crate::proofs::SearchLemmas::found_there))]
+pub(crate) fn place_of(warnings: &[Warning], number: WarningId) -> usize
+    requires { is_ascending number_lt warnings.now ≡ true }
+    ensures { result ≡ position_or_len (has_number number) warnings.now }
+{
+    let place = likely_place(warnings, number);
+    match warnings.get(place) {
+        Some(likely) if likely.number == number => place,
+        _ => searched_place(warnings, number),
     }
 }
 

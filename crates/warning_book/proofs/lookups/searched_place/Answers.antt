@@ -1,6 +1,6 @@
 use Rattle.std.proofs.Common.{◌≡◌, ◌<◌, ◌≤◌, length, get_or, rules}
 use Rattle.warning_book.proofs.SearchLemmas.{found_at_start, none_at_start, none_past_last}
-use Rattle.warning_book.proofs.lookups.place_of.Goals as goal
+use Rattle.warning_book.proofs.lookups.searched_place.Goals as goal
 
 pub returns-in-Some : goal.returns-in-Some
 returns-in-Some c =
