@@ -7,6 +7,7 @@ use Rattle.std.specs.List.{list_any, list_all, AllByRecursion}
 use Rattle.std.specs.List.Sorted.{IsStrictlySortedBy}
 use Rattle.std.specs.Map.{keys_of, lookup}
 use Rattle.std.specs.Option.{unwrap_or}
+use Rattle.std.specs.declared.cmp.Ordering.{Ordering}
 use Rattle.common.specs.Cell.{cell_eq, cell_lt}
 use Rattle.common.specs.Equality.{cell_decides}
 use Rattle.common.specs.OnceLaws.{DecidesAll, any_turned, any_without_key, ascending_once}
@@ -18,7 +19,7 @@ use Rattle.mirror.specs.Blank.{is_blank}
 use Rattle.mirror.specs.BlankLaws.{blank_decides}
 use Rattle.mirror.specs.Line.{blank_line}
 use Rattle.mirror.specs.OnAir.{is_slot_for}
-use Rattle.mirror.specs.Order.{Slot, slot_cmp}
+use Rattle.mirror.specs.Order.{Slot, warning_slot_cmp}
 use Rattle.mirror.specs.Table.{is_slot}
 use Rattle.mirror.specs.declared.line.Line.{Line}
 
@@ -28,7 +29,7 @@ abbrev pub kept_cells : ℕ → ℕ → (Cell → Line → Bool) → List (Slot 
 kept_cells b w q es = map (λ e. e.0.cell) (filter (λ e. is_slot_for b w e.0 && q e.0.cell e.1) es)
 
 -- a line's cell comes before those of the lines after it
-kept_before : (b w : ℕ) (q : Cell → Line → Bool) (s : Slot) → is_slot_for b w s ≡ true → (es : List (Slot × Line)) → AllByRecursion (λ t. slot_cmp s t ≡ Less) (keys_of es) → list_all (cell_lt s.cell) (kept_cells b w q es) ≡ true
+kept_before : (b w : ℕ) (q : Cell → Line → Bool) (s : Slot) → is_slot_for b w s ≡ true → (es : List (Slot × Line)) → AllByRecursion (λ t. warning_slot_cmp s t ≡ Less) (keys_of es) → list_all (cell_lt s.cell) (kept_cells b w q es) ≡ true
 kept_before b w q s h [] l = refl
 kept_before b w q s h (e ∷ es) l = step (is_slot_for b w e.0) refl (q e.0.cell e.1) (kept_before b w q s h es l.1)
   where
@@ -38,24 +39,24 @@ kept_before b w q s h (e ∷ es) l = step (is_slot_for b w e.0) refl (q e.0.cell
     step false g u rest = rest
 
 -- they ascend
-kept_ascend : (b w : ℕ) (q : Cell → Line → Bool) (es : List (Slot × Line)) → IsStrictlySortedBy slot_cmp (keys_of es) → is_ascending cell_lt (kept_cells b w q es) ≡ true
+pub kept_ascend : (b w : ℕ) (q : Cell → Line → Bool) (es : List (Slot × Line)) → IsStrictlySortedBy warning_slot_cmp (keys_of es) → is_ascending cell_lt (kept_cells b w q es) ≡ true
 kept_ascend b w q [] o = refl
-kept_ascend b w q (e ∷ es) o = step (is_slot_for b w e.0) refl (q e.0.cell e.1) (kept_ascend b w q es (sorted_tail slot_cmp e.0 (keys_of es) o))
+kept_ascend b w q (e ∷ es) o = step (is_slot_for b w e.0) refl (q e.0.cell e.1) (kept_ascend b w q es (sorted_tail warning_slot_cmp e.0 (keys_of es) o))
   where
     step : (t : Bool) → is_slot_for b w e.0 ≡ t → (u : Bool) → is_ascending cell_lt (kept_cells b w q es) ≡ true → is_ascending cell_lt (map (λ (x : Slot × Line). x.0.cell) (if t && u then e ∷ filter (λ x. is_slot_for b w x.0 && q x.0.cell x.1) es else filter (λ x. is_slot_for b w x.0 && q x.0.cell x.1) es)) ≡ true
     step true h true rest =
-        and_from (list_all (cell_lt e.0.cell) (kept_cells b w q es)) (is_ascending cell_lt (kept_cells b w q es)) (kept_before b w q e.0 h es (sorted_head slot_cmp e.0 (keys_of es) o)) rest
+        and_from (list_all (cell_lt e.0.cell) (kept_cells b w q es)) (is_ascending cell_lt (kept_cells b w q es)) (kept_before b w q e.0 h es (sorted_head warning_slot_cmp e.0 (keys_of es) o)) rest
     step true h false rest = rest
     step false h u rest = rest
 
--- no line after a cell's own is the cell's
-none_later : (b : ℕ) (c : Cell) (w : ℕ) (s : Slot) → is_slot b c w s ≡ true → (es : List (Slot × Line)) → AllByRecursion (λ t. slot_cmp s t ≡ Less) (keys_of es) → lookup (is_slot b c w) es ≡ None
-none_later b c w s h [] l = refl
-none_later b c w s h (e ∷ es) l =
-    ap (λ t. cond t (Some e.1) (lookup (is_slot b c w) es)) (other_slot b c w s e.0 h l.0) ∙ none_later b c w s h es l.1
+-- where what comes after a slot is another's, it is not among the entries after it
+pub none_later : {X : Type 0} (cmp : Slot → Slot → Ordering) (b : ℕ) (c : Cell) (w : ℕ) (s : Slot) → ((t : Slot) → cmp s t ≡ Less → is_slot b c w t ≡ false) → (es : List (Slot × X)) → AllByRecursion (λ t. cmp s t ≡ Less) (keys_of es) → lookup (is_slot b c w) es ≡ None
+none_later cmp b c w s other [] l = refl
+none_later cmp b c w s other (e ∷ es) l =
+    ap (λ t. cond t (Some e.1) (lookup (is_slot b c w) es)) (other e.0 l.0) ∙ none_later cmp b c w s other es l.1
 
 -- of what a test keeps, a cell is one where it is the first's and that is kept, or is of the others
-pub any_kept : {A : Type 0} (keep : A → Bool) (cell : A → Cell) (c : Cell) (x : A) (xs : List A) → list_any (cell_eq c) (map cell (filter keep (x ∷ xs))) ≡ ((keep x && cell_eq c (cell x)) || list_any (cell_eq c) (map cell (filter keep xs)))
+any_kept : {A : Type 0} (keep : A → Bool) (cell : A → Cell) (c : Cell) (x : A) (xs : List A) → list_any (cell_eq c) (map cell (filter keep (x ∷ xs))) ≡ ((keep x && cell_eq c (cell x)) || list_any (cell_eq c) (map cell (filter keep xs)))
 any_kept keep cell c x xs = step (keep x)
   where
     step : (t : Bool) → list_any (cell_eq c) (map cell (if t then x ∷ filter keep xs else filter keep xs)) ≡ ((t && cell_eq c (cell x)) || list_any (cell_eq c) (map cell (filter keep xs)))
@@ -71,12 +72,12 @@ in_turn true true true true q f = f refl
 in_turn true true true false q f = f refl
 
 -- a cell is one of them where its own line passes
-kept_have : (b w : ℕ) (q : Cell → Line → Bool) (c : Cell) → q c blank_line ≡ false → (es : List (Slot × Line)) → IsStrictlySortedBy slot_cmp (keys_of es) → list_any (cell_eq c) (kept_cells b w q es) ≡ q c (unwrap_or (lookup (is_slot b c w) es) blank_line)
+pub kept_have : (b w : ℕ) (q : Cell → Line → Bool) (c : Cell) → q c blank_line ≡ false → (es : List (Slot × Line)) → IsStrictlySortedBy warning_slot_cmp (keys_of es) → list_any (cell_eq c) (kept_cells b w q es) ≡ q c (unwrap_or (lookup (is_slot b c w) es) blank_line)
 kept_have b w q c h [] o = sym h
 kept_have b w q c h (e ∷ es) o =
     any_kept (λ (x : Slot × Line). is_slot_for b w x.0 && q x.0.cell x.1) (λ x. x.0.cell) c e es
     ∙ ap (λ t. t || list_any (cell_eq c) (kept_cells b w q es)) (in_turn (nat_eq b e.0.bsc) (nat_eq w e.0.warning) (cell_eq c e.0.cell) (q e.0.cell e.1) (q c e.1) (λ u. ap (λ d. q d e.1) (sym ((cell_decides c e.0.cell).0 u))))
-    ∙ ap (λ t. (is_slot b c w e.0 && q c e.1) || t) (kept_have b w q c h es (sorted_tail slot_cmp e.0 (keys_of es) o))
+    ∙ ap (λ t. (is_slot b c w e.0 && q c e.1) || t) (kept_have b w q c h es (sorted_tail warning_slot_cmp e.0 (keys_of es) o))
     ∙ step (is_slot b c w e.0) refl
   where
     alone : (t : Bool) → (t || false) ≡ t
@@ -85,7 +86,7 @@ kept_have b w q c h (e ∷ es) o =
 
     step : (t : Bool) → is_slot b c w e.0 ≡ t → ((t && q c e.1) || q c (unwrap_or (lookup (is_slot b c w) es) blank_line)) ≡ q c (unwrap_or (cond t (Some e.1) (lookup (is_slot b c w) es)) blank_line)
     step true g =
-        ap (λ found. q c e.1 || q c (unwrap_or found blank_line)) (none_later b c w e.0 g es (sorted_head slot_cmp e.0 (keys_of es) o)) ∙ ap (λ t. q c e.1 || t) h ∙ alone (q c e.1)
+        ap (λ found. q c e.1 || q c (unwrap_or found blank_line)) (none_later warning_slot_cmp b c w e.0 (λ t. other_slot b c w e.0 t g) es (sorted_head warning_slot_cmp e.0 (keys_of es) o)) ∙ ap (λ t. q c e.1 || t) h ∙ alone (q c e.1)
     step false g = refl
 
 -- How many lines of a warning there are.
@@ -134,7 +135,7 @@ once_few {A} same d (x ∷ xs) ys once all =
         any_without_key same d (λ (y : A). y) x z ys ∙ ap (λ t. not t && list_any (λ y. same y z) ys) (apart z h) ∙ all z (ap (λ t. t || list_any (λ y. same y z) xs) (apart z h) ∙ h)
 
 -- there are no more lines of a warning than cells in which its line isn't blank
-pub lines_few : (es : List (Slot × Line)) → IsStrictlySortedBy slot_cmp (keys_of es) → list_all (λ e. not (is_blank e.1)) es ≡ true → (b w : ℕ) (cells : List Cell) → ((c : Cell) → is_blank (unwrap_or (lookup (is_slot b c w) es) blank_line) ≡ false → list_any (cell_eq c) cells ≡ true) → length (filter (λ e. is_slot_for b w e.0) es) ≤ length cells
+pub lines_few : (es : List (Slot × Line)) → IsStrictlySortedBy warning_slot_cmp (keys_of es) → list_all (λ e. not (is_blank e.1)) es ≡ true → (b w : ℕ) (cells : List Cell) → ((c : Cell) → is_blank (unwrap_or (lookup (is_slot b c w) es) blank_line) ≡ false → list_any (cell_eq c) cells ≡ true) → length (filter (λ e. is_slot_for b w e.0) es) ≤ length cells
 lines_few es o none_blank b w cells all =
     let few = once_few cell_eq cell_decides there cells (ascending_once cell_eq cell_lt cell_apart there (kept_ascend b w says es o)) among in
     let long : length there ≡ length (filter (λ e. is_slot_for b w e.0) es) = length-map (filter (λ e. is_slot_for b w e.0 && says e.0.cell e.1) es) (λ e. e.0.cell) ∙ ap length (kept_all (λ e. is_slot_for b w e.0) (λ e. not (is_blank e.1)) es none_blank) in
@@ -150,35 +151,3 @@ lines_few es o none_blank b w cells all =
     among c h =
         let line : not (is_blank (unwrap_or (lookup (is_slot b c w) es) blank_line)) ≡ true = sym (kept_have b w says c (ap not ((blank_decides blank_line).1 refl)) es o) ∙ any_turned cell_eq cell_decides c there ∙ h in
         sym (any_turned cell_eq cell_decides c cells) ∙ all c (not-true (is_blank (unwrap_or (lookup (is_slot b c w) es) blank_line)) line)
-
--- where a cell's line isn't blank, it is one of the warning's
-line_there : (b : ℕ) (c : Cell) (w : ℕ) (es : List (Slot × Line)) → is_blank (unwrap_or (lookup (is_slot b c w) es) blank_line) ≡ false → list_any (cell_eq c) (map (λ e. e.0.cell) (filter (λ e. is_slot_for b w e.0) es)) ≡ true
-line_there b c w [] h = let no : true ≡ false = sym ((blank_decides blank_line).1 refl) ∙ h in cc
-line_there b c w (e ∷ es) h =
-    any_kept (λ (x : Slot × Line). is_slot_for b w x.0) (λ x. x.0.cell) c e es
-    ∙ ap (λ t. t || list_any (cell_eq c) (map (λ (x : Slot × Line). x.0.cell) (filter (λ x. is_slot_for b w x.0) es))) (in_order (nat_eq b e.0.bsc) (nat_eq w e.0.warning) (cell_eq c e.0.cell))
-    ∙ step (is_slot b c w e.0) (line_there b c w es) h
-  where
-    in_order : (x z u : Bool) → ((x && z) && u) ≡ (x && (u && z))
-    in_order true true true = refl
-    in_order true true false = refl
-    in_order true false true = refl
-    in_order true false false = refl
-    in_order false z u = refl
-
-    step : (t : Bool) → (is_blank (unwrap_or (lookup (is_slot b c w) es) blank_line) ≡ false → list_any (cell_eq c) (map (λ (x : Slot × Line). x.0.cell) (filter (λ x. is_slot_for b w x.0) es)) ≡ true) → is_blank (unwrap_or (cond t (Some e.1) (lookup (is_slot b c w) es)) blank_line) ≡ false → (t || list_any (cell_eq c) (map (λ (x : Slot × Line). x.0.cell) (filter (λ x. is_slot_for b w x.0) es))) ≡ true
-    step true rest g = refl
-    step false rest g = rest g
-
--- and no fewer than cells in order in which its line isn't blank
-pub lines_many : (es : List (Slot × Line)) (b w : ℕ) (cells : List Cell) → is_ascending cell_lt cells ≡ true → ((c : Cell) → list_any (cell_eq c) cells ≡ true → is_blank (unwrap_or (lookup (is_slot b c w) es) blank_line) ≡ false) → length cells ≤ length (filter (λ e. is_slot_for b w e.0) es)
-lines_many es b w cells order all =
-    let few = once_few cell_eq cell_decides cells there (ascending_once cell_eq cell_lt cell_apart cells order) among in
-    let long : length there ≡ length (filter (λ e. is_slot_for b w e.0) es) = length-map (filter (λ e. is_slot_for b w e.0) es) (λ e. e.0.cell) in
-    omega arith
-  where
-    there : List Cell
-    there = map (λ e. e.0.cell) (filter (λ e. is_slot_for b w e.0) es)
-
-    among : (c : Cell) → list_any (λ d. cell_eq d c) cells ≡ true → list_any (λ d. cell_eq d c) there ≡ true
-    among c h = sym (any_turned cell_eq cell_decides c there) ∙ line_there b c w es (all c (any_turned cell_eq cell_decides c cells ∙ h))

@@ -1,5 +1,5 @@
--- Lines by their warning: what an index has after one is put in or taken out, and those of one warning in order.
-use Rattle.std.proofs.Common.{◌≡◌, ℕ, ◌+◌, ◌≤◌, Bool, true, false, cond, ◌&&◌, ◌||◌, not, nat_eq, ltb, List, [], ◌∷◌, ◌++◌, length, map, filter, if◌then◌else◌, refl, sym, ◌∙◌, ap, arith, Less}
+-- What an index has after a line is entered in it, and the lines of one warning in order.
+use Rattle.std.proofs.Common.{◌≡◌, ℕ, ◌+◌, ◌≤◌, Bool, true, false, cond, ◌&&◌, ◌||◌, nat_eq, ltb, Option, List, [], ◌∷◌, ◌++◌, length, map, filter, if◌then◌else◌, refl, sym, ◌∙◌, ap, arith, Less}
 use Rattle.std.proofs.lemmas.Bool.{and_from}
 use Rattle.std.proofs.lemmas.Bool.Decides.{nat_tests}
 use Rattle.std.proofs.lemmas.Grind.{common_steps}
@@ -10,81 +10,61 @@ use Rattle.std.specs.BTreeMap.Range.{range_contains}
 use Rattle.std.specs.Cmp.{unsigned_Decides}
 use Rattle.std.specs.List.{list_any, list_all, AllByRecursion}
 use Rattle.std.specs.List.Sorted.{IsStrictlySortedBy}
+use Rattle.std.specs.Map.{keys_of, lookup}
 use Rattle.std.specs.declared.ops.Bound.TheVariants.{Included, Excluded}
-use Rattle.common.specs.Cell.{cell_eq}
+use Rattle.common.specs.Cell.{cell_eq, cell_lt}
 use Rattle.common.specs.Equality.{both, amounts, cell_decides}
 use Rattle.common.specs.OnceLaws.{DecidesAll, ascending_once}
 use Rattle.common.specs.Order.{is_ascending}
 use Rattle.common.specs.declared.cell.Cell.{Cell}
 use Rattle.mirror.proofs.CountLemmas.{once_few}
+use Rattle.mirror.proofs.KeyLemmas.{at_slot}
 use Rattle.mirror.proofs.OnAirLemmas.{filter_twice}
-use Rattle.mirror.specs.Index.{warning_slot_cmp, warning_slot, slot_of_key, first_of, is_warning_slot, has_slot, IsWithSlot, IsWithoutSlot, key_before}
-use Rattle.mirror.specs.Table.{is_key}
+use Rattle.mirror.specs.Index.{IsEntered, key_before}
+use Rattle.mirror.specs.Order.{Slot, first_of, slot_cmp, slot_of, warning_slot_cmp}
+use Rattle.mirror.specs.Table.{is_key, is_slot}
+use Rattle.mirror.specs.declared.line.Line.{Line}
 use Rattle.mirror.specs.declared.line_key.LineKey.{LineKey}
-use Rattle.mirror.specs.declared.warning_slot.WarningSlot.{WarningSlot}
 
-at_warning_slot : (b : ℕ) (c : Cell) (w : ℕ) (s : WarningSlot) → is_at (warning_slot_cmp (warning_slot b c w)) s ≡ is_warning_slot b c w s
-at_warning_slot b c w s = grind (arith, nat_tests, common_steps)
+-- what is looked up by the order of slots is looked up by their numbers
+pub entry_at : (b : ℕ) (c : Cell) (w : ℕ) (es : List (Slot × Bool)) → lookup (is_at (slot_cmp (slot_of b c w))) es ≡ lookup (is_slot b c w) es
+entry_at b c w es = ap (λ (test : Slot → Bool). lookup test es) (λ i s. at_slot b c w s i)
 
--- what is found by the order of slots is found by their numbers
-has_at : (b : ℕ) (c : Cell) (w : ℕ) (slots : List WarningSlot) → list_any (is_at (warning_slot_cmp (warning_slot b c w))) slots ≡ has_slot slots b c w
-has_at b c w slots = ap (λ (test : WarningSlot → Bool). list_any test slots) (λ i s. at_warning_slot b c w s i)
-
-at_own_key : (k : LineKey) (b : ℕ) (c : Cell) (w : ℕ) → is_at (warning_slot_cmp (slot_of_key k)) (warning_slot b c w) ≡ is_key k b c w
+at_own_key : (k : LineKey) (b : ℕ) (c : Cell) (w : ℕ) → is_at (slot_cmp (slot_of k.bsc k.cell k.warning)) (slot_of b c w) ≡ is_key k b c w
 at_own_key k b c w = grind (arith, nat_tests, common_steps)
 
--- what there is once a line is put in
-pub with_slot : (k : LineKey) (old new : List WarningSlot) → ((s : WarningSlot) → list_any (is_at (warning_slot_cmp s)) new ≡ cond (is_at (warning_slot_cmp (slot_of_key k)) s) true (list_any (is_at (warning_slot_cmp s)) old)) → IsWithSlot old new k
-with_slot k old new h b c w =
-    sym (has_at b c w new) ∙ h (warning_slot b c w) ∙ (λ i. cond (at_own_key k b c w i) true (has_at b c w old i)) ∙ either (is_key k b c w) (has_slot old b c w)
-  where
-    either : (t u : Bool) → cond t true u ≡ (t || u)
-    either true u = refl
-    either false u = refl
-
--- and once it is taken out
-pub without_slot : (k : LineKey) (old new : List WarningSlot) → ((s : WarningSlot) → list_any (is_at (warning_slot_cmp s)) new ≡ cond (is_at (warning_slot_cmp (slot_of_key k)) s) false (list_any (is_at (warning_slot_cmp s)) old)) → IsWithoutSlot old new k
-without_slot k old new h b c w =
-    sym (has_at b c w new) ∙ h (warning_slot b c w) ∙ (λ i. cond (at_own_key k b c w i) false (has_at b c w old i)) ∙ neither (is_key k b c w) (has_slot old b c w)
-  where
-    neither : (t u : Bool) → cond t false u ≡ (not t && u)
-    neither true u = refl
-    neither false u = refl
+-- what an index has once a line is entered in it
+pub entered : (k : LineKey) (entry : Option Bool) (old new : List (Slot × Bool)) → ((s : Slot) → lookup (is_at (slot_cmp s)) new ≡ cond (is_at (slot_cmp (slot_of k.bsc k.cell k.warning)) s) entry (lookup (is_at (slot_cmp s)) old)) → IsEntered k entry old new
+entered k entry old new h b c w =
+    sym (entry_at b c w new) ∙ h (slot_of b c w) ∙ (λ i. cond (at_own_key k b c w i) entry (entry_at b c w old i))
 
 -- The lines of one warning.
 
--- the BSC of the slot has a number
-abbrev pub is_numbered : WarningSlot → Bool
-is_numbered s = ltb 0 s.bsc
+-- the BSC of the line has a number
+abbrev pub is_numbered : Slot × Line → Bool
+is_numbered e = ltb 0 e.0.bsc
 
--- the line of that warning in the slot's cell at its BSC
-abbrev pub key_in : ℕ → WarningSlot → LineKey
-key_in w s = record { bsc = s.bsc; cell = s.cell; warning = w }
+-- the line of that warning in the line's cell at its BSC
+abbrev pub key_in : ℕ → Slot × Line → LineKey
+key_in w e = record { bsc = e.0.bsc; cell = e.0.cell; warning = w }
 
--- those of the slots
-abbrev pub keys_in : ℕ → List WarningSlot → List LineKey
-keys_in w slots = map (key_in w) (filter is_numbered slots)
+-- those of the lines
+abbrev pub keys_in : ℕ → List (Slot × Line) → List LineKey
+keys_in w es = map (key_in w) (filter is_numbered es)
 
 -- the warning's among them
-abbrev pub own_keys : ℕ → List WarningSlot → List LineKey
-own_keys w slots = map (key_in w) (filter (λ s. nat_eq w s.warning && is_numbered s) slots)
+abbrev pub own_keys : ℕ → List (Slot × Line) → List LineKey
+own_keys w es = map (key_in w) (filter (λ e. nat_eq w e.0.warning && is_numbered e) es)
 
-between : (w : ℕ) (s : WarningSlot) → (range_contains warning_slot_cmp (Included (first_of w)) (Excluded (first_of (w + 1))) s && is_numbered s) ≡ (nat_eq w s.warning && is_numbered s)
+between : (w : ℕ) (s : Slot) → (range_contains warning_slot_cmp (Included (first_of w)) (Excluded (first_of (w + 1))) s && ltb 0 s.bsc) ≡ (nat_eq w s.warning && ltb 0 s.bsc)
 between w s = grind (arith, nat_tests, common_steps)
 
 -- between the ends of the warning stand its own
-pub keys_between : (w : ℕ) (slots : List WarningSlot) → keys_in w (filter (range_contains warning_slot_cmp (Included (first_of w)) (Excluded (first_of (w + 1)))) slots) ≡ own_keys w slots
-keys_between w slots =
-    ap (map (key_in w)) (filter_twice (range_contains warning_slot_cmp (Included (first_of w)) (Excluded (first_of (w + 1)))) is_numbered (λ s. nat_eq w s.warning && is_numbered s) (between w) slots)
+pub keys_between : (w : ℕ) (es : List (Slot × Line)) → keys_in w (filter (λ e. range_contains warning_slot_cmp (Included (first_of w)) (Excluded (first_of (w + 1))) e.0) es) ≡ own_keys w es
+keys_between w es =
+    ap (map (key_in w)) (filter_twice (λ e. range_contains warning_slot_cmp (Included (first_of w)) (Excluded (first_of (w + 1))) e.0) is_numbered (λ e. nat_eq w e.0.warning && is_numbered e) (λ e. between w e.0) es)
 
--- one more, and one whose BSC has no number
-pub key_more : (w : ℕ) (s : WarningSlot) (rest : List WarningSlot) → is_numbered s ≡ true → keys_in w (s ∷ rest) ≡ key_in w s ∷ keys_in w rest
-key_more w s rest h = ap (λ t. map (key_in w) (if t then s ∷ filter is_numbered rest else filter is_numbered rest)) h
-
-pub key_passed : (w : ℕ) (s : WarningSlot) (rest : List WarningSlot) → is_numbered s ≡ false → keys_in w (s ∷ rest) ≡ keys_in w rest
-key_passed w s rest h = ap (λ t. map (key_in w) (if t then s ∷ filter is_numbered rest else filter is_numbered rest)) h
-
-here : (w : ℕ) (s : WarningSlot) (b : ℕ) (c : Cell) (v : ℕ) → ((nat_eq w s.warning && ltb 0 s.bsc) && is_key (key_in w s) b c v) ≡ (nat_eq w v && (ltb 0 b && is_warning_slot b c v s))
+here : (w : ℕ) (s : Slot) (b : ℕ) (c : Cell) (v : ℕ) → ((nat_eq w s.warning && ltb 0 s.bsc) && (nat_eq s.bsc b && (cell_eq s.cell c && nat_eq w v))) ≡ (nat_eq w v && (ltb 0 b && is_slot b c v s))
 here w s b c v = grind (arith, nat_tests, common_steps)
 
 apart_or : (x y h k : Bool) → ((x && (y && h)) || (x && (y && k))) ≡ (x && (y && (h || k)))
@@ -92,10 +72,10 @@ apart_or true true h k = refl
 apart_or true false h k = refl
 apart_or false y h k = refl
 
-any_kept : (keep : WarningSlot → Bool) (w : ℕ) (b : ℕ) (c : Cell) (v : ℕ) (s : WarningSlot) (rest : List WarningSlot) → list_any (λ k. is_key k b c v) (map (key_in w) (filter keep (s ∷ rest))) ≡ ((keep s && is_key (key_in w s) b c v) || list_any (λ k. is_key k b c v) (map (key_in w) (filter keep rest)))
-any_kept keep w b c v s rest = step (keep s)
+any_kept : (keep : Slot × Line → Bool) (w : ℕ) (b : ℕ) (c : Cell) (v : ℕ) (e : Slot × Line) (rest : List (Slot × Line)) → list_any (λ k. is_key k b c v) (map (key_in w) (filter keep (e ∷ rest))) ≡ ((keep e && is_key (key_in w e) b c v) || list_any (λ k. is_key k b c v) (map (key_in w) (filter keep rest)))
+any_kept keep w b c v e rest = step (keep e)
   where
-    step : (t : Bool) → list_any (λ k. is_key k b c v) (map (key_in w) (if t then s ∷ filter keep rest else filter keep rest)) ≡ ((t && is_key (key_in w s) b c v) || list_any (λ k. is_key k b c v) (map (key_in w) (filter keep rest)))
+    step : (t : Bool) → list_any (λ k. is_key k b c v) (map (key_in w) (if t then e ∷ filter keep rest else filter keep rest)) ≡ ((t && is_key (key_in w e) b c v) || list_any (λ k. is_key k b c v) (map (key_in w) (filter keep rest)))
     step true = refl
     step false = refl
 
@@ -104,32 +84,32 @@ none_two true true = refl
 none_two true false = refl
 none_two false y = refl
 
--- a line is one of the warning's where it is its own, its BSC has a number, and its slot is there
-pub own_have : (w : ℕ) (slots : List WarningSlot) (b : ℕ) (c : Cell) (v : ℕ) → list_any (λ k. is_key k b c v) (own_keys w slots) ≡ (nat_eq w v && (ltb 0 b && has_slot slots b c v))
+-- a line is one of the warning's where it is its own, its BSC has a number, and it is there
+pub own_have : (w : ℕ) (es : List (Slot × Line)) (b : ℕ) (c : Cell) (v : ℕ) → list_any (λ k. is_key k b c v) (own_keys w es) ≡ (nat_eq w v && (ltb 0 b && list_any (λ e. is_slot b c v e.0) es))
 own_have w [] b c v = none_two (nat_eq w v) (ltb 0 b)
-own_have w (s ∷ slots) b c v =
-    any_kept (λ x. nat_eq w x.warning && is_numbered x) w b c v s slots
-    ∙ (λ i. here w s b c v i || own_have w slots b c v i)
-    ∙ apart_or (nat_eq w v) (ltb 0 b) (is_warning_slot b c v s) (has_slot slots b c v)
+own_have w (e ∷ es) b c v =
+    any_kept (λ x. nat_eq w x.0.warning && is_numbered x) w b c v e es
+    ∙ (λ i. here w e.0 b c v i || own_have w es b c v i)
+    ∙ apart_or (nat_eq w v) (ltb 0 b) (is_slot b c v e.0) (list_any (λ x. is_slot b c v x.0) es)
 
-key_after : (w : ℕ) (s t : WarningSlot) → (nat_eq w s.warning && is_numbered s) ≡ true → (nat_eq w t.warning && is_numbered t) ≡ true → warning_slot_cmp s t ≡ Less → key_before (key_in w s) (key_in w t) ≡ true
+key_after : (w : ℕ) (s t : Slot) → (nat_eq w s.warning && ltb 0 s.bsc) ≡ true → (nat_eq w t.warning && ltb 0 t.bsc) ≡ true → warning_slot_cmp s t ≡ Less → (ltb s.bsc t.bsc || (nat_eq s.bsc t.bsc && cell_lt s.cell t.cell)) ≡ true
 key_after w s t h g l = grind (arith, nat_tests, common_steps)
 
-all_after : (w : ℕ) (s : WarningSlot) → (nat_eq w s.warning && is_numbered s) ≡ true → (slots : List WarningSlot) → AllByRecursion (λ t. warning_slot_cmp s t ≡ Less) slots → list_all (key_before (key_in w s)) (own_keys w slots) ≡ true
-all_after w s h [] l = refl
-all_after w s h (t ∷ slots) l = step (nat_eq w t.warning && is_numbered t) refl (all_after w s h slots l.1)
+all_after : (w : ℕ) (e : Slot × Line) → (nat_eq w e.0.warning && is_numbered e) ≡ true → (es : List (Slot × Line)) → AllByRecursion (λ t. warning_slot_cmp e.0 t ≡ Less) (keys_of es) → list_all (key_before (key_in w e)) (own_keys w es) ≡ true
+all_after w e h [] l = refl
+all_after w e h (f ∷ es) l = step (nat_eq w f.0.warning && is_numbered f) refl (all_after w e h es l.1)
   where
-    step : (k : Bool) → (nat_eq w t.warning && is_numbered t) ≡ k → list_all (key_before (key_in w s)) (own_keys w slots) ≡ true → list_all (key_before (key_in w s)) (map (key_in w) (if k then t ∷ filter (λ x. nat_eq w x.warning && is_numbered x) slots else filter (λ x. nat_eq w x.warning && is_numbered x) slots)) ≡ true
-    step true g rest = and_from (key_before (key_in w s) (key_in w t)) (list_all (key_before (key_in w s)) (own_keys w slots)) (key_after w s t h g l.0) rest
+    step : (k : Bool) → (nat_eq w f.0.warning && is_numbered f) ≡ k → list_all (key_before (key_in w e)) (own_keys w es) ≡ true → list_all (key_before (key_in w e)) (map (key_in w) (if k then f ∷ filter (λ x. nat_eq w x.0.warning && is_numbered x) es else filter (λ x. nat_eq w x.0.warning && is_numbered x) es)) ≡ true
+    step true g rest = and_from (key_before (key_in w e) (key_in w f)) (list_all (key_before (key_in w e)) (own_keys w es)) (key_after w e.0 f.0 h g l.0) rest
     step false g rest = rest
 
 -- they ascend
-pub own_ascend : (w : ℕ) (slots : List WarningSlot) → IsStrictlySortedBy warning_slot_cmp slots → is_ascending key_before (own_keys w slots) ≡ true
+pub own_ascend : (w : ℕ) (es : List (Slot × Line)) → IsStrictlySortedBy warning_slot_cmp (keys_of es) → is_ascending key_before (own_keys w es) ≡ true
 own_ascend w [] o = refl
-own_ascend w (s ∷ slots) o = step (nat_eq w s.warning && is_numbered s) refl (own_ascend w slots (sorted_tail warning_slot_cmp s slots o))
+own_ascend w (e ∷ es) o = step (nat_eq w e.0.warning && is_numbered e) refl (own_ascend w es (sorted_tail warning_slot_cmp e.0 (keys_of es) o))
   where
-    step : (k : Bool) → (nat_eq w s.warning && is_numbered s) ≡ k → is_ascending key_before (own_keys w slots) ≡ true → is_ascending key_before (map (key_in w) (if k then s ∷ filter (λ x. nat_eq w x.warning && is_numbered x) slots else filter (λ x. nat_eq w x.warning && is_numbered x) slots)) ≡ true
-    step true g rest = and_from (list_all (key_before (key_in w s)) (own_keys w slots)) (is_ascending key_before (own_keys w slots)) (all_after w s g slots (sorted_head warning_slot_cmp s slots o)) rest
+    step : (k : Bool) → (nat_eq w e.0.warning && is_numbered e) ≡ k → is_ascending key_before (own_keys w es) ≡ true → is_ascending key_before (map (key_in w) (if k then e ∷ filter (λ x. nat_eq w x.0.warning && is_numbered x) es else filter (λ x. nat_eq w x.0.warning && is_numbered x) es)) ≡ true
+    step true g rest = and_from (list_all (key_before (key_in w e)) (own_keys w es)) (is_ascending key_before (own_keys w es)) (all_after w e g es (sorted_head warning_slot_cmp e.0 (keys_of es) o)) rest
     step false g rest = rest
 
 -- where none is to come, those found are all

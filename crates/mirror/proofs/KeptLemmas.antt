@@ -10,32 +10,32 @@ use Rattle.std.specs.Ordering.{match_ordering}
 use Rattle.std.specs.declared.cmp.Ordering.{Ordering}
 use Rattle.common.specs.Cell.{cell_eq}
 use Rattle.common.specs.declared.cell.Cell.{Cell}
-use Rattle.mirror.proofs.KeyLemmas.{at_slot, at_place}
+use Rattle.mirror.proofs.KeyLemmas.{at_warning_slot, at_place}
 use Rattle.mirror.specs.Blank.{is_blank}
 use Rattle.mirror.specs.BlankLaws.{blank_decides}
 use Rattle.mirror.specs.Line.{blank_line}
-use Rattle.mirror.specs.Order.{Place, Slot, slot_cmp, place_cmp, slot_of, place_of}
+use Rattle.mirror.specs.Order.{Place, Slot, warning_slot_cmp, place_cmp, slot_of, place_of}
 use Rattle.mirror.specs.Table.{is_slot, is_slot_in, is_that_place}
 use Rattle.mirror.specs.declared.line.Line.{Line}
 
 -- what is looked up by the order of slots is looked up by their numbers
-pub found_at : (b : ℕ) (c : Cell) (w : ℕ) (es : List (Slot × Line)) → lookup (is_at (slot_cmp (slot_of b c w))) es ≡ lookup (is_slot b c w) es
-found_at b c w es = ap (λ (test : Slot → Bool). lookup test es) (λ i s. at_slot b c w s i)
+pub found_at : (b : ℕ) (c : Cell) (w : ℕ) (es : List (Slot × Line)) → lookup (is_at (warning_slot_cmp (slot_of b c w))) es ≡ lookup (is_slot b c w) es
+found_at b c w es = ap (λ (test : Slot → Bool). lookup test es) (λ i s. at_warning_slot b c w s i)
 
 -- and a place likewise
 pub down_place : (b : ℕ) (c : Cell) (ps : List Place) → list_any (is_at (place_cmp (place_of b c))) ps ≡ list_any (is_that_place b c) ps
 down_place b c ps = ap (λ (test : Place → Bool). list_any test ps) (λ i p. at_place b c p i)
 
 -- of a table in which one line is set, each line is that one or as it was
-pub lines_set : (k : ℕ) (d : Cell) (v : ℕ) (line : Option Line) (es fs : List (Slot × Line)) → ((q : Slot) → lookup (is_at (slot_cmp q)) fs ≡ cond (is_at (slot_cmp (slot_of k d v)) q) line (lookup (is_at (slot_cmp q)) es)) → (b : ℕ) (c : Cell) (w : ℕ) → unwrap_or (lookup (is_slot b c w) fs) blank_line ≡ (if nat_eq k b && (cell_eq d c && nat_eq v w) then unwrap_or line blank_line else unwrap_or (lookup (is_slot b c w) es) blank_line)
+pub lines_set : (k : ℕ) (d : Cell) (v : ℕ) (line : Option Line) (es fs : List (Slot × Line)) → ((q : Slot) → lookup (is_at (warning_slot_cmp q)) fs ≡ cond (is_at (warning_slot_cmp (slot_of k d v)) q) line (lookup (is_at (warning_slot_cmp q)) es)) → (b : ℕ) (c : Cell) (w : ℕ) → unwrap_or (lookup (is_slot b c w) fs) blank_line ≡ (if nat_eq k b && (cell_eq d c && nat_eq v w) then unwrap_or line blank_line else unwrap_or (lookup (is_slot b c w) es) blank_line)
 lines_set k d v line es fs set b c w =
-    ap (λ o. unwrap_or o blank_line) (sym (found_at b c w fs) ∙ set (slot_of b c w)) ∙ by (is_at (slot_cmp (slot_of k d v)) (slot_of b c w)) (at_slot k d v (slot_of b c w))
+    ap (λ o. unwrap_or o blank_line) (sym (found_at b c w fs) ∙ set (slot_of b c w)) ∙ by (is_at (warning_slot_cmp (slot_of k d v)) (slot_of b c w)) (at_warning_slot k d v (slot_of b c w))
   where
-    each : (t : Bool) → unwrap_or (cond t line (lookup (is_at (slot_cmp (slot_of b c w))) es)) blank_line ≡ (if t then unwrap_or line blank_line else unwrap_or (lookup (is_slot b c w) es) blank_line)
+    each : (t : Bool) → unwrap_or (cond t line (lookup (is_at (warning_slot_cmp (slot_of b c w))) es)) blank_line ≡ (if t then unwrap_or line blank_line else unwrap_or (lookup (is_slot b c w) es) blank_line)
     each true = refl
     each false = ap (λ o. unwrap_or o blank_line) (found_at b c w es)
 
-    by : (t : Bool) → t ≡ (nat_eq k b && (cell_eq d c && nat_eq v w)) → unwrap_or (cond t line (lookup (is_at (slot_cmp (slot_of b c w))) es)) blank_line ≡ (if nat_eq k b && (cell_eq d c && nat_eq v w) then unwrap_or line blank_line else unwrap_or (lookup (is_slot b c w) es) blank_line)
+    by : (t : Bool) → t ≡ (nat_eq k b && (cell_eq d c && nat_eq v w)) → unwrap_or (cond t line (lookup (is_at (warning_slot_cmp (slot_of b c w))) es)) blank_line ≡ (if nat_eq k b && (cell_eq d c && nat_eq v w) then unwrap_or line blank_line else unwrap_or (lookup (is_slot b c w) es) blank_line)
     by t e = each t ∙ ap (λ u. if u then unwrap_or line blank_line else unwrap_or (lookup (is_slot b c w) es) blank_line) e
 
 -- of the cells that are down, one set, each other is as it was
@@ -68,7 +68,7 @@ all_remove_entry {K} {X} at test (e ∷ es) g = step (at e.0) (all_remove_entry 
     step true rest = parts.1
     step false rest = and_from (test e.1) (list_all (λ x. test x.1) (remove_entry at es)) parts.0 rest
 
-other_place : (x y z : Bool) → (x && y) ≡ false → (x && (y && z)) ≡ false
+pub other_place : (x y z : Bool) → (x && y) ≡ false → (x && (y && z)) ≡ false
 other_place true true z h = cc
 other_place true false z h = refl
 other_place false y z h = refl

@@ -8,7 +8,7 @@ use Rattle.std.specs.declared.ops.Bound.TheVariants.{Included, Excluded}
 use Rattle.common.specs.Cell.{cell_eq, cell_lt, cell_cmp}
 use Rattle.common.specs.declared.cell.Cell.{Cell}
 use Rattle.mirror.specs.OnAir.{is_slot_for}
-use Rattle.mirror.specs.Order.{Place, Slot, slot_cmp, place_cmp, slot_of, least_slot, place_of, least_place}
+use Rattle.mirror.specs.Order.{Place, Slot, slot_cmp, warning_slot_cmp, place_cmp, slot_of, least_slot, place_of, least_place}
 use Rattle.mirror.specs.Table.{is_slot, is_that_place}
 
 pub at_cell : (c d : Cell) → is_at (cell_cmp c) d ≡ cell_eq c d
@@ -16,6 +16,9 @@ at_cell c d = grind (arith, nat_tests, common_steps)
 
 pub at_slot : (b : ℕ) (c : Cell) (w : ℕ) (s : Slot) → is_at (slot_cmp (slot_of b c w)) s ≡ is_slot b c w s
 at_slot b c w s = grind (arith, nat_tests, common_steps)
+
+pub at_warning_slot : (b : ℕ) (c : Cell) (w : ℕ) (s : Slot) → is_at (warning_slot_cmp (slot_of b c w)) s ≡ is_slot b c w s
+at_warning_slot b c w s = grind (arith, nat_tests, common_steps)
 
 pub at_place : (b : ℕ) (c : Cell) (p : Place) → is_at (place_cmp (place_of b c)) p ≡ is_that_place b c p
 at_place b c p = grind (arith, nat_tests, common_steps)
@@ -31,12 +34,15 @@ pub before_cell : (c d : Cell) → cell_cmp c d ≡ Less → cell_lt c d ≡ tru
 before_cell c d h = grind (arith, nat_tests, common_steps)
 
 -- of two slots of one BSC and one warning, the one that comes first is of the cell that comes first
-pub before_cell_of : (b w : ℕ) (s t : Slot) → is_slot_for b w s ≡ true → is_slot_for b w t ≡ true → slot_cmp s t ≡ Less → cell_lt s.cell t.cell ≡ true
+pub before_cell_of : (b w : ℕ) (s t : Slot) → is_slot_for b w s ≡ true → is_slot_for b w t ≡ true → warning_slot_cmp s t ≡ Less → cell_lt s.cell t.cell ≡ true
 before_cell_of b w s t h g l = grind (arith, nat_tests, common_steps)
 
 -- what comes after a slot is another slot
-pub other_slot : (b : ℕ) (c : Cell) (w : ℕ) (s t : Slot) → is_slot b c w s ≡ true → slot_cmp s t ≡ Less → is_slot b c w t ≡ false
+pub other_slot : (b : ℕ) (c : Cell) (w : ℕ) (s t : Slot) → is_slot b c w s ≡ true → warning_slot_cmp s t ≡ Less → is_slot b c w t ≡ false
 other_slot b c w s t h l = grind (arith, nat_tests, common_steps)
+
+pub other_index_slot : (b : ℕ) (c : Cell) (w : ℕ) (s t : Slot) → is_slot b c w s ≡ true → slot_cmp s t ≡ Less → is_slot b c w t ≡ false
+other_index_slot b c w s t h l = grind (arith, nat_tests, common_steps)
 
 -- no cell comes before itself
 pub not_before_itself : (c : Cell) → cell_lt c c ≡ false

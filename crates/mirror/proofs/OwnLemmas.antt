@@ -1,4 +1,4 @@
--- Cells that identifications with a cell of their own name, and the first line of a cell.
+-- Cells that identifications with a cell of their own name, and the first slot of a cell.
 use Rattle.std.proofs.Common.{◌≡◌, ℕ, ◌+◌, Bool, true, false, cond, ◌&&◌, ◌||◌, List, [], ◌∷◌, filter, Some, if◌then◌else◌, refl, sym, ◌∙◌, ap, arith, Less}
 use Rattle.std.proofs.lemmas.Bool.Decides.{nat_tests}
 use Rattle.std.proofs.lemmas.Grind.{common_steps}
@@ -20,7 +20,6 @@ use Rattle.mirror.proofs.GatherLemmas.{one_more}
 use Rattle.mirror.specs.Known.{is_named, own_cell}
 use Rattle.mirror.specs.Order.{Slot, slot_cmp, slot_of, least_slot}
 use Rattle.mirror.specs.Table.{is_slot_in}
-use Rattle.mirror.specs.declared.line.Line.{Line}
 
 -- an identification with a cell of its own names no other cell
 pub names_own : (plmn : List ℕ) (i : CellId) (x : Cell) → own_cell i ≡ Some x → (d : Cell) → names plmn i d ≡ (names plmn i x && cell_eq x d)
@@ -54,8 +53,8 @@ own_next plmn known i x e is d n o h =
         ap (λ k. (known d && is_named plmn is d) || (((names plmn i x && k) && true) || o)) (ap known ((cell_decides x d).0 q)) ∙ arranged (known d) (names plmn i x) (is_named plmn is d) o
     moved false q = apart (known d) (names plmn i x) (known x) (is_named plmn is d) o
 
--- the first of the lines is one of the BSC and the cell
-abbrev pub begins_with : ℕ → Cell → List (Slot × Line) → Bool
+-- the first of the slots is one of the BSC and the cell
+abbrev pub begins_with : ℕ → Cell → List (Slot × Bool) → Bool
 begins_with b c [] = false
 begins_with b c (e ∷ es) = is_slot_in b c e.0
 
@@ -67,12 +66,12 @@ before_first b c s h = grind (arith, nat_tests, common_steps)
 after_last : (b : ℕ) (c : Cell) (s t : Slot) → range_contains slot_cmp (Included (slot_of b c 0)) (Excluded (least_slot (b + 1))) s ≡ true → is_slot_in b c s ≡ false → slot_cmp s t ≡ Less → is_slot_in b c t ≡ false
 after_last b c s t h g l = grind (arith, nat_tests, common_steps)
 
-pub none_after : (b : ℕ) (c : Cell) (s : Slot) → range_contains slot_cmp (Included (slot_of b c 0)) (Excluded (least_slot (b + 1))) s ≡ true → is_slot_in b c s ≡ false → (es : List (Slot × Line)) → AllByRecursion (λ t. slot_cmp s t ≡ Less) (keys_of es) → false ≡ list_any (λ e. is_slot_in b c e.0) es
+pub none_after : (b : ℕ) (c : Cell) (s : Slot) → range_contains slot_cmp (Included (slot_of b c 0)) (Excluded (least_slot (b + 1))) s ≡ true → is_slot_in b c s ≡ false → (es : List (Slot × Bool)) → AllByRecursion (λ t. slot_cmp s t ≡ Less) (keys_of es) → false ≡ list_any (λ e. is_slot_in b c e.0) es
 none_after b c s h g [] l = refl
 none_after b c s h g (e ∷ es) l = none_after b c s h g es l.1 ∙ ap (λ t. t || list_any (λ x. is_slot_in b c x.0) es) (sym (after_last b c s e.0 h g l.0))
 
--- a line of the BSC and the cell is kept just where the first from where theirs begin is one of theirs
-pub first_tells : (b : ℕ) (c : Cell) (es : List (Slot × Line)) → IsStrictlySortedBy slot_cmp (keys_of es) → begins_with b c (filter (λ e. range_contains slot_cmp (Included (slot_of b c 0)) (Excluded (least_slot (b + 1))) e.0) es) ≡ list_any (λ e. is_slot_in b c e.0) es
+-- a slot of the BSC and the cell is there just where the first from where theirs begin is one of theirs
+pub first_tells : (b : ℕ) (c : Cell) (es : List (Slot × Bool)) → IsStrictlySortedBy slot_cmp (keys_of es) → begins_with b c (filter (λ e. range_contains slot_cmp (Included (slot_of b c 0)) (Excluded (least_slot (b + 1))) e.0) es) ≡ list_any (λ e. is_slot_in b c e.0) es
 first_tells b c [] o = refl
 first_tells b c (e ∷ es) o =
     step (range_contains slot_cmp (Included (slot_of b c 0)) (Excluded (least_slot (b + 1))) e.0) refl (first_tells b c es (sorted_tail slot_cmp e.0 (keys_of es) o))

@@ -2,6 +2,9 @@ pub mod Line
 pub mod Seen
 pub mod Blank
 pub mod BlankLaws
+pub mod Packed
+pub mod Held
+pub mod HeldLaws
 pub mod Order
 pub mod PartsLaws
 pub mod OrderLaws

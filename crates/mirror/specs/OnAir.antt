@@ -5,13 +5,11 @@ use Rattle.std.specs.List.{list_any, take_while}
 use Rattle.common.specs.Cell.{cell_eq, cell_lt}
 use Rattle.common.specs.Order.{is_ascending}
 use Rattle.common.specs.declared.cell.Cell.{Cell}
-use Rattle.mirror.specs.Index.{line_in}
 use Rattle.mirror.specs.Order.{Slot}
 use Rattle.mirror.specs.Line.{state_of}
 use Rattle.mirror.specs.Seen.{is_on_air}
 use Rattle.mirror.specs.Table.{Table, line_at}
 use Rattle.mirror.specs.declared.line.Line.{Line}
-use Rattle.mirror.specs.declared.warning_slot.WarningSlot.{WarningSlot}
 
 -- the cell comes after the given one, or none is given
 abbrev pub is_after : Option Cell → Cell → Bool
@@ -36,18 +34,14 @@ is_slot_for b w s = nat_eq b s.bsc && nat_eq w s.warning
 abbrev pub line_count : Table → ℕ → ℕ → ℕ
 line_count t b w = length (filter (λ e. is_slot_for b w e.0) t.lines)
 
--- the slot of the index is one of the BSC and the warning, whatever its cell
-abbrev pub is_warning_slot_for : ℕ → ℕ → WarningSlot → Bool
-is_warning_slot_for b w s = nat_eq b s.bsc && nat_eq w s.warning
+-- the first of the lines, as long as they are of the BSC and the warning
+abbrev pub lines_for : ℕ → ℕ → List (Slot × Line) → List (Slot × Line)
+lines_for b w es = take_while (λ e. is_slot_for b w e.0) es
 
--- the first of the slots, as long as they are of the BSC and the warning
-abbrev pub slots_for : ℕ → ℕ → List WarningSlot → List WarningSlot
-slots_for b w slots = take_while (is_warning_slot_for b w) slots
+-- by the line, the version of that serial number is on air
+abbrev pub is_on_air_in : ℕ → Line → Bool
+is_on_air_in s line = is_on_air (state_of line s).presence
 
--- by the line that is kept, the version of that serial number of the warning is on air in the cell at the BSC
-abbrev pub is_on_air_in : List (Slot × Line) → ℕ → ℕ → ℕ → Cell → Bool
-is_on_air_in es b w s c = is_on_air (state_of (line_in es b c w) s).presence
-
--- the cells of those of the slots in which it is on air
-abbrev pub on_air_cells : List (Slot × Line) → ℕ → ℕ → ℕ → List WarningSlot → List Cell
-on_air_cells es b w s slots = map (λ t. t.cell) (filter (λ t. is_on_air_in es b w s t.cell) slots)
+-- the cells of those of the lines in which it is on air
+abbrev pub on_air_cells : ℕ → List (Slot × Line) → List Cell
+on_air_cells s es = map (λ e. e.0.cell) (filter (λ e. is_on_air_in s e.1) es)

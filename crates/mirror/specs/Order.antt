@@ -1,4 +1,4 @@
--- The order in which a table keeps its lines and the cells that are down: by BSC, then by cell, then by warning.
+-- The orders in which a table keeps its lines and the cells that are down.
 use Rattle.std.specs.Prelude.{ℕ, ◌/◌, ◌%◌, ◌^◌}
 use Rattle.std.specs.Ordering.{ordering_then, nat_cmp}
 use Rattle.std.specs.declared.cmp.Ordering.{Ordering}
@@ -20,6 +20,10 @@ pub record Slot : Type 0 where
 abbrev pub slot_cmp : Slot → Slot → Ordering
 slot_cmp x y = ordering_then (nat_cmp x.bsc y.bsc) (ordering_then (cell_cmp x.cell y.cell) (nat_cmp x.warning y.warning))
 
+-- lines by warning, then by BSC, then by cell
+abbrev pub warning_slot_cmp : Slot → Slot → Ordering
+warning_slot_cmp x y = ordering_then (nat_cmp x.warning y.warning) (ordering_then (nat_cmp x.bsc y.bsc) (cell_cmp x.cell y.cell))
+
 -- cells that are down by BSC, then by cell
 abbrev pub place_cmp : Place → Place → Ordering
 place_cmp x y = ordering_then (nat_cmp x.bsc y.bsc) (cell_cmp x.cell y.cell)
@@ -31,6 +35,15 @@ slot_of b c w = record { bsc = b; cell = c; warning = w }
 -- the first slot that a BSC can have
 abbrev pub least_slot : ℕ → Slot
 least_slot b = record { bsc = b; cell = record { lac = 0; ci = 0 }; warning = 0 }
+
+-- no slot of the warning comes before it
+abbrev pub first_of : ℕ → Slot
+first_of w = slot_of 0 (record { lac = 0; ci = 0 }) w
+
+-- the slot that stands in two numbers: in the one the warning highest, then the BSC; in the other the location area, then
+-- the cell identity
+abbrev pub slot_in : ℕ → ℕ → Slot
+slot_in m n = record { bsc = m % 2 ^ 16; cell = record { lac = n / 2 ^ 16; ci = n % 2 ^ 16 }; warning = m / 2 ^ 16 }
 
 -- the place of a BSC and a cell
 abbrev pub place_of : ℕ → Cell → Place

@@ -35,11 +35,4 @@ impl KeyState {
     {
         self.presence == other.presence && self.hold == other.hold && self.count == other.count
     }
-
-    /// Whether it is as each key begins.
-    pub(crate) fn is_blank(&self) -> bool
-        ensures { result ≡ state_eq self.now blank }
-    {
-        self.presence == Presence::Absent && self.hold.is_none() && self.count == 0
-    }
 }

@@ -1,28 +1,27 @@
-//! Whether one cell is known at a BSC, of which warnings something is kept in it, and that nothing is kept of one any more.
+//! Whether one cell is known at a BSC, of which warnings a line is kept in it, and how a line is put in and taken out.
 
-ghost use Rattle.std.specs.Prelude.{◌≡◌, filter, map, IfOk};
-ghost use Rattle.std.specs.BTreeMap.{IsOrdered, is_at};
+ghost use Rattle.std.specs.Prelude.{◌≡◌, ◌||◌, ◌++◌, None, not, IfOk, OnErr, OnOk};
+ghost use Rattle.std.specs.BTreeMap.{IsOrdered, insert_entry, is_at};
 ghost use Rattle.std.specs.List.{list_any};
 ghost use Rattle.std.specs.Map.{lookup, remove_entry};
-ghost use Rattle.std.specs.Option.{is_some};
+ghost use Rattle.std.specs.Option.{is_some, option_map};
 ghost use Rattle.cell_register.specs.Register.{place_in, is_place};
-ghost use Rattle.mirror.specs.Index.{IsSet};
+ghost use Rattle.mirror.specs.Held.{is_held_line};
+ghost use Rattle.mirror.specs.Index.{IsSet, kept_warnings};
 ghost use Rattle.mirror.specs.Line.{blank_line};
-ghost use Rattle.mirror.specs.Order.{slot_cmp, slot_of};
+ghost use Rattle.mirror.specs.Order.{slot_cmp, slot_of, warning_slot_cmp};
 ghost use Rattle.mirror.specs.Table.{is_slot, is_slot_in};
 
 use crate::line::Line;
 use crate::line_key::LineKey;
 use crate::slot::Slot;
+use crate::warning_slot::WarningSlot;
 use cell_register::{BscId, Register};
 use common::Cell;
-use std::alloc::{AllocError, Global};
+use std::alloc::AllocError;
 use std::collections::BTreeMap;
 use std::ops::Bound;
 use warning_book::WarningId;
-
-/// Room for as many warnings as most cells have.
-const FEW: usize = 16;
 
 /// Whether the cell is registered at the BSC.
 pub(crate) fn is_registered(register: &Register, b: BscId, c: Cell) -> bool
@@ -34,12 +33,12 @@ pub(crate) fn is_registered(register: &Register, b: BscId, c: Cell) -> bool
     }
 }
 
-/// Whether a line of the BSC and the cell is kept: the first from where theirs begin is one of theirs.
-pub(crate) fn has_line(lines: &BTreeMap<Slot, Line>, b: BscId, c: Cell) -> bool
-    ensures { result ≡ list_any (λ e. is_slot_in b c e.0) lines.now.entries }
+/// Whether one of the slots is of the BSC and the cell: the first from where theirs begin is one of theirs.
+pub(crate) fn has_line(slots: &BTreeMap<Slot, bool>, b: BscId, c: Cell) -> bool
+    ensures { result ≡ list_any (λ e. is_slot_in b c e.0) slots.now.entries }
 {
     let bsc = u32::from(b.number());
-    let mut later = lines.range((
+    let mut later = slots.range((
         Bound::Included(Slot::first_of(b, c)),
         Bound::Excluded(Slot::least(bsc + 1)),
     ));
@@ -49,34 +48,56 @@ pub(crate) fn has_line(lines: &BTreeMap<Slot, Line>, b: BscId, c: Cell) -> bool
     }
 }
 
-/// The numbers of the warnings of which a line of the BSC and the cell is kept, in ascending order. The lines of the cell
-/// stand side by side; no line of another cell but the next is looked at.
-pub(crate) fn warnings_at(
-    alloc: Global,
-    lines: &BTreeMap<Slot, Line>,
+/// Appends the numbers of the warnings of those slots that are of the BSC and the cell, in ascending order, or only of those
+/// whose line is held. The slots of the cell stand side by side; no slot of another cell but the next is looked at.
+pub(crate) fn add_warnings(
+    slots: &BTreeMap<Slot, bool>,
     b: BscId,
     c: Cell,
-) -> Result<Vec<WarningId>, AllocError>
-    ensures warnings { IfOk result (λ ws. ws.items ≡ map (λ e. e.0.warning) (filter (λ e. is_slot_in b c e.0) lines.now.entries)) }
-    ensures ordered { IsOrdered slot_cmp lines.now }
+    only_held: bool,
+    warnings: &mut Vec<WarningId>,
+) -> Result<(), AllocError>
+    ensures warnings { OnOk result (warnings.new.items ≡ warnings.old.items ++ kept_warnings b c (λ h. not only_held || h) slots.now.entries) }
+    ensures ordered { IsOrdered slot_cmp slots.now }
 {
     let bsc = u32::from(b.number());
-    let later = lines.range(Slot::first_of(b, c)..Slot::least(bsc + 1));
-    let mut warnings = Vec::with_capacity(alloc, FEW)?;
-    for (slot, _) in later {
+    let later = slots.range(Slot::first_of(b, c)..Slot::least(bsc + 1));
+    for (slot, is_held) in later {
         if !slot.is_in(b, c) {
-            return Ok(warnings);
+            return Ok(());
+        }
+        if only_held && !*is_held {
+            continue;
         }
         warnings.push(WarningId::new(slot.warning()))?;
     }
-    Ok(warnings)
+    Ok(())
+}
+
+/// Puts the line in. The result says whether one was kept, and whether that one was held. Where memory runs out nothing
+/// changes. Memory is taken only where none was kept.
+pub(crate) fn put_line(
+    lines: &mut BTreeMap<WarningSlot, Line>,
+    key: LineKey,
+    line: Line,
+) -> Result<Option<bool>, AllocError>
+    ensures old { IfOk result (λ old. old ≡ option_map is_held_line (lookup (is_slot key.bsc key.cell key.warning) lines.old.entries)) }
+    ensures set { OnOk result (IsSet key line lines.old.entries lines.new.entries) }
+    ensures entries { OnOk result (lines.new.entries ≡ insert_entry warning_slot_cmp lines.old.entries (slot_of key.bsc key.cell key.warning) line) }
+    ensures unchanged { OnErr result (lines.new.entries ≡ lines.old.entries) }
+    ensures grows { OnErr result (lookup (is_slot key.bsc key.cell key.warning) lines.old.entries ≡ None) }
+{
+    match lines.insert(WarningSlot::of(key), line)? {
+        Some(old) => Ok(Some(old.is_held())),
+        None => Ok(None),
+    }
 }
 
 /// Takes the line out. The result says whether it was kept.
-pub(crate) fn take_line(lines: &mut BTreeMap<Slot, Line>, key: LineKey) -> bool
+pub(crate) fn take_line(lines: &mut BTreeMap<WarningSlot, Line>, key: LineKey) -> bool
     ensures kept { result ≡ is_some (lookup (is_slot key.bsc key.cell key.warning) lines.old.entries) }
     ensures set { IsSet key blank_line lines.old.entries lines.new.entries }
-    ensures entries { lines.new.entries ≡ remove_entry (is_at (slot_cmp (slot_of key.bsc key.cell key.warning))) lines.old.entries }
+    ensures entries { lines.new.entries ≡ remove_entry (is_at (warning_slot_cmp (slot_of key.bsc key.cell key.warning))) lines.old.entries }
 {
-    lines.remove(&Slot::of(key)).is_some()
+    lines.remove(&WarningSlot::of(key)).is_some()
 }

@@ -2,11 +2,12 @@
 //! message was broadcast, and which cells are down.
 //!
 //! A line is what is kept of one BSC, cell and warning. Begin with `line_table`; the definitions that contracts cite
-//! are in `specs/`: `Line` and `Seen` for one line, `Table` for all of them, `Index` for the lines of one warning, `Known`
-//! for the cells that a report names, `OnAir` for the cells in which a version is on air, `Downs` for how the cells
-//! that are down are counted.
+//! are in `specs/`: `Line`, `Held`, `Seen` and `Packed` for one line, `Table` for all of them, `Index` for which lines
+//! there are, `Known` for the cells that a report names, `OnAir` for the cells in which a version is on air, `Downs` for
+//! how the cells that are down are counted.
 #![tactic(auto)]
 
+mod cell_index;
 mod downs;
 mod gathering;
 mod key_state;
@@ -16,14 +17,15 @@ mod line_key;
 mod line_table;
 mod naming;
 mod on_air;
+mod packed_state;
 mod place;
 mod presence;
 mod reading;
 mod sight;
 mod slot;
 mod version_at;
+mod warning_lines;
 mod warning_slot;
-mod warning_slots;
 
 pub use key_state::KeyState;
 pub use line::Line;

@@ -1,11 +1,12 @@
 //! The lines of all BSCs, cells and warnings, and which cells are down.
 
-ghost use Rattle.std.specs.Prelude.{◌≡◌, ◌≤◌, ◌<◌, ◌+◌, ◌-◌, ◌^◌, ◌&&◌, ◌||◌, ℕ, true, false, not, if◌then◌else◌, nat_eq, ltb, List, length, take, OnOk, OnErr, IfOk};
+ghost use Rattle.std.specs.Prelude.{◌≡◌, ◌≤◌, ◌<◌, ◌+◌, ◌-◌, ◌^◌, ◌&&◌, ◌||◌, ℕ, true, false, not, filter, if◌then◌else◌, nat_eq, ltb, List, length, take, OnOk, OnErr, IfOk};
 ghost use Rattle.std.specs.List.{list_any};
 ghost use Rattle.common.specs.Cell.{cell_eq, cell_lt};
 ghost use Rattle.common.specs.Order.{is_ascending};
 ghost use Rattle.common.specs.declared.cell.Cell.{Cell};
 ghost use Rattle.mirror.specs.Blank.{is_blank};
+ghost use Rattle.mirror.specs.Held.{is_held_line};
 ghost use Rattle.mirror.specs.Index.{key_before};
 ghost use Rattle.mirror.specs.Line.{blank_line};
 ghost use Rattle.mirror.specs.Table.{line_at, has_line, down_at, counted, is_key};
@@ -13,17 +14,18 @@ ghost use Rattle.mirror.specs.Known.{are_of_cells, is_known, is_named, warnings_
 ghost use Rattle.mirror.specs.OnAir.{AreOnAir, line_count};
 ghost use Rattle.mirror.specs.declared.line_key.LineKey.{LineKey};
 
+use crate::cell_index::CellIndex;
 use crate::downs::Downs;
 use crate::gathering::{add_downs, add_line_cells, cells_in_order, put_in_order};
-use crate::known::{has_line, is_registered, take_line, warnings_at};
+use crate::known::{add_warnings, has_line, is_registered, put_line, take_line};
 use crate::line::Line;
 use crate::line_key::LineKey;
 use crate::naming::{are_of_cells, named, own_cell};
 use crate::on_air::first_on_air;
 use crate::reading::line_of;
-use crate::slot::Slot;
 use crate::version_at::VersionAt;
-use crate::warning_slots::WarningSlots;
+use crate::warning_lines::{keys_of, later};
+use crate::warning_slot::WarningSlot;
 use cbsp_ie::CellId;
 use cell_register::{BscId, Register};
 use common::{Cell, Cells};
@@ -33,14 +35,18 @@ use std::collections::{BTreeMap, BTreeSet};
 use std::marker::Model;
 use warning_book::WarningId;
 
+/// Room for as many warnings as most cells have.
+const FEW: usize = 16;
+
 /// A line for each BSC, cell and warning, and whether each cell is down at each BSC. Lines are read and set by
 /// `read_line`, `cells_on_air` and `set_line` alone, and each line that is read or set is counted.
 #[derive(Drop)]
 pub struct LineTable {
     alloc: Global,
-    lines: BTreeMap<Slot, Line>,
     /// The lines that aren't blank, by warning.
-    index: WarningSlots,
+    lines: BTreeMap<WarningSlot, Line>,
+    /// The same lines, by BSC and cell, and whether each is held.
+    index: CellIndex,
     downs: Downs,
     meter: u64,
 }
@@ -66,7 +72,7 @@ impl LineTable {
         LineTable {
             alloc,
             lines: BTreeMap::new(alloc),
-            index: WarningSlots::new(alloc),
+            index: CellIndex::new(alloc),
             downs: Downs::new(alloc),
             meter: 0,
         }
@@ -156,15 +162,15 @@ impl LineTable {
         ensures downs { self.new.downs ≡ self.old.downs }
         ensures meter { self.new.meter ≡ self.old.meter }
     {
-        let slot = Slot::of(key);
-        if self.lines.insert(slot, line)?.is_some() {
+        let is_held = line.is_held();
+        if put_line(&mut self.lines, key, line)? == Some(is_held) {
             return Ok(());
         }
-        match self.index.insert(key) {
+        match self.index.insert(key, is_held) {
             Ok(()) => Ok(()),
             Err(e) => {
-                let same = Slot::of(key);
-                self.lines.remove(&same);
+                // Memory runs out only for a line that the index didn't have, so none was kept before.
+                let _ = take_line(&mut self.lines, key);
                 Err(e)
             }
         }
@@ -177,7 +183,7 @@ impl LineTable {
         ensures order { IfOk result (λ keys. is_ascending key_before keys.items ≡ true) }
         ensures few { IfOk result (λ keys. (ks : List LineKey) → ((b : ℕ) (c : Cell) → is_blank (line_at self.now b c w) ≡ false → list_any (λ k. is_key k b c w) ks ≡ true) → length keys.items ≤ length ks) }
     {
-        let keys = self.index.keys_of(self.alloc, w)?;
+        let keys = keys_of(self.alloc, &self.lines, w)?;
         Ok(keys)
     }
 
@@ -200,20 +206,13 @@ impl LineTable {
         ensures least { self.old.meter ≤ self.new.meter }
         ensures counted { IfOk result (λ cells. self.new.meter < 2 ^ 64 - 1 → self.old.meter + length cells ≤ self.new.meter) }
     {
-        let slots = self.index.later(b, w, after);
+        let lines = later(&self.lines, b, w, after);
         let version = VersionAt {
             bsc: b,
             warning: w,
             serial,
         };
-        let cells = first_on_air(
-            self.alloc,
-            slots,
-            &self.lines,
-            &version,
-            most,
-            &mut self.meter,
-        )?;
+        let cells = first_on_air(self.alloc, lines, &version, most, &mut self.meter)?;
         Ok(cells)
     }
 
@@ -233,7 +232,25 @@ impl LineTable {
         ensures which { IfOk result (λ ws. (w : ℕ) → list_any (nat_eq w) ws.items ≡ not (is_blank (line_at self.now b c w))) }
         ensures few { IfOk result (λ ws. (ns : List ℕ) → ((w : ℕ) → is_blank (line_at self.now b c w) ≡ false → list_any (nat_eq w) ns ≡ true) → length ws.items ≤ length ns) }
     {
-        let warnings = warnings_at(self.alloc, &self.lines, b, c)?;
+        // A lemma: `len` also ensures that the lines are in order.
+        let _ = self.lines.len();
+        let mut warnings = Vec::with_capacity(self.alloc, FEW)?;
+        add_warnings(self.index.slots(), b, c, false, &mut warnings)?;
+        Ok(warnings)
+    }
+
+    /// The numbers of the warnings whose line in the cell at the BSC is held, in ascending order: a version of it has a hold.
+    /// No line is read and none is counted.
+    pub fn held_at(&self, b: BscId, c: Cell) -> Result<Vec<WarningId>, AllocError>
+        ensures held { IfOk result (λ ws. ws.items ≡ filter (λ w. is_held_line (line_at self.now b c w)) (warnings_at self.now b c)) }
+        ensures order { IfOk result (λ ws. is_ascending ltb ws.items ≡ true) }
+        ensures which { IfOk result (λ ws. (w : ℕ) → list_any (nat_eq w) ws.items ≡ is_held_line (line_at self.now b c w)) }
+        ensures few { IfOk result (λ ws. (ns : List ℕ) → ((w : ℕ) → is_blank (line_at self.now b c w) ≡ false → list_any (nat_eq w) ns ≡ true) → length ws.items ≤ length ns) }
+    {
+        // A lemma: `len` also ensures that the lines are in order.
+        let _ = self.lines.len();
+        let mut warnings = Vec::new(self.alloc);
+        add_warnings(self.index.slots(), b, c, true, &mut warnings)?;
         Ok(warnings)
     }
 
@@ -261,7 +278,7 @@ impl LineTable {
     {
         let mut gathered = register.cells_of(b)?.into_vec();
         add_downs(b, self.downs.places(), &mut gathered)?;
-        add_line_cells(b, &self.lines, &mut gathered)?;
+        add_line_cells(b, self.index.slots(), &mut gathered)?;
         register.tell_soundness();
         put_in_order(&mut gathered)?;
         Ok(Cells::from_vec(gathered))
@@ -324,7 +341,7 @@ impl LineTable {
     fn is_known(&self, register: &Register, b: BscId, c: Cell) -> bool
         ensures { result ≡ is_known self.now register.now b c }
     {
-        is_registered(register, b, c) || self.is_down(b, c) || has_line(&self.lines, b, c)
+        is_registered(register, b, c) || self.is_down(b, c) || has_line(self.index.slots(), b, c)
     }
 
     /// Puts those known cells that the identifications name among those gathered.

@@ -1,6 +1,6 @@
 //! A cell at a BSC.
 
-ghost use Rattle.std.specs.Prelude.{◌≡◌};
+ghost use Rattle.std.specs.Prelude.{◌≡◌, ◌<◌};
 ghost use Rattle.mirror.specs.Order.{place_in, place_of, least_place};
 
 use cell_register::BscId;
@@ -31,7 +31,8 @@ impl Model for Place {
 
 impl Place {
     pub(crate) fn of(b: BscId, c: Cell) -> Place
-        ensures { result ≡ place_of b c }
+        ensures place { result ≡ place_of b c }
+        ensures numbered { 0 < b }
     {
         let bsc = u64::from(b.number()) * NEXT_BSC;
         let area = u64::from(c.lac) * AREA;

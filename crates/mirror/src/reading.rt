@@ -5,14 +5,14 @@ ghost use Rattle.mirror.specs.Index.{line_in};
 
 use crate::line::Line;
 use crate::line_key::LineKey;
-use crate::slot::Slot;
+use crate::warning_slot::WarningSlot;
 use std::collections::BTreeMap;
 
 /// The line of the BSC, the cell and the warning.
-pub(crate) fn line_of(lines: &BTreeMap<Slot, Line>, key: LineKey) -> Line
+pub(crate) fn line_of(lines: &BTreeMap<WarningSlot, Line>, key: LineKey) -> Line
     ensures { result ≡ line_in lines.now.entries key.bsc key.cell key.warning }
 {
-    match lines.get(&Slot::of(key)) {
+    match lines.get(&WarningSlot::of(key)) {
         Some(line) => *line,
         None => Line::blank(),
     }

@@ -1,6 +1,6 @@
-//! Where a line stands among all lines.
+//! Where a line stands among those of its BSC and cell.
 
-ghost use Rattle.std.specs.Prelude.{◌≡◌};
+ghost use Rattle.std.specs.Prelude.{◌≡◌, ◌<◌};
 ghost use Rattle.mirror.specs.Order.{slot_of, least_slot};
 ghost use Rattle.mirror.specs.Table.{is_slot_in};
 
@@ -29,7 +29,8 @@ impl Model for Slot {
 
 impl Slot {
     pub(crate) fn of(key: LineKey) -> Slot
-        ensures { result ≡ slot_of key.bsc key.cell key.warning }
+        ensures slot { result ≡ slot_of key.bsc key.cell key.warning }
+        ensures numbered { 0 < key.bsc }
     {
         Slot {
             place: Place::of(key.bsc, key.cell),

@@ -1,12 +1,12 @@
 use Rattle.std.proofs.Common.{◌≡◌, ◌≤◌, ◌<◌, ◌+◌, ◌-◌, ◌^◌, ◌++◌, length, take}
-use Rattle.mirror.specs.OnAir.{slots_for, on_air_cells}
+use Rattle.mirror.specs.OnAir.{lines_for, on_air_cells}
 use Rattle.mirror.proofs.on_air.first_on_air.Given as goal
 
 -- the cells found and the first of those to come are the first of all, the lines counted and those to come are no more
 -- than all, the cells found were counted, and the meter hasn't fallen
 abbrev pub invariant-loop-slot : goal.invariant-loop-slot
 invariant-loop-slot l =
-    (l.cells.items ++ take (l.most - length l.cells.items) (on_air_cells l.lines.entries l.v.bsc l.v.warning l.v.serial (slots_for l.v.bsc l.v.warning l.slot-iterator)) ≡ take l.most (on_air_cells l.lines.entries l.v.bsc l.v.warning l.v.serial (slots_for l.v.bsc l.v.warning l.fn.slots)))
-    × (l.meter + length (slots_for l.v.bsc l.v.warning l.slot-iterator) ≤ l.initial.meter + length (slots_for l.v.bsc l.v.warning l.fn.slots))
+    (l.cells.items ++ take (l.most - length l.cells.items) (on_air_cells l.v.serial (lines_for l.v.bsc l.v.warning l.slot-iterator)) ≡ take l.most (on_air_cells l.v.serial (lines_for l.v.bsc l.v.warning l.fn.lines)))
+    × (l.meter + length (lines_for l.v.bsc l.v.warning l.slot-iterator) ≤ l.initial.meter + length (lines_for l.v.bsc l.v.warning l.fn.lines))
     × (l.meter < 2 ^ 64 - 1 → l.initial.meter + length l.cells.items ≤ l.meter)
     × (l.initial.meter ≤ l.meter)

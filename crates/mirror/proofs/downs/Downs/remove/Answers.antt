@@ -11,8 +11,8 @@ use Rattle.mirror.proofs.downs.Downs.remove.Goals as goal
 pub overflow_sub-self : goal.overflow_sub-self
 overflow_sub-self c =
     let ps = c.self.inside.places.keys in
-    let taken : c.remove.new.self.keys ≡ remove_key (is_at (place_cmp (place_of c.args.b c.args.c))) ps = rw c.of.ensures at c.remove.ensures.keys in
-    let there : list_any (is_at (place_cmp (place_of c.args.b c.args.c))) ps ≡ true = sym (rw c.of.ensures at c.remove.ensures.test) ∙ c.if-remove.true in
+    let taken : c.remove.new.self.keys ≡ remove_key (is_at (place_cmp (place_of c.args.b c.args.c))) ps = rw c.of.ensures.place at c.remove.ensures.keys in
+    let there : list_any (is_at (place_cmp (place_of c.args.b c.args.c))) ps ≡ true = sym (rw c.of.ensures.place at c.remove.ensures.test) ∙ c.if-remove.true in
     let count : get_or c.self.inside.counts c.octet_of.result 0 ≡ count_at (octet_of c.args.c) ps = c.self.invariant c.octet_of.result c.octet_of.ensures.small ∙ ap (λ n. count_at n ps) c.octet_of.ensures.octet in
     let one : 1 ≤ count_at (octet_of c.args.c) ps = counted_there c.args.b c.args.c ps c.remove.new.self.keys taken there in
     omega (arith, count, one)
@@ -20,11 +20,11 @@ overflow_sub-self c =
 pub invariant_of-self : goal.invariant_of-self
 invariant_of-self c =
     let ps = c.self.inside.places.keys in
-    let taken : c.remove.new.self.keys ≡ remove_key (is_at (place_cmp (place_of c.args.b c.args.c))) ps = rw c.of.ensures at c.remove.ensures.keys in
-    let there : list_any (is_at (place_cmp (place_of c.args.b c.args.c))) ps ≡ true = sym (rw c.of.ensures at c.remove.ensures.test) ∙ c.if-remove.true in
+    let taken : c.remove.new.self.keys ≡ remove_key (is_at (place_cmp (place_of c.args.b c.args.c))) ps = rw c.of.ensures.place at c.remove.ensures.keys in
+    let there : list_any (is_at (place_cmp (place_of c.args.b c.args.c))) ps ≡ true = sym (rw c.of.ensures.place at c.remove.ensures.test) ∙ c.if-remove.true in
     let inside : c.octet_of.result < length c.self.inside.counts = search (rules, c.octet_of.ensures.small) in
     counts_less c.args.b c.args.c c.self.inside.counts ps c.remove.new.self.keys c.octet_of.result c.octet_of.ensures.octet inside c.octet_of.ensures.small c.self.invariant taken there
 
 pub returns-then-remove : goal.returns-then-remove
 returns-then-remove c =
-    rw (← c.self.view_is) (downs_set c.args.b c.args.c false c.self.inside.places.keys c.remove.new.self.keys (rw c.of.ensures at c.remove.ensures.updates.0))
+    rw (← c.self.view_is) (downs_set c.args.b c.args.c false c.self.inside.places.keys c.remove.new.self.keys (rw c.of.ensures.place at c.remove.ensures.updates.0))

@@ -1,13 +1,35 @@
-use Rattle.mirror.proofs.CellLineLemmas.{warnings_ascend, warnings_have, warnings_few}
+use Rattle.std.proofs.Common.{◌≡◌, ◌∙◌, true}
+use Rattle.std.specs.List.Sorted.{IsStrictlySortedBy}
+use Rattle.std.specs.Map.{keys_of}
+use Rattle.mirror.proofs.CellLineLemmas.{same_warnings, warnings_ascend, warnings_have, warnings_few}
+use Rattle.mirror.specs.Index.{kept_warnings}
+use Rattle.mirror.specs.Order.{slot_cmp}
 use Rattle.mirror.proofs.line_table.LineTable.warnings_at.Goals as goal
 
+pub returns-clause-warnings : goal.returns-clause-warnings
+returns-clause-warnings c =
+    let es = c.self.inside.lines.entries in
+    let found : c.add_warnings.new.warnings.items ≡ kept_warnings c.args.b c.args.c (λ h. true) c.self.inside.index = rw (c.slots.ensures, c.in_ok-warnings.ensures.items) at c.in_ok-add_warnings.ensures.warnings in
+    let order : IsStrictlySortedBy slot_cmp (keys_of c.self.inside.index) = rw c.slots.ensures at c.in_ok-add_warnings.ensures.ordered in
+    rw (← c.self.view_is) (found ∙ same_warnings c.args.b c.args.c c.self.inside.index es c.self.invariant.indexed c.self.invariant.none_blank order c.len.ensures.ordered)
+
 pub returns-clause-order : goal.returns-clause-order
-returns-clause-order c = rw c.in_ok-warnings.ensures.warnings (warnings_ascend c.args.b c.args.c c.self.inside.lines.entries c.in_ok-warnings.ensures.ordered)
+returns-clause-order c =
+    let es = c.self.inside.lines.entries in
+    let found : c.add_warnings.new.warnings.items ≡ kept_warnings c.args.b c.args.c (λ h. true) c.self.inside.index = rw (c.slots.ensures, c.in_ok-warnings.ensures.items) at c.in_ok-add_warnings.ensures.warnings in
+    let order : IsStrictlySortedBy slot_cmp (keys_of c.self.inside.index) = rw c.slots.ensures at c.in_ok-add_warnings.ensures.ordered in
+    rw (found ∙ same_warnings c.args.b c.args.c c.self.inside.index es c.self.invariant.indexed c.self.invariant.none_blank order c.len.ensures.ordered) (warnings_ascend c.args.b c.args.c es c.len.ensures.ordered)
 
 pub returns-clause-which : goal.returns-clause-which
 returns-clause-which c =
-    rw (← c.self.view_is) (rw c.in_ok-warnings.ensures.warnings (warnings_have c.args.b c.args.c c.self.inside.lines.entries c.self.invariant.none_blank c.in_ok-warnings.ensures.ordered))
+    let es = c.self.inside.lines.entries in
+    let found : c.add_warnings.new.warnings.items ≡ kept_warnings c.args.b c.args.c (λ h. true) c.self.inside.index = rw (c.slots.ensures, c.in_ok-warnings.ensures.items) at c.in_ok-add_warnings.ensures.warnings in
+    let order : IsStrictlySortedBy slot_cmp (keys_of c.self.inside.index) = rw c.slots.ensures at c.in_ok-add_warnings.ensures.ordered in
+    rw (← c.self.view_is) (rw (found ∙ same_warnings c.args.b c.args.c c.self.inside.index es c.self.invariant.indexed c.self.invariant.none_blank order c.len.ensures.ordered) (warnings_have c.args.b c.args.c es c.self.invariant.none_blank c.len.ensures.ordered))
 
 pub returns-clause-few : goal.returns-clause-few
 returns-clause-few c =
-    rw (← c.self.view_is) (rw c.in_ok-warnings.ensures.warnings (warnings_few c.args.b c.args.c c.self.inside.lines.entries c.self.invariant.none_blank c.in_ok-warnings.ensures.ordered))
+    let es = c.self.inside.lines.entries in
+    let found : c.add_warnings.new.warnings.items ≡ kept_warnings c.args.b c.args.c (λ h. true) c.self.inside.index = rw (c.slots.ensures, c.in_ok-warnings.ensures.items) at c.in_ok-add_warnings.ensures.warnings in
+    let order : IsStrictlySortedBy slot_cmp (keys_of c.self.inside.index) = rw c.slots.ensures at c.in_ok-add_warnings.ensures.ordered in
+    rw (← c.self.view_is) (rw (found ∙ same_warnings c.args.b c.args.c c.self.inside.index es c.self.invariant.indexed c.self.invariant.none_blank order c.len.ensures.ordered) (warnings_few c.args.b c.args.c es c.self.invariant.none_blank c.len.ensures.ordered))
