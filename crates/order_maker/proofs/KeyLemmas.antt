@@ -1,21 +1,16 @@
 -- The order of keys, and how actions stand in orders.
-use Rattle.std.proofs.Common.{◌≡◌, arith, ℕ, ◌+◌, Bool, true, false, ◌&&◌, ◌||◌, not, nat_eq, ltb, List, [], ◌∷◌, Option, Some, None, refl, sym, ◌∙◌, ap}
-use Rattle.std.proofs.lemmas.Bool.{and_from}
+use Rattle.std.proofs.Common.{◌≡◌, arith, ℕ, ◌+◌, Bool, true, false, ◌&&◌, ◌||◌, not, nat_eq, ltb, List, Option, Some, None, refl, sym, ◌∙◌, ap}
 use Rattle.std.proofs.lemmas.Bool.Decides.{nat_tests}
 use Rattle.std.proofs.lemmas.Grind.{common_steps}
-use Rattle.std.proofs.lemmas.Map.Keys.{sorted_head, sorted_tail}
 use Rattle.std.specs.BTreeMap.{is_at}
 use Rattle.std.specs.Bool.{Decides, one_answer}
 use Rattle.std.specs.Cmp.{unsigned_Decides}
-use Rattle.std.specs.List.{list_all, AllByRecursion}
-use Rattle.std.specs.List.Sorted.{IsStrictlySortedBy}
 use Rattle.std.specs.Option.{is_some, option_cmp}
 use Rattle.std.specs.Ordering.{ordering_then, nat_cmp, bool_cmp, is_eq, is_lt, is_le}
 use Rattle.std.specs.declared.cmp.Ordering.{Ordering}
 use Rattle.std.specs.declared.cmp.Ordering.TheVariants.{Less, Equal, Greater}
 use Rattle.common.specs.Cell.{cell_eq, cell_lt, cell_cmp}
 use Rattle.common.specs.Equality.{both, amounts, cell_decides}
-use Rattle.common.specs.Order.{is_ascending}
 use Rattle.common.specs.Sorting.{comes_before}
 use Rattle.common.specs.declared.cell.Cell.{Cell}
 use Rattle.order_maker.specs.Grouping.{kind_rank, old_rank, kind_eq, action_lt, fits}
@@ -53,15 +48,6 @@ option_decides None None = (λ h. refl, λ e. refl)
 option_decides None (Some n) = (λ h. cc, λ e. cc)
 option_decides (Some m) None = (λ h. cc, λ e. cc)
 option_decides (Some m) (Some n) = amounts (nat_decides m n) (λ e. ap (λ (k : ℕ). Some k) e) (λ e. cc)
-
-cell_decided : (x y : Cell) → Decides (is_eq (cell_cmp x y)) (x ≡ y)
-cell_decided x y =
-    amounts (then_decides (nat_cmp x.lac y.lac) (nat_cmp x.ci y.ci) (nat_decides x.lac y.lac) (nat_decides x.ci y.ci))
-    (λ e. λ i. record { lac = e.0 i; ci = e.1 i }) (λ e. (λ i. (e i).lac, λ i. (e i).ci))
-
--- a cell is found where it is
-pub at_cell : (x y : Cell) → is_at (cell_cmp x) y ≡ cell_eq x y
-at_cell x y = one_answer (is_at (cell_cmp x) y) (cell_eq x y) (cell_decided x y) (cell_decides x y)
 
 -- which of two cells is sought does not matter
 pub cell_turned : (x y : Cell) → cell_eq x y ≡ cell_eq y x
@@ -253,17 +239,6 @@ other_order b k j c cells h g e f l = step (fits (action_in k c) (order_in j cel
 pub same_order : (k : OrderKey) (c : Cell) (cells : List Cell) → fits (action_in k c) (order_in k cells) ≡ true
 same_order k c cells =
     (both (kind_eq (kind_of k.is_kill k.old) (kind_of k.is_kill k.old)) (nat_eq k.message_id k.message_id && nat_eq k.serial k.serial) (kind_decides (kind_of k.is_kill k.old) (kind_of k.is_kill k.old)) (both (nat_eq k.message_id k.message_id) (nat_eq k.serial k.serial) (unsigned_Decides k.message_id k.message_id) (unsigned_Decides k.serial k.serial))).1 (refl, (refl, refl))
-
--- Cells in ascending order.
-
-cells_after : (c : Cell) (cells : List Cell) → AllByRecursion (λ d. cell_cmp c d ≡ Less) cells → list_all (cell_lt c) cells ≡ true
-cells_after c [] h = refl
-cells_after c (d ∷ ds) h = and_from (cell_lt c d) (list_all (cell_lt c) ds) (sym (cell_before c d) ∙ ap is_lt h.0) (cells_after c ds h.1)
-
-pub cells_ascend : (cells : List Cell) → IsStrictlySortedBy cell_cmp cells → is_ascending cell_lt cells ≡ true
-cells_ascend [] s = refl
-cells_ascend (c ∷ cs) s =
-    and_from (list_all (cell_lt c) cs) (is_ascending cell_lt cs) (cells_after c cs (sorted_head cell_cmp c cs s)) (cells_ascend cs (sorted_tail cell_cmp c cs s))
 
 -- Which keys stand between the first of a BSC and the first of the next number.
 

@@ -2,7 +2,6 @@ pub mod ActionsLemmas
 pub mod HeldLemmas
 pub mod KeyLemmas
 pub mod CellLemmas
-pub mod NumberLemmas
 pub mod ShiftLemmas
 pub mod KillLemmas
 pub mod AlikeLemmas

@@ -5,5 +5,6 @@ pub mod GroupingLaws
 pub mod OrderingLaws
 pub mod OrderMessage
 pub mod Pending
+pub mod Places
 pub mod KeyNumber
 pub mod KeyLaws

@@ -7,7 +7,6 @@
 #![tactic(auto)]
 
 mod action;
-mod cell_number;
 mod deed;
 mod deeds;
 mod order;

@@ -1,7 +1,6 @@
 //! What an order is, but for its cells.
 
 ghost use Rattle.std.specs.Prelude.{◌≡◌, ◌≤◌};
-ghost use Rattle.std.specs.Ordering.{nat_cmp};
 ghost use Rattle.order_maker.specs.Grouping.{kind_rank, old_rank};
 ghost use Rattle.order_maker.specs.KeyNumber.{old_in};
 ghost use Rattle.order_maker.specs.Pending.{kind_of, key_of, order_in, least};
@@ -15,23 +14,22 @@ use serials::Serial;
 use std::cmp::Ordering;
 use std::marker::Model;
 
-/// One more version in a key's number: a serial number.
-const VERSION: u128 = 1 << 17;
-
-/// One more message identifier.
-const MESSAGE: u128 = 1 << 33;
+/// One more message identifier in a key's number. Below it stands the serial number.
+const MESSAGE: u64 = 1 << 16;
 
 /// A KILL.
-const KILL: u128 = 1 << 49;
+const KILL: u64 = 1 << 32;
 
 /// One more BSC.
-const NEXT_BSC: u128 = 1 << 50;
+const NEXT_BSC: u64 = 1 << 33;
 
-/// An order of a BSC, but for its cells. Keys are ordered by BSC, and those of one BSC as their orders are sent. The parts
-/// stand in one number in this order, the BSC highest: so that two keys are compared at once.
+/// An order of a BSC, but for its cells. Keys are ordered by BSC, and those of one BSC as their orders are sent. All parts
+/// but the last stand in one number in this order, the BSC highest: so that most keys are compared at once.
 #[derive(Drop)]
 pub(crate) struct OrderKey {
-    number: u128,
+    number: u64,
+    /// The rank of the serial number that is replaced.
+    old: u32,
 }
 
 impl Model for OrderKey {
@@ -39,15 +37,15 @@ impl Model for OrderKey {
 
     ghost Value = { OrderKey };
 
-    ghost use Rattle.order_maker.specs.KeyNumber.{key_in, IsNumber};
+    ghost use Rattle.order_maker.specs.KeyNumber.{key_in, IsRank};
 
-    ghost view = { λ k. key_in k.number };
+    ghost view = { λ k. key_in k.number k.old };
 
-    ghost invariant = { λ k. IsNumber k.number };
+    ghost invariant = { λ k. IsRank k.old };
 }
 
 /// Writes and replaces come first.
-fn kind_rank(kind: OrderKind) -> u128
+fn kind_rank(kind: OrderKind) -> u64
     ensures { result ≡ kind_rank kind }
 {
     match kind {
@@ -57,11 +55,11 @@ fn kind_rank(kind: OrderKind) -> u128
 }
 
 /// An order that replaces nothing comes before those that do.
-fn old_rank(kind: OrderKind) -> u128
+fn old_rank(kind: OrderKind) -> u32
     ensures { result ≡ old_rank kind }
 {
     match kind {
-        OrderKind::Replace { old } => u128::from(old.to_u16()) + 1,
+        OrderKind::Replace { old } => u32::from(old.to_u16()) + 1,
         OrderKind::Write | OrderKind::Kill => 0,
     }
 }
@@ -81,7 +79,7 @@ fn kind_of(is_kill: bool, old: Option<u16>) -> OrderKind
 }
 
 /// The serial number that is replaced, by its rank.
-fn old_in(rank: u128) -> Option<u16>
+fn old_in(rank: u32) -> Option<u16>
     requires { rank ≤ 65536 }
     ensures { result ≡ old_in rank }
 {
@@ -91,40 +89,28 @@ fn old_in(rank: u128) -> Option<u16>
     Some((rank - 1) as u16)
 }
 
-/// How a number compares with one that isn't less. It isn't inlined, so that a search, which asks at each key whether the
-/// one that it seeks comes after it, tests no more than that.
-#[inline(never)]
-fn less_or_equal(number: u128, other: u128) -> Ordering
-    requires { number ≤ other }
-    ensures { result ≡ nat_cmp number other }
-{
-    if number == other {
-        Ordering::Equal
-    } else {
-        Ordering::Less
-    }
-}
-
 impl OrderKey {
     /// The order that the action is a part of.
     pub(crate) fn of(b: BscId, a: Action) -> OrderKey
         ensures { result ≡ key_of b a }
     {
-        let bsc = u128::from(b.number()) * NEXT_BSC;
+        let bsc = u64::from(b.number()) * NEXT_BSC;
         let kind = kind_rank(a.kind) * KILL;
-        let message = u128::from(a.message_id) * MESSAGE;
-        let version = u128::from(a.serial.to_u16()) * VERSION;
+        let message = u64::from(a.message_id) * MESSAGE;
         OrderKey {
-            number: bsc + kind + message + version + old_rank(a.kind),
+            number: bsc + kind + message + u64::from(a.serial.to_u16()),
+            old: old_rank(a.kind),
         }
     }
 
     /// The first that a BSC of that number may have.
     pub(crate) fn least(bsc: u32) -> OrderKey
+        requires { bsc ≤ 65536 }
         ensures { result ≡ least bsc }
     {
         OrderKey {
-            number: u128::from(bsc) * NEXT_BSC,
+            number: u64::from(bsc) * NEXT_BSC,
+            old: 0,
         }
     }
 
@@ -132,7 +118,7 @@ impl OrderKey {
         ensures { result ≡ kind_of self.now.is_kill self.now.old }
     {
         let is_kill = self.number % NEXT_BSC / KILL == 1;
-        kind_of(is_kill, old_in(self.number % VERSION))
+        kind_of(is_kill, old_in(self.old))
     }
 
     /// The order in these cells.
@@ -142,7 +128,7 @@ impl OrderKey {
         Order {
             kind: self.kind(),
             message_id: (self.number % KILL / MESSAGE) as u16,
-            serial: Serial::from_u16((self.number % MESSAGE / VERSION) as u16),
+            serial: Serial::from_u16((self.number % MESSAGE) as u16),
             cells,
         }
     }
@@ -198,11 +184,16 @@ impl Ord for OrderKey {
 
     ghost matches_eq = { λ x y. refl };
 
+    /// A search asks at each key whether the one that it seeks comes after it. So that is tested first, most often by one
+    /// comparison.
     fn cmp(&self, other: &OrderKey) -> Ordering {
-        if self.number > other.number {
+        let same = self.number == other.number;
+        if self.number > other.number || (same && self.old > other.old) {
             Ordering::Greater
+        } else if same && self.old == other.old {
+            Ordering::Equal
         } else {
-            less_or_equal(self.number, other.number)
+            Ordering::Less
         }
     }
 }

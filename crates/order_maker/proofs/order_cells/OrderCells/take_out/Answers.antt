@@ -1,10 +1,15 @@
-use Rattle.order_maker.proofs.CellLemmas.{cells_without}
-use Rattle.order_maker.proofs.KeyLemmas.{cells_ascend}
+use Rattle.std.proofs.Common.{◌∙◌, ap}
+use Rattle.common.specs.Cell.{cell_lt}
+use Rattle.common.specs.Order.{is_ascending}
+use Rattle.order_maker.specs.Pending.{has_cell}
+use Rattle.order_maker.proofs.CellLemmas.{ascending_rest, has_rest}
 use Rattle.order_maker.proofs.order_cells.OrderCells.take_out.Goals as goal
 
-pub returns-clause-less : goal.returns-clause-less
-returns-clause-less c =
-    λ x. rw (← c.self.view_is) (cells_without c.args.c x c.self.inside.cells.keys c.remove.new.self.keys (rw c.of.ensures at (c.remove.ensures.updates.0 x)))
+pub invariant_of-self : goal.invariant_of-self
+invariant_of-self c =
+    ap (is_ascending cell_lt) c.pop_front.ensures.rest
+    ∙ ascending_rest c.args.c c.self.inside.cells.items c.self.invariant (c.stands_at.ensures.there c.if-stands_at.true)
 
-pub returns-clause-order : goal.returns-clause-order
-returns-clause-order c = cells_ascend c.remove.new.self.keys c.remove.ensures.ordered
+pub returns-then-stands_at-clause-less : goal.returns-then-stands_at-clause-less
+returns-then-stands_at-clause-less c =
+    λ x. rw (← c.self.view_is) (ap (λ cs. has_cell cs x) c.pop_front.ensures.rest ∙ has_rest c.args.c x c.self.inside.cells.items c.self.invariant (c.stands_at.ensures.there c.if-stands_at.true))
