@@ -20,7 +20,8 @@ fn is_among(areas: &[Name], area: &Name) -> bool
     areas.iter().any(|name| *name == *area)
 }
 
-/// The same, where it mostly is the one at that index.
+/// The same, where it mostly is the one at that index. It is inlined for speed.
+#[inline(always)]
 fn is_among_from(areas: &[Name], index: usize, area: &Name) -> bool
     ensures { result ≡ has_area areas.now area.now }
 {
@@ -31,7 +32,7 @@ fn is_among_from(areas: &[Name], index: usize, area: &Name) -> bool
 }
 
 /// Whether both lists have the same names, in the same order.
-pub(crate) fn are_same(areas: &[Name], others: &[Name]) -> bool
+fn are_same(areas: &[Name], others: &[Name]) -> bool
     ensures { IsTrue result ↔ (areas.now ≡ others.now) }
 {
     areas == others
@@ -91,7 +92,9 @@ impl AreaNumbers {
         }
     }
 
-    /// The place of the area, if it has numbers, found by its hash and remembered for that index of a list.
+    /// The place of the area, if it has numbers, found by its hash and remembered for that index of a list. It is called
+    /// seldom, and isn't inlined, so that its callers stay short.
+    #[inline(never)]
     fn look_up(&mut self, index: usize, area: &Name) -> Option<usize>
         ensures same { self.new ≡ self.old }
         ensures found { IfSome result (λ place. slice_get self.old place ≡ Some (area.now, area_in self.old area.now)) }
@@ -105,7 +108,9 @@ impl AreaNumbers {
     }
 
     /// The place of the area, if it has numbers, the area being at that index of a list. The lists of two lines that follow
-    /// one another are mostly the same, so that the area is where the one at that index was.
+    /// one another are mostly the same, so that the area is where the one at that index was. It is called for each area of
+    /// each line that changes, and is inlined for speed.
+    #[inline(always)]
     fn place_of(&mut self, index: usize, area: &Name) -> Option<usize>
         ensures same { self.new ≡ self.old }
         ensures found { IfSome result (λ place. slice_get self.old place ≡ Some (area.now, area_in self.old area.now)) }
@@ -143,7 +148,8 @@ impl AreaNumbers {
     }
 
     /// Takes a part out of the area's numbers, which is not nothing, and adds another, the area being at that index of a
-    /// list.
+    /// list. It is inlined for speed.
+    #[inline(always)]
     fn exchange(&mut self, index: usize, area: &Name, out: Numbers, part: Numbers)
         requires some { out ≡ zero_numbers → ⊥ }
         requires there { Holds (area_in self.old area.now) out }
@@ -288,5 +294,23 @@ impl AreaNumbers {
         }
         self.take_out_gone(before, after, out);
         self.move_in_all(after, before, out, part)
+    }
+
+    /// Moves a part from the areas that a line had to those that it has. It looks up no area that is among both.
+    pub(crate) fn move_part(
+        &mut self,
+        before: &[Name],
+        after: &[Name],
+        part: Numbers,
+    ) -> Result<(), AllocError>
+        requires there { (a : List ℕ) → Holds (area_in self.old a) (part_where (has_area before.now a) part) }
+        requires room { (a : List ℕ) → HasRoom (area_in self.old a) (part_where (has_area before.now a) part) (part_where (has_area after.now a) part) }
+        ensures { OnOk result ((a : List ℕ) → area_in self.new a ≡ moved (area_in self.old a) (part_where (has_area before.now a) part) (part_where (has_area after.now a) part)) }
+    {
+        if part.is_zero() || are_same(before, after) {
+            return Ok(());
+        }
+        self.take_out_gone(before, after, part);
+        self.move_in_all(after, before, part, part)
     }
 }

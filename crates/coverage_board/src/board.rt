@@ -88,6 +88,7 @@ impl Board {
 
     /// Moves the numbers of the warning from what one line added as it was to what it adds as it is. At an `Err` memory
     /// ran out, and what the board then holds is not said: it is not to be used any more.
+    #[inline(always)]
     pub fn shift(
         &mut self,
         w: WarningId,

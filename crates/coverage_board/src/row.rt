@@ -1,6 +1,6 @@
 //! The numbers of one warning.
 
-use crate::area_numbers::{AreaNumbers, are_same};
+use crate::area_numbers::AreaNumbers;
 use crate::numbers::Numbers;
 use crate::parts::total_part;
 use crate::stand::Stand;
@@ -62,8 +62,9 @@ impl Row {
         self.total = self.total.less(out).added(part);
     }
 
-    /// Moves the numbers from what a line added as it was to what it adds as it is. Where that is the same, in the same
-    /// areas, no area is looked up.
+    /// Moves the numbers from what a line added as it was to what it adds as it is. Where that is the same, the total stays,
+    /// and no area is looked up that covers the cell before and after.
+    #[inline(always)]
     pub(crate) fn shift(&mut self, before: &Stand<'_>, after: &Stand<'_>) -> Result<(), AllocError>
         requires total_there { Holds self.old.total (total_part (stand_of before.now)) }
         requires total_room { HasRoom self.old.total (total_part (stand_of before.now)) (total_part (stand_of after.now)) }
@@ -76,16 +77,13 @@ impl Row {
         let _broadcasts = self.total.broadcasts;
         let part_before = total_part(before);
         let part_after = total_part(after);
-        if part_before.same(part_after) && are_same(before.areas, after.areas) {
-            return Ok(());
+        let out = part_before.without_left();
+        if part_after.same(part_before) {
+            return self.areas.move_part(before.areas, after.areas, out);
         }
         self.move_total(part_before, part_after);
-        self.areas.shift(
-            before.areas,
-            part_before.without_left(),
-            after.areas,
-            part_after.without_left(),
-        )
+        self.areas
+            .shift(before.areas, out, after.areas, part_after.without_left())
     }
 
     /// The same, where the same areas cover the cell before and after, so that their names need not be compared.
