@@ -33,6 +33,10 @@ is_among cells c = list_any (λ d. cell_eq d c) cells
 abbrev pub AreAdded : (Cell → Bool) → List Cell → List Cell → Type 0
 AreAdded test old new = (c : Cell) → is_among new c ≡ (test c || is_among old c)
 
+-- the registered cells of these location areas are among the cells
+abbrev pub AreThere : registered.State → List ℕ → List Cell → Type 0
+AreThere r lacs cells = (c : Cell) → is_some (place_in r c) ≡ true → list_any (λ l. nat_eq l c.lac) lacs ≡ true → is_among cells c ≡ true
+
 -- each warning with the cell
 abbrev pub pairs_with : List ℕ → Cell → List (Cell × ℕ)
 pairs_with numbers c = map (λ n. (c, n)) numbers
