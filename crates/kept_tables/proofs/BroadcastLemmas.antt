@@ -1,7 +1,7 @@
 -- How often the versions of a warning were broadcast: at most 65,535 times each in a cell, and a warning has at most 16
 -- versions, so a line adds at most 1,048,560. Lines add it where their cells are registered, each at one BSC at most.
-use Rattle.std.proofs.Common.{◌≡◌, ◌≤◌, ◌<◌, ◌+◌, ◌*◌, ◌⊎◌, inl, inr, ℕ, Bool, true, false, ◌&&◌, List, [], ◌∷◌, Some, length, get_or, refl, sym, ◌∙◌, ap, subst, arith, ⊎_elim, if◌then◌else◌}
-use Rattle.std.proofs.lemmas.Bool.{and_parts, cases_eq}
+use Rattle.std.proofs.Common.{◌≡◌, ◌≤◌, ◌<◌, ◌+◌, ◌*◌, ◌⊎◌, inl, inr, ℕ, Bool, true, false, ◌&&◌, List, [], ◌∷◌, Some, length, refl, sym, ◌∙◌, ap, subst, arith, ⊎_elim, if◌then◌else◌}
+use Rattle.std.proofs.lemmas.Bool.{and_parts}
 use Rattle.std.specs.List.{list_all}
 use Rattle.common.specs.Order.{each_once}
 use Rattle.common.specs.Sums.{count_of, one, sum_of}
@@ -15,16 +15,8 @@ use Rattle.kept_tables.specs.SpotLaws.{spot_decides}
 use Rattle.kept_tables.specs.View.{key_at, spot_eq, View}
 use Rattle.kept_tables.specs.declared.line_facts.LineFacts.{LineFacts}
 use Rattle.kept_tables.specs.declared.spot.Spot.{Spot}
-use Rattle.mirror.specs.Line.{blank, state_of}
-use Rattle.mirror.specs.declared.key_state.KeyState.{KeyState}
+use Rattle.mirror.specs.Line.{state_of}
 use Rattle.mirror.specs.declared.line_key.LineKey.{LineKey}
-
--- the counts of one more state fit 16 bits
-pub counted_more : (states : List KeyState) (n : ℕ) → ((i : ℕ) → i < n → (get_or states i blank).count < 65536) → (get_or states n blank).count < 65536 → (i : ℕ) → i < n + 1 → (get_or states i blank).count < 65536
-counted_more states n before next i h = ⊎_elim
-    (λ (last : i ≡ n). subst (λ j. (get_or states j blank).count < 65536) (sym last) next)
-    (λ other. before i (omega (arith, h, other)))
-    (cases_eq i n)
 
 -- a sum of numbers of 16 bits
 sum_counts : (f : ℕ → ℕ) → ((s : ℕ) → f s < 65536) → (xs : List ℕ) → sum_of f xs ≤ 65535 * length xs

@@ -4,7 +4,6 @@ ghost use Rattle.std.specs.Prelude.{◌≡◌, ◌<◌, ◌≤◌, ◌+◌, ℕ,
 ghost use Rattle.common.specs.declared.cell.Cell.{Cell};
 ghost use Rattle.kept_tables.specs.Consistent.{is_in_range};
 ghost use Rattle.kept_tables.specs.View.{spot_of};
-ghost use Rattle.mirror.specs.Line.{state_of};
 ghost use Rattle.mirror.specs.Seen.{seen};
 ghost use Rattle.mirror.specs.Table.{is_key, line_at};
 ghost use Rattle.order_maker.specs.Actions.{deeds, in_cell};
@@ -17,7 +16,7 @@ use cbsp_ie::CellId;
 use cell_register::{BscId, Register};
 use common::{Cell, Cells, Name};
 use coverage_board::{Board, Numbers};
-use mirror::{KeyState, Line, LineKey, LineTable, Sight};
+use mirror::{Line, LineKey, LineTable, Sight};
 use order_maker::{Order, Orders, Pending};
 use serials::Serial;
 use std::alloc::{AllocError, Global};
@@ -49,23 +48,6 @@ fn tell_range(key: LineKey)
     let _ = key;
 }
 
-/// A lemma, not a test: it returns nothing, and its clause says that a count of broadcasts fits 16 bits (TS 48.049,
-/// 8.2.10).
-fn tell_count(state: KeyState)
-    ensures { state.count < 65536 }
-{
-    let _ = state;
-}
-
-/// A lemma, not a test: it returns nothing, and its clause says that each count of broadcasts of the line fits 16 bits.
-fn tell_counts(line: &Line)
-    ensures { (s : ℕ) → (state_of line.now s).count < 65536 }
-{
-    for state in &line.states {
-        tell_count(*state);
-    }
-}
-
 /// Whether the line is the same after as before. It is not compared where it is known to stay.
 fn is_kept(before: &Line, after: &Line, stays: bool) -> bool
     requires { stays ≡ true → before.now ≡ after.now }
@@ -76,6 +58,7 @@ fn is_kept(before: &Line, after: &Line, stays: bool) -> bool
 
 /// Sets the line, where it is another than before. It is not compared where it is known to stay. Memory is taken as
 /// `LineTable::set_line` does.
+#[inline(always)]
 fn change_line(
     lines: &mut LineTable,
     key: LineKey,
@@ -334,7 +317,7 @@ impl KeptTables {
         ensures least { self.old.lines.meter ≤ self.new.lines.meter }
     {
         tell_range(*key);
-        tell_counts(&after.line);
+        after.line.tell_counts();
         self.change(*key, before, after, stays)
     }
 
@@ -349,7 +332,7 @@ impl KeptTables {
     {
         for step in steps {
             tell_range(step.key);
-            tell_counts(&step.line);
+            step.line.tell_counts();
             self.take_step(step)?;
         }
         Ok(())
