@@ -200,6 +200,7 @@ fn says_down(message: &Message) -> Option<bool>
 }
 
 /// Whether the event, answered so, brings the cell down at the BSC (`Some(true)`), or up (`Some(false)`).
+#[inline(always)]
 pub fn down_mark(b: BscId, c: Cell, event: &Event, answer: &Answer) -> Option<bool>
     ensures { result ≡ down_mark b c event.now answer.now }
 {

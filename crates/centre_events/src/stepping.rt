@@ -65,7 +65,7 @@ fn step(line: &mut Line, serial: Serial, effect: Effect, count: Option<u16>) -> 
     if after.same(&state) {
         return false;
     }
-    line.states[serial.update() as usize] = after;
+    line.set_state(serial, after);
     true
 }
 
