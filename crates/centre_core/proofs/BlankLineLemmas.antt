@@ -1,5 +1,6 @@
--- An indication and a Retry leave a blank line blank, and most edits leave every line as it is.
-use Rattle.std.proofs.Common.{◌≡◌, ℕ, zero, suc, Bool, true, false, nat_eq, List, [], ◌∷◌, Option, Some, None, length, replicate, refl, sym, ◌∙◌, ap}
+-- An indication and a Retry leave a blank line blank, a Retry leaves a line that isn't held, and most edits leave every line.
+use Rattle.std.proofs.Common.{◌≡◌, ℕ, zero, suc, Bool, true, false, not, nat_eq, List, [], ◌∷◌, Option, Some, None, length, replicate, refl, sym, ◌∙◌, ap}
+use Rattle.std.proofs.lemmas.Bool.{not-false}
 use Rattle.std.specs.Prelude.{slice_set, if◌then◌else◌}
 use Rattle.std.specs.List.{slice_index_or}
 use Rattle.areas.specs.declared.area.Area.{Area}
@@ -12,6 +13,8 @@ use Rattle.kept_tables.specs.Tables.{Tables}
 use Rattle.kept_tables.specs.declared.line_facts.LineFacts.{LineFacts}
 use Rattle.mirror.specs.Blank.{is_blank, line_eq}
 use Rattle.mirror.specs.BlankLaws.{blank_decides, line_decides}
+use Rattle.mirror.specs.Held.{is_held_line}
+use Rattle.mirror.specs.HeldLaws.{unheld_state}
 use Rattle.mirror.specs.Line.{blank, blank_line, state_of, with_state}
 use Rattle.mirror.specs.Table.{down_at}
 use Rattle.mirror.specs.declared.key_state.KeyState.{KeyState}
@@ -23,7 +26,7 @@ use Rattle.warning_book.specs.Book.{warning_of}
 use Rattle.warning_book.specs.declared.warning.Warning.{Warning}
 use Rattle.centre_events.specs.Counts.{count_mark}
 use Rattle.centre_events.specs.Effects.{indicated_effect, is_among, state_after}
-use Rattle.centre_core.specs.Following.{Happens, change_of, leaves_blank, leaves_lines, line_now}
+use Rattle.centre_core.specs.Following.{Happens, change_of, leaves_blank, leaves_lines, line_now, may_change}
 use Rattle.centre_core.specs.State.{facts_from}
 use Rattle.centre_core.specs.declared.held.Held.{Held}
 use Rattle.centre_events.specs.Presence.{effect}
@@ -137,3 +140,38 @@ line_stays h r l st t x e some = step (warning_of st x.key.warning) some
     step : (o : Option Warning) → nat_eq (length (then_read o).versions) 0 ≡ false → x.before.line ≡ (then_read o).line
     step None none = cc
     step (Some w) there = edit_leaves h st.warnings x.key.bsc x.key.cell (Some w) x.before.line e
+
+-- A Retry leaves a line as it is that isn't held.
+
+stepped_same : (f : ℕ → Effect) (n : ℕ → Option ℕ) (line : Line) → ((s : ℕ) → state_after (f s) (n s) (state_of line s) ≡ state_of line s) → (ss : List ℕ) → stepped f n line ss ≡ line
+stepped_same f n line stays [] = refl
+stepped_same f n line stays (s ∷ ss) =
+    ap (λ l. stepped f n l ss) (ap (with_state line s) (stays s) ∙ with_itself line s) ∙ stepped_same f n line stays ss
+
+unheld_after : (t : Bool) (k : KeyState) → k.hold ≡ None → state_after (if t then Frees else Leaves) None k ≡ k
+unheld_after true k none = λ i. record { presence = k.presence; hold = sym none i; count = k.count }
+unheld_after false k none = refl
+
+pub retry_leaves : (h : Happens) (ws : List Warning) (b : ℕ) (c : Cell) (o : Option Warning) (line : Line) (other : ℕ) → h.event ≡ event.Retry other → is_held_line line ≡ false → line_now h ws b c o line ≡ line
+retry_leaves h ws b c None line other is free = refl
+retry_leaves h ws b c (Some w) line other is free =
+    stepped_same (λ s. effect b c w.message_id s h.event h.answer h.up h.flight ws) (λ s. count_mark b c w.message_id s h.event h.answer h.flight ws) line
+    (λ s. ap (λ (e : Event). state_after (effect b c w.message_id s e h.answer h.up h.flight ws) (count_mark b c w.message_id s e h.answer h.flight ws) (state_of line s)) is ∙ unheld_after (nat_eq other b) (state_of line s) (unheld_state line free s))
+    (serials w)
+
+-- so an indication and a Retry leave each line as it is that they can't change
+pub unchanged : (h : Happens) (ws : List Warning) (b : ℕ) (c : Cell) (o : Option Warning) (line : Line) → leaves_blank h.event h.answer ≡ true → may_change h.event line ≡ false → true ≡ line_eq (line_now h ws b c o line) line
+unchanged h ws b c o line blanks stays = step h.event refl
+  where
+    kept : not (is_blank line) ≡ false → true ≡ line_eq (line_now h ws b c o line) line
+    kept e = blank_left h ws b c o line blanks (not-false (is_blank line) e)
+
+    step : (e : Event) → h.event ≡ e → true ≡ line_eq (line_now h ws b c o line) line
+    step (event.Retry other) is =
+        sym ((line_decides (line_now h ws b c o line) line).1 (retry_leaves h ws b c o line other is (sym (ap (λ (e : Event). may_change e line) is) ∙ stays)))
+    step (event.Report other g message) is = kept (sym (ap (λ (e : Event). may_change e line) is) ∙ stays)
+    step (event.Edit x) is = kept (sym (ap (λ (e : Event). may_change e line) is) ∙ stays)
+    step (event.LinkUp other) is = kept (sym (ap (λ (e : Event). may_change e line) is) ∙ stays)
+    step (event.LinkDown other g) is = kept (sym (ap (λ (e : Event). may_change e line) is) ∙ stays)
+    step (event.Send other g) is = kept (sym (ap (λ (e : Event). may_change e line) is) ∙ stays)
+    step (event.Ask other g n after) is = kept (sym (ap (λ (e : Event). may_change e line) is) ∙ stays)

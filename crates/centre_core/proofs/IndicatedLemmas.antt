@@ -27,7 +27,7 @@ use Rattle.warning_book.specs.Book.{has_number, number_lt, numbers, warning_of}
 use Rattle.warning_book.specs.declared.warning.Warning.{Warning}
 use Rattle.centre_events.specs.Down.{down_mark}
 use Rattle.centre_events.specs.Facts.{facts_of}
-use Rattle.centre_core.specs.Following.{AreInBook, AsBefore, Happens, bearing, changing_at, held_line, is_idle, keeps_down, leaves_blank, line_now, stays, step_of}
+use Rattle.centre_core.specs.Following.{AreInBook, AsBefore, Happens, bearing, changing_at, held_line, is_idle, keeps_down, leaves_blank, line_now, may_change, stays, step_of}
 use Rattle.centre_core.specs.IsKept.{IsKept}
 use Rattle.centre_core.specs.Legal.{Legal}
 use Rattle.centre_core.specs.Reach.{IsReach, reach_of}
@@ -39,7 +39,7 @@ use Rattle.centre_events.specs.declared.answer.Answer.TheVariants.{Listed}
 use Rattle.centre_events.specs.declared.event.Event.{Event}
 use Rattle.centre_events.specs.declared.event.Event.TheVariants as event
 use Rattle.centre_core.specs.declared.kept.Kept.{Kept}
-use Rattle.centre_core.proofs.BlankLineLemmas.{blank_left}
+use Rattle.centre_core.proofs.BlankLineLemmas.{unchanged}
 use Rattle.centre_core.proofs.ReachedWarningLemmas.{all_listed}
 use Rattle.centre_core.proofs.RegisterLemmas.{nat_apart}
 use Rattle.centre_core.proofs.WarningLemmas.{legal_sound}
@@ -96,13 +96,13 @@ number_there n (v ∷ ws) w h = step (nat_eq v.number n) (nat_eq n v.number) (tu
     step false true e rest g = refl
     step false false e rest g = rest g
 
--- A line that may change is kept, and its warning is in the book.
+-- A line that changes is one that may, and its warning is in the book.
 
 itself : (line : Line) → line_eq line line ≡ true
 itself line = (line_decides line line).1 refl
 
-may_change : (h : Happens) (l : List Area) (st : book.State) (t : Tables) (k : LineKey) → leaves_blank h.event h.answer ≡ true → keeps_down (down_mark k.bsc k.cell h.event h.answer) (down_at t.lines k.bsc k.cell) ≡ true → stays h l st t k ≡ false → (is_blank (line_at t.lines k.bsc k.cell k.warning) ≡ false) × (list_any (nat_eq k.warning) (numbers st.warnings) ≡ true)
-may_change h l st t k blanks down changes = (kept (is_blank line) refl, booked (warning_of st k.warning) refl)
+changes_some : (h : Happens) (l : List Area) (st : book.State) (t : Tables) (k : LineKey) → leaves_blank h.event h.answer ≡ true → keeps_down (down_mark k.bsc k.cell h.event h.answer) (down_at t.lines k.bsc k.cell) ≡ true → stays h l st t k ≡ false → (may_change h.event (line_at t.lines k.bsc k.cell k.warning) ≡ true) × (list_any (nat_eq k.warning) (numbers st.warnings) ≡ true)
+changes_some h l st t k blanks down changes = (kept (may_change h.event line) refl, booked (warning_of st k.warning) refl)
   where
     line : Line
     line = line_at t.lines k.bsc k.cell k.warning
@@ -111,19 +111,19 @@ may_change h l st t k blanks down changes = (kept (is_blank line) refl, booked (
     stay e =
         sym changes ∙ ap (λ x. line_eq (line_now h st.warnings k.bsc k.cell (warning_of st k.warning) line) line && (x || is_idle l (warning_of st k.warning) k.cell line)) down ∙ ap (λ x. x && true) e
 
-    kept : (x : Bool) → is_blank line ≡ x → x ≡ false
-    kept false e = refl
-    kept true e = sym (stay (sym (blank_left h st.warnings k.bsc k.cell (warning_of st k.warning) line blanks e)))
+    kept : (x : Bool) → may_change h.event line ≡ x → x ≡ true
+    kept true e = refl
+    kept false e = stay (sym (unchanged h st.warnings k.bsc k.cell (warning_of st k.warning) line blanks e))
 
     booked : (o : Option Warning) → warning_of st k.warning ≡ o → list_any (nat_eq k.warning) (numbers st.warnings) ≡ true
     booked None e = let no : false ≡ true = stay (ap (λ x. line_eq (line_now h st.warnings k.bsc k.cell x line) line) e ∙ itself line) in cc
     booked (Some w) e = number_there k.warning st.warnings w e
 
--- so those of the kept lines are those of all
-pub known_same : (h : Happens) (r : register.State) (l : List Area) (st : book.State) (t : Tables) (p : Spot) (ws : List ℕ) → leaves_blank h.event h.answer ≡ true → keeps_down (down_mark p.bsc p.cell h.event h.answer) (down_at t.lines p.bsc p.cell) ≡ true → is_ascending number_lt st.warnings ≡ true → is_ascending ltb ws ≡ true → ((n : ℕ) → list_any (nat_eq n) ws ≡ not (is_blank (line_at t.lines p.bsc p.cell n))) → changing_at h r l st t ws p ≡ changing_at h r l st t (numbers st.warnings) p
+-- so those of the lines that may change are those of all
+pub known_same : (h : Happens) (r : register.State) (l : List Area) (st : book.State) (t : Tables) (p : Spot) (ws : List ℕ) → leaves_blank h.event h.answer ≡ true → keeps_down (down_mark p.bsc p.cell h.event h.answer) (down_at t.lines p.bsc p.cell) ≡ true → is_ascending number_lt st.warnings ≡ true → is_ascending ltb ws ≡ true → ((n : ℕ) → list_any (nat_eq n) ws ≡ may_change h.event (line_at t.lines p.bsc p.cell n)) → changing_at h r l st t ws p ≡ changing_at h r l st t (numbers st.warnings) p
 known_same h r l st t p ws blanks down ordered ascend which =
     failing_same (λ n. stays h l st t (key_at p n)) (λ n. step_of h st (held_line r l st t (key_at p n))) ws (numbers st.warnings) ascend (numbers_ascend st.warnings ordered)
-    (λ n changes. let both = may_change h l st t (key_at p n) blanks down changes in which n ∙ ap not both.0 ∙ sym both.1)
+    (λ n changes. let both = changes_some h l st t (key_at p n) blanks down changes in which n ∙ both.0 ∙ sym both.1)
 
 -- What is kept of a legal past: each line that isn't blank is of a warning in the book.
 pub in_book : (past : Past) (s : Kept) → IsKept past s → AreInBook s.book s.tables
@@ -173,7 +173,7 @@ bears_on_all settings past legal s kept e a spots ns reach = step (leaves_blank 
     step false h = reach
 
 -- and so those of the lines that a table keeps which has the same
-pub known_before : (h : Happens) (r : register.State) (l : List Area) (st : book.State) (t u : Tables) (p : Spot) (ws : List ℕ) → AsBefore t u → leaves_blank h.event h.answer ≡ true → keeps_down (down_mark p.bsc p.cell h.event h.answer) (down_at u.lines p.bsc p.cell) ≡ true → is_ascending number_lt st.warnings ≡ true → is_ascending ltb ws ≡ true → ((n : ℕ) → list_any (nat_eq n) ws ≡ not (is_blank (line_at u.lines p.bsc p.cell n))) → changing_at h r l st t ws p ≡ changing_at h r l st t (numbers st.warnings) p
+pub known_before : (h : Happens) (r : register.State) (l : List Area) (st : book.State) (t u : Tables) (p : Spot) (ws : List ℕ) → AsBefore t u → leaves_blank h.event h.answer ≡ true → keeps_down (down_mark p.bsc p.cell h.event h.answer) (down_at u.lines p.bsc p.cell) ≡ true → is_ascending number_lt st.warnings ≡ true → is_ascending ltb ws ≡ true → ((n : ℕ) → list_any (nat_eq n) ws ≡ may_change h.event (line_at u.lines p.bsc p.cell n)) → changing_at h r l st t ws p ≡ changing_at h r l st t (numbers st.warnings) p
 known_before h r l st t u p ws same blanks down ordered ascend which =
     known_same h r l st t p ws blanks (ap (λ ps. keeps_down (down_mark p.bsc p.cell h.event h.answer) (list_any (is_that_place p.bsc p.cell) ps)) (sym same.downs) ∙ down) ordered ascend
-    (λ n. which n ∙ ap (λ ls. not (is_blank (unwrap_or (lookup (is_slot p.bsc p.cell n) ls) blank_line))) same.lines)
+    (λ n. which n ∙ ap (λ ls. may_change h.event (unwrap_or (lookup (is_slot p.bsc p.cell n) ls) blank_line)) same.lines)

@@ -20,6 +20,7 @@ pub mod ActingLemmas
 pub mod UniqueLemmas
 pub mod CountLemmas
 pub mod CoverageLemmas
+pub mod MarksLemmas
 pub mod KnownLemmas
 pub mod HeadlineLemmas
 pub mod SpareLemmas

@@ -15,6 +15,7 @@ use Rattle.kept_tables.specs.declared.line_facts.LineFacts.{LineFacts}
 use Rattle.kept_tables.specs.declared.spot.Spot.{Spot}
 use Rattle.kept_tables.specs.declared.step.Step.{Step}
 use Rattle.mirror.specs.Blank.{is_blank, line_eq}
+use Rattle.mirror.specs.Held.{is_held_line}
 use Rattle.mirror.specs.Table.{Table, line_at, down_at}
 use Rattle.mirror.specs.declared.line.Line.{Line}
 use Rattle.mirror.specs.declared.line_key.LineKey.{LineKey}
@@ -139,6 +140,11 @@ abbrev pub leaves_blank : Event → Answer → Bool
 leaves_blank (event.Retry b) answer = true
 leaves_blank (event.Report b generation message) (Listed cells) = true
 leaves_blank e answer = false
+
+-- an indication may change a line that isn't blank, and a Retry one that is held
+abbrev pub may_change : Event → Line → Bool
+may_change (event.Retry b) line = is_held_line line
+may_change other line = not (is_blank line)
 
 -- an edit that leaves every line as it is: each but the end of a BSC and a Forget
 abbrev pub leaves_lines : Event → Bool

@@ -17,6 +17,7 @@ pub mod Idle
 pub mod IsKept
 pub mod Following
 pub mod Found
+pub mod Marks
 pub mod Asked
 pub mod Centre
 pub mod VerdictLaws

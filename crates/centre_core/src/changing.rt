@@ -1,20 +1,22 @@
 //! The lines on which an event bears that is no edit, read before it.
 
-ghost use Rattle.std.specs.Prelude.{◌≡◌, ◌≤◌, ◌+◌, ◌*◌, ◌++◌, ◌&&◌, ◌||◌, true, false, length, unwrap_or, IfOk, OnOk};
+ghost use Rattle.std.specs.Prelude.{◌≡◌, ◌≤◌, ◌+◌, ◌*◌, ◌++◌, ◌&&◌, ◌||◌, ℕ, List, true, false, nat_eq, ltb, length, unwrap_or, IfOk, OnOk};
+ghost use Rattle.std.specs.List.{list_any};
 ghost use Rattle.std.specs.Option.{option_copied};
 ghost use Rattle.kept_tables.specs.Tables.{Tables};
 ghost use Rattle.kept_tables.specs.View.{key_of};
-ghost use Rattle.mirror.specs.Blank.{line_eq};
+ghost use Rattle.common.specs.Order.{is_ascending};
+ghost use Rattle.mirror.specs.Blank.{is_blank, line_eq};
+ghost use Rattle.mirror.specs.Table.{line_at};
 ghost use Rattle.warning_book.specs.Book.{numbers, warning_of};
 ghost use Rattle.centre_events.specs.Down.{down_mark};
-ghost use Rattle.centre_core.specs.Following.{AreInBook, AsBefore, bearing, is_idle, keeps_down, leaves_blank, line_now, changing_line, changing_at, changing_lines};
+ghost use Rattle.centre_core.specs.Following.{AreInBook, AsBefore, bearing, is_idle, keeps_down, leaves_blank, line_now, may_change, changing_line, changing_at, changing_lines};
 ghost use Rattle.centre_core.specs.Found.{AreFound};
 
-use crate::area_coverages::{AreaCoverages, coverages_for};
 use crate::facts::facts_from;
 use crate::following::line_now;
+use crate::found_warnings::FoundWarnings;
 use crate::holding::{is_idle, key_of, near};
-use crate::shared_lists::SharedLists;
 use areas::Areas;
 use cell_register::{BscId, Register};
 use centre_events::answer::Answer;
@@ -23,7 +25,7 @@ use centre_events::event::Event;
 use centre_events::stepping::Happening;
 use common::Cell;
 use kept_tables::{KeptTables, LineFacts, Spot, Step};
-use mirror::Line;
+use mirror::{Line, LineTable};
 use std::alloc::{AllocError, Global};
 use warning_book::{Book, Warning, WarningId};
 
@@ -102,21 +104,21 @@ fn step_of(
 #[tactic(auto, using(crate::proofs::FollowLemmas::facts_as, crate::proofs::FollowLemmas::as_read))]
 fn hold_changing_line(
     out: &mut Vec<Step>,
-    lists: &mut SharedLists,
     h: &Happening<'_, '_>,
     register: &Register,
     areas: &Areas,
     book: &Book,
-    found: &[AreaCoverages<'_>],
+    found: &mut FoundWarnings<'_>,
     tables: &mut KeptTables,
     b: BscId,
     c: Cell,
     n: WarningId,
 ) -> Result<(), AllocError>
-    requires found { AreFound areas.now book.now found.now }
+    requires found { AreFound areas.now book.now found.old }
     ensures held { (t : Tables) → AsBefore t tables.old → OnOk result (out.new.items ≡ out.old.items ++ changing_line (record { event = h.now.event.now; answer = h.now.answer.now; up = h.now.up; flight = option_copied h.now.flight }) register.now areas.now book.now t (key_of b c n)) }
     ensures kept { (t : Tables) → AsBefore t tables.old → AsBefore t tables.new }
     ensures meter { tables.new.lines.meter ≤ tables.old.lines.meter + 1 }
+    ensures same { found.new ≡ found.old }
 {
     let line = tables.read_line(key_of(b, c, n));
     let down = tables.is_down(b, c);
@@ -126,8 +128,7 @@ fn hold_changing_line(
     if stays(h, areas, b, c, warning, &line, &then, stepped, down) {
         return Ok(());
     }
-    let coverages = coverages_for(found, n);
-    let before = facts_from(register, areas, down, b, c, line, warning, coverages, lists)?;
+    let before = facts_from(register, areas, down, b, c, n, line, warning, found)?;
     out.push(step_of(h, b, c, n, before, then))?;
     Ok(())
 }
@@ -136,26 +137,24 @@ fn hold_changing_line(
 /// they are.
 fn hold_changing_spot(
     out: &mut Vec<Step>,
-    lists: &mut SharedLists,
     h: &Happening<'_, '_>,
     register: &Register,
     areas: &Areas,
     book: &Book,
-    found: &[AreaCoverages<'_>],
+    found: &mut FoundWarnings<'_>,
     tables: &mut KeptTables,
     b: BscId,
     c: Cell,
     warnings: &[WarningId],
 ) -> Result<(), AllocError>
-    requires found { AreFound areas.now book.now found.now }
+    requires found { AreFound areas.now book.now found.old }
     ensures held { (t : Tables) → AsBefore t tables.old → OnOk result (out.new.items ≡ out.old.items ++ changing_at (record { event = h.now.event.now; answer = h.now.answer.now; up = h.now.up; flight = option_copied h.now.flight }) register.now areas.now book.now t warnings.now (record { bsc = b; cell = c })) }
     ensures kept { (t : Tables) → AsBefore t tables.old → AsBefore t tables.new }
     ensures meter { tables.new.lines.meter ≤ tables.old.lines.meter + length warnings.now }
+    ensures same { found.new ≡ found.old }
 {
     for warning in warnings {
-        hold_changing_line(
-            out, lists, h, register, areas, book, found, tables, b, c, *warning,
-        )?;
+        hold_changing_line(out, h, register, areas, book, found, tables, b, c, *warning)?;
     }
     Ok(())
 }
@@ -164,44 +163,58 @@ fn hold_changing_spot(
 /// does not leave as they are. What leaves a blank line blank leaves the lines of the others as they are: they are idle.
 fn hold_changing_near(
     out: &mut Vec<Step>,
-    lists: &mut SharedLists,
     alloc: Global,
     h: &Happening<'_, '_>,
     register: &Register,
     areas: &Areas,
     book: &Book,
-    found: &[AreaCoverages<'_>],
+    found: &mut FoundWarnings<'_>,
     tables: &mut KeptTables,
     b: BscId,
     c: Cell,
     warnings: &[WarningId],
 ) -> Result<(), AllocError>
     requires blank { leaves_blank h.now.event.now h.now.answer.now ≡ true }
-    requires found { AreFound areas.now book.now found.now }
+    requires found { AreFound areas.now book.now found.old }
     ensures held { (t : Tables) → AsBefore t tables.old → OnOk result (out.new.items ≡ out.old.items ++ changing_at (record { event = h.now.event.now; answer = h.now.answer.now; up = h.now.up; flight = option_copied h.now.flight }) register.now areas.now book.now t warnings.now (record { bsc = b; cell = c })) }
     ensures kept { (t : Tables) → AsBefore t tables.old → AsBefore t tables.new }
     ensures meter { tables.new.lines.meter ≤ tables.old.lines.meter + length warnings.now }
+    ensures same { found.new ≡ found.old }
 {
     let near = near(alloc, areas, book, tables.lines(), b, c, warnings)?;
     let near = near.as_slice();
-    hold_changing_spot(
-        out, lists, h, register, areas, book, found, tables, b, c, near,
-    )?;
+    hold_changing_spot(out, h, register, areas, book, found, tables, b, c, near)?;
     Ok(())
 }
 
+/// The warnings whose lines in the cell at the BSC may be changed by an indication, which leaves blank lines blank, or by a
+/// Retry, which leaves lines that aren't held. They are in ascending order. No line is read.
+fn indicated(
+    h: &Happening<'_, '_>,
+    lines: &LineTable,
+    b: BscId,
+    c: Cell,
+) -> Result<Vec<WarningId>, AllocError>
+    ensures which { IfOk result (λ ws. (n : ℕ) → list_any (nat_eq n) ws.items ≡ may_change h.now.event.now (line_at lines.now b c n)) }
+    ensures order { IfOk result (λ ws. is_ascending ltb ws.items ≡ true) }
+    ensures few { IfOk result (λ ws. (ns : List ℕ) → ((n : ℕ) → is_blank (line_at lines.now b c n) ≡ false → list_any (nat_eq n) ns ≡ true) → length ws.items ≤ length ns) }
+{
+    match h.event {
+        Event::Retry(_) => lines.held_at(b, c),
+        _ => lines.warnings_at(b, c),
+    }
+}
+
 /// Reads the lines in the cell at the BSC that an indication or a Retry may change, and holds those that it does not leave
-/// as they are. It leaves a blank line blank, so that only the lines that are kept are read where it leaves the cell down,
-/// or up, as it was. Else those of all warnings that are near the cell are.
+/// as they are. Where it brings the cell down, or up, the lines of all warnings that are near the cell are read.
 fn hold_indicated_spot(
     out: &mut Vec<Step>,
-    lists: &mut SharedLists,
     alloc: Global,
     h: &Happening<'_, '_>,
     register: &Register,
     areas: &Areas,
     book: &Book,
-    found: &[AreaCoverages<'_>],
+    found: &mut FoundWarnings<'_>,
     tables: &mut KeptTables,
     b: BscId,
     c: Cell,
@@ -209,21 +222,22 @@ fn hold_indicated_spot(
 ) -> Result<(), AllocError>
     requires blank { leaves_blank h.now.event.now h.now.answer.now ≡ true }
     requires all { all.now ≡ numbers book.now.warnings }
-    requires found { AreFound areas.now book.now found.now }
+    requires found { AreFound areas.now book.now found.old }
     ensures held { (t : Tables) → AsBefore t tables.old → OnOk result (out.new.items ≡ out.old.items ++ changing_at (record { event = h.now.event.now; answer = h.now.answer.now; up = h.now.up; flight = option_copied h.now.flight }) register.now areas.now book.now t all.now (record { bsc = b; cell = c })) }
     ensures kept { (t : Tables) → AsBefore t tables.old → AsBefore t tables.new }
     ensures meter { AreInBook book.now tables.old → tables.new.lines.meter ≤ tables.old.lines.meter + length all.now }
+    ensures same { found.new ≡ found.old }
 {
     book.tell_soundness();
     if !keeps_down(h, b, c, tables.is_down(b, c)) {
         return hold_changing_near(
-            out, lists, alloc, h, register, areas, book, found, tables, b, c, all,
+            out, alloc, h, register, areas, book, found, tables, b, c, all,
         );
     }
-    let known = tables.lines().warnings_at(b, c)?;
-    let known = known.as_slice();
+    let indicated = indicated(h, tables.lines(), b, c)?;
+    let indicated = indicated.as_slice();
     hold_changing_spot(
-        out, lists, h, register, areas, book, found, tables, b, c, known,
+        out, h, register, areas, book, found, tables, b, c, indicated,
     )?;
     Ok(())
 }
@@ -236,23 +250,21 @@ fn hold_indicated(
     register: &Register,
     areas: &Areas,
     book: &Book,
-    found: &[AreaCoverages<'_>],
+    found: &mut FoundWarnings<'_>,
     tables: &mut KeptTables,
     spots: &[Spot],
 ) -> Result<Vec<Step>, AllocError>
     requires blank { leaves_blank h.now.event.now h.now.answer.now ≡ true }
-    requires found { AreFound areas.now book.now found.now }
+    requires found { AreFound areas.now book.now found.old }
     ensures held { (t : Tables) → AsBefore t tables.old → IfOk result (λ v. v.items ≡ changing_lines (record { event = h.now.event.now; answer = h.now.answer.now; up = h.now.up; flight = option_copied h.now.flight }) register.now areas.now book.now t spots.now (numbers book.now.warnings)) }
     ensures kept { (t : Tables) → AsBefore t tables.old → AsBefore t tables.new }
     ensures meter { AreInBook book.now tables.old → tables.new.lines.meter ≤ tables.old.lines.meter + length spots.now * length (numbers book.now.warnings) }
 {
     let all = book.warnings()?;
     let mut out = Vec::new(alloc);
-    let mut lists = SharedLists::new(alloc);
     for spot in spots {
         hold_indicated_spot(
             &mut out,
-            &mut lists,
             alloc,
             h,
             register,
@@ -276,22 +288,20 @@ fn hold_named(
     register: &Register,
     areas: &Areas,
     book: &Book,
-    found: &[AreaCoverages<'_>],
+    found: &mut FoundWarnings<'_>,
     tables: &mut KeptTables,
     spots: &[Spot],
     warnings: &[WarningId],
 ) -> Result<Vec<Step>, AllocError>
-    requires found { AreFound areas.now book.now found.now }
+    requires found { AreFound areas.now book.now found.old }
     ensures held { (t : Tables) → AsBefore t tables.old → IfOk result (λ v. v.items ≡ changing_lines (record { event = h.now.event.now; answer = h.now.answer.now; up = h.now.up; flight = option_copied h.now.flight }) register.now areas.now book.now t spots.now warnings.now) }
     ensures kept { (t : Tables) → AsBefore t tables.old → AsBefore t tables.new }
     ensures meter { tables.new.lines.meter ≤ tables.old.lines.meter + length spots.now * length warnings.now }
 {
     let mut out = Vec::with_capacity(alloc, spots.len())?;
-    let mut lists = SharedLists::new(alloc);
     for spot in spots {
         hold_changing_spot(
-            &mut out, &mut lists, h, register, areas, book, found, tables, spot.bsc, spot.cell,
-            warnings,
+            &mut out, h, register, areas, book, found, tables, spot.bsc, spot.cell, warnings,
         )?;
     }
     Ok(out)
@@ -305,12 +315,12 @@ pub(crate) fn hold_changing(
     register: &Register,
     areas: &Areas,
     book: &Book,
-    found: &[AreaCoverages<'_>],
+    found: &mut FoundWarnings<'_>,
     tables: &mut KeptTables,
     spots: &[Spot],
     warnings: &[WarningId],
 ) -> Result<Vec<Step>, AllocError>
-    requires found { AreFound areas.now book.now found.now }
+    requires found { AreFound areas.now book.now found.old }
     ensures held { (t : Tables) → AsBefore t tables.old → IfOk result (λ v. v.items ≡ changing_lines (record { event = h.now.event.now; answer = h.now.answer.now; up = h.now.up; flight = option_copied h.now.flight }) register.now areas.now book.now t spots.now (bearing h.now.event.now h.now.answer.now book.now warnings.now)) }
     ensures kept { (t : Tables) → AsBefore t tables.old → AsBefore t tables.new }
     ensures meter { AreInBook book.now tables.old → tables.new.lines.meter ≤ tables.old.lines.meter + length spots.now * length (bearing h.now.event.now h.now.answer.now book.now warnings.now) }

@@ -7,19 +7,19 @@ ghost use Rattle.areas.specs.Areas.{covers, selectors_of};
 ghost use Rattle.areas.specs.declared.selector.Selector.{Selector};
 ghost use Rattle.cell_register.specs.Register.{place_in, is_place};
 ghost use Rattle.warning_book.specs.Book.{current_of};
-ghost use Rattle.centre_core.specs.Found.{AreSelected, IsFound};
+ghost use Rattle.centre_core.specs.Found.{IsFound, IsFoundOf};
 ghost use Rattle.centre_core.specs.State.{covered_facts, facts_from};
 ghost use Rattle.centre_events.specs.Warnings.{serials};
 
-use crate::shared_lists::SharedLists;
+use crate::found_warnings::FoundWarnings;
 use areas::{Areas, Coverage};
 use cell_register::{BscId, Register};
 use common::{Cell, Name};
-use kept_tables::{AreaNames, LineFacts};
+use kept_tables::{AreaNames, LineFacts, Serials};
 use mirror::Line;
 use serials::Serial;
 use std::alloc::AllocError;
-use warning_book::Warning;
+use warning_book::{Warning, WarningId};
 
 /// Whether the area covers the cell, by what was found of it, if anything was.
 pub(crate) fn covers_at(
@@ -57,7 +57,8 @@ fn wanted(w: &Warning, here: bool, covered: bool) -> Option<Serial>
 }
 
 /// What is read of the line of a warning in a cell that is down or not, where these are those of its areas that cover the
-/// cell.
+/// cell, and the serial numbers of its versions.
+#[inline(always)]
 pub(crate) fn covered_facts(
     register: &Register,
     down: bool,
@@ -65,13 +66,15 @@ pub(crate) fn covered_facts(
     c: Cell,
     line: Line,
     covering: AreaNames,
+    versions: Serials,
     w: &Warning,
-    lists: &mut SharedLists,
+    found: &mut FoundWarnings<'_>,
 ) -> Result<LineFacts, AllocError>
-    ensures { IfOk result (λ f. f ≡ covered_facts register.now down b c line covering (Some w.now)) }
+    requires { versions ≡ serials w.now }
+    ensures facts { IfOk result (λ f. f ≡ covered_facts register.now down b c line covering (Some w.now)) }
+    ensures same { found.new ≡ found.old }
 {
-    let here = lists.is_here(register, b, c);
-    let versions = lists.serials_of(w.number(), w.versions())?;
+    let here = found.is_here(register, b, c);
     let wanted = wanted(w, here, !covering.as_slice().is_empty());
     Ok(LineFacts {
         line,
@@ -85,44 +88,46 @@ pub(crate) fn covered_facts(
     })
 }
 
-/// What is read of the line of a warning in a cell that is down or not.
+/// What is read of the line of a warning, which has that number, in a cell that is down or not.
 fn facts_of(
     register: &Register,
     areas: &Areas,
     down: bool,
     b: BscId,
     c: Cell,
+    n: WarningId,
     line: Line,
     w: &Warning,
-    coverages: &[Coverage<'_>],
-    lists: &mut SharedLists,
+    found: &mut FoundWarnings<'_>,
 ) -> Result<LineFacts, AllocError>
-    requires { AreSelected areas.now w.now.areas coverages.now }
-    ensures { IfOk result (λ f. f ≡ facts_from register.now areas.now down b c line (Some w.now)) }
+    requires { IsFound areas.now w.now n found.old }
+    ensures facts { IfOk result (λ f. f ≡ facts_from register.now areas.now down b c line (Some w.now)) }
+    ensures same { found.new ≡ found.old }
 {
-    let covering = lists.covering(w.number(), areas, w.areas(), coverages, c)?;
-    let facts = covered_facts(register, down, b, c, line, covering, w, lists)?;
+    let covering = found.covering(areas, n, w, c)?;
+    let versions = found.serials_of(n, w)?;
+    let facts = covered_facts(register, down, b, c, line, covering, versions, w, found)?;
     Ok(facts)
 }
 
-/// What is read of the line of a warning, if the book has it, in a cell that is down or not. What its areas cover was
-/// found before, or is looked for. Its lists are shared with those of other lines, where they are the same.
+/// What is read of the line of a warning of that number, if the book has it, in a cell that is down or not.
 pub(crate) fn facts_from(
     register: &Register,
     areas: &Areas,
     down: bool,
     b: BscId,
     c: Cell,
+    n: WarningId,
     line: Line,
     warning: Option<&Warning>,
-    coverages: &[Coverage<'_>],
-    lists: &mut SharedLists,
+    found: &mut FoundWarnings<'_>,
 ) -> Result<LineFacts, AllocError>
-    requires { IsFound areas.now (option_copied warning) coverages.now }
-    ensures { IfOk result (λ f. f ≡ facts_from register.now areas.now down b c line (option_copied warning.entry)) }
+    requires { IsFoundOf areas.now (option_copied warning) n found.old }
+    ensures facts { IfOk result (λ f. f ≡ facts_from register.now areas.now down b c line (option_copied warning.entry)) }
+    ensures same { found.new ≡ found.old }
 {
     match warning {
-        Some(w) => facts_of(register, areas, down, b, c, line, w, coverages, lists),
-        None => Ok(LineFacts::none(down, lists.is_here(register, b, c))),
+        Some(w) => facts_of(register, areas, down, b, c, n, line, w, found),
+        None => Ok(LineFacts::none(down, found.is_here(register, b, c))),
     }
 }

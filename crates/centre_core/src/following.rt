@@ -1,6 +1,7 @@
 //! How what is kept follows an event: the lines that it changes are changed after it.
 
-ghost use Rattle.std.specs.Prelude.{◌≡◌, ℕ, ◌≤◌, ◌+◌, ◌++◌, ◌∷◌, ◌&&◌, [], true, false, not, nat_eq, length, map, IfOk, OnOk};
+ghost use Rattle.std.specs.Prelude.{◌≡◌, ℕ, ◌≤◌, ◌+◌, ◌++◌, ◌∷◌, ◌&&◌, [], true, false, not, nat_eq, length, map, IfOk, OnOk, List};
+ghost use Rattle.areas.specs.declared.area.Area.{Area};
 ghost use Rattle.common.specs.declared.cell.Cell.{Cell};
 ghost use Rattle.kept_tables.specs.Changes.{Begins, IsNext, mixed};
 ghost use Rattle.kept_tables.specs.Consistent.{Consistent};
@@ -15,12 +16,11 @@ ghost use Rattle.centre_core.specs.Found.{AreFound};
 ghost use Rattle.centre_core.specs.State.{AreCovering};
 ghost use Rattle.warning_book.specs.Book.{warning_of};
 
-use crate::area_coverages::{AreaCoverages, area_coverages, coverages_for};
 use crate::downs::mark_downs;
 use crate::facts::{covered_facts, facts_from};
+use crate::found_warnings::{FoundWarnings, find};
 use crate::held::Held;
 use crate::held_lines::HeldLines;
-use crate::shared_lists::SharedLists;
 use areas::Areas;
 use cell_register::{BscId, Register};
 use centre_events::event::Event;
@@ -45,6 +45,7 @@ fn leaves_lines(h: &Happening<'_, '_>) -> bool
 
 /// Makes of the line what it is after what happens, of a warning if the book has it. At `false` it stayed as it was.
 #[tactic(auto, using(crate::proofs::BlankLineLemmas::edit_leaves))]
+#[inline(always)]
 pub(crate) fn line_now(
     h: &Happening<'_, '_>,
     warnings: &[Warning],
@@ -70,23 +71,22 @@ fn facts_then(
     register: &Register,
     areas: &Areas,
     book: &Book,
-    found: &[AreaCoverages<'_>],
+    found: &mut FoundWarnings<'_>,
     tables: &KeptTables,
     b: BscId,
     c: Cell,
     n: WarningId,
     line: Line,
-    lists: &mut SharedLists,
 ) -> Result<LineFacts, AllocError>
-    requires found { AreFound areas.now book.now found.now }
-    ensures { IfOk result (λ f. f ≡ facts_then (record { event = h.now.event.now; answer = h.now.answer.now; up = h.now.up; flight = option_copied h.now.flight }) register.now areas.now book.now tables.now (key_of b c n) line) }
+    requires found { AreFound areas.now book.now found.old }
+    ensures facts { IfOk result (λ f. f ≡ facts_then (record { event = h.now.event.now; answer = h.now.answer.now; up = h.now.up; flight = option_copied h.now.flight }) register.now areas.now book.now tables.now (key_of b c n) line) }
+    ensures same { found.new ≡ found.old }
 {
     let warning = book.find(n);
     let mut now = line;
     line_now(h, book.as_slice(), b, c, warning, &mut now);
     let down = tables.is_down(b, c);
-    let coverages = coverages_for(found, n);
-    facts_from(register, areas, down, b, c, now, warning, coverages, lists)
+    facts_from(register, areas, down, b, c, n, now, warning, found)
 }
 
 /// What is read of a line after an edit that leaves the areas that cover its cell.
@@ -94,14 +94,17 @@ fn covered_then(
     h: &Happening<'_, '_>,
     register: &Register,
     book: &Book,
+    found: &mut FoundWarnings<'_>,
     tables: &KeptTables,
     held: &Held,
-    lists: &mut SharedLists,
 ) -> Result<LineFacts, AllocError>
-    ensures { IfOk result (λ f. f ≡ (covered_change (record { event = h.now.event.now; answer = h.now.answer.now; up = h.now.up; flight = option_copied h.now.flight }) register.now book.now tables.now held.now).after) }
+    requires found { (l : List Area) × AreFound l book.now found.old }
+    ensures facts { IfOk result (λ f. f ≡ (covered_change (record { event = h.now.event.now; answer = h.now.answer.now; up = h.now.up; flight = option_copied h.now.flight }) register.now book.now tables.now held.now).after) }
+    ensures same { found.new ≡ found.old }
 {
     let LineKey { bsc, cell, warning } = held.key;
-    let warning = book.find(warning);
+    let n = warning;
+    let warning = book.find(n);
     let mut line = held.before.line;
     line_now(h, book.as_slice(), bsc, cell, warning, &mut line);
     let down = tables.is_down(bsc, cell);
@@ -113,10 +116,11 @@ fn covered_then(
             cell,
             line,
             held.before.areas.shared()?,
+            found.serials_of(n, w)?,
             w,
-            lists,
+            found,
         ),
-        None => Ok(LineFacts::none(down, lists.is_here(register, bsc, cell))),
+        None => Ok(LineFacts::none(down, found.is_here(register, bsc, cell))),
     }
 }
 
@@ -138,39 +142,23 @@ fn leaves_areas(h: &Happening<'_, '_>) -> bool
     }
 }
 
-/// What the areas of the warnings cover, where an edit may change which of them cover a cell. Few edits do.
-fn coverages_then<'a>(
-    alloc: Global,
-    h: &Happening<'_, '_>,
-    areas: &'a Areas,
-    book: &Book,
-    warnings: &[WarningId],
-) -> Result<Vec<AreaCoverages<'a>>, AllocError>
-    ensures { IfOk result (λ v. AreFound areas.now book.now v.items) }
-{
-    if leaves_areas(h) {
-        return Ok(Vec::new(alloc));
-    }
-    area_coverages(alloc, areas, book, warnings)
-}
-
 /// What is read of a line after an edit, from how it stood.
 fn then_of(
     h: &Happening<'_, '_>,
     register: &Register,
     areas: &Areas,
     book: &Book,
-    found: &[AreaCoverages<'_>],
+    found: &mut FoundWarnings<'_>,
     tables: &KeptTables,
     held: &Held,
-    lists: &mut SharedLists,
 ) -> Result<LineFacts, AllocError>
-    requires found { AreFound areas.now book.now found.now }
+    requires found { AreFound areas.now book.now found.old }
     requires covered { leaves_areas_then h.now.event.now ≡ true → AreCovering areas.now held.now.key.cell held.now.before.areas (warning_of book.now held.now.key.warning) }
-    ensures { IfOk result (λ f. f ≡ facts_then (record { event = h.now.event.now; answer = h.now.answer.now; up = h.now.up; flight = option_copied h.now.flight }) register.now areas.now book.now tables.now held.now.key held.now.before.line) }
+    ensures facts { IfOk result (λ f. f ≡ facts_then (record { event = h.now.event.now; answer = h.now.answer.now; up = h.now.up; flight = option_copied h.now.flight }) register.now areas.now book.now tables.now held.now.key held.now.before.line) }
+    ensures same { found.new ≡ found.old }
 {
     if leaves_areas(h) {
-        let facts = covered_then(h, register, book, tables, held, lists)?;
+        let facts = covered_then(h, register, book, found, tables, held)?;
         return Ok(facts);
     }
     let Held { key, before } = held;
@@ -185,7 +173,6 @@ fn then_of(
         key.cell,
         key.warning,
         before.line,
-        lists,
     )
 }
 
@@ -203,36 +190,35 @@ fn change_line(
     register: &Register,
     areas: &Areas,
     book: &Book,
-    found: &[AreaCoverages<'_>],
+    found: &mut FoundWarnings<'_>,
     tables: &mut KeptTables,
     held: &Held,
-    lists: &mut SharedLists,
 ) -> Result<(), AllocError>
-    requires found { AreFound areas.now book.now found.now }
+    requires found { AreFound areas.now book.now found.old }
     requires covered { leaves_areas_then h.now.event.now ≡ true → AreCovering areas.now held.now.key.cell held.now.before.areas (warning_of book.now held.now.key.warning) }
     requires next { IsNext tables.old (change_of (record { event = h.now.event.now; answer = h.now.answer.now; up = h.now.up; flight = option_copied h.now.flight }) register.now areas.now book.now tables.old held.now) }
     ensures made { OnOk result ((n : IsNext tables.old (change_of (record { event = h.now.event.now; answer = h.now.answer.now; up = h.now.up; flight = option_copied h.now.flight }) register.now areas.now book.now tables.old held.now)) → Consistent tables.new (mixed n.begins.from n.begins.to (n.done ++ change_of (record { event = h.now.event.now; answer = h.now.answer.now; up = h.now.up; flight = option_copied h.now.flight }) register.now areas.now book.now tables.old held.now ∷ []))) }
     ensures downs { tables.new.lines.downs ≡ tables.old.lines.downs }
     ensures meter { tables.new.lines.meter ≤ tables.old.lines.meter + 1 }
     ensures least { tables.old.lines.meter ≤ tables.new.lines.meter }
+    ensures same { found.new ≡ found.old }
 {
-    let after = then_of(h, register, areas, book, found, tables, held, lists)?;
+    let after = then_of(h, register, areas, book, found, tables, held)?;
     let stays = line_stays(h, &after);
     tables.make(&held.key, &held.before, &after, stays)
 }
 
 /// Changes the lines by an edit, from how they stood.
 fn change_lines(
-    alloc: Global,
     h: &Happening<'_, '_>,
     register: &Register,
     areas: &Areas,
     book: &Book,
-    found: &[AreaCoverages<'_>],
+    found: &mut FoundWarnings<'_>,
     tables: &mut KeptTables,
     held: &[Held],
 ) -> Result<(), AllocError>
-    requires found { AreFound areas.now book.now found.now }
+    requires found { AreFound areas.now book.now found.old }
     requires covered { leaves_areas_then h.now.event.now ≡ true → AreCovered areas.now book.now held.now }
     requires begins { Begins tables.old (map (change_of (record { event = h.now.event.now; answer = h.now.answer.now; up = h.now.up; flight = option_copied h.now.flight }) register.now areas.now book.now tables.old) held.now) }
     ensures made { OnOk result ((b : Begins tables.old (map (change_of (record { event = h.now.event.now; answer = h.now.answer.now; up = h.now.up; flight = option_copied h.now.flight }) register.now areas.now book.now tables.old) held.now)) → Consistent tables.new (mixed b.from b.to (map (change_of (record { event = h.now.event.now; answer = h.now.answer.now; up = h.now.up; flight = option_copied h.now.flight }) register.now areas.now book.now tables.old) held.now))) }
@@ -240,9 +226,8 @@ fn change_lines(
     ensures meter { tables.new.lines.meter ≤ tables.old.lines.meter + length held.now }
     ensures least { tables.old.lines.meter ≤ tables.new.lines.meter }
 {
-    let mut lists = SharedLists::new(alloc);
     for line in held {
-        change_line(h, register, areas, book, found, tables, line, &mut lists)?;
+        change_line(h, register, areas, book, found, tables, line)?;
     }
     Ok(())
 }
@@ -270,14 +255,13 @@ pub(crate) fn bear(
     mark_downs(tables, spots, h.event, h.answer)?;
     match lines {
         HeldLines::Whole(held) => {
-            let found = coverages_then(alloc, h, areas, book, warnings)?;
+            let mut found = find(alloc, areas, book, warnings, spots.len())?;
             change_lines(
-                alloc,
                 h,
                 register,
                 areas,
                 book,
-                &found,
+                &mut found,
                 tables,
                 held.as_slice(),
             )

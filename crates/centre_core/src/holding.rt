@@ -8,10 +8,9 @@ ghost use Rattle.kept_tables.specs.View.{key_of};
 ghost use Rattle.centre_core.specs.Following.{AsBefore, held_unless, held_at, held_lines, is_forget, is_idle, is_near, leaves_cover, passed_over};
 ghost use Rattle.centre_core.specs.Found.{AreFound};
 
-use crate::area_coverages::{AreaCoverages, coverages_for};
 use crate::facts::{facts_from, is_covered};
+use crate::found_warnings::FoundWarnings;
 use crate::held::Held;
-use crate::shared_lists::SharedLists;
 use areas::Areas;
 use cell_register::{BscId, Register};
 use common::Cell;
@@ -97,21 +96,21 @@ fn is_passed_over(
 #[tactic(auto, using(crate::proofs::FollowLemmas::facts_as, crate::proofs::FollowLemmas::as_read))]
 fn hold_line(
     out: &mut Vec<Held>,
-    lists: &mut SharedLists,
     register: &Register,
     areas: &Areas,
     book: &Book,
-    found: &[AreaCoverages<'_>],
+    found: &mut FoundWarnings<'_>,
     tables: &mut KeptTables,
     b: BscId,
     c: Cell,
     n: WarningId,
     edit: &Edit,
 ) -> Result<(), AllocError>
-    requires found { AreFound areas.now book.now found.now }
+    requires found { AreFound areas.now book.now found.old }
     ensures held { (t : Tables) → AsBefore t tables.old → OnOk result (out.new.items ≡ out.old.items ++ held_unless edit.now register.now areas.now book.now t (key_of b c n)) }
     ensures kept { (t : Tables) → AsBefore t tables.old → AsBefore t tables.new }
     ensures meter { tables.new.lines.meter ≤ tables.old.lines.meter + 1 }
+    ensures same { found.new ≡ found.old }
 {
     let line = tables.read_line(key_of(b, c, n));
     let warning = book.find(n);
@@ -119,8 +118,7 @@ fn hold_line(
         return Ok(());
     }
     let down = tables.is_down(b, c);
-    let coverages = coverages_for(found, n);
-    let before = facts_from(register, areas, down, b, c, line, warning, coverages, lists)?;
+    let before = facts_from(register, areas, down, b, c, n, line, warning, found)?;
     out.push(held_of(b, c, n, before))?;
     Ok(())
 }
@@ -128,25 +126,25 @@ fn hold_line(
 /// Reads the lines of the warnings in the cell at the BSC.
 fn hold_spot(
     out: &mut Vec<Held>,
-    lists: &mut SharedLists,
     register: &Register,
     areas: &Areas,
     book: &Book,
-    found: &[AreaCoverages<'_>],
+    found: &mut FoundWarnings<'_>,
     tables: &mut KeptTables,
     b: BscId,
     c: Cell,
     warnings: &[WarningId],
     edit: &Edit,
 ) -> Result<(), AllocError>
-    requires found { AreFound areas.now book.now found.now }
+    requires found { AreFound areas.now book.now found.old }
     ensures held { (t : Tables) → AsBefore t tables.old → OnOk result (out.new.items ≡ out.old.items ++ held_at edit.now register.now areas.now book.now t warnings.now (record { bsc = b; cell = c })) }
     ensures kept { (t : Tables) → AsBefore t tables.old → AsBefore t tables.new }
     ensures meter { tables.new.lines.meter ≤ tables.old.lines.meter + length warnings.now }
+    ensures same { found.new ≡ found.old }
 {
     for warning in warnings {
         hold_line(
-            out, lists, register, areas, book, found, tables, b, c, *warning, edit,
+            out, register, areas, book, found, tables, b, c, *warning, edit,
         )?;
     }
     Ok(())
@@ -181,12 +179,11 @@ pub(crate) fn near(
 /// lines of the others are idle.
 fn hold_near(
     out: &mut Vec<Held>,
-    lists: &mut SharedLists,
     alloc: Global,
     register: &Register,
     areas: &Areas,
     book: &Book,
-    found: &[AreaCoverages<'_>],
+    found: &mut FoundWarnings<'_>,
     tables: &mut KeptTables,
     b: BscId,
     c: Cell,
@@ -194,46 +191,45 @@ fn hold_near(
     edit: &Edit,
 ) -> Result<(), AllocError>
     requires cover { leaves_cover edit.now ≡ true }
-    requires found { AreFound areas.now book.now found.now }
+    requires found { AreFound areas.now book.now found.old }
     ensures held { (t : Tables) → AsBefore t tables.old → OnOk result (out.new.items ≡ out.old.items ++ held_at edit.now register.now areas.now book.now t warnings.now (record { bsc = b; cell = c })) }
     ensures kept { (t : Tables) → AsBefore t tables.old → AsBefore t tables.new }
     ensures meter { tables.new.lines.meter ≤ tables.old.lines.meter + length warnings.now }
+    ensures same { found.new ≡ found.old }
 {
     let near = near(alloc, areas, book, tables.lines(), b, c, warnings)?;
     let near = near.as_slice();
-    hold_spot(
-        out, lists, register, areas, book, found, tables, b, c, near, edit,
-    )?;
+    hold_spot(out, register, areas, book, found, tables, b, c, near, edit)?;
     Ok(())
 }
 
 /// Reads the lines in the cell at the BSC, and holds those that are not passed over.
 fn hold_there(
     out: &mut Vec<Held>,
-    lists: &mut SharedLists,
     alloc: Global,
     register: &Register,
     areas: &Areas,
     book: &Book,
-    found: &[AreaCoverages<'_>],
+    found: &mut FoundWarnings<'_>,
     tables: &mut KeptTables,
     b: BscId,
     c: Cell,
     warnings: &[WarningId],
     edit: &Edit,
 ) -> Result<(), AllocError>
-    requires found { AreFound areas.now book.now found.now }
+    requires found { AreFound areas.now book.now found.old }
     ensures held { (t : Tables) → AsBefore t tables.old → OnOk result (out.new.items ≡ out.old.items ++ held_at edit.now register.now areas.now book.now t warnings.now (record { bsc = b; cell = c })) }
     ensures kept { (t : Tables) → AsBefore t tables.old → AsBefore t tables.new }
     ensures meter { tables.new.lines.meter ≤ tables.old.lines.meter + length warnings.now }
+    ensures same { found.new ≡ found.old }
 {
     if leaves_cover(edit) {
         return hold_near(
-            out, lists, alloc, register, areas, book, found, tables, b, c, warnings, edit,
+            out, alloc, register, areas, book, found, tables, b, c, warnings, edit,
         );
     }
     hold_spot(
-        out, lists, register, areas, book, found, tables, b, c, warnings, edit,
+        out, register, areas, book, found, tables, b, c, warnings, edit,
     )
 }
 
@@ -243,23 +239,22 @@ pub(crate) fn hold(
     register: &Register,
     areas: &Areas,
     book: &Book,
-    found: &[AreaCoverages<'_>],
+    found: &mut FoundWarnings<'_>,
     tables: &mut KeptTables,
     spots: &[Spot],
     warnings: &[WarningId],
     edit: &Edit,
 ) -> Result<Vec<Held>, AllocError>
-    requires found { AreFound areas.now book.now found.now }
+    requires found { AreFound areas.now book.now found.old }
     ensures held { (t : Tables) → AsBefore t tables.old → IfOk result (λ v. v.items ≡ held_lines edit.now register.now areas.now book.now t spots.now warnings.now) }
     ensures kept { (t : Tables) → AsBefore t tables.old → AsBefore t tables.new }
     ensures meter { tables.new.lines.meter ≤ tables.old.lines.meter + length spots.now * length warnings.now }
 {
     let mut out = Vec::with_capacity(alloc, spots.len())?;
-    let mut lists = SharedLists::new(alloc);
     for spot in spots {
         hold_there(
-            &mut out, &mut lists, alloc, register, areas, book, found, tables, spot.bsc, spot.cell,
-            warnings, edit,
+            &mut out, alloc, register, areas, book, found, tables, spot.bsc, spot.cell, warnings,
+            edit,
         )?;
     }
     Ok(out)
@@ -271,22 +266,21 @@ pub(crate) fn hold_keys(
     register: &Register,
     areas: &Areas,
     book: &Book,
-    found: &[AreaCoverages<'_>],
+    found: &mut FoundWarnings<'_>,
     tables: &mut KeptTables,
     keys: &[LineKey],
     edit: &Edit,
 ) -> Result<Vec<Held>, AllocError>
-    requires found { AreFound areas.now book.now found.now }
+    requires found { AreFound areas.now book.now found.old }
     ensures held { (t : Tables) → AsBefore t tables.old → IfOk result (λ v. v.items ≡ flat_map (held_unless edit.now register.now areas.now book.now t) keys.now) }
     ensures kept { (t : Tables) → AsBefore t tables.old → AsBefore t tables.new }
     ensures meter { tables.new.lines.meter ≤ tables.old.lines.meter + length keys.now }
 {
     let mut out = Vec::with_capacity(alloc, keys.len())?;
-    let mut lists = SharedLists::new(alloc);
     for key in keys {
         let LineKey { bsc, cell, warning } = *key;
         hold_line(
-            &mut out, &mut lists, register, areas, book, found, tables, bsc, cell, warning, edit,
+            &mut out, register, areas, book, found, tables, bsc, cell, warning, edit,
         )?;
     }
     Ok(out)

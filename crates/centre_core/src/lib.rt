@@ -6,7 +6,6 @@
 //! that contracts cite are in `specs/`, beginning with `Past` and `IsKept`.
 #![tactic(auto)]
 
-mod area_coverages;
 pub mod centre;
 mod changing;
 mod downs;
@@ -17,6 +16,8 @@ mod finishing;
 mod flights;
 mod follow_lemmas;
 mod following;
+mod found_warning;
+mod found_warnings;
 pub mod headline;
 mod held;
 mod held_lines;
@@ -30,6 +31,7 @@ mod link;
 pub mod link_state;
 mod links;
 mod looking;
+mod marked_names;
 pub mod meter;
 mod outside_lemmas;
 mod questions;
@@ -38,7 +40,6 @@ mod reached;
 mod reached_warnings;
 mod rebuilding;
 pub mod reported;
-mod shared_lists;
 mod spots;
 
 pub use areas::Selector;

@@ -13,10 +13,10 @@ ghost use Rattle.centre_events.specs.declared.answer.Answer as answer_spec;
 ghost use Rattle.centre_events.specs.declared.event.Event.TheVariants as event;
 ghost use Rattle.coverage_plan.specs.declared.edit.Edit.TheVariants as edit_spec;
 
-use crate::area_coverages::area_coverages;
 use crate::changing::hold_changing;
 use crate::entering::up_before;
 use crate::flights::flight_of;
+use crate::found_warnings::find;
 use crate::held_lines::HeldLines;
 use crate::holding::{hold, hold_keys};
 use crate::kept::Kept;
@@ -54,13 +54,19 @@ fn reached_at_spots(alloc: Global, kept: &mut Kept, edit: &Edit) -> Result<Reach
         kept.tables.lines(),
         edit,
     )?;
-    let found = area_coverages(alloc, &kept.areas, &kept.book, &reach.warnings)?;
+    let mut found = find(
+        alloc,
+        &kept.areas,
+        &kept.book,
+        &reach.warnings,
+        reach.spots.len(),
+    )?;
     let held = hold(
         alloc,
         &kept.register,
         &kept.areas,
         &kept.book,
-        &found,
+        &mut found,
         &mut kept.tables,
         reach.spots.as_slice(),
         reach.warnings.as_slice(),
@@ -88,13 +94,13 @@ fn reached_by_forget(
     tell_lines(kept.tables.lines());
     let keys = kept.tables.lines().places_of(n)?;
     let warnings = of_edit(alloc, &kept.book, edit)?;
-    let found = area_coverages(alloc, &kept.areas, &kept.book, &warnings)?;
+    let mut found = find(alloc, &kept.areas, &kept.book, &warnings, keys.len())?;
     let held = hold_keys(
         alloc,
         &kept.register,
         &kept.areas,
         &kept.book,
-        &found,
+        &mut found,
         &mut kept.tables,
         keys.as_slice(),
         edit,
@@ -151,14 +157,20 @@ pub(crate) fn reached_by_other<'x>(
         up: up_before(kept.links.as_slice(), event),
         flight: flight_of(kept.flights.as_slice(), event),
     };
-    let found = area_coverages(alloc, &kept.areas, &kept.book, &reach.warnings)?;
+    let mut found = find(
+        alloc,
+        &kept.areas,
+        &kept.book,
+        &reach.warnings,
+        reach.spots.len(),
+    )?;
     let steps = hold_changing(
         alloc,
         &h,
         &kept.register,
         &kept.areas,
         &kept.book,
-        &found,
+        &mut found,
         &mut kept.tables,
         reach.spots.as_slice(),
         reach.warnings.as_slice(),

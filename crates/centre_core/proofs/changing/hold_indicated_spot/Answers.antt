@@ -12,6 +12,6 @@ returns-clause-held c =
     λ t same.
     c.in_ok-hold_changing_spot.ensures.held t same
     ∙ ap (λ xs. c.args.out.now.items ++ xs)
-    (ap (λ ns. changing_at h c.args.register.now c.args.areas.now c.args.book.now t ns p) c.as_slice-known.ensures.value
-    ∙ known_before h c.args.register.now c.args.areas.now c.args.book.now t c.args.tables.now p c.in_ok-known.known.items same c.requires.blank (search rules) c.tell_soundness.ensures.ordered c.in_ok-known.ensures.order (rw c.lines.ensures at c.in_ok-known.ensures.which)
+    (ap (λ ns. changing_at h c.args.register.now c.args.areas.now c.args.book.now t ns p) c.as_slice-indicated.ensures.value
+    ∙ known_before h c.args.register.now c.args.areas.now c.args.book.now t c.args.tables.now p c.in_ok-indicated.indicated.items same c.requires.blank (search rules) c.tell_soundness.ensures.ordered c.in_ok-indicated.ensures.order (rw c.lines.ensures at c.in_ok-indicated.ensures.which)
     ∙ ap (λ ns. changing_at h c.args.register.now c.args.areas.now c.args.book.now t ns p) (sym c.requires.all))

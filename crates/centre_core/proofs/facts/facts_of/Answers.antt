@@ -1,9 +1,12 @@
-use Rattle.std.proofs.Common.{◌≡◌, ◌∙◌, filter, ap}
-use Rattle.areas.specs.Areas.{covers}
+use Rattle.std.proofs.Common.{◌∙◌, subst, sym}
+use Rattle.centre_core.specs.Found.{IsFound}
 use Rattle.centre_core.proofs.CoveredLemmas.{covered_is}
 use Rattle.centre_core.proofs.facts.facts_of.Goals as goal
 
-pub returns : goal.returns
-returns c =
-    let names : c.in_ok-covering.covering ≡ filter (λ a. covers c.args.areas.now a c.args.c) c.args.w.now.areas = c.in_ok-covering.ensures ∙ ap (filter (λ a. covers c.args.areas.now a c.args.c)) c.areas.ensures in
-    c.in_ok-facts.ensures ∙ covered_is c.args.register.now c.args.areas.now c.args.down c.args.b c.args.c c.args.line c.in_ok-covering.covering c.args.w.now names
+pub returns-clause-facts : goal.returns-clause-facts
+returns-clause-facts c =
+    c.in_ok-facts.ensures.facts ∙ covered_is c.args.register.now c.args.areas.now c.args.down c.args.b c.args.c c.args.line c.in_ok-covering.covering c.args.w.now c.in_ok-covering.ensures.covering
+
+pub serials_of-requires : goal.serials_of-requires
+serials_of-requires c =
+    (c.args.areas.now, subst (IsFound c.args.areas.now c.args.w.now c.args.n) (sym c.in_ok-covering.ensures.same) c.requires)

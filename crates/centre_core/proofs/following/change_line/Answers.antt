@@ -15,7 +15,7 @@ pub make-requires-clause-next : goal.make-requires-clause-next
 make-requires-clause-next c =
     let h : Happens = record { event = c.args.h.now.event.now; answer = c.args.h.now.answer.now; up = c.args.h.now.up; flight = option_copied c.args.h.now.flight } in
     let x : Change = record { key = c.args.held.now.key; before = c.args.held.now.before; after = c.in_ok-after.after } in
-    let same : change_of h c.args.register.now c.args.areas.now c.args.book.now c.args.tables.now c.args.held.now ≡ x = λ i. record { key = c.args.held.now.key; before = c.args.held.now.before; after = sym c.in_ok-after.ensures i } in
+    let same : change_of h c.args.register.now c.args.areas.now c.args.book.now c.args.tables.now c.args.held.now ≡ x = λ i. record { key = c.args.held.now.key; before = c.args.held.now.before; after = sym c.in_ok-after.ensures.facts i } in
     next_as c.args.tables.now (change_of h c.args.register.now c.args.areas.now c.args.book.now c.args.tables.now c.args.held.now) x same c.requires.next
 
 -- the line is itself, where it is known to stay
@@ -24,15 +24,15 @@ make-requires-clause-stays c =
     let h : Happens = record { event = c.args.h.now.event.now; answer = c.args.h.now.answer.now; up = c.args.h.now.up; flight = option_copied c.args.h.now.flight } in
     λ yes.
     let parts = and_parts (leaves_lines h.event) (not (nat_eq (length c.in_ok-after.after.versions) 0)) (sym c.line_stays-stays.ensures ∙ yes) in
-    line_stays h c.args.register.now c.args.areas.now c.args.book.now c.args.tables.now c.args.held.now parts.0 (ap (λ (f : LineFacts). nat_eq (length f.versions) 0) (sym c.in_ok-after.ensures) ∙ not-true (nat_eq (length c.in_ok-after.after.versions) 0) parts.1)
-    ∙ ap (λ (f : LineFacts). f.line) (sym c.in_ok-after.ensures)
+    line_stays h c.args.register.now c.args.areas.now c.args.book.now c.args.tables.now c.args.held.now parts.0 (ap (λ (f : LineFacts). nat_eq (length f.versions) 0) (sym c.in_ok-after.ensures.facts) ∙ not-true (nat_eq (length c.in_ok-after.after.versions) 0) parts.1)
+    ∙ ap (λ (f : LineFacts). f.line) (sym c.in_ok-after.ensures.facts)
 
 -- it is made
 pub returns-clause-made : goal.returns-clause-made
 returns-clause-made c =
     let h : Happens = record { event = c.args.h.now.event.now; answer = c.args.h.now.answer.now; up = c.args.h.now.up; flight = option_copied c.args.h.now.flight } in
     let x : Change = record { key = c.args.held.now.key; before = c.args.held.now.before; after = c.in_ok-after.after } in
-    let same : change_of h c.args.register.now c.args.areas.now c.args.book.now c.args.tables.now c.args.held.now ≡ x = λ i. record { key = c.args.held.now.key; before = c.args.held.now.before; after = sym c.in_ok-after.ensures i } in
+    let same : change_of h c.args.register.now c.args.areas.now c.args.book.now c.args.tables.now c.args.held.now ≡ x = λ i. record { key = c.args.held.now.key; before = c.args.held.now.before; after = sym c.in_ok-after.ensures.facts i } in
     on_ok_weaker c.make.result
     (λ done n. subst (λ y. Consistent c.make.new.self (mixed n.begins.from n.begins.to (n.done ++ y ∷ []))) (sym same) (done (next_as c.args.tables.now (change_of h c.args.register.now c.args.areas.now c.args.book.now c.args.tables.now c.args.held.now) x same n)))
     c.make.ensures.made

@@ -4,9 +4,13 @@ use Rattle.std.specs.Option.{option_copied}
 use Rattle.kept_tables.specs.Changes.{mixed}
 use Rattle.kept_tables.specs.Consistent.{Consistent}
 use Rattle.centre_core.specs.Following.{Happens, change_of}
+use Rattle.centre_core.specs.Found.{AreFound}
 use Rattle.centre_core.proofs.CoveredLemmas.{covered_at}
 use Rattle.centre_core.proofs.MakingLemmas.{change_as, one_more, parted}
 use Rattle.centre_core.proofs.following.change_lines.Goals as goal
+
+pub change_line-requires-clause-found : goal.change_line-requires-clause-found
+change_line-requires-clause-found c = subst (AreFound c.args.areas.now c.args.book.now) (sym c.loop-line.invariant.found) c.requires.found
 
 pub change_line-requires-clause-covered : goal.change_line-requires-clause-covered
 change_line-requires-clause-covered c = λ leaves. covered_at c.args.areas.now c.args.book.now c.args.held.now c.loop-line.line-index c.line-item.result (c.requires.covered leaves) c.loop-line-test.true c.line-item.is
@@ -45,6 +49,7 @@ loop-line-preserved c =
       downs = c.change_line.ensures.downs ∙ c.loop-line.invariant.downs;
       meter = omega (arith, c.change_line.ensures.meter, c.loop-line.invariant.meter);
       least = omega (arith, c.change_line.ensures.least, c.loop-line.invariant.least);
+      found = c.change_line.ensures.same ∙ c.loop-line.invariant.found;
     }
 
 pub returns-clause-made : goal.returns-clause-made

@@ -12,4 +12,5 @@ invariant-loop-line l = record {
   downs : l.tables.lines.downs ≡ l.initial.tables.lines.downs;
   meter : l.tables.lines.meter ≤ l.initial.tables.lines.meter + l.line-index;
   least : l.initial.tables.lines.meter ≤ l.tables.lines.meter;
+  found : l.found ≡ l.initial.found;
 }

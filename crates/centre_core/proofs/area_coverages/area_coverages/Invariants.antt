@@ -1,5 +1,0 @@
-use Rattle.centre_core.specs.Found.{AreFound}
-use Rattle.centre_core.proofs.area_coverages.area_coverages.Given as goal
-
-abbrev pub invariant-loop-warning : goal.invariant-loop-warning
-invariant-loop-warning l = AreFound l.areas l.book l.found.items

@@ -1,0 +1,5 @@
+use Rattle.centre_core.specs.Found.{AreFound}
+use Rattle.centre_core.proofs.found_warnings.find.Given as goal
+
+abbrev pub invariant-loop-warning : goal.invariant-loop-warning
+invariant-loop-warning l = AreFound l.areas l.book l.found.items

@@ -1,0 +1,6 @@
+use Rattle.std.proofs.Common.{sym, subst}
+use Rattle.centre_core.specs.Found.{AreFound}
+use Rattle.centre_core.proofs.holding.hold_spot.Goals as goal
+
+pub hold_line-requires : goal.hold_line-requires
+hold_line-requires c = record { found = subst (AreFound c.args.areas.now c.args.book.now) (sym c.loop-warning.invariant.1.1) c.requires.found }

@@ -1,0 +1,221 @@
+//! What is read once of a warning, for all its lines on which an event bears.
+
+ghost use Rattle.std.specs.Prelude.{◌≡◌, ◌<◌, ℕ, List, filter, length, map, IfOk, IfSome};
+ghost use Rattle.std.specs.List.{slice_index_or};
+ghost use Rattle.areas.specs.Areas.{covers, selects, selectors_of};
+ghost use Rattle.centre_events.specs.Warnings.{serials};
+ghost use Rattle.centre_core.specs.Found.{AreSelected};
+ghost use Rattle.centre_core.specs.Marks.{AreMarked, IsMarked, marks};
+ghost use Rattle.centre_core.specs.declared.marked_names.MarkedNames.{MarkedNames};
+
+use crate::facts::covers_at;
+use crate::marked_names::MarkedNames;
+use areas::{Areas, Coverage};
+use common::{Cell, Name};
+use kept_tables::{AreaNames, Serials};
+use std::alloc::{AllocError, Global};
+use std::marker::Model;
+use warning_book::{Version, Warning, WarningId};
+
+/// How many lists of areas are kept of one warning.
+const MOST_LISTS: usize = 8;
+
+/// The least number that can't be doubled in 32 bits.
+const MOST_MARKS: u32 = 2_147_483_648;
+
+/// The serial numbers of the versions, in memory of their own.
+pub(crate) fn own_serials_of(alloc: Global, versions: &[Version]) -> Result<Serials, AllocError>
+    ensures { IfOk result (λ s. s ≡ map (λ v. v.serial) versions.now) }
+{
+    let mut numbers = Vec::with_capacity(alloc, versions.len())?;
+    for version in versions {
+        numbers.push(version.serial)?;
+    }
+    Serials::from_vec(alloc, numbers)
+}
+
+/// The names, in memory of their own.
+fn own_names(alloc: Global, names: &[Name]) -> Result<AreaNames, AllocError>
+    ensures { IfOk result (λ n. n ≡ names.now) }
+{
+    let mut out = Vec::with_capacity(alloc, names.len())?;
+    for name in names {
+        out.push(name.copied(alloc)?)?;
+    }
+    AreaNames::from_vec(alloc, out)
+}
+
+/// What each of the areas of these names covers.
+fn coverages_of<'a>(
+    alloc: Global,
+    areas: &'a Areas,
+    names: &[Name],
+) -> Result<Vec<Coverage<'a>>, AllocError>
+    ensures { IfOk result (λ v. v.items ≡ map (selectors_of areas.now) names.now) }
+{
+    let mut coverages = Vec::with_capacity(alloc, names.len())?;
+    for name in names {
+        coverages.push(areas.coverage(name))?;
+    }
+    Ok(coverages)
+}
+
+/// Which of these cover the cell, as one number. `None` where they are too many for it.
+fn marks_of(coverages: &[Coverage<'_>], c: Cell) -> Option<u32>
+    ensures { IfSome result (λ n. n ≡ marks (λ s. selects s c) coverages.now) }
+{
+    let mut marks: u32 = 0;
+    for coverage in coverages {
+        if marks >= MOST_MARKS {
+            return None;
+        }
+        marks *= 2;
+        if coverage.covers(c) {
+            marks += 1;
+        }
+    }
+    Some(marks)
+}
+
+/// The names of those of the areas that cover the cell, in memory of their own. What they cover was found before, or is
+/// looked for.
+pub(crate) fn own_covering(
+    alloc: Global,
+    areas: &Areas,
+    names: &[Name],
+    coverages: &[Coverage<'_>],
+    c: Cell,
+) -> Result<AreaNames, AllocError>
+    requires { AreSelected areas.now names.now coverages.now }
+    ensures { IfOk result (λ n. n ≡ filter (λ a. covers areas.now a c) names.now) }
+{
+    let mut out = Vec::new(alloc);
+    for (i, name) in names.iter().enumerate() {
+        if covers_at(areas, name, coverages, i, c) {
+            out.push(name.copied(alloc)?)?;
+        }
+    }
+    if out.is_empty() {
+        return Ok(AreaNames::none());
+    }
+    AreaNames::from_vec(alloc, out)
+}
+
+/// Where the list with those marks stands, if there is one.
+fn place_of(lists: &[MarkedNames], marks: u32) -> Option<usize>
+    ensures bound { IfSome result (λ n. n < length lists.now) }
+    ensures found { IfSome result (λ n. (d : MarkedNames) → (slice_index_or lists.now n d).marks ≡ marks) }
+{
+    for (i, list) in lists.iter().enumerate() {
+        if list.marks == marks {
+            return Some(i);
+        }
+    }
+    None
+}
+
+/// Takes out the last of the lists where there are many.
+#[tactic(auto, using(crate::proofs::MarksLemmas::marked_before))]
+fn make_room(lists: &mut Vec<MarkedNames>)
+    ensures { (all : List (List ℕ)) → AreMarked all lists.old.items → AreMarked all lists.new.items }
+{
+    if lists.len() >= MOST_LISTS {
+        lists.pop();
+    }
+}
+
+/// Keeps the names with those marks among the lists, in the place of the last of them where there are many.
+#[tactic(auto, using(crate::proofs::MarksLemmas::marked_more))]
+fn remember(lists: &mut Vec<MarkedNames>, marks: u32, names: AreaNames) -> Result<(), AllocError>
+    ensures { (all : List (List ℕ)) → AreMarked all lists.old.items → IsMarked all (record { marks = marks; names = names }) → AreMarked all lists.new.items }
+{
+    make_room(lists);
+    lists.push(MarkedNames { marks, names })?;
+    Ok(())
+}
+
+/// The serial numbers of a warning's versions, its areas, and what each of these covers. Lines of it share the lists.
+#[derive(Drop)]
+pub(crate) struct FoundWarning<'a> {
+    alloc: Global,
+    warning: WarningId,
+    serials: Serials,
+    names: AreaNames,
+    coverages: Vec<Coverage<'a>>,
+    /// Lists of those areas that cover a cell: cells that the same areas cover have the same list.
+    lists: Vec<MarkedNames>,
+}
+
+impl<'a> Model for FoundWarning<'a> {
+    ghost use Rattle.centre_core.specs.Found.{Found};
+    ghost use Rattle.centre_core.specs.Marks.{AreMarked};
+
+    ghost Value = { Found };
+
+    ghost view = { λ t. record { warning = t.warning; serials = t.serials; names = t.names; selectors = t.coverages.items } };
+
+    ghost invariant = { λ t. AreMarked t.names t.lists.items };
+}
+
+impl FoundWarning<'_> {
+    ghost use Rattle.std.specs.Prelude.{◌≡◌, filter, map, nat_eq, IfOk, OnOk};
+    ghost use Rattle.std.specs.Option.{option_copied};
+    ghost use Rattle.areas.specs.Areas.{covers, selectors_of};
+    ghost use Rattle.centre_core.specs.Found.{IsOf};
+
+    /// What the warning has; nothing where there is no such warning.
+    pub(crate) fn of<'a>(
+        alloc: Global,
+        areas: &'a Areas,
+        number: WarningId,
+        warning: Option<&Warning>,
+    ) -> Result<FoundWarning<'a>, AllocError>
+        ensures number { IfOk result (λ x. x.warning ≡ number) }
+        ensures found { IfOk result (IsOf areas.now (option_copied warning.entry)) }
+    {
+        let (versions, names): (&[Version], &[Name]) = match warning {
+            Some(w) => (w.versions(), w.areas()),
+            None => (&[], &[]),
+        };
+        Ok(FoundWarning {
+            alloc,
+            warning: number,
+            serials: own_serials_of(alloc, versions)?,
+            names: own_names(alloc, names)?,
+            coverages: coverages_of(alloc, areas, names)?,
+            lists: Vec::new(alloc),
+        })
+    }
+
+    /// Whether it is of the warning of that number.
+    pub(crate) fn is_of(&self, number: WarningId) -> bool
+        ensures { result ≡ nat_eq number self.now.warning }
+    {
+        number == self.warning
+    }
+
+    /// The serial numbers of the versions.
+    pub(crate) fn serials(&self) -> Result<Serials, AllocError>
+        ensures { IfOk result (λ s. s ≡ self.now.serials) }
+    {
+        self.serials.shared()
+    }
+
+    /// Those of the areas that cover the cell.
+    pub(crate) fn covering(&mut self, areas: &Areas, c: Cell) -> Result<AreaNames, AllocError>
+        requires { self.old.selectors ≡ map (selectors_of areas.now) self.old.names }
+        ensures covering { IfOk result (λ n. n ≡ filter (λ a. covers areas.now a c) self.old.names) }
+        ensures same { self.new ≡ self.old }
+    {
+        let Some(marks) = marks_of(&self.coverages, c) else {
+            return own_covering(self.alloc, areas, self.names.as_slice(), &self.coverages, c);
+        };
+        if let Some(place) = place_of(&self.lists, marks) {
+            return self.lists[place].names.shared();
+        }
+        let names = own_covering(self.alloc, areas, self.names.as_slice(), &self.coverages, c)?;
+        let names_again = names.shared()?;
+        remember(&mut self.lists, marks, names_again)?;
+        Ok(names)
+    }
+}

@@ -1,0 +1,128 @@
+//! What is read once of the warnings on whose lines an event bears.
+
+ghost use Rattle.std.specs.Prelude.{◌≡◌, ◌<◌, nat_eq, true, length, IfOk, IfSome};
+ghost use Rattle.std.specs.List.{slice_index_or};
+ghost use Rattle.centre_core.specs.Found.{AreFound, Found};
+
+use crate::found_warning::{FoundWarning, own_covering, own_serials_of};
+use areas::Areas;
+use cell_register::{BscId, Register};
+use common::Cell;
+use kept_tables::{AreaNames, Serials};
+use std::alloc::{AllocError, Global};
+use std::marker::Model;
+use warning_book::{Book, Warning, WarningId};
+
+/// The greatest number of warnings of which something is read once where an event bears on fewer cells than warnings.
+const MOST_WARNINGS: usize = 8;
+
+/// Where the warning of that number stands, if it is there. It mostly stands where the last one did.
+fn place_of(found: &[FoundWarning<'_>], last: usize, n: WarningId) -> Option<usize>
+    ensures bound { IfSome result (λ i. i < length found.now) }
+    ensures found { IfSome result (λ i. (d : Found) → nat_eq n (slice_index_or found.now i d).warning ≡ true) }
+{
+    if last < found.len() && found[last].is_of(n) {
+        return Some(last);
+    }
+    for (i, it) in found.iter().enumerate() {
+        if it.is_of(n) {
+            return Some(i);
+        }
+    }
+    None
+}
+
+/// What was read once of some warnings, and where the last one and the last cell were found.
+#[derive(Drop)]
+pub(crate) struct FoundWarnings<'a> {
+    alloc: Global,
+    found: Vec<FoundWarning<'a>>,
+    last: usize,
+    near: usize,
+}
+
+impl<'a> Model for FoundWarnings<'a> {
+    ghost use Rattle.std.specs.Prelude.{List};
+    ghost use Rattle.centre_core.specs.Found.{Found};
+
+    ghost Value = { List Found };
+
+    ghost view = { λ t. t.found.items };
+}
+
+/// What is read once of the warnings, where they are few, or fewer than the cells on which the event bears.
+#[tactic(auto, using(crate::proofs::CoverageLemmas::found_more))]
+pub(crate) fn find<'a>(
+    alloc: Global,
+    areas: &'a Areas,
+    book: &Book,
+    warnings: &[WarningId],
+    cells: usize,
+) -> Result<FoundWarnings<'a>, AllocError>
+    ensures { IfOk result (AreFound areas.now book.now) }
+{
+    let mut found = Vec::new(alloc);
+    if warnings.len() <= MOST_WARNINGS || warnings.len() <= cells {
+        for warning in warnings {
+            found.push(FoundWarning::of(alloc, areas, *warning, book.find(*warning))?)?;
+        }
+    }
+    Ok(FoundWarnings {
+        alloc,
+        found,
+        last: 0,
+        near: 0,
+    })
+}
+
+impl FoundWarnings<'_> {
+    ghost use Rattle.std.specs.Prelude.{◌≡◌, List, filter, IfOk};
+    ghost use Rattle.areas.specs.Areas.{covers};
+    ghost use Rattle.areas.specs.declared.area.Area.{Area};
+    ghost use Rattle.cell_register.specs.Register.{place_in, is_place};
+    ghost use Rattle.centre_events.specs.Warnings.{serials};
+    ghost use Rattle.centre_core.specs.Found.{IsFound};
+
+    /// The serial numbers of the versions of the warning, which has that number.
+    pub(crate) fn serials_of(&mut self, n: WarningId, w: &Warning) -> Result<Serials, AllocError>
+        requires { (l : List Area) × IsFound l w.now n self.old }
+        ensures serials { IfOk result (λ s. s ≡ serials w.now) }
+        ensures same { self.new ≡ self.old }
+    {
+        let Some(place) = place_of(&self.found, self.last, n) else {
+            return own_serials_of(self.alloc, w.versions());
+        };
+        self.last = place;
+        self.found[place].serials()
+    }
+
+    /// Those of the areas of the warning, which has that number, that cover the cell.
+    pub(crate) fn covering(
+        &mut self,
+        areas: &Areas,
+        n: WarningId,
+        w: &Warning,
+        c: Cell,
+    ) -> Result<AreaNames, AllocError>
+        requires { IsFound areas.now w.now n self.old }
+        ensures covering { IfOk result (λ names. names ≡ filter (λ a. covers areas.now a c) w.now.areas) }
+        ensures same { self.new ≡ self.old }
+    {
+        let Some(place) = place_of(&self.found, self.last, n) else {
+            return own_covering(self.alloc, areas, w.areas(), &[], c);
+        };
+        self.last = place;
+        self.found[place].covering(areas, c)
+    }
+
+    /// Whether the cell is registered at the BSC.
+    pub(crate) fn is_here(&mut self, register: &Register, b: BscId, c: Cell) -> bool
+        ensures here { result ≡ is_place (place_in register.now c) b }
+        ensures same { self.new ≡ self.old }
+    {
+        match register.bsc_near(c, &mut self.near) {
+            Some(other) => other == b,
+            None => false,
+        }
+    }
+}
