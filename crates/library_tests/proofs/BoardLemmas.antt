@@ -1,14 +1,15 @@
--- That one line can be counted on a board on which nothing is, and taken away again.
-use Rattle.std.proofs.Common.{◌≡◌, ℕ, ◌+◌, ◌-◌, ◌<◌, ◌≤◌, ◌^◌, ◌%◌, Bool, true, false, List, if◌then◌else◌, nat_eq, replicate, refl, ap, ◌∙◌, arith}
+-- That one line can be counted on a board on which nothing is, then changed or taken away again.
+use Rattle.std.proofs.Common.{◌≡◌, ℕ, ◌+◌, ◌-◌, ◌<◌, ◌≤◌, ◌^◌, ◌%◌, Bool, true, false, List, [], ◌∷◌, if◌then◌else◌, nat_eq, replicate, refl, ap, ◌∙◌, arith}
 use Rattle.std.proofs.lemmas.List.{get_or-replicate}
 use Rattle.std.specs.Cmp.{unsigned_Decides}
-use Rattle.common.specs.Sums.{one}
+use Rattle.common.specs.Sums.{one, sum_of}
 use Rattle.coverage_board.specs.Numbers.{zero_numbers, moved, less, Holds, FitsWith}
 use Rattle.coverage_board.specs.Parts.{broadcast_count, total_part, has_area, area_part, part_where, without_left}
 use Rattle.coverage_board.specs.Standings.{Stand}
 use Rattle.coverage_board.specs.declared.numbers.Numbers.{Numbers}
-use Rattle.mirror.specs.Line.{blank, state_of}
+use Rattle.mirror.specs.Line.{blank, blank_line, state_of}
 use Rattle.mirror.specs.declared.key_state.KeyState.{KeyState}
+use Rattle.mirror.specs.declared.line.Line.{Line}
 
 one_fits : (b : Bool) → 0 + one b < 2 ^ 64
 one_fits true = omega arith
@@ -66,3 +67,26 @@ moved_room old new w q z h =
 -- a line whose versions are all the same has the same for each serial number
 pub same_count : (k : KeyState) (s : ℕ) → (state_of (record { states = replicate 16 k }) s).count ≡ k.count
 same_count k s = ap (λ (j : KeyState). j.count) (get_or-replicate 16 (s % 16) k blank (omega arith))
+
+-- of a blank line nothing was broadcast
+pub no_count : (line : Line) (versions : List ℕ) → line ≡ blank_line → sum_of (λ s. (state_of line s).count) versions ≡ 0
+no_count line versions e = rw e (none versions)
+  where
+    none : (vs : List ℕ) → sum_of (λ s. (state_of blank_line s).count) vs ≡ 0
+    none [] = refl
+    none (s ∷ vs) = rw (same_count blank s, none vs) refl
+
+-- where one line alone is counted, any part can take the place of its part that fits where nothing is counted
+
+fits_then : (n m : ℕ) → 0 + m < 2 ^ 64 → 0 - 0 + n - n + m < 2 ^ 64
+fits_then n m h = omega (arith, h)
+
+pub moved_fits : (old new : ℕ → Numbers) (w : ℕ) (q r : Numbers) → old w ≡ zero_numbers → ((v : ℕ) → new v ≡ (if nat_eq w v then moved (old v) zero_numbers q else old v)) → FitsWith zero_numbers r → FitsWith (less (new w) q) r
+moved_fits old new w q r z h f =
+    rw (h w ∙ ap (λ t. if t then moved (old w) zero_numbers q else old w) (same_number w) ∙ ap (λ n. moved n zero_numbers q) z) (record {
+      awaited = fits_then q.awaited r.awaited f.awaited;
+      on_air = fits_then q.on_air r.on_air f.on_air;
+      failed = fits_then q.failed r.failed f.failed;
+      left = fits_then q.left r.left f.left;
+      broadcasts = fits_then q.broadcasts r.broadcasts f.broadcasts;
+    })

@@ -91,6 +91,7 @@ fn every_call_answers(rt: HostRuntime) {
     let named = table.cells_named(&register, NETWORK, b, &[CellId::All]);
     assert!(rt; named.is_ok());
     assert!(rt; table.warnings_at(b, MOVED).is_ok());
+    assert!(rt; table.held_at(b, MOVED).is_ok());
     assert!(rt; table.places_of(WarningId::new(1)).is_ok());
     finds(&rt, &mut table, 0xc000, None, 1, &[]);
     table.tell_soundness();
@@ -174,4 +175,56 @@ fn a_held_key_is_not_blank(rt: HostRuntime) {
             .is_blank()
     );
     assert_eq!(rt; line.state(Serial::from_u16(0xc00f)), state);
+}
+
+/// A line whose first version is held.
+fn held() -> Line {
+    let mut state = KeyState::blank();
+    state.hold = Some(Cause::UNSPECIFIED_ERROR);
+    Line::blank().with_state(Serial::from_u16(0xc000), state)
+}
+
+/// Compares the warnings whose line in the cell at BSC 1 is held.
+fn holds(rt: &impl Abort, table: &LineTable, cell: Cell, want: &[u32]) {
+    let found = table.held_at(bsc(rt, 1), cell).expect(rt, "memory");
+    assert_eq!(rt; found.len(), want.len());
+    for index in 0..want.len() {
+        assert_eq!(rt; found[index].number(), want[index]);
+    }
+}
+
+#[test]
+fn held_lines_are_found_by_their_cell(rt: HostRuntime) {
+    let b = bsc(&rt, 1);
+    let mut table = reported(&rt, rt.alloc());
+    holds(&rt, &table, MOVED, &[]);
+    sets_line(&rt, &mut table, key(b, MOVED), held());
+    sets_line(&rt, &mut table, key(b, DOWN), held());
+    let mut other = key(b, MOVED);
+    other.warning = WarningId::new(7);
+    sets_line(&rt, &mut table, other, held());
+    holds(&rt, &table, MOVED, &[1, 7]);
+    sets_line(&rt, &mut table, key(b, MOVED), on_air());
+    holds(&rt, &table, MOVED, &[7]);
+    sets_line(&rt, &mut table, other, Line::blank());
+    holds(&rt, &table, MOVED, &[]);
+    holds(&rt, &table, DOWN, &[1]);
+    holds(&rt, &table, REGISTERED, &[]);
+}
+
+#[test]
+fn a_state_is_read_as_it_was_set(rt: HostRuntime) {
+    let serial = Serial::from_u16(0xc00f);
+    let state = KeyState {
+        presence: Presence::Unknown,
+        hold: Some(Cause(255)),
+        count: 65535,
+    };
+    let mut line = Line::blank();
+    line.set_state(serial, state);
+    line.tell_counts();
+    assert_eq!(rt; line.state(serial), state);
+    assert_eq!(rt; line.state(Serial::from_u16(0xc000)), KeyState::blank());
+    assert_eq!(rt; line, Line::blank().with_state(serial, state));
+    assert_eq!(rt; Line::of_each(state).state(Serial::from_u16(0xc003)), state);
 }
