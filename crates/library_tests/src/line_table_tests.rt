@@ -184,6 +184,15 @@ fn held() -> Line {
     Line::blank().with_state(Serial::from_u16(0xc000), state)
 }
 
+/// The line of warning 7 in the cell at the BSC.
+fn seventh(bsc: BscId, cell: Cell) -> LineKey {
+    LineKey {
+        bsc,
+        cell,
+        warning: WarningId::new(7),
+    }
+}
+
 /// Compares the warnings whose line in the cell at BSC 1 is held.
 fn holds(rt: &impl Abort, table: &LineTable, cell: Cell, want: &[u32]) {
     let found = table.held_at(bsc(rt, 1), cell).expect(rt, "memory");
@@ -200,13 +209,11 @@ fn held_lines_are_found_by_their_cell(rt: HostRuntime) {
     holds(&rt, &table, MOVED, &[]);
     sets_line(&rt, &mut table, key(b, MOVED), held());
     sets_line(&rt, &mut table, key(b, DOWN), held());
-    let mut other = key(b, MOVED);
-    other.warning = WarningId::new(7);
-    sets_line(&rt, &mut table, other, held());
+    sets_line(&rt, &mut table, seventh(b, MOVED), held());
     holds(&rt, &table, MOVED, &[1, 7]);
     sets_line(&rt, &mut table, key(b, MOVED), on_air());
     holds(&rt, &table, MOVED, &[7]);
-    sets_line(&rt, &mut table, other, Line::blank());
+    sets_line(&rt, &mut table, seventh(b, MOVED), Line::blank());
     holds(&rt, &table, MOVED, &[]);
     holds(&rt, &table, DOWN, &[1]);
     holds(&rt, &table, REGISTERED, &[]);
