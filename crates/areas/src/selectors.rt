@@ -35,7 +35,7 @@ impl Model for Selectors {
     ghost invariant = { λ s. IfSome s.shares (λ kept. Tells s.selectors.items kept.value) };
 }
 
-/// Has what is kept be what those selectors tell, if anything is kept.
+/// Puts what those selectors tell in place of what is kept, if anything is kept.
 fn tell(selectors: &[Selector], shares: &mut Option<Box<Shares>>)
     ensures { IfSome shares.new (λ kept. Tells selectors.now kept.value) }
 {

@@ -16,7 +16,7 @@ use Rattle.cbsp_messages.specs.declared.message_type.MessageType.TheVariants as 
 use Rattle.cbsp_messages.specs.Elements.{AreElements, IsOnce, with_id}
 use Rattle.cbsp_messages.specs.MessageType.{demanded_of, type_with}
 
--- the number by which the fault is known; lack of memory has none
+-- the number by which the fault is known; out of memory has none
 abbrev pub number_of : MessageFault → Option ℕ
 number_of (fault.Element f) = Some (fault_number f)
 number_of (fault.Repeated id) = Some 6

@@ -15,7 +15,7 @@ pub enum Limit {
 }
 
 /// Why an event is refused, in the order in which the causes are looked at. The first that holds is the answer;
-/// lack of memory is the last.
+/// `Memory` is the last.
 #[derive(Clone, Copy, Debug, PartialEq, Eq, Error)]
 pub enum Refusal {
     #[error("no such BSC")]

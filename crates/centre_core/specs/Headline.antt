@@ -1,4 +1,5 @@
--- The headline: the pending orders of each BSC, applied to what it has reported, give its part of the plan.
+-- The headline: the pending orders of each BSC, applied to what it has reported, leave its cells broadcasting exactly what
+-- the plan wants there.
 use Rattle.std.specs.Prelude.{◌≡◌, ℕ, Bool, true, false, ◌&&◌, not, List, [], ◌∷◌, nat_eq, if◌then◌else◌}
 use Rattle.common.specs.declared.cell.Cell.{Cell}
 use Rattle.centre_events.specs.Down.{is_down}

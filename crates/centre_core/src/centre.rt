@@ -30,7 +30,7 @@ use warning_book::WarningId;
 /// journal, its journal, the oldest entry first, whether it is stale, how often its lines were read or set, and how often
 /// entries of its journal were read.
 ///
-/// A centre is stale after lack of memory while an event was entered: its journal is as it was, and what is kept beside it
+/// A centre is stale after memory ran out while an event was entered: its journal is as it was, and what is kept beside it
 /// is of no use until `rebuild` made it anew. While it is stale, every call but `position`, `entry`, `is_stale`, `meter`
 /// and `rebuild` answers `Stale`.
 #[derive(Drop)]

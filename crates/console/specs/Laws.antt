@@ -1,4 +1,4 @@
--- That the text of lines is determined by them, that a centre is stale only after lack of memory, and that what is
+-- That the text of lines is determined by them, that a centre is stale only after memory ran out, and that what is
 -- written of a message is one frame.
 use Rattle.std.specs.Prelude.{◌≡◌, ℕ, ◌≤◌, false, List, [], ◌∷◌, length}
 use Rattle.cbsp_ie.specs.Frame.{longest_body}
@@ -23,7 +23,7 @@ OneText = (old : SessionState) (lines : List (List ℕ)) (new last : SessionStat
 abbrev pub AnswersWhole : SessionState → List ℕ → Response → SessionState → Type 0
 AnswersWhole old octets r new = Answers old octets r new × ((new.centre.stale ≡ false) × (r ≡ response.Refused refusal.Stale → ⊥))
 
--- while no line met lack of memory, a centre that was whole stays so, and no line is refused as stale
+-- while no line ran out of memory, a centre that was whole stays so, and no line is refused as stale
 abbrev pub StaysWhole : Type 0
 StaysWhole = (old : SessionState) (lines : List (List ℕ)) (new : SessionState) (text : List ℕ) → IsText old lines new text → old.centre.stale ≡ false
     → IsTextBy AnswersWhole old lines new text

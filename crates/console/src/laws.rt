@@ -9,7 +9,8 @@ pub fn one_text()
     ensures { OneText }
 {}
 
-/// A centre is stale only after lack of memory: while no line met that, it stays whole, and no line is refused as stale.
+/// A centre is stale only after memory ran out: while no line runs out of it, it stays whole, and no line is refused as
+/// stale.
 #[tactic(auto, using(crate::proofs::WholeLemmas::stays_whole))]
 pub fn stays_whole()
     ensures { StaysWhole }

@@ -18,7 +18,7 @@ pub enum FrameFault {
 }
 
 impl FrameFault {
-    /// The fault's number; lack of memory has none.
+    /// The fault's number; `Memory` has none.
     pub fn number(self) -> Option<u8>
         ensures { result ≡ number_of self }
     {

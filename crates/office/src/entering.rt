@@ -13,7 +13,7 @@ use centre_events::refusal::Refusal;
 use std::sync::ledger::{Book, Ledger};
 
 /// Takes an event that the desk submits, of which the copy is kept on its receipt. A refused one changes nothing, but that the
-/// centre may be stale after lack of memory.
+/// centre may be stale after memory ran out.
 pub(crate) fn enter<L: Ledger>(
     centre: &mut Centre,
     book: &mut Book<L>,

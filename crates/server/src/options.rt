@@ -89,8 +89,8 @@ fn options_of(alloc: Global, matches: &ArgMatches<'_>) -> Result<ServeOptions, O
     })
 }
 
-/// The options of the server in the words of a command line that asks for it, which the parser takes. So only lack of memory
-/// keeps it from reading them a second time, and `Memory` is answered wherever it does not take them.
+/// The options of the server in the words of a command line that asks for it, which the parser takes. It takes them a second
+/// time too, unless memory runs out. So `Memory` is answered wherever it does not take them.
 pub(crate) fn read_options(alloc: Global, words: &[String]) -> Result<ServeOptions, OptionsFault> {
     match command_line(alloc)?.try_get_matches_from(words) {
         Ok(matches) => match matches.subcommand_matches("serve") {
