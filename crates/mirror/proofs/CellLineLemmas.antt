@@ -121,7 +121,7 @@ all_of_cell b c q s h (e ∷ es) l = step (is_slot_in b c e.0) refl (q e.1) (all
     step false g u rest = rest
 
 -- they ascend
-kept_ascend : (b : ℕ) (c : Cell) (q : Bool → Bool) (es : List (Slot × Bool)) → IsStrictlySortedBy slot_cmp (keys_of es) → is_ascending ltb (kept_warnings b c q es) ≡ true
+pub kept_ascend : (b : ℕ) (c : Cell) (q : Bool → Bool) (es : List (Slot × Bool)) → IsStrictlySortedBy slot_cmp (keys_of es) → is_ascending ltb (kept_warnings b c q es) ≡ true
 kept_ascend b c q [] o = refl
 kept_ascend b c q (e ∷ es) o = step (is_slot_in b c e.0) refl (q e.1) (kept_ascend b c q es (sorted_tail slot_cmp e.0 (keys_of es) o))
   where
@@ -275,9 +275,6 @@ held_have b c index es is o w =
     entered true false blanks held = refl
     entered false true blanks held = refl
     entered false false blanks held = refl
-
-pub held_ascend : (b : ℕ) (c : Cell) (index : List (Slot × Bool)) → IsStrictlySortedBy slot_cmp (keys_of index) → is_ascending ltb (kept_warnings b c (λ h. h) index) ≡ true
-held_ascend b c index o = kept_ascend b c (λ h. h) index o
 
 pub held_few : (b : ℕ) (c : Cell) (es : List (Slot × Line)) → list_all (λ e. not (is_blank e.1)) es ≡ true → IsStrictlySortedBy warning_slot_cmp (keys_of es) → (ns : List ℕ) → ((w : ℕ) → is_blank (unwrap_or (lookup (is_slot b c w) es) blank_line) ≡ false → list_any (nat_eq w) ns ≡ true) → length (filter (λ w. is_held_line (line_in es b c w)) (own_warnings b c es)) ≤ length ns
 held_few b c es full o ns all =

@@ -5,4 +5,4 @@ use Rattle.order_maker.proofs.order_cells.are_before.Goals as goal
 pub returns-in-Some : goal.returns-in-Some
 returns-in-Some c =
     let last = rw c.args.cells.now.ok.0 at c.in-Some.ensures.lookup in
-    λ h. all_before c.args.c c.in-Some.last.now c.args.cells.now.items c.requires last (sym c.comes_before.ensures ∙ h)
+    λ h. all_before c.args.c c.in-Some.last.now c.args.cells.now.items c.requires last (sym c.is_before.ensures ∙ h)

@@ -1,7 +1,7 @@
 use Rattle.std.proofs.Common.{◌≡◌, ◌∙◌}
 use Rattle.std.specs.List.Sorted.{IsStrictlySortedBy}
 use Rattle.std.specs.Map.{keys_of}
-use Rattle.mirror.proofs.CellLineLemmas.{held_ascend, held_few, held_have, held_warnings}
+use Rattle.mirror.proofs.CellLineLemmas.{held_few, held_have, held_warnings, kept_ascend}
 use Rattle.mirror.specs.Index.{kept_warnings}
 use Rattle.mirror.specs.Order.{slot_cmp}
 use Rattle.mirror.proofs.line_table.LineTable.held_at.Goals as goal
@@ -17,7 +17,7 @@ pub returns-clause-order : goal.returns-clause-order
 returns-clause-order c =
     let found : c.add_warnings.new.warnings.items ≡ kept_warnings c.args.b c.args.c (λ h. h) c.self.inside.index = rw (c.slots.ensures, c.new-warnings.ensures.items) at c.in_ok-add_warnings.ensures.warnings in
     let order : IsStrictlySortedBy slot_cmp (keys_of c.self.inside.index) = rw c.slots.ensures at c.in_ok-add_warnings.ensures.ordered in
-    rw found (held_ascend c.args.b c.args.c c.self.inside.index order)
+    rw found (kept_ascend c.args.b c.args.c (λ h. h) c.self.inside.index order)
 
 pub returns-clause-which : goal.returns-clause-which
 returns-clause-which c =
