@@ -1,5 +1,5 @@
--- The headline: the pending orders of each BSC, applied to what it has reported, leave its cells broadcasting exactly what
--- the plan wants there.
+-- The headline: the pending orders of each BSC, applied to what it has reported, leave its cells that are up
+-- broadcasting exactly what the plan wants there, but for keys that are held back.
 use Rattle.std.specs.Prelude.{◌≡◌, ℕ, Bool, true, false, ◌&&◌, not, List, [], ◌∷◌, nat_eq, if◌then◌else◌}
 use Rattle.common.specs.declared.cell.Cell.{Cell}
 use Rattle.centre_events.specs.Down.{is_down}

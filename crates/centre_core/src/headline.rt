@@ -16,8 +16,8 @@ pub fn pending_gives_plan()
 {}
 
 /// After every list of calls of `accept`, refused ones among them, the pending orders of each BSC, applied to what it
-/// has reported, leave its cells broadcasting exactly what the plan wants there. A call that ran out of memory is one that
-/// was not made.
+/// has reported, leave its cells that are up broadcasting exactly what the plan wants there, but for keys that are held
+/// back. A call that ran out of memory is one that was not made.
 #[tactic(auto, using(crate::proofs::HeadlineLemmas::plan_after_calls))]
 pub fn calls_give_plan()
     ensures { (settings : Settings) (calls : List Call) → PendingGivesPlan (after_calls settings calls (From empty_base)) }
