@@ -7,7 +7,7 @@ use crate::scope::Scope;
 use std::marker::Model;
 
 /// The serial number of a message: `scope * 16384 + code * 16 + update` (TS 23.041, 9.4.1.2.1).
-#[derive(Clone, Copy, Debug, PartialEq, Eq)]
+#[derive(Clone, Copy, Debug, Default, PartialEq, Eq)]
 pub struct Serial {
     value: u16,
 }
