@@ -1,1 +1,2 @@
+pub mod CellOrderLemmas
 pub mod SortingLemmas

@@ -1,10 +1,13 @@
 //! A list of cells.
 
-ghost use Rattle.std.specs.Prelude.{◌≡◌, ◌↔◌, IsTrue, IfOk};
+ghost use Rattle.std.specs.Prelude.{◌≡◌, ◌↔◌, true, IsTrue, IfOk};
 ghost use Rattle.std.specs.Cmp.{decided, partial_equiv_from_equiv};
 ghost use Rattle.std.specs.Cmp.Lexicographic.{pointwise};
-ghost use Rattle.common.specs.Cell.{cell_eq};
+ghost use Rattle.std.specs.List.{list_any};
+ghost use Rattle.common.specs.Cell.{cell_eq, cell_lt};
 ghost use Rattle.common.specs.Equality.{cells_decide};
+ghost use Rattle.common.specs.Order.{is_ascending};
+ghost use Rattle.common.specs.declared.cell.Cell.{Cell};
 
 use crate::cell::Cell;
 use std::alloc::{AllocError, Global};
@@ -31,6 +34,16 @@ impl Cells {
         ensures { result ≡ cells.items }
     {
         Cells { cells }
+    }
+
+    /// The cells of the vector in ascending order, each once. Where they come from lists in order there is little to move.
+    pub fn in_order(mut cells: Vec<Cell>) -> Result<Cells, AllocError>
+        ensures cells { IfOk result (λ out. (c : Cell) → list_any (cell_eq c) out ≡ list_any (cell_eq c) cells.items) }
+        ensures order { IfOk result (λ out. is_ascending cell_lt out ≡ true) }
+    {
+        cells.sort()?;
+        cells.dedup();
+        Ok(Cells::from_vec(cells))
     }
 
     pub fn as_slice(&self) -> &[Cell]
