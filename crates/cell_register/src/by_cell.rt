@@ -12,22 +12,11 @@ use crate::placed::Placed;
 use common::Cell;
 use std::alloc::AllocError;
 
-/// One more location area in a cell's number.
-const AREA: u32 = 1 << 16;
-
-/// The cell's location area and its identity there in one number, so that two cells are compared at once.
-fn number_of(c: Cell) -> u32
-    ensures value { result ≡ c.lac * 65536 + c.ci }
-    ensures small { c.ci < 65536 }
-{
-    u32::from(c.lac) * AREA + u32::from(c.ci)
-}
-
 /// Whether a registered cell comes before the cell.
 fn is_before(place: &Placed, c: Cell) -> bool
     ensures { result ≡ cell_lt place.now.cell c }
 {
-    number_of(place.cell) < number_of(c)
+    place.cell.is_before(&c)
 }
 
 /// Where the cell stands, or where it would have to stand.
