@@ -143,6 +143,15 @@ none_selected c xs h =
     let none : list_any (is_of c.lac) xs ≡ false = negated (list_any (is_of c.lac) xs) h in
     sym (or_from (is_among (selector.Cell c) xs) (is_among (selector.Lac c.lac) xs) (none_is_cell c xs none) (none_is_lac c.lac xs none))
 
+-- nor is any cell of it
+pub none_selected_of : (l : ℕ) (xs : List Selector) → tells xs l Nothing ≡ true → (c : Cell) → c.lac ≡ l → false ≡ selects xs c
+none_selected_of l xs h c e = none_selected c xs (ap (λ m. tells xs m Nothing) e ∙ h)
+
+-- where the location area is a selector each cell of it is selected
+pub all_selected_of : (l : ℕ) (xs : List Selector) → tells xs l All ≡ true → (c : Cell) → c.lac ≡ l → true ≡ selects xs c
+all_selected_of l xs h c e =
+    sym (ap (λ t. is_among (selector.Cell c) xs || t) (ap (λ m. is_among (selector.Lac m) xs) e ∙ h) ∙ or_true (is_among (selector.Cell c) xs))
+
 -- where the first aren't of its location area, the others decide
 pub selected_behind : (c : Cell) (xs : List Selector) (n : ℕ) → tells xs c.lac (From n) ≡ true → selects (drop n xs) c ≡ selects xs c
 selected_behind c xs n h =

@@ -30,8 +30,9 @@ impl<'a> Model for Coverage<'a> {
 }
 
 impl<'a> Coverage<'a> {
-    ghost use Rattle.std.specs.Prelude.{◌≡◌, List, ℕ, true};
+    ghost use Rattle.std.specs.Prelude.{◌≡◌, List, ℕ, true, IfSome};
     ghost use Rattle.common.specs.Order.{is_ascending};
+    ghost use Rattle.common.specs.declared.cell.Cell.{Cell};
     ghost use Rattle.areas.specs.Areas.{named_lt, selects, selectors_of};
     ghost use Rattle.areas.specs.Selector.{selector_lt};
     ghost use Rattle.areas.specs.Shares.{tells};
@@ -64,6 +65,17 @@ impl<'a> Coverage<'a> {
         match self.shares {
             Some(shares) => shares.share(lac),
             None => Share::From { place: 0 },
+        }
+    }
+
+    /// Whether the area covers each cell of the location area, or none of them. `None` where that may depend on the cell.
+    pub fn covers_lac(&self, lac: u16) -> Option<bool>
+        ensures { IfSome result (λ covers. (c : Cell) → c.lac ≡ lac → covers ≡ selects self.now c) }
+    {
+        match self.share(lac) {
+            Share::Nothing => Some(false),
+            Share::All => Some(true),
+            Share::From { place: _ } => None,
         }
     }
 

@@ -1,4 +1,4 @@
-use Rattle.std.proofs.Common.{◌≡◌, ◌∙◌, true, refl, sym, ap}
+use Rattle.std.proofs.Common.{◌∙◌, ap}
 use Rattle.common.specs.Order.{is_ascending}
 use Rattle.areas.proofs.SearchLemmas.{selectors_of-place, selectors_of-none}
 use Rattle.areas.specs.Selector.{selector_lt}
