@@ -1,5 +1,5 @@
 -- The counts of the cells that are down, as cells go down and come up.
-use Rattle.std.proofs.Common.{◌≡◌, ℕ, zero, suc, ◌+◌, ◌-◌, ◌%◌, ◌<◌, ◌≤◌, Bool, true, false, cond, ◌||◌, nat_eq, replicate, List, [], ◌∷◌, length, filter, set, get_or, refl, sym, ◌∙◌, ap, arith, Less, Equal, Greater}
+use Rattle.std.proofs.Common.{◌≡◌, ℕ, zero, suc, ◌+◌, ◌-◌, ◌*◌, ◌%◌, ◌<◌, ◌≤◌, Bool, true, false, cond, ◌||◌, nat_eq, replicate, List, [], ◌∷◌, length, filter, set, get_or, refl, sym, ◌∙◌, ap, arith, Less, Equal, Greater}
 use Rattle.std.proofs.lemmas.Bool.{or_from, or_parts}
 use Rattle.std.proofs.lemmas.Bool.Decides.{nat_tests}
 use Rattle.std.proofs.lemmas.Grind.{common_steps}
@@ -110,8 +110,9 @@ counts_more b c counts ps qs o own inside small are put absent =
 
 at_octet : (b : ℕ) (c : Cell) (n : ℕ) (p : Place) → is_at (place_cmp (place_of b c)) p ≡ true → has_octet n p ≡ nat_eq (octet_of c) n
 at_octet b c n p h =
-    let same : p.cell.ci ≡ c.ci = grind (arith, nat_tests, common_steps, h) in
-    ap (λ ci. nat_eq (ci % 256) n) same
+    let identity : p.cell.ci ≡ c.ci = grind (arith, nat_tests, common_steps, h) in
+    let area : p.cell.lac ≡ c.lac = grind (arith, nat_tests, common_steps, h) in
+    λ i. nat_eq ((identity i + area i * 61) % 256) n
 
 count_less : (b : ℕ) (c : Cell) (ps qs : List Place) → qs ≡ remove_key (is_at (place_cmp (place_of b c))) ps → list_any (is_at (place_cmp (place_of b c))) ps ≡ true → (n : ℕ) → count_at n qs + cond (nat_eq (octet_of c) n) 1 0 ≡ count_at n ps
 count_less b c ps qs taken there n =

@@ -29,10 +29,6 @@ slots_between b s = grind (arith, nat_tests, common_steps)
 pub places_between : (b : ℕ) (p : Place) → range_contains place_cmp (Included (least_place b)) (Excluded (least_place (b + 1))) p ≡ nat_eq b p.bsc
 places_between b p = grind (arith, nat_tests, common_steps)
 
--- what an order of cells puts first comes before
-pub before_cell : (c d : Cell) → cell_cmp c d ≡ Less → cell_lt c d ≡ true
-before_cell c d h = grind (arith, nat_tests, common_steps)
-
 -- of two slots of one BSC and one warning, the one that comes first is of the cell that comes first
 pub before_cell_of : (b w : ℕ) (s t : Slot) → is_slot_for b w s ≡ true → is_slot_for b w t ≡ true → warning_slot_cmp s t ≡ Less → cell_lt s.cell t.cell ≡ true
 before_cell_of b w s t h g l = grind (arith, nat_tests, common_steps)

@@ -1,12 +1,12 @@
 -- How the cells that are down are counted.
-use Rattle.std.specs.Prelude.{◌≡◌, ℕ, ◌<◌, ◌%◌, Bool, List, nat_eq, filter, length}
+use Rattle.std.specs.Prelude.{◌≡◌, ℕ, ◌+◌, ◌*◌, ◌<◌, ◌%◌, Bool, List, nat_eq, filter, length}
 use Rattle.std.specs.List.{slice_index_or}
 use Rattle.common.specs.declared.cell.Cell.{Cell}
 use Rattle.mirror.specs.Order.{Place}
 
--- the low octet of the cell's identity
+-- an octet that is made of the cell's identity and its location area
 abbrev pub octet_of : Cell → ℕ
-octet_of c = c.ci % 256
+octet_of c = (c.ci + c.lac * 61) % 256
 
 -- the place's cell has that octet
 abbrev pub has_octet : ℕ → Place → Bool

@@ -15,7 +15,7 @@ use std::collections::BTreeSet;
 use std::marker::Model;
 
 /// The cells that are down, each at its BSC. Few are down, and each line that is read asks for its cell. So the places are
-/// counted by the low octet of their cell's identity: where none has that octet, no place is searched for.
+/// counted by an octet that is made of their cell: where none has that octet, no place is searched for.
 #[derive(Drop)]
 pub(crate) struct Downs {
     places: BTreeSet<Place>,
@@ -34,12 +34,13 @@ impl Model for Downs {
     ghost invariant = { λ d. AreCounts d.counts d.places.keys };
 }
 
-/// The low octet of the cell's identity, by which places are counted.
+/// The octet by which the places of a cell are counted. Cells of the same identity in location areas that follow one another
+/// have others.
 fn octet_of(c: Cell) -> usize
     ensures octet { result ≡ octet_of c }
     ensures small { result < 256 }
 {
-    usize::from(c.ci % 256)
+    (usize::from(c.ci) + usize::from(c.lac) * 61) % 256
 }
 
 /// The counts of no places.

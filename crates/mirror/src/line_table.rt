@@ -16,7 +16,7 @@ ghost use Rattle.mirror.specs.declared.line_key.LineKey.{LineKey};
 
 use crate::cell_index::CellIndex;
 use crate::downs::Downs;
-use crate::gathering::{add_downs, add_line_cells, cells_in_order, put_in_order};
+use crate::gathering::{add_downs, add_line_cells, cells_in_order};
 use crate::known::{add_warnings, has_line, is_registered, put_line, take_line};
 use crate::line::Line;
 use crate::line_key::LineKey;
@@ -280,8 +280,8 @@ impl LineTable {
         add_downs(b, self.downs.places(), &mut gathered)?;
         add_line_cells(b, self.index.slots(), &mut gathered)?;
         register.tell_soundness();
-        put_in_order(&mut gathered)?;
-        Ok(Cells::from_vec(gathered))
+        let cells = Cells::in_order(gathered)?;
+        Ok(cells)
     }
 
     /// Those cells known at the BSC that one of the identifications names, in ascending order (TS 48.049, 8.2.6). The
