@@ -1,5 +1,5 @@
 -- How the numbers of one area change, and those of no other.
-use Rattle.std.proofs.Common.{◌≡◌, ℕ, zero, suc, ◌+◌, ◌<◌, Bool, true, false, ◌||◌, cond, List, [], ◌∷◌, Some, None, slice_get, bytes_eq, if◌then◌else◌, refl, sym, ap, ◌∙◌, unwrap_or, length, take, get_or, arith}
+use Rattle.std.proofs.Common.{◌≡◌, ℕ, zero, suc, ◌+◌, ◌<◌, Bool, true, false, ◌||◌, ◌&&◌, not, cond, List, [], ◌∷◌, Some, None, slice_get, bytes_eq, if◌then◌else◌, refl, sym, ap, ◌∙◌, unwrap_or, length, take, get_or, arith}
 use Rattle.std.proofs.lemmas.Bool.{or_right}
 use Rattle.std.proofs.lemmas.List.{take_more}
 use Rattle.std.proofs.lemmas.List.Folds.{list_any-append}
@@ -36,14 +36,13 @@ area_changed f k w old new is h a = step (bytes_eq k a) refl (h a)
     step true e g = ap (λ o. unwrap_or o zero_numbers) g ∙ is ∙ ap (λ b. f (area_in old b)) ((names_decide k a).0 e)
     step false e g = ap (λ o. unwrap_or o zero_numbers) g
 
--- where f makes nothing of nothing, and the area isn't there, all areas have what they had
-pub area_absent : (f : Numbers → Numbers) → f zero_numbers ≡ zero_numbers → (k : List ℕ) (old : List (List ℕ × Numbers)) → lookup (bytes_eq k) old ≡ None → (a : List ℕ) → area_in old a ≡ (if bytes_eq k a then f (area_in old a) else area_in old a)
-area_absent f z k old h a = step (bytes_eq k a) refl
+-- the same where an area that is among the earlier ones keeps its numbers, and this one isn't
+pub area_first : (f : Numbers → Numbers) (k : List ℕ) (earlier : List (List ℕ)) (w : Numbers) (old new : List (List ℕ × Numbers)) → has_area earlier k ≡ false → w ≡ f (area_in old k) → ((q : List ℕ) → lookup (bytes_eq q) new ≡ cond (bytes_eq k q) (Some w) (lookup (bytes_eq q) old)) → (a : List ℕ) → area_in new a ≡ (if bytes_eq k a && not (has_area earlier a) then f (area_in old a) else area_in old a)
+area_first f k earlier w old new absent is h a =
+    area_changed f k w old new is h a ∙ ap (λ t. if t then f (area_in old a) else area_in old a) (sym (step (bytes_eq k a) refl))
   where
-    step : (t : Bool) → bytes_eq k a ≡ t → area_in old a ≡ (if t then f (area_in old a) else area_in old a)
-    step true e =
-        let none : area_in old a ≡ zero_numbers = ap (λ b. area_in old b) (sym ((names_decide k a).0 e)) ∙ ap (λ o. unwrap_or o zero_numbers) h in
-        none ∙ sym (ap f none ∙ z)
+    step : (t : Bool) → bytes_eq k a ≡ t → (t && not (has_area earlier a)) ≡ t
+    step true e = ap (λ b. not (has_area earlier b)) (sym ((names_decide k a).0 e)) ∙ ap not absent
     step false e = refl
 
 -- an area is among one more where it is among those before, or is the last
@@ -54,29 +53,17 @@ has_next xs i x is h a =
     ∙ ap (λ t. has_area (take i xs) a || t) (or_none (bytes_eq (get_or xs i x) a))
     ∙ ap (λ b. has_area (take i xs) a || bytes_eq b a) (sym is)
 
--- one more that was among them changes nothing
-pub has_again : (xs : List (List ℕ)) (i : ℕ) (x : List ℕ) → x ≡ get_or xs i x → i < length xs → has_area (take i xs) x ≡ true → (a : List ℕ) → has_area (take (i + 1) xs) a ≡ has_area (take i xs) a
-has_again xs i x is h there a = has_next xs i x is h a ∙ step (bytes_eq x a) refl
+-- where each area of the first has what g makes of its numbers, and one more has it too unless it is among them, so has
+-- each area of one more
+pub part_next : (g : List ℕ → Numbers → Bool → Numbers) → ((b : List ℕ) (n : Numbers) → g b n false ≡ n) → (f : Numbers → Numbers) (xs : List (List ℕ)) (i : ℕ) (x : List ℕ) (old mid new : List (List ℕ × Numbers)) → ((n : Numbers) → f n ≡ g x n true) → x ≡ get_or xs i x → i < length xs → ((b : List ℕ) → area_in mid b ≡ g b (area_in old b) (has_area (take i xs) b)) → ((b : List ℕ) → area_in new b ≡ (if bytes_eq x b && not (has_area (take i xs) b) then f (area_in mid b) else area_in mid b)) → (a : List ℕ) → area_in new a ≡ g a (area_in old a) (has_area (take (i + 1) xs) a)
+part_next g none f xs i x old mid new same is h before change a =
+    step (bytes_eq x a) refl (has_area (take i xs) a) (change a) (before a) ∙ ap (g a (area_in old a)) (sym (has_next xs i x is h a))
   where
-    step : (t : Bool) → bytes_eq x a ≡ t → (has_area (take i xs) a || t) ≡ has_area (take i xs) a
-    step true e =
-        let known : has_area (take i xs) a ≡ true = ap (has_area (take i xs)) (sym ((names_decide x a).0 e)) ∙ there in
-        rw known refl
-    step false e = or_none (has_area (take i xs) a)
-
--- where each area of the first has what g makes of its numbers, and a new one then has it too, so has each area of one
--- more
-pub part_next : (g : List ℕ → Numbers → Bool → Numbers) → ((b : List ℕ) (n : Numbers) → g b n false ≡ n) → (f : Numbers → Numbers) (xs : List (List ℕ)) (i : ℕ) (x : List ℕ) (old mid new : List (List ℕ × Numbers)) → ((n : Numbers) → f n ≡ g x n true) → x ≡ get_or xs i x → i < length xs → has_area (take i xs) x ≡ false → ((b : List ℕ) → area_in mid b ≡ g b (area_in old b) (has_area (take i xs) b)) → ((b : List ℕ) → area_in new b ≡ (if bytes_eq x b then f (area_in mid b) else area_in mid b)) → (a : List ℕ) → area_in new a ≡ g a (area_in old a) (has_area (take (i + 1) xs) a)
-part_next g none f xs i x old mid new same is h absent before change a =
-    step (bytes_eq x a) refl (change a) ∙ ap (g a (area_in old a)) (sym (has_next xs i x is h a))
-  where
-    step : (t : Bool) → bytes_eq x a ≡ t → area_in new a ≡ (if t then f (area_in mid a) else area_in mid a) → area_in new a ≡ g a (area_in old a) (has_area (take i xs) a || t)
-    step true e c =
-        let at : x ≡ a = (names_decide x a).0 e in
-        let out : has_area (take i xs) a ≡ false = ap (has_area (take i xs)) (sym at) ∙ absent in
-        let kept : area_in mid a ≡ area_in old a = before a ∙ ap (g a (area_in old a)) out ∙ none a (area_in old a) in
-        c ∙ ap f kept ∙ same (area_in old a) ∙ ap (λ b. g b (area_in old a) true) at ∙ ap (λ t. g a (area_in old a) (t || true)) (sym out)
-    step false e c = c ∙ before a ∙ ap (g a (area_in old a)) (sym (or_none (has_area (take i xs) a)))
+    step : (t : Bool) → bytes_eq x a ≡ t → (u : Bool) → area_in new a ≡ (if t && not u then f (area_in mid a) else area_in mid a) → area_in mid a ≡ g a (area_in old a) u → area_in new a ≡ g a (area_in old a) (u || t)
+    step true e true c k = c ∙ k
+    step true e false c k =
+        c ∙ ap f (k ∙ none a (area_in old a)) ∙ same (area_in old a) ∙ ap (λ b. g b (area_in old a) true) ((names_decide x a).0 e)
+    step false e u c k = c ∙ k ∙ ap (g a (area_in old a)) (sym (or_none u))
 
 -- where g leaves the numbers of one more as they are, nothing changes
 pub part_kept : (g : List ℕ → Numbers → Bool → Numbers) → ((b : List ℕ) (n : Numbers) → g b n false ≡ n) → (xs : List (List ℕ)) (i : ℕ) (x : List ℕ) (old mid : List (List ℕ × Numbers)) → ((n : Numbers) → g x n true ≡ n) → x ≡ get_or xs i x → i < length xs → ((b : List ℕ) → area_in mid b ≡ g b (area_in old b) (has_area (take i xs) b)) → (a : List ℕ) → area_in mid a ≡ g a (area_in old a) (has_area (take (i + 1) xs) a)
@@ -87,11 +74,6 @@ part_kept g none xs i x old mid same is h before a =
     step true e true = refl
     step true e false = none a (area_in old a) ∙ sym (same (area_in old a)) ∙ ap (λ b. g b (area_in old a) true) ((names_decide x a).0 e)
     step false e u = ap (g a (area_in old a)) (sym (or_none u))
-
--- and an area that was among those before has what it had
-pub part_again : (g : List ℕ → Numbers → Bool → Numbers) (xs : List (List ℕ)) (i : ℕ) (x : List ℕ) (old mid : List (List ℕ × Numbers)) → x ≡ get_or xs i x → i < length xs → has_area (take i xs) x ≡ true → ((b : List ℕ) → area_in mid b ≡ g b (area_in old b) (has_area (take i xs) b)) → (a : List ℕ) → area_in mid a ≡ g a (area_in old a) (has_area (take (i + 1) xs) a)
-part_again g xs i x old mid is h there before a =
-    before a ∙ ap (g a (area_in old a)) (sym (has_again xs i x is h there a))
 
 -- an area that isn't among the first has the numbers that it had
 pub part_first : (g : List ℕ → Numbers → Bool → Numbers) → ((b : List ℕ) (n : Numbers) → g b n false ≡ n) → (xs : List (List ℕ)) (i : ℕ) (x : List ℕ) (old mid : List (List ℕ × Numbers)) → has_area (take i xs) x ≡ false → ((b : List ℕ) → area_in mid b ≡ g b (area_in old b) (has_area (take i xs) b)) → area_in mid x ≡ area_in old x

@@ -1,3 +1,4 @@
 pub mod NumbersLemmas
 pub mod AreaLemmas
+pub mod PlaceLemmas
 pub mod RowLemmas

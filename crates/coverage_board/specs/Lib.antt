@@ -3,6 +3,7 @@ pub mod Numbers
 pub mod Parts
 pub mod Reading
 pub mod Board
+pub mod Marks
 pub mod SumLaws
 pub mod Counting
 pub mod CountingLaws

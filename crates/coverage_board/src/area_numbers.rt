@@ -5,6 +5,7 @@ ghost use Rattle.coverage_board.specs.Board.{area_in};
 ghost use Rattle.coverage_board.specs.Parts.{has_area};
 
 use crate::numbers::Numbers;
+use crate::place_marks::PlaceMarks;
 use common::Name;
 use indexmap::IndexMap;
 use std::alloc::{AllocError, Global};
@@ -13,7 +14,8 @@ use std::marker::Model;
 /// The most areas of a list whose places are remembered.
 const REMEMBERED: usize = 16;
 
-/// Whether the area of that name is among these.
+/// Whether the area of that name is among these. It is called seldom, and isn't inlined, so that its callers stay short.
+#[inline(never)]
 fn is_among(areas: &[Name], area: &Name) -> bool
     ensures { result ≡ has_area areas.now area.now }
 {
@@ -67,9 +69,10 @@ impl Model for AreaNumbers {
 }
 
 impl AreaNumbers {
-    ghost use Rattle.std.specs.Prelude.{◌≡◌, ℕ, List, [], ◌&&◌, not, bytes_eq, if◌then◌else◌, slice_get, OnOk, IfSome, IfNone};
-    ghost use Rattle.std.specs.Map.{lookup};
+    ghost use Rattle.std.specs.Prelude.{◌≡◌, ℕ, true, false, List, [], ◌&&◌, not, ◌⊎◌, bytes_eq, if◌then◌else◌, slice_get, OnOk, IfSome, IfNone};
+    ghost use Rattle.std.specs.Map.{keys_of, lookup};
     ghost use Rattle.coverage_board.specs.Board.{area_in};
+    ghost use Rattle.coverage_board.specs.Marks.{has_mark, IsMarked, Marks};
     ghost use Rattle.coverage_board.specs.Numbers.{less, added, moved, zero_numbers, Holds, FitsWith, HasRoom};
     ghost use Rattle.coverage_board.specs.Parts.{has_area, part_where};
 
@@ -122,41 +125,101 @@ impl AreaNumbers {
         }
     }
 
-    /// Takes a part of the area's numbers out of them, the area being at that index of a list.
-    fn take_out(&mut self, index: usize, area: &Name, part: Numbers)
-        requires { Holds (area_in self.old area.now) part }
-        ensures { (a : List ℕ) → area_in self.new a ≡ (if bytes_eq area.now a then less (area_in self.old a) part else area_in self.old a) }
+    /// The place of the area, if it has numbers, unless an earlier area of the list has its name. The place is marked. Where
+    /// it had no mark, it is that of no earlier area, so that no names are compared.
+    #[inline(always)]
+    fn first_place(
+        &mut self,
+        earlier: &[Name],
+        area: &Name,
+        marks: &mut PlaceMarks,
+    ) -> Option<usize>
+        requires marked { has_area earlier.now area.now ≡ true → IsMarked (keys_of self.old) area.now marks.old.bits }
+        ensures same { self.new ≡ self.old }
+        ensures found { IfSome result (λ place. slice_get self.old place ≡ Some (area.now, area_in self.old area.now)) }
+        ensures first { IfSome result (λ place. has_area earlier.now area.now ≡ false) }
+        ensures mark { IfSome result (λ place. has_mark marks.new.bits place ≡ true) }
+        ensures others { (place : ℕ) → has_mark marks.old.bits place ≡ true → has_mark marks.new.bits place ≡ true }
+        ensures none { IfNone result ((lookup (bytes_eq area.now) self.old ≡ None) ⊎ (has_area earlier.now area.now ≡ true)) }
     {
-        if let Some(place) = self.place_of(index, area) {
+        let place = self.place_of(earlier.len(), area)?;
+        if marks.has(place) && is_among(earlier, area) {
+            return None;
+        }
+        marks.mark(place);
+        Some(place)
+    }
+
+    /// Takes a part out of the area's numbers, unless an earlier area of the list has its name.
+    fn take_out(&mut self, earlier: &[Name], area: &Name, marks: &mut PlaceMarks, part: Numbers)
+        requires marked { has_area earlier.now area.now ≡ true → IsMarked (keys_of self.old) area.now marks.old.bits }
+        requires there { has_area earlier.now area.now ≡ false → Holds (area_in self.old area.now) part }
+        ensures numbers { (a : List ℕ) → area_in self.new a ≡ (if bytes_eq area.now a && not (has_area earlier.now a) then less (area_in self.old a) part else area_in self.old a) }
+        ensures marks { Marks area.now (keys_of self.old) marks.old.bits (keys_of self.new) marks.new.bits }
+    {
+        if let Some(place) = self.first_place(earlier, area, marks) {
             let (_, numbers) = self.map.pair_mut(place);
             *numbers = numbers.less(part);
         }
     }
 
-    /// Adds a part to the area's numbers, the area being at that index of a list.
-    fn put_in(&mut self, index: usize, area: &Name, part: Numbers) -> Result<(), AllocError>
-        requires { FitsWith (area_in self.old area.now) part }
-        ensures { OnOk result ((a : List ℕ) → area_in self.new a ≡ (if bytes_eq area.now a then added (area_in self.old a) part else area_in self.old a)) }
+    /// Adds the area, which has no numbers, with a part as its numbers, unless an earlier area of the list has its name. It is
+    /// called seldom, and isn't inlined, so that its callers stay short.
+    #[inline(never)]
+    fn put_new(&mut self, earlier: &[Name], area: &Name, part: Numbers) -> Result<(), AllocError>
+        requires { has_area earlier.now area.now ≡ false → lookup (bytes_eq area.now) self.old ≡ None }
+        ensures { OnOk result ((a : List ℕ) → area_in self.new a ≡ (if bytes_eq area.now a && not (has_area earlier.now a) then added (area_in self.old a) part else area_in self.old a)) }
     {
-        if let Some(place) = self.place_of(index, area) {
+        if !is_among(earlier, area) {
+            self.map.insert(area.copied(self.alloc)?, part)?;
+        }
+        Ok(())
+    }
+
+    /// Adds a part to the area's numbers, unless an earlier area of the list has its name. It is inlined for speed.
+    #[inline(always)]
+    fn put_in(
+        &mut self,
+        earlier: &[Name],
+        area: &Name,
+        marks: &mut PlaceMarks,
+        part: Numbers,
+    ) -> Result<(), AllocError>
+        requires marked { has_area earlier.now area.now ≡ true → IsMarked (keys_of self.old) area.now marks.old.bits }
+        requires room { has_area earlier.now area.now ≡ false → FitsWith (area_in self.old area.now) part }
+        ensures numbers { OnOk result ((a : List ℕ) → area_in self.new a ≡ (if bytes_eq area.now a && not (has_area earlier.now a) then added (area_in self.old a) part else area_in self.old a)) }
+        ensures marks { OnOk result (Marks area.now (keys_of self.old) marks.old.bits (keys_of self.new) marks.new.bits) }
+    {
+        if let Some(place) = self.first_place(earlier, area, marks) {
             let (_, numbers) = self.map.pair_mut(place);
             *numbers = numbers.added(part);
             return Ok(());
         }
-        self.map.insert(area.copied(self.alloc)?, part)?;
+        self.put_new(earlier, area, part)?;
+        // Its place is not known, so the names of the areas that are left are compared.
+        *marks = PlaceMarks::all();
         Ok(())
     }
 
-    /// Takes a part out of the area's numbers, which is not nothing, and adds another, the area being at that index of a
-    /// list. It is inlined for speed.
+    /// Takes a part, which is not nothing, out of the area's numbers, and adds another, unless an earlier area of the list
+    /// has its name. It is inlined for speed.
     #[inline(always)]
-    fn exchange(&mut self, index: usize, area: &Name, out: Numbers, part: Numbers)
+    fn exchange(
+        &mut self,
+        earlier: &[Name],
+        area: &Name,
+        marks: &mut PlaceMarks,
+        out: Numbers,
+        part: Numbers,
+    )
+        requires marked { has_area earlier.now area.now ≡ true → IsMarked (keys_of self.old) area.now marks.old.bits }
         requires some { out ≡ zero_numbers → ⊥ }
-        requires there { Holds (area_in self.old area.now) out }
-        requires room { HasRoom (area_in self.old area.now) out part }
-        ensures { (a : List ℕ) → area_in self.new a ≡ (if bytes_eq area.now a then moved (area_in self.old a) out part else area_in self.old a) }
+        requires there { has_area earlier.now area.now ≡ false → Holds (area_in self.old area.now) out }
+        requires room { has_area earlier.now area.now ≡ false → HasRoom (area_in self.old area.now) out part }
+        ensures numbers { (a : List ℕ) → area_in self.new a ≡ (if bytes_eq area.now a && not (has_area earlier.now a) then moved (area_in self.old a) out part else area_in self.old a) }
+        ensures marks { Marks area.now (keys_of self.old) marks.old.bits (keys_of self.new) marks.new.bits }
     {
-        if let Some(place) = self.place_of(index, area) {
+        if let Some(place) = self.first_place(earlier, area, marks) {
             let (_, numbers) = self.map.pair_mut(place);
             *numbers = numbers.less(out).added(part);
         }
@@ -167,33 +230,39 @@ impl AreaNumbers {
         requires { (a : List ℕ) → Holds (area_in self.old a) (part_where (has_area areas.now a) part) }
         ensures { (a : List ℕ) → area_in self.new a ≡ less (area_in self.old a) (part_where (has_area areas.now a && not (has_area others.now a)) part) }
     {
+        let mut marks = PlaceMarks::none();
         for (i, area) in areas.iter().enumerate() {
-            if !is_among_from(others, i, area) && !is_among(&areas[..i], area) {
-                self.take_out(i, area, part);
+            if !is_among_from(others, i, area) {
+                self.take_out(&areas[..i], area, &mut marks, part);
             }
         }
     }
 
-    /// Adds a part to the area's numbers, and takes another, which is not nothing, out of them if the line had the area. The
-    /// area is at that index of a list.
+    /// Adds a part to the area's numbers, and takes another, which is not nothing, out of them if the line had the area,
+    /// unless an earlier area of the list has its name. Where the two are the same it does nothing.
+    #[inline(always)]
     fn move_in(
         &mut self,
-        index: usize,
+        earlier: &[Name],
         area: &Name,
+        marks: &mut PlaceMarks,
         had: bool,
         out: Numbers,
         part: Numbers,
     ) -> Result<(), AllocError>
+        requires marked { (had ≡ true → out ≡ part → ⊥) → has_area earlier.now area.now ≡ true → IsMarked (keys_of self.old) area.now marks.old.bits }
         requires some { out ≡ zero_numbers → ⊥ }
-        requires there { Holds (area_in self.old area.now) (part_where had out) }
-        requires room { HasRoom (area_in self.old area.now) (part_where had out) part }
-        ensures { OnOk result ((a : List ℕ) → area_in self.new a ≡ (if bytes_eq area.now a then moved (area_in self.old a) (part_where had out) part else area_in self.old a)) }
+        requires there { has_area earlier.now area.now ≡ false → Holds (area_in self.old area.now) (part_where had out) }
+        requires room { has_area earlier.now area.now ≡ false → HasRoom (area_in self.old area.now) (part_where had out) part }
+        ensures numbers { OnOk result ((a : List ℕ) → area_in self.new a ≡ (if bytes_eq area.now a && not (has_area earlier.now a) then moved (area_in self.old a) (part_where had out) part else area_in self.old a)) }
+        ensures mark { OnOk result ((had ≡ true → out ≡ part → ⊥) → IsMarked (keys_of self.new) area.now marks.new.bits) }
+        ensures others { OnOk result ((a : List ℕ) → IsMarked (keys_of self.old) a marks.old.bits → IsMarked (keys_of self.new) a marks.new.bits) }
     {
         if !had {
-            return self.put_in(index, area, part);
+            return self.put_in(earlier, area, marks, part);
         }
         if out != part {
-            self.exchange(index, area, out, part);
+            self.exchange(earlier, area, marks, out, part);
         }
         Ok(())
     }
@@ -212,11 +281,10 @@ impl AreaNumbers {
         requires room { (a : List ℕ) → HasRoom (area_in self.old a) (part_where (has_area areas.now a && has_area others.now a) out) (part_where (has_area areas.now a) part) }
         ensures { OnOk result ((a : List ℕ) → area_in self.new a ≡ moved (area_in self.old a) (part_where (has_area areas.now a && has_area others.now a) out) (part_where (has_area areas.now a) part)) }
     {
+        let mut marks = PlaceMarks::none();
         for (i, area) in areas.iter().enumerate() {
-            if !is_among(&areas[..i], area) {
-                let had = is_among_from(others, i, area);
-                self.move_in(i, area, had, out, part)?;
-            }
+            let had = is_among_from(others, i, area);
+            self.move_in(&areas[..i], area, &mut marks, had, out, part)?;
         }
         Ok(())
     }
@@ -229,10 +297,9 @@ impl AreaNumbers {
         if part.is_zero() {
             return Ok(());
         }
+        let mut marks = PlaceMarks::none();
         for (i, area) in areas.iter().enumerate() {
-            if !is_among(&areas[..i], area) {
-                self.put_in(i, area, part)?;
-            }
+            self.put_in(&areas[..i], area, &mut marks, part)?;
         }
         Ok(())
     }
@@ -247,10 +314,9 @@ impl AreaNumbers {
         if out == part {
             return;
         }
+        let mut marks = PlaceMarks::none();
         for (i, area) in areas.iter().enumerate() {
-            if !is_among(&areas[..i], area) {
-                self.exchange(i, area, out, part);
-            }
+            self.exchange(&areas[..i], area, &mut marks, out, part);
         }
     }
 

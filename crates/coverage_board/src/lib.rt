@@ -9,6 +9,7 @@ mod area_numbers;
 mod board;
 mod numbers;
 mod parts;
+mod place_marks;
 mod row;
 mod stand;
 mod standing;
