@@ -1,14 +1,16 @@
 //! A list of serial numbers that several lines share.
 
 use serials::Serial;
+use smallvec::SmallVec;
 use std::alloc::{AllocError, Global};
 use std::marker::Model;
 use std::rc::Rc;
 
-/// Serial numbers of the versions of a warning, in their order. Lines of one warning share them in one place in memory.
+/// Serial numbers of the versions of a warning, in their order. Lines of one warning share them in one place in memory. A few
+/// stand in that place themselves.
 #[derive(Drop)]
 pub struct Serials {
-    numbers: Option<Rc<Vec<Serial>>>,
+    numbers: Option<Rc<SmallVec<Serial, 8>>>,
 }
 
 impl Model for Serials {
@@ -31,7 +33,7 @@ impl Serials {
     }
 
     /// The serial numbers of the vector, which is moved.
-    pub fn from_vec(alloc: Global, numbers: Vec<Serial>) -> Result<Serials, AllocError>
+    pub fn from_vec(alloc: Global, numbers: SmallVec<Serial, 8>) -> Result<Serials, AllocError>
         ensures { IfOk result (λ s. s ≡ numbers.items) }
     {
         let numbers = Rc::new(alloc, numbers)?;

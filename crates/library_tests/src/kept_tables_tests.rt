@@ -11,6 +11,7 @@ use kept_tables::{AreaNames, KeptTables, LineFacts, Serials, Step};
 use mirror::{KeyState, Line, LineKey, Presence};
 use order_maker::OrderKind;
 use serials::Serial;
+use smallvec::SmallVec;
 use std::alloc::Global;
 use std::process::Abort;
 use warning_book::WarningId;
@@ -25,7 +26,7 @@ fn versions(rt: &impl Abort, alloc: Global) -> Serials
     ensures { length result ≤ 16 }
 {
     let serial = Serial::from_u16(0xc000);
-    let versions = Vec::from_slice(alloc, &[serial]).expect(rt, "memory");
+    let versions = SmallVec::from_slice(alloc, &[serial]).expect(rt, "memory");
     Serials::from_vec(alloc, versions).expect(rt, "memory")
 }
 
