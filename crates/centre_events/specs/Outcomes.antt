@@ -33,7 +33,7 @@ is_counted_in network (Some list) c = list_any (λ (e : CountEntry). names netwo
 abbrev pub done_or_silent : Bool → Outcome
 done_or_silent is_done = if is_done then Done else Silent
 
--- what a FAILURE says of a cell: the cause of the first failure that names it
+-- what the reply FAILURE says of a cell: the cause of the first failure that names it
 abbrev pub failure_outcome : Option FailEntry → Bool → Outcome
 failure_outcome None is_done = done_or_silent is_done
 failure_outcome (Some failure) is_done = Refused failure.cause

@@ -10,7 +10,6 @@ ghost use Rattle.common.specs.Order.{is_ascending};
 ghost use Rattle.centre_events.specs.Equality.{replies_decide};
 ghost use Rattle.centre_events.specs.Replies.{reply_eq, reply_lt};
 
-use crate::finding::comes_before;
 use crate::reply::Reply;
 use common::Cell;
 use std::alloc::{AllocError, Global};
@@ -56,7 +55,7 @@ fn start_of(replies: &[Reply], c: Cell) -> usize
     requires { is_ascending reply_lt replies.now ≡ true }
     ensures { IsPartitionPoint (λ r. cell_lt r.cell c ≡ true) (λ r. cell_lt r.cell c ≡ false) replies.now result }
 {
-    replies.partition_point(|reply| comes_before(reply.cell, c))
+    replies.partition_point(|reply| reply.cell.is_before(&c))
 }
 
 /// The reply of the cell, found by halves among replies in ascending order. Where it isn't there, none is of the cell.
