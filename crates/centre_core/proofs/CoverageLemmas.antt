@@ -1,5 +1,5 @@
 -- What was found of the areas of warnings.
-use Rattle.std.proofs.Common.{◌≡◌, ℕ, zero, suc, ◌<◌, Bool, true, false, nat_eq, inl, inr, List, [], ◌∷◌, ◌++◌, Option, Some, None, map, length, get_or, sym, ◌∙◌, ap, subst, arith}
+use Rattle.std.proofs.Common.{◌≡◌, ℕ, zero, suc, ◌<◌, true, nat_eq, inl, inr, List, [], ◌∷◌, ◌++◌, Option, Some, None, map, length, get_or, sym, ◌∙◌, ap, subst, arith}
 use Rattle.std.proofs.lemmas.Bool.Decides.{nat_tests}
 use Rattle.areas.specs.Areas.{selectors_of}
 use Rattle.areas.specs.declared.area.Area.{Area}

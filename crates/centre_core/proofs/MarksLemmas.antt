@@ -1,67 +1,78 @@
 -- The marks of elements that pass a test.
-use Rattle.std.proofs.Common.{◌≡◌, ℕ, ◌+◌, ◌*◌, Bool, true, false, zero, suc, ◌<◌, List, [], ◌∷◌, ◌++◌, filter, map, take, length, get_or, refl, sym, ◌∙◌, ap, arith}
+use Rattle.std.proofs.Common.{◌≡◌, ℕ, ◌+◌, ◌*◌, ◌^◌, Bool, true, false, zero, suc, ◌<◌, List, [], ◌∷◌, ◌++◌, filter, map, take, length, get_or, refl, sym, subst, ◌∙◌, ap, arith}
 use Rattle.std.specs.Prelude.{if◌then◌else◌}
-use Rattle.std.proofs.lemmas.List.{take_more}
+use Rattle.std.proofs.Math.Nat.{pow-succ'}
+use Rattle.std.proofs.lemmas.List.{take_more, length-append, length-map}
 use Rattle.areas.specs.Areas.{covers, selects, selectors_of}
 use Rattle.areas.specs.declared.area.Area.{Area}
 use Rattle.areas.specs.declared.selector.Selector.{Selector}
 use Rattle.common.specs.declared.cell.Cell.{Cell}
-use Rattle.centre_core.specs.Marks.{AreMarked, IsMarked, marks, marks_after, with_mark}
+use Rattle.centre_core.specs.Marks.{AreMarked, IsMarked, marks}
 use Rattle.centre_core.specs.declared.marked_names.MarkedNames.{MarkedNames}
 
 -- the mark of one element more
 
-last_mark : {A : Type 0} (n : ℕ) (f : A → Bool) (xs : List A) (x : A) → marks_after n f (xs ++ x ∷ []) ≡ with_mark (marks_after n f xs) (f x)
-last_mark n f [] x = refl
-last_mark n f (y ∷ ys) x = last_mark (with_mark n (f y)) f ys x
+last_mark : {A : Type 0} (f : A → Bool) (xs : List A) (x : A) → marks f (xs ++ x ∷ []) ≡ 2 * marks f xs + (if f x then 1 else 0)
+last_mark f [] x = step (f x)
+  where
+    step : (t : Bool) → (if t then 1 else 0) + 0 ≡ 0 + (if t then 1 else 0)
+    step true = refl
+    step false = refl
+last_mark {A} f (y ∷ ys) x = step (f y) (last_mark f ys x)
+  where
+    longer : length (ys ++ x ∷ []) ≡ suc (length ys)
+    longer = length-append ys (x ∷ []) ∙ (omega arith)
 
-pub marks_more : {A : Type 0} (f : A → Bool) (xs : List A) (i : ℕ) (x : A) → x ≡ get_or xs i x → i < length xs → marks f (take (i + 1) xs) ≡ with_mark (marks f (take i xs)) (f x)
+    doubled : (k m n d : ℕ) → m ≡ 2 * n + d → 2 * k + m ≡ 2 * (k + n) + d
+    doubled k m n d e = omega (arith, e)
+
+    plain : (m n d : ℕ) → m ≡ 2 * n + d → 0 + m ≡ 2 * (0 + n) + d
+    plain m n d e = omega (arith, e)
+
+    step : (t : Bool) → marks f (ys ++ x ∷ []) ≡ 2 * marks f ys + (if f x then 1 else 0) → (if t then 2 ^ length (ys ++ x ∷ []) else 0) + marks f (ys ++ x ∷ []) ≡ 2 * ((if t then 2 ^ length ys else 0) + marks f ys) + (if f x then 1 else 0)
+    step true e = ap (λ n. n + marks f (ys ++ x ∷ [])) (ap (λ n. 2 ^ n) longer ∙ pow-succ' 2 (length ys)) ∙ doubled (2 ^ length ys) (marks f (ys ++ x ∷ [])) (marks f ys) (if f x then 1 else 0) e
+    step false e = plain (marks f (ys ++ x ∷ [])) (marks f ys) (if f x then 1 else 0) e
+
+pub marks_more : {A : Type 0} (f : A → Bool) (xs : List A) (i : ℕ) (x : A) → x ≡ get_or xs i x → i < length xs → marks f (take (i + 1) xs) ≡ 2 * marks f (take i xs) + (if f x then 1 else 0)
 marks_more f xs i x is there =
-    ap (marks f) (take_more xs i x there ∙ ap (λ y. take i xs ++ y ∷ []) (sym is)) ∙ last_mark 0 f (take i xs) x
+    ap (marks f) (take_more xs i x there ∙ ap (λ y. take i xs ++ y ∷ []) (sym is)) ∙ last_mark f (take i xs) x
 
-pub more_passing : {A : Type 0} (f : A → Bool) (xs : List A) (i : ℕ) (x : A) (m : ℕ) → x ≡ get_or xs i x → i < length xs → m ≡ marks f (take i xs) → f x ≡ true → m * 2 + 1 ≡ marks f (take (i + 1) xs)
-more_passing f xs i x m is there before passes =
-    let twice : m * 2 + 1 ≡ 2 * m + 1 = omega arith in
-    twice ∙ ap (λ n. 2 * n + 1) before ∙ ap (λ b. with_mark (marks f (take i xs)) b) (sym passes) ∙ sym (marks_more f xs i x is there)
-
-pub more_failing : {A : Type 0} (f : A → Bool) (xs : List A) (i : ℕ) (x : A) (m : ℕ) → x ≡ get_or xs i x → i < length xs → m ≡ marks f (take i xs) → f x ≡ false → m * 2 ≡ marks f (take (i + 1) xs)
-more_failing f xs i x m is there before fails =
-    let twice : m * 2 ≡ 2 * m + 0 = omega arith in
-    twice ∙ ap (λ n. 2 * n + 0) before ∙ ap (λ b. with_mark (marks f (take i xs)) b) (sym fails) ∙ sym (marks_more f xs i x is there)
+pub one_more : {A : Type 0} (f : A → Bool) (xs : List A) (i : ℕ) (x : A) (m n : ℕ) (t : Bool) → x ≡ get_or xs i x → i < length xs → m ≡ marks f (take i xs) → t ≡ f x → n ≡ 2 * m + (if t then 1 else 0) → n ≡ marks f (take (i + 1) xs)
+one_more f xs i x m n t is there before passes e =
+    e ∙ ap (λ k. 2 * k + (if t then 1 else 0)) before ∙ ap (λ u. 2 * marks f (take i xs) + (if u then 1 else 0)) passes ∙ sym (marks_more f xs i x is there)
 
 -- those of what each of them gives
-pub marks_map : {A B : Type 0} (n : ℕ) (f : B → Bool) (g : A → B) (xs : List A) → marks_after n f (map g xs) ≡ marks_after n (λ x. f (g x)) xs
-marks_map n f g [] = refl
-marks_map n f g (x ∷ xs) = marks_map (with_mark n (f (g x))) f g xs
+pub marks_map : {A B : Type 0} (f : B → Bool) (g : A → B) (xs : List A) → marks f (map g xs) ≡ marks (λ x. f (g x)) xs
+marks_map f g [] = refl
+marks_map f g (x ∷ xs) = ap (λ n. (if f (g x) then 2 ^ n else 0) + marks f (map g xs)) (length-map xs g) ∙ ap (λ n. (if f (g x) then 2 ^ length xs else 0) + n) (marks_map f g xs)
 
 -- those of the areas that cover a cell
 pub marks_covering : (l : List Area) (names : List (List ℕ)) (selectors : List (List Selector)) (c : Cell) (n : ℕ) → selectors ≡ map (selectors_of l) names → n ≡ marks (λ s. selects s c) selectors → n ≡ marks (λ a. covers l a c) names
 marks_covering l names selectors c n are is =
-    is ∙ ap (marks (λ s. selects s c)) are ∙ marks_map 0 (λ s. selects s c) (selectors_of l) names
+    is ∙ ap (marks (λ s. selects s c)) are ∙ marks_map (λ s. selects s c) (selectors_of l) names
+
+-- the marks are fewer than the numbers of so many digits
+below : {A : Type 0} (f : A → Bool) (xs : List A) → marks f xs < 2 ^ length xs
+below f [] = omega arith
+below {A} f (x ∷ xs) = subst (λ n. (if f x then 2 ^ length xs else 0) + marks f xs < n) (sym (pow-succ' 2 (length xs))) (step (f x) (2 ^ length xs) (below f xs))
+  where
+    step : (t : Bool) (k : ℕ) → marks f xs < k → (if t then k else 0) + marks f xs < 2 * k
+    step true k h = omega (arith, h)
+    step false k h = omega (arith, h)
 
 -- elements that have the same marks by two tests pass both or neither
-
-same_digit : (n m : ℕ) (a b : Bool) → with_mark n a ≡ with_mark m b → (n ≡ m) × (a ≡ b)
-same_digit n m true true same = (omega (arith, same), refl)
-same_digit n m false false same = (omega (arith, same), refl)
-same_digit n m true false same = grind (arith, same)
-same_digit n m false true same = grind (arith, same)
-
-same_passing : {A : Type 0} (f g : A → Bool) (n m : ℕ) (xs : List A) → marks_after n f xs ≡ marks_after m g xs → (n ≡ m) × (filter f xs ≡ filter g xs)
-same_passing f g n m [] same = (same, refl)
-same_passing f g n m (x ∷ xs) same =
-    let rest = same_passing f g (with_mark n (f x)) (with_mark m (g x)) xs same in
-    let here = same_digit n m (f x) (g x) rest.0 in
-    (here.0, step (f x) (g x) here.1 rest.1)
+same_passing : {A : Type 0} (f g : A → Bool) (xs : List A) → marks f xs ≡ marks g xs → filter f xs ≡ filter g xs
+same_passing f g [] same = refl
+same_passing {A} f g (x ∷ xs) same = step (f x) (g x) (2 ^ length xs) (below f xs) (below g xs) same (λ e. same_passing f g xs e)
   where
-    step : (a b : Bool) → a ≡ b → filter f xs ≡ filter g xs → (if a then x ∷ filter f xs else filter f xs) ≡ (if b then x ∷ filter g xs else filter g xs)
-    step true true e rest = ap (λ ys. x ∷ ys) rest
-    step false false e rest = rest
-    step true false e rest = cc
-    step false true e rest = cc
+    step : (a b : Bool) (k : ℕ) → marks f xs < k → marks g xs < k → (if a then k else 0) + marks f xs ≡ (if b then k else 0) + marks g xs → (marks f xs ≡ marks g xs → filter f xs ≡ filter g xs) → (if a then x ∷ filter f xs else filter f xs) ≡ (if b then x ∷ filter g xs else filter g xs)
+    step true true k h i e rest = ap (λ ys. x ∷ ys) (rest (omega (arith, e)))
+    step false false k h i e rest = rest (omega (arith, e))
+    step true false k h i e rest = absurd (grind (arith, e, i))
+    step false true k h i e rest = absurd (grind (arith, e, h))
 
 pub marked_by : (g : List ℕ → Bool) (all : List (List ℕ)) (n : ℕ) (names : List (List ℕ)) → n ≡ marks g all → names ≡ filter g all → IsMarked all (record { marks = n; names = names })
-marked_by g all n names is are = λ f same. are ∙ (same_passing g f 0 0 all (sym is ∙ sym same)).1
+marked_by g all n names is are = λ f same. are ∙ same_passing g f all (sym is ∙ sym same)
 
 -- one list more, and one less
 

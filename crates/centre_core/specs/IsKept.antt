@@ -12,8 +12,8 @@ use Rattle.centre_core.specs.State.{AreLinksOf}
 use Rattle.centre_events.specs.Warnings.{book_of}
 use Rattle.centre_core.specs.declared.kept.Kept.{Kept}
 
--- What is kept tells what the past says: the register, the areas, the links, what is in flight and which cells are down
--- pointwise, the book as it is, and the tables line by line.
+-- What is kept is what the past says: of each BSC, cell and area the register, the areas, the links, what is in flight and
+-- which cells are down, the book as a whole, and the tables line by line.
 pub record IsKept (past : Past) (s : Kept) : Type 0 where
   pub registered : IsRegisterOf past s.register
   pub selected : AreAreasOf past s.areas

@@ -1,19 +1,18 @@
 -- Which elements of a list pass a test, told by one number.
-use Rattle.std.specs.Prelude.{◌≡◌, ℕ, ◌+◌, ◌*◌, Bool, List, [], ◌∷◌, filter, if◌then◌else◌}
+use Rattle.std.specs.Prelude.{◌≡◌, ℕ, ◌+◌, ◌^◌, Bool, List, [], ◌∷◌, Option, filter, length, if◌then◌else◌, IfSome}
+use Rattle.areas.specs.Areas.{selects}
+use Rattle.areas.specs.declared.selector.Selector.{Selector}
+use Rattle.common.specs.declared.cell.Cell.{Cell}
 use Rattle.centre_core.specs.declared.marked_names.MarkedNames.{MarkedNames}
 
--- the number with a binary digit more: 1 where it holds
-abbrev pub with_mark : ℕ → Bool → ℕ
-with_mark n holds = 2 * n + (if holds then 1 else 0)
-
--- the number with a digit more for each of the elements: 1 where it passes
-abbrev pub marks_after : {A : Type 0} → ℕ → (A → Bool) → List A → ℕ
-marks_after n f [] = n
-marks_after n f (x ∷ xs) = marks_after (with_mark n (f x)) f xs
-
--- a digit for each of the elements: 1 where it passes
+-- a binary digit for each of the elements, the first one's highest: 1 where it passes
 abbrev pub marks : {A : Type 0} → (A → Bool) → List A → ℕ
-marks f xs = marks_after 0 f xs
+marks f [] = 0
+marks f (x ∷ xs) = (if f x then 2 ^ length xs else 0) + marks f xs
+
+-- if there are marks, they are those of each cell of the location area, by what selects it
+abbrev pub AreOfLac : List (List Selector) → ℕ → Option ℕ → Type 0
+AreOfLac xs lac found = IfSome found (λ n. (c : Cell) → c.lac ≡ lac → n ≡ marks (λ s. selects s c) xs)
 
 -- where the marks are those of a test, these are the names that pass it
 abbrev pub IsMarked : List (List ℕ) → MarkedNames → Type 0

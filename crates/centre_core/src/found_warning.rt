@@ -2,17 +2,19 @@
 
 ghost use Rattle.std.specs.Prelude.{◌≡◌, ◌<◌, ℕ, List, filter, length, map, IfOk, IfSome};
 ghost use Rattle.std.specs.List.{slice_index_or};
-ghost use Rattle.areas.specs.Areas.{covers, selects, selectors_of};
+ghost use Rattle.areas.specs.Areas.{covers};
 ghost use Rattle.centre_events.specs.Warnings.{serials};
 ghost use Rattle.centre_core.specs.Found.{AreSelected};
-ghost use Rattle.centre_core.specs.Marks.{AreMarked, IsMarked, marks};
+ghost use Rattle.centre_core.specs.Marks.{AreMarked, IsMarked};
 ghost use Rattle.centre_core.specs.declared.marked_names.MarkedNames.{MarkedNames};
 
+use crate::coverages::Coverages;
 use crate::facts::covers_at;
 use crate::marked_names::MarkedNames;
 use areas::{Areas, Coverage};
 use common::{Cell, Name};
 use kept_tables::{AreaNames, Serials};
+use smallvec::SmallVec;
 use std::alloc::{AllocError, Global};
 use std::marker::Model;
 use warning_book::{Version, Warning, WarningId};
@@ -20,14 +22,11 @@ use warning_book::{Version, Warning, WarningId};
 /// How many lists of areas are kept of one warning.
 const MOST_LISTS: usize = 8;
 
-/// The least number that can't be doubled in 32 bits.
-const MOST_MARKS: u32 = 2_147_483_648;
-
 /// The serial numbers of the versions, in memory of their own.
 pub(crate) fn own_serials_of(alloc: Global, versions: &[Version]) -> Result<Serials, AllocError>
     ensures { IfOk result (λ s. s ≡ map (λ v. v.serial) versions.now) }
 {
-    let mut numbers = Vec::with_capacity(alloc, versions.len())?;
+    let mut numbers = SmallVec::new(alloc);
     for version in versions {
         numbers.push(version.serial)?;
     }
@@ -43,38 +42,6 @@ fn own_names(alloc: Global, names: &[Name]) -> Result<AreaNames, AllocError>
         out.push(name.copied(alloc)?)?;
     }
     AreaNames::from_vec(alloc, out)
-}
-
-/// What each of the areas of these names covers.
-fn coverages_of<'a>(
-    alloc: Global,
-    areas: &'a Areas,
-    names: &[Name],
-) -> Result<Vec<Coverage<'a>>, AllocError>
-    ensures { IfOk result (λ v. v.items ≡ map (selectors_of areas.now) names.now) }
-{
-    let mut coverages = Vec::with_capacity(alloc, names.len())?;
-    for name in names {
-        coverages.push(areas.coverage(name))?;
-    }
-    Ok(coverages)
-}
-
-/// Which of these cover the cell, as one number. `None` where they are too many for it.
-fn marks_of(coverages: &[Coverage<'_>], c: Cell) -> Option<u32>
-    ensures { IfSome result (λ n. n ≡ marks (λ s. selects s c) coverages.now) }
-{
-    let mut marks: u32 = 0;
-    for coverage in coverages {
-        if marks >= MOST_MARKS {
-            return None;
-        }
-        marks *= 2;
-        if coverage.covers(c) {
-            marks += 1;
-        }
-    }
-    Some(marks)
 }
 
 /// The names of those of the areas that cover the cell, in memory of their own. What they cover was found before, or is
@@ -141,7 +108,7 @@ pub(crate) struct FoundWarning<'a> {
     warning: WarningId,
     serials: Serials,
     names: AreaNames,
-    coverages: Vec<Coverage<'a>>,
+    coverages: Coverages<'a>,
     /// Lists of those areas that cover a cell: cells that the same areas cover have the same list.
     lists: Vec<MarkedNames>,
 }
@@ -152,7 +119,7 @@ impl<'a> Model for FoundWarning<'a> {
 
     ghost Value = { Found };
 
-    ghost view = { λ t. record { warning = t.warning; serials = t.serials; names = t.names; selectors = t.coverages.items } };
+    ghost view = { λ t. record { warning = t.warning; serials = t.serials; names = t.names; selectors = t.coverages } };
 
     ghost invariant = { λ t. AreMarked t.names t.lists.items };
 }
@@ -182,7 +149,7 @@ impl FoundWarning<'_> {
             warning: number,
             serials: own_serials_of(alloc, versions)?,
             names: own_names(alloc, names)?,
-            coverages: coverages_of(alloc, areas, names)?,
+            coverages: Coverages::of(alloc, areas, names)?,
             lists: Vec::new(alloc),
         })
     }
@@ -207,13 +174,25 @@ impl FoundWarning<'_> {
         ensures covering { IfOk result (λ n. n ≡ filter (λ a. covers areas.now a c) self.old.names) }
         ensures same { self.new ≡ self.old }
     {
-        let Some(marks) = marks_of(&self.coverages, c) else {
-            return own_covering(self.alloc, areas, self.names.as_slice(), &self.coverages, c);
+        let Some(marks) = self.coverages.marks(c) else {
+            return own_covering(
+                self.alloc,
+                areas,
+                self.names.as_slice(),
+                self.coverages.as_slice(),
+                c,
+            );
         };
         if let Some(place) = place_of(&self.lists, marks) {
             return self.lists[place].names.shared();
         }
-        let names = own_covering(self.alloc, areas, self.names.as_slice(), &self.coverages, c)?;
+        let names = own_covering(
+            self.alloc,
+            areas,
+            self.names.as_slice(),
+            self.coverages.as_slice(),
+            c,
+        )?;
         let names_again = names.shared()?;
         remember(&mut self.lists, marks, names_again)?;
         Ok(names)

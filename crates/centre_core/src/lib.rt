@@ -3,11 +3,12 @@
 //! What is planned for each base station controller (BSC), what each of them has reported, what is still to be ordered
 //! and every number of a board are kept, and changed line by line. Begin with `centre`; the rules of each
 //! event are in `events`, the lines on which it bears in `reach`, and how these change in `following`. The definitions
-//! that contracts cite are in `specs/`, beginning with `Past` and `IsKept`.
+//! that contracts cite are in `specs/`, beginning with `IsKept`; those over the past are in `centre_events`.
 #![tactic(auto)]
 
 pub mod centre;
 mod changing;
+mod coverages;
 mod downs;
 mod entering;
 mod events;

@@ -1,4 +1,4 @@
-use Rattle.std.proofs.Common.{◌≡◌, ◌∙◌, List, ℕ, Some, filter, get_or, map, ap, sym, subst}
+use Rattle.std.proofs.Common.{◌≡◌, ◌∙◌, Some, filter, get_or, map, ap, sym, subst}
 use Rattle.std.specs.Result.{IfOk}
 use Rattle.areas.specs.Areas.{covers, selectors_of}
 use Rattle.centre_core.specs.Found.{IsOf}

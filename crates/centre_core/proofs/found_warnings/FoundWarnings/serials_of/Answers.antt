@@ -1,4 +1,4 @@
-use Rattle.std.proofs.Common.{◌≡◌, ◌∙◌, List, ℕ, Some, get_or, ap, subst}
+use Rattle.std.proofs.Common.{◌≡◌, ◌∙◌, Some, get_or, ap, subst}
 use Rattle.std.specs.Result.{IfOk}
 use Rattle.centre_core.specs.Found.{IsOf}
 use Rattle.centre_core.proofs.CoverageLemmas.{found_in}
