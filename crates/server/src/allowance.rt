@@ -66,7 +66,8 @@ impl Allowance {
         self.own.is_empty()
     }
 
-    /// Whether it is the first time that an order has to wait since as many might go out as at the beginning.
+    /// Whether no order of the BSC has had to wait since the BSC, and all BSCs together, had their greatest number of orders left.
+    /// From then on one has.
     pub(crate) fn is_first(&mut self) -> bool
         ensures first { result ≡ not self.old.was_told }
         ensures told { self.new ≡ record self.old { was_told = true } }
