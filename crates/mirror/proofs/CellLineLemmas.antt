@@ -1,5 +1,5 @@
 -- The entries and the lines of one cell of a BSC, in the order of their warnings.
-use Rattle.std.proofs.Common.{◌≡◌, ℕ, ◌+◌, ◌≤◌, Bool, true, false, cond, ◌&&◌, ◌||◌, not, nat_eq, ltb, List, [], ◌∷◌, Option, Some, None, length, map, filter, if◌then◌else◌, refl, sym, ◌∙◌, ap, arith, Less}
+use Rattle.std.proofs.Common.{◌≡◌, ℕ, ◌≤◌, Bool, true, false, cond, ◌&&◌, ◌||◌, not, nat_eq, ltb, List, [], ◌∷◌, Option, Some, None, length, map, filter, if◌then◌else◌, refl, sym, ◌∙◌, ap, arith, Less}
 use Rattle.std.proofs.lemmas.Bool.{and_parts, and_from, not-true}
 use Rattle.std.proofs.lemmas.Bool.Decides.{nat_tests}
 use Rattle.std.proofs.lemmas.Grind.{common_steps}
@@ -10,7 +10,7 @@ use Rattle.std.specs.List.{list_any, list_all, AllByRecursion}
 use Rattle.std.specs.List.Sorted.{IsStrictlySortedBy}
 use Rattle.std.specs.Map.{keys_of, lookup}
 use Rattle.std.specs.Option.{unwrap_or}
-use Rattle.std.specs.declared.ops.Bound.TheVariants.{Included, Excluded}
+use Rattle.std.specs.declared.ops.Bound.TheVariants.{Included, Unbounded}
 use Rattle.std.specs.Cmp.{unsigned_Decides}
 use Rattle.common.specs.Cell.{cell_eq}
 use Rattle.common.specs.OnceLaws.{any_turned, any_filter_same, ascending_once}
@@ -29,13 +29,13 @@ use Rattle.mirror.specs.BlankLaws.{blank_decides}
 use Rattle.mirror.specs.Held.{is_held_line}
 use Rattle.mirror.specs.Index.{kept_warnings, line_in}
 use Rattle.mirror.specs.Line.{blank_line}
-use Rattle.mirror.specs.Order.{Slot, slot_cmp, warning_slot_cmp, slot_of, least_slot}
+use Rattle.mirror.specs.Order.{Slot, slot_cmp, warning_slot_cmp, slot_of}
 use Rattle.mirror.specs.Table.{is_slot, is_slot_in}
 use Rattle.mirror.specs.declared.line.Line.{Line}
 
 -- the slot stands where those of the cell and of the BSC's later cells do
 abbrev pub from_cell : ℕ → Cell → Slot → Bool
-from_cell b c s = range_contains slot_cmp (Included (slot_of b c 0)) (Excluded (least_slot (b + 1))) s
+from_cell b c s = range_contains slot_cmp (Included (slot_of b c 0)) Unbounded s
 
 -- entries from the cell's first on, in order
 pub record FromCell (b : ℕ) (c : Cell) (es : List (Slot × Bool)) : Type 0 where

@@ -2,6 +2,7 @@ mod KeyLemmas
 mod LineLemmas
 mod NumberLemmas
 mod KeptLemmas
+mod LinesLemmas
 mod GatherLemmas
 mod OnAirLemmas
 mod CountLemmas

@@ -1,5 +1,5 @@
 -- Cells that identifications with a cell of their own name, and the first slot of a cell.
-use Rattle.std.proofs.Common.{◌≡◌, ℕ, ◌+◌, Bool, true, false, cond, ◌&&◌, ◌||◌, List, [], ◌∷◌, filter, Some, if◌then◌else◌, refl, sym, ◌∙◌, ap, arith, Less}
+use Rattle.std.proofs.Common.{◌≡◌, ℕ, Bool, true, false, cond, ◌&&◌, ◌||◌, List, [], ◌∷◌, filter, Some, if◌then◌else◌, refl, sym, ◌∙◌, ap, arith, Less}
 use Rattle.std.proofs.lemmas.Bool.Decides.{nat_tests}
 use Rattle.std.proofs.lemmas.Grind.{common_steps}
 use Rattle.std.proofs.lemmas.Map.Keys.{sorted_head, sorted_tail}
@@ -8,7 +8,7 @@ use Rattle.std.specs.BTreeMap.Range.{range_contains}
 use Rattle.std.specs.List.{list_any, AllByRecursion}
 use Rattle.std.specs.List.Sorted.{IsStrictlySortedBy}
 use Rattle.std.specs.Map.{keys_of}
-use Rattle.std.specs.declared.ops.Bound.TheVariants.{Included, Excluded}
+use Rattle.std.specs.declared.ops.Bound.TheVariants.{Included, Unbounded}
 use Rattle.cbsp_ie.specs.CellId.{names}
 use Rattle.cbsp_ie.specs.declared.cell_id.CellId.{CellId}
 use Rattle.cbsp_ie.specs.declared.cell_id.CellId.TheVariants as id
@@ -18,7 +18,7 @@ use Rattle.common.specs.OnceLaws.{turned}
 use Rattle.common.specs.declared.cell.Cell.{Cell}
 use Rattle.mirror.proofs.GatherLemmas.{one_more}
 use Rattle.mirror.specs.Known.{is_named, own_cell}
-use Rattle.mirror.specs.Order.{Slot, slot_cmp, slot_of, least_slot}
+use Rattle.mirror.specs.Order.{Slot, slot_cmp, slot_of}
 use Rattle.mirror.specs.Table.{is_slot_in}
 
 -- an identification with a cell of its own names no other cell
@@ -59,28 +59,28 @@ begins_with b c [] = false
 begins_with b c (e ∷ es) = is_slot_in b c e.0
 
 -- a slot before a cell's first isn't the cell's
-pub before_first : (b : ℕ) (c : Cell) (s : Slot) → range_contains slot_cmp (Included (slot_of b c 0)) (Excluded (least_slot (b + 1))) s ≡ false → is_slot_in b c s ≡ false
+pub before_first : (b : ℕ) (c : Cell) (s : Slot) → range_contains slot_cmp (Included (slot_of b c 0)) Unbounded s ≡ false → is_slot_in b c s ≡ false
 before_first b c s h = grind (arith, nat_tests, common_steps)
 
 -- and none after one that comes behind the cell's
-after_last : (b : ℕ) (c : Cell) (s t : Slot) → range_contains slot_cmp (Included (slot_of b c 0)) (Excluded (least_slot (b + 1))) s ≡ true → is_slot_in b c s ≡ false → slot_cmp s t ≡ Less → is_slot_in b c t ≡ false
+after_last : (b : ℕ) (c : Cell) (s t : Slot) → range_contains slot_cmp (Included (slot_of b c 0)) Unbounded s ≡ true → is_slot_in b c s ≡ false → slot_cmp s t ≡ Less → is_slot_in b c t ≡ false
 after_last b c s t h g l = grind (arith, nat_tests, common_steps)
 
-pub none_after : (b : ℕ) (c : Cell) (s : Slot) → range_contains slot_cmp (Included (slot_of b c 0)) (Excluded (least_slot (b + 1))) s ≡ true → is_slot_in b c s ≡ false → (es : List (Slot × Bool)) → AllByRecursion (λ t. slot_cmp s t ≡ Less) (keys_of es) → false ≡ list_any (λ e. is_slot_in b c e.0) es
+pub none_after : (b : ℕ) (c : Cell) (s : Slot) → range_contains slot_cmp (Included (slot_of b c 0)) Unbounded s ≡ true → is_slot_in b c s ≡ false → (es : List (Slot × Bool)) → AllByRecursion (λ t. slot_cmp s t ≡ Less) (keys_of es) → false ≡ list_any (λ e. is_slot_in b c e.0) es
 none_after b c s h g [] l = refl
 none_after b c s h g (e ∷ es) l = none_after b c s h g es l.1 ∙ ap (λ t. t || list_any (λ x. is_slot_in b c x.0) es) (sym (after_last b c s e.0 h g l.0))
 
 -- a slot of the BSC and the cell is there just where the first from where theirs begin is one of theirs
-pub first_tells : (b : ℕ) (c : Cell) (es : List (Slot × Bool)) → IsStrictlySortedBy slot_cmp (keys_of es) → begins_with b c (filter (λ e. range_contains slot_cmp (Included (slot_of b c 0)) (Excluded (least_slot (b + 1))) e.0) es) ≡ list_any (λ e. is_slot_in b c e.0) es
+pub first_tells : (b : ℕ) (c : Cell) (es : List (Slot × Bool)) → IsStrictlySortedBy slot_cmp (keys_of es) → begins_with b c (filter (λ e. range_contains slot_cmp (Included (slot_of b c 0)) Unbounded e.0) es) ≡ list_any (λ e. is_slot_in b c e.0) es
 first_tells b c [] o = refl
 first_tells b c (e ∷ es) o =
-    step (range_contains slot_cmp (Included (slot_of b c 0)) (Excluded (least_slot (b + 1))) e.0) refl (first_tells b c es (sorted_tail slot_cmp e.0 (keys_of es) o))
+    step (range_contains slot_cmp (Included (slot_of b c 0)) Unbounded e.0) refl (first_tells b c es (sorted_tail slot_cmp e.0 (keys_of es) o))
   where
-    own : (t : Bool) → is_slot_in b c e.0 ≡ t → range_contains slot_cmp (Included (slot_of b c 0)) (Excluded (least_slot (b + 1))) e.0 ≡ true → t ≡ (t || list_any (λ x. is_slot_in b c x.0) es)
+    own : (t : Bool) → is_slot_in b c e.0 ≡ t → range_contains slot_cmp (Included (slot_of b c 0)) Unbounded e.0 ≡ true → t ≡ (t || list_any (λ x. is_slot_in b c x.0) es)
     own true g h = refl
     own false g h = none_after b c e.0 h g es (sorted_head slot_cmp e.0 (keys_of es) o)
 
-    step : (t : Bool) → range_contains slot_cmp (Included (slot_of b c 0)) (Excluded (least_slot (b + 1))) e.0 ≡ t → begins_with b c (filter (λ x. range_contains slot_cmp (Included (slot_of b c 0)) (Excluded (least_slot (b + 1))) x.0) es) ≡ list_any (λ x. is_slot_in b c x.0) es → begins_with b c (if t then e ∷ filter (λ x. range_contains slot_cmp (Included (slot_of b c 0)) (Excluded (least_slot (b + 1))) x.0) es else filter (λ x. range_contains slot_cmp (Included (slot_of b c 0)) (Excluded (least_slot (b + 1))) x.0) es) ≡ (is_slot_in b c e.0 || list_any (λ x. is_slot_in b c x.0) es)
+    step : (t : Bool) → range_contains slot_cmp (Included (slot_of b c 0)) Unbounded e.0 ≡ t → begins_with b c (filter (λ x. range_contains slot_cmp (Included (slot_of b c 0)) Unbounded x.0) es) ≡ list_any (λ x. is_slot_in b c x.0) es → begins_with b c (if t then e ∷ filter (λ x. range_contains slot_cmp (Included (slot_of b c 0)) Unbounded x.0) es else filter (λ x. range_contains slot_cmp (Included (slot_of b c 0)) Unbounded x.0) es) ≡ (is_slot_in b c e.0 || list_any (λ x. is_slot_in b c x.0) es)
     step true h rest = own (is_slot_in b c e.0) refl h
     step false h rest = rest ∙ ap (λ t. t || list_any (λ x. is_slot_in b c x.0) es) (sym (before_first b c e.0 h))
 

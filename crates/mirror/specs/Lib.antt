@@ -10,6 +10,7 @@ pub mod PartsLaws
 pub mod OrderLaws
 pub mod Table
 pub mod Downs
+pub mod Lines
 pub mod Index
 pub mod Known
 pub mod OnAir

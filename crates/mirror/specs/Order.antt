@@ -1,5 +1,5 @@
 -- The orders in which a table keeps its lines and the cells that are down.
-use Rattle.std.specs.Prelude.{ℕ, ◌/◌, ◌%◌, ◌^◌}
+use Rattle.std.specs.Prelude.{ℕ, ◌+◌, ◌*◌, ◌/◌, ◌%◌, ◌^◌}
 use Rattle.std.specs.Ordering.{ordering_then, nat_cmp}
 use Rattle.std.specs.declared.cmp.Ordering.{Ordering}
 use Rattle.common.specs.Cell.{cell_cmp}
@@ -44,6 +44,13 @@ first_of w = slot_of 0 (record { lac = 0; ci = 0 }) w
 -- the cell identity
 abbrev pub slot_in : ℕ → ℕ → Slot
 slot_in m n = record { bsc = m % 2 ^ 16; cell = record { lac = n / 2 ^ 16; ci = n % 2 ^ 16 }; warning = m / 2 ^ 16 }
+
+-- the two numbers in which a slot stands, by which it is hashed
+abbrev pub front_of : Slot → ℕ
+front_of s = s.warning * 2 ^ 16 + s.bsc
+
+abbrev pub cell_number : Slot → ℕ
+cell_number s = s.cell.lac * 2 ^ 16 + s.cell.ci
 
 -- the place of a BSC and a cell
 abbrev pub place_of : ℕ → Cell → Place

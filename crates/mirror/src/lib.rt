@@ -2,9 +2,9 @@
 //! message was broadcast, and which cells are down.
 //!
 //! A line is what is kept of one BSC, cell and warning. Begin with `line_table`; the definitions that contracts cite
-//! are in `specs/`: `Line`, `Held`, `Seen` and `Packed` for one line, `Table` for all of them, `Index` for which lines
-//! there are, `Known` for the cells that a report names, `OnAir` for the cells in which a version is on air, `Downs` for
-//! how the cells that are down are counted.
+//! are in `specs/`: `Line`, `Held`, `Seen` and `Packed` for one line, `Table` for all of them, `Lines` for how one of
+//! them is found, `Index` for which lines there are, `Known` for the cells that a report names, `OnAir` for the cells in
+//! which a version is on air, `Downs` for how the cells that are down are counted.
 #![tactic(auto)]
 
 mod cell_index;
@@ -15,6 +15,7 @@ mod known;
 mod line;
 mod line_key;
 mod line_table;
+mod lines;
 mod naming;
 mod on_air;
 mod packed_state;

@@ -100,6 +100,14 @@ impl Line {
         self.states[serial.update() as usize].state()
     }
 
+    /// Whether the version of that serial number is as much on air in both lines, and held in both or in neither.
+    pub fn is_alike(&self, other: &Line, serial: Serial) -> bool
+        ensures { IsTrue result ↔ (((state_of self.now serial).presence ≡ (state_of other.now serial).presence) × (is_some (state_of self.now serial).hold ≡ is_some (state_of other.now serial).hold)) }
+    {
+        let index = serial.update() as usize;
+        self.states[index].is_alike(&other.states[index])
+    }
+
     /// The line with that state for the version of that serial number, the others as they are.
     pub fn with_state(mut self, serial: Serial, state: KeyState) -> Line
         ensures { result ≡ with_state self serial state }

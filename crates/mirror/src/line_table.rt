@@ -17,21 +17,21 @@ ghost use Rattle.mirror.specs.declared.line_key.LineKey.{LineKey};
 use crate::cell_index::CellIndex;
 use crate::downs::Downs;
 use crate::gathering::{add_downs, add_line_cells, cells_in_order};
-use crate::known::{add_warnings, has_line, is_registered, put_line, take_line};
+use crate::known::{add_warnings, has_line, is_registered};
 use crate::line::Line;
 use crate::line_key::LineKey;
+use crate::lines::Lines;
 use crate::naming::{are_of_cells, named, own_cell};
 use crate::on_air::first_on_air;
 use crate::reading::line_of;
 use crate::version_at::VersionAt;
 use crate::warning_lines::{keys_of, later};
-use crate::warning_slot::WarningSlot;
 use cbsp_ie::CellId;
 use cell_register::{BscId, Register};
 use common::{Cell, Cells};
 use serials::Serial;
 use std::alloc::{AllocError, Global};
-use std::collections::{BTreeMap, BTreeSet};
+use std::collections::BTreeSet;
 use std::marker::Model;
 use warning_book::WarningId;
 
@@ -44,7 +44,7 @@ const FEW: usize = 16;
 pub struct LineTable {
     alloc: Global,
     /// The lines that aren't blank, by warning.
-    lines: BTreeMap<WarningSlot, Line>,
+    lines: Lines,
     /// The same lines, by BSC and cell, and whether each is held.
     index: CellIndex,
     downs: Downs,
@@ -57,9 +57,9 @@ impl Model for LineTable {
 
     ghost Value = { Table };
 
-    ghost view = { λ t. record { lines = t.lines.entries; downs = t.downs; meter = t.meter } };
+    ghost view = { λ t. record { lines = t.lines; downs = t.downs; meter = t.meter } };
 
-    ghost invariant = { λ t. IsTable (record { lines = t.lines.entries; downs = t.downs; meter = t.meter }) t.index };
+    ghost invariant = { λ t. IsTable (record { lines = t.lines; downs = t.downs; meter = t.meter }) t.index };
 }
 
 impl LineTable {
@@ -71,7 +71,7 @@ impl LineTable {
     {
         LineTable {
             alloc,
-            lines: BTreeMap::new(alloc),
+            lines: Lines::new(alloc),
             index: CellIndex::new(alloc),
             downs: Downs::new(alloc),
             meter: 0,
@@ -93,7 +93,7 @@ impl LineTable {
     pub fn tell_line_count(&self)
         ensures { (b w : ℕ) (cells : List Cell) → ((c : Cell) → is_blank (line_at self.now b c w) ≡ false → list_any (cell_eq c) cells ≡ true) → line_count self.now b w ≤ length cells }
     {
-        let _ = self.lines.len();
+        self.lines.tell_order();
     }
 
     /// How often lines were read or set, up to the greatest value, which stays.
@@ -148,7 +148,7 @@ impl LineTable {
         ensures meter { self.new.meter ≡ self.old.meter }
     {
         let LineKey { bsc, cell, warning } = key;
-        if take_line(&mut self.lines, key) {
+        if self.lines.remove(key) {
             self.index.remove(LineKey { bsc, cell, warning });
         }
     }
@@ -163,14 +163,14 @@ impl LineTable {
         ensures meter { self.new.meter ≡ self.old.meter }
     {
         let is_held = line.is_held();
-        if put_line(&mut self.lines, key, line)? == Some(is_held) {
+        if self.lines.insert(key, line)? == Some(is_held) {
             return Ok(());
         }
         match self.index.insert(key, is_held) {
             Ok(()) => Ok(()),
             Err(e) => {
                 // Memory runs out only for a line that the index didn't have, so none was kept before.
-                let _ = take_line(&mut self.lines, key);
+                let _ = self.lines.remove(key);
                 Err(e)
             }
         }
@@ -206,13 +206,20 @@ impl LineTable {
         ensures least { self.old.meter ≤ self.new.meter }
         ensures counted { IfOk result (λ cells. self.new.meter < 2 ^ 64 - 1 → self.old.meter + length cells ≤ self.new.meter) }
     {
-        let lines = later(&self.lines, b, w, after);
+        let slots = later(&self.lines, b, w, after);
         let version = VersionAt {
             bsc: b,
             warning: w,
             serial,
         };
-        let cells = first_on_air(self.alloc, lines, &version, most, &mut self.meter)?;
+        let cells = first_on_air(
+            self.alloc,
+            slots,
+            &self.lines,
+            &version,
+            most,
+            &mut self.meter,
+        )?;
         Ok(cells)
     }
 
@@ -232,8 +239,7 @@ impl LineTable {
         ensures which { IfOk result (λ ws. (w : ℕ) → list_any (nat_eq w) ws.items ≡ not (is_blank (line_at self.now b c w))) }
         ensures few { IfOk result (λ ws. (ns : List ℕ) → ((w : ℕ) → is_blank (line_at self.now b c w) ≡ false → list_any (nat_eq w) ns ≡ true) → length ws.items ≤ length ns) }
     {
-        // A lemma: `len` also ensures that the lines are in order.
-        let _ = self.lines.len();
+        self.lines.tell_order();
         let mut warnings = Vec::with_capacity(self.alloc, FEW)?;
         add_warnings(self.index.slots(), b, c, false, &mut warnings)?;
         Ok(warnings)
@@ -247,8 +253,7 @@ impl LineTable {
         ensures which { IfOk result (λ ws. (w : ℕ) → list_any (nat_eq w) ws.items ≡ is_held_line (line_at self.now b c w)) }
         ensures few { IfOk result (λ ws. (ns : List ℕ) → ((w : ℕ) → is_blank (line_at self.now b c w) ≡ false → list_any (nat_eq w) ns ≡ true) → length ws.items ≤ length ns) }
     {
-        // A lemma: `len` also ensures that the lines are in order.
-        let _ = self.lines.len();
+        self.lines.tell_order();
         let mut warnings = Vec::new(self.alloc);
         add_warnings(self.index.slots(), b, c, true, &mut warnings)?;
         Ok(warnings)

@@ -1,6 +1,6 @@
 //! What is kept of one version, in four octets.
 
-ghost use Rattle.std.specs.Prelude.{◌≡◌, ◌<◌};
+ghost use Rattle.std.specs.Prelude.{◌≡◌, ◌↔◌, ◌<◌, IsTrue};
 ghost use Rattle.std.specs.Option.{is_some};
 ghost use Rattle.mirror.specs.Blank.{state_eq};
 ghost use Rattle.mirror.specs.Line.{blank};
@@ -113,6 +113,13 @@ impl PackedState {
         ensures { result ≡ state_eq self.now other.now }
     {
         self.number == other.number
+    }
+
+    /// Whether both are as much on air, and there is a hold in both or in neither.
+    pub(crate) fn is_alike(&self, other: &PackedState) -> bool
+        ensures { IsTrue result ↔ ((self.now.presence ≡ other.now.presence) × (is_some self.now.hold ≡ is_some other.now.hold)) }
+    {
+        self.number / PRESENCE == other.number / PRESENCE
     }
 
     /// Whether nothing is kept.

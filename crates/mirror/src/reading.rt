@@ -5,15 +5,12 @@ ghost use Rattle.mirror.specs.Index.{line_in};
 
 use crate::line::Line;
 use crate::line_key::LineKey;
+use crate::lines::Lines;
 use crate::warning_slot::WarningSlot;
-use std::collections::BTreeMap;
 
 /// The line of the BSC, the cell and the warning.
-pub(crate) fn line_of(lines: &BTreeMap<WarningSlot, Line>, key: LineKey) -> Line
-    ensures { result ≡ line_in lines.now.entries key.bsc key.cell key.warning }
+pub(crate) fn line_of(lines: &Lines, key: LineKey) -> Line
+    ensures { result ≡ line_in lines.now key.bsc key.cell key.warning }
 {
-    match lines.get(&WarningSlot::of(key)) {
-        Some(line) => *line,
-        None => Line::blank(),
-    }
+    lines.line_of(&WarningSlot::of(key))
 }

@@ -8,6 +8,7 @@ use crate::line_key::LineKey;
 use cell_register::BscId;
 use common::Cell;
 use std::cmp::Ordering;
+use std::hash::{Hash, Hasher};
 use std::marker::Model;
 use warning_book::WarningId;
 
@@ -100,7 +101,7 @@ impl PartialEq for WarningSlot {
     ghost laws = { partial_equiv_from_equiv (eq_by_cmp_equiv warning_slot_total) };
 
     fn eq(&self, other: &WarningSlot) -> bool {
-        self.cmp(other).is_eq()
+        self.front == other.front && self.cell == other.cell
     }
 }
 
@@ -109,6 +110,22 @@ impl Eq for WarningSlot {
     ghost use Rattle.mirror.specs.OrderLaws.{warning_slot_total};
 
     ghost laws = { eq_by_cmp_equiv warning_slot_total };
+}
+
+impl Hash for WarningSlot {
+    ghost use Rattle.std.specs.Prelude.{◌++◌};
+    ghost use Rattle.std.specs.Hash as fed;
+    ghost use Rattle.mirror.specs.Order.{cell_number, front_of};
+    ghost use Rattle.mirror.specs.OrderLaws.{same_hash_input};
+
+    ghost hash_input = { λ s. fed.u64 (front_of s) ++ fed.u32 (cell_number s) };
+
+    ghost respects_eq = { same_hash_input };
+
+    fn hash<H: Hasher>(&self, state: &mut H) {
+        state.write_u64(self.front);
+        state.write_u32(self.cell);
+    }
 }
 
 impl PartialOrd for WarningSlot {

@@ -1,17 +1,17 @@
-use Rattle.std.proofs.Common.{◌≡◌, Bool, ◌||◌, ◌+◌, ◌++◌, not, [], ◌∷◌, true, false, sym, ◌∙◌, ap, rules}
+use Rattle.std.proofs.Common.{◌≡◌, Bool, ◌||◌, ◌++◌, not, [], ◌∷◌, true, false, sym, ◌∙◌, ap, rules}
 use Rattle.std.proofs.lemmas.List.{append-nil, append_assoc}
 use Rattle.std.specs.BTreeMap.Range.{entries_between}
-use Rattle.std.specs.declared.ops.Bound.TheVariants.{Included, Excluded}
+use Rattle.std.specs.declared.ops.Bound.TheVariants.{Included, Unbounded}
 use Rattle.mirror.proofs.CellLineLemmas.{from_all, from_later, kept_among, kept_end, kept_more, kept_passed}
 use Rattle.mirror.specs.Index.{kept_warnings}
-use Rattle.mirror.specs.Order.{Slot, slot_cmp, slot_of, least_slot}
+use Rattle.mirror.specs.Order.{Slot, slot_cmp, slot_of}
 use Rattle.mirror.specs.Table.{is_slot_in}
 use Rattle.mirror.proofs.known.add_warnings.Goals as goal
 
 pub loop-slot-init : goal.loop-slot-init
 loop-slot-init c =
     let test : Bool → Bool = λ h. not c.args.only_held || h in
-    let part : c.range-later.result ≡ entries_between slot_cmp (Included (slot_of c.args.b c.args.c 0)) (Excluded (least_slot (c.args.b + 1))) c.args.slots.now.entries = rw (c.first_of.ensures, c.least.ensures, c.from-bsc.ensures, c.number.ensures.value) at (c.range-later.ensures.between tt) in
+    let part : c.range-later.result ≡ entries_between slot_cmp (Included (slot_of c.args.b c.args.c 0)) Unbounded c.args.slots.now.entries = rw c.first_of.ensures at (c.range-later.ensures.between tt) in
     let gives = c.into_iter-slot-iterator.ensures.into_iter_gives ∙ part in
     rw gives (from_all c.args.b c.args.c c.args.slots.now.entries c.range-later.ensures.ordered, ap (λ ws. c.args.warnings.now.items ++ ws) (kept_among c.args.b c.args.c test c.args.slots.now.entries))
 

@@ -17,41 +17,41 @@ use Rattle.mirror.proofs.line_table.LineTable.keep.Goals as goal
 pub invariant_of-self-then-eq : goal.invariant_of-self-then-eq
 invariant_of-self-then-eq c =
     let k = c.args.key in
-    let es = c.self.inside.lines.entries in
-    let same : c.in_ok-put_line.field-0 ≡ Some (is_held_line c.args.line) = same_entry c.in_ok-put_line.field-0 c.is_held-is_held.result (sym c.eq.ensures ∙ c.if-eq.true) ∙ ap Some c.is_held-is_held.ensures in
-    let entry : lookup (is_slot k.bsc k.cell k.warning) c.self.inside.index ≡ Some (is_held_line c.args.line) = kept_entry k c.self.inside.index es c.self.invariant.none_blank c.self.invariant.indexed (is_held_line c.args.line) (sym c.in_ok-put_line.ensures.old ∙ same) in
+    let es = c.self.inside.lines in
+    let same : c.in_ok-insert.field-0 ≡ Some (is_held_line c.args.line) = same_entry c.in_ok-insert.field-0 c.is_held-is_held.result (sym c.eq.ensures ∙ c.if-eq.true) ∙ ap Some c.is_held-is_held.ensures in
+    let entry : lookup (is_slot k.bsc k.cell k.warning) c.self.inside.index ≡ Some (is_held_line c.args.line) = kept_entry k c.self.inside.index es c.self.invariant.none_blank c.self.invariant.indexed (is_held_line c.args.line) (sym c.in_ok-insert.ensures.old ∙ same) in
     record {
-      none_blank = rw c.in_ok-put_line.ensures.entries (all_insert_entry warning_slot_cmp (λ (line : Line). not (is_blank line)) (slot_of k.bsc k.cell k.warning) c.args.line (not_from_false (is_blank c.args.line) c.requires) es c.self.invariant.none_blank);
-      indexed = indexed_with k c.args.line c.requires c.self.inside.index c.self.inside.index es c.put_line.new.lines.entries (already k (Some (is_held_line c.args.line)) c.self.inside.index entry) c.in_ok-put_line.ensures.set c.self.invariant.indexed;
+      none_blank = rw c.in_ok-insert.ensures.entries (all_insert_entry warning_slot_cmp (λ (line : Line). not (is_blank line)) (slot_of k.bsc k.cell k.warning) c.args.line (not_from_false (is_blank c.args.line) c.requires) es c.self.invariant.none_blank);
+      indexed = indexed_with k c.args.line c.requires c.self.inside.index c.self.inside.index es c.insert.new.self (already k (Some (is_held_line c.args.line)) c.self.inside.index entry) c.in_ok-insert.ensures.set c.self.invariant.indexed;
       numbered = c.self.invariant.numbered;
     }
 
 pub invariant_of-self-in-Ok : goal.invariant_of-self-in-Ok
 invariant_of-self-in-Ok c =
     let k = c.args.key in
-    let es = c.self.inside.lines.entries in
-    let entered : IsEntered k (Some (is_held_line c.args.line)) c.self.inside.index c.insert.new.self = rw c.is_held-is_held.ensures at c.in-Ok.ensures.entered in
+    let es = c.self.inside.lines in
+    let entered : IsEntered k (Some (is_held_line c.args.line)) c.self.inside.index c.insert-2.new.self = rw c.is_held-is_held.ensures at c.in-Ok.ensures.entered in
     record {
-      none_blank = rw c.in_ok-put_line.ensures.entries (all_insert_entry warning_slot_cmp (λ (line : Line). not (is_blank line)) (slot_of k.bsc k.cell k.warning) c.args.line (not_from_false (is_blank c.args.line) c.requires) es c.self.invariant.none_blank);
-      indexed = indexed_with k c.args.line c.requires c.self.inside.index c.insert.new.self es c.put_line.new.lines.entries entered c.in_ok-put_line.ensures.set c.self.invariant.indexed;
-      numbered = numbered_with k (Some (is_held_line c.args.line)) c.self.inside.index c.insert.new.self c.in-Ok.ensures.numbered entered c.self.invariant.numbered;
+      none_blank = rw c.in_ok-insert.ensures.entries (all_insert_entry warning_slot_cmp (λ (line : Line). not (is_blank line)) (slot_of k.bsc k.cell k.warning) c.args.line (not_from_false (is_blank c.args.line) c.requires) es c.self.invariant.none_blank);
+      indexed = indexed_with k c.args.line c.requires c.self.inside.index c.insert-2.new.self es c.insert.new.self entered c.in_ok-insert.ensures.set c.self.invariant.indexed;
+      numbered = numbered_with k (Some (is_held_line c.args.line)) c.self.inside.index c.insert-2.new.self c.in-Ok.ensures.numbered entered c.self.invariant.numbered;
     }
 
 pub invariant_of-self-in-Err : goal.invariant_of-self-in-Err
 invariant_of-self-in-Err c =
     let k = c.args.key in
-    let es = c.self.inside.lines.entries in
+    let es = c.self.inside.lines in
     let gone : lookup (is_at (warning_slot_cmp (slot_of k.bsc k.cell k.warning))) es ≡ None = found_at k.bsc k.cell k.warning es ∙ not_entered k c.self.inside.index es c.self.invariant.none_blank c.self.invariant.indexed c.in-Err.ensures.grows in
-    let same : c.take_line.new.lines.entries ≡ es = c.take_line.ensures.entries ∙ rw c.in_ok-put_line.ensures.entries (taken_back (slot_of k.bsc k.cell k.warning) c.args.line es gone) in
+    let same : c.remove.new.self ≡ es = c.remove.ensures.entries ∙ rw c.in_ok-insert.ensures.entries (taken_back (slot_of k.bsc k.cell k.warning) c.args.line es gone) in
     rw (same, c.in-Err.ensures.unchanged) c.self.invariant
 
 pub returns-in-Err-clause-unchanged : goal.returns-in-Err-clause-unchanged
 returns-in-Err-clause-unchanged c =
     let k = c.args.key in
-    let es = c.self.inside.lines.entries in
+    let es = c.self.inside.lines in
     let gone : lookup (is_at (warning_slot_cmp (slot_of k.bsc k.cell k.warning))) es ≡ None = found_at k.bsc k.cell k.warning es ∙ not_entered k c.self.inside.index es c.self.invariant.none_blank c.self.invariant.indexed c.in-Err.ensures.grows in
-    rw (← c.self.view_is) (c.take_line.ensures.entries ∙ rw c.in_ok-put_line.ensures.entries (taken_back (slot_of k.bsc k.cell k.warning) c.args.line es gone))
+    rw (← c.self.view_is) (c.remove.ensures.entries ∙ rw c.in_ok-insert.ensures.entries (taken_back (slot_of k.bsc k.cell k.warning) c.args.line es gone))
 
 pub returns-in-Err-clause-grows : goal.returns-in-Err-clause-grows
 returns-in-Err-clause-grows c =
-    rw (← c.self.view_is) (ap (λ o. unwrap_or o blank_line) (not_entered c.args.key c.self.inside.index c.self.inside.lines.entries c.self.invariant.none_blank c.self.invariant.indexed c.in-Err.ensures.grows))
+    rw (← c.self.view_is) (ap (λ o. unwrap_or o blank_line) (not_entered c.args.key c.self.inside.index c.self.inside.lines c.self.invariant.none_blank c.self.invariant.indexed c.in-Err.ensures.grows))
