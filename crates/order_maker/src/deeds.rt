@@ -210,9 +210,7 @@ fn is_alike(before: &Sight<'_>, after: &Sight<'_>, serial: Serial) -> bool
     ensures presence { IsTrue result → (seen before.now).presence serial ≡ (seen after.now).presence serial }
     ensures held { IsTrue result → (seen before.now).is_held serial ≡ (seen after.now).is_held serial }
 {
-    let was = before.line.state(serial);
-    let is = after.line.state(serial);
-    was.presence == is.presence && was.hold.is_some() == is.hold.is_some()
+    before.line.is_alike(&after.line, serial)
 }
 
 /// Whether each of the versions is.
