@@ -108,6 +108,25 @@ impl Board {
             row.shift(before, after)?;
             return Ok(());
         }
+        self.add_row(w, before, after)
+    }
+
+    /// The same for a warning that has no row yet. It is called seldom, and isn't inlined, so that its caller stays short.
+    #[inline(never)]
+    fn add_row(
+        &mut self,
+        w: WarningId,
+        before: &Stand<'_>,
+        after: &Stand<'_>,
+    ) -> Result<(), AllocError>
+        requires none { lookup (nat_eq w) self.old ≡ None }
+        requires total_there { Holds (total_of self.old w) (total_part (stand_of before.now)) }
+        requires total_room { HasRoom (total_of self.old w) (total_part (stand_of before.now)) (total_part (stand_of after.now)) }
+        requires area_there { (a : List ℕ) → Holds (area_of self.old w a) (area_part a (stand_of before.now)) }
+        requires area_room { (a : List ℕ) → HasRoom (area_of self.old w a) (area_part a (stand_of before.now)) (area_part a (stand_of after.now)) }
+        ensures total { OnOk result ((v : ℕ) → total_of self.new v ≡ (if nat_eq w v then moved (total_of self.old v) (total_part (stand_of before.now)) (total_part (stand_of after.now)) else total_of self.old v)) }
+        ensures area { OnOk result ((v : ℕ) (a : List ℕ) → area_of self.new v a ≡ (if nat_eq w v then moved (area_of self.old v a) (area_part a (stand_of before.now)) (area_part a (stand_of after.now)) else area_of self.old v a)) }
+    {
         let mut row = Row::new(self.alloc);
         row.shift(before, after)?;
         self.rows.insert(w.number(), row)?;
