@@ -1,7 +1,11 @@
 //! The lines, the pending orders and the board of a centre.
 
-ghost use Rattle.std.specs.Prelude.{◌≡◌, ◌<◌, ◌≤◌, ◌+◌, ℕ, true, if◌then◌else◌, OnOk, map};
+ghost use Rattle.std.specs.Prelude.{◌≡◌, ◌<◌, ◌≤◌, ◌+◌, ℕ, List, true, if◌then◌else◌, nat_eq, OnOk, map};
 ghost use Rattle.common.specs.declared.cell.Cell.{Cell};
+ghost use Rattle.coverage_board.specs.Board.{area_of, total_of};
+ghost use Rattle.coverage_board.specs.Numbers.{moved, Holds, HasRoom};
+ghost use Rattle.coverage_board.specs.Parts.{total_part, area_part};
+ghost use Rattle.coverage_board.specs.Reading.{stand_of};
 ghost use Rattle.kept_tables.specs.Consistent.{is_in_range};
 ghost use Rattle.kept_tables.specs.View.{spot_of};
 ghost use Rattle.mirror.specs.Seen.{seen};
@@ -11,11 +15,12 @@ ghost use Rattle.order_maker.specs.Pending.{Shifts, holds, is_listed};
 ghost use Rattle.order_maker.specs.declared.action.Action.{Action};
 
 use crate::line_facts::LineFacts;
+use crate::stays::Stays;
 use crate::step::Step;
 use cbsp_ie::CellId;
 use cell_register::{BscId, Register};
 use common::{Cell, Cells, Name};
-use coverage_board::{Board, Numbers};
+use coverage_board::{Board, Numbers, Stand};
 use mirror::{Line, LineKey, LineTable, Sight};
 use order_maker::{Order, Orders, Pending};
 use serials::Serial;
@@ -96,6 +101,29 @@ fn shift_orders(
         return pending.shift_wanted(b, c, before, after);
     }
     pending.shift_held(b, c, before, after)
+}
+
+/// Moves the numbers of the warning from how the line stood to how it stands. The areas that cover the cell may be known to
+/// stay.
+fn shift_numbers(
+    board: &mut Board,
+    w: WarningId,
+    was: &Stand<'_>,
+    is: &Stand<'_>,
+    stays: bool,
+) -> Result<(), AllocError>
+    requires areas { stays ≡ true → (stand_of was.now).areas ≡ (stand_of is.now).areas }
+    requires total_there { Holds (total_of board.old w) (total_part (stand_of was.now)) }
+    requires total_room { HasRoom (total_of board.old w) (total_part (stand_of was.now)) (total_part (stand_of is.now)) }
+    requires area_there { (a : List ℕ) → Holds (area_of board.old w a) (area_part a (stand_of was.now)) }
+    requires area_room { (a : List ℕ) → HasRoom (area_of board.old w a) (area_part a (stand_of was.now)) (area_part a (stand_of is.now)) }
+    ensures total { OnOk result ((v : ℕ) → total_of board.new v ≡ (if nat_eq w v then moved (total_of board.old v) (total_part (stand_of was.now)) (total_part (stand_of is.now)) else total_of board.old v)) }
+    ensures area { OnOk result ((v : ℕ) (a : List ℕ) → area_of board.new v a ≡ (if nat_eq w v then moved (area_of board.old v a) (area_part a (stand_of was.now)) (area_part a (stand_of is.now)) else area_of board.old v a)) }
+{
+    if stays {
+        return board.shift_standing(w, was, is);
+    }
+    board.shift(w, was, is)
 }
 
 impl KeptTables {
@@ -254,27 +282,35 @@ impl KeptTables {
     }
 
     /// Changes one line: what is kept of it, what is pending for it, and what it adds to the numbers. The line itself is
-    /// neither read nor set where it is known to stay. At an `Err` memory ran out, and the tables are of no use any more.
+    /// neither read nor set where it is known to stay, and no names are compared where the areas are. At an `Err` memory ran out, and the tables are of no use any more.
     fn change(
         &mut self,
         key: LineKey,
         before: &LineFacts,
         after: &LineFacts,
-        stays: bool,
+        stays: Stays,
     ) -> Result<(), AllocError>
         requires part { HasPart self.old key before.now after.now }
-        requires stays { stays ≡ true → before.now.line ≡ after.now.line }
+        requires line { stays.line ≡ true → before.now.line ≡ after.now.line }
+        requires areas { stays.areas ≡ true → before.now.areas ≡ after.now.areas }
         ensures changed { OnOk result (Shifted self.old self.new key before.now after.now) }
         ensures downs { self.new.lines.downs ≡ self.old.lines.downs }
         ensures meter { self.new.lines.meter ≤ self.old.lines.meter + 1 }
         ensures least { self.old.lines.meter ≤ self.new.lines.meter }
     {
         let LineKey { bsc, cell, warning } = key;
-        change_line(&mut self.lines, key, &before.line, &after.line, stays)?;
+        change_line(&mut self.lines, key, &before.line, &after.line, stays.line)?;
         let was = before.stand();
         let is = after.stand();
-        shift_orders(&mut self.pending, bsc, cell, &was.sight, &is.sight, stays)?;
-        self.board.shift(warning, &was, &is)
+        shift_orders(
+            &mut self.pending,
+            bsc,
+            cell,
+            &was.sight,
+            &is.sight,
+            stays.line,
+        )?;
+        shift_numbers(&mut self.board, warning, &was, &is, stays.areas)
     }
 
     /// The same for a step.
@@ -300,17 +336,18 @@ impl KeptTables {
         self.board.shift_standing(warning, &was, &then)
     }
 
-    /// Makes the change that is next. The line itself is neither read nor set where the caller knows that it stays. At an
-    /// `Err` memory ran out, and the tables are of no use any more.
+    /// Makes the change that is next. The line itself is neither read nor set where the caller knows that it stays, and no
+    /// names of areas are compared where the caller knows that these stay. At an `Err` memory ran out, and the tables are of no use any more.
     pub fn make(
         &mut self,
         key: &LineKey,
         before: &LineFacts,
         after: &LineFacts,
-        stays: bool,
+        stays: Stays,
     ) -> Result<(), AllocError>
         requires next { IsNext self.old (record { key = key.now; before = before.now; after = after.now }) }
-        requires stays { stays ≡ true → before.now.line ≡ after.now.line }
+        requires line { stays.line ≡ true → before.now.line ≡ after.now.line }
+        requires areas { stays.areas ≡ true → before.now.areas ≡ after.now.areas }
         ensures made { OnOk result ((n : IsNext self.old (record { key = key.now; before = before.now; after = after.now })) → Consistent self.new (mixed n.begins.from n.begins.to (n.done ++ record { key = key.now; before = before.now; after = after.now } ∷ []))) }
         ensures downs { self.new.lines.downs ≡ self.old.lines.downs }
         ensures meter { self.new.lines.meter ≤ self.old.lines.meter + 1 }

@@ -11,6 +11,7 @@ mod kept_tables;
 mod line_facts;
 mod serial_list;
 mod spot;
+mod stays;
 mod step;
 
 pub use area_names::AreaNames;
@@ -18,4 +19,5 @@ pub use kept_tables::KeptTables;
 pub use line_facts::LineFacts;
 pub use serial_list::Serials;
 pub use spot::Spot;
+pub use stays::Stays;
 pub use step::Step;

@@ -7,7 +7,7 @@ use cbsp_ie::CellId;
 use cell_register::{BscId, Register};
 use common::Cell;
 use coverage_board::Numbers;
-use kept_tables::{AreaNames, KeptTables, LineFacts, Serials, Step};
+use kept_tables::{AreaNames, KeptTables, LineFacts, Serials, Stays, Step};
 use mirror::{KeyState, Line, LineKey, Presence};
 use order_maker::OrderKind;
 use serials::Serial;
@@ -21,6 +21,11 @@ const NETWORK: [u8; 3] = [0x00, 0xf1, 0x10];
 const CELL: Cell = Cell { lac: 100, ci: 7 };
 
 const FAR: Cell = Cell { lac: 200, ci: 1 };
+
+const NOTHING_KNOWN: Stays = Stays {
+    line: false,
+    areas: false,
+};
 
 fn versions(rt: &impl Abort, alloc: Global) -> Serials
     ensures { length result ≤ 16 }
@@ -58,7 +63,7 @@ fn issued(rt: &impl Abort, alloc: Global, key: LineKey) -> KeptTables {
     let before = LineFacts::none(false, true);
     let after = wanted(rt, alloc);
     tables
-        .make(&key, &before, &after, false)
+        .make(&key, &before, &after, NOTHING_KNOWN)
         .expect(rt, "memory");
     tables
 }

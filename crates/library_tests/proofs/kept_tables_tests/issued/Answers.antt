@@ -5,5 +5,6 @@ use Rattle.library_tests.proofs.kept_tables_tests.issued.Goals as goal
 pub make-requires : goal.make-requires
 make-requires g c = record {
   next = next_change c.new-tables.result (record { key = c.args.key; before = c.none-before.result; after = c.wanted-after.result }) c.new-tables.ensures c.none-before.ensures c.wanted-after.ensures;
-  stays = λ never. cc;
+  line = λ never. cc;
+  areas = λ never. cc;
 }

@@ -10,7 +10,8 @@ change-requires c =
     let n = c.requires.next in
     record {
       part = next_part n.start n.changes n.begins c.args.self.now n.done x n.later n.split c.tell_range.ensures c.tell_counts.ensures n.made;
-      stays = c.requires.stays;
+      line = c.requires.line;
+      areas = c.requires.areas;
     }
 
 -- it is made
