@@ -247,8 +247,9 @@ pub fn replies_to(
 {
     let old = old_of(flight);
     let order = order_of(message);
-    let mut said = Vec::new(alloc);
-    for cell in cells_of(flight) {
+    let cells = cells_of(flight);
+    let mut said = Vec::with_capacity(alloc, cells.len())?;
+    for cell in cells {
         said.push(Reply {
             cell: *cell,
             outcome: outcome(network, message, order, *cell),
