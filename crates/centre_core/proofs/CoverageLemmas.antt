@@ -1,9 +1,13 @@
 -- What was found of the areas of warnings.
-use Rattle.std.proofs.Common.{◌≡◌, ℕ, zero, suc, ◌<◌, true, nat_eq, inl, inr, List, [], ◌∷◌, ◌++◌, Option, Some, None, map, length, get_or, sym, ◌∙◌, ap, subst, arith}
+use Rattle.std.proofs.Common.{◌≡◌, ℕ, zero, suc, ◌<◌, true, nat_eq, inl, inr, List, [], ◌∷◌, ◌++◌, Option, Some, None, map, filter, length, get_or, sym, ◌∙◌, ap, subst, arith}
 use Rattle.std.proofs.lemmas.Bool.Decides.{nat_tests}
-use Rattle.areas.specs.Areas.{selectors_of}
+use Rattle.std.specs.List.{list_any}
+use Rattle.areas.specs.Areas.{areas_of, covers, selectors_of}
+use Rattle.areas.specs.Laws.{among_areas_of}
 use Rattle.areas.specs.declared.area.Area.{Area}
 use Rattle.areas.specs.declared.selector.Selector.{Selector}
+use Rattle.common.specs.declared.cell.Cell.{Cell}
+use Rattle.coverage_board.specs.Parts.{has_area}
 use Rattle.warning_book.specs.Book as book
 use Rattle.warning_book.specs.Book.{warning_of}
 use Rattle.warning_book.specs.declared.warning.Warning.{Warning}
@@ -49,3 +53,11 @@ pub found_in : (l : List Area) (w : Warning) (n : ℕ) (xs ys : List Found) (i :
 found_in l w n xs ys i x found all there is at =
     found_at l w n xs i x found (subst (λ (zs : List Found). i < length zs) all there) at
     (ap (λ (y : Found). nat_eq n y.warning) at ∙ subst (λ (zs : List Found). nat_eq n (get_or zs i x).warning ≡ true) all (is x))
+
+-- those of the names that are among all areas that cover the cell are those that cover it
+pub among_covering : (l : List Area) (c : Cell) (all names : List (List ℕ)) → all ≡ areas_of l c → filter (has_area all) names ≡ filter (λ a. covers l a c) names
+among_covering l c all names is = (λ i. filter (has_area (is i)) names) ∙ (λ i. filter (λ a. among_areas_of l c a i) names)
+
+-- so of whether there is one
+pub any_covering : (l : List Area) (c : Cell) (all names : List (List ℕ)) → all ≡ areas_of l c → list_any (has_area all) names ≡ list_any (λ a. covers l a c) names
+any_covering l c all names is = (λ i. list_any (has_area (is i)) names) ∙ (λ i. list_any (λ a. among_areas_of l c a i) names)

@@ -1,5 +1,5 @@
 -- Where an edit leaves the areas that cover a cell, those that were read of its lines are those that cover it.
-use Rattle.std.proofs.Common.{◌≡◌, ℕ, Bool, true, false, List, [], ◌∷◌, Option, Some, None, filter, map, refl, sym, ◌∙◌, ap, subst, zero, suc, ◌<◌, length, get_or, arith}
+use Rattle.std.proofs.Common.{◌≡◌, ℕ, Bool, true, false, List, [], ◌∷◌, Option, Some, None, filter, map, refl, sym, ◌∙◌, ap, subst, zero, suc, ◌<◌, length, get_or, nat_eq, arith}
 use Rattle.std.specs.Prelude.{find, if◌then◌else◌}
 use Rattle.std.specs.Option.{option_map}
 use Rattle.areas.specs.Areas as kept
@@ -121,3 +121,11 @@ bears_covered {r = r} {l = l} {st = st} {t = t} {h = h} {spots = spots} {held = 
     subst (AreCovered l st) (sym x.lines)
     (covered_keys x.past (After (record { desk = x.desk; event = h.event; answer = h.answer }) x.past) l st x.selected (then_covers x.desk h.event h.answer x.past leaves)
     (λ m. subst (λ b. SameAreas (warning_of (book_of x.past) m) (warning_of b m)) (sym x.booked) (then_left h.event leaves (book_of x.past) m)) x.keys)
+
+-- a warning's line that versions are read of keeps the areas that were read of it
+areas_in : (r : register.State) (down : Bool) (b : ℕ) (c : Cell) (line : Line) (names : List (List ℕ)) (o : Option Warning) → nat_eq (length (covered_facts r down b c line names o).versions) 0 ≡ false → (covered_facts r down b c line names o).areas ≡ names
+areas_in r down b c line names None e = cc
+areas_in r down b c line names (Some w) e = refl
+
+pub covered_areas : (h : Happens) (r : register.State) (st : book.State) (t : Tables) (x : Held) → nat_eq (length (covered_change h r st t x).after.versions) 0 ≡ false → (covered_change h r st t x).after.areas ≡ x.before.areas
+covered_areas h r st t x e = areas_in r (down_at t.lines x.key.bsc x.key.cell) x.key.bsc x.key.cell (line_now h st.warnings x.key.bsc x.key.cell (warning_of st x.key.warning) x.before.line) x.before.areas (warning_of st x.key.warning) e

@@ -1,8 +1,9 @@
 //! The lines on which an event bears that is no edit, read before it.
 
-ghost use Rattle.std.specs.Prelude.{◌≡◌, ◌≤◌, ◌+◌, ◌*◌, ◌++◌, ◌&&◌, ◌||◌, ℕ, List, true, false, nat_eq, ltb, length, unwrap_or, IfOk, OnOk};
+ghost use Rattle.std.specs.Prelude.{◌≡◌, ◌≤◌, ◌+◌, ◌*◌, ◌++◌, ◌&&◌, ◌||◌, ℕ, List, true, false, nat_eq, ltb, length, unwrap_or, IfOk, IfSome, OnOk};
 ghost use Rattle.std.specs.List.{list_any};
 ghost use Rattle.std.specs.Option.{option_copied};
+ghost use Rattle.areas.specs.Areas.{areas_of};
 ghost use Rattle.kept_tables.specs.Tables.{Tables};
 ghost use Rattle.kept_tables.specs.View.{key_of};
 ghost use Rattle.common.specs.Order.{is_ascending};
@@ -23,7 +24,7 @@ use centre_events::answer::Answer;
 use centre_events::effects::down_mark;
 use centre_events::event::Event;
 use centre_events::stepping::Happening;
-use common::Cell;
+use common::{Cell, Name};
 use kept_tables::{KeptTables, LineFacts, Spot, Step};
 use mirror::{Line, LineTable};
 use std::alloc::{AllocError, Global};
@@ -73,11 +74,14 @@ fn stays(
     then: &Line,
     stepped: bool,
     down: bool,
+    known: Option<&[Name]>,
 ) -> bool
-    requires { stepped ≡ false → then.now ≡ line.now }
+    requires stepped { stepped ≡ false → then.now ≡ line.now }
+    requires known { IfSome known (λ all. all.now ≡ areas_of areas.now c) }
     ensures { result ≡ (line_eq then.now line.now && (keeps_down (down_mark b c h.now.event.now h.now.answer.now) down || is_idle areas.now (option_copied warning.entry) c line.now)) }
 {
-    is_left(line, then, stepped) && (keeps_down(h, b, c, down) || is_idle(areas, warning, c, line))
+    is_left(line, then, stepped)
+        && (keeps_down(h, b, c, down) || is_idle(areas, warning, c, line, known))
 }
 
 /// The step from how a line stood to the line after what happens.
@@ -113,8 +117,10 @@ fn hold_changing_line(
     b: BscId,
     c: Cell,
     n: WarningId,
+    known: Option<&[Name]>,
 ) -> Result<(), AllocError>
     requires found { AreFound areas.now book.now found.old }
+    requires known { IfSome known (λ all. all.now ≡ areas_of areas.now c) }
     ensures held { (t : Tables) → AsBefore t tables.old → OnOk result (out.new.items ≡ out.old.items ++ changing_line (record { event = h.now.event.now; answer = h.now.answer.now; up = h.now.up; flight = option_copied h.now.flight }) register.now areas.now book.now t (key_of b c n)) }
     ensures kept { (t : Tables) → AsBefore t tables.old → AsBefore t tables.new }
     ensures meter { tables.new.lines.meter ≤ tables.old.lines.meter + 1 }
@@ -125,10 +131,10 @@ fn hold_changing_line(
     let warning = book.find(n);
     let mut then = line;
     let stepped = line_now(h, book.as_slice(), b, c, warning, &mut then);
-    if stays(h, areas, b, c, warning, &line, &then, stepped, down) {
+    if stays(h, areas, b, c, warning, &line, &then, stepped, down, known) {
         return Ok(());
     }
-    let before = facts_from(register, areas, down, b, c, n, line, warning, found)?;
+    let before = facts_from(register, areas, down, b, c, n, line, warning, found, known)?;
     out.push(step_of(h, b, c, n, before, then))?;
     Ok(())
 }
@@ -146,15 +152,19 @@ fn hold_changing_spot(
     b: BscId,
     c: Cell,
     warnings: &[WarningId],
+    known: Option<&[Name]>,
 ) -> Result<(), AllocError>
     requires found { AreFound areas.now book.now found.old }
+    requires known { IfSome known (λ all. all.now ≡ areas_of areas.now c) }
     ensures held { (t : Tables) → AsBefore t tables.old → OnOk result (out.new.items ≡ out.old.items ++ changing_at (record { event = h.now.event.now; answer = h.now.answer.now; up = h.now.up; flight = option_copied h.now.flight }) register.now areas.now book.now t warnings.now (record { bsc = b; cell = c })) }
     ensures kept { (t : Tables) → AsBefore t tables.old → AsBefore t tables.new }
     ensures meter { tables.new.lines.meter ≤ tables.old.lines.meter + length warnings.now }
     ensures same { found.new ≡ found.old }
 {
     for warning in warnings {
-        hold_changing_line(out, h, register, areas, book, found, tables, b, c, *warning)?;
+        hold_changing_line(
+            out, h, register, areas, book, found, tables, b, c, *warning, known,
+        )?;
     }
     Ok(())
 }
@@ -182,8 +192,11 @@ fn hold_changing_near(
     ensures same { found.new ≡ found.old }
 {
     let near = near(alloc, areas, book, tables.lines(), b, c, warnings)?;
-    let near = near.as_slice();
-    hold_changing_spot(out, h, register, areas, book, found, tables, b, c, near)?;
+    let known = Some(near.covering.as_slice());
+    let near = near.warnings.as_slice();
+    hold_changing_spot(
+        out, h, register, areas, book, found, tables, b, c, near, known,
+    )?;
     Ok(())
 }
 
@@ -237,7 +250,7 @@ fn hold_indicated_spot(
     let indicated = indicated(h, tables.lines(), b, c)?;
     let indicated = indicated.as_slice();
     hold_changing_spot(
-        out, h, register, areas, book, found, tables, b, c, indicated,
+        out, h, register, areas, book, found, tables, b, c, indicated, None,
     )?;
     Ok(())
 }
@@ -261,7 +274,7 @@ fn hold_indicated(
     ensures meter { AreInBook book.now tables.old → tables.new.lines.meter ≤ tables.old.lines.meter + length spots.now * length (numbers book.now.warnings) }
 {
     let all = book.warnings()?;
-    let mut out = Vec::new(alloc);
+    let mut out = Vec::with_capacity(alloc, spots.len())?;
     for spot in spots {
         hold_indicated_spot(
             &mut out,
@@ -301,7 +314,7 @@ fn hold_named(
     let mut out = Vec::with_capacity(alloc, spots.len())?;
     for spot in spots {
         hold_changing_spot(
-            &mut out, h, register, areas, book, found, tables, spot.bsc, spot.cell, warnings,
+            &mut out, h, register, areas, book, found, tables, spot.bsc, spot.cell, warnings, None,
         )?;
     }
     Ok(out)

@@ -27,7 +27,7 @@ use centre_events::event::Event;
 use centre_events::stepping::{Happening, step_line};
 use common::Cell;
 use coverage_plan::Edit;
-use kept_tables::{KeptTables, LineFacts, Spot};
+use kept_tables::{KeptTables, LineFacts, Spot, Stays};
 use mirror::{Line, LineKey};
 use std::alloc::{AllocError, Global};
 use warning_book::{Book, Warning, WarningId};
@@ -86,7 +86,7 @@ fn facts_then(
     let mut now = line;
     line_now(h, book.as_slice(), b, c, warning, &mut now);
     let down = tables.is_down(b, c);
-    facts_from(register, areas, down, b, c, n, now, warning, found)
+    facts_from(register, areas, down, b, c, n, now, warning, found, None)
 }
 
 /// What is read of a line after an edit that leaves the areas that cover its cell.
@@ -184,6 +184,14 @@ fn line_stays(h: &Happening<'_, '_>, after: &LineFacts) -> bool
     leaves_lines(h) && !after.versions.as_slice().is_empty()
 }
 
+/// Whether the areas that cover the cell are known to stay: what happens leaves them, and the warning is in the book, since
+/// the line has versions.
+fn areas_stay(h: &Happening<'_, '_>, after: &LineFacts) -> bool
+    ensures { result ≡ (leaves_areas_then h.now.event.now && not (nat_eq (length after.now.versions) 0)) }
+{
+    leaves_areas(h) && !after.versions.as_slice().is_empty()
+}
+
 /// Changes a line by an edit, from how it stood. It is the next of the lines that the edit changes.
 fn change_line(
     h: &Happening<'_, '_>,
@@ -204,7 +212,10 @@ fn change_line(
     ensures same { found.new ≡ found.old }
 {
     let after = then_of(h, register, areas, book, found, tables, held)?;
-    let stays = line_stays(h, &after);
+    let stays = Stays {
+        line: line_stays(h, &after),
+        areas: areas_stay(h, &after),
+    };
     tables.make(&held.key, &held.before, &after, stays)
 }
 

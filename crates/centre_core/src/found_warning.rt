@@ -2,14 +2,15 @@
 
 ghost use Rattle.std.specs.Prelude.{◌≡◌, ◌<◌, ℕ, List, filter, length, map, IfOk, IfSome};
 ghost use Rattle.std.specs.List.{slice_index_or};
-ghost use Rattle.areas.specs.Areas.{covers};
+ghost use Rattle.areas.specs.Areas.{areas_of, covers};
 ghost use Rattle.centre_events.specs.Warnings.{serials};
+ghost use Rattle.coverage_board.specs.Parts.{has_area};
 ghost use Rattle.centre_core.specs.Found.{AreSelected};
 ghost use Rattle.centre_core.specs.Marks.{AreMarked, IsMarked};
 ghost use Rattle.centre_core.specs.declared.marked_names.MarkedNames.{MarkedNames};
 
 use crate::coverages::Coverages;
-use crate::facts::covers_at;
+use crate::facts::{covers_at, is_among};
 use crate::marked_names::MarkedNames;
 use areas::{Areas, Coverage};
 use common::{Cell, Name};
@@ -56,16 +57,53 @@ pub(crate) fn own_covering(
     requires { AreSelected areas.now names.now coverages.now }
     ensures { IfOk result (λ n. n ≡ filter (λ a. covers areas.now a c) names.now) }
 {
-    let mut out = Vec::new(alloc);
+    let mut out = Vec::with_capacity(alloc, names.len())?;
     for (i, name) in names.iter().enumerate() {
         if covers_at(areas, name, coverages, i, c) {
             out.push(name.copied(alloc)?)?;
         }
     }
-    if out.is_empty() {
+    shared_names(alloc, out)
+}
+
+/// The names as a list that lines share. It takes no memory where there are none.
+fn shared_names(alloc: Global, names: Vec<Name>) -> Result<AreaNames, AllocError>
+    ensures { IfOk result (λ n. n ≡ names.items) }
+{
+    if names.is_empty() {
         return Ok(AreaNames::none());
     }
-    AreaNames::from_vec(alloc, out)
+    AreaNames::from_vec(alloc, names)
+}
+
+/// Those of the names that are among all these, in memory of their own.
+fn own_among(alloc: Global, names: &[Name], all: &[Name]) -> Result<AreaNames, AllocError>
+    ensures { IfOk result (λ n. n ≡ filter (has_area all.now) names.now) }
+{
+    let mut out = Vec::with_capacity(alloc, names.len())?;
+    for name in names {
+        if is_among(all, name) {
+            out.push(name.copied(alloc)?)?;
+        }
+    }
+    shared_names(alloc, out)
+}
+
+/// The names of those of the areas that cover the cell, in memory of their own. All areas that cover it may be known.
+pub(crate) fn own_covering_by(
+    alloc: Global,
+    areas: &Areas,
+    names: &[Name],
+    c: Cell,
+    known: Option<&[Name]>,
+) -> Result<AreaNames, AllocError>
+    requires { IfSome known (λ all. all.now ≡ areas_of areas.now c) }
+    ensures { IfOk result (λ n. n ≡ filter (λ a. covers areas.now a c) names.now) }
+{
+    match known {
+        Some(all) => own_among(alloc, names, all),
+        None => own_covering(alloc, areas, names, &[], c),
+    }
 }
 
 /// Where the list with those marks stands, if there is one.

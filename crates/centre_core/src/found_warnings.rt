@@ -4,25 +4,37 @@ ghost use Rattle.std.specs.Prelude.{◌≡◌, ◌<◌, nat_eq, true, length, If
 ghost use Rattle.std.specs.List.{slice_index_or};
 ghost use Rattle.centre_core.specs.Found.{AreFound, Found};
 
-use crate::found_warning::{FoundWarning, own_covering, own_serials_of};
+use crate::found_warning::{FoundWarning, own_covering_by, own_serials_of};
 use areas::Areas;
 use cell_register::{BscId, Register};
-use common::Cell;
+use common::{Cell, Name};
 use kept_tables::{AreaNames, Serials};
 use std::alloc::{AllocError, Global};
 use std::marker::Model;
 use warning_book::{Book, Warning, WarningId};
 
-/// The greatest number of warnings of which something is read once where an event bears on fewer cells than warnings.
-const MOST_WARNINGS: usize = 8;
+/// Whether the warning of that number stands at that place.
+fn is_at(found: &[FoundWarning<'_>], place: usize, n: WarningId) -> bool
+    ensures bound { result ≡ true → place < length found.now }
+    ensures found { result ≡ true → (d : Found) → nat_eq n (slice_index_or found.now place d).warning ≡ true }
+{
+    match found.get(place) {
+        Some(it) => it.is_of(n),
+        None => false,
+    }
+}
 
-/// Where the warning of that number stands, if it is there. It mostly stands where the last one did.
+/// Where the warning of that number stands, if it is there. It mostly stands where the last one did, or next to it.
 fn place_of(found: &[FoundWarning<'_>], last: usize, n: WarningId) -> Option<usize>
     ensures bound { IfSome result (λ i. i < length found.now) }
     ensures found { IfSome result (λ i. (d : Found) → nat_eq n (slice_index_or found.now i d).warning ≡ true) }
 {
-    if last < found.len() && found[last].is_of(n) {
+    let next = last.wrapping_add(1);
+    if is_at(found, last, n) {
         return Some(last);
+    }
+    if is_at(found, next, n) {
+        return Some(next);
     }
     for (i, it) in found.iter().enumerate() {
         if it.is_of(n) {
@@ -50,7 +62,7 @@ impl<'a> Model for FoundWarnings<'a> {
     ghost view = { λ t. t.found.items };
 }
 
-/// What is read once of the warnings, where they are few, or fewer than the cells on which the event bears.
+/// What is read once of the warnings, where they are no more than the cells on which the event bears.
 #[tactic(auto, using(crate::proofs::CoverageLemmas::found_more))]
 pub(crate) fn find<'a>(
     alloc: Global,
@@ -62,7 +74,7 @@ pub(crate) fn find<'a>(
     ensures { IfOk result (AreFound areas.now book.now) }
 {
     let mut found = Vec::new(alloc);
-    if warnings.len() <= MOST_WARNINGS || warnings.len() <= cells {
+    if warnings.len() <= cells {
         for warning in warnings {
             found.push(FoundWarning::of(alloc, areas, *warning, book.find(*warning))?)?;
         }
@@ -76,8 +88,8 @@ pub(crate) fn find<'a>(
 }
 
 impl FoundWarnings<'_> {
-    ghost use Rattle.std.specs.Prelude.{◌≡◌, List, filter, IfOk};
-    ghost use Rattle.areas.specs.Areas.{covers};
+    ghost use Rattle.std.specs.Prelude.{◌≡◌, List, filter, IfOk, IfSome};
+    ghost use Rattle.areas.specs.Areas.{areas_of, covers};
     ghost use Rattle.areas.specs.declared.area.Area.{Area};
     ghost use Rattle.cell_register.specs.Register.{place_in, is_place};
     ghost use Rattle.centre_events.specs.Warnings.{serials};
@@ -96,20 +108,22 @@ impl FoundWarnings<'_> {
         self.found[place].serials()
     }
 
-    /// Those of the areas of the warning, which has that number, that cover the cell.
+    /// Those of the areas of the warning, which has that number, that cover the cell. All areas that cover it may be known.
     pub(crate) fn covering(
         &mut self,
         areas: &Areas,
         n: WarningId,
         w: &Warning,
         c: Cell,
+        known: Option<&[Name]>,
     ) -> Result<AreaNames, AllocError>
-        requires { IsFound areas.now w.now n self.old }
+        requires found { IsFound areas.now w.now n self.old }
+        requires known { IfSome known (λ all. all.now ≡ areas_of areas.now c) }
         ensures covering { IfOk result (λ names. names ≡ filter (λ a. covers areas.now a c) w.now.areas) }
         ensures same { self.new ≡ self.old }
     {
         let Some(place) = place_of(&self.found, self.last, n) else {
-            return own_covering(self.alloc, areas, w.areas(), &[], c);
+            return own_covering_by(self.alloc, areas, w.areas(), c, known);
         };
         self.last = place;
         self.found[place].covering(areas, c)

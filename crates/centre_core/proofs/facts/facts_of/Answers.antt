@@ -9,4 +9,4 @@ returns-clause-facts c =
 
 pub serials_of-requires : goal.serials_of-requires
 serials_of-requires c =
-    (c.args.areas.now, subst (IsFound c.args.areas.now c.args.w.now c.args.n) (sym c.in_ok-covering.ensures.same) c.requires)
+    (c.args.areas.now, subst (IsFound c.args.areas.now c.args.w.now c.args.n) (sym c.in_ok-covering.ensures.same) c.requires.found)

@@ -11,15 +11,15 @@ returns-clause-held c =
     λ t same.
     c.in_ok-hold_spot.ensures.held t same
     ∙ ap (λ xs. c.args.out.now.items ++ xs)
-    (ap (λ ns. held_at c.args.edit.now c.args.register.now c.args.areas.now c.args.book.now t ns p) (c.as_slice-near.ensures.value ∙ rw c.lines.ensures at c.in_ok-near.ensures)
+    (ap (λ ns. held_at c.args.edit.now c.args.register.now c.args.areas.now c.args.book.now t ns p) (c.as_slice-near.ensures.value ∙ rw c.lines.ensures at c.in_ok-near.ensures.warnings)
     ∙ near_held c.args.edit.now c.args.register.now c.args.areas.now c.args.book.now t c.args.tables.now p c.args.warnings.now same c.requires.cover)
 
 pub returns-clause-meter : goal.returns-clause-meter
 returns-clause-meter c =
     let few = length_filter (is_near c.args.areas.now c.args.book.now c.lines.result.now c.args.b c.args.c) c.args.warnings.now in
-    grind (arith, few, c.hold_spot.ensures.meter, c.as_slice-near.ensures.value, c.in_ok-near.ensures)
+    grind (arith, few, c.hold_spot.ensures.meter, c.as_slice-near.ensures.value, c.in_ok-near.ensures.warnings)
 
 pub returns-in_err-hold_spot-clause-meter : goal.returns-in_err-hold_spot-clause-meter
 returns-in_err-hold_spot-clause-meter c =
     let few = length_filter (is_near c.args.areas.now c.args.book.now c.lines.result.now c.args.b c.args.c) c.args.warnings.now in
-    grind (arith, few, c.hold_spot.ensures.meter, c.as_slice-near.ensures.value, c.in_ok-near.ensures)
+    grind (arith, few, c.hold_spot.ensures.meter, c.as_slice-near.ensures.value, c.in_ok-near.ensures.warnings)

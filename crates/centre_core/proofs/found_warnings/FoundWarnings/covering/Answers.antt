@@ -8,7 +8,7 @@ use Rattle.centre_core.proofs.found_warnings.FoundWarnings.covering.Goals as goa
 -- what was found of the warning
 here : (c : goal.After-index_mut) → IsOf c.args.areas.now (Some c.args.w.now) c.index_mut.result.now
 here c =
-    found_in c.args.areas.now c.args.w.now c.args.n c.args.self.now c.deref.result.now c.in-Some.place c.index_mut.result.now c.requires (c.deref.ensures.value ∙ c.self.view_is) c.in-Some.ensures.bound c.in-Some.ensures.found (c.index_mut.ensures.value ∙ ap (λ xs. get_or xs c.in-Some.place c.index_mut.result.now) c.self.view_is)
+    found_in c.args.areas.now c.args.w.now c.args.n c.args.self.now c.deref.result.now c.in-Some.place c.index_mut.result.now c.requires.found (c.deref.ensures.value ∙ c.self.view_is) c.in-Some.ensures.bound c.in-Some.ensures.found (c.index_mut.ensures.value ∙ ap (λ xs. get_or xs c.in-Some.place c.index_mut.result.now) c.self.view_is)
 
 pub covering-requires : goal.covering-requires
 covering-requires c =
