@@ -1,6 +1,6 @@
 -- A run that a fault ends.
-use Rattle.std.proofs.Common.{◌≡◌, ℕ, ◌+◌, ◌-◌, ◌<◌, ◌≤◌, true, false, cond, eqb, Option, List, [], ◌∷◌, ◌++◌, length, take, drop, get_or, refl, sym, ap, ◌∙◌, subst, arith, append_assoc, append-nil, length-append}
-use Rattle.std.proofs.lemmas.List.{length-take, take_more, take-append-drop}
+use Rattle.std.proofs.Common.{◌≡◌, ℕ, ◌+◌, ◌-◌, ◌<◌, ◌≤◌, true, false, cond, eqb, Option, List, [], ◌∷◌, ◌++◌, length, take, get_or, refl, sym, ap, ◌∙◌, subst, arith, append_assoc, append-nil, length-append}
+use Rattle.std.proofs.lemmas.List.{length-take}
 use Rattle.std.proofs.Math.Seq.{take-append-add}
 use Rattle.std.proofs.KnownBytes.{Appends-nil, Appends-trans}
 use Rattle.std.specs.Io.KnownBytes.{Appends}
@@ -8,11 +8,11 @@ use Rattle.console.specs.Consoles.{ConsoleState, BreaksInLine, BreaksLine, Goes,
 use Rattle.console.specs.Sessions.{AnswersOrStarves}
 use Rattle.console.specs.Text.{longest_line, without_return, lines_from, lines_of}
 use Rattle.console.specs.Texts.{response_text}
-use Rattle.console.specs.Parts.{in_front}
+use Rattle.console.specs.Parts.{in_front, HasNone}
 use Rattle.console.specs.declared.fault.ReplayFault.{ReplayFault}
 use Rattle.console.specs.declared.fault.ReplayFault.TheVariants.{ReadFault, WriteFault, Memory, LongLine}
 use Rattle.console.proofs.PartLemmas.{line_ends, line_goes_on}
-use Rattle.console.proofs.TextLemmas.{text_append}
+use Rattle.console.proofs.TextLemmas.{text_append, cut_behind}
 
 -- at most one octet is dropped
 length-without_return : (line : List ℕ) → length line ≤ length (without_return line) + 1
@@ -58,19 +58,19 @@ stops_in_line a p q breaks = record {
 }
 
 -- the line ends, and is not answered, or not in full
-pub stops_at_line : (a : ConsoleState) (p q : Option (List ℕ)) (fault : ReplayFault) → BreaksLine a p q fault → Stops a (10 ∷ []) p q fault
+stops_at_line : (a : ConsoleState) (p q : Option (List ℕ)) (fault : ReplayFault) → BreaksLine a p q fault → Stops a (10 ∷ []) p q fault
 stops_at_line a p q ReadFault breaks = absurd breaks
 stops_at_line a p q WriteFault breaks = stops_in_line a p q breaks
 stops_at_line a p q Memory breaks = stops_at_once a (10 ∷ []) p q Memory (λ rest. tt) refl breaks
 stops_at_line a p q LongLine breaks = stops_at_once a (10 ∷ []) p q LongLine (λ rest. subst BeginsLong (sym (line_ends a.begun rest)) breaks.0) refl breaks.1
 
--- one more octet makes the line too long
-pub stops_at_long : (a : ConsoleState) (p : Option (List ℕ)) (x : ℕ) → eqb x 10 ≡ false → longest_line < length a.begun → Stops a (x ∷ []) p p LongLine
-stops_at_long a p x other long =
-    let more : longest_line + 1 < length (a.begun ++ x ∷ []) = omega (arith, length-append a.begun (x ∷ [])) in
-    stops_at_once a (x ∷ []) p p LongLine (λ rest. subst BeginsLong (sym (line_goes_on a.begun x rest other)) (begins_long (a.begun ++ x ∷ []) rest more)) refl refl
+-- more octets make the line too long
+pub stops_at_long : (a : ConsoleState) (run : List ℕ) (p : Option (List ℕ)) → HasNone 10 run → longest_line + 1 < length a.begun + length run → Stops a run p p LongLine
+stops_at_long a run p none long =
+    let more : longest_line + 1 < length (a.begun ++ run) = omega (arith, length-append a.begun run) in
+    stops_at_once a run p p LongLine (λ rest. subst BeginsLong (sym (line_goes_on a.begun run rest none)) (begins_long (a.begun ++ run) rest more)) refl refl
 
--- there is no memory for one more octet
+-- there is no memory for more octets
 pub stops_starved : (a : ConsoleState) (octets : List ℕ) (p : Option (List ℕ)) → Stops a octets p p Memory
 stops_starved a octets p = stops_at_once a octets p p Memory (λ rest. tt) refl refl
 
@@ -116,10 +116,17 @@ stops_more a xs ys p q fault stops = record {
   appended = stops.appended;
 }
 
--- a fault at one octet of a piece
-pub stops_within : (a b : ConsoleState) (piece : List ℕ) (i x : ℕ) (p q r : Option (List ℕ)) (fault : ReplayFault) → i < length piece → x ≡ get_or piece i 0
-    → Goes a (take i piece) b p q → Stops b (x ∷ []) q r fault → Stops a piece p r fault
-stops_within a b piece i x p q r fault inside is one two =
-    let front : Stops a (take (i + 1) piece) p r fault =
-    subst (λ octets. Stops a octets p r fault) (ap (λ y. take i piece ++ y ∷ []) is ∙ sym (take_more piece i 0 inside)) (goes_stops a b (take i piece) (x ∷ []) p q r fault one two) in
-    subst (λ octets. Stops a octets p r fault) (take-append-drop (i + 1) piece) (stops_more a (take (i + 1) piece) (drop (i + 1) piece) p r fault front)
+-- a fault at the end of a line
+pub stops_at_end : (a b : ConsoleState) (run : List ℕ) (p q : Option (List ℕ)) (fault : ReplayFault) → Goes a run b p p → BreaksLine b p q fault → Stops a (run ++ 10 ∷ []) p q fault
+stops_at_end a b run p q fault one breaks = goes_stops a b run (10 ∷ []) p p q fault one (stops_at_line b p q fault breaks)
+
+-- a fault at a line, before what comes behind it
+pub stops_in_front : (a : ConsoleState) (rest run behind : List ℕ) (p q : Option (List ℕ)) (fault : ReplayFault) → rest ≡ run ++ 10 ∷ behind → Stops a (run ++ 10 ∷ []) p q fault → Stops a rest p q fault
+stops_in_front a rest run behind p q fault is stops =
+    subst (λ octets. Stops a octets p q fault) (cut_behind rest run behind is) (stops_more a (run ++ 10 ∷ []) behind p q fault stops)
+
+-- a line, and a fault behind it
+pub stops_behind : (a b : ConsoleState) (rest run behind : List ℕ) (p q r : Option (List ℕ)) (fault : ReplayFault) → rest ≡ run ++ 10 ∷ behind → Goes a (run ++ 10 ∷ []) b p q → Stops b behind q r fault
+    → Stops a rest p r fault
+stops_behind a b rest run behind p q r fault is one stops =
+    subst (λ octets. Stops a octets p r fault) (cut_behind rest run behind is) (goes_stops a b (run ++ 10 ∷ []) behind p q r fault one stops)

@@ -1,8 +1,8 @@
 -- Lines that are answered one after another, and octets that come one after another.
-use Rattle.std.proofs.Common.{◌≡◌, ℕ, ◌+◌, ◌<◌, false, eqb, Option, List, [], ◌∷◌, ◌++◌, length, take, get_or, refl, sym, ap, ◌∙◌, subst, append_assoc, append-nil}
-use Rattle.std.proofs.lemmas.List.{take_more}
+use Rattle.std.proofs.Common.{◌≡◌, ℕ, Option, List, [], ◌∷◌, ◌++◌, refl, sym, ap, ◌∙◌, subst, append_assoc, append-nil}
 use Rattle.std.proofs.KnownBytes.{Appends-nil, Appends-trans}
 use Rattle.console.specs.Consoles.{ConsoleState, EndsLine, Goes}
+use Rattle.console.specs.Parts.{HasNone}
 use Rattle.console.specs.Sessions.{SessionState, AnswersOrStarves}
 use Rattle.console.specs.Text.{lines_from, Answering, IsTextBy, IsTextOrStarves}
 use Rattle.console.specs.Texts.{response_text}
@@ -24,7 +24,7 @@ pub goes_nowhere : (a : ConsoleState) (p : Option (List ℕ)) → Goes a [] a p 
 goes_nowhere a p = record { lines = []; text = []; cut = λ rest. refl; told = (refl, refl); written = Appends-nil p }
 
 -- a line ends
-pub goes_line : (old new : ConsoleState) (p q : Option (List ℕ)) → EndsLine old new p q → Goes old (10 ∷ []) new p q
+goes_line : (old new : ConsoleState) (p q : Option (List ℕ)) → EndsLine old new p q → Goes old (10 ∷ []) new p q
 goes_line old new p q ends = record {
   lines = old.begun ∷ [];
   text = response_text ends.response;
@@ -34,11 +34,11 @@ goes_line old new p q ends = record {
 }
 
 -- the line goes on
-pub goes_octet : (old new : ConsoleState) (p : Option (List ℕ)) (x : ℕ) → eqb x 10 ≡ false → new.session ≡ old.session → new.begun ≡ old.begun ++ x ∷ [] → Goes old (x ∷ []) new p p
-goes_octet old new p x other same more = record {
+pub goes_run : (old new : ConsoleState) (run : List ℕ) (p : Option (List ℕ)) → HasNone 10 run → new.session ≡ old.session → new.begun ≡ old.begun ++ run → Goes old run new p p
+goes_run old new run p none same more = record {
   lines = [];
   text = [];
-  cut = λ rest. line_goes_on old.begun x rest other ∙ ap (λ begun. lines_from begun rest) (sym more);
+  cut = λ rest. line_goes_on old.begun run rest none ∙ ap (λ begun. lines_from begun rest) (sym more);
   told = (same, refl);
   written = Appends-nil p;
 }
@@ -55,8 +55,15 @@ goes_goes a b c xs ys p q r one two = record {
   written = Appends-trans p q r one.text two.text one.written two.written;
 }
 
--- one more octet of a piece
-pub goes_more : (a b c : ConsoleState) (piece : List ℕ) (i x : ℕ) (p q r : Option (List ℕ)) → i < length piece → x ≡ get_or piece i 0
-    → Goes a (take i piece) b p q → Goes b (x ∷ []) c q r → Goes a (take (i + 1) piece) c p r
-goes_more a b c piece i x p q r inside is one two =
-    subst (λ octets. Goes a octets c p r) (ap (λ y. take i piece ++ y ∷ []) is ∙ sym (take_more piece i 0 inside)) (goes_goes a b c (take i piece) (x ∷ []) p q r one two)
+-- the last octets of a line, and its end
+pub goes_end : (a b c : ConsoleState) (run : List ℕ) (p q : Option (List ℕ)) → Goes a run b p p → EndsLine b c p q → Goes a (run ++ 10 ∷ []) c p q
+goes_end a b c run p q one ends = goes_goes a b c run (10 ∷ []) p p q one (goes_line b c p q ends)
+
+-- octets that are cut behind the end of a line
+pub cut_behind : (rest run behind : List ℕ) → rest ≡ run ++ 10 ∷ behind → (run ++ 10 ∷ []) ++ behind ≡ rest
+cut_behind rest run behind is = append_assoc run (10 ∷ []) behind ∙ sym is
+
+-- a line, and what comes behind it
+pub goes_behind : (a b c : ConsoleState) (rest run behind : List ℕ) (p q r : Option (List ℕ)) → rest ≡ run ++ 10 ∷ behind → Goes a (run ++ 10 ∷ []) b p q → Goes b behind c q r → Goes a rest c p r
+goes_behind a b c rest run behind p q r is one two =
+    subst (λ octets. Goes a octets c p r) (cut_behind rest run behind is) (goes_goes a b c (run ++ 10 ∷ []) behind p q r one two)

@@ -1,5 +1,5 @@
 -- The parts of a text between separators. A text with no separator is one part; a part may be empty.
-use Rattle.std.specs.Prelude.{ℕ, ◌==◌, List, [], ◌∷◌, ◌++◌, if◌then◌else◌}
+use Rattle.std.specs.Prelude.{◌≡◌, ℕ, ◌==◌, false, All, List, [], ◌∷◌, ◌++◌, if◌then◌else◌}
 
 -- the octets stand in front of the first part
 abbrev pub in_front : List ℕ → List (List ℕ) → List (List ℕ)
@@ -10,3 +10,7 @@ in_front octets (part ∷ parts) = (octets ++ part) ∷ parts
 abbrev pub parts_of : ℕ → List ℕ → List (List ℕ)
 parts_of separator [] = [] ∷ []
 parts_of separator (x ∷ xs) = if x == separator then [] ∷ parts_of separator xs else in_front (x ∷ []) (parts_of separator xs)
+
+-- none of the octets is the separator
+abbrev pub HasNone : ℕ → List ℕ → Type 0
+HasNone separator octets = All (λ x. (x == separator) ≡ false) octets

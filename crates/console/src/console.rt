@@ -5,6 +5,7 @@ ghost use Rattle.console.specs.Text.{without_return};
 
 use crate::answer_text::response_text;
 use crate::fault::ReplayFault;
+use crate::runs::cut_at;
 use crate::session::Session;
 use framing::{Sink, write_all};
 use std::alloc::Global;
@@ -30,8 +31,9 @@ impl Model for Console {
 }
 
 impl Console {
-    ghost use Rattle.std.specs.Prelude.{◌≡◌, ◌≤◌, ◌||◌, ◌∷◌, [], false, OnOk, IfErr};
+    ghost use Rattle.std.specs.Prelude.{◌≡◌, ℕ, ◌≤◌, ◌||◌, List, ◌∷◌, ◌++◌, [], false, Option, OnOk, IfErr};
     ghost use Rattle.console.specs.Consoles.{EndsLine, BreaksLine, Goes, Stops, is_read_fault, is_write_fault};
+    ghost use Rattle.console.specs.Parts.{HasNone};
     ghost use Rattle.console.specs.Replays.{new_session};
 
     pub fn new(alloc: Global, plmn: [u8; 3], journal_limit: u32) -> Console
@@ -67,23 +69,32 @@ impl Console {
         }
     }
 
-    /// Takes the next octet of the input.
-    #[tactic(auto, using(crate::proofs::TextLemmas::goes_line, crate::proofs::TextLemmas::goes_octet, crate::proofs::StopLemmas::stops_at_line, crate::proofs::StopLemmas::stops_at_long, crate::proofs::StopLemmas::stops_starved))]
-    pub fn take_octet<W: Sink>(&mut self, octet: u8, writer: &mut W) -> Result<(), ReplayFault>
-        ensures ok { OnOk result (Goes self.old (octet ∷ []) self.new (W.written writer.old) (W.written writer.new)) }
-        ensures err { IfErr result (Stops self.old (octet ∷ []) (W.written writer.old) (W.written writer.new)) }
+    /// Takes octets that are no line feed.
+    #[tactic(auto, using(crate::proofs::TextLemmas::goes_run, crate::proofs::StopLemmas::stops_at_long, crate::proofs::StopLemmas::stops_starved))]
+    fn take_run(&mut self, run: &[u8]) -> Result<(), ReplayFault>
+        requires { HasNone 10 run.now }
+        ensures ok { OnOk result ((octets : Option (List ℕ)) → Goes self.old run.now self.new octets octets) }
+        ensures err { IfErr result (λ fault. (octets : Option (List ℕ)) → Stops self.old run.now octets octets fault) }
+        ensures reads { is_read_fault result ≡ false }
+        ensures writes { is_write_fault result ≡ false }
+    {
+        if LONGEST_LINE + 1 < self.begun.len() + run.len() {
+            return Err(ReplayFault::LongLine);
+        }
+        self.begun.extend_from_slice(run)?;
+        Ok(())
+    }
+
+    /// Takes the last octets of a line, and its end.
+    fn take_end<W: Sink>(&mut self, run: &[u8], writer: &mut W) -> Result<(), ReplayFault>
+        requires { HasNone 10 run.now }
+        ensures ok { OnOk result (Goes self.old (run.now ++ 10 ∷ []) self.new (W.written writer.old) (W.written writer.new)) }
+        ensures err { IfErr result (Stops self.old (run.now ++ 10 ∷ []) (W.written writer.old) (W.written writer.new)) }
         ensures failed { W.has_failed writer.new ≡ (is_write_fault result || W.has_failed writer.old) }
         ensures reads { is_read_fault result ≡ false }
     {
-        if octet == b'\n' {
-            self.end_line(writer)?;
-            return Ok(());
-        }
-        if LONGEST_LINE < self.begun.len() {
-            return Err(ReplayFault::LongLine);
-        }
-        self.begun.push(octet)?;
-        Ok(())
+        self.take_run(run)?;
+        self.end_line(writer)
     }
 
     /// Takes the next octets of the input.
@@ -93,10 +104,12 @@ impl Console {
         ensures failed { W.has_failed writer.new ≡ (is_write_fault result || W.has_failed writer.old) }
         ensures reads { is_read_fault result ≡ false }
     {
-        for octet in piece {
-            self.take_octet(*octet, writer)?;
+        let mut rest = piece;
+        while let Some((run, behind)) = cut_at(rest, b'\n') {
+            self.take_end(run, writer)?;
+            rest = behind;
         }
-        Ok(())
+        self.take_run(rest)
     }
 }
 

@@ -26,6 +26,7 @@ mod parts;
 mod replaying;
 pub mod response;
 pub mod running;
+mod runs;
 mod session;
 pub mod words;
 

@@ -4,35 +4,32 @@ ghost use Rattle.std.specs.Prelude.{◌≡◌, ◌++◌, ◌∷◌, [], IfOk, On
 ghost use Rattle.console.specs.Sessions.{is_comment};
 ghost use Rattle.console.specs.Words.{words_of, non_empty};
 
+use crate::runs::cut_at;
 use common::Octets;
 use std::alloc::{AllocError, Global};
 
 /// The longest runs of octets other than the space, in their order.
-#[tactic(auto, using(crate::proofs::PartLemmas::parts_from_start, crate::proofs::PartLemmas::non_empty_more))]
+#[tactic(auto, using(crate::proofs::PartLemmas::parts_one))]
 pub fn split_words(alloc: Global, line: &[u8]) -> Result<Vec<Octets>, AllocError>
     ensures { IfOk result (λ words. words.items ≡ words_of line.now) }
 {
     let mut words = Vec::new(alloc);
-    let mut begun = Vec::new(alloc);
-    for octet in line {
-        if *octet == b' ' {
-            end_word(&mut words, begun)?;
-            begun = Vec::new(alloc);
-        } else {
-            begun.push(*octet)?;
-        }
+    let mut rest = line;
+    while let Some((word, behind)) = cut_at(rest, b' ') {
+        push_word(alloc, &mut words, word)?;
+        rest = behind;
     }
-    end_word(&mut words, begun)?;
+    push_word(alloc, &mut words, rest)?;
     Ok(words)
 }
 
-fn end_word(words: &mut Vec<Octets>, word: Vec<u8>) -> Result<(), AllocError>
-    ensures { OnOk result (words.new.items ≡ words.old.items ++ non_empty (word.items ∷ [])) }
+fn push_word(alloc: Global, words: &mut Vec<Octets>, word: &[u8]) -> Result<(), AllocError>
+    ensures { OnOk result (words.new.items ≡ words.old.items ++ non_empty (word.now ∷ [])) }
 {
     if word.is_empty() {
         return Ok(());
     }
-    words.push(Octets::from_vec(word))?;
+    words.push(Octets::from_vec(Vec::from_slice(alloc, word)?))?;
     Ok(())
 }
 

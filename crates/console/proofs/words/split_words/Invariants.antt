@@ -1,8 +1,11 @@
-use Rattle.std.proofs.Common.{◌≡◌, ◌++◌, drop}
+use Rattle.std.proofs.Common.{◌≡◌, ◌++◌, length}
+use Rattle.console.specs.Parts.{parts_of}
 use Rattle.console.specs.Words.{words_of, non_empty}
-use Rattle.console.proofs.PartLemmas.{parts_from}
 use Rattle.console.proofs.words.split_words.Given as goal
 
 -- the words so far, and those of what is left, are all of them
-abbrev pub invariant-loop-octet : goal.invariant-loop-octet
-invariant-loop-octet l = l.words.items ++ non_empty (parts_from 32 l.begun.items (drop l.octet-index l.line)) ≡ words_of l.line
+abbrev pub invariant-loop-word : goal.invariant-loop-word
+invariant-loop-word l = l.words.items ++ non_empty (parts_of 32 l.rest) ≡ words_of l.line
+
+abbrev pub decreases-loop-word : goal.decreases-loop-word
+decreases-loop-word l = length l.rest
