@@ -282,7 +282,8 @@ impl KeptTables {
     }
 
     /// Changes one line: what is kept of it, what is pending for it, and what it adds to the numbers. The line itself is
-    /// neither read nor set where it is known to stay, and no names are compared where the areas are. At an `Err` memory ran out, and the tables are of no use any more.
+    /// neither read nor set where it is known to stay, and no names are compared where the areas are. At an `Err` memory
+    /// ran out, and the tables are of no use any more.
     fn change(
         &mut self,
         key: LineKey,
@@ -337,7 +338,8 @@ impl KeptTables {
     }
 
     /// Makes the change that is next. The line itself is neither read nor set where the caller knows that it stays, and no
-    /// names of areas are compared where the caller knows that these stay. At an `Err` memory ran out, and the tables are of no use any more.
+    /// names of areas are compared where the caller knows that these stay. At an `Err` memory ran out, and the tables are of
+    /// no use any more.
     pub fn make(
         &mut self,
         key: &LineKey,
