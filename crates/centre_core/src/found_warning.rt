@@ -47,7 +47,7 @@ fn own_names(alloc: Global, names: &[Name]) -> Result<AreaNames, AllocError>
 
 /// The names of those of the areas that cover the cell, in memory of their own. What they cover was found before, or is
 /// looked for.
-pub(crate) fn own_covering(
+fn own_covering(
     alloc: Global,
     areas: &Areas,
     names: &[Name],
