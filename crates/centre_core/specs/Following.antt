@@ -1,6 +1,7 @@
 -- How what is kept follows an event: the lines on which it bears, as they stand before it and after.
 use Rattle.std.specs.Prelude.{◌≡◌, ℕ, ◌+◌, ◌≤◌, Bool, true, false, ◌&&◌, ◌||◌, not, nat_eq, List, [], ◌∷◌, Option, Some, None, Ok, length, map, unwrap_or, if◌then◌else◌}
 use Rattle.std.specs.List.{flat_map, list_any}
+use Rattle.std.specs.Option.{option_copied}
 use Rattle.areas.specs.Areas.{areas_of, covers}
 use Rattle.areas.specs.declared.area.Area.{Area}
 use Rattle.cell_register.specs.Register as register
@@ -50,6 +51,7 @@ use Rattle.centre_core.specs.declared.held.Held.{Held}
 use Rattle.centre_core.specs.declared.held_lines.HeldLines.{HeldLines}
 use Rattle.centre_core.specs.declared.held_lines.HeldLines.TheVariants as lines
 use Rattle.centre_events.specs.declared.in_flight.InFlight.{InFlight}
+use Rattle.centre_events.specs.declared.stepping.Happening.{Happening}
 use Rattle.centre_core.specs.declared.kept.Kept.{Kept}
 
 -- both have the same lines, the same cells down, the same actions pending and the same numbers: nothing but the meter
@@ -113,6 +115,10 @@ pub record Happens : Type 0 where
   pub answer : Answer
   pub up : Bool
   pub flight : Option InFlight
+
+-- what happens, as the code has it
+abbrev pub happens : Happening → Happens
+happens h = record { event = h.event.now; answer = h.answer.now; up = h.up; flight = option_copied h.flight }
 
 -- the line after what happens, of a warning in the book, if it has it
 abbrev pub line_now : Happens → List Warning → ℕ → Cell → Option Warning → Line → Line

@@ -1,12 +1,13 @@
 -- What is read once of a warning, for all its lines on which an event bears.
-use Rattle.std.specs.Prelude.{◌≡◌, ℕ, ◌⊎◌, List, [], ◌∷◌, Option, Some, None, true, map, nat_eq}
-use Rattle.areas.specs.Areas.{selectors_of}
+use Rattle.std.specs.Prelude.{◌≡◌, ℕ, ◌⊎◌, List, [], ◌∷◌, Option, Some, None, IfSome, true, map, nat_eq}
+use Rattle.areas.specs.Areas.{areas_of, selectors_of}
 use Rattle.areas.specs.declared.area.Area.{Area}
 use Rattle.areas.specs.declared.selector.Selector.{Selector}
 use Rattle.warning_book.specs.Book as book
 use Rattle.warning_book.specs.Book.{warning_of}
 use Rattle.warning_book.specs.declared.warning.Warning.{Warning}
 use Rattle.centre_events.specs.Warnings.{serials}
+use Rattle.centre_core.specs.declared.known_spot.KnownSpot.{KnownSpot}
 
 -- a warning's number, the serial numbers of its versions, its areas and the selectors of each
 pub record Found : Type 0 where
@@ -38,3 +39,7 @@ IsFound l w n (x ∷ xs) = (nat_eq n x.warning ≡ true → IsOf l (Some w) x) �
 abbrev pub IsFoundOf : List Area → Option Warning → ℕ → List Found → Type 0
 IsFoundOf l None n xs = Unit {0}
 IsFoundOf l (Some w) n xs = IsFound l w n xs
+
+-- if the areas that cover the cell are known, they are all of those
+abbrev pub IsKnown : List Area → KnownSpot → Type 0
+IsKnown l at = IfSome at.covering (λ all. all.now ≡ areas_of l at.spot.cell)

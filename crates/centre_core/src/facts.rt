@@ -1,22 +1,24 @@
 //! What is read of one line, from what a centre keeps.
 
-ghost use Rattle.std.specs.Prelude.{◌≡◌, ◌<◌, ◌&&◌, true, List, length, Some, None, filter, map, IfOk, IfSome, if◌then◌else◌};
+ghost use Rattle.std.specs.Prelude.{◌≡◌, ◌<◌, ◌&&◌, true, List, length, Some, None, filter, map, IfOk, if◌then◌else◌};
 ghost use Rattle.std.specs.List.{list_any, slice_index_or};
 ghost use Rattle.std.specs.Option.{option_copied};
-ghost use Rattle.areas.specs.Areas.{areas_of, covers, selectors_of};
+ghost use Rattle.areas.specs.Areas.{covers, selectors_of};
 ghost use Rattle.areas.specs.declared.selector.Selector.{Selector};
 ghost use Rattle.cell_register.specs.Register.{place_in, is_place};
 ghost use Rattle.coverage_board.specs.Parts.{has_area};
 ghost use Rattle.warning_book.specs.Book.{current_of};
-ghost use Rattle.centre_core.specs.Found.{IsFound, IsFoundOf};
+ghost use Rattle.centre_core.specs.Found.{IsFound, IsFoundOf, IsKnown};
 ghost use Rattle.centre_core.specs.State.{covered_facts, facts_from};
 ghost use Rattle.centre_events.specs.Warnings.{serials};
 
 use crate::found_warnings::FoundWarnings;
+use crate::known_spot::KnownSpot;
+use crate::plan_parts::PlanParts;
 use areas::{Areas, Coverage};
-use cell_register::{BscId, Register};
+use cell_register::Register;
 use common::{Cell, Name};
-use kept_tables::{AreaNames, LineFacts, Serials};
+use kept_tables::{AreaNames, LineFacts, Serials, Spot};
 use mirror::Line;
 use serials::Serial;
 use std::alloc::AllocError;
@@ -53,12 +55,13 @@ fn is_one_among(names: &[Name], all: &[Name]) -> bool
     names.iter().any(|name| is_among(all, name))
 }
 
-/// Whether one of the areas covers the cell. All areas that cover it may be known.
-pub(crate) fn is_covered(areas: &Areas, names: &[Name], c: Cell, known: Option<&[Name]>) -> bool
-    requires { IfSome known (λ all. all.now ≡ areas_of areas.now c) }
-    ensures { result ≡ list_any (λ a. covers areas.now a c) names.now }
+/// Whether one of the areas covers the cell.
+pub(crate) fn is_covered(areas: &Areas, names: &[Name], at: &KnownSpot<'_>) -> bool
+    requires { IsKnown areas.now at.now }
+    ensures { result ≡ list_any (λ a. covers areas.now a at.now.spot.cell) names.now }
 {
-    match known {
+    let c = at.spot.cell;
+    match at.covering {
         Some(all) => is_one_among(names, all),
         None => names.iter().any(|name| areas.covers(name, c)),
     }
@@ -80,20 +83,19 @@ fn wanted(w: &Warning, here: bool, covered: bool) -> Option<Serial>
 #[inline(always)]
 pub(crate) fn covered_facts(
     register: &Register,
+    found: &mut FoundWarnings<'_>,
+    spot: &Spot,
     down: bool,
-    b: BscId,
-    c: Cell,
     line: Line,
+    w: &Warning,
     covering: AreaNames,
     versions: Serials,
-    w: &Warning,
-    found: &mut FoundWarnings<'_>,
 ) -> Result<LineFacts, AllocError>
     requires { versions ≡ serials w.now }
-    ensures facts { IfOk result (λ f. f ≡ covered_facts register.now down b c line covering (Some w.now)) }
+    ensures facts { IfOk result (λ f. f ≡ covered_facts register.now down spot.now.bsc spot.now.cell line covering (Some w.now)) }
     ensures same { found.new ≡ found.old }
 {
-    let here = found.is_here(register, b, c);
+    let here = found.is_here(register, spot);
     let wanted = wanted(w, here, !covering.as_slice().is_empty());
     Ok(LineFacts {
         line,
@@ -109,49 +111,43 @@ pub(crate) fn covered_facts(
 
 /// What is read of the line of a warning, which has that number, in a cell that is down or not.
 fn facts_of(
-    register: &Register,
-    areas: &Areas,
-    down: bool,
-    b: BscId,
-    c: Cell,
+    plan: &PlanParts<'_>,
+    found: &mut FoundWarnings<'_>,
+    at: &KnownSpot<'_>,
     n: WarningId,
+    down: bool,
     line: Line,
     w: &Warning,
-    found: &mut FoundWarnings<'_>,
-    known: Option<&[Name]>,
 ) -> Result<LineFacts, AllocError>
-    requires found { IsFound areas.now w.now n found.old }
-    requires known { IfSome known (λ all. all.now ≡ areas_of areas.now c) }
-    ensures facts { IfOk result (λ f. f ≡ facts_from register.now areas.now down b c line (Some w.now)) }
+    requires found { IsFound plan.now.areas.now w.now n found.old }
+    requires known { IsKnown plan.now.areas.now at.now }
+    ensures facts { IfOk result (λ f. f ≡ facts_from plan.now.register.now plan.now.areas.now down at.now.spot.bsc at.now.spot.cell line (Some w.now)) }
     ensures same { found.new ≡ found.old }
 {
-    let covering = found.covering(areas, n, w, c, known)?;
+    let register = plan.register;
+    let covering = found.covering(plan.areas, n, w, at)?;
     let versions = found.serials_of(n, w)?;
-    let facts = covered_facts(register, down, b, c, line, covering, versions, w, found)?;
+    let facts = covered_facts(register, found, &at.spot, down, line, w, covering, versions)?;
     Ok(facts)
 }
 
-/// What is read of the line of a warning of that number, if the book has it, in a cell that is down or not. All areas that
-/// cover the cell may be known.
+/// What is read of the line of a warning of that number, if the book has it, in a cell that is down or not.
 pub(crate) fn facts_from(
-    register: &Register,
-    areas: &Areas,
-    down: bool,
-    b: BscId,
-    c: Cell,
+    plan: &PlanParts<'_>,
+    found: &mut FoundWarnings<'_>,
+    at: &KnownSpot<'_>,
     n: WarningId,
+    down: bool,
     line: Line,
     warning: Option<&Warning>,
-    found: &mut FoundWarnings<'_>,
-    known: Option<&[Name]>,
 ) -> Result<LineFacts, AllocError>
-    requires found { IsFoundOf areas.now (option_copied warning) n found.old }
-    requires known { IfSome known (λ all. all.now ≡ areas_of areas.now c) }
-    ensures facts { IfOk result (λ f. f ≡ facts_from register.now areas.now down b c line (option_copied warning.entry)) }
+    requires found { IsFoundOf plan.now.areas.now (option_copied warning) n found.old }
+    requires known { IsKnown plan.now.areas.now at.now }
+    ensures facts { IfOk result (λ f. f ≡ facts_from plan.now.register.now plan.now.areas.now down at.now.spot.bsc at.now.spot.cell line (option_copied warning.entry)) }
     ensures same { found.new ≡ found.old }
 {
     match warning {
-        Some(w) => facts_of(register, areas, down, b, c, n, line, w, found, known),
-        None => Ok(LineFacts::none(down, found.is_here(register, b, c))),
+        Some(w) => facts_of(plan, found, at, n, down, line, w),
+        None => Ok(LineFacts::none(down, found.is_here(plan.register, &at.spot))),
     }
 }

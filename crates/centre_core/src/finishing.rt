@@ -9,6 +9,7 @@ use crate::flights::{self, flight_of};
 use crate::following::bear;
 use crate::kept::Kept;
 use crate::links;
+use crate::plan_parts::PlanParts;
 use crate::reached::Reached;
 use centre_events::answer::Answer;
 use centre_events::event::Event;
@@ -42,12 +43,15 @@ pub(crate) fn finish<'x>(
         up,
         flight: flight_of(kept.flights.as_slice(), event),
     };
+    let plan = PlanParts {
+        register: &kept.register,
+        areas: &kept.areas,
+        book: &kept.book,
+    };
     bear(
         alloc,
         &h,
-        &kept.register,
-        &kept.areas,
-        &kept.book,
+        &plan,
         &mut kept.tables,
         spots.as_slice(),
         warnings.as_slice(),

@@ -1,7 +1,6 @@
 //! How what is kept follows an event: the lines that it changes are changed after it.
 
-ghost use Rattle.std.specs.Prelude.{◌≡◌, ℕ, ◌≤◌, ◌+◌, ◌++◌, ◌∷◌, ◌&&◌, [], true, false, not, nat_eq, length, map, IfOk, OnOk, List};
-ghost use Rattle.areas.specs.declared.area.Area.{Area};
+ghost use Rattle.std.specs.Prelude.{◌≡◌, ℕ, ◌≤◌, ◌+◌, ◌++◌, ◌∷◌, ◌&&◌, [], true, false, not, nat_eq, length, map, IfOk, OnOk};
 ghost use Rattle.common.specs.declared.cell.Cell.{Cell};
 ghost use Rattle.kept_tables.specs.Changes.{Begins, IsNext, mixed};
 ghost use Rattle.kept_tables.specs.Consistent.{Consistent};
@@ -9,9 +8,8 @@ ghost use Rattle.mirror.specs.Table.{down_at};
 ghost use Rattle.centre_events.specs.Down.{is_down};
 ghost use Rattle.centre_events.specs.Facts.{facts};
 ghost use Rattle.centre_events.specs.Past.{After};
-ghost use Rattle.kept_tables.specs.View.{key_of};
 ghost use Rattle.std.specs.Option.{option_copied};
-ghost use Rattle.centre_core.specs.Following.{AreCovered, AreSteps, Bears, entry_of, held_in, line_now, facts_then, change_of, covered_change, leaves_areas_then, leaves_lines};
+ghost use Rattle.centre_core.specs.Following.{AreCovered, AreSteps, Bears, entry_of, happens, held_in, line_now, facts_then, change_of, covered_change, leaves_areas_then, leaves_lines};
 ghost use Rattle.centre_core.specs.Found.{AreFound};
 ghost use Rattle.centre_core.specs.State.{AreCovering};
 ghost use Rattle.warning_book.specs.Book.{warning_of};
@@ -21,16 +19,15 @@ use crate::facts::{covered_facts, facts_from};
 use crate::found_warnings::{FoundWarnings, find};
 use crate::held::Held;
 use crate::held_lines::HeldLines;
-use areas::Areas;
-use cell_register::{BscId, Register};
+use crate::known_spot::KnownSpot;
+use crate::plan_parts::PlanParts;
 use centre_events::event::Event;
 use centre_events::stepping::{Happening, step_line};
-use common::Cell;
 use coverage_plan::Edit;
 use kept_tables::{KeptTables, LineFacts, Spot, Stays};
 use mirror::{Line, LineKey};
 use std::alloc::{AllocError, Global};
-use warning_book::{Book, Warning, WarningId};
+use warning_book::{Warning, WarningId};
 
 /// Whether what happens is an edit that leaves every line as it is: each but the end of a BSC and a Forget.
 fn leaves_lines(h: &Happening<'_, '_>) -> bool
@@ -49,18 +46,23 @@ fn leaves_lines(h: &Happening<'_, '_>) -> bool
 pub(crate) fn line_now(
     h: &Happening<'_, '_>,
     warnings: &[Warning],
-    b: BscId,
-    c: Cell,
+    spot: &Spot,
     warning: Option<&Warning>,
     line: &mut Line,
 ) -> bool
-    ensures line { line.new ≡ line_now (record { event = h.now.event.now; answer = h.now.answer.now; up = h.now.up; flight = option_copied h.now.flight }) warnings.now b c (option_copied warning.entry) line.old }
+    ensures line { line.new ≡ line_now (happens h.now) warnings.now spot.now.bsc spot.now.cell (option_copied warning.entry) line.old }
     ensures stays { result ≡ false → line.new ≡ line.old }
 {
     match warning {
-        Some(w) if !leaves_lines(h) => {
-            step_line(h, b, c, w.message_id(), w.versions(), warnings, line)
-        }
+        Some(w) if !leaves_lines(h) => step_line(
+            h,
+            spot.bsc,
+            spot.cell,
+            w.message_id(),
+            w.versions(),
+            warnings,
+            line,
+        ),
         _ => false,
     }
 }
@@ -68,59 +70,55 @@ pub(crate) fn line_now(
 /// What is read of a line after what happens.
 fn facts_then(
     h: &Happening<'_, '_>,
-    register: &Register,
-    areas: &Areas,
-    book: &Book,
+    plan: &PlanParts<'_>,
     found: &mut FoundWarnings<'_>,
     tables: &KeptTables,
-    b: BscId,
-    c: Cell,
-    n: WarningId,
-    line: Line,
+    held: &Held,
 ) -> Result<LineFacts, AllocError>
-    requires found { AreFound areas.now book.now found.old }
-    ensures facts { IfOk result (λ f. f ≡ facts_then (record { event = h.now.event.now; answer = h.now.answer.now; up = h.now.up; flight = option_copied h.now.flight }) register.now areas.now book.now tables.now (key_of b c n) line) }
+    requires found { AreFound plan.now.areas.now plan.now.book.now found.old }
+    ensures facts { IfOk result (λ f. f ≡ facts_then (happens h.now) plan.now.register.now plan.now.areas.now plan.now.book.now tables.now held.now.key held.now.before.line) }
     ensures same { found.new ≡ found.old }
 {
-    let warning = book.find(n);
-    let mut now = line;
-    line_now(h, book.as_slice(), b, c, warning, &mut now);
-    let down = tables.is_down(b, c);
-    facts_from(register, areas, down, b, c, n, now, warning, found, None)
+    let LineKey { bsc, cell, warning } = held.key;
+    let at = KnownSpot {
+        spot: Spot { bsc, cell },
+        covering: None,
+    };
+    let n = warning;
+    let warning = plan.book.find(n);
+    let mut line = held.before.line;
+    line_now(h, plan.book.as_slice(), &at.spot, warning, &mut line);
+    let down = tables.is_down(bsc, cell);
+    facts_from(plan, found, &at, n, down, line, warning)
 }
 
 /// What is read of a line after an edit that leaves the areas that cover its cell.
 fn covered_then(
     h: &Happening<'_, '_>,
-    register: &Register,
-    book: &Book,
+    plan: &PlanParts<'_>,
     found: &mut FoundWarnings<'_>,
     tables: &KeptTables,
     held: &Held,
 ) -> Result<LineFacts, AllocError>
-    requires found { (l : List Area) × AreFound l book.now found.old }
-    ensures facts { IfOk result (λ f. f ≡ (covered_change (record { event = h.now.event.now; answer = h.now.answer.now; up = h.now.up; flight = option_copied h.now.flight }) register.now book.now tables.now held.now).after) }
+    requires found { AreFound plan.now.areas.now plan.now.book.now found.old }
+    ensures facts { IfOk result (λ f. f ≡ (covered_change (happens h.now) plan.now.register.now plan.now.book.now tables.now held.now).after) }
     ensures same { found.new ≡ found.old }
 {
     let LineKey { bsc, cell, warning } = held.key;
+    let spot = Spot { bsc, cell };
     let n = warning;
-    let warning = book.find(n);
+    let warning = plan.book.find(n);
     let mut line = held.before.line;
-    line_now(h, book.as_slice(), bsc, cell, warning, &mut line);
+    line_now(h, plan.book.as_slice(), &spot, warning, &mut line);
     let down = tables.is_down(bsc, cell);
+    let register = plan.register;
     match warning {
-        Some(w) => covered_facts(
-            register,
-            down,
-            bsc,
-            cell,
-            line,
-            held.before.areas.shared()?,
-            found.serials_of(n, w)?,
-            w,
-            found,
-        ),
-        None => Ok(LineFacts::none(down, found.is_here(register, bsc, cell))),
+        Some(w) => {
+            let covering = held.before.areas.shared()?;
+            let versions = found.serials_of(n, w)?;
+            covered_facts(register, found, &spot, down, line, w, covering, versions)
+        }
+        None => Ok(LineFacts::none(down, found.is_here(register, &spot))),
     }
 }
 
@@ -145,35 +143,21 @@ fn leaves_areas(h: &Happening<'_, '_>) -> bool
 /// What is read of a line after an edit, from how it stood.
 fn then_of(
     h: &Happening<'_, '_>,
-    register: &Register,
-    areas: &Areas,
-    book: &Book,
+    plan: &PlanParts<'_>,
     found: &mut FoundWarnings<'_>,
     tables: &KeptTables,
     held: &Held,
 ) -> Result<LineFacts, AllocError>
-    requires found { AreFound areas.now book.now found.old }
-    requires covered { leaves_areas_then h.now.event.now ≡ true → AreCovering areas.now held.now.key.cell held.now.before.areas (warning_of book.now held.now.key.warning) }
-    ensures facts { IfOk result (λ f. f ≡ facts_then (record { event = h.now.event.now; answer = h.now.answer.now; up = h.now.up; flight = option_copied h.now.flight }) register.now areas.now book.now tables.now held.now.key held.now.before.line) }
+    requires found { AreFound plan.now.areas.now plan.now.book.now found.old }
+    requires covered { leaves_areas_then h.now.event.now ≡ true → AreCovering plan.now.areas.now held.now.key.cell held.now.before.areas (warning_of plan.now.book.now held.now.key.warning) }
+    ensures facts { IfOk result (λ f. f ≡ facts_then (happens h.now) plan.now.register.now plan.now.areas.now plan.now.book.now tables.now held.now.key held.now.before.line) }
     ensures same { found.new ≡ found.old }
 {
     if leaves_areas(h) {
-        let facts = covered_then(h, register, book, found, tables, held)?;
+        let facts = covered_then(h, plan, found, tables, held)?;
         return Ok(facts);
     }
-    let Held { key, before } = held;
-    facts_then(
-        h,
-        register,
-        areas,
-        book,
-        found,
-        tables,
-        key.bsc,
-        key.cell,
-        key.warning,
-        before.line,
-    )
+    facts_then(h, plan, found, tables, held)
 }
 
 /// Whether the line itself is known to stay: what happens leaves every line as it is, and the warning is in the book, since
@@ -195,23 +179,21 @@ fn areas_stay(h: &Happening<'_, '_>, after: &LineFacts) -> bool
 /// Changes a line by an edit, from how it stood. It is the next of the lines that the edit changes.
 fn change_line(
     h: &Happening<'_, '_>,
-    register: &Register,
-    areas: &Areas,
-    book: &Book,
+    plan: &PlanParts<'_>,
     found: &mut FoundWarnings<'_>,
     tables: &mut KeptTables,
     held: &Held,
 ) -> Result<(), AllocError>
-    requires found { AreFound areas.now book.now found.old }
-    requires covered { leaves_areas_then h.now.event.now ≡ true → AreCovering areas.now held.now.key.cell held.now.before.areas (warning_of book.now held.now.key.warning) }
-    requires next { IsNext tables.old (change_of (record { event = h.now.event.now; answer = h.now.answer.now; up = h.now.up; flight = option_copied h.now.flight }) register.now areas.now book.now tables.old held.now) }
-    ensures made { OnOk result ((n : IsNext tables.old (change_of (record { event = h.now.event.now; answer = h.now.answer.now; up = h.now.up; flight = option_copied h.now.flight }) register.now areas.now book.now tables.old held.now)) → Consistent tables.new (mixed n.begins.from n.begins.to (n.done ++ change_of (record { event = h.now.event.now; answer = h.now.answer.now; up = h.now.up; flight = option_copied h.now.flight }) register.now areas.now book.now tables.old held.now ∷ []))) }
+    requires found { AreFound plan.now.areas.now plan.now.book.now found.old }
+    requires covered { leaves_areas_then h.now.event.now ≡ true → AreCovering plan.now.areas.now held.now.key.cell held.now.before.areas (warning_of plan.now.book.now held.now.key.warning) }
+    requires next { IsNext tables.old (change_of (happens h.now) plan.now.register.now plan.now.areas.now plan.now.book.now tables.old held.now) }
+    ensures made { OnOk result ((n : IsNext tables.old (change_of (happens h.now) plan.now.register.now plan.now.areas.now plan.now.book.now tables.old held.now)) → Consistent tables.new (mixed n.begins.from n.begins.to (n.done ++ change_of (happens h.now) plan.now.register.now plan.now.areas.now plan.now.book.now tables.old held.now ∷ []))) }
     ensures downs { tables.new.lines.downs ≡ tables.old.lines.downs }
     ensures meter { tables.new.lines.meter ≤ tables.old.lines.meter + 1 }
     ensures least { tables.old.lines.meter ≤ tables.new.lines.meter }
     ensures same { found.new ≡ found.old }
 {
-    let after = then_of(h, register, areas, book, found, tables, held)?;
+    let after = then_of(h, plan, found, tables, held)?;
     let stays = Stays {
         line: line_stays(h, &after),
         areas: areas_stay(h, &after),
@@ -222,23 +204,21 @@ fn change_line(
 /// Changes the lines by an edit, from how they stood.
 fn change_lines(
     h: &Happening<'_, '_>,
-    register: &Register,
-    areas: &Areas,
-    book: &Book,
+    plan: &PlanParts<'_>,
     found: &mut FoundWarnings<'_>,
     tables: &mut KeptTables,
     held: &[Held],
 ) -> Result<(), AllocError>
-    requires found { AreFound areas.now book.now found.old }
-    requires covered { leaves_areas_then h.now.event.now ≡ true → AreCovered areas.now book.now held.now }
-    requires begins { Begins tables.old (map (change_of (record { event = h.now.event.now; answer = h.now.answer.now; up = h.now.up; flight = option_copied h.now.flight }) register.now areas.now book.now tables.old) held.now) }
-    ensures made { OnOk result ((b : Begins tables.old (map (change_of (record { event = h.now.event.now; answer = h.now.answer.now; up = h.now.up; flight = option_copied h.now.flight }) register.now areas.now book.now tables.old) held.now)) → Consistent tables.new (mixed b.from b.to (map (change_of (record { event = h.now.event.now; answer = h.now.answer.now; up = h.now.up; flight = option_copied h.now.flight }) register.now areas.now book.now tables.old) held.now))) }
+    requires found { AreFound plan.now.areas.now plan.now.book.now found.old }
+    requires covered { leaves_areas_then h.now.event.now ≡ true → AreCovered plan.now.areas.now plan.now.book.now held.now }
+    requires begins { Begins tables.old (map (change_of (happens h.now) plan.now.register.now plan.now.areas.now plan.now.book.now tables.old) held.now) }
+    ensures made { OnOk result ((b : Begins tables.old (map (change_of (happens h.now) plan.now.register.now plan.now.areas.now plan.now.book.now tables.old) held.now)) → Consistent tables.new (mixed b.from b.to (map (change_of (happens h.now) plan.now.register.now plan.now.areas.now plan.now.book.now tables.old) held.now))) }
     ensures downs { tables.new.lines.downs ≡ tables.old.lines.downs }
     ensures meter { tables.new.lines.meter ≤ tables.old.lines.meter + length held.now }
     ensures least { tables.old.lines.meter ≤ tables.new.lines.meter }
 {
     for line in held {
-        change_line(h, register, areas, book, found, tables, line)?;
+        change_line(h, plan, found, tables, line)?;
     }
     Ok(())
 }
@@ -248,34 +228,24 @@ fn change_lines(
 pub(crate) fn bear(
     alloc: Global,
     h: &Happening<'_, '_>,
-    register: &Register,
-    areas: &Areas,
-    book: &Book,
+    plan: &PlanParts<'_>,
     tables: &mut KeptTables,
     spots: &[Spot],
     warnings: &[WarningId],
     lines: HeldLines,
 ) -> Result<(), AllocError>
-    requires bears { Bears register.now areas.now book.now tables.old (record { event = h.now.event.now; answer = h.now.answer.now; up = h.now.up; flight = option_copied h.now.flight }) spots.now (held_in lines) }
-    requires steps { AreSteps (record { event = h.now.event.now; answer = h.now.answer.now; up = h.now.up; flight = option_copied h.now.flight }) book.now lines }
-    ensures tables { OnOk result ((x : Bears register.now areas.now book.now tables.old (record { event = h.now.event.now; answer = h.now.answer.now; up = h.now.up; flight = option_copied h.now.flight }) spots.now (held_in lines)) → Consistent tables.new (facts (After (entry_of x.desk (record { event = h.now.event.now; answer = h.now.answer.now; up = h.now.up; flight = option_copied h.now.flight })) x.past))) }
-    ensures downs { OnOk result ((x : Bears register.now areas.now book.now tables.old (record { event = h.now.event.now; answer = h.now.answer.now; up = h.now.up; flight = option_copied h.now.flight }) spots.now (held_in lines)) → (b : ℕ) (c : Cell) → down_at tables.new.lines b c ≡ is_down (After (entry_of x.desk (record { event = h.now.event.now; answer = h.now.answer.now; up = h.now.up; flight = option_copied h.now.flight })) x.past) b c) }
+    requires bears { Bears plan.now.register.now plan.now.areas.now plan.now.book.now tables.old (happens h.now) spots.now (held_in lines) }
+    requires steps { AreSteps (happens h.now) plan.now.book.now lines }
+    ensures tables { OnOk result ((x : Bears plan.now.register.now plan.now.areas.now plan.now.book.now tables.old (happens h.now) spots.now (held_in lines)) → Consistent tables.new (facts (After (entry_of x.desk (happens h.now)) x.past))) }
+    ensures downs { OnOk result ((x : Bears plan.now.register.now plan.now.areas.now plan.now.book.now tables.old (happens h.now) spots.now (held_in lines)) → (b : ℕ) (c : Cell) → down_at tables.new.lines b c ≡ is_down (After (entry_of x.desk (happens h.now)) x.past) b c) }
     ensures meter { tables.new.lines.meter ≤ tables.old.lines.meter + length (held_in lines) }
     ensures least { tables.old.lines.meter ≤ tables.new.lines.meter }
 {
     mark_downs(tables, spots, h.event, h.answer)?;
     match lines {
         HeldLines::Whole(held) => {
-            let mut found = find(alloc, areas, book, warnings, spots.len())?;
-            change_lines(
-                h,
-                register,
-                areas,
-                book,
-                &mut found,
-                tables,
-                held.as_slice(),
-            )
+            let mut found = find(alloc, plan, warnings, spots.len())?;
+            change_lines(h, plan, &mut found, tables, held.as_slice())
         }
         HeldLines::Steps(steps) => tables.take_steps(steps.as_slice()),
     }

@@ -2,15 +2,16 @@
 
 ghost use Rattle.std.specs.Prelude.{◌≡◌, ◌<◌, ℕ, List, filter, length, map, IfOk, IfSome};
 ghost use Rattle.std.specs.List.{slice_index_or};
-ghost use Rattle.areas.specs.Areas.{areas_of, covers};
+ghost use Rattle.areas.specs.Areas.{covers};
 ghost use Rattle.centre_events.specs.Warnings.{serials};
 ghost use Rattle.coverage_board.specs.Parts.{has_area};
-ghost use Rattle.centre_core.specs.Found.{AreSelected};
+ghost use Rattle.centre_core.specs.Found.{AreSelected, IsKnown};
 ghost use Rattle.centre_core.specs.Marks.{AreMarked, IsMarked};
 ghost use Rattle.centre_core.specs.declared.marked_names.MarkedNames.{MarkedNames};
 
 use crate::coverages::Coverages;
 use crate::facts::{covers_at, is_among};
+use crate::known_spot::KnownSpot;
 use crate::marked_names::MarkedNames;
 use areas::{Areas, Coverage};
 use common::{Cell, Name};
@@ -89,20 +90,19 @@ fn own_among(alloc: Global, names: &[Name], all: &[Name]) -> Result<AreaNames, A
     shared_names(alloc, out)
 }
 
-/// The names of those of the areas that cover the cell, in memory of their own. All areas that cover it may be known.
+/// The names of those of the areas that cover the cell, in memory of their own.
 pub(crate) fn own_covering_by(
     alloc: Global,
     areas: &Areas,
     names: &[Name],
-    c: Cell,
-    known: Option<&[Name]>,
+    at: &KnownSpot<'_>,
 ) -> Result<AreaNames, AllocError>
-    requires { IfSome known (λ all. all.now ≡ areas_of areas.now c) }
-    ensures { IfOk result (λ n. n ≡ filter (λ a. covers areas.now a c) names.now) }
+    requires { IsKnown areas.now at.now }
+    ensures { IfOk result (λ n. n ≡ filter (λ a. covers areas.now a at.now.spot.cell) names.now) }
 {
-    match known {
+    match at.covering {
         Some(all) => own_among(alloc, names, all),
-        None => own_covering(alloc, areas, names, &[], c),
+        None => own_covering(alloc, areas, names, &[], at.spot.cell),
     }
 }
 

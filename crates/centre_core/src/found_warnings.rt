@@ -5,13 +5,14 @@ ghost use Rattle.std.specs.List.{slice_index_or};
 ghost use Rattle.centre_core.specs.Found.{AreFound, Found};
 
 use crate::found_warning::{FoundWarning, own_covering_by, own_serials_of};
+use crate::known_spot::KnownSpot;
+use crate::plan_parts::PlanParts;
 use areas::Areas;
-use cell_register::{BscId, Register};
-use common::{Cell, Name};
-use kept_tables::{AreaNames, Serials};
+use cell_register::Register;
+use kept_tables::{AreaNames, Serials, Spot};
 use std::alloc::{AllocError, Global};
 use std::marker::Model;
-use warning_book::{Book, Warning, WarningId};
+use warning_book::{Warning, WarningId};
 
 /// Whether the warning of that number stands at that place.
 fn is_at(found: &[FoundWarning<'_>], place: usize, n: WarningId) -> bool
@@ -66,17 +67,17 @@ impl<'a> Model for FoundWarnings<'a> {
 #[tactic(auto, using(crate::proofs::CoverageLemmas::found_more))]
 pub(crate) fn find<'a>(
     alloc: Global,
-    areas: &'a Areas,
-    book: &Book,
+    plan: &PlanParts<'a>,
     warnings: &[WarningId],
     cells: usize,
 ) -> Result<FoundWarnings<'a>, AllocError>
-    ensures { IfOk result (AreFound areas.now book.now) }
+    ensures { IfOk result (AreFound plan.now.areas.now plan.now.book.now) }
 {
     let mut found = Vec::new(alloc);
     if warnings.len() <= cells {
         for warning in warnings {
-            found.push(FoundWarning::of(alloc, areas, *warning, book.find(*warning))?)?;
+            let it = plan.book.find(*warning);
+            found.push(FoundWarning::of(alloc, plan.areas, *warning, it)?)?;
         }
     }
     Ok(FoundWarnings {
@@ -88,12 +89,12 @@ pub(crate) fn find<'a>(
 }
 
 impl FoundWarnings<'_> {
-    ghost use Rattle.std.specs.Prelude.{◌≡◌, List, filter, IfOk, IfSome};
-    ghost use Rattle.areas.specs.Areas.{areas_of, covers};
+    ghost use Rattle.std.specs.Prelude.{◌≡◌, List, filter, IfOk};
+    ghost use Rattle.areas.specs.Areas.{covers};
     ghost use Rattle.areas.specs.declared.area.Area.{Area};
     ghost use Rattle.cell_register.specs.Register.{place_in, is_place};
     ghost use Rattle.centre_events.specs.Warnings.{serials};
-    ghost use Rattle.centre_core.specs.Found.{IsFound};
+    ghost use Rattle.centre_core.specs.Found.{IsFound, IsKnown};
 
     /// The serial numbers of the versions of the warning, which has that number.
     pub(crate) fn serials_of(&mut self, n: WarningId, w: &Warning) -> Result<Serials, AllocError>
@@ -108,34 +109,34 @@ impl FoundWarnings<'_> {
         self.found[place].serials()
     }
 
-    /// Those of the areas of the warning, which has that number, that cover the cell. All areas that cover it may be known.
+    /// Those of the areas of the warning, which has that number, that cover the cell.
     pub(crate) fn covering(
         &mut self,
         areas: &Areas,
         n: WarningId,
         w: &Warning,
-        c: Cell,
-        known: Option<&[Name]>,
+        at: &KnownSpot<'_>,
     ) -> Result<AreaNames, AllocError>
         requires found { IsFound areas.now w.now n self.old }
-        requires known { IfSome known (λ all. all.now ≡ areas_of areas.now c) }
-        ensures covering { IfOk result (λ names. names ≡ filter (λ a. covers areas.now a c) w.now.areas) }
+        requires known { IsKnown areas.now at.now }
+        ensures covering { IfOk result (λ names. names ≡ filter (λ a. covers areas.now a at.now.spot.cell) w.now.areas) }
         ensures same { self.new ≡ self.old }
     {
         let Some(place) = place_of(&self.found, self.last, n) else {
-            return own_covering_by(self.alloc, areas, w.areas(), c, known);
+            return own_covering_by(self.alloc, areas, w.areas(), at);
         };
+        let cell = at.spot.cell;
         self.last = place;
-        self.found[place].covering(areas, c)
+        self.found[place].covering(areas, cell)
     }
 
     /// Whether the cell is registered at the BSC.
-    pub(crate) fn is_here(&mut self, register: &Register, b: BscId, c: Cell) -> bool
-        ensures here { result ≡ is_place (place_in register.now c) b }
+    pub(crate) fn is_here(&mut self, register: &Register, spot: &Spot) -> bool
+        ensures here { result ≡ is_place (place_in register.now spot.now.cell) spot.now.bsc }
         ensures same { self.new ≡ self.old }
     {
-        match register.bsc_near(c, &mut self.near) {
-            Some(other) => other == b,
+        match register.bsc_near(spot.cell, &mut self.near) {
+            Some(other) => other == spot.bsc,
             None => false,
         }
     }

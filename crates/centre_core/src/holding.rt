@@ -1,25 +1,27 @@
 //! The lines on which an edit bears, read before it.
 
-ghost use Rattle.std.specs.Prelude.{◌≡◌, ◌≤◌, ◌+◌, ◌*◌, ◌++◌, true, length, nat_eq, IfOk, IfSome, OnOk};
+ghost use Rattle.std.specs.Prelude.{◌≡◌, ◌≤◌, ◌+◌, ◌*◌, ◌++◌, true, length, nat_eq, IfOk, OnOk};
 ghost use Rattle.std.specs.List.{filter, flat_map, list_any};
 ghost use Rattle.std.specs.Option.{option_copied};
 ghost use Rattle.areas.specs.Areas.{areas_of};
 ghost use Rattle.kept_tables.specs.Tables.{Tables};
-ghost use Rattle.kept_tables.specs.View.{key_of};
+ghost use Rattle.kept_tables.specs.View.{key_at, key_of};
 ghost use Rattle.centre_core.specs.Following.{AsBefore, held_unless, held_at, held_lines, is_forget, is_idle, is_near, leaves_cover, passed_over};
-ghost use Rattle.centre_core.specs.Found.{AreFound};
+ghost use Rattle.centre_core.specs.Found.{AreFound, IsKnown};
 
 use crate::facts::{facts_from, is_covered};
 use crate::found_warnings::FoundWarnings;
 use crate::held::Held;
+use crate::known_spot::KnownSpot;
+use crate::plan_parts::PlanParts;
 use areas::Areas;
-use cell_register::{BscId, Register};
-use common::{Cell, Name, Names};
+use cell_register::BscId;
+use common::{Cell, Names};
 use coverage_plan::Edit;
 use kept_tables::{KeptTables, LineFacts, Spot};
 use mirror::{Line, LineKey, LineTable};
 use std::alloc::{AllocError, Global};
-use warning_book::{Book, Warning, WarningId};
+use warning_book::{Warning, WarningId};
 
 /// Room for as many lines as most cells have.
 const FEW: usize = 32;
@@ -35,12 +37,19 @@ pub(crate) fn key_of(b: BscId, c: Cell, n: WarningId) -> LineKey
     }
 }
 
+/// The line of the warning at the spot.
+pub(crate) fn key_at(spot: &Spot, n: WarningId) -> LineKey
+    ensures { result ≡ key_at spot.now n }
+{
+    key_of(spot.bsc, spot.cell, n)
+}
+
 /// A line as it stood.
-pub(crate) fn held_of(b: BscId, c: Cell, n: WarningId, before: LineFacts) -> Held
-    ensures { result ≡ record { key = key_of b c n; before = before } }
+fn held_of(spot: &Spot, n: WarningId, before: LineFacts) -> Held
+    ensures { result ≡ record { key = key_at spot.now n; before = before } }
 {
     Held {
-        key: key_of(b, c, n),
+        key: key_at(spot, n),
         before,
     }
 }
@@ -48,16 +57,15 @@ pub(crate) fn held_of(b: BscId, c: Cell, n: WarningId, before: LineFacts) -> Hel
 /// Whether nothing is kept of the line of a warning, and none of its areas covers the cell.
 pub(crate) fn is_idle(
     areas: &Areas,
+    at: &KnownSpot<'_>,
     warning: Option<&Warning>,
-    c: Cell,
     line: &Line,
-    known: Option<&[Name]>,
 ) -> bool
-    requires { IfSome known (λ all. all.now ≡ areas_of areas.now c) }
-    ensures { result ≡ is_idle areas.now (option_copied warning.entry) c line.now }
+    requires { IsKnown areas.now at.now }
+    ensures { result ≡ is_idle areas.now (option_copied warning.entry) at.now.spot.cell line.now }
 {
     match warning {
-        Some(w) => line.is_blank() && !is_covered(areas, w.areas(), c, known),
+        Some(w) => line.is_blank() && !is_covered(areas, w.areas(), at),
         None => true,
     }
 }
@@ -91,78 +99,67 @@ fn is_forget(edit: &Edit) -> bool
 fn is_passed_over(
     edit: &Edit,
     areas: &Areas,
+    at: &KnownSpot<'_>,
     warning: Option<&Warning>,
-    c: Cell,
     line: &Line,
-    known: Option<&[Name]>,
 ) -> bool
-    requires { IfSome known (λ all. all.now ≡ areas_of areas.now c) }
-    ensures { result ≡ passed_over edit.now areas.now (option_copied warning.entry) c line.now }
+    requires { IsKnown areas.now at.now }
+    ensures { result ≡ passed_over edit.now areas.now (option_copied warning.entry) at.now.spot.cell line.now }
 {
     if is_forget(edit) {
         return line.is_blank();
     }
-    leaves_cover(edit) && is_idle(areas, warning, c, line, known)
+    leaves_cover(edit) && is_idle(areas, at, warning, line)
 }
 
 /// Reads a line, and holds it, unless it is passed over.
 #[tactic(auto, using(crate::proofs::FollowLemmas::facts_as, crate::proofs::FollowLemmas::as_read))]
 fn hold_line(
     out: &mut Vec<Held>,
-    register: &Register,
-    areas: &Areas,
-    book: &Book,
+    plan: &PlanParts<'_>,
     found: &mut FoundWarnings<'_>,
     tables: &mut KeptTables,
-    b: BscId,
-    c: Cell,
+    at: &KnownSpot<'_>,
     n: WarningId,
     edit: &Edit,
-    known: Option<&[Name]>,
 ) -> Result<(), AllocError>
-    requires found { AreFound areas.now book.now found.old }
-    requires known { IfSome known (λ all. all.now ≡ areas_of areas.now c) }
-    ensures held { (t : Tables) → AsBefore t tables.old → OnOk result (out.new.items ≡ out.old.items ++ held_unless edit.now register.now areas.now book.now t (key_of b c n)) }
+    requires found { AreFound plan.now.areas.now plan.now.book.now found.old }
+    requires known { IsKnown plan.now.areas.now at.now }
+    ensures held { (t : Tables) → AsBefore t tables.old → OnOk result (out.new.items ≡ out.old.items ++ held_unless edit.now plan.now.register.now plan.now.areas.now plan.now.book.now t (key_at at.now.spot n)) }
     ensures kept { (t : Tables) → AsBefore t tables.old → AsBefore t tables.new }
     ensures meter { tables.new.lines.meter ≤ tables.old.lines.meter + 1 }
     ensures same { found.new ≡ found.old }
 {
-    let line = tables.read_line(key_of(b, c, n));
-    let warning = book.find(n);
-    if is_passed_over(edit, areas, warning, c, &line, known) {
+    let line = tables.read_line(key_at(&at.spot, n));
+    let warning = plan.book.find(n);
+    if is_passed_over(edit, plan.areas, at, warning, &line) {
         return Ok(());
     }
-    let down = tables.is_down(b, c);
-    let before = facts_from(register, areas, down, b, c, n, line, warning, found, known)?;
-    out.push(held_of(b, c, n, before))?;
+    let down = tables.is_down(at.spot.bsc, at.spot.cell);
+    let before = facts_from(plan, found, at, n, down, line, warning)?;
+    out.push(held_of(&at.spot, n, before))?;
     Ok(())
 }
 
-/// Reads the lines of the warnings in the cell at the BSC.
+/// Reads the lines of the warnings at the spot.
 fn hold_spot(
     out: &mut Vec<Held>,
-    register: &Register,
-    areas: &Areas,
-    book: &Book,
+    plan: &PlanParts<'_>,
     found: &mut FoundWarnings<'_>,
     tables: &mut KeptTables,
-    b: BscId,
-    c: Cell,
+    at: &KnownSpot<'_>,
     warnings: &[WarningId],
     edit: &Edit,
-    known: Option<&[Name]>,
 ) -> Result<(), AllocError>
-    requires found { AreFound areas.now book.now found.old }
-    requires known { IfSome known (λ all. all.now ≡ areas_of areas.now c) }
-    ensures held { (t : Tables) → AsBefore t tables.old → OnOk result (out.new.items ≡ out.old.items ++ held_at edit.now register.now areas.now book.now t warnings.now (record { bsc = b; cell = c })) }
+    requires found { AreFound plan.now.areas.now plan.now.book.now found.old }
+    requires known { IsKnown plan.now.areas.now at.now }
+    ensures held { (t : Tables) → AsBefore t tables.old → OnOk result (out.new.items ≡ out.old.items ++ held_at edit.now plan.now.register.now plan.now.areas.now plan.now.book.now t warnings.now at.now.spot) }
     ensures kept { (t : Tables) → AsBefore t tables.old → AsBefore t tables.new }
     ensures meter { tables.new.lines.meter ≤ tables.old.lines.meter + length warnings.now }
     ensures same { found.new ≡ found.old }
 {
     for warning in warnings {
-        hold_line(
-            out, register, areas, book, found, tables, b, c, *warning, edit, known,
-        )?;
+        hold_line(out, plan, found, tables, at, *warning, edit)?;
     }
     Ok(())
 }
@@ -174,23 +171,20 @@ pub(crate) struct NearCell {
     pub(crate) covering: Names,
 }
 
-/// Those of the warnings of which something is kept in the cell at the BSC, or of which an area covers the cell. No line is
-/// read.
+/// Those of the warnings of which something is kept at the spot, or of which an area covers its cell. No line is read.
 pub(crate) fn near(
     alloc: Global,
-    areas: &Areas,
-    book: &Book,
+    plan: &PlanParts<'_>,
     lines: &LineTable,
-    b: BscId,
-    c: Cell,
+    spot: &Spot,
     warnings: &[WarningId],
 ) -> Result<NearCell, AllocError>
-    ensures warnings { IfOk result (λ v. v.warnings.items ≡ filter (is_near areas.now book.now lines.now b c) warnings.now) }
-    ensures covering { IfOk result (λ v. v.covering ≡ areas_of areas.now c) }
+    ensures warnings { IfOk result (λ v. v.warnings.items ≡ filter (is_near plan.now.areas.now plan.now.book.now lines.now spot.now.bsc spot.now.cell) warnings.now) }
+    ensures covering { IfOk result (λ v. v.covering ≡ areas_of plan.now.areas.now spot.now.cell) }
 {
-    let kept = lines.warnings_at(b, c)?;
-    let covering = areas.areas_of(c)?;
-    let named = book.naming_one_of(covering.as_slice())?;
+    let kept = lines.warnings_at(spot.bsc, spot.cell)?;
+    let covering = plan.areas.areas_of(spot.cell)?;
+    let named = plan.book.naming_one_of(covering.as_slice())?;
     let mut near = Vec::with_capacity(alloc, warnings.len())?;
     for warning in warnings {
         if is_listed(*warning, kept.as_slice()) || is_listed(*warning, named.as_slice()) {
@@ -208,85 +202,72 @@ pub(crate) fn near(
 fn hold_near(
     out: &mut Vec<Held>,
     alloc: Global,
-    register: &Register,
-    areas: &Areas,
-    book: &Book,
+    plan: &PlanParts<'_>,
     found: &mut FoundWarnings<'_>,
     tables: &mut KeptTables,
-    b: BscId,
-    c: Cell,
+    spot: &Spot,
     warnings: &[WarningId],
     edit: &Edit,
 ) -> Result<(), AllocError>
     requires cover { leaves_cover edit.now ≡ true }
-    requires found { AreFound areas.now book.now found.old }
-    ensures held { (t : Tables) → AsBefore t tables.old → OnOk result (out.new.items ≡ out.old.items ++ held_at edit.now register.now areas.now book.now t warnings.now (record { bsc = b; cell = c })) }
+    requires found { AreFound plan.now.areas.now plan.now.book.now found.old }
+    ensures held { (t : Tables) → AsBefore t tables.old → OnOk result (out.new.items ≡ out.old.items ++ held_at edit.now plan.now.register.now plan.now.areas.now plan.now.book.now t warnings.now spot.now) }
     ensures kept { (t : Tables) → AsBefore t tables.old → AsBefore t tables.new }
     ensures meter { tables.new.lines.meter ≤ tables.old.lines.meter + length warnings.now }
     ensures same { found.new ≡ found.old }
 {
-    let near = near(alloc, areas, book, tables.lines(), b, c, warnings)?;
-    let known = Some(near.covering.as_slice());
+    let near = near(alloc, plan, tables.lines(), spot, warnings)?;
+    let at = KnownSpot::covered(*spot, near.covering.as_slice());
     let near = near.warnings.as_slice();
-    hold_spot(
-        out, register, areas, book, found, tables, b, c, near, edit, known,
-    )?;
+    hold_spot(out, plan, found, tables, &at, near, edit)?;
     Ok(())
 }
 
-/// Reads the lines in the cell at the BSC, and holds those that are not passed over.
+/// Reads the lines at the spot, and holds those that are not passed over.
 fn hold_there(
     out: &mut Vec<Held>,
     alloc: Global,
-    register: &Register,
-    areas: &Areas,
-    book: &Book,
+    plan: &PlanParts<'_>,
     found: &mut FoundWarnings<'_>,
     tables: &mut KeptTables,
-    b: BscId,
-    c: Cell,
+    spot: &Spot,
     warnings: &[WarningId],
     edit: &Edit,
 ) -> Result<(), AllocError>
-    requires found { AreFound areas.now book.now found.old }
-    ensures held { (t : Tables) → AsBefore t tables.old → OnOk result (out.new.items ≡ out.old.items ++ held_at edit.now register.now areas.now book.now t warnings.now (record { bsc = b; cell = c })) }
+    requires found { AreFound plan.now.areas.now plan.now.book.now found.old }
+    ensures held { (t : Tables) → AsBefore t tables.old → OnOk result (out.new.items ≡ out.old.items ++ held_at edit.now plan.now.register.now plan.now.areas.now plan.now.book.now t warnings.now spot.now) }
     ensures kept { (t : Tables) → AsBefore t tables.old → AsBefore t tables.new }
     ensures meter { tables.new.lines.meter ≤ tables.old.lines.meter + length warnings.now }
     ensures same { found.new ≡ found.old }
 {
     if leaves_cover(edit) {
-        return hold_near(
-            out, alloc, register, areas, book, found, tables, b, c, warnings, edit,
-        );
+        return hold_near(out, alloc, plan, found, tables, spot, warnings, edit);
     }
-    hold_spot(
-        out, register, areas, book, found, tables, b, c, warnings, edit, None,
-    )
+    let at = KnownSpot {
+        spot: *spot,
+        covering: None,
+    };
+    hold_spot(out, plan, found, tables, &at, warnings, edit)
 }
 
 /// Reads the lines of each of the warnings at each of the spots, and holds those that are not passed over.
 pub(crate) fn hold(
     alloc: Global,
-    register: &Register,
-    areas: &Areas,
-    book: &Book,
+    plan: &PlanParts<'_>,
     found: &mut FoundWarnings<'_>,
     tables: &mut KeptTables,
     spots: &[Spot],
     warnings: &[WarningId],
     edit: &Edit,
 ) -> Result<Vec<Held>, AllocError>
-    requires found { AreFound areas.now book.now found.old }
-    ensures held { (t : Tables) → AsBefore t tables.old → IfOk result (λ v. v.items ≡ held_lines edit.now register.now areas.now book.now t spots.now warnings.now) }
+    requires found { AreFound plan.now.areas.now plan.now.book.now found.old }
+    ensures held { (t : Tables) → AsBefore t tables.old → IfOk result (λ v. v.items ≡ held_lines edit.now plan.now.register.now plan.now.areas.now plan.now.book.now t spots.now warnings.now) }
     ensures kept { (t : Tables) → AsBefore t tables.old → AsBefore t tables.new }
     ensures meter { tables.new.lines.meter ≤ tables.old.lines.meter + length spots.now * length warnings.now }
 {
     let mut out = Vec::with_capacity(alloc, spots.len().max(FEW))?;
     for spot in spots {
-        hold_there(
-            &mut out, alloc, register, areas, book, found, tables, spot.bsc, spot.cell, warnings,
-            edit,
-        )?;
+        hold_there(&mut out, alloc, plan, found, tables, spot, warnings, edit)?;
     }
     Ok(out)
 }
@@ -294,25 +275,25 @@ pub(crate) fn hold(
 /// Reads these lines, and holds those that are not passed over.
 pub(crate) fn hold_keys(
     alloc: Global,
-    register: &Register,
-    areas: &Areas,
-    book: &Book,
+    plan: &PlanParts<'_>,
     found: &mut FoundWarnings<'_>,
     tables: &mut KeptTables,
     keys: &[LineKey],
     edit: &Edit,
 ) -> Result<Vec<Held>, AllocError>
-    requires found { AreFound areas.now book.now found.old }
-    ensures held { (t : Tables) → AsBefore t tables.old → IfOk result (λ v. v.items ≡ flat_map (held_unless edit.now register.now areas.now book.now t) keys.now) }
+    requires found { AreFound plan.now.areas.now plan.now.book.now found.old }
+    ensures held { (t : Tables) → AsBefore t tables.old → IfOk result (λ v. v.items ≡ flat_map (held_unless edit.now plan.now.register.now plan.now.areas.now plan.now.book.now t) keys.now) }
     ensures kept { (t : Tables) → AsBefore t tables.old → AsBefore t tables.new }
     ensures meter { tables.new.lines.meter ≤ tables.old.lines.meter + length keys.now }
 {
     let mut out = Vec::with_capacity(alloc, keys.len())?;
     for key in keys {
         let LineKey { bsc, cell, warning } = *key;
-        hold_line(
-            &mut out, register, areas, book, found, tables, bsc, cell, warning, edit, None,
-        )?;
+        let at = KnownSpot {
+            spot: Spot { bsc, cell },
+            covering: None,
+        };
+        hold_line(&mut out, plan, found, tables, &at, warning, edit)?;
     }
     Ok(out)
 }

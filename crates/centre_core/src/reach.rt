@@ -9,9 +9,9 @@ ghost use Rattle.centre_core.specs.Reach.{IsReach, flight_reach, edit_reach, rep
 ghost use Rattle.centre_core.specs.Reaching.{AreThose, TellsLines, EditTold, EventTold};
 ghost use Rattle.centre_events.specs.Settings.{Settings};
 
+use crate::plan_parts::PlanParts;
 use crate::reached_warnings;
 use crate::spots::{covered, known_at, moved, named, placed, spots_at};
-use areas::Areas;
 use cell_register::{BscId, Register};
 use centre_events::answer::Answer;
 use centre_events::event::Event;
@@ -41,16 +41,16 @@ pub(crate) fn tell_lines(tables: &LineTable)
 /// The cells at BSCs on which an edit bears that is no Forget.
 fn edit_spots(
     alloc: Global,
-    register: &Register,
-    areas: &Areas,
-    book: &Book,
+    plan: &PlanParts<'_>,
     tables: &LineTable,
     edit: &Edit,
 ) -> Result<Vec<Spot>, AllocError>
     requires { is_forget edit.now ≡ false }
-    ensures { (settings : Settings) (past : Past) → EditTold settings past register.now areas.now book.now tables.now edit.now → IfOk result (λ spots. AreThose spots.items (edit_reach past edit.now).spots) }
+    ensures { (settings : Settings) (past : Past) → EditTold settings past plan.now.register.now plan.now.areas.now plan.now.book.now tables.now edit.now → IfOk result (λ spots. AreThose spots.items (edit_reach past edit.now).spots) }
 {
     tell_lines(tables);
+    let register = plan.register;
+    let areas = plan.areas;
     let spots = match edit {
         Edit::RemoveBsc(b) => known_at(alloc, register, tables, *b)?,
         Edit::AddCell(c, b) => spots_at(alloc, *b, &[*c])?,
@@ -59,7 +59,7 @@ fn edit_spots(
         Edit::Put(_, s) | Edit::Cut(_, s) => named(alloc, register, *s)?,
         Edit::Issue(_, names) => covered(alloc, register, areas, names.as_slice())?,
         Edit::Update(n, _) | Edit::Stop(n) => {
-            covered(alloc, register, areas, book.areas_of(*n))?
+            covered(alloc, register, areas, plan.book.areas_of(*n))?
         }
         Edit::Widen(_, a) | Edit::Narrow(_, a) => {
             covered(alloc, register, areas, slice::from_ref(a))?
@@ -123,17 +123,15 @@ fn event_spots(
 /// On which lines an edit bears that is accepted and no Forget.
 pub(crate) fn reach_of_edit(
     alloc: Global,
-    register: &Register,
-    areas: &Areas,
-    book: &Book,
+    plan: &PlanParts<'_>,
     tables: &LineTable,
     edit: &Edit,
 ) -> Result<Reach, AllocError>
     requires { is_forget edit.now ≡ false }
-    ensures { (settings : Settings) (past : Past) → EditTold settings past register.now areas.now book.now tables.now edit.now → IfOk result (λ r. IsReach (record { spots = r.spots.items; warnings = r.warnings.items }) (edit_reach past edit.now)) }
+    ensures { (settings : Settings) (past : Past) → EditTold settings past plan.now.register.now plan.now.areas.now plan.now.book.now tables.now edit.now → IfOk result (λ r. IsReach (record { spots = r.spots.items; warnings = r.warnings.items }) (edit_reach past edit.now)) }
 {
-    let spots = edit_spots(alloc, register, areas, book, tables, edit)?;
-    let warnings = reached_warnings::of_edit(alloc, book, edit)?;
+    let spots = edit_spots(alloc, plan, tables, edit)?;
+    let warnings = reached_warnings::of_edit(alloc, plan.book, edit)?;
     Ok(Reach { spots, warnings })
 }
 

@@ -20,6 +20,7 @@ use crate::found_warnings::find;
 use crate::held_lines::HeldLines;
 use crate::holding::{hold, hold_keys};
 use crate::kept::Kept;
+use crate::plan_parts::PlanParts;
 use crate::reach::{reach_of_edit, reach_of_other, tell_lines};
 use crate::reached_warnings::of_edit;
 use centre_events::answer::Answer;
@@ -46,26 +47,16 @@ fn reached_at_spots(alloc: Global, kept: &mut Kept, edit: &Edit) -> Result<Reach
     ensures reads { OnlyReadsIn kept.old kept.new }
     ensures meter { (settings : Settings) (past : Past) (a : answer_spec.Answer) → Legal settings past → IsKept past kept.old → edit_answered past edit.now ≡ Ok a → kept.new.tables.lines.meter ≤ kept.old.tables.lines.meter + size (edit_reach past edit.now) }
 {
-    let reach = reach_of_edit(
-        alloc,
-        &kept.register,
-        &kept.areas,
-        &kept.book,
-        kept.tables.lines(),
-        edit,
-    )?;
-    let mut found = find(
-        alloc,
-        &kept.areas,
-        &kept.book,
-        &reach.warnings,
-        reach.spots.len(),
-    )?;
+    let plan = PlanParts {
+        register: &kept.register,
+        areas: &kept.areas,
+        book: &kept.book,
+    };
+    let reach = reach_of_edit(alloc, &plan, kept.tables.lines(), edit)?;
+    let mut found = find(alloc, &plan, &reach.warnings, reach.spots.len())?;
     let held = hold(
         alloc,
-        &kept.register,
-        &kept.areas,
-        &kept.book,
+        &plan,
         &mut found,
         &mut kept.tables,
         reach.spots.as_slice(),
@@ -94,12 +85,15 @@ fn reached_by_forget(
     tell_lines(kept.tables.lines());
     let keys = kept.tables.lines().places_of(n)?;
     let warnings = of_edit(alloc, &kept.book, edit)?;
-    let mut found = find(alloc, &kept.areas, &kept.book, &warnings, keys.len())?;
+    let plan = PlanParts {
+        register: &kept.register,
+        areas: &kept.areas,
+        book: &kept.book,
+    };
+    let mut found = find(alloc, &plan, &warnings, keys.len())?;
     let held = hold_keys(
         alloc,
-        &kept.register,
-        &kept.areas,
-        &kept.book,
+        &plan,
         &mut found,
         &mut kept.tables,
         keys.as_slice(),
@@ -157,19 +151,16 @@ pub(crate) fn reached_by_other<'x>(
         up: up_before(kept.links.as_slice(), event),
         flight: flight_of(kept.flights.as_slice(), event),
     };
-    let mut found = find(
-        alloc,
-        &kept.areas,
-        &kept.book,
-        &reach.warnings,
-        reach.spots.len(),
-    )?;
+    let plan = PlanParts {
+        register: &kept.register,
+        areas: &kept.areas,
+        book: &kept.book,
+    };
+    let mut found = find(alloc, &plan, &reach.warnings, reach.spots.len())?;
     let steps = hold_changing(
         alloc,
         &h,
-        &kept.register,
-        &kept.areas,
-        &kept.book,
+        &plan,
         &mut found,
         &mut kept.tables,
         reach.spots.as_slice(),

@@ -5,4 +5,4 @@ use Rattle.centre_core.proofs.following.covered_then.Goals as goal
 
 pub serials_of-requires : goal.serials_of-requires
 serials_of-requires c =
-    (c.requires.found.0, found_here c.requires.found.0 c.args.book.now c.args.held.now.key.warning (Some c.in-Some.w.now) (ap option_copied (sym c.in-Some.is) ∙ c.find-warning.ensures) c.args.found.now c.requires.found.1)
+    (c.args.plan.now.areas.now, found_here c.args.plan.now.areas.now c.args.plan.now.book.now c.args.held.now.key.warning (Some c.in-Some.w.now) (ap option_copied (sym c.in-Some.is) ∙ c.find-warning.ensures) c.args.found.now c.requires.found)

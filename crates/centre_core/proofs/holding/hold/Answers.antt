@@ -3,4 +3,4 @@ use Rattle.centre_core.specs.Found.{AreFound}
 use Rattle.centre_core.proofs.holding.hold.Goals as goal
 
 pub hold_there-requires : goal.hold_there-requires
-hold_there-requires c = record { found = subst (AreFound c.args.areas.now c.args.book.now) (sym c.loop-spot.invariant.1.1) c.requires.found }
+hold_there-requires c = record { found = subst (AreFound c.args.plan.now.areas.now c.args.plan.now.book.now) (sym c.loop-spot.invariant.1.1) c.requires.found }

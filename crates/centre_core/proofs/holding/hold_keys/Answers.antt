@@ -3,4 +3,4 @@ use Rattle.centre_core.specs.Found.{AreFound}
 use Rattle.centre_core.proofs.holding.hold_keys.Goals as goal
 
 pub hold_line-requires : goal.hold_line-requires
-hold_line-requires c = record { found = subst (AreFound c.args.areas.now c.args.book.now) (sym c.loop-key.invariant.1.1) c.requires.found; known = tt }
+hold_line-requires c = record { found = subst (AreFound c.args.plan.now.areas.now c.args.plan.now.book.now) (sym c.loop-key.invariant.1.1) c.requires.found; known = tt }

@@ -18,4 +18,4 @@ covering-requires c =
 pub returns-clause-covering : goal.returns-clause-covering
 returns-clause-covering c =
     let found : IsOf c.args.areas.now (Some c.args.w.now) c.index_mut.result.now = here c.before.before in
-    subst (λ ns. IfOk c.covering.result (λ names. names ≡ filter (λ a. covers c.args.areas.now a c.args.c) ns)) found.1.0 c.covering.ensures.covering
+    subst (λ ns. IfOk c.covering.result (λ names. names ≡ filter (λ a. covers c.args.areas.now a c.args.at.now.spot.cell) ns)) found.1.0 c.covering.ensures.covering
