@@ -1,7 +1,7 @@
 //! The edits that lines ask for.
 
-use console::hex_text::read_pages;
-use console::line::Line;
+use console_text::hex_text::read_pages;
+use console_text::line::Line;
 use coverage_plan::Edit;
 use std::alloc::{AllocError, Global};
 use warning_book::Notice;

@@ -1,7 +1,7 @@
 //! What the lines of an operator are answered.
 
 ghost use Rattle.std.specs.Prelude.{IfOk};
-ghost use Rattle.console.specs.Texts.{ResponseFits};
+ghost use Rattle.console_text.specs.Texts.{ResponseFits};
 
 use crate::edits::{Asked, asked_of};
 use crate::shared::Shared;
@@ -11,12 +11,12 @@ use centre_events::answer::Answer;
 use centre_events::event::Event;
 use centre_events::refusal::Refusal;
 use common::{Cell, Octets};
-use console::ReplayFault;
-use console::answer_text::response_text;
-use console::grammar::read_line;
-use console::line::Line;
-use console::response::Response;
-use console::words::{is_comment, is_word, split_words};
+use console_text::ReplayFault;
+use console_text::answer_text::response_text;
+use console_text::grammar::read_line;
+use console_text::line::Line;
+use console_text::response::Response;
+use console_text::words::{is_comment, is_word, split_words};
 use coverage_plan::Edit;
 use office::desk::Desk;
 use office::question::Question;

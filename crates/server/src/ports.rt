@@ -6,7 +6,7 @@ use crate::options::ServeOptions;
 use crate::port::Port;
 use crate::shared::Shared;
 use cell_register::BscId;
-use console::ReplayFault;
+use console_text::ReplayFault;
 use office::desk::Desk;
 use office::office::Office;
 use std::alloc::Global;

@@ -1,6 +1,7 @@
 //! The lines that come in, and where their answers go.
 
-use console::{LONGEST_LINE, ReplayFault};
+use console_text::ReplayFault;
+use console_text::lines::LONGEST_LINE;
 use framing::MOST_READS;
 use office::desk::Desk;
 use std::alloc::Global;
