@@ -1,7 +1,7 @@
 -- How fast a bucket is refilled.
 use Rattle.std.specs.Prelude.{ℕ}
-use Rattle.server.specs.declared.pace.Pace.{Pace}
-use Rattle.server.specs.declared.pace.Pace.TheVariants as pace
+use Rattle.server_links.specs.declared.pace.Pace.{Pace}
+use Rattle.server_links.specs.declared.pace.Pace.TheVariants as pace
 
 -- after how many milliseconds there is one order more
 abbrev pub time_of : Pace → ℕ

@@ -10,13 +10,13 @@ use std::sync::ledger::Ledger;
 
 /// The office, the ports, and where it is said what happens to links.
 #[derive(Drop)]
-pub(crate) struct Shared<L: Ledger, E: Drop> {
-    pub(crate) alloc: Global,
-    pub(crate) office: Office<L>,
-    pub(crate) ports: Vec<Port<L>>,
-    pub(crate) errors: Errors<E>,
+pub struct Shared<L: Ledger, E: Drop> {
+    pub alloc: Global,
+    pub office: Office<L>,
+    pub ports: Vec<Port<L>>,
+    pub errors: Errors<E>,
     /// How many orders may go out to all BSCs together.
-    pub(crate) orders: Mutex<Bucket>,
+    pub orders: Mutex<Bucket>,
     /// Whether a simulated BSC connects to each port.
-    pub(crate) with_simulator: bool,
+    pub with_simulator: bool,
 }

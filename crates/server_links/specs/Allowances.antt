@@ -1,9 +1,9 @@
 -- How fast orders go out: to one BSC, and to all of them together.
 use Rattle.std.specs.Prelude.{ℕ, Bool, false, ◌&&◌, ◌||◌, not, if◌then◌else◌}
-use Rattle.server.specs.Rate.{filled_at, full, has_at, is_full_at, less_if}
-use Rattle.server.specs.declared.allowance.Allowance.{Allowance}
-use Rattle.server.specs.declared.bucket.Bucket.{Bucket}
-use Rattle.server.specs.declared.pace.Pace.TheVariants as pace
+use Rattle.server_links.specs.Rate.{filled_at, full, has_at, is_full_at, less_if}
+use Rattle.server_links.specs.declared.allowance.Allowance.{Allowance}
+use Rattle.server_links.specs.declared.bucket.Bucket.{Bucket}
+use Rattle.server_links.specs.declared.pace.Pace.TheVariants as pace
 
 -- what may go out to a BSC at the beginning: 20,000 orders at once, and ten a second; and in reserve 1,000, and one a minute
 abbrev pub first_allowance : Allowance

@@ -4,7 +4,6 @@ ghost use Rattle.std.specs.Prelude.{IfOk};
 ghost use Rattle.console_text.specs.Texts.{ResponseFits};
 
 use crate::edits::{Asked, asked_of};
-use crate::shared::Shared;
 use crate::terminal::Terminal;
 use cell_register::BscId;
 use centre_events::answer::Answer;
@@ -19,6 +18,7 @@ use console_text::response::Response;
 use console_text::words::{is_comment, is_word, split_words};
 use coverage_plan::Edit;
 use office::desk::Desk;
+use office::office::Office;
 use office::question::Question;
 use office::seen::SeenValue;
 use std::alloc::{AllocError, Global};
@@ -26,6 +26,20 @@ use std::io::{BufRead, Write};
 use std::sync::ledger::Ledger;
 use std::sync::{Mutex, Wait};
 use warning_book::WarningId;
+
+/// The ports to which BSCs connect.
+pub trait Ports {
+    /// The BSC was registered.
+    fn added<R: Wait>(&self, rt: &R, b: BscId);
+}
+
+/// What the lines of an operator bear on.
+#[derive(Drop)]
+pub struct Operator<'a, L: Ledger, P> {
+    pub alloc: Global,
+    pub office: &'a Office<L>,
+    pub ports: &'a P,
+}
 
 /// What comes of a line.
 #[derive(Drop)]
@@ -52,32 +66,23 @@ fn accepted<L: Ledger>(desk: &Desk<L>) -> Response
     }
 }
 
-fn submit<L: Ledger, E: Drop, R: Wait>(
+fn submit<L: Ledger, P: Ports, R: Wait>(
     rt: &R,
-    shared: &Shared<L, E>,
+    operator: &Operator<'_, L, P>,
     desk: &mut Desk<L>,
     event: Event,
 ) -> Response
     ensures { ResponseFits result }
 {
-    match shared.office.submit(rt, desk, event) {
+    match operator.office.submit(rt, desk, event) {
         Ok(()) => accepted(desk),
         Err(refusal) => Response::Refused(refusal),
     }
 }
 
-/// Has the simulated BSC of a port connect, if its BSC was registered.
-fn simulate<L: Ledger, E: Drop, R: Wait>(rt: &R, shared: &Shared<L, E>, b: BscId) {
-    for port in shared.ports.as_slice() {
-        if port.bsc == b {
-            port.simulate(rt);
-        }
-    }
-}
-
-fn edit<L: Ledger, E: Drop, R: Wait>(
+fn edit<L: Ledger, P: Ports, R: Wait>(
     rt: &R,
-    shared: &Shared<L, E>,
+    operator: &Operator<'_, L, P>,
     desk: &mut Desk<L>,
     edit: Edit,
 ) -> Response
@@ -87,10 +92,10 @@ fn edit<L: Ledger, E: Drop, R: Wait>(
         Edit::AddBsc(b) => Some(*b),
         _ => None,
     };
-    match shared.office.submit(rt, desk, Event::Edit(edit)) {
+    match operator.office.submit(rt, desk, Event::Edit(edit)) {
         Ok(()) => {
             if let Some(b) = added {
-                simulate(rt, shared, b);
+                operator.ports.added(rt, b);
             }
             accepted(desk)
         }
@@ -98,15 +103,15 @@ fn edit<L: Ledger, E: Drop, R: Wait>(
     }
 }
 
-fn ask<L: Ledger, E: Drop, R: Wait>(
+fn ask<L: Ledger, P: Ports, R: Wait>(
     rt: &R,
-    shared: &Shared<L, E>,
+    operator: &Operator<'_, L, P>,
     desk: &Desk<L>,
     question: Question,
 ) -> Response
     ensures { ResponseFits result }
 {
-    match shared.office.look(rt, desk, question) {
+    match operator.office.look(rt, desk, question) {
         Ok(seen) => match seen.value {
             SeenValue::Numbers(numbers) => Response::Board(numbers),
             SeenValue::Pending(orders) => Response::Pending(orders),
@@ -117,10 +122,10 @@ fn ask<L: Ledger, E: Drop, R: Wait>(
     }
 }
 
-fn rebuild<L: Ledger, E: Drop, R: Wait>(rt: &R, shared: &Shared<L, E>) -> Response
+fn rebuild<L: Ledger, P: Ports, R: Wait>(rt: &R, operator: &Operator<'_, L, P>) -> Response
     ensures { ResponseFits result }
 {
-    match shared.office.rebuild(rt) {
+    match operator.office.rebuild(rt) {
         Ok(()) => Response::Rebuilt,
         Err(_) => Response::Refused(Refusal::Memory),
     }
@@ -128,54 +133,54 @@ fn rebuild<L: Ledger, E: Drop, R: Wait>(rt: &R, shared: &Shared<L, E>) -> Respon
 
 /// What a line that is no edit is answered. The lines by which a script plays the part of a link are bad lines here: the links
 /// are those of the ports.
-fn respond_other<L: Ledger, E: Drop, R: Wait>(
+fn respond_other<L: Ledger, P: Ports, R: Wait>(
     rt: &R,
-    shared: &Shared<L, E>,
+    operator: &Operator<'_, L, P>,
     desk: &mut Desk<L>,
     line: Line,
 ) -> Response
     ensures { ResponseFits result }
 {
     match line {
-        Line::Retry(b) => submit(rt, shared, desk, Event::Retry(b)),
-        Line::Board(warning) => ask(rt, shared, desk, Question::Total(warning)),
-        Line::AreaBoard(warning, area) => ask(rt, shared, desk, Question::Area(warning, area)),
-        Line::Pending(b) => ask(rt, shared, desk, Question::Pending(b)),
-        Line::Table(b) => ask(rt, shared, desk, Question::Table(b)),
-        Line::Rebuild => rebuild(rt, shared),
+        Line::Retry(b) => submit(rt, operator, desk, Event::Retry(b)),
+        Line::Board(warning) => ask(rt, operator, desk, Question::Total(warning)),
+        Line::AreaBoard(warning, area) => ask(rt, operator, desk, Question::Area(warning, area)),
+        Line::Pending(b) => ask(rt, operator, desk, Question::Pending(b)),
+        Line::Table(b) => ask(rt, operator, desk, Question::Table(b)),
+        Line::Rebuild => rebuild(rt, operator),
         _ => Response::BadLine,
     }
 }
 
-fn respond<L: Ledger, E: Drop, R: Wait>(
+fn respond<L: Ledger, P: Ports, R: Wait>(
     rt: &R,
-    shared: &Shared<L, E>,
+    operator: &Operator<'_, L, P>,
     desk: &mut Desk<L>,
     words: &[Octets],
 ) -> Result<Response, AllocError>
     ensures { IfOk result ResponseFits }
 {
-    let Some(line) = read_line(shared.alloc, words)? else {
+    let Some(line) = read_line(operator.alloc, words)? else {
         return Ok(Response::BadLine);
     };
-    match asked_of(shared.alloc, line)? {
-        Asked::Edit(change) => Ok(edit(rt, shared, desk, change)),
+    match asked_of(operator.alloc, line)? {
+        Asked::Edit(change) => Ok(edit(rt, operator, desk, change)),
         Asked::BadHex => Ok(Response::BadHex),
-        Asked::Other(line) => Ok(respond_other(rt, shared, desk, line)),
+        Asked::Other(line) => Ok(respond_other(rt, operator, desk, line)),
     }
 }
 
 /// Keeps a wish for a query.
-fn keep_wish<L: Ledger, E: Drop, R: Wait>(
+fn keep_wish<L: Ledger, P: Ports, R: Wait>(
     rt: &R,
-    shared: &Shared<L, E>,
+    operator: &Operator<'_, L, P>,
     b: BscId,
     warning: WarningId,
     after: Option<Cell>,
 ) -> Result<String, AllocError> {
-    match shared.office.wish(rt, b, warning, after) {
-        Ok(()) => String::from_str(shared.alloc, "wished\n"),
-        Err(refusal) => response_text(shared.alloc, Response::Refused(refusal)),
+    match operator.office.wish(rt, b, warning, after) {
+        Ok(()) => String::from_str(operator.alloc, "wished\n"),
+        Err(refusal) => response_text(operator.alloc, Response::Refused(refusal)),
     }
 }
 
@@ -200,56 +205,56 @@ fn wish_of(line: &Line) -> Option<(BscId, WarningId, Option<Cell>)> {
 }
 
 /// Answers `wish B W` and `wish B W L C`, whose words after the first are those of `ask`.
-fn wish<L: Ledger, E: Drop, R: Wait>(
+fn wish<L: Ledger, P: Ports, R: Wait>(
     rt: &R,
-    shared: &Shared<L, E>,
+    operator: &Operator<'_, L, P>,
     words: &[Octets],
 ) -> Result<String, AllocError> {
-    let asked = as_ask(shared.alloc, words)?;
-    let Some(line) = read_line(shared.alloc, asked.as_slice())? else {
-        return response_text(shared.alloc, Response::BadLine);
+    let asked = as_ask(operator.alloc, words)?;
+    let Some(line) = read_line(operator.alloc, asked.as_slice())? else {
+        return response_text(operator.alloc, Response::BadLine);
     };
     match wish_of(&line) {
-        Some((b, warning, after)) => keep_wish(rt, shared, b, warning, after),
-        None => response_text(shared.alloc, Response::BadLine),
+        Some((b, warning, after)) => keep_wish(rt, operator, b, warning, after),
+        None => response_text(operator.alloc, Response::BadLine),
     }
 }
 
 /// Answers a line.
-fn hear<L: Ledger, E: Drop, R: Wait>(
+fn hear<L: Ledger, P: Ports, R: Wait>(
     rt: &R,
-    shared: &Shared<L, E>,
+    operator: &Operator<'_, L, P>,
     desk: &mut Desk<L>,
     line: &[u8],
 ) -> Result<Heard, AllocError> {
-    let words = split_words(shared.alloc, line)?;
+    let words = split_words(operator.alloc, line)?;
     let Some(first) = words.as_slice().first() else {
-        return Ok(Heard::Answered(String::new(shared.alloc)));
+        return Ok(Heard::Answered(String::new(operator.alloc)));
     };
     if is_comment(first.as_slice()) {
-        return Ok(Heard::Answered(String::new(shared.alloc)));
+        return Ok(Heard::Answered(String::new(operator.alloc)));
     }
     if is_word(first.as_slice(), b"wish") {
-        return Ok(Heard::Answered(wish(rt, shared, words.as_slice())?));
+        return Ok(Heard::Answered(wish(rt, operator, words.as_slice())?));
     }
     if is_word(first.as_slice(), b"quit") && words.len() == 1 {
         return Ok(Heard::Quit);
     }
-    let response = respond(rt, shared, desk, words.as_slice())?;
-    Ok(Heard::Answered(response_text(shared.alloc, response)?))
+    let response = respond(rt, operator, desk, words.as_slice())?;
+    Ok(Heard::Answered(response_text(operator.alloc, response)?))
 }
 
 /// Reads one line and answers it. The answer is whether more lines are read.
-fn turn<L: Ledger, E: Drop, R: Wait, I: BufRead + Drop, W: Write + Drop>(
+fn turn<L: Ledger, P: Ports, R: Wait, I: BufRead + Drop, W: Write + Drop>(
     rt: &R,
-    shared: &Shared<L, E>,
+    operator: &Operator<'_, L, P>,
     terminal: &mut Terminal<L, I, W>,
     desk: &mut Desk<L>,
 ) -> Result<bool, ReplayFault> {
-    let Some(line) = terminal.read_line(shared.alloc)? else {
+    let Some(line) = terminal.read_line(operator.alloc)? else {
         return Ok(false);
     };
-    match hear(rt, shared, desk, line.as_slice())? {
+    match hear(rt, operator, desk, line.as_slice())? {
         Heard::Quit => Ok(false),
         Heard::Answered(text) => {
             terminal.write(text.as_bytes())?;
@@ -258,14 +263,14 @@ fn turn<L: Ledger, E: Drop, R: Wait, I: BufRead + Drop, W: Write + Drop>(
     }
 }
 
-fn answer_lines<L: Ledger, E: Drop, R: Wait, I: BufRead + Drop, W: Write + Drop>(
+fn answer_lines<L: Ledger, P: Ports, R: Wait, I: BufRead + Drop, W: Write + Drop>(
     rt: &R,
-    shared: &Shared<L, E>,
+    operator: &Operator<'_, L, P>,
     terminal: &mut Terminal<L, I, W>,
     desk: &mut Desk<L>,
 ) -> Result<(), ReplayFault> {
     for _ in rt.forever() {
-        if !turn(rt, shared, terminal, desk)? {
+        if !turn(rt, operator, terminal, desk)? {
             break;
         }
     }
@@ -273,16 +278,16 @@ fn answer_lines<L: Ledger, E: Drop, R: Wait, I: BufRead + Drop, W: Write + Drop>
 }
 
 /// Answers the lines of the operator, each before the next is read, until `quit` or the end of the input.
-pub(crate) fn operate<L: Ledger, E: Drop, R: Wait, I: BufRead + Drop, W: Write + Drop>(
+pub fn operate<L: Ledger, P: Ports, R: Wait, I: BufRead + Drop, W: Write + Drop>(
     rt: &R,
-    shared: &Shared<L, E>,
+    operator: &Operator<'_, L, P>,
     terminal: &Mutex<Terminal<L, I, W>>,
 ) -> Result<(), ReplayFault> {
     let mut terminal = terminal.lock(rt);
     let Some(mut desk) = terminal.desk.take() else {
         return Ok(());
     };
-    let result = answer_lines(rt, shared, &mut terminal, &mut desk);
+    let result = answer_lines(rt, operator, &mut terminal, &mut desk);
     terminal.desk = Some(desk);
     result
 }

@@ -13,10 +13,10 @@ const MOST_KEPT: usize = LONGEST_LINE + 2;
 
 /// Where lines are read and answered, and the desk of the operator.
 #[derive(Drop)]
-pub(crate) struct Terminal<L: Ledger, I: Drop, W: Drop> {
-    pub(crate) reader: I,
-    pub(crate) writer: W,
-    pub(crate) desk: Option<Desk<L>>,
+pub struct Terminal<L: Ledger, I: Drop, W: Drop> {
+    pub reader: I,
+    pub writer: W,
+    pub desk: Option<Desk<L>>,
 }
 
 /// The fault of a read.

@@ -33,20 +33,20 @@ pub(crate) struct PortState {
 
 /// A port: where its BSC connects, and the two desks of its links.
 #[derive(Drop)]
-pub(crate) struct Port<L: Ledger> {
-    pub(crate) bsc: BscId,
+pub struct Port<L: Ledger> {
+    pub bsc: BscId,
     pub(crate) listener: TcpListener,
     /// Where a connection to the port is made from this process.
-    pub(crate) address: SocketAddr,
-    pub(crate) read_desk: Mutex<Option<Desk<L>>>,
-    pub(crate) write_desk: Mutex<Option<Desk<L>>>,
+    pub address: SocketAddr,
+    pub read_desk: Mutex<Option<Desk<L>>>,
+    pub write_desk: Mutex<Option<Desk<L>>>,
     pub(crate) allowance: Mutex<Allowance>,
     state: Mutex<PortState>,
     changed: Condvar,
 }
 
 impl<L: Ledger> Port<L> {
-    pub(crate) fn new(bsc: BscId, listener: TcpListener, address: SocketAddr) -> Port<L> {
+    pub fn new(bsc: BscId, listener: TcpListener, address: SocketAddr) -> Port<L> {
         Port {
             bsc,
             listener,
@@ -114,7 +114,7 @@ impl<L: Ledger> Port<L> {
     }
 
     /// Has the simulated BSC connect.
-    pub(crate) fn simulate<R: Wait>(&self, rt: &R) {
+    pub fn simulate<R: Wait>(&self, rt: &R) {
         self.state.lock(rt).is_simulated = true;
         self.changed.notify_all();
     }

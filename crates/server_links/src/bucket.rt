@@ -14,7 +14,7 @@ pub struct Bucket {
 
 impl Bucket {
     ghost use Rattle.std.specs.Prelude.{◌≡◌, ltb, nat_eq};
-    ghost use Rattle.server.specs.Rate.{filled_at, for_all, full, one_less};
+    ghost use Rattle.server_links.specs.Rate.{filled_at, for_all, full, one_less};
 
     /// A full bucket.
     pub(crate) fn new(most: u64, pace: Pace) -> Bucket

@@ -1,7 +1,7 @@
 //! How fast a bucket is refilled.
 
 ghost use Rattle.std.specs.Prelude.{◌≡◌, ◌≤◌};
-ghost use Rattle.server.specs.Paces.{time_of};
+ghost use Rattle.server_links.specs.Paces.{time_of};
 
 /// How fast a bucket is refilled.
 #[derive(Clone, Copy, Debug)]

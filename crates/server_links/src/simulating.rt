@@ -38,11 +38,11 @@ fn answer_until_closed<L: Ledger, R: Wait>(
 
 /// Connects once the BSC is registered, and answers the centre until the connection ends; or does nothing, where no BSC is
 /// simulated.
-pub(crate) fn simulate<
-    L: Ledger,
-    E: Drop,
-    R: Wait + Net<Stream = TcpStream, Listener = TcpListener>,
->(rt: &R, shared: &Shared<L, E>, port: &Port<L>) {
+pub fn simulate<L: Ledger, E: Drop, R: Wait + Net<Stream = TcpStream, Listener = TcpListener>>(
+    rt: &R,
+    shared: &Shared<L, E>,
+    port: &Port<L>,
+) {
     if shared.with_simulator && port.wait_simulated(rt) {
         if let Ok(stream) = TcpStream::connect(rt, port.address) {
             answer_until_closed(rt, shared.alloc, port, stream);

@@ -1,9 +1,9 @@
 -- How many orders may go out.
 use Rattle.std.specs.Prelude.{ℕ, ◌+◌, ◌-◌, ◌*◌, ◌/◌, Bool, ltb, nat_eq, if◌then◌else◌, min}
-use Rattle.server.specs.Paces.{time_of}
-use Rattle.server.specs.declared.bucket.Bucket.{Bucket}
-use Rattle.server.specs.declared.pace.Pace.{Pace}
-use Rattle.server.specs.declared.pace.Pace.TheVariants as pace
+use Rattle.server_links.specs.Paces.{time_of}
+use Rattle.server_links.specs.declared.bucket.Bucket.{Bucket}
+use Rattle.server_links.specs.declared.pace.Pace.{Pace}
+use Rattle.server_links.specs.declared.pace.Pace.TheVariants as pace
 
 -- a bucket of so many orders, as at the beginning
 abbrev pub full : ℕ → Pace → Bucket

@@ -195,7 +195,7 @@ fn take_stream<L: Ledger, E: Write + Drop, R: Wait + Clock>(
 }
 
 /// Takes connections to the port, one after another, until it is closing.
-pub(crate) fn read_links<L: Ledger, E: Write + Drop, R: Wait + Clock>(
+pub fn read_links<L: Ledger, E: Write + Drop, R: Wait + Clock>(
     rt: &R,
     shared: &Shared<L, E>,
     port: &Port<L>,

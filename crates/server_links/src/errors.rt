@@ -24,7 +24,7 @@ struct Queue {
 /// What is to be said on standard error. A thread of its own says it: so where nobody reads standard error, only that thread waits,
 /// and no link or port.
 #[derive(Drop)]
-pub(crate) struct Errors<E: Drop> {
+pub struct Errors<E: Drop> {
     queue: Mutex<Queue>,
     changed: Condvar,
     writer: Mutex<E>,
@@ -46,7 +46,7 @@ impl Queue {
 }
 
 impl<E: Write + Drop> Errors<E> {
-    pub(crate) fn new(alloc: Global, writer: E) -> Errors<E> {
+    pub fn new(alloc: Global, writer: E) -> Errors<E> {
         Errors {
             queue: Mutex::new(Queue {
                 alloc,
@@ -66,7 +66,7 @@ impl<E: Write + Drop> Errors<E> {
     }
 
     /// Has that thread end once all lines are said.
-    pub(crate) fn close<R: Wait>(&self, rt: &R) {
+    pub fn close<R: Wait>(&self, rt: &R) {
         self.queue.lock(rt).is_closing = true;
         self.changed.notify_all();
     }
@@ -84,7 +84,7 @@ impl<E: Write + Drop> Errors<E> {
     }
 
     /// Says the text at once. What can't be said is left out: there is nowhere to say that.
-    pub(crate) fn say<R: Wait>(&self, rt: &R, text: &[u8]) {
+    pub fn say<R: Wait>(&self, rt: &R, text: &[u8]) {
         let mut writer = self.writer.lock(rt);
         let _ = writer.write_all(text);
     }
@@ -98,7 +98,7 @@ impl<E: Write + Drop> Errors<E> {
     }
 
     /// Says lines as they come, until it is closed and all are said.
-    pub(crate) fn say_lines<R: Wait>(&self, rt: &R, alloc: Global) {
+    pub fn say_lines<R: Wait>(&self, rt: &R, alloc: Global) {
         for _ in rt.forever() {
             match self.next(rt) {
                 Some((lines, left_out)) => {
@@ -114,7 +114,7 @@ impl<E: Write + Drop> Errors<E> {
 }
 
 /// Has a line of a BSC's link said.
-pub(crate) fn tell<E: Write + Drop, R: Wait, D: Display + Drop>(
+pub fn tell<E: Write + Drop, R: Wait, D: Display + Drop>(
     rt: &R,
     alloc: Global,
     errors: &Errors<E>,

@@ -44,7 +44,7 @@ fn write_link<L: Ledger, E: Write + Drop, R: Wait + Clock>(
 }
 
 /// Writes the orders of each link of the port, one link after another, until the port is closing.
-pub(crate) fn write_links<L: Ledger, E: Write + Drop, R: Wait + Clock>(
+pub fn write_links<L: Ledger, E: Write + Drop, R: Wait + Clock>(
     rt: &R,
     shared: &Shared<L, E>,
     port: &Port<L>,

@@ -1,8 +1,8 @@
 //! How many orders may go out to one BSC.
 
 ghost use Rattle.std.specs.Prelude.{◌≡◌, not, true};
-ghost use Rattle.server.specs.Allowances.{all_after, allowance_after, filled_allowance, first_allowance, may_go};
-ghost use Rattle.server.specs.Rate.{filled_at};
+ghost use Rattle.server_links.specs.Allowances.{all_after, allowance_after, filled_allowance, first_allowance, may_go};
+ghost use Rattle.server_links.specs.Rate.{filled_at};
 
 use crate::bucket::Bucket;
 use crate::pace::Pace;
