@@ -14,7 +14,7 @@ pub struct ReportedKeys {
 
 impl Model for ReportedKeys {
     ghost use Rattle.std.specs.Prelude.{List};
-    ghost use Rattle.centre_events.specs.declared.reported.reported_key.ReportedKey.{ReportedKey};
+    ghost use Rattle.centre_core.specs.declared.reported.reported_key.ReportedKey.{ReportedKey};
 
     ghost Value = { List ReportedKey };
 

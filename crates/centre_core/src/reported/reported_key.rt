@@ -18,7 +18,7 @@ pub struct ReportedKey {
 }
 
 impl Ordered for ReportedKey {
-    ghost use Rattle.centre_events.specs.KeyOrder.{key_lt};
+    ghost use Rattle.centre_core.specs.Table.{key_lt};
 
     ghost before = { key_lt };
 
