@@ -1,7 +1,6 @@
 pub mod Journal
 pub mod Table
 pub mod Numbers
-pub mod Fits
 pub mod Legal
 pub mod LinkStates
 pub mod Flights

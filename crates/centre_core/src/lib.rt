@@ -42,7 +42,6 @@ mod reach;
 mod reached;
 mod reached_warnings;
 mod rebuilding;
-pub mod reported;
 mod spots;
 
 pub use areas::Selector;

@@ -20,6 +20,8 @@ pub mod Plan
 pub mod Lines
 pub mod Pending
 pub mod Reported
+pub mod KeyOrder
+pub mod Fits
 pub mod Asking
 pub mod Verdict
 pub mod Kept

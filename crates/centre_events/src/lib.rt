@@ -22,4 +22,5 @@ pub mod refusal;
 pub mod replies;
 pub mod reply;
 pub mod replying;
+pub mod reported;
 pub mod stepping;

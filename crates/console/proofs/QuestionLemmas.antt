@@ -17,9 +17,9 @@ use Rattle.centre_questions.specs.declared.seen_value.SeenValue.{SeenValue}
 use Rattle.centre_questions.specs.declared.seen_value.SeenValue.TheVariants as value
 use Rattle.coverage_board.specs.declared.numbers.Numbers.{Numbers}
 use Rattle.console.specs.Sessions.{SessionState, Asks, AsksOrStarves, HasLine, IsToldInLine, Says, SaysValue, RespondsOrStarves, told}
-use Rattle.console.specs.declared.line.Line.TheVariants as line
-use Rattle.console.specs.declared.response.Response.{Response}
-use Rattle.console.specs.declared.response.Response.TheVariants as response
+use Rattle.console_text.specs.declared.line.Line.TheVariants as line
+use Rattle.console_text.specs.declared.response.Response.{Response}
+use Rattle.console_text.specs.declared.response.Response.TheVariants as response
 
 warning_in_line : (numbers : Option Numbers) (v : SeenValue) → of_warning numbers ≡ Ok v → IsToldInLine v
 warning_in_line (Some n) v is =
