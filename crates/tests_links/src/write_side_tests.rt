@@ -9,10 +9,10 @@ use crate::given_link::{COMPLETE, LINK, ORDER, ShutAt, enters, first_bsc, linked
 use cbsp_ie::ElementId;
 use cbsp_messages::{MessageFault, read};
 use cell_register::BscId;
-use centre_core::reported::{Presence, ReportedKey};
 use centre_events::answer::Answer;
 use centre_events::event::Event;
 use centre_events::refusal::Refusal;
+use centre_events::reported::{Presence, ReportedKey};
 use framing::FromWrite;
 use framing::faulty::FailsAfter;
 use link_worker::{End, OpenGate, Step, write_side};

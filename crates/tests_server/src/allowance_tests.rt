@@ -2,7 +2,7 @@
 //! for one that doesn't, and that a refresh of a whole network doesn't wait.
 
 use crate::checks::{same, yes};
-use server::{Allowance, Bucket};
+use server_links::{Allowance, Bucket};
 
 /// The most BSCs.
 const BSCS: usize = 256;

@@ -4,7 +4,7 @@ ghost use Rattle.std.specs.Prelude.{◌≤◌};
 
 use crate::checks::{same, yes};
 use crate::given_texts::Wanted;
-use console::options::MOST_ENTRIES;
+use console_text::options::MOST_ENTRIES;
 use server::{ServeOptions, serve};
 use std::alloc::Global;
 use std::fs::Files;

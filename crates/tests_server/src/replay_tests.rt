@@ -4,7 +4,8 @@
 use crate::checks::{same, yes};
 use crate::given_texts::Part::{Numbered, Text, Times};
 use crate::given_texts::{Part, are_as_wanted, text_of};
-use console::{ReplayFault, replay};
+use console::replay;
+use console_text::ReplayFault;
 use framing::faulty::{EndsAtRead, FailsAfter, FailsAtRead, InPieces};
 use framing::{FromRead, FromWrite};
 use std::alloc::Global;
