@@ -1,8 +1,8 @@
 //! What a question is answered.
 
 use cell_register::BscId;
-use centre_past::reported::ReportedKeys;
 use centre_events::in_flight::InFlight;
+use centre_past::reported::ReportedKeys;
 use coverage_board::Numbers;
 use order_maker::Orders;
 
