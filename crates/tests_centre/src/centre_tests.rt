@@ -16,12 +16,13 @@ use centre_events::answer::Answer;
 use centre_events::entry::Entry;
 use centre_events::event::Event;
 use centre_events::in_flight::InFlight;
+use centre_events::order_message::message_of;
 use centre_events::outcome::Outcome;
 use centre_events::replies::Replies;
 use centre_events::reply::Reply;
 use common::Name;
 use coverage_plan::Edit;
-use order_maker::{Order, OrderKind, message_of};
+use order_maker::{Order, OrderKind};
 use std::alloc::Global;
 use std::process::Abort;
 
