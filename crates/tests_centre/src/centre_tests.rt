@@ -66,7 +66,7 @@ fn event_is_copied(rt: &impl Abort, alloc: Global, event: Event) {
     let copy = event.copied(alloc).expect(rt, "memory");
     let is_same = event.same(&copy);
     drop(copy);
-    assert!(rt; is_same, "{event:?}");
+    assert!(rt; is_same);
     drop(event);
 }
 
@@ -74,7 +74,7 @@ fn edit_is_copied(rt: &impl Abort, alloc: Global, edit: Edit) {
     let copy = edit.copied(alloc).expect(rt, "memory");
     let is_same = edit.same(&copy);
     drop(copy);
-    assert!(rt; is_same, "{edit:?}");
+    assert!(rt; is_same);
     drop(edit);
 }
 
@@ -138,7 +138,7 @@ fn flight_is_copied(rt: &impl Abort, alloc: Global, flight: &InFlight) {
     let copy = flight.copied(alloc).expect(rt, "memory");
     let is_same = flight.same(&copy);
     drop(copy);
-    assert!(rt; is_same, "{flight:?}");
+    assert!(rt; is_same);
 }
 
 fn flights_are_copied(rt: &impl Abort, alloc: Global) {

@@ -260,7 +260,7 @@ fn journal(rt: &impl Abort, alloc: Global, centre: &mut Centre) -> Vec<Entry> {
 fn are_same(rt: &impl Abort, before: &[Entry], after: &[Entry]) {
     assert_eq!(rt; before.len(), after.len());
     for (entry, other) in before.iter().zip(after) {
-        assert!(rt; entry.same(other), "{entry:?}");
+        assert!(rt; entry.same(other));
     }
 }
 
