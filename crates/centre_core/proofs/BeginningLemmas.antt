@@ -37,14 +37,13 @@ use Rattle.centre_events.specs.Presence.{presence, is_held}
 use Rattle.mirror.specs.Seen.{Seen, is_absent}
 use Rattle.centre_events.specs.Settings.{Settings}
 use Rattle.coverage_board.specs.Standings.{Stand, stands, standing, is_way, is_left, is_unwanted}
-use Rattle.centre_events.specs.KeyOrder.{key_lt}
-use Rattle.centre_core.specs.Table.{key_of, keys_in, keys_over, table}
+use Rattle.centre_core.specs.Table.{key_of, keys_in, keys_over, key_lt, table}
 use Rattle.centre_events.specs.Warnings.{warnings_of, serials}
 use Rattle.coverage_board.specs.declared.way.Way.{Way}
 use Rattle.coverage_board.specs.declared.way.Way.TheVariants as way
 use Rattle.mirror.specs.declared.presence.Presence.{Presence}
 use Rattle.mirror.specs.declared.presence.Presence.TheVariants.{Absent, OnAir, Unknown}
-use Rattle.centre_events.specs.declared.reported.reported_key.ReportedKey.{ReportedKey}
+use Rattle.centre_core.specs.declared.reported.reported_key.ReportedKey.{ReportedKey}
 use Rattle.order_maker.specs.declared.order_kind.OrderKind.TheVariants.{Kill}
 use Rattle.centre_core.proofs.AnyLemmas.{and_none, contrary}
 use Rattle.centre_core.proofs.BscLemmas.{bsc_named, place_bsc}

@@ -25,7 +25,7 @@ use Rattle.centre_core.proofs.CheckLemmas.{unless_ok}
 use Rattle.centre_core.proofs.UniqueLemmas.{verdict_answered}
 use Rattle.centre_core.proofs.WarningLemmas.{content_has_pages, legal_sound}
 use Rattle.centre_events.specs.Asking.{asked_cells, on_air_after}
-use Rattle.centre_events.specs.Fits.{AnswerFits, IsCarried}
+use Rattle.centre_core.specs.Fits.{AnswerFits, IsCarried}
 use Rattle.order_maker.specs.Grouping.{first, most_cells}
 use Rattle.centre_events.specs.InFlight.{in_flight, is_kill}
 use Rattle.centre_core.specs.Legal.{Legal}

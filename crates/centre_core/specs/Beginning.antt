@@ -17,8 +17,7 @@ use Rattle.centre_events.specs.Past.{Past}
 use Rattle.centre_events.specs.Pending.{actions_over, pending}
 use Rattle.centre_events.specs.Places.{place, cells}
 use Rattle.centre_events.specs.Presence.{presence}
-use Rattle.centre_events.specs.KeyOrder.{key_lt}
-use Rattle.centre_core.specs.Table.{keys_over, table}
+use Rattle.centre_core.specs.Table.{key_lt, keys_over, table}
 use Rattle.coverage_board.specs.declared.way.Way.{Way}
 use Rattle.mirror.specs.declared.presence.Presence.TheVariants.{Absent}
 

@@ -1,6 +1,7 @@
 pub mod Journal
 pub mod Table
 pub mod Numbers
+pub mod Fits
 pub mod Legal
 pub mod LinkStates
 pub mod Flights

@@ -1,18 +1,18 @@
 -- What a BSC has reported: each of its keys that is on air, or may be, by cell, message identifier and serial number.
-use Rattle.std.specs.Prelude.{ℕ, List, [], ◌∷◌, if◌then◌else◌}
+use Rattle.std.specs.Prelude.{ℕ, Bool, ◌&&◌, ◌||◌, List, [], ◌∷◌, ltb, if◌then◌else◌}
 use Rattle.std.specs.List.{flat_map}
+use Rattle.common.specs.Cell.{cell_eq, cell_lt}
 use Rattle.common.specs.declared.cell.Cell.{Cell}
 use Rattle.warning_book.specs.declared.version.Version.{Version}
 use Rattle.warning_book.specs.declared.warning.Warning.{Warning}
-use Rattle.centre_events.specs.KeyOrder.{key_lt}
 use Rattle.centre_events.specs.Places.{cells}
 use Rattle.centre_events.specs.Past.{Past}
 use Rattle.centre_events.specs.Presence.{presence}
 use Rattle.mirror.specs.Seen.{is_absent}
-use Rattle.common.specs.Sorting.{sorted_by}
+use Rattle.common.specs.Sorting.{comes_before, sorted_by}
 use Rattle.centre_events.specs.Warnings.{warnings_of}
 use Rattle.mirror.specs.declared.presence.Presence.{Presence}
-use Rattle.centre_events.specs.declared.reported.reported_key.ReportedKey.{ReportedKey}
+use Rattle.centre_core.specs.declared.reported.reported_key.ReportedKey.{ReportedKey}
 
 -- the key of that presence, unless it is absent
 abbrev pub key_if : Cell → ℕ → ℕ → Presence → List ReportedKey
@@ -33,6 +33,10 @@ keys_of past b cs w = flat_map (keys_in past b w) cs
 -- the keys of all warnings in the book in these cells
 abbrev pub keys_over : Past → ℕ → List Cell → List ReportedKey
 keys_over past b cs = flat_map (keys_of past b cs) (warnings_of past)
+
+-- by cell, message identifier and serial number
+abbrev pub key_lt : ReportedKey → ReportedKey → Bool
+key_lt x y = cell_lt x.cell y.cell || (cell_eq x.cell y.cell && comes_before x.message_id y.message_id (ltb x.serial y.serial))
 
 -- the keys of all warnings in the book, in order
 abbrev pub table : Past → ℕ → List ReportedKey

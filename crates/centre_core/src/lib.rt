@@ -42,6 +42,7 @@ mod reach;
 mod reached;
 mod reached_warnings;
 mod rebuilding;
+pub mod reported;
 mod spots;
 
 pub use areas::Selector;

@@ -21,8 +21,6 @@ pub mod Lines
 pub mod Pending
 pub mod OrderMessage
 pub mod Reported
-pub mod KeyOrder
-pub mod Fits
 pub mod Asking
 pub mod Verdict
 pub mod Kept

@@ -23,5 +23,4 @@ pub mod refusal;
 pub mod replies;
 pub mod reply;
 pub mod replying;
-pub mod reported;
 pub mod stepping;

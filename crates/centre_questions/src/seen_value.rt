@@ -1,8 +1,8 @@
 //! What a question is answered.
 
 use cell_register::BscId;
+use centre_core::reported::ReportedKeys;
 use centre_events::in_flight::InFlight;
-use centre_events::reported::ReportedKeys;
 use coverage_board::Numbers;
 use order_maker::Orders;
 

@@ -1,6 +1,6 @@
 -- What stands under the lock, what always holds of it, and when a desk is as the office knows it.
 use Rattle.std.specs.Prelude.{◌≡◌, ◌≤◌, ◌<◌, ◌+◌, ◌++◌, ◌==◌, ◌&&◌, ℕ, Bool, false, List, [], ◌∷◌, Ok, length, All, nat_lt, nat_le, get_or}
-use Rattle.centre_events.specs.Fits.{AnswerFits}
+use Rattle.centre_core.specs.Fits.{AnswerFits}
 use Rattle.centre_core.specs.Legal.{Known, past}
 use Rattle.centre_events.specs.Verdict.{verdict}
 use Rattle.centre_events.specs.declared.answer.Answer.{Answer}

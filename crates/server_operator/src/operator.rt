@@ -103,6 +103,21 @@ fn edit<L: Ledger, P: Ports, R: Wait>(
     }
 }
 
+/// What was seen, as an answer; no line asks for anything else.
+fn told(value: SeenValue) -> Response
+    ensures { ResponseFits result }
+{
+    match value {
+        SeenValue::Numbers(numbers) => Response::Board(numbers),
+        SeenValue::Pending(orders) => Response::Pending(orders),
+        SeenValue::Table(keys) => Response::Table(keys),
+        other => {
+            drop(other);
+            Response::Silence
+        }
+    }
+}
+
 fn ask<L: Ledger, P: Ports, R: Wait>(
     rt: &R,
     operator: &Operator<'_, L, P>,
@@ -112,12 +127,7 @@ fn ask<L: Ledger, P: Ports, R: Wait>(
     ensures { ResponseFits result }
 {
     match operator.office.look(rt, desk, question) {
-        Ok(seen) => match seen.value {
-            SeenValue::Numbers(numbers) => Response::Board(numbers),
-            SeenValue::Pending(orders) => Response::Pending(orders),
-            SeenValue::Table(keys) => Response::Table(keys),
-            _ => Response::Silence,
-        },
+        Ok(seen) => told(seen.value),
         Err(refusal) => Response::Refused(refusal),
     }
 }
@@ -148,7 +158,10 @@ fn respond_other<L: Ledger, P: Ports, R: Wait>(
         Line::Pending(b) => ask(rt, operator, desk, Question::Pending(b)),
         Line::Table(b) => ask(rt, operator, desk, Question::Table(b)),
         Line::Rebuild => rebuild(rt, operator),
-        _ => Response::BadLine,
+        other => {
+            drop(other);
+            Response::BadLine
+        }
     }
 }
 
@@ -220,6 +233,29 @@ fn wish<L: Ledger, P: Ports, R: Wait>(
     }
 }
 
+/// Answers the words of a line.
+fn hear_words<L: Ledger, P: Ports, R: Wait>(
+    rt: &R,
+    operator: &Operator<'_, L, P>,
+    desk: &mut Desk<L>,
+    words: &[Octets],
+) -> Result<Heard, AllocError> {
+    let Some(first) = words.first() else {
+        return Ok(Heard::Answered(String::new(operator.alloc)));
+    };
+    if is_comment(first.as_slice()) {
+        return Ok(Heard::Answered(String::new(operator.alloc)));
+    }
+    if is_word(first.as_slice(), b"wish") {
+        return Ok(Heard::Answered(wish(rt, operator, words)?));
+    }
+    if is_word(first.as_slice(), b"quit") && words.len() == 1 {
+        return Ok(Heard::Quit);
+    }
+    let response = respond(rt, operator, desk, words)?;
+    Ok(Heard::Answered(response_text(operator.alloc, response)?))
+}
+
 /// Answers a line.
 fn hear<L: Ledger, P: Ports, R: Wait>(
     rt: &R,
@@ -228,20 +264,9 @@ fn hear<L: Ledger, P: Ports, R: Wait>(
     line: &[u8],
 ) -> Result<Heard, AllocError> {
     let words = split_words(operator.alloc, line)?;
-    let Some(first) = words.as_slice().first() else {
-        return Ok(Heard::Answered(String::new(operator.alloc)));
-    };
-    if is_comment(first.as_slice()) {
-        return Ok(Heard::Answered(String::new(operator.alloc)));
-    }
-    if is_word(first.as_slice(), b"wish") {
-        return Ok(Heard::Answered(wish(rt, operator, words.as_slice())?));
-    }
-    if is_word(first.as_slice(), b"quit") && words.len() == 1 {
-        return Ok(Heard::Quit);
-    }
-    let response = respond(rt, operator, desk, words.as_slice())?;
-    Ok(Heard::Answered(response_text(operator.alloc, response)?))
+    let heard = hear_words(rt, operator, desk, words.as_slice());
+    drop(words);
+    heard
 }
 
 /// Reads one line and answers it. The answer is whether more lines are read.

@@ -1,8 +1,8 @@
 //! What no clause says: that each call can succeed, and worked values from the rules.
 
-use crate::values::{name, names};
+use crate::values::{name, same, yes};
 use areas::{Area, Areas, Limit, Refusal, Selector, Selectors};
-use common::{Cell, Name, Names};
+use common::{Cell, Name};
 use std::alloc::Global;
 use std::process::Abort;
 
@@ -12,44 +12,41 @@ const NEXT: Cell = Cell { lac: 100, ci: 8 };
 
 const FAR: Cell = Cell { lac: 101, ci: 7 };
 
+fn made(rt: &impl Abort, found: Result<(), Refusal>, at: &str) {
+    same(rt, &found, &Ok(()), at);
+}
+
 /// Areas with these names, which are added in this order.
 fn named(rt: &impl Abort, alloc: Global, names: &[&[u8]]) -> Areas {
     let mut areas = Areas::new(alloc);
     for octets in names {
         let area = name(rt, alloc, octets);
-        areas.add_area(&area).expect(rt, "the area is added");
+        made(rt, areas.add_area(&area), "an area is added");
     }
     areas
 }
 
-fn put(rt: &impl Abort, areas: &mut Areas, area: &Name, selector: Selector) {
-    areas.put(area, selector).expect(rt, "the selector is put");
-}
-
-fn cut(rt: &impl Abort, areas: &mut Areas, area: &Name, selector: Selector) {
-    areas.cut(area, selector).expect(rt, "the selector is cut");
-}
-
-/// These areas, in this order, cover the cell.
-fn has_areas(rt: &impl Abort, areas: &Areas, cell: Cell, want: &Names) {
+/// The names of the areas that cover the cell, with a space behind each.
+fn has_areas(rt: &impl Abort, alloc: Global, areas: &Areas, cell: Cell, want: &[u8]) {
     let found = areas.areas_of(cell).expect(rt, "memory");
-    assert!(rt; found.same(want));
+    let mut text = Vec::new(alloc);
+    for name in found.as_slice() {
+        text.extend_from_slice(name.as_slice()).expect(rt, "memory");
+        text.push(b' ').expect(rt, "memory");
+    }
+    yes(rt, text.as_slice() == want, "the areas of a cell");
 }
 
-/// The area has the one cell, which is cut out again.
-fn is_checked_and_cut(rt: &impl Abort, areas: &mut Areas, area: &Name) {
-    let selector = Selector::Cell(CELL);
-    assert!(rt; areas.selectors_of(area) == [selector].as_slice());
-    assert_eq!(rt; areas.check_put(area, Selector::Lac(100)), Ok(()));
-    assert_eq!(rt; areas.check_cut(area, selector), Ok(()));
-    cut(rt, areas, area, selector);
-}
-
-/// The area is dropped, and could be added again.
-fn is_dropped(rt: &impl Abort, areas: &mut Areas, area: &Name) {
-    assert_eq!(rt; areas.check_drop_area(area), Ok(()));
-    assert_eq!(rt; areas.drop_area(area), Ok(()));
-    assert_eq!(rt; areas.check_add_area(area), Ok(()));
+/// The area has the one cell, which is cut out again. Then it is dropped, and could be added again.
+fn is_taken_away(rt: &impl Abort, areas: &mut Areas, area: &Name) {
+    let cell = Selector::Cell(CELL);
+    yes(rt, areas.selectors_of(area) == &[cell][..], "its selectors");
+    made(rt, areas.check_put(area, Selector::Lac(100)), "a put");
+    made(rt, areas.check_cut(area, cell), "a cut");
+    made(rt, areas.cut(area, cell), "it is cut");
+    made(rt, areas.check_drop_area(area), "a drop");
+    made(rt, areas.drop_area(area), "it is dropped");
+    made(rt, areas.check_add_area(area), "an addition");
 }
 
 #[test]
@@ -57,28 +54,23 @@ fn every_call_answers(rt: HostRuntime) {
     let alloc = rt.alloc();
     let coast = name(&rt, alloc, b"Coast");
     let mut areas = named(&rt, alloc, &[b"Coast"]);
-    put(&rt, &mut areas, &coast, Selector::Cell(CELL));
-    has_areas(&rt, &areas, CELL, &names(&rt, alloc, &[b"Coast"]));
-    is_checked_and_cut(&rt, &mut areas, &coast);
-    is_dropped(&rt, &mut areas, &coast);
+    made(&rt, areas.put(&coast, Selector::Cell(CELL)), "a put");
+    is_taken_away(&rt, &mut areas, &coast);
     areas.tell_soundness();
-}
-
-fn lac_100(rt: &impl Abort, alloc: Global) -> Selectors {
-    let all = Vec::from_slice(alloc, &[Selector::Lac(100)]);
-    Selectors::from_vec(all.expect(rt, "memory"))
 }
 
 #[test]
 fn selectors_are_copied(rt: HostRuntime) {
     let alloc = rt.alloc();
-    let selectors = lac_100(&rt, alloc);
-    assert!(rt; selectors.clone().expect(&rt, "memory") == selectors);
+    let all = Vec::from_slice(alloc, &[Selector::Lac(100)]);
+    let selectors = Selectors::from_vec(all.expect(&rt, "memory"));
+    let copy = selectors.clone().expect(&rt, "memory");
+    yes(&rt, copy == selectors, "the copy");
     let area = Area {
         name: name(&rt, alloc, b"Coast"),
         selectors,
     };
-    assert_eq!(rt; area.selectors.into_vec().len(), 1);
+    same(&rt, &area.selectors.into_vec().len(), &1, "the selectors");
 }
 
 #[test]
@@ -88,90 +80,103 @@ fn the_areas_of_a_cell_are_in_order_of_octets(rt: HostRuntime) {
     let mut areas = named(&rt, alloc, &all);
     for octets in &[b"9".as_slice(), b"a", b"B", b"a-1", b"b"] {
         let area = name(&rt, alloc, octets);
-        put(&rt, &mut areas, &area, Selector::Lac(100));
+        made(&rt, areas.put(&area, Selector::Lac(100)), "a put");
     }
-    let want = names(&rt, alloc, &[b"9", b"B", b"a", b"a-1", b"b"]);
-    has_areas(&rt, &areas, CELL, &want);
-    has_areas(&rt, &areas, FAR, &names(&rt, alloc, &[]));
+    has_areas(&rt, alloc, &areas, CELL, b"9 B a a-1 b ");
+    has_areas(&rt, alloc, &areas, FAR, b"");
 }
 
-/// These areas cover the cell, its neighbour in the same location area, and a cell of another.
-fn have_areas(
-    rt: &impl Abort,
-    alloc: Global,
-    areas: &Areas,
-    cell: &[&[u8]],
-    next: &[&[u8]],
-    far: &[&[u8]],
-) {
-    has_areas(rt, areas, CELL, &names(rt, alloc, cell));
-    has_areas(rt, areas, NEXT, &names(rt, alloc, next));
-    has_areas(rt, areas, FAR, &names(rt, alloc, far));
+/// What is done to an area.
+#[derive(Clone, Copy)]
+enum Doing {
+    Put(Selector),
+    Cut(Selector),
+    Add,
+    Drop,
 }
 
-/// The first area loses its selectors, and then the second is dropped and added again.
-fn are_taken_away(rt: &impl Abort, alloc: Global, areas: &mut Areas, a: &Name, b: &Name) {
-    cut(rt, areas, a, Selector::Lac(100));
-    have_areas(rt, alloc, areas, &[b"a", b"b"], &[], &[b"c"]);
-    cut(rt, areas, a, Selector::Cell(CELL));
-    have_areas(rt, alloc, areas, &[b"b"], &[], &[b"c"]);
-    areas.drop_area(b).expect(rt, "the area is dropped");
-    have_areas(rt, alloc, areas, &[], &[], &[b"c"]);
-    areas.add_area(b).expect(rt, "the area is added");
-    have_areas(rt, alloc, areas, &[], &[], &[b"c"]);
+fn done(areas: &mut Areas, area: &Name, doing: Doing) -> Result<(), Refusal> {
+    match doing {
+        Doing::Put(selector) => areas.put(area, selector),
+        Doing::Cut(selector) => areas.cut(area, selector),
+        Doing::Add => areas.add_area(area),
+        Doing::Drop => areas.drop_area(area),
+    }
+}
+
+/// An area and what is done to it, and the areas that then cover the cell, its neighbour in the same location area, and a
+/// cell of another.
+type Row = (&'static [u8], Doing, [&'static [u8]; 3]);
+
+const ROWS: [Row; 10] = [
+    (b"a", Doing::Put(Selector::Cell(CELL)), [b"a ", b"", b""]),
+    (b"a", Doing::Put(Selector::Lac(100)), [b"a ", b"a ", b""]),
+    (
+        b"b",
+        Doing::Put(Selector::Cell(CELL)),
+        [b"a b ", b"a ", b""],
+    ),
+    (
+        b"c",
+        Doing::Put(Selector::Lac(101)),
+        [b"a b ", b"a ", b"c "],
+    ),
+    (b"a", Doing::Cut(Selector::Lac(100)), [b"a b ", b"", b"c "]),
+    (b"a", Doing::Cut(Selector::Cell(CELL)), [b"b ", b"", b"c "]),
+    (b"b", Doing::Drop, [b"", b"", b"c "]),
+    (b"b", Doing::Add, [b"", b"", b"c "]),
+    (b"b", Doing::Put(Selector::Lac(100)), [b"b ", b"b ", b"c "]),
+    (
+        b"a",
+        Doing::Put(Selector::Lac(101)),
+        [b"b ", b"b ", b"a c "],
+    ),
+];
+
+fn follows(rt: &impl Abort, alloc: Global, areas: &mut Areas, row: &Row) {
+    let (area, doing, [cell, next, far]) = *row;
+    let area = name(rt, alloc, area);
+    made(rt, done(areas, &area, doing), "an area changes");
+    has_areas(rt, alloc, areas, CELL, cell);
+    has_areas(rt, alloc, areas, NEXT, next);
+    has_areas(rt, alloc, areas, FAR, far);
 }
 
 #[test]
 fn the_areas_of_a_cell_follow_each_edit(rt: HostRuntime) {
-    let alloc = rt.alloc();
-    let (a, b) = (name(&rt, alloc, b"a"), name(&rt, alloc, b"b"));
-    let mut areas = named(&rt, alloc, &[b"c", b"b", b"a"]);
-    put(&rt, &mut areas, &a, Selector::Cell(CELL));
-    put(&rt, &mut areas, &a, Selector::Lac(100));
-    put(&rt, &mut areas, &b, Selector::Cell(CELL));
-    put(&rt, &mut areas, &name(&rt, alloc, b"c"), Selector::Lac(101));
-    have_areas(&rt, alloc, &areas, &[b"a", b"b"], &[b"a"], &[b"c"]);
-    are_taken_away(&rt, alloc, &mut areas, &a, &b);
-    put(&rt, &mut areas, &b, Selector::Lac(100));
-    put(&rt, &mut areas, &a, Selector::Lac(101));
-    have_areas(&rt, alloc, &areas, &[b"b"], &[b"b"], &[b"a", b"c"]);
+    let mut areas = named(&rt, rt.alloc(), &[b"c", b"b", b"a"]);
+    for row in &ROWS {
+        follows(&rt, rt.alloc(), &mut areas, row);
+    }
 }
 
-/// What the area covers, once it was looked for, has the cell, or has not.
-fn has_cell(rt: &impl Abort, areas: &Areas, area: &Name, cell: Cell, want: bool) {
+/// The area covers the cell or not, also once what it covers was looked for.
+fn covers(rt: &impl Abort, areas: &Areas, area: &Name, cell: Cell, want: bool) {
+    yes(rt, areas.covers(area, cell) == want, "a cell of an area");
     let coverage = areas.coverage(area);
-    assert_eq!(rt; coverage.covers(cell), want, "{cell:?}");
-}
-
-/// The first area covers the cell, or does not, and the other two do not.
-fn covers(rt: &impl Abort, areas: &Areas, names: &[Name; 3], cell: Cell, want: bool) {
-    assert_eq!(rt; areas.covers(&names[0], cell), want, "{cell:?}");
-    assert!(rt; !areas.covers(&names[1], cell), "{cell:?}");
-    assert!(rt; !areas.covers(&names[2], cell), "{cell:?}");
-    has_cell(rt, areas, &names[0], cell, want);
-    has_cell(rt, areas, &names[1], cell, false);
-    has_cell(rt, areas, &names[2], cell, false);
+    yes(rt, coverage.covers(cell) == want, "a cell of a coverage");
 }
 
 #[test]
 fn a_location_area_covers_each_of_its_cells(rt: HostRuntime) {
     let alloc = rt.alloc();
-    let names = [
-        name(&rt, alloc, b"Coast"),
-        name(&rt, alloc, b"Hills"),
-        name(&rt, alloc, b"nowhere"),
-    ];
+    let coast = name(&rt, alloc, b"Coast");
+    let hills = name(&rt, alloc, b"Hills");
+    let nowhere = name(&rt, alloc, b"nowhere");
     let mut areas = named(&rt, alloc, &[b"Coast", b"Hills"]);
-    put(&rt, &mut areas, &names[0], Selector::Lac(100));
-    let last = Cell {
-        lac: 100,
-        ci: 65535,
-    };
-    covers(&rt, &areas, &names, CELL, true);
-    covers(&rt, &areas, &names, NEXT, true);
-    covers(&rt, &areas, &names, last, true);
-    covers(&rt, &areas, &names, FAR, false);
-    covers(&rt, &areas, &names, Cell { lac: 7, ci: 100 }, false);
+    made(&rt, areas.put(&coast, Selector::Lac(100)), "a put");
+    for (lac, ci, want) in &[
+        (100, 7, true),
+        (100, 8, true),
+        (100, 65535, true),
+        (101, 7, false),
+        (7, 100, false),
+    ] {
+        let cell = Cell { lac: *lac, ci: *ci };
+        covers(&rt, &areas, &coast, cell, *want);
+        covers(&rt, &areas, &hills, cell, false);
+        covers(&rt, &areas, &nowhere, cell, false);
+    }
 }
 
 /// The area has the selectors of the first 4,096 location areas: no other is put until one of them is cut.
@@ -179,11 +184,17 @@ fn is_full(rt: &impl Abort, areas: &mut Areas, area: &Name) {
     let full = Refusal::Limit {
         which: Limit::Selectors,
     };
-    let there = Refusal::SelectorThere;
-    assert_eq!(rt; areas.put(area, Selector::Lac(4096)), Err(full));
-    assert_eq!(rt; areas.put(area, Selector::Lac(0)), Err(there));
-    cut(rt, areas, area, Selector::Lac(0));
-    assert_eq!(rt; areas.put(area, Selector::Lac(4096)), Ok(()));
+    let more = areas.put(area, Selector::Lac(4096));
+    same(rt, &more, &Err(full), "one more");
+    let there = areas.put(area, Selector::Lac(0));
+    same(
+        rt,
+        &there,
+        &Err(Refusal::SelectorThere),
+        "one that is there",
+    );
+    made(rt, areas.cut(area, Selector::Lac(0)), "one is cut");
+    made(rt, areas.put(area, Selector::Lac(4096)), "another is put");
 }
 
 #[test]
@@ -191,7 +202,7 @@ fn an_area_has_4096_selectors_at_most(rt: HostRuntime) {
     let coast = name(&rt, rt.alloc(), b"Coast");
     let mut areas = named(&rt, rt.alloc(), &[b"Coast"]);
     for lac in 0..4096u16 {
-        put(&rt, &mut areas, &coast, Selector::Lac(lac));
+        made(&rt, areas.put(&coast, Selector::Lac(lac)), "a put");
     }
     is_full(&rt, &mut areas, &coast);
 }
@@ -211,10 +222,11 @@ fn are_all(rt: &impl Abort, areas: &mut Areas, more: &Name, there: &Name) {
     let full = Refusal::Limit {
         which: Limit::Areas,
     };
-    assert_eq!(rt; areas.add_area(more), Err(full));
-    assert_eq!(rt; areas.add_area(there), Err(Refusal::AreaExists));
-    assert_eq!(rt; areas.drop_area(there), Ok(()));
-    assert_eq!(rt; areas.add_area(more), Ok(()));
+    same(rt, &areas.add_area(more), &Err(full), "one more");
+    let again = areas.add_area(there);
+    same(rt, &again, &Err(Refusal::AreaExists), "one that is there");
+    made(rt, areas.drop_area(there), "one is dropped");
+    made(rt, areas.add_area(more), "another is added");
 }
 
 #[test]
@@ -224,7 +236,7 @@ fn there_are_4096_areas_at_most(rt: HostRuntime) {
     for first in 0..64u8 {
         for second in 0..64u8 {
             let area = name(&rt, alloc, &digits(first, second));
-            areas.add_area(&area).expect(&rt, "the area is added");
+            made(&rt, areas.add_area(&area), "an area is added");
         }
     }
     let more = name(&rt, alloc, b"one-more");
@@ -233,7 +245,7 @@ fn there_are_4096_areas_at_most(rt: HostRuntime) {
 
 fn has_text(rt: &impl Abort, alloc: Global, refusal: &Refusal, want: &str) {
     let text = format!(in alloc; "{refusal}").expect(rt, "memory");
-    assert_eq!(rt; text.as_str(), want);
+    yes(rt, text.as_str() == want, want);
 }
 
 #[test]

@@ -1,13 +1,11 @@
 //! What no clause says: that each call can succeed, and worked values from the rules.
 
-use crate::values::{content, name, names};
+use crate::values::{content, name, names, same, yes};
 use common::Name;
 use serials::{Scope, Serial};
 use std::alloc::Global;
 use std::process::Abort;
-use warning_book::{
-    Book, Category, Content, ContentPages, Limit, Notice, Refusal, Version, WarningId,
-};
+use warning_book::{Book, Category, Content, Limit, Notice, Refusal, Version, WarningId};
 
 /// The number of the first warning that a book issues.
 fn first_id() -> WarningId {
@@ -22,15 +20,17 @@ fn notice(rt: &impl Abort, alloc: Global, message_id: u16, scope: Scope) -> Noti
     }
 }
 
-/// Issues a warning for one area, and answers its number and its serial number.
+/// Issues a warning for these areas, and answers its number and its serial number.
 fn issued(
     rt: &impl Abort,
     alloc: Global,
     book: &mut Book,
     message_id: u16,
+    scope: Scope,
+    areas: &[&[u8]],
 ) -> Result<(u32, u16), Refusal> {
-    let areas = names(rt, alloc, &[b"coast"]);
-    let notice = notice(rt, alloc, message_id, Scope::Cell);
+    let areas = names(rt, alloc, areas);
+    let notice = notice(rt, alloc, message_id, scope);
     match book.issue(&notice, areas.as_slice()) {
         Ok((id, serial)) => Ok((id.number(), serial.to_u16())),
         Err(refusal) => Err(refusal),
@@ -40,11 +40,13 @@ fn issued(
 /// A book whose first warning names these areas.
 fn issued_for(rt: &impl Abort, alloc: Global, areas: &[&[u8]], scope: Scope) -> Book {
     let mut book = Book::new(alloc);
-    let areas = names(rt, alloc, areas);
-    let notice = notice(rt, alloc, 4370, scope);
-    let made = book.issue(&notice, areas.as_slice());
-    made.expect(rt, "the warning is issued");
+    let found = issued(rt, alloc, &mut book, 4370, scope, areas);
+    yes(rt, found.is_ok(), "the warning is issued");
     book
+}
+
+fn made(rt: &impl Abort, found: Result<(), Refusal>, at: &str) {
+    same(rt, &found, &Ok(()), at);
 }
 
 /// The first warning has this content from now on, with the serial number that it gives.
@@ -53,60 +55,42 @@ fn update(rt: &impl Abort, book: &mut Book, content: &Content) -> Serial {
     serial.expect(rt, "the warning is updated")
 }
 
-fn widen(rt: &impl Abort, book: &mut Book, area: &Name) {
-    assert!(rt; book.widen(first_id(), area) == Ok(()));
-}
-
-fn narrow(rt: &impl Abort, book: &mut Book, area: &Name) {
-    assert!(rt; book.narrow(first_id(), area) == Ok(()));
-}
-
-fn stop(rt: &impl Abort, book: &mut Book) {
-    assert!(rt; book.stop(first_id()) == Ok(()));
-}
-
-fn forget(rt: &impl Abort, book: &mut Book) {
-    assert!(rt; book.forget(first_id()) == Ok(()));
-}
-
-fn pages_are_copied(rt: &impl Abort, alloc: Global, pages: &ContentPages) {
-    let copy = pages.copied(alloc).expect(rt, "memory");
-    assert!(rt; copy.same(pages));
-}
-
 fn notice_is_copied(rt: &impl Abort, alloc: Global, notice: &Notice) {
     let copy = notice.copied(alloc).expect(rt, "memory");
-    assert!(rt; copy.same(notice));
-    pages_are_copied(rt, alloc, &notice.content.pages);
+    yes(rt, copy.same(notice), "the copy of a notice");
 }
 
-/// The first warning is corrected, and moved from the coast to the hills.
-fn is_changed(rt: &impl Abort, alloc: Global, book: &mut Book) {
-    update(rt, book, &content(rt, alloc, &[0x42, 0x42]));
-    widen(rt, book, &name(rt, alloc, b"hills"));
-    narrow(rt, book, &name(rt, alloc, b"coast"));
-}
-
-/// It is the only warning, and names the area.
+/// The first warning is the only one, and names the area.
 fn is_found(rt: &impl Abort, book: &Book, area: &Name) {
+    let only = [first_id()];
     let warnings = book.warnings().expect(rt, "memory");
-    assert!(rt; warnings.as_slice() == [first_id()].as_slice());
+    yes(rt, warnings.as_slice() == &only[..], "the warnings");
     let naming = book.naming(area).expect(rt, "memory");
-    assert!(rt; naming.as_slice() == [first_id()].as_slice());
+    yes(rt, naming.as_slice() == &only[..], "those of the area");
+    yes(rt, book.message_id(first_id()) == Some(4370), "its message");
+    yes(rt, book.is_active(first_id()), "it is active");
+}
+
+/// The book names the area for as long as the first warning is in it, and then no more.
+fn keeps_area(rt: &impl Abort, book: &mut Book, area: &Name) {
+    made(rt, book.stop(first_id()), "the warning is stopped");
+    yes(rt, book.names_area(area), "the area is named");
+    yes(rt, book.areas_of(first_id()).len() == 1, "the areas it had");
+    made(rt, book.forget(first_id()), "the warning is forgotten");
+    yes(rt, !book.names_area(area), "the area is free");
+    yes(rt, book.areas_of(first_id()).is_empty(), "it has no areas");
+    yes(rt, book.len() == 0, "no warning is left");
+    yes(rt, book.issued() == 1, "one was issued");
 }
 
 #[test]
-fn every_call_answers(rt: HostRuntime) {
+fn a_stopped_warning_keeps_its_areas_until_it_is_forgotten(rt: HostRuntime) {
     let alloc = rt.alloc();
     notice_is_copied(&rt, alloc, &notice(&rt, alloc, 4370, Scope::Cell));
     let mut book = issued_for(&rt, alloc, &[b"coast"], Scope::Cell);
-    is_changed(&rt, alloc, &mut book);
-    is_found(&rt, &book, &name(&rt, alloc, b"hills"));
-    assert_eq!(rt; book.message_id(first_id()), Some(4370));
-    assert!(rt; book.is_active(first_id()));
-    stop(&rt, &mut book);
-    forget(&rt, &mut book);
-    assert_eq!(rt; (book.len(), book.issued()), (0, 1));
+    let coast = name(&rt, alloc, b"coast");
+    is_found(&rt, &book, &coast);
+    keeps_area(&rt, &mut book, &coast);
 }
 
 /// The serial number of the first warning after so many updates.
@@ -124,8 +108,9 @@ fn longer(rt: &impl Abort, alloc: Global, updates: u16) -> Content {
 /// Updates the first warning for the nth time.
 fn updates(rt: &impl Abort, alloc: Global, book: &mut Book, n: u16) {
     let serial = update(rt, book, &longer(rt, alloc, n));
-    assert!(rt; serial == updated(n), "{n}");
-    assert!(rt; book.current(first_id()) == Some(serial), "{n}");
+    yes(rt, serial == updated(n), "the serial number of an update");
+    let current = book.current(first_id());
+    yes(rt, current == Some(serial), "the current one");
 }
 
 /// Whether the serial number stands for that content.
@@ -139,7 +124,7 @@ fn has_content(book: &Book, serial: Serial, want: &Content) -> bool {
 /// The nth serial number still stands for the content that it was given to.
 fn keeps(rt: &impl Abort, alloc: Global, book: &Book, n: u16) {
     let want = longer(rt, alloc, n);
-    assert!(rt; has_content(book, updated(n), &want), "{n}");
+    yes(rt, has_content(book, updated(n), &want), "an old content");
 }
 
 #[test]
@@ -152,8 +137,10 @@ fn fifteen_updates_count_in_the_serial_number(rt: HostRuntime) {
     for n in 0..16u16 {
         keeps(&rt, alloc, &book, n);
     }
-    assert!(rt; book.content_of(4371, Serial::from_u16(0xc000)).is_none());
-    assert!(rt; book.content_of(4370, Serial::from_u16(0xc010)).is_none());
+    let other = book.content_of(4371, Serial::from_u16(0xc000));
+    yes(&rt, other.is_none(), "another message identifier");
+    let last = book.content_of(4370, Serial::from_u16(0xc010));
+    yes(&rt, last.is_none(), "another code");
 }
 
 fn version(rt: &impl Abort, alloc: Global, serial: u16, octet: u8) -> Version {
@@ -174,39 +161,54 @@ fn versions_stand_in_the_order_of_issue(rt: HostRuntime) {
         version(&rt, alloc, 0x4001, 0x42),
         version(&rt, alloc, 0x4002, 0x43),
     ];
-    assert!(rt; book.versions(first_id()) == versions.as_slice());
-    assert!(rt; book.versions(WarningId::new(2)).is_empty());
+    yes(
+        &rt,
+        book.versions(first_id()) == versions.as_slice(),
+        "the versions",
+    );
+    yes(
+        &rt,
+        book.versions(WarningId::new(2)).is_empty(),
+        "no other warning",
+    );
 }
 
 #[test]
 fn categories_have_numbers(rt: HostRuntime) {
     for (number, want) in &[
-        (0, Category::HighPriority),
-        (1, Category::Background),
-        (2, Category::Normal),
+        (0, Some(Category::HighPriority)),
+        (1, Some(Category::Background)),
+        (2, Some(Category::Normal)),
+        (3, None),
     ] {
-        assert!(rt; Category::of_number(*number) == Some(*want), "{number}");
-        assert_eq!(rt; want.to_u8(), *number);
+        let found = Category::of_number(*number);
+        same(&rt, &found, want, "a category by its number");
+        if let Some(category) = found {
+            yes(&rt, category.to_u8() == *number, "its number");
+        }
     }
-    assert!(rt; Category::of_number(3).is_none());
 }
 
 /// What edits of the areas and of the content of an active warning would answer.
 fn checks_edits(rt: &impl Abort, book: &Book, hills: &Name, long: &Content) {
     let id = first_id();
-    assert!(rt; book.check_widen(id, hills) == Ok(()));
-    assert!(rt; book.check_narrow(id, hills) == Err(Refusal::AreaNotThere));
-    assert!(rt; book.check_update(id, long) == Err(Refusal::BadPages));
+    made(rt, book.check_widen(id, hills), "it may be widened");
+    let narrow = book.check_narrow(id, hills);
+    same(rt, &narrow, &Err(Refusal::AreaNotThere), "no such area");
+    let update = book.check_update(id, long);
+    same(rt, &update, &Err(Refusal::BadPages), "a page is too long");
 }
 
 /// What edits that end it would answer, before it is stopped and after that.
 fn checks_ends(rt: &impl Abort, book: &mut Book) {
     let id = first_id();
-    assert!(rt; book.check_forget(id) == Err(Refusal::StillActive));
-    assert!(rt; book.check_stop(id) == Ok(()));
-    stop(rt, book);
-    assert!(rt; book.check_stop(id) == Err(Refusal::NotActive));
-    assert!(rt; book.check_forget(id) == Ok(()));
+    let forget = book.check_forget(id);
+    same(rt, &forget, &Err(Refusal::StillActive), "it is active");
+    made(rt, book.check_stop(id), "it may be stopped");
+    made(rt, book.stop(id), "it is stopped");
+    let stop = book.check_stop(id);
+    same(rt, &stop, &Err(Refusal::NotActive), "it is stopped");
+    made(rt, book.check_forget(id), "it may be forgotten");
 }
 
 #[test]
@@ -217,79 +219,90 @@ fn checks_leave_the_book_to_the_edits(rt: HostRuntime) {
     checks_edits(&rt, &book, &name(&rt, alloc, b"hills"), &long);
     checks_ends(&rt, &mut book);
     let notice = notice(&rt, alloc, 4370, Scope::Cell);
-    assert!(rt; book.check_issue(&notice, &[]) == Err(Refusal::NoAreas));
+    let issue = book.check_issue(&notice, &[]);
+    same(&rt, &issue, &Err(Refusal::NoAreas), "no areas");
+}
+
+/// What is done to the first warning.
+#[derive(Clone, Copy)]
+enum Doing {
+    Nothing,
+    Widen(&'static [u8]),
+    Narrow(&'static [u8]),
+    Stop,
+    Forget,
+}
+
+fn does(rt: &impl Abort, alloc: Global, book: &mut Book, doing: Doing) {
+    let id = first_id();
+    let done = match doing {
+        Doing::Nothing => Ok(()),
+        Doing::Widen(area) => book.widen(id, &name(rt, alloc, area)),
+        Doing::Narrow(area) => book.narrow(id, &name(rt, alloc, area)),
+        Doing::Stop => book.stop(id),
+        Doing::Forget => book.forget(id),
+    };
+    made(rt, done, "the warning is changed");
 }
 
 #[test]
 fn narrow_keeps_the_order_of_the_rest(rt: HostRuntime) {
     let alloc = rt.alloc();
     let mut book = issued_for(&rt, alloc, &[b"d", b"a", b"c", b"b"], Scope::Cell);
-    narrow(&rt, &mut book, &name(&rt, alloc, b"a"));
-    widen(&rt, &mut book, &name(&rt, alloc, b"aa"));
+    does(&rt, alloc, &mut book, Doing::Narrow(b"a"));
+    does(&rt, alloc, &mut book, Doing::Widen(b"aa"));
     let want = names(&rt, alloc, &[b"d", b"c", b"b", b"aa"]);
-    assert!(rt; book.areas_of(first_id()) == want.as_slice());
+    let found = book.areas_of(first_id());
+    yes(&rt, found == want.as_slice(), "the areas in their order");
 }
 
-/// The book names the area for as long as the first warning is in it, and then no more.
-fn keeps_area(rt: &impl Abort, book: &mut Book, area: &Name) {
-    stop(rt, book);
-    assert!(rt; book.names_area(area));
-    assert_eq!(rt; book.areas_of(first_id()).len(), 1);
-    forget(rt, book);
-    assert!(rt; !book.names_area(area));
-    assert!(rt; book.areas_of(first_id()).is_empty());
-}
-
-#[test]
-fn a_stopped_warning_keeps_its_areas_until_it_is_forgotten(rt: HostRuntime) {
-    let alloc = rt.alloc();
-    let mut book = issued_for(&rt, alloc, &[b"coast"], Scope::Cell);
-    keeps_area(&rt, &mut book, &name(&rt, alloc, b"coast"));
-}
-
-/// Issues a warning for these areas.
-fn issue_for(rt: &impl Abort, alloc: Global, book: &mut Book, areas: &[&[u8]]) {
-    let areas = names(rt, alloc, areas);
-    let notice = notice(rt, alloc, 4370, Scope::Cell);
-    let made = book.issue(&notice, areas.as_slice());
-    made.expect(rt, "the warning is issued");
-}
+/// What is done to the first warning of three, and the numbers of the warnings that then name one of these areas.
+const NAMING: [(Doing, &[&[u8]], &[u32]); 11] = [
+    (Doing::Nothing, &[], &[]),
+    (Doing::Nothing, &[b"north"], &[]),
+    (Doing::Nothing, &[b"coast"], &[1, 3]),
+    (Doing::Nothing, &[b"bay", b"hills"], &[1, 2]),
+    (Doing::Nothing, &[b"bay", b"coast"], &[1, 2, 3]),
+    (Doing::Widen(b"north"), &[b"coast"], &[1, 3]),
+    (Doing::Narrow(b"coast"), &[b"coast"], &[3]),
+    (Doing::Nothing, &[b"coast", b"north"], &[1, 3]),
+    (Doing::Stop, &[b"north", b"bay"], &[1, 2]),
+    (Doing::Forget, &[b"north", b"bay"], &[2]),
+    (Doing::Nothing, &[b"north"], &[]),
+];
 
 /// The warnings that name one of these areas have these numbers.
 fn name_one_of(rt: &impl Abort, alloc: Global, book: &Book, areas: &[&[u8]], want: &[u32]) {
     let areas = names(rt, alloc, areas);
     let found = book.naming_one_of(areas.as_slice()).expect(rt, "memory");
-    assert_eq!(rt; found.len(), want.len(), "{want:?}");
+    yes(rt, found.len() == want.len(), "how many name an area");
     for (number, want) in found.iter().zip(want.iter()) {
-        assert_eq!(rt; number.number(), *want);
+        yes(rt, number.number() == *want, "a warning that names an area");
     }
-}
-
-/// The first warning moves from the coast to the north, is stopped, and is forgotten.
-fn moves_and_ends(rt: &impl Abort, alloc: Global, book: &mut Book) {
-    widen(rt, book, &name(rt, alloc, b"north"));
-    narrow(rt, book, &name(rt, alloc, b"coast"));
-    name_one_of(rt, alloc, book, &[b"coast"], &[3]);
-    name_one_of(rt, alloc, book, &[b"coast", b"north"], &[1, 3]);
-    stop(rt, book);
-    name_one_of(rt, alloc, book, &[b"north", b"bay"], &[1, 2]);
-    forget(rt, book);
-    name_one_of(rt, alloc, book, &[b"north", b"bay"], &[2]);
-    name_one_of(rt, alloc, book, &[b"north"], &[]);
 }
 
 #[test]
 fn warnings_that_name_one_of_several_areas_stand_once_and_in_order(rt: HostRuntime) {
     let alloc = rt.alloc();
     let mut book = issued_for(&rt, alloc, &[b"coast", b"hills"], Scope::Cell);
-    issue_for(&rt, alloc, &mut book, &[b"hills", b"bay"]);
-    issue_for(&rt, alloc, &mut book, &[b"coast"]);
-    name_one_of(&rt, alloc, &book, &[], &[]);
-    name_one_of(&rt, alloc, &book, &[b"north"], &[]);
-    name_one_of(&rt, alloc, &book, &[b"coast"], &[1, 3]);
-    name_one_of(&rt, alloc, &book, &[b"bay", b"hills"], &[1, 2]);
-    name_one_of(&rt, alloc, &book, &[b"bay", b"coast"], &[1, 2, 3]);
-    moves_and_ends(&rt, alloc, &mut book);
+    for (areas, number) in &[(&[b"hills".as_slice(), b"bay"][..], 2), (&[b"coast"], 3)] {
+        let found = issued(&rt, alloc, &mut book, 4370, Scope::Cell, areas);
+        yes(&rt, found.is_ok_and(|both| both.0 == *number), "an issue");
+    }
+    for (doing, areas, want) in &NAMING {
+        does(&rt, alloc, &mut book, *doing);
+        name_one_of(&rt, alloc, &book, areas, want);
+    }
+}
+
+/// Issues a warning for one area, and answers its number and its serial number.
+fn one_more(
+    rt: &impl Abort,
+    alloc: Global,
+    book: &mut Book,
+    message_id: u16,
+) -> Result<(u32, u16), Refusal> {
+    issued(rt, alloc, book, message_id, Scope::Cell, &[b"coast"])
 }
 
 /// The book has 256 warnings: no other is issued until one of them is forgotten.
@@ -297,11 +310,14 @@ fn is_full(rt: &impl Abort, alloc: Global, book: &mut Book) {
     let full = Refusal::Limit {
         which: Limit::Warnings,
     };
-    assert!(rt; issued(rt, alloc, book, 4371) == Err(full));
-    stop(rt, book);
-    assert!(rt; issued(rt, alloc, book, 4371) == Err(full));
-    forget(rt, book);
-    assert!(rt; issued(rt, alloc, book, 4371) == Ok((257, 0xc000)));
+    let more = one_more(rt, alloc, book, 4371);
+    same(rt, &more, &Err(full), "one more");
+    made(rt, book.stop(first_id()), "the first is stopped");
+    let more = one_more(rt, alloc, book, 4371);
+    same(rt, &more, &Err(full), "one more beside a stopped one");
+    made(rt, book.forget(first_id()), "the first is forgotten");
+    let more = one_more(rt, alloc, book, 4371);
+    same(rt, &more, &Ok((257, 0xc000)), "one in its place");
 }
 
 #[test]
@@ -309,14 +325,15 @@ fn there_are_256_warnings_at_most(rt: HostRuntime) {
     let mut book = Book::new(rt.alloc());
     for code in 0..256u16 {
         let want = (code as u32 + 1, 0xc000 + code * 16);
-        assert_eq!(rt; issued(&rt, rt.alloc(), &mut book, 4370), Ok(want));
+        let found = one_more(&rt, rt.alloc(), &mut book, 4370);
+        same(&rt, &found, &Ok(want), "a warning is issued");
     }
     is_full(&rt, rt.alloc(), &mut book);
 }
 
 fn has_text(rt: &impl Abort, alloc: Global, refusal: &Refusal, want: &str) {
     let text = format!(in alloc; "{refusal}").expect(rt, "memory");
-    assert_eq!(rt; text.as_str(), want);
+    yes(rt, text.as_str() == want, want);
 }
 
 #[test]

@@ -1,8 +1,8 @@
-//! What no clause says: the frames of one stream however it comes, streams that fail, end early or are
-//! interrupted, and that each call can succeed.
+//! What no clause says: the frames of one stream however it comes, and streams that fail, end early or are interrupted.
 
 ghost use Rattle.std.specs.Prelude.{◌≤◌};
 
+use crate::values::{same, yes};
 use framing::faulty::{EndsAtRead, FailsAfter, FailsAtRead, InPieces};
 use framing::{Failed, FrameFault, Framer, FromRead, FromWrite, Sink, Source, write_all};
 use std::alloc::Global;
@@ -21,22 +21,18 @@ const STREAM: [u8; 38] = [
 const FRAMES: [(u8, usize, usize); 3] = [(0x02, 4, 20), (0x08, 24, 26), (0x13, 30, 38)];
 
 /// The frames of the stream in their order, and then none.
-fn gives_the_stream(rt: &impl Abort, framer: &mut Framer, cuts: &[usize]) {
+fn gives_the_stream(rt: &impl Abort, framer: &mut Framer) {
     for (kind, begin, end) in &FRAMES {
         let frame = framer.next().expect(rt, "a frame");
-        assert_eq!(rt; frame.kind, *kind, "cut at {cuts:?}");
-        assert_eq!(rt;
-            Some(frame.body.as_slice()),
-            STREAM.get(*begin..*end),
-            "cut at {cuts:?}"
-        );
+        yes(rt, frame.kind == *kind, "the type of a frame");
+        let body = STREAM.get(*begin..*end);
+        yes(rt, Some(frame.body.as_slice()) == body, "its body");
     }
-    assert!(rt; framer.next().is_none(), "cut at {cuts:?}");
-    assert_eq!(rt; framer.rest(), 0, "cut at {cuts:?}");
+    waits(rt, framer, 0);
 }
 
 fn feed(rt: &impl Abort, framer: &mut Framer, octets: &[u8]) {
-    assert_eq!(rt; framer.feed(octets), Ok(()));
+    same(rt, &framer.feed(octets), &Ok(()), "octets are fed");
 }
 
 /// The stream is fed in three pieces, cut at these places.
@@ -48,7 +44,7 @@ fn is_cut(rt: &impl Abort, alloc: Global, first: usize, second: usize)
     feed(rt, &mut framer, &STREAM[..first]);
     feed(rt, &mut framer, &STREAM[first..second]);
     feed(rt, &mut framer, &STREAM[second..]);
-    gives_the_stream(rt, &mut framer, &[first, second]);
+    gives_the_stream(rt, &mut framer);
 }
 
 #[test]
@@ -62,20 +58,20 @@ fn the_frames_are_the_same_however_the_stream_is_cut(rt: HostRuntime) {
     for octet in &STREAM {
         feed(&rt, &mut framer, &[*octet]);
     }
-    gives_the_stream(&rt, &mut framer, &[]);
+    gives_the_stream(&rt, &mut framer);
 }
 
 /// The frame that is begun is refused, and so are these octets.
 fn is_too_long(rt: &impl Abort, framer: &mut Framer, octets: &[u8]) {
     let too_long = FrameFault::TooLong { length: 262_145 };
-    assert_eq!(rt; framer.feed(octets), Err(too_long));
-    assert_eq!(rt; framer.rest(), 4);
+    same(rt, &framer.feed(octets), &Err(too_long), "it is too long");
+    yes(rt, framer.rest() == 4, "four octets are left");
 }
 
 /// No frame is ready, and so many octets wait for the rest of theirs.
 fn waits(rt: &impl Abort, framer: &mut Framer, rest: usize) {
-    assert!(rt; framer.next().is_none());
-    assert_eq!(rt; framer.rest(), rest);
+    yes(rt, framer.next().is_none(), "no frame is ready");
+    yes(rt, framer.rest() == rest, "octets that wait");
 }
 
 fn a_longer_body_is_refused(rt: &impl Abort, alloc: Global) {
@@ -85,7 +81,7 @@ fn a_longer_body_is_refused(rt: &impl Abort, alloc: Global) {
     is_too_long(rt, &mut framer, &[0x01, 0x0e]);
     is_too_long(rt, &mut framer, &STREAM);
     let frame = framer.next().expect(rt, "the frame before");
-    assert_eq!(rt; frame.kind, 0x02);
+    yes(rt, frame.kind == 0x02, "its type");
     waits(rt, &mut framer, 4);
     is_too_long(rt, &mut framer, &[]);
 }
@@ -96,12 +92,12 @@ fn the_longest_body_is_read(rt: &impl Abort, alloc: Global) {
     waits(rt, &mut framer, 4);
     let piece = [0x55; 4096];
     for _ in 0..64 {
-        assert!(rt; framer.next().is_none());
+        yes(rt, framer.next().is_none(), "it isn't whole yet");
         feed(rt, &mut framer, &piece);
     }
     let frame = framer.next().expect(rt, "the longest frame");
-    assert_eq!(rt; frame.body.as_slice().len(), 262_144);
-    assert_eq!(rt; framer.rest(), 0);
+    yes(rt, frame.body.as_slice().len() == 262_144, "its length");
+    yes(rt, framer.rest() == 0, "nothing is left");
 }
 
 #[test]
@@ -133,8 +129,8 @@ fn reads(
     ended: Result<(), Failed>,
     octets: &[u8],
 ) {
-    assert_eq!(rt; read_octets(source, gave), ended);
-    assert!(rt; gave.as_slice() == octets);
+    same(rt, &read_octets(source, gave), &ended, "reading on");
+    yes(rt, gave.as_slice() == octets, "the octets that came");
 }
 
 fn a_source_fails(rt: &impl Abort, alloc: Global, octets: &[u8; 5]) {
@@ -160,7 +156,7 @@ fn sources_of_a_test_fail_and_end_where_they_are_told(rt: HostRuntime) {
 
 /// Writing all of these octets ends so.
 fn writes(rt: &impl Abort, sink: &mut impl Sink, octets: &[u8], ended: Result<(), Failed>) {
-    assert_eq!(rt; write_all(sink, octets), ended);
+    same(rt, &write_all(sink, octets), &ended, "writing all");
 }
 
 #[test]
@@ -169,9 +165,9 @@ fn a_front_is_written_where_a_write_fails(rt: HostRuntime) {
     let mut sink = FailsAfter::new(InPieces::new(FromWrite::new(room), 3), 10);
     writes(&rt, &mut sink, &STREAM[..4], Ok(()));
     writes(&rt, &mut sink, &STREAM[4..], Err(Failed));
-    assert_eq!(rt; sink.write(&[1]), Err(Failed));
+    same(&rt, &sink.write(&[1]), &Err(Failed), "a write after it");
     room = sink.into_inner().into_inner().into_inner();
-    assert_eq!(rt; room.as_slice(), &STREAM[..10]);
+    yes(&rt, room.as_slice() == &STREAM[..10], "the octets written");
 }
 
 /// A stream whose first calls fail, all for one cause.
@@ -212,23 +208,13 @@ impl Write for Disturbed {
 /// A read and a write that are disturbed so both answer that.
 fn is_disturbed(rt: &impl Abort, calls_left: u8, cause: ErrorKind, want: Result<usize, Failed>) {
     let mut source = FromRead::new(Disturbed { calls_left, cause });
-    assert_eq!(rt; source.read(&mut [0]), want);
+    same(rt, &source.read(&mut [0]), &want, "a read");
     let mut sink = FromWrite::new(Disturbed { calls_left, cause });
-    assert_eq!(rt; sink.write(&[0]), want);
+    same(rt, &sink.write(&[0]), &want, "a write");
 }
 
 #[test]
 fn an_interrupted_call_is_made_again(rt: HostRuntime) {
     is_disturbed(&rt, 3, ErrorKind::Interrupted, Ok(1));
     is_disturbed(&rt, 1, ErrorKind::ConnectionReset, Err(Failed));
-}
-
-#[test]
-fn every_call_answers(rt: HostRuntime) {
-    let mut framer = Framer::new(rt.alloc());
-    feed(&rt, &mut framer, &STREAM);
-    let mut sink = FromWrite::new(Vec::new(rt.alloc()));
-    writes(&rt, &mut sink, &STREAM, Ok(()));
-    let mut source = FromRead::new(STREAM.as_slice());
-    assert_eq!(rt; source.read(&mut [0; 40]), Ok(38));
 }

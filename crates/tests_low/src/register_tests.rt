@@ -1,9 +1,9 @@
 //! What no clause says: that each call can succeed, and worked values from the rules.
 
-use crate::values::bsc;
+use crate::values::{bsc, same, yes};
 use cell_register::{BscId, Refusal, Register};
-use common::Cell;
-use std::alloc::Global;
+use common::{Cell, Cells};
+use std::alloc::{AllocError, Global};
 use std::process::Abort;
 
 const FIRST: Cell = Cell { lac: 100, ci: 7 };
@@ -12,94 +12,94 @@ const SECOND: Cell = Cell { lac: 100, ci: 9 };
 
 const THIRD: Cell = Cell { lac: 200, ci: 1 };
 
-fn add_cell(rt: &impl Abort, register: &mut Register, cell: Cell, number: u16) {
-    let added = register.add_cell(cell, bsc(rt, number));
-    added.expect(rt, "the cell is added");
+fn made(rt: &impl Abort, found: Result<(), Refusal>, at: &str) {
+    same(rt, &found, &Ok(()), at);
 }
 
 /// BSCs 1 and 2, with two cells at the first and one at the second, each added out of order.
 fn begun(rt: &impl Abort, alloc: Global) -> Register {
+    let (first, second) = (bsc(rt, 1), bsc(rt, 2));
     let mut register = Register::new(alloc);
-    register.add_bsc(bsc(rt, 2)).expect(rt, "BSC 2 is added");
-    register.add_bsc(bsc(rt, 1)).expect(rt, "BSC 1 is added");
-    add_cell(rt, &mut register, THIRD, 1);
-    add_cell(rt, &mut register, SECOND, 2);
-    add_cell(rt, &mut register, FIRST, 1);
+    made(rt, register.add_bsc(second), "BSC 2 is added");
+    made(rt, register.add_bsc(first), "BSC 1 is added");
+    made(rt, register.add_cell(THIRD, first), "the third is added");
+    made(rt, register.add_cell(SECOND, second), "the second is added");
+    made(rt, register.add_cell(FIRST, first), "the first is added");
     register
 }
 
-fn has_cells_of(rt: &impl Abort, register: &Register, number: u16, want: &[Cell]) {
-    let cells = register.cells_of(bsc(rt, number)).expect(rt, "memory");
-    assert!(rt; cells.as_slice() == want, "the cells of BSC {number}");
-}
-
-fn has_cells_in(rt: &impl Abort, register: &Register, lac: u16, want: &[Cell]) {
-    let cells = register.cells_in(lac).expect(rt, "memory");
-    assert!(rt;
-        cells.as_slice() == want,
-        "the cells of location area {lac}"
-    );
+fn are(rt: &impl Abort, found: Result<Cells, AllocError>, want: &[Cell], at: &str) {
+    let cells = found.expect(rt, "memory");
+    yes(rt, cells.as_slice() == want, at);
 }
 
 /// The BSC loses both of its cells, one of them to the other BSC, and is taken out.
 fn is_taken_out(rt: &impl Abort, register: &mut Register, b: BscId, other: BscId) {
-    assert_eq!(rt; register.move_cell(FIRST, other), Ok(()));
-    assert_eq!(rt; register.remove_cell(THIRD), Ok(()));
-    assert_eq!(rt; register.remove_bsc(b), Ok(()));
-    assert!(rt; !register.has_bsc(b));
-    assert_eq!(rt; register.bsc_of(FIRST), Some(other));
+    made(rt, register.move_cell(FIRST, other), "the cell moves");
+    made(rt, register.remove_cell(THIRD), "the cell is removed");
+    made(rt, register.remove_bsc(b), "the BSC is removed");
+    yes(rt, !register.has_bsc(b), "the BSC is gone");
+    same(rt, &register.bsc_of(FIRST), &Some(other), "the cell moved");
 }
 
 /// Each cell is found from where the one before it stood, and from anywhere else.
 fn are_near(rt: &impl Abort, register: &Register) {
     let mut near = 0;
-    for (cell, number) in [(FIRST, 1), (SECOND, 2), (THIRD, 1), (FIRST, 1)] {
-        let found = register.bsc_near(cell, &mut near);
-        assert_eq!(rt; found, Some(bsc(rt, number)));
+    for (cell, number) in &[(FIRST, 1), (SECOND, 2), (THIRD, 1), (FIRST, 1)] {
+        let found = register.bsc_near(*cell, &mut near);
+        same(rt, &found, &Some(bsc(rt, *number)), "a cell that is near");
     }
-    let unknown = Cell { lac: 100, ci: 8 };
-    assert_eq!(rt; register.bsc_near(unknown, &mut near), None);
+    let unknown = register.bsc_near(Cell { lac: 100, ci: 8 }, &mut near);
+    same(rt, &unknown, &None, "an unknown cell");
 }
 
 #[test]
 fn every_call_answers(rt: HostRuntime) {
+    let (first, second) = (bsc(&rt, 1), bsc(&rt, 2));
     let mut register = begun(&rt, rt.alloc());
-    has_cells_of(&rt, &register, 1, &[FIRST, THIRD]);
-    has_cells_in(&rt, &register, 100, &[FIRST, SECOND]);
     are_near(&rt, &register);
-    let cells = register.all_cells().expect(&rt, "memory");
-    assert!(rt; cells.as_slice() == [FIRST, SECOND, THIRD].as_slice());
-    is_taken_out(&rt, &mut register, bsc(&rt, 1), bsc(&rt, 2));
+    let all = [FIRST, SECOND, THIRD];
+    are(&rt, register.all_cells(), &all, "all cells");
+    is_taken_out(&rt, &mut register, first, second);
     register.tell_soundness();
 }
 
 /// What each edit would answer at the second BSC, and that a third can be added.
-fn checks(rt: &impl Abort, register: &Register, second: BscId, third: BscId) {
-    let cell = Cell { lac: 7, ci: 7 };
-    let has_cells = Refusal::BscHasCells;
-    assert_eq!(rt; register.check_add_bsc(third), Ok(()));
-    assert_eq!(rt; register.check_remove_bsc(second), Err(has_cells));
-    assert_eq!(rt; register.check_add_cell(cell, second), Ok(()));
-    assert_eq!(rt; register.check_move_cell(FIRST, second), Ok(()));
-    assert_eq!(rt; register.check_remove_cell(FIRST), Ok(()));
-}
-
 #[test]
 fn a_check_accepts_what_its_edit_does(rt: HostRuntime) {
+    let (second, third) = (bsc(&rt, 2), bsc(&rt, 3));
     let register = begun(&rt, rt.alloc());
-    checks(&rt, &register, bsc(&rt, 2), bsc(&rt, 3));
+    let cell = Cell { lac: 7, ci: 7 };
+    made(&rt, register.check_add_bsc(third), "a BSC");
+    let removed = register.check_remove_bsc(second);
+    same(
+        &rt,
+        &removed,
+        &Err(Refusal::BscHasCells),
+        "a BSC with cells",
+    );
+    made(&rt, register.check_add_cell(cell, second), "a cell");
+    made(&rt, register.check_move_cell(FIRST, second), "a move");
+    made(&rt, register.check_remove_cell(FIRST), "a removal");
 }
 
 #[test]
 fn cells_are_told_in_order(rt: HostRuntime) {
     let least = Cell { lac: 3, ci: 65535 };
     let between = Cell { lac: 100, ci: 8 };
+    let first = bsc(&rt, 1);
     let mut register = begun(&rt, rt.alloc());
-    add_cell(&rt, &mut register, least, 1);
-    add_cell(&rt, &mut register, between, 1);
-    has_cells_of(&rt, &register, 1, &[least, FIRST, between, THIRD]);
-    has_cells_of(&rt, &register, 2, &[SECOND]);
-    has_cells_of(&rt, &register, 3, &[]);
-    has_cells_in(&rt, &register, 100, &[FIRST, between, SECOND]);
-    has_cells_in(&rt, &register, 7, &[]);
+    made(&rt, register.add_cell(least, first), "the least");
+    made(&rt, register.add_cell(between, first), "the one between");
+    lists(&rt, &register, &[least, FIRST, between, THIRD]);
+    let of_area = [FIRST, between, SECOND];
+    are(&rt, register.cells_in(100), &of_area, "location area 100");
+    are(&rt, register.cells_in(7), &[], "location area 7");
+}
+
+/// The first BSC has these cells, the second has the second cell, and the third has none.
+fn lists(rt: &impl Abort, register: &Register, first: &[Cell]) {
+    are(rt, register.cells_of(bsc(rt, 1)), first, "BSC 1");
+    are(rt, register.cells_of(bsc(rt, 2)), &[SECOND], "BSC 2");
+    are(rt, register.cells_of(bsc(rt, 3)), &[], "BSC 3");
 }

@@ -1,5 +1,6 @@
 //! Worked values from the standard.
 
+use crate::values::same;
 use serials::{Scope, Serial, least_free_code};
 use std::process::Abort;
 
@@ -19,16 +20,16 @@ fn serials_have_their_numbers(rt: HostRuntime) {
         (Scope::Cell, 0, 16, None),
     ] {
         let serial = Serial::new(*scope, *code, *update);
-        assert_eq!(rt; number(serial), *want, "{code} {update}");
+        same(&rt, &number(serial), want, "a serial number by its parts");
     }
 }
 
 #[test]
 fn a_serial_has_its_parts(rt: HostRuntime) {
     let serial = Serial::from_u16(0x4012);
-    assert_eq!(rt; serial.scope(), Scope::Plmn);
-    assert_eq!(rt; serial.code(), 1);
-    assert_eq!(rt; serial.update(), 2);
+    same(&rt, &serial.scope(), &Scope::Plmn, "the scope of 4012");
+    same(&rt, &serial.code(), &1, "the code of 4012");
+    same(&rt, &serial.update(), &2, "the update of 4012");
     for (number, scope) in &[
         (0, Some(Scope::CellImmediate)),
         (1, Some(Scope::Plmn)),
@@ -36,7 +37,8 @@ fn a_serial_has_its_parts(rt: HostRuntime) {
         (3, Some(Scope::Cell)),
         (4, None),
     ] {
-        assert_eq!(rt; Scope::from_number(*number), *scope, "{number}");
+        let found = Scope::from_number(*number);
+        same(&rt, &found, scope, "a scope by its number");
     }
 }
 
@@ -49,13 +51,13 @@ fn updates_count_to_fifteen(rt: HostRuntime) {
         (0xffff, None),
     ] {
         let next = Serial::from_u16(*serial).next();
-        assert_eq!(rt; number(next), *want, "{serial}");
+        same(&rt, &number(next), want, "the next serial number");
     }
 }
 
 /// The least code that isn't in use.
 fn has_least(rt: &impl Abort, used: &[u16], want: Option<u16>) {
-    assert_eq!(rt; least_free_code(used), want);
+    same(rt, &least_free_code(used), &want, "the least code");
 }
 
 #[test]

@@ -1,14 +1,16 @@
 //! What no clause says of a simulated BSC: that it answers, by worked frames; how a conversation ends; readers and writers
 //! that fail at every place of a short stream.
 
+ghost use Rattle.std.specs.Prelude.{IfOk};
 ghost use Rattle.cbsp_messages.specs.Written.{Fits};
 
+use crate::values::{same, yes};
 use bsc_sim::{Bsc, Choices, SimEnd};
-use cbsp_ie::{Cause, Cell, CellIds, ElementId};
-use cbsp_messages::{Kill, Message, MessageFault, MessageType, StatusQuery, write};
+use cbsp_ie::{Cause, Cell, ElementId};
+use cbsp_messages::{Message, MessageFault, read, write};
 use framing::faulty::{EndsAtRead, FailsAfter, FailsAtRead, InPieces};
 use framing::{FromRead, FromWrite, Source};
-use std::alloc::Global;
+use std::alloc::{AllocError, Global};
 use std::process::Abort;
 
 /// The two RESTARTs with which a conversation begins.
@@ -32,7 +34,7 @@ fn digit(rt: &impl Abort, letter: u8) -> u8 {
         b'0'..=b'9' => letter - b'0',
         b'a'..=b'f' => letter - b'a' + 10,
         _ => {
-            assert!(rt; false, "a digit");
+            yes(rt, false, "a digit");
             0
         }
     }
@@ -99,83 +101,123 @@ fn converses(
     let octets = stream(rt, alloc, frames);
     let mut reader = FromRead::new(octets.as_slice());
     let mut writer = FromWrite::new(Vec::new(alloc));
-    assert_eq!(rt; bsc.run(&mut reader, &mut writer, choices), end);
-    assert!(rt;
-        writer.into_inner().as_slice() == due(rt, alloc, replies).as_slice(),
-        "{frames:?}"
-    );
+    let ended = bsc.run(&mut reader, &mut writer, choices);
+    same(rt, &ended, &end, "the end of a conversation");
+    let wrote = writer.into_inner();
+    let due = due(rt, alloc, replies);
+    yes(rt, wrote.as_slice() == due.as_slice(), "the replies");
 }
 
-/// A BSC with the cells (100, 7) and (100, 9) answers so.
-fn answers(rt: &impl Abort, alloc: Global, choices: &Choices, frames: &[&str], replies: &[&str]) {
+/// A BSC with the cells (100, 7) and (100, 9).
+fn seven_and_nine(rt: &impl Abort, alloc: Global) -> Bsc {
     let cells = [Cell { lac: 100, ci: 7 }, Cell { lac: 100, ci: 9 }];
-    let mut bsc = Bsc::new(alloc, &cells).expect(rt, "memory");
-    let ended = SimEnd::PeerEnded;
-    converses(rt, alloc, &mut bsc, choices, frames, ended, replies);
+    Bsc::new(alloc, &cells).expect(rt, "memory")
 }
 
 #[test]
 fn a_second_write_of_a_message_is_refused(rt: HostRuntime) {
     let alloc = rt.alloc();
     let mut bsc = Bsc::new(alloc, &[Cell { lac: 100, ci: 7 }]).expect(&rt, "memory");
+    runs_twice(&rt, alloc, &mut bsc);
+}
+
+/// What was on air in the first conversation isn't in the second.
+fn runs_twice(rt: &impl Abort, alloc: Global, bsc: &mut Bsc) {
     let again = "030000110e111203c00009000601006400070d1200";
     let choices = Choices::none(alloc);
-    for _run in 0..2 {
-        converses(
-            &rt,
-            alloc,
-            &mut bsc,
-            &choices,
-            &[WRITE, WRITE],
-            SimEnd::PeerEnded,
-            &[WRITTEN, again],
-        );
-    }
+    let replies = [WRITTEN, again];
+    let ended = SimEnd::PeerEnded;
+    converses(rt, alloc, bsc, &choices, &[WRITE, WRITE], ended, &replies);
+    converses(rt, alloc, bsc, &choices, &[WRITE, WRITE], ended, &replies);
 }
 
 /// C001 in place of C000.
 const REPLACE: &str =
     "010000730e111203c00102c000 0400050100640007 1200 0500 06001e 070000 1301 0c0f 0104d4f29c0e";
 
-#[test]
-fn a_replace_takes_the_older_message_off(rt: HostRuntime) {
-    let kill_newer = "040000100e111202c001 0400050100640007 1200";
-    let frames = [REPLACE, WRITE, REPLACE, KILL, REPLACE, kill_newer, REPLACE];
-    let replies = [
-        "030000140e111203c00102c000 090006010064000702 1200",
-        WRITTEN,
-        "020000130e111203c00102c000 0400050100640007 1200",
-        "060000110e111202c000 090006010064000702 1200",
-        "030000140e111203c00102c000 09000601006400070d 1200",
-        "050000100e111202c001 0400050100640007 1200",
-        "030000140e111203c00102c000 090006010064000702 1200",
-    ];
-    let choices = Choices::none(rt.alloc());
-    answers(&rt, rt.alloc(), &choices, &frames, &replies);
-}
+const KILL_NEWER: &str = "040000100e111202c001 0400050100640007 1200";
 
-/// Whether C000 is on air in the cell (100, 7).
+/// Whether C000 is on air in the cell (100, 7), and the answers.
 const QUERY: &str = "0a0000100e111202c000 0400050100640007 1200";
 
-#[test]
-fn a_query_changes_nothing(rt: HostRuntime) {
-    let absent = "0c0000110e111202c000 090006010064000702 1200";
-    let there = "0b00000c0e111202c000 08000101 1200";
-    let frames = [QUERY, WRITE, QUERY, QUERY, KILL, QUERY];
-    let replies = [absent, WRITTEN, there, there, KILLED, absent];
-    let choices = Choices::none(rt.alloc());
-    answers(&rt, rt.alloc(), &choices, &frames, &replies);
-}
+const ABSENT: &str = "0c0000110e111202c000 090006010064000702 1200";
+
+const THERE: &str = "0b00000c0e111202c000 08000101 1200";
 
 /// A WRITE-REPLACE in the cells (100, 7), (100, 8) and (100, 9).
 const WIDE: &str =
     "010000780e111203c000 04000d01006400070064000800640009 1200 0500 06001e 070000 1301 0c0f 0104d4f29c0e";
 
+/// An ERROR INDICATION: the message isn't recognised.
+const NOT_UNDERSTOOD: &str = "150000040b04 1200";
+
+/// Frames to a BSC with the cells (100, 7) and (100, 9), and its replies.
+const SCENARIOS: [(&[&str], &[&str]); 5] = [
+    // a replace takes the older message off
+    (
+        &[REPLACE, WRITE, REPLACE, KILL, REPLACE, KILL_NEWER, REPLACE],
+        &[
+            "030000140e111203c00102c000 090006010064000702 1200",
+            WRITTEN,
+            "020000130e111203c00102c000 0400050100640007 1200",
+            "060000110e111202c000 090006010064000702 1200",
+            "030000140e111203c00102c000 09000601006400070d 1200",
+            "050000100e111202c001 0400050100640007 1200",
+            "030000140e111203c00102c000 090006010064000702 1200",
+        ],
+    ),
+    // a query changes nothing
+    (
+        &[QUERY, WRITE, QUERY, QUERY, KILL, QUERY],
+        &[ABSENT, WRITTEN, THERE, THERE, KILLED, ABSENT],
+    ),
+    // a cell of another controller fails alone
+    (
+        &[WIDE],
+        &["0300001d0e111203c000 090006010064000803 0400090100640007 00640009 1200"],
+    ),
+    // a cell may be named twice
+    (
+        &[
+            "010000740e111203c000 0400090100640007 00640007 1200 0500 06001e 070000 1301 0c0f 0104d4f29c0e",
+            "040000140e111202c000 0400090100640007 00640007 1200",
+        ],
+        &[
+            "030000190e111203c000 09000601006400070d 0400050100640007 1200",
+            "060000190e111202c000 090006010064000702 0400050100640007 1200",
+        ],
+    ),
+    // a list by location area, a reply, a list of no cell, and two RESTARTs: what is not an order in cells is not understood
+    (
+        &[
+            "0400000e0e111202c000 040003050064 1200",
+            WRITTEN,
+            "0400000c0e111202c000 04000101 1200",
+            OPENING,
+        ],
+        &[
+            NOT_UNDERSTOOD,
+            NOT_UNDERSTOOD,
+            "050000080e111202c000 1200",
+            NOT_UNDERSTOOD,
+            NOT_UNDERSTOOD,
+        ],
+    ),
+];
+
 #[test]
-fn a_cell_of_another_controller_fails_alone(rt: HostRuntime) {
-    let reply = "0300001d0e111203c000 090006010064000803 0400090100640007 00640009 1200";
+fn scenarios_are_answered(rt: HostRuntime) {
     let choices = Choices::none(rt.alloc());
-    answers(&rt, rt.alloc(), &choices, &[WIDE], &[reply]);
+    for (frames, replies) in &SCENARIOS {
+        answers(&rt, rt.alloc(), &choices, frames, replies);
+    }
+}
+
+/// A BSC with the cells (100, 7) and (100, 9) answers so.
+fn answers(rt: &impl Abort, alloc: Global, choices: &Choices, frames: &[&str], replies: &[&str]) {
+    let mut bsc = seven_and_nine(rt, alloc);
+    let ended = SimEnd::PeerEnded;
+    converses(rt, alloc, &mut bsc, choices, frames, ended, replies);
 }
 
 /// Causes for (100, 7) and (100, 8), and numbers for (100, 7) and (100, 9). Of two for one cell the first holds.
@@ -211,71 +253,85 @@ fn causes_and_numbers_are_chosen(rt: HostRuntime) {
     answers(&rt, rt.alloc(), &chosen, &frames, &replies);
 }
 
-#[test]
-fn a_cell_may_be_named_twice(rt: HostRuntime) {
-    let frames = [
-        "010000740e111203c000 0400090100640007 00640007 1200 0500 06001e 070000 1301 0c0f 0104d4f29c0e",
-        "040000140e111202c000 0400090100640007 00640007 1200",
-    ];
-    let replies = [
-        "030000190e111203c000 09000601006400070d 0400050100640007 1200",
-        "060000190e111202c000 090006010064000702 0400050100640007 1200",
-    ];
-    let choices = Choices::none(rt.alloc());
-    answers(&rt, rt.alloc(), &choices, &frames, &replies);
+/// Answers the message with this type and body. The octets of the answer's frame.
+fn answered(
+    rt: &impl Abort,
+    alloc: Global,
+    bsc: &mut Bsc,
+    choices: &Choices,
+    kind: u8,
+    body: &[u8],
+) -> Vec<u8> {
+    let message = read(alloc, kind, body).expect(rt, "the message is read");
+    let reply = bsc.answer(&message, choices);
+    drop(message);
+    frame_of(rt, alloc, reply)
 }
 
-/// An ERROR INDICATION: the message isn't recognised.
-const NOT_UNDERSTOOD: &str = "150000040b04 1200";
-
-#[test]
-fn what_is_not_an_order_in_cells_is_not_understood(rt: HostRuntime) {
-    let by_lac = "0400000e0e111202c000 040003050064 1200";
-    let in_no_cell = "0400000c0e111202c000 04000101 1200";
-    let frames = [by_lac, WRITTEN, in_no_cell, OPENING];
-    let replies = [
-        NOT_UNDERSTOOD,
-        NOT_UNDERSTOOD,
-        "050000080e111202c000 1200",
-        NOT_UNDERSTOOD,
-        NOT_UNDERSTOOD,
-    ];
-    let choices = Choices::none(rt.alloc());
-    answers(&rt, rt.alloc(), &choices, &frames, &replies);
+/// The octets of a message's frame.
+fn frame_of(rt: &impl Abort, alloc: Global, message: Result<Message, AllocError>) -> Vec<u8>
+    requires { IfOk message (λ message. Fits message) }
+{
+    let message = message.expect(rt, "memory");
+    let octets = write(alloc, &message);
+    drop(message);
+    octets.expect(rt, "memory")
 }
 
-/// A KILL in so many cells.
-fn kill(rt: &impl Abort, alloc: Global, cells: u16) -> Message {
-    let mut named = Vec::new(alloc);
+/// The body of a KILL in so many cells.
+fn kill_body(rt: &impl Abort, alloc: Global, cells: u16) -> Vec<u8> {
+    let mut octets = Vec::new(alloc);
+    add_octets(rt, "0e111202c00004", &mut octets);
+    let [high, low] = cells.wrapping_mul(4).wrapping_add(1).to_be_bytes();
+    add_all(rt, &[high, low, 0x01], &mut octets);
     for ci in 0..cells {
-        named.push(Cell { lac: 1, ci }).expect(rt, "memory");
+        let [high, low] = ci.to_be_bytes();
+        add_all(rt, &[0, 1, high, low], &mut octets);
     }
-    Message::Kill(Kill {
-        message_id: 0x1112,
-        serial: 0xc000,
-        cells: CellIds::of_cells(alloc, &named).expect(rt, "memory"),
-        channel: Some(0),
-    })
+    add_all(rt, &[0x12, 0x00], &mut octets);
+    octets
+}
+
+fn add_all(rt: &impl Abort, more: &[u8], octets: &mut Vec<u8>) {
+    octets.extend_from_slice(more).expect(rt, "memory");
 }
 
 /// The answer to a KILL in so many cells is of the type, and its frame has so many octets.
-fn kill_is_answered(rt: &impl Abort, alloc: Global, cells: u16, kind: MessageType, octets: usize) {
-    let order = kill(rt, alloc, cells);
+fn kill_is_answered(rt: &impl Abort, alloc: Global, cells: u16, kind: u8, octets: usize) {
     let choices = Choices::none(alloc);
-    let reply = Bsc::any(alloc).answer(&order, &choices);
-    drop(order);
-    let reply = reply.expect(rt, "memory");
-    assert_eq!(rt; reply.message_type(), kind);
-    let frame = write(alloc, &reply);
-    drop(reply);
-    assert_eq!(rt; frame.expect(rt, "memory").len(), octets);
+    let body = kill_body(rt, alloc, cells);
+    let mut bsc = Bsc::any(alloc);
+    let frame = answered(rt, alloc, &mut bsc, &choices, 0x04, body.as_slice());
+    yes(rt, frame.first() == Some(&kind), "the type of the answer");
+    yes(rt, frame.len() == octets, "its length");
 }
 
 #[test]
 fn an_order_in_9000_cells_is_carried_out(rt: HostRuntime) {
-    kill_is_answered(&rt, rt.alloc(), 9000, MessageType::KillFailure, 54_015);
-    kill_is_answered(&rt, rt.alloc(), 9001, MessageType::ErrorIndication, 8);
+    // a KILL FAILURE, and an ERROR INDICATION
+    kill_is_answered(&rt, rt.alloc(), 9000, 0x06, 54_015);
+    kill_is_answered(&rt, rt.alloc(), 9001, 0x15, 8);
 }
+
+/// Frames to a BSC of every cell, the end of the conversation, and its replies.
+const ENDS: [(&[&str], SimEnd, &[&str]); 6] = [
+    (&[], SimEnd::PeerEnded, &[]),
+    (&[KILL, "04000010"], SimEnd::CutFrame, &[KILL_REFUSED]),
+    (&["02040000", KILL], SimEnd::CutFrame, &[]),
+    (
+        &["040000060e11120e1112", KILL],
+        SimEnd::BadMessage(MessageFault::Repeated {
+            id: ElementId::MessageIdentifier,
+        }),
+        &[],
+    ),
+    (
+        &[KILL, "16000000"],
+        SimEnd::BadMessage(MessageFault::NotInProfile),
+        &[KILL_REFUSED],
+    ),
+    (&[KILL, "02040001"], SimEnd::TooLong, &[KILL_REFUSED]),
+];
 
 /// A conversation with a BSC of every cell ends so.
 fn ends(rt: &impl Abort, alloc: Global, frames: &[&str], end: SimEnd, replies: &[&str]) {
@@ -286,28 +342,9 @@ fn ends(rt: &impl Abort, alloc: Global, frames: &[&str], end: SimEnd, replies: &
 
 #[test]
 fn each_conversation_ends_by_its_cause(rt: HostRuntime) {
-    let id = ElementId::MessageIdentifier;
-    let twice = SimEnd::BadMessage(MessageFault::Repeated { id });
-    let other = SimEnd::BadMessage(MessageFault::NotInProfile);
-    let alloc = rt.alloc();
-    ends(&rt, alloc, &[], SimEnd::PeerEnded, &[]);
-    ends(
-        &rt,
-        alloc,
-        &[KILL, "04000010"],
-        SimEnd::CutFrame,
-        &[KILL_REFUSED],
-    );
-    ends(&rt, alloc, &["02040000", KILL], SimEnd::CutFrame, &[]);
-    ends(&rt, alloc, &["040000060e11120e1112", KILL], twice, &[]);
-    ends(&rt, alloc, &[KILL, "16000000"], other, &[KILL_REFUSED]);
-    ends(
-        &rt,
-        alloc,
-        &[KILL, "02040001"],
-        SimEnd::TooLong,
-        &[KILL_REFUSED],
-    );
+    for (frames, end, replies) in &ENDS {
+        ends(&rt, rt.alloc(), frames, *end, replies);
+    }
 }
 
 /// The answer to the KILL where the message isn't on air.
@@ -320,7 +357,7 @@ const FRAME_ENDS: [usize; 2] = [116, 136];
 fn came<R: Source>(rt: &impl Abort, alloc: Global, reader: &mut R, octets: usize, end: SimEnd) {
     let mut writer = FromWrite::new(Vec::new(alloc));
     let ended = Bsc::any(alloc).run(reader, &mut writer, &Choices::none(alloc));
-    assert_eq!(rt; ended, end, "after {octets} octets");
+    same(rt, &ended, &end, "the end after some octets");
     let [first, second] = FRAME_ENDS;
     let replies = if octets < first {
         due(rt, alloc, &[])
@@ -330,10 +367,7 @@ fn came<R: Source>(rt: &impl Abort, alloc: Global, reader: &mut R, octets: usize
         due(rt, alloc, &[WRITTEN, KILLED])
     };
     let wrote = writer.into_inner();
-    assert!(rt;
-        wrote.as_slice() == replies.as_slice(),
-        "after {octets} octets"
-    );
+    yes(rt, wrote.as_slice() == replies.as_slice(), "the replies");
 }
 
 /// A read fails after so many octets, each read alone.
@@ -375,72 +409,67 @@ fn takes(rt: &impl Abort, alloc: Global, octets: &[u8], room: usize, due: &[u8])
     let mut writer = FailsAfter::new(sink, room);
     let mut reader = FromRead::new(octets);
     let ended = Bsc::any(alloc).run(&mut reader, &mut writer, &Choices::none(alloc));
-    let is_whole = room == due.len();
-    assert_eq!(rt; ended == SimEnd::PeerEnded, is_whole, "room for {room}");
-    assert_eq!(rt; ended == SimEnd::WriteFault, !is_whole, "room for {room}");
+    let end = if room == due.len() {
+        SimEnd::PeerEnded
+    } else {
+        SimEnd::WriteFault
+    };
+    same(rt, &ended, &end, "the end where room is left or not");
     let wrote = writer.into_inner().into_inner().into_inner();
-    assert!(rt;
-        Some(wrote.as_slice()) == due.get(..room),
-        "room for {room}"
-    );
+    yes(rt, Some(wrote.as_slice()) == due.get(..room), "the replies");
 }
 
 #[test]
 fn writers_that_fail_have_taken_what_came_before(rt: HostRuntime) {
     let octets = stream(&rt, rt.alloc(), &[WRITE, KILL]);
     let all = due(&rt, rt.alloc(), &[WRITTEN, KILLED]);
-    assert_eq!(rt; all.len(), 64);
+    yes(&rt, all.len() == 64, "the length of the replies");
     for room in 0..=64 {
         takes(&rt, rt.alloc(), &octets, room, &all);
     }
 }
 
-/// A message's frame is this.
-fn is_frame(rt: &impl Abort, alloc: Global, message: &Message, frame: &str)
-    requires { Fits message.now }
-{
-    let octets = write(alloc, message).expect(rt, "memory");
+/// The frame is this.
+fn is_frame(rt: &impl Abort, octets: &[u8], alloc: Global, frame: &str) {
     let want = stream(rt, alloc, &[frame]);
-    assert!(rt; octets.as_slice() == want.as_slice());
+    yes(rt, octets == want.as_slice(), frame);
 }
 
 #[test]
-fn every_call_answers(rt: HostRuntime) {
+fn indications_are_sent(rt: HostRuntime) {
     let alloc = rt.alloc();
     let seven = [Cell { lac: 100, ci: 7 }];
     let mut bsc = Bsc::new(alloc, &seven).expect(&rt, "memory");
-    kill_is_answered(&rt, alloc, 1, MessageType::KillFailure, 21);
-    let failure = bsc.fail(&seven, Cause::CELL_BROADCAST_NOT_OPERATIONAL);
-    let failure = failure.expect(&rt, "memory");
-    is_frame(&rt, alloc, &failure, "1400000b09000601006400070a1600");
-    drop(failure);
-    let kept = bsc.restart(false).expect(&rt, "memory");
-    is_frame(&rt, alloc, &kept, "130000080400010616000d00");
-    drop(kept);
-    let lost = bsc.restart(true).expect(&rt, "memory");
-    is_frame(&rt, alloc, &lost, "130000080400010616000d01");
-    drop(lost);
+    indicates(&rt, alloc, &mut bsc, &seven);
     for (end, number) in &[(SimEnd::PeerEnded, 1), (SimEnd::Memory, 7)] {
-        assert_eq!(rt; end.number(), *number);
+        yes(&rt, end.number() == *number, "the number of an end");
     }
 }
 
-/// A query of the message in the cell (100, 7) is answered by this type.
-fn query_is_answered(rt: &impl Abort, alloc: Global, bsc: &mut Bsc, kind: MessageType) {
-    let cells = CellIds::of_cells(alloc, &[Cell { lac: 100, ci: 7 }]);
-    let query = Message::StatusQuery(StatusQuery {
-        message_id: 0x1112,
-        serial: 0xc000,
-        cells: cells.expect(rt, "memory"),
-        channel: Some(0),
-    });
-    let reply = bsc.answer(&query, &Choices::none(alloc));
-    drop(query);
-    let reply = reply.expect(rt, "memory");
-    assert_eq!(rt; reply.message_type(), kind);
-    drop(reply);
+/// A FAILURE of the cell (100, 7), and both RESTARTs.
+fn indicates(rt: &impl Abort, alloc: Global, bsc: &mut Bsc, seven: &[Cell; 1]) {
+    let cause = Cause::CELL_BROADCAST_NOT_OPERATIONAL;
+    let failure = frame_of(rt, alloc, bsc.fail(seven, cause));
+    is_frame(rt, &failure, alloc, "1400000b09000601006400070a1600");
+    let kept = frame_of(rt, alloc, bsc.restart(false));
+    is_frame(rt, &kept, alloc, "130000080400010616000d00");
+    let lost = frame_of(rt, alloc, bsc.restart(true));
+    is_frame(rt, &lost, alloc, "130000080400010616000d01");
 }
 
+/// The body of a query of the message C000 in the cell (100, 7).
+const QUERY_BODY: [u8; 16] = [
+    0x0e, 0x11, 0x12, 0x02, 0xc0, 0x00, 0x04, 0x00, 0x05, 0x01, 0x00, 0x64, 0x00, 0x07, 0x12, 0x00,
+];
+
+/// The query is answered by this type.
+fn query_is_answered(rt: &impl Abort, alloc: Global, bsc: &mut Bsc, kind: u8) {
+    let choices = Choices::none(alloc);
+    let frame = answered(rt, alloc, bsc, &choices, 0x0a, &QUERY_BODY);
+    yes(rt, frame.first() == Some(&kind), "the type of the answer");
+}
+
+/// A QUERY COMPLETE for as long as the message is on air, and then a QUERY FAILURE.
 #[test]
 fn a_restart_with_data_lost_takes_messages_off(rt: HostRuntime) {
     let alloc = rt.alloc();
@@ -448,9 +477,13 @@ fn a_restart_with_data_lost_takes_messages_off(rt: HostRuntime) {
     let choices = Choices::none(alloc);
     let ended = SimEnd::PeerEnded;
     converses(&rt, alloc, &mut bsc, &choices, &[WRITE], ended, &[WRITTEN]);
-    query_is_answered(&rt, alloc, &mut bsc, MessageType::StatusComplete);
-    drop(bsc.restart(false).expect(&rt, "memory"));
-    query_is_answered(&rt, alloc, &mut bsc, MessageType::StatusComplete);
-    drop(bsc.restart(true).expect(&rt, "memory"));
-    query_is_answered(&rt, alloc, &mut bsc, MessageType::StatusFailure);
+    is_taken_off(&rt, alloc, &mut bsc);
+}
+
+fn is_taken_off(rt: &impl Abort, alloc: Global, bsc: &mut Bsc) {
+    query_is_answered(rt, alloc, bsc, 0x0b);
+    drop(bsc.restart(false).expect(rt, "memory"));
+    query_is_answered(rt, alloc, bsc, 0x0b);
+    drop(bsc.restart(true).expect(rt, "memory"));
+    query_is_answered(rt, alloc, bsc, 0x0c);
 }

@@ -1,8 +1,7 @@
 use Rattle.std.proofs.Common.{◌∙◌, ap}
 use Rattle.common.specs.Sorting.{sorted_by}
 use Rattle.centre_core.specs.Asked.{Tells}
-use Rattle.centre_events.specs.KeyOrder.{key_lt}
-use Rattle.centre_core.specs.Table.{keys_over}
+use Rattle.centre_core.specs.Table.{key_lt, keys_over}
 use Rattle.centre_core.proofs.FollowLemmas.{as_itself}
 use Rattle.centre_core.proofs.TableLemmas.{table_known}
 use Rattle.centre_core.proofs.questions.table.Goals as goal
