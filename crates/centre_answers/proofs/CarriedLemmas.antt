@@ -17,7 +17,7 @@ use Rattle.order_maker.specs.Actions.{in_cell, deed, needs, replaced, is_to_kill
 use Rattle.order_maker.specs.Grouping.{first}
 use Rattle.centre_events.specs.InFlight.{is_kill}
 use Rattle.centre_events.specs.Lines.{seen}
-use Rattle.order_maker.specs.OrderMessage.{IsCarriable}
+use Rattle.centre_events.specs.OrderMessage.{IsCarriable}
 use Rattle.centre_events.specs.Past.{Past}
 use Rattle.centre_events.specs.Pending.{actions, actions_in, pending}
 use Rattle.centre_events.specs.Places.{cells}

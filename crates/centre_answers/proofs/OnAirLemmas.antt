@@ -25,7 +25,7 @@ use Rattle.mirror.specs.declared.line.Line.{Line}
 use Rattle.mirror.specs.declared.presence.Presence.{Presence}
 use Rattle.mirror.specs.declared.presence.Presence.TheVariants.{Absent, OnAir, Unknown}
 use Rattle.order_maker.specs.Grouping.{most_cells}
-use Rattle.order_maker.specs.OrderMessage.{query_message}
+use Rattle.centre_events.specs.OrderMessage.{query_message}
 use Rattle.warning_book.specs.Book.{current_of, warning_of}
 use Rattle.warning_book.specs.VersionLaws.{current_among}
 use Rattle.warning_book.specs.declared.warning.Warning.{Warning}

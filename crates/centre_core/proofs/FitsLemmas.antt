@@ -29,7 +29,7 @@ use Rattle.centre_past.specs.Fits.{AnswerFits, IsCarried}
 use Rattle.order_maker.specs.Grouping.{first, most_cells}
 use Rattle.centre_events.specs.InFlight.{in_flight, is_kill}
 use Rattle.centre_past.specs.Legal.{Legal}
-use Rattle.order_maker.specs.OrderMessage.{IsCarriable, listed, message_by}
+use Rattle.centre_events.specs.OrderMessage.{IsCarriable, listed, message_by}
 use Rattle.centre_events.specs.Past.{Past, position}
 use Rattle.centre_events.specs.Pending.{pending}
 use Rattle.centre_events.specs.Settings.{Settings}

@@ -3,7 +3,7 @@ use Rattle.std.proofs.Common.{◌≡◌, ℕ, true, false, not, List, [], ◌∷
 use Rattle.std.specs.Option.{is_some}
 use Rattle.common.specs.Checks.{first_refusal}
 use Rattle.common.specs.declared.cell.Cell.{Cell}
-use Rattle.order_maker.specs.OrderMessage.{query_message}
+use Rattle.centre_events.specs.OrderMessage.{query_message}
 use Rattle.warning_book.specs.Book.{current_of, warning_of}
 use Rattle.warning_book.specs.declared.warning.Warning.{Warning}
 use Rattle.centre_events.specs.Asking.{asked_cells, query_of, version_query, warning_query}

@@ -18,7 +18,7 @@ use Rattle.centre_events.specs.InFlight.{in_flight, flight_mark, sent_flight, as
 use Rattle.centre_past.specs.Legal.{Legal}
 use Rattle.centre_events.specs.Lines.{seen}
 use Rattle.centre_events.specs.Links.{is_up}
-use Rattle.order_maker.specs.OrderMessage.{order_message}
+use Rattle.centre_events.specs.OrderMessage.{order_message}
 use Rattle.centre_events.specs.Past.{Past, From, After, IsUnfolded, by_edit, with_new}
 use Rattle.centre_events.specs.Pending.{pending}
 use Rattle.centre_events.specs.Places.{place, place_mark, added_cell, cells}

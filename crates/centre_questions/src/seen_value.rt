@@ -7,7 +7,7 @@ use coverage_board::Numbers;
 use order_maker::Orders;
 
 /// The answer to a question, in memory of its own.
-#[derive(Debug, Drop)]
+#[derive(Drop)]
 pub enum SeenValue {
     /// The numbers of a warning, in all or in one area.
     Numbers(Numbers),

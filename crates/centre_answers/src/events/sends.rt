@@ -3,7 +3,7 @@
 ghost use Rattle.std.specs.Prelude.{◌≡◌, IfSome};
 ghost use Rattle.std.specs.Option.{option_copied};
 ghost use Rattle.warning_book.specs.Book.{content_of};
-ghost use Rattle.order_maker.specs.OrderMessage.{IsCarriable};
+ghost use Rattle.centre_events.specs.OrderMessage.{IsCarriable};
 ghost use Rattle.order_maker.specs.Pending.{IsListOf};
 ghost use Rattle.centre_past.specs.IsKept.{IsKept};
 ghost use Rattle.centre_events.specs.Kept.{Gives};
@@ -19,10 +19,11 @@ use crate::events::Verdict;
 use crate::events::links::check_link;
 use cell_register::BscId;
 use centre_events::answer::Answer;
+use centre_events::order_message::message_of;
 use centre_events::refusal::Refusal;
 use centre_past::flights::flight_in;
 use centre_past::kept::Kept;
-use order_maker::{Order, OrderKind, message_of};
+use order_maker::{Order, OrderKind};
 use std::alloc::Global;
 use warning_book::{Book, Content};
 

@@ -3,13 +3,12 @@
 ghost use Rattle.std.specs.Prelude.{◌≡◌, map, IfOk, IsSome};
 ghost use Rattle.std.specs.Option.{option_copied};
 ghost use Rattle.cbsp_messages.specs.PageText.{page_with};
-ghost use Rattle.order_maker.specs.OrderMessage.{IsCarriable, given_content, order_message, write_message, kill_message, query_message};
+ghost use Rattle.centre_events.specs.OrderMessage.{IsCarriable, given_content, order_message, write_message, kill_message, query_message};
 
-use crate::order::Order;
-use crate::order_kind::OrderKind;
 use cbsp_ie::CellIds;
 use cbsp_messages::{Kill, Message, Page, Pages, StatusQuery, WriteReplace};
 use common::{Cell, Octets};
+use order_maker::{Order, OrderKind};
 use serials::Serial;
 use std::alloc::{AllocError, Global};
 use warning_book::Content;

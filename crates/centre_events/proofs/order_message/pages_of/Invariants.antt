@@ -1,6 +1,6 @@
 use Rattle.std.proofs.Common.{◌≡◌, map, take}
 use Rattle.cbsp_messages.specs.PageText.{page_with}
-use Rattle.order_maker.proofs.order_message.pages_of.Given as goal
+use Rattle.centre_events.proofs.order_message.pages_of.Given as goal
 
 -- the pages of the contents passed
 abbrev pub invariant-loop-content : goal.invariant-loop-content
