@@ -15,7 +15,7 @@ use std::marker::Model;
 
 /// The identifications of a cell list, all of one form, in their order. A list of form `All` is one
 /// identification; a list of another form may be empty.
-#[derive(Debug, Drop)]
+#[derive(Drop)]
 pub struct CellIds {
     form: Form,
     ids: Vec<CellId>,

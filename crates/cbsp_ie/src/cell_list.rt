@@ -16,7 +16,7 @@ use std::alloc::{AllocError, Global};
 use std::marker::Model;
 
 /// Identifications of one form, as the octets that spell them.
-#[derive(Debug, Drop)]
+#[derive(Drop)]
 pub struct CellList<'a> {
     form: Form,
     octets: &'a [u8],

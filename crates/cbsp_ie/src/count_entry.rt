@@ -8,7 +8,7 @@ use crate::cell_id::CellId;
 use std::alloc::AllocError;
 
 /// How often a message was broadcast in the cells that an identification names.
-#[derive(Clone, Copy, PartialEq, Eq, Debug)]
+#[derive(Clone, Copy, PartialEq, Eq)]
 pub struct CountEntry {
     pub id: CellId,
     pub number: u16,

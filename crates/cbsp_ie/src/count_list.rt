@@ -18,7 +18,7 @@ use std::alloc::{AllocError, Global};
 use std::marker::Model;
 
 /// Numbers of broadcasts by identifications of one form, as the octets that spell them.
-#[derive(Debug, Drop)]
+#[derive(Drop)]
 pub struct CountList<'a> {
     form: Form,
     octets: &'a [u8],

@@ -13,7 +13,7 @@ use std::alloc::{AllocError, Global};
 use std::marker::Model;
 
 /// The entries of a list of broadcasts completed, all of one form, in their order.
-#[derive(Debug, Drop)]
+#[derive(Drop)]
 pub struct Counts {
     form: Form,
     entries: Vec<CountEntry>,

@@ -13,7 +13,7 @@ use crate::security_view::SecurityView;
 
 /// An information element with its value. Pages and lists are lent from the octets that they were
 /// read from. A number of four bits is kept without the spare bits of its octet.
-#[derive(Debug, Drop)]
+#[derive(Drop)]
 pub enum Element<'a> {
     /// One page; a message has an element for each.
     MessageContent(PageView<'a>),

@@ -2,7 +2,7 @@
 
 /// The octets after the identifier: a number of them, or two octets of length and as many as these
 /// say.
-#[derive(Clone, Copy, PartialEq, Eq, Debug)]
+#[derive(Clone, Copy, PartialEq, Eq)]
 pub enum Extent {
     Fixed(usize),
     Counted,

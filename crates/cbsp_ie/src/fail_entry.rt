@@ -9,7 +9,7 @@ use crate::cell_id::CellId;
 use std::alloc::AllocError;
 
 /// The cells that an identification names failed, and why.
-#[derive(Clone, Copy, PartialEq, Eq, Debug)]
+#[derive(Clone, Copy, PartialEq, Eq)]
 pub struct FailEntry {
     pub id: CellId,
     pub cause: Cause,

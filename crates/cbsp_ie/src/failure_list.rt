@@ -14,7 +14,7 @@ use std::alloc::{AllocError, Global};
 use std::marker::Model;
 
 /// Failures with identifications of any form, as the octets that spell them.
-#[derive(Debug, Drop)]
+#[derive(Drop)]
 pub struct FailureList<'a> {
     octets: &'a [u8],
     count: usize,

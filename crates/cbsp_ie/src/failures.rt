@@ -13,7 +13,7 @@ use std::alloc::{AllocError, Global};
 use std::marker::Model;
 
 /// The entries of a failure list in their order, each with an identification of any form.
-#[derive(Debug, Drop)]
+#[derive(Drop)]
 pub struct Failures {
     entries: Vec<FailEntry>,
 }

@@ -6,7 +6,7 @@ use std::marker::Model;
 
 /// A page of 82 octets, of which the first `used` are text. `used` isn't looked at here; that of a page
 /// that was read is at most 82.
-#[derive(Debug, Drop)]
+#[derive(Drop)]
 pub struct PageView<'a> {
     used: u8,
     octets: &'a [u8],

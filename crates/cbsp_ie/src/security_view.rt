@@ -5,7 +5,7 @@ ghost use Rattle.std.specs.Prelude.{◌≡◌, length};
 use std::marker::Model;
 
 /// The 50 octets of warning security information (3GPP TS 48.049, 8.2.19).
-#[derive(Debug, Drop)]
+#[derive(Drop)]
 pub struct SecurityView<'a> {
     octets: &'a [u8],
 }

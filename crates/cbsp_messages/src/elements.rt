@@ -104,76 +104,74 @@ impl<'a> Elements<'a> {
         ensures err { IfErr result (λ f. (f ≡ MessageFault.Memory) ⊎ ((element_id_of element.entry ≢ ElementId.MessageContent) × (is_there (parts_taken self.old) (element_id_of element.entry) ≡ true) × (f ≡ MessageFault.Repeated (element_id_of element.entry)))) }
     {
         match element {
-            Element::MessageContent(page) => self.pages.push(Page::of_view(&page))?,
+            Element::MessageContent(page) => {
+                self.pages.push(Page::of_view(&page))?;
+                Ok(())
+            }
             Element::OldSerialNumber(n) => fill(
                 &mut self.old_serial,
                 n,
                 ElementId::OldSerialNumber,
-            )?,
+            ),
             Element::NewSerialNumber(n) => fill(
                 &mut self.new_serial,
                 n,
                 ElementId::NewSerialNumber,
-            )?,
-            Element::CellList(cells) => fill(&mut self.cells, cells, ElementId::CellList)?,
-            Element::Category(n) => fill(&mut self.category, n, ElementId::Category)?,
-            Element::RepetitionPeriod(n) => fill(&mut self.period, n, ElementId::RepetitionPeriod)?,
+            ),
+            Element::CellList(cells) => fill(&mut self.cells, cells, ElementId::CellList),
+            Element::Category(n) => fill(&mut self.category, n, ElementId::Category),
+            Element::RepetitionPeriod(n) => fill(&mut self.period, n, ElementId::RepetitionPeriod),
             Element::BroadcastsRequested(n) => fill(
                 &mut self.requested,
                 n,
                 ElementId::BroadcastsRequested,
-            )?,
+            ),
             Element::BroadcastsCompleted(counts) => fill(
                 &mut self.counts,
                 counts,
                 ElementId::BroadcastsCompleted,
-            )?,
+            ),
             Element::FailureList(failures) => fill(
                 &mut self.failures,
                 failures,
                 ElementId::FailureList,
-            )?,
-            Element::Cause(cause) => fill(&mut self.cause, cause, ElementId::Cause)?,
-            Element::DataCodingScheme(n) => fill(&mut self.dcs, n, ElementId::DataCodingScheme)?,
+            ),
+            Element::Cause(cause) => fill(&mut self.cause, cause, ElementId::Cause),
+            Element::DataCodingScheme(n) => fill(&mut self.dcs, n, ElementId::DataCodingScheme),
             Element::RecoveryIndication(n) => fill(
                 &mut self.recovery,
                 n,
                 ElementId::RecoveryIndication,
-            )?,
+            ),
             Element::MessageIdentifier(n) => fill(
                 &mut self.message_id,
                 n,
                 ElementId::MessageIdentifier,
-            )?,
+            ),
             Element::EmergencyIndicator(n) => fill(
                 &mut self.emergency,
                 n,
                 ElementId::EmergencyIndicator,
-            )?,
-            Element::WarningType(n) => fill(&mut self.warning_type, n, ElementId::WarningType)?,
+            ),
+            Element::WarningType(n) => fill(&mut self.warning_type, n, ElementId::WarningType),
             Element::WarningSecurity(octets) => fill(
                 &mut self.security,
                 octets,
                 ElementId::WarningSecurity,
-            )?,
-            Element::ChannelIndicator(n) => fill(
-                &mut self.channel,
-                n,
-                ElementId::ChannelIndicator,
-            )?,
-            Element::NumberOfPages(n) => fill(&mut self.page_count, n, ElementId::NumberOfPages)?,
+            ),
+            Element::ChannelIndicator(n) => fill(&mut self.channel, n, ElementId::ChannelIndicator),
+            Element::NumberOfPages(n) => fill(&mut self.page_count, n, ElementId::NumberOfPages),
             Element::BroadcastMessageType(n) => fill(
                 &mut self.kind,
                 n,
                 ElementId::BroadcastMessageType,
-            )?,
+            ),
             Element::WarningPeriod(n) => fill(
                 &mut self.warning_period,
                 n,
                 ElementId::WarningPeriod,
-            )?,
+            ),
         }
-        Ok(())
     }
 
     /// The first element that the type demands and that isn't there.

@@ -22,7 +22,7 @@ use std::alloc::{AllocError, Global};
 ///
 /// Of `category`, `channel`, `kind`, `recovery` and the info of each of `counts` the low four bits alone
 /// are read and written, so a message that was read has no others.
-#[derive(Debug, Drop, PartialEq, Eq)]
+#[derive(Drop, PartialEq, Eq)]
 pub enum Message {
     WriteReplace(WriteReplace),
     WriteComplete(WriteComplete),

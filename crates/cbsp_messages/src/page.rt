@@ -9,7 +9,7 @@ use std::marker::Model;
 
 /// A page: how many of its octets are used, and its 82 octets. A page that was read keeps what
 /// stood after the used octets.
-#[derive(Clone, Copy, Debug)]
+#[derive(Clone, Copy)]
 pub struct Page {
     used: u8,
     octets: [u8; 82],

@@ -7,7 +7,7 @@ use Rattle.common.specs.declared.cell.Cell.{Cell}
 use Rattle.mirror.specs.OnAir.{is_after}
 use Rattle.mirror.specs.Seen.{is_on_air}
 use Rattle.order_maker.specs.Grouping.{most_cells}
-use Rattle.order_maker.specs.OrderMessage.{query_message}
+use Rattle.centre_events.specs.OrderMessage.{query_message}
 use Rattle.warning_book.specs.Book.{current_of}
 use Rattle.warning_book.specs.declared.warning.Warning.{Warning}
 use Rattle.centre_events.specs.Past.{Past}

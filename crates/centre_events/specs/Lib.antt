@@ -19,6 +19,7 @@ pub mod Outcomes
 pub mod Plan
 pub mod Lines
 pub mod Pending
+pub mod OrderMessage
 pub mod Reported
 pub mod Asking
 pub mod Verdict

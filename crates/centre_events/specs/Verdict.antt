@@ -19,7 +19,7 @@ use Rattle.centre_events.specs.Cover.{is_area, area_count, has_selector, selecto
 use Rattle.order_maker.specs.Grouping.{first}
 use Rattle.centre_events.specs.InFlight.{in_flight, matches_flight}
 use Rattle.centre_events.specs.Links.{is_bsc, bsc_count, is_up, last_link}
-use Rattle.order_maker.specs.OrderMessage.{order_message}
+use Rattle.centre_events.specs.OrderMessage.{order_message}
 use Rattle.centre_events.specs.Outcomes.{replies_to, failed_ids, listed_cells}
 use Rattle.centre_events.specs.Past.{Past, entry_count, position}
 use Rattle.centre_events.specs.Pending.{pending}

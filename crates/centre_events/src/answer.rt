@@ -12,7 +12,7 @@ use std::alloc::{AllocError, Global};
 use warning_book::WarningId;
 
 /// What an accepted event is answered.
-#[derive(Debug, PartialEq, Eq, Drop)]
+#[derive(Drop)]
 pub enum Answer {
     Done,
     /// The number and the serial number of a warning.

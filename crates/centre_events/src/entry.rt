@@ -8,7 +8,7 @@ use crate::event::Event;
 use std::alloc::{AllocError, Global};
 
 /// An accepted event: who submitted it, and what it was answered.
-#[derive(Debug, PartialEq, Eq, Drop)]
+#[derive(Drop)]
 pub struct Entry {
     /// The number of the desk, from 1.
     pub desk: u32,
@@ -23,23 +23,25 @@ impl Entry {
         ensures entry { IfOk result (λ e. e ≡ record { desk = desk; event = event; answer = answer.now }) }
         ensures plain { is_plain answer.now ≡ true → IsOk result }
     {
-        let answer = answer.copied(alloc)?;
-        Ok(Entry {
-            desk,
-            event,
-            answer,
-        })
+        match answer.copied(alloc) {
+            Ok(answer) => Ok(Entry {
+                desk,
+                event,
+                answer,
+            }),
+            Err(error) => {
+                drop(event);
+                Err(error)
+            }
+        }
     }
 
     /// The same entry in memory of its own.
     pub fn copied(&self, alloc: Global) -> Result<Entry, AllocError>
         ensures { IfOk result (λ copy. copy ≡ self.now) }
     {
-        Ok(Entry {
-            desk: self.desk,
-            event: self.event.copied(alloc)?,
-            answer: self.answer.copied(alloc)?,
-        })
+        let event = self.event.copied(alloc)?;
+        Entry::of(alloc, self.desk, event, &self.answer)
     }
 
     pub fn same(&self, other: &Entry) -> bool

@@ -10,7 +10,7 @@ use std::alloc::{AllocError, Global};
 use warning_book::WarningId;
 
 /// What can happen to a centre: an edit, a retry, a link, an order, a query or a report.
-#[derive(Debug, PartialEq, Eq, Drop)]
+#[derive(Drop)]
 pub enum Event {
     /// An edit of the register, of the areas or of the book.
     Edit(Edit),

@@ -8,7 +8,7 @@ use serials::Serial;
 use std::alloc::{AllocError, Global};
 
 /// What was sent to a BSC and is neither answered nor lost with its link.
-#[derive(Debug, PartialEq, Eq, Drop)]
+#[derive(Drop)]
 pub enum InFlight {
     Order(Order),
     /// A MESSAGE STATUS QUERY (TS 48.049, 8.1.3).

@@ -1,8 +1,8 @@
 //! What a cell broadcast centre accepts, and what each event does to what is stored of one version in one cell.
 //!
 //! Begin with `event`, `answer` and `refusal`; what an event makes of a line is in `stepping`, of the presence of one version
-//! in `effects`, and of a count in `counts`. The definitions over the past that contracts cite are in `specs/`, beginning
-//! with `Past`.
+//! in `effects`, and of a count in `counts`. The message of an order is in `order_message`. The definitions over the past
+//! that contracts cite are in `specs/`, beginning with `Past`.
 #![tactic(auto)]
 
 pub mod answer;
@@ -17,6 +17,7 @@ pub mod in_flight;
 pub mod in_order;
 mod lookups;
 pub mod naming;
+pub mod order_message;
 pub mod outcome;
 pub mod refusal;
 pub mod replies;

@@ -4,7 +4,8 @@ ghost use Rattle.std.specs.Prelude.{◌≡◌};
 ghost use Rattle.centre_events.specs.Refusals.{refusal_number};
 
 use std::alloc::{AllocError, AllocFailed};
-use thiserror::Error;
+use std::error::Error;
+use std::fmt;
 
 /// A number that would be passed.
 #[derive(Clone, Copy, Debug, PartialEq, Eq)]
@@ -30,84 +31,48 @@ pub enum Limit {
 /// Why an event or a question is refused, in the order in which the causes are looked at. The first that holds is
 /// the answer. `Memory` is the last of them: nothing that decides a refusal takes memory. `WrongDesk` comes from an office
 /// alone, which looks at it before all others.
-#[derive(Clone, Copy, Debug, PartialEq, Eq, Error)]
+#[derive(Clone, Copy, Debug, PartialEq, Eq)]
 pub enum Refusal {
-    #[error("the centre is stale: it ran out of memory while an event was entered")]
     Stale,
-    #[error("the journal is full")]
     JournalFull,
-    #[error("no such BSC")]
     NoSuchBsc,
-    #[error("the BSC is registered already")]
     BscExists,
-    #[error("cells are registered at the BSC")]
     BscHasCells,
-    #[error("the link of the BSC is up")]
     LinkIsUp,
-    #[error("the cell is registered already")]
     CellExists,
-    #[error("no such cell")]
     NoSuchCell,
-    #[error("the cell is registered at this BSC already")]
     SameBsc,
-    #[error("a name is 1 to 32 letters, digits or hyphens")]
     BadName,
-    #[error("the area is there already")]
     AreaExists,
-    #[error("no such area")]
     NoSuchArea,
-    #[error("a warning names the area")]
     AreaInUse,
-    #[error("the area has this selector already")]
     SelectorThere,
-    #[error("the area has no such selector")]
     SelectorNotThere,
-    #[error("no such warning")]
     NoSuchWarning,
-    #[error("the warning was stopped")]
     NotActive,
-    #[error("the warning is active")]
     StillActive,
-    #[error("a message of the warning is on air, or may be")]
     StillReported,
-    #[error("an order for the warning is in flight")]
     StillInFlight,
-    #[error("a warning names one area at least")]
     NoAreas,
-    #[error("the warning names the area already, or it is named twice")]
     AreaThere,
-    #[error("the warning does not name the area")]
     AreaNotThere,
-    #[error("the warning names no other area")]
     LastArea,
-    #[error("a content has 1 to 15 pages of 1 to 82 octets")]
     BadPages,
-    #[error("a repetition period is 1 to 1,024")]
     BadPeriod,
-    #[error("the warning had its last update")]
     UpdatesExhausted,
-    #[error("the link has ended; the latest is {now}")]
     StaleLink {
         /// The generation of the latest link, 0 where there was none.
         now: u64,
     },
-    #[error("the link is down")]
     LinkNotUp,
-    #[error("an order is in flight")]
     InFlight,
-    #[error("nothing is to be ordered")]
     NothingPending,
-    #[error("the message is on air in no such cell")]
     NothingToAsk,
-    #[error("the message answers no order in flight")]
     NoOrder,
-    #[error("a limit would be passed: {which:?}")]
     Limit {
         which: Limit,
     },
-    #[error("out of memory")]
     Memory,
-    #[error("the desk is not as the office knows it, after {position} entries")]
     WrongDesk {
         /// The number of entries of the centre.
         position: u64,
@@ -158,7 +123,82 @@ impl Refusal {
             Refusal::WrongDesk { position: _ } => 37,
         }
     }
+
+    /// What is printed of it, up to its number where it has one.
+    fn words(self) -> &'static str {
+        match self {
+            Refusal::Stale =>
+                "the centre is stale: it ran out of memory while an event was entered",
+            Refusal::JournalFull => "the journal is full",
+            Refusal::NoSuchBsc => "no such BSC",
+            Refusal::BscExists => "the BSC is registered already",
+            Refusal::BscHasCells => "cells are registered at the BSC",
+            Refusal::LinkIsUp => "the link of the BSC is up",
+            Refusal::CellExists => "the cell is registered already",
+            Refusal::NoSuchCell => "no such cell",
+            Refusal::SameBsc => "the cell is registered at this BSC already",
+            Refusal::BadName => "a name is 1 to 32 letters, digits or hyphens",
+            Refusal::AreaExists => "the area is there already",
+            Refusal::NoSuchArea => "no such area",
+            Refusal::AreaInUse => "a warning names the area",
+            Refusal::SelectorThere => "the area has this selector already",
+            Refusal::SelectorNotThere => "the area has no such selector",
+            Refusal::NoSuchWarning => "no such warning",
+            Refusal::NotActive => "the warning was stopped",
+            Refusal::StillActive => "the warning is active",
+            Refusal::StillReported => "a message of the warning is on air, or may be",
+            Refusal::StillInFlight => "an order for the warning is in flight",
+            Refusal::NoAreas => "a warning names one area at least",
+            Refusal::AreaThere => "the warning names the area already, or it is named twice",
+            Refusal::AreaNotThere => "the warning does not name the area",
+            Refusal::LastArea => "the warning names no other area",
+            Refusal::BadPages => "a content has 1 to 15 pages of 1 to 82 octets",
+            Refusal::BadPeriod => "a repetition period is 1 to 1,024",
+            Refusal::UpdatesExhausted => "the warning had its last update",
+            Refusal::StaleLink { .. } => "the link has ended; the latest is ",
+            Refusal::LinkNotUp => "the link is down",
+            Refusal::InFlight => "an order is in flight",
+            Refusal::NothingPending => "nothing is to be ordered",
+            Refusal::NothingToAsk => "the message is on air in no such cell",
+            Refusal::NoOrder => "the message answers no order in flight",
+            Refusal::Limit { which: Limit::Bscs } => "a limit would be passed: Bscs",
+            Refusal::Limit {
+                which: Limit::Cells,
+            } => "a limit would be passed: Cells",
+            Refusal::Limit {
+                which: Limit::Areas,
+            } => "a limit would be passed: Areas",
+            Refusal::Limit {
+                which: Limit::Selectors,
+            } => "a limit would be passed: Selectors",
+            Refusal::Limit {
+                which: Limit::Warnings,
+            } => "a limit would be passed: Warnings",
+            Refusal::Limit {
+                which: Limit::WarningAreas,
+            } => "a limit would be passed: WarningAreas",
+            Refusal::Limit { which: Limit::Ids } => "a limit would be passed: Ids",
+            Refusal::Limit {
+                which: Limit::Desks,
+            } => "a limit would be passed: Desks",
+            Refusal::Memory => "out of memory",
+            Refusal::WrongDesk { .. } => "the desk is not as the office knows it, after ",
+        }
+    }
 }
+
+impl fmt::Display for Refusal {
+    fn fmt<W: fmt::Write>(&self, f: &mut fmt::Formatter<W>) -> fmt::Result {
+        f.write_str(self.words())?;
+        match self {
+            Refusal::StaleLink { now } => write!(f, "{now}"),
+            Refusal::WrongDesk { position } => write!(f, "{position} entries"),
+            _ => Ok(()),
+        }
+    }
+}
+
+impl Error for Refusal {}
 
 impl From<cell_register::Refusal> for Refusal {
     ghost use Rattle.std.specs.Prelude.{◌≡◌};

@@ -16,7 +16,7 @@ use std::alloc::{AllocError, Global};
 use std::marker::Model;
 
 /// What a reply says of each cell of its order, in that order.
-#[derive(Debug, Drop)]
+#[derive(Drop)]
 pub struct Replies {
     replies: Vec<Reply>,
     /// The cells stand in ascending order, so that one can be found by halves.

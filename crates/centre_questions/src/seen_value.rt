@@ -1,13 +1,13 @@
 //! What a question is answered.
 
 use cell_register::BscId;
-use centre_core::reported::ReportedKeys;
 use centre_events::in_flight::InFlight;
+use centre_past::reported::ReportedKeys;
 use coverage_board::Numbers;
 use order_maker::Orders;
 
 /// The answer to a question, in memory of its own.
-#[derive(Debug, Drop)]
+#[derive(Drop)]
 pub enum SeenValue {
     /// The numbers of a warning, in all or in one area.
     Numbers(Numbers),

@@ -2,10 +2,10 @@
 use Rattle.std.proofs.Common.{◌≡◌, inl, inr, ℕ, Bool, true, false, Option, Some, None, Result, Ok, Err, List, refl, sym, ap, ◌∙◌, subst}
 use Rattle.std.specs.Bool.{MatchBool}
 use Rattle.std.specs.Prelude.{IsOk}
-use Rattle.centre_core.specs.Legal.{past}
+use Rattle.centre_past.specs.Legal.{past}
 use Rattle.centre_events.specs.Links.{is_bsc}
-use Rattle.centre_core.specs.Numbers.{area_board, board}
-use Rattle.centre_core.specs.Table.{table}
+use Rattle.centre_past.specs.Numbers.{area_board, board}
+use Rattle.centre_past.specs.Table.{table}
 use Rattle.centre_events.specs.Past.{Past}
 use Rattle.centre_events.specs.Pending.{pending}
 use Rattle.centre_events.specs.declared.refusal.Refusal.{Refusal}

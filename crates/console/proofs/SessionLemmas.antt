@@ -2,9 +2,9 @@
 use Rattle.std.proofs.Common.{◌≡◌, ◌⊎◌, inl, inr, ℕ, true, false, Some, Ok, Err, List, [], ◌∷◌, ◌++◌, length, length-append, refl, sym, ap, ◌∙◌}
 use Rattle.cbsp_messages.specs.declared.message_type.MessageType.{MessageType}
 use Rattle.centre_core.specs.Centre.{Leaves, Refuses}
-use Rattle.centre_core.specs.Legal.{Known, past}
+use Rattle.centre_past.specs.Legal.{Known, past}
 use Rattle.centre_events.specs.Verdict.{verdict}
-use Rattle.centre_core.specs.VerdictLaws.{verdict_is_no_want}
+use Rattle.centre_past.specs.VerdictLaws.{verdict_is_no_want}
 use Rattle.centre_events.specs.declared.answer.Answer.{Answer}
 use Rattle.centre_events.specs.declared.event.Event.{Event}
 use Rattle.centre_events.specs.declared.refusal.Refusal.{Refusal}

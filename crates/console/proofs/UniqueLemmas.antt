@@ -11,7 +11,7 @@ use Rattle.cbsp_messages.specs.declared.message.Message.{Message}
 use Rattle.cbsp_messages.specs.declared.message_type.MessageType.{MessageType}
 use Rattle.cbsp_messages.specs.declared.message_type.MessageType.TheVariants as type
 use Rattle.cbsp_messages.proofs.UniqueLemmas.{no_fault_if_spelled, not_whole, one_cut_fault, one_message_at_most, one_whole_fault}
-use Rattle.centre_core.specs.Legal.{past}
+use Rattle.centre_past.specs.Legal.{past}
 use Rattle.centre_events.specs.declared.answer.Answer.{Answer}
 use Rattle.centre_events.specs.declared.event.Event.{Event}
 use Rattle.centre_events.specs.declared.event.Event.TheVariants as event

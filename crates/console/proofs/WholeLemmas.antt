@@ -3,16 +3,16 @@ use Rattle.std.proofs.Common.{◌≡◌, inl, inr, ℕ, Bool, true, false, Optio
 use Rattle.std.specs.Bool.{MatchBool}
 use Rattle.std.specs.Prelude.{MatchOption}
 use Rattle.cbsp_messages.specs.declared.message_type.MessageType.{MessageType}
-use Rattle.centre_core.specs.Legal.{past}
+use Rattle.centre_past.specs.Legal.{past}
 use Rattle.centre_events.specs.InFlight.{in_flight}
 use Rattle.centre_events.specs.Links.{is_bsc}
 use Rattle.centre_events.specs.Cover.{is_area}
-use Rattle.centre_core.specs.Numbers.{area_board, area_total, board, warning_area}
+use Rattle.centre_past.specs.Numbers.{area_board, area_total, board, warning_area}
 use Rattle.centre_events.specs.Past.{Past}
 use Rattle.centre_events.specs.Pending.{pending}
-use Rattle.centre_core.specs.Table.{table}
+use Rattle.centre_past.specs.Table.{table}
 use Rattle.centre_events.specs.Warnings.{book_of}
-use Rattle.centre_core.specs.VerdictLaws.{is_given, verdict_given}
+use Rattle.centre_past.specs.VerdictLaws.{is_given, verdict_given}
 use Rattle.centre_events.specs.declared.answer.Answer.{Answer}
 use Rattle.centre_events.specs.declared.answer.Answer.TheVariants as answer
 use Rattle.centre_events.specs.declared.event.Event.{Event}

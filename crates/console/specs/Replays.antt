@@ -1,7 +1,7 @@
 -- A whole run: what is written is the text of what was read.
 use Rattle.std.specs.Prelude.{◌≡◌, ◌⊎◌, ℕ, ◌≤◌, List, [], ◌∷◌, ◌++◌, length, Option}
 use Rattle.std.specs.Io.KnownBytes.{Appends, Consumes, IsAtEnd}
-use Rattle.centre_core.specs.Legal.{new_centre}
+use Rattle.centre_past.specs.Legal.{new_centre}
 use Rattle.centre_events.specs.declared.refusal.Refusal.TheVariants as refusal
 use Rattle.console.specs.Consoles.{BeginsLong, IsWritten}
 use Rattle.console.specs.Sessions.{SessionState, LineStarves}

@@ -8,7 +8,7 @@ use Rattle.cbsp_messages.specs.declared.fault.MessageFault.{MessageFault}
 use Rattle.cbsp_messages.specs.declared.message.Message.{Message}
 use Rattle.cbsp_messages.specs.declared.message_type.MessageType.{MessageType}
 use Rattle.centre_events.specs.Kept.{MayStarve}
-use Rattle.centre_core.specs.Legal.{Known, past}
+use Rattle.centre_past.specs.Legal.{Known, past}
 use Rattle.centre_events.specs.Links.{is_bsc}
 use Rattle.centre_events.specs.Verdict.{verdict}
 use Rattle.centre_events.specs.declared.answer.Answer.{Answer}

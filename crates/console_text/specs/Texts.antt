@@ -9,11 +9,11 @@ use Rattle.cbsp_messages.specs.Written.{frame_of}
 use Rattle.cbsp_messages.specs.declared.message.Message.{Message}
 use Rattle.cbsp_messages.specs.declared.fault.MessageFault.{MessageFault}
 use Rattle.cbsp_messages.specs.declared.fault.MessageFault.TheVariants as fault
-use Rattle.centre_core.specs.Fits.{AnswerFits}
+use Rattle.centre_past.specs.Fits.{AnswerFits}
 use Rattle.centre_events.specs.Refusals.{refusal_number}
 use Rattle.centre_events.specs.declared.answer.Answer.{Answer}
 use Rattle.centre_events.specs.declared.answer.Answer.TheVariants as answer
-use Rattle.centre_core.specs.declared.reported.reported_key.ReportedKey.{ReportedKey}
+use Rattle.centre_past.specs.declared.reported.reported_key.ReportedKey.{ReportedKey}
 use Rattle.centre_events.specs.declared.refusal.Limit.{Limit}
 use Rattle.centre_events.specs.declared.refusal.Limit.TheVariants as limit
 use Rattle.centre_events.specs.declared.refusal.Refusal.{Refusal}

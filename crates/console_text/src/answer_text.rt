@@ -2,7 +2,7 @@
 
 ghost use Rattle.std.specs.Prelude.{◌≡◌, IfOk, string_bytes};
 ghost use Rattle.cbsp_messages.specs.Written.{Fits};
-ghost use Rattle.centre_core.specs.Fits.{AnswerFits};
+ghost use Rattle.centre_past.specs.Fits.{AnswerFits};
 ghost use Rattle.console_text.specs.Texts.{limit_name, refusal_name, refused_text, sent_text, accepted_text, fault_name, fault_value, fault_text, number_text, value_text, board_text, response_text, ResponseFits};
 
 use crate::digits::serial_text;

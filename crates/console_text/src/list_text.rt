@@ -4,7 +4,7 @@ ghost use Rattle.std.specs.Prelude.{◌≡◌, IfOk, string_bytes};
 ghost use Rattle.console_text.specs.Texts.{kind_name, old_text, group_text, pending_text, presence_name, key_text, table_text};
 
 use crate::digits::serial_text;
-use centre_core::reported::ReportedKey;
+use centre_past::reported::ReportedKey;
 use mirror::Presence;
 use order_maker::{Order, OrderKind};
 use std::alloc::{AllocError, Global};

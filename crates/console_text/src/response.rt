@@ -1,9 +1,9 @@
 //! What a line is answered.
 
 use cbsp_messages::MessageFault;
-use centre_core::reported::ReportedKeys;
 use centre_events::answer::Answer;
 use centre_events::refusal::Refusal;
+use centre_past::reported::ReportedKeys;
 use coverage_board::Numbers;
 use order_maker::Orders;
 

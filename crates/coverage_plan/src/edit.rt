@@ -9,7 +9,7 @@ use std::alloc::{AllocError, Global};
 use warning_book::{Content, Notice, WarningId};
 
 /// An edit of the register, of the areas or of the book of warnings.
-#[derive(Debug, PartialEq, Eq, Drop)]
+#[derive(Drop)]
 pub enum Edit {
     /// Registers a BSC.
     AddBsc(BscId),

@@ -3,7 +3,6 @@ pub mod Alike
 pub mod Grouping
 pub mod GroupingLaws
 pub mod OrderingLaws
-pub mod OrderMessage
 pub mod Pending
 pub mod Places
 pub mod KeyNumber

@@ -1,5 +1,5 @@
 //! Orders for base station controllers (BSCs): what is to be ordered on each line, held by BSC, put in order and
-//! joined to orders, and the message of an order (TS 48.049, 8.1.3.1 and 8.1.3.4).
+//! joined to orders (TS 48.049, 8.1.3.1 and 8.1.3.4).
 //!
 //! Begin with `deeds`, then `pending`. What is to be ordered on a line is said in `specs/Actions.antt`, how actions
 //! become orders in `specs/Grouping.antt`, what is held and how it changes in `specs/Pending.antt`, and what follows
@@ -13,7 +13,6 @@ mod order;
 mod order_cells;
 mod order_key;
 mod order_kind;
-mod order_message;
 mod orders;
 mod pending;
 
@@ -22,6 +21,5 @@ pub use deed::Deed;
 pub use deeds::actions;
 pub use order::Order;
 pub use order_kind::OrderKind;
-pub use order_message::{message_of, query_of};
 pub use orders::Orders;
 pub use pending::Pending;

@@ -13,7 +13,7 @@ use crate::message_type::MessageType;
 use cbsp_ie::Cause;
 
 /// What a BSC got was not understood.
-#[derive(Debug, Drop, PartialEq, Eq)]
+#[derive(Drop, PartialEq, Eq)]
 pub struct ErrorIndication {
     pub cause: Cause,
     pub message_id: Option<u16>,

@@ -14,7 +14,7 @@ use cbsp_ie::Failures;
 use std::alloc::{AllocError, Global};
 
 /// Cells can't broadcast.
-#[derive(Debug, Drop, PartialEq, Eq)]
+#[derive(Drop, PartialEq, Eq)]
 pub struct Failure {
     pub failures: Failures,
     pub kind: u8,

@@ -14,7 +14,7 @@ use cbsp_ie::CellIds;
 use std::alloc::{AllocError, Global};
 
 /// Ends the broadcast of a message.
-#[derive(Debug, Drop, PartialEq, Eq)]
+#[derive(Drop, PartialEq, Eq)]
 pub struct Kill {
     pub message_id: u16,
     pub serial: u16,

@@ -15,7 +15,7 @@ use cbsp_ie::{CellIds, Counts};
 use std::alloc::{AllocError, Global};
 
 /// A kill was carried out in all its cells.
-#[derive(Debug, Drop, PartialEq, Eq)]
+#[derive(Drop, PartialEq, Eq)]
 pub struct KillComplete {
     pub message_id: u16,
     pub serial: u16,

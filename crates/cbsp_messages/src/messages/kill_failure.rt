@@ -15,7 +15,7 @@ use cbsp_ie::{CellIds, Counts, Failures};
 use std::alloc::{AllocError, Global};
 
 /// A kill failed in the cells that `failures` names.
-#[derive(Debug, Drop, PartialEq, Eq)]
+#[derive(Drop, PartialEq, Eq)]
 pub struct KillFailure {
     pub message_id: u16,
     pub serial: u16,

@@ -14,7 +14,7 @@ use cbsp_ie::CellIds;
 use std::alloc::{AllocError, Global};
 
 /// Cells can broadcast again, without their messages if `recovery` is not 0.
-#[derive(Debug, Drop, PartialEq, Eq)]
+#[derive(Drop, PartialEq, Eq)]
 pub struct Restart {
     pub cells: CellIds,
     pub kind: u8,

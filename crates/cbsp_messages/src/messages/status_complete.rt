@@ -14,7 +14,7 @@ use cbsp_ie::Counts;
 use std::alloc::{AllocError, Global};
 
 /// How often a message was broadcast.
-#[derive(Debug, Drop, PartialEq, Eq)]
+#[derive(Drop, PartialEq, Eq)]
 pub struct StatusComplete {
     pub message_id: u16,
     pub serial: u16,

@@ -15,7 +15,7 @@ use cbsp_ie::{Counts, Failures};
 use std::alloc::{AllocError, Global};
 
 /// A query failed in the cells that `failures` names.
-#[derive(Debug, Drop, PartialEq, Eq)]
+#[derive(Drop, PartialEq, Eq)]
 pub struct StatusFailure {
     pub message_id: u16,
     pub serial: u16,

@@ -14,7 +14,7 @@ use cbsp_ie::CellIds;
 use std::alloc::{AllocError, Global};
 
 /// Asks how often a message was broadcast.
-#[derive(Debug, Drop, PartialEq, Eq)]
+#[derive(Drop, PartialEq, Eq)]
 pub struct StatusQuery {
     pub message_id: u16,
     pub serial: u16,

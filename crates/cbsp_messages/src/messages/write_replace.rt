@@ -17,7 +17,7 @@ use cbsp_ie::CellIds;
 use std::alloc::{AllocError, Global};
 
 /// Writes a message, or replaces the older one that `old` names.
-#[derive(Debug, Drop, PartialEq, Eq)]
+#[derive(Drop, PartialEq, Eq)]
 pub struct WriteReplace {
     pub message_id: u16,
     pub serial: u16,
