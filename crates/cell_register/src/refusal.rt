@@ -3,7 +3,8 @@
 ghost use Rattle.std.specs.Prelude.{◌≡◌};
 
 use std::alloc::{AllocError, AllocFailed};
-use thiserror::Error;
+use std::error::Error;
+use std::fmt;
 
 /// A number that would be passed.
 #[derive(Clone, Copy, Debug, PartialEq, Eq)]
@@ -16,25 +17,44 @@ pub enum Limit {
 
 /// Why an event is refused, in the order in which the causes are looked at. The first that holds is the answer;
 /// `Memory` is the last.
-#[derive(Clone, Copy, Debug, PartialEq, Eq, Error)]
+#[derive(Clone, Copy, Debug, PartialEq, Eq)]
 pub enum Refusal {
-    #[error("no such BSC")]
     NoSuchBsc,
-    #[error("the BSC is registered already")]
     BscExists,
-    #[error("the BSC has cells")]
     BscHasCells,
-    #[error("the cell is registered already")]
     CellExists,
-    #[error("no such cell")]
     NoSuchCell,
-    #[error("the cell is registered at this BSC already")]
     SameBsc,
-    #[error("a limit would be passed: {which:?}")]
     Limit { which: Limit },
-    #[error("out of memory")]
     Memory,
 }
+
+impl Refusal {
+    /// What is printed of it.
+    fn words(self) -> &'static str {
+        match self {
+            Refusal::NoSuchBsc => "no such BSC",
+            Refusal::BscExists => "the BSC is registered already",
+            Refusal::BscHasCells => "the BSC has cells",
+            Refusal::CellExists => "the cell is registered already",
+            Refusal::NoSuchCell => "no such cell",
+            Refusal::SameBsc => "the cell is registered at this BSC already",
+            Refusal::Limit { which: Limit::Bscs } => "a limit would be passed: Bscs",
+            Refusal::Limit {
+                which: Limit::Cells,
+            } => "a limit would be passed: Cells",
+            Refusal::Memory => "out of memory",
+        }
+    }
+}
+
+impl fmt::Display for Refusal {
+    fn fmt<W: fmt::Write>(&self, f: &mut fmt::Formatter<W>) -> fmt::Result {
+        f.write_str(self.words())
+    }
+}
+
+impl Error for Refusal {}
 
 impl From<AllocError> for Refusal {
     ghost use Rattle.std.specs.Prelude.{◌≡◌};

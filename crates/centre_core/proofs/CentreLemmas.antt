@@ -10,17 +10,17 @@ use Rattle.kept_tables.specs.declared.spot.Spot.{Spot}
 use Rattle.mirror.specs.Table.{down_at}
 use Rattle.warning_book.specs.Book as book
 use Rattle.centre_core.specs.Centre.{IsCentre, IsRefused, Leaves, Refuses}
-use Rattle.centre_core.specs.Flights.{up_before}
-use Rattle.centre_core.specs.Following.{Finishes, WasReached, held_in, held_past}
-use Rattle.centre_core.specs.IsKept.{IsKept, OnlyReadsIn}
-use Rattle.centre_events.specs.Facts.{facts}
+use Rattle.centre_past.specs.Flights.{up_before}
+use Rattle.centre_lines.specs.Following.{Finishes, WasReached, held_in, held_past}
+use Rattle.centre_past.specs.IsKept.{IsKept, OnlyReadsIn}
+use Rattle.centre_past.specs.Facts.{facts}
 use Rattle.centre_events.specs.Kept.{Gives, IsChecked, is_edit, register_then, areas_then}
 use Rattle.coverage_plan.specs.Edited.{register_after, areas_after, book_after}
-use Rattle.centre_core.specs.Legal.{Known, Legal}
+use Rattle.centre_past.specs.Legal.{Known, Legal}
 use Rattle.centre_events.specs.Past.{Past, After, past_of, entry_count, position}
-use Rattle.centre_core.specs.Reach.{edit_reach, looked_at, size, reach, reach_of}
+use Rattle.centre_past.specs.Reach.{edit_reach, looked_at, size, reach, reach_of}
 use Rattle.centre_events.specs.Settings.{Settings}
-use Rattle.centre_core.specs.State.{AreLinksOf}
+use Rattle.centre_past.specs.State.{AreLinksOf}
 use Rattle.centre_events.specs.Verdict.{verdict, answered, edit_answered}
 use Rattle.centre_events.specs.Warnings.{book_then}
 use Rattle.centre_events.specs.declared.answer.Answer.{Answer}
@@ -28,15 +28,15 @@ use Rattle.coverage_plan.specs.declared.edit.Edit.{Edit}
 use Rattle.centre_events.specs.declared.entry.Entry.{Entry}
 use Rattle.centre_events.specs.declared.event.Event.{Event}
 use Rattle.centre_events.specs.declared.event.Event.TheVariants as event
-use Rattle.centre_core.specs.declared.held_lines.HeldLines.{HeldLines}
-use Rattle.centre_core.specs.declared.kept.Kept.{Kept}
+use Rattle.centre_lines.specs.declared.held_lines.HeldLines.{HeldLines}
+use Rattle.centre_past.specs.declared.kept.Kept.{Kept}
 use Rattle.centre_events.specs.declared.refusal.Refusal.{Refusal}
 use Rattle.centre_events.specs.declared.refusal.Refusal.TheVariants.{JournalFull, Memory}
-use Rattle.centre_core.proofs.AreaLemmas.{areas_with}
+use Rattle.centre_past.proofs.AreaLemmas.{areas_with}
 use Rattle.centre_events.proofs.PastLemmas.{count_journal, position_journal}
-use Rattle.centre_core.proofs.ReadLemmas.{reads_kept}
-use Rattle.centre_core.proofs.RegisterLemmas.{register_with}
-use Rattle.centre_core.proofs.UniqueLemmas.{verdict_answered}
+use Rattle.centre_past.proofs.ReadLemmas.{reads_kept}
+use Rattle.centre_past.proofs.RegisterLemmas.{register_with}
+use Rattle.centre_past.proofs.UniqueLemmas.{verdict_answered}
 
 -- an event that is no edit leaves the register, the areas and the book
 pub register_stays : (e : Event) (r : register.State) → is_edit e ≡ false → register_then e r ≡ r
@@ -50,16 +50,6 @@ areas_stay other l h = refl
 pub book_stays : (e : Event) (st : book.State) → is_edit e ≡ false → book_then e st ≡ st
 book_stays (event.Edit x) st h = cc
 book_stays other st h = refl
-
--- an error that is such a refusal is given where that refusal is
-pub err_gives : (v r : Result Answer Refusal) (refusal : Refusal) → IsErrAnd r (λ x. x ≡ refusal) → Gives v (Err refusal) → Gives v r
-err_gives v (Ok a) refusal h g = absurd h
-err_gives v (Err x) refusal h g = subst (λ k. Gives v (Err k)) (sym h) g
-
--- the same of an edit that is looked at
-pub err_checked : {A : Type 0} (v : Result Answer Refusal) (r : Result A Refusal) (refusal : Refusal) → IsErrAnd r (λ x. x ≡ refusal) → v ≡ Err refusal → IsChecked v r
-err_checked v (Ok a) refusal h g = absurd h
-err_checked v (Err x) refusal h g = g ∙ ap Err (sym h)
 
 -- where the journal has room the verdict is what the event is answered
 pub room_is : (settings : Settings) (journal : List Entry) (e : Event) → length journal < settings.limit → verdict settings (past_of journal) e ≡ answered settings.network (past_of journal) e

@@ -19,16 +19,16 @@ use Rattle.warning_book.specs.Book.{new_serial, next_serial, content_of}
 use Rattle.warning_book.specs.Content.{is_page, are_pages}
 use Rattle.warning_book.specs.Sound.{IsSound}
 use Rattle.warning_book.specs.declared.content.Content.{Content}
-use Rattle.centre_core.proofs.AskLemmas.{IsQuery, ask_query}
-use Rattle.centre_core.proofs.CarriedLemmas.{sent_carriable}
-use Rattle.centre_core.proofs.CheckLemmas.{unless_ok}
-use Rattle.centre_core.proofs.UniqueLemmas.{verdict_answered}
-use Rattle.centre_core.proofs.WarningLemmas.{content_has_pages, legal_sound}
+use Rattle.centre_past.proofs.AskLemmas.{IsQuery, ask_query}
+use Rattle.centre_answers.proofs.CarriedLemmas.{sent_carriable}
+use Rattle.centre_past.proofs.CheckLemmas.{unless_ok}
+use Rattle.centre_past.proofs.UniqueLemmas.{verdict_answered}
+use Rattle.centre_past.proofs.WarningLemmas.{content_has_pages, legal_sound}
 use Rattle.centre_events.specs.Asking.{asked_cells, on_air_after}
-use Rattle.centre_core.specs.Fits.{AnswerFits, IsCarried}
+use Rattle.centre_past.specs.Fits.{AnswerFits, IsCarried}
 use Rattle.order_maker.specs.Grouping.{first, most_cells}
 use Rattle.centre_events.specs.InFlight.{in_flight, is_kill}
-use Rattle.centre_core.specs.Legal.{Legal}
+use Rattle.centre_past.specs.Legal.{Legal}
 use Rattle.order_maker.specs.OrderMessage.{IsCarriable, listed, message_by}
 use Rattle.centre_events.specs.Past.{Past, position}
 use Rattle.centre_events.specs.Pending.{pending}

@@ -7,26 +7,26 @@ use Rattle.std.proofs.lemmas.Bool.{ne_eqb}
 use Rattle.std.proofs.lemmas.List.{reverse-append}
 use Rattle.std.proofs.lemmas.Option.{get_or_from_slice_get}
 use Rattle.centre_events.specs.Base.{empty_base}
-use Rattle.centre_core.specs.Flights.{up_before}
-use Rattle.centre_core.specs.Following.{Finishes, Follows, IsLegal, WasReached}
-use Rattle.centre_core.specs.IsKept.{IsKept, OnlyReadsIn}
+use Rattle.centre_past.specs.Flights.{up_before}
+use Rattle.centre_lines.specs.Following.{Finishes, Follows, IsLegal, WasReached}
+use Rattle.centre_past.specs.IsKept.{IsKept, OnlyReadsIn}
 use Rattle.centre_events.specs.Kept.{is_edit}
 use Rattle.coverage_plan.specs.Edited.{register_after, areas_after, book_after}
-use Rattle.centre_core.specs.Legal.{Legal}
+use Rattle.centre_past.specs.Legal.{Legal}
 use Rattle.centre_events.specs.Past.{Past, After, since, past_of}
 use Rattle.centre_events.specs.Settings.{Settings}
-use Rattle.centre_core.specs.State.{AreLinksOf}
+use Rattle.centre_past.specs.State.{AreLinksOf}
 use Rattle.centre_events.specs.Verdict.{answered, edit_answered, verdict}
 use Rattle.centre_events.specs.declared.answer.Answer.{Answer}
 use Rattle.centre_events.specs.declared.entry.Entry.{Entry}
 use Rattle.centre_events.specs.declared.event.Event.{Event}
 use Rattle.centre_events.specs.declared.event.Event.TheVariants as event
-use Rattle.centre_core.specs.declared.held_lines.HeldLines.{HeldLines}
-use Rattle.centre_core.specs.declared.kept.Kept.{Kept}
+use Rattle.centre_lines.specs.declared.held_lines.HeldLines.{HeldLines}
+use Rattle.centre_past.specs.declared.kept.Kept.{Kept}
 use Rattle.centre_core.proofs.CentreLemmas.{finishes_edit, finishes_other}
 use Rattle.centre_events.proofs.PastLemmas.{past_more, position_past}
-use Rattle.centre_core.proofs.ReadLemmas.{reads_kept}
-use Rattle.centre_core.proofs.UniqueLemmas.{verdict_answered}
+use Rattle.centre_past.proofs.ReadLemmas.{reads_kept}
+use Rattle.centre_past.proofs.UniqueLemmas.{verdict_answered}
 
 -- the entries before others of a legal past make a legal past
 legal_since : (settings : Settings) (xs ys : List Entry) → Legal settings (since empty_base (xs ++ ys)) → Legal settings (since empty_base ys)

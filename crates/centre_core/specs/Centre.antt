@@ -1,14 +1,14 @@
 -- What always holds of a centre, and what comes of an event that it is given.
 use Rattle.std.specs.Prelude.{◌≡◌, ◌⊎◌, ◌≤◌, Bool, true, false, List, length, Err}
-use Rattle.centre_core.specs.IsKept.{IsKept}
+use Rattle.centre_past.specs.IsKept.{IsKept}
 use Rattle.centre_events.specs.Kept.{MayStarve}
-use Rattle.centre_core.specs.Legal.{Legal, Known}
+use Rattle.centre_past.specs.Legal.{Legal, Known}
 use Rattle.centre_events.specs.Past.{past_of}
 use Rattle.centre_events.specs.Settings.{Settings}
 use Rattle.centre_events.specs.Verdict.{verdict}
 use Rattle.centre_events.specs.declared.entry.Entry.{Entry}
 use Rattle.centre_events.specs.declared.event.Event.{Event}
-use Rattle.centre_core.specs.declared.kept.Kept.{Kept}
+use Rattle.centre_past.specs.declared.kept.Kept.{Kept}
 use Rattle.centre_events.specs.declared.refusal.Refusal.{Refusal}
 use Rattle.centre_events.specs.declared.refusal.Refusal.TheVariants.{Stale, Memory}
 

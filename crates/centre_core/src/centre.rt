@@ -1,23 +1,23 @@
 //! The centre: its journal, what is kept beside it, and the questions that are answered from there.
 
-use crate::entering::{enter, make, up_before, with_entry};
-use crate::events::tell_known;
-use crate::flights::flight_in;
+use crate::entering::{enter, make, with_entry};
 use crate::journal::Journal;
-use crate::kept::Kept;
-use crate::link_state::LinkState;
 use crate::looking::{prepare_edit, prepare_other};
-use crate::meter::Meter;
-use crate::questions;
-use crate::reach::tell_lines;
 use crate::rebuilding::kept_of;
-use crate::reported::ReportedKeys;
 use cell_register::BscId;
+use centre_answers::questions;
 use centre_events::answer::Answer;
 use centre_events::entry::Entry;
 use centre_events::event::Event;
 use centre_events::in_flight::InFlight;
 use centre_events::refusal::Refusal;
+use centre_past::flights::flight_in;
+use centre_past::kept::Kept;
+use centre_past::link_state::LinkState;
+use centre_past::links::up_before;
+use centre_past::meter::Meter;
+use centre_past::reported::ReportedKeys;
+use centre_past::telling::{tell_known, tell_lines};
 use common::{Cell, Name};
 use coverage_board::Numbers;
 use coverage_plan::Edit;
@@ -44,7 +44,7 @@ pub struct Centre {
 }
 
 impl Model for Centre {
-    ghost use Rattle.centre_core.specs.Legal.{CentreState};
+    ghost use Rattle.centre_past.specs.Legal.{CentreState};
     ghost use Rattle.centre_core.specs.Centre.{IsCentre};
 
     ghost Value = { CentreState };
@@ -62,18 +62,18 @@ impl Centre {
     ghost use Rattle.mirror.specs.Table.{counted};
     ghost use Rattle.centre_core.specs.Centre.{Leaves, Refuses};
     ghost use Rattle.centre_core.specs.contracts.centre.Centre.{the_row};
-    ghost use Rattle.centre_core.specs.Fits.{AnswerFits, IsCarried};
+    ghost use Rattle.centre_past.specs.Fits.{AnswerFits, IsCarried};
     ghost use Rattle.centre_events.specs.InFlight.{in_flight};
     ghost use Rattle.centre_core.specs.Journal.{counted_by};
     ghost use Rattle.centre_events.specs.Kept.{is_edit};
-    ghost use Rattle.centre_core.specs.Legal.{Legal, new_centre, past};
-    ghost use Rattle.centre_core.specs.LinkStates.{link_state};
+    ghost use Rattle.centre_past.specs.Legal.{Legal, new_centre, past};
+    ghost use Rattle.centre_past.specs.LinkStates.{link_state};
     ghost use Rattle.centre_events.specs.Links.{is_bsc};
-    ghost use Rattle.centre_core.specs.Numbers.{board, area_board};
+    ghost use Rattle.centre_past.specs.Numbers.{board, area_board};
     ghost use Rattle.centre_events.specs.Pending.{pending};
     ghost use Rattle.centre_events.specs.Places.{place};
-    ghost use Rattle.centre_core.specs.Reach.{reach};
-    ghost use Rattle.centre_core.specs.Table.{table};
+    ghost use Rattle.centre_past.specs.Reach.{reach};
+    ghost use Rattle.centre_past.specs.Table.{table};
     ghost use Rattle.centre_events.specs.Verdict.{verdict};
     ghost use Rattle.centre_events.specs.declared.event.Event.TheVariants as event;
 

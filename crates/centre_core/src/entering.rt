@@ -1,25 +1,21 @@
 //! How an accepted event is entered: what is kept follows it, and its entry becomes the last of the journal.
 
 ghost use Rattle.std.specs.Prelude.{◌≡◌, ◌≤◌, ◌+◌, ◌++◌, ◌∷◌, [], length, true, IfOk, IsOk, OnOk, OnErr};
-ghost use Rattle.centre_core.specs.Flights.{up_before};
-ghost use Rattle.centre_core.specs.Following.{Finishes, held_in};
-ghost use Rattle.centre_core.specs.IsKept.{IsKept};
+ghost use Rattle.centre_lines.specs.Following.{Finishes, held_in};
+ghost use Rattle.centre_past.specs.IsKept.{IsKept};
 ghost use Rattle.centre_events.specs.Kept.{Gives, is_plain};
 ghost use Rattle.coverage_plan.specs.Edited.{register_after, areas_after, book_after};
 ghost use Rattle.centre_events.specs.Past.{Past, After};
-ghost use Rattle.centre_core.specs.State.{AreLinksOf};
 ghost use Rattle.centre_events.specs.Verdict.{edit_answered};
 
-use crate::events::{Verdict, make_edit};
 use crate::finishing::finish;
 use crate::journal::Journal;
-use crate::kept::Kept;
-use crate::link::Link;
-use crate::links::is_up;
-use crate::reached::Reached;
+use centre_answers::events::{Verdict, make_edit};
 use centre_events::answer::Answer;
 use centre_events::entry::Entry;
 use centre_events::event::Event;
+use centre_lines::reached::Reached;
+use centre_past::kept::Kept;
 use coverage_plan::Edit;
 use std::alloc::{AllocError, Global};
 
@@ -38,7 +34,10 @@ pub(crate) fn make_again(kept: &mut Kept, edit: &Edit) -> Result<(), AllocError>
     ensures made { OnOk result (kept.new ≡ record kept.old { register = register_after edit.now kept.old.register; areas = areas_after edit.now kept.old.areas; book = book_after edit.now kept.old.book }) }
 {
     match make(kept, edit) {
-        Ok(_) => Ok(()),
+        Ok(answer) => {
+            drop(answer);
+            Ok(())
+        }
         Err(_) => Err(AllocError),
     }
 }
@@ -55,17 +54,12 @@ pub(crate) fn with_entry(
     ensures answer { IfOk result (λ both. both.1 ≡ answer) }
     ensures plain { is_plain answer ≡ true → IsOk result }
 {
-    let entry = Entry::of(alloc, desk, event, &answer)?;
-    Ok((entry, answer))
-}
-
-/// Whether the event brings up a link that is up already.
-pub(crate) fn up_before(links: &[Link], event: &Event) -> bool
-    ensures { (past : Past) → AreLinksOf past links.now → result ≡ up_before past event.now }
-{
-    match event {
-        Event::LinkUp(b) => is_up(links, *b),
-        _ => false,
+    match Entry::of(alloc, desk, event, &answer) {
+        Ok(entry) => Ok((entry, answer)),
+        Err(error) => {
+            drop(answer);
+            Err(error)
+        }
     }
 }
 
@@ -89,7 +83,10 @@ pub(crate) fn enter(
     ensures meter { kept.new.tables.lines.meter ≤ kept.old.tables.lines.meter + length (held_in reached.lines) }
     ensures least { kept.old.tables.lines.meter ≤ kept.new.tables.lines.meter }
 {
-    finish(alloc, kept, &entry.event, &entry.answer, place, up, reached)?;
-    journal.push(entry);
-    Ok(())
+    let done = finish(alloc, kept, &entry.event, &entry.answer, place, up, reached);
+    match done {
+        Ok(()) => journal.push(entry),
+        Err(_) => drop(entry),
+    }
+    done
 }

@@ -1,19 +1,19 @@
 //! What an accepted event makes of what is kept, once an edit has been made: lines, links and what is in flight.
 
 ghost use Rattle.std.specs.Prelude.{◌≡◌, ◌≤◌, ◌+◌, length, OnOk};
-ghost use Rattle.centre_core.specs.Following.{Finishes, held_in};
-ghost use Rattle.centre_core.specs.IsKept.{IsKept};
+ghost use Rattle.centre_lines.specs.Following.{Finishes, held_in};
+ghost use Rattle.centre_past.specs.IsKept.{IsKept};
 ghost use Rattle.centre_events.specs.Past.{After};
 
-use crate::flights::{self, flight_of};
-use crate::following::bear;
-use crate::kept::Kept;
-use crate::links;
-use crate::plan_parts::PlanParts;
-use crate::reached::Reached;
 use centre_events::answer::Answer;
 use centre_events::event::Event;
 use centre_events::stepping::Happening;
+use centre_lines::following::bear;
+use centre_lines::plan_parts::PlanParts;
+use centre_lines::reached::Reached;
+use centre_past::flights::{self, flight_of};
+use centre_past::kept::Kept;
+use centre_past::links;
 use std::alloc::{AllocError, Global};
 
 /// Follows an accepted event, whose entry has that number, from how the lines on which it bears stood. At an `Err` memory

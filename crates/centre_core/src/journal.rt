@@ -69,7 +69,7 @@ impl Journal {
         ensures unread { self.new.reads ≡ self.old.reads }
         ensures room { self.old.room ≤ self.new.room + 1 }
     {
-        let _ = self.entries.push(entry);
+        drop(self.entries.push(entry));
     }
 
     fn count(&mut self)

@@ -3,23 +3,23 @@
 
 ghost use Rattle.std.specs.Prelude.{◌≡◌, ◌<◌, ◌≤◌, ◌+◌, List, ℕ, length, false, Ok, IfOk, IfErr, IsOk, OnOk};
 ghost use Rattle.centre_core.specs.Centre.{IsCentre, IsRefused};
-ghost use Rattle.centre_core.specs.Following.{WasReached};
-ghost use Rattle.centre_core.specs.IsKept.{OnlyReadsIn};
+ghost use Rattle.centre_lines.specs.Following.{WasReached};
+ghost use Rattle.centre_past.specs.IsKept.{OnlyReadsIn};
 ghost use Rattle.centre_events.specs.Kept.{Gives, IsChecked, is_edit};
 ghost use Rattle.centre_events.specs.Past.{past_of};
-ghost use Rattle.centre_core.specs.Reach.{edit_reach, looked_at, reach, size};
+ghost use Rattle.centre_past.specs.Reach.{edit_reach, looked_at, reach, size};
 ghost use Rattle.centre_events.specs.Verdict.{verdict};
 ghost use Rattle.centre_events.specs.declared.answer.Answer as answer_spec;
 ghost use Rattle.centre_events.specs.declared.event.Event.TheVariants as event;
 
-use crate::events::{self, Verdict, check_edit, tell_known};
 use crate::journal::Journal;
-use crate::kept::Kept;
-use crate::reach::tell_lines;
-use crate::reached::{Reached, reached_by_edit, reached_by_other};
+use centre_answers::events::{self, Verdict, check_edit};
 use centre_events::answer::Answer;
 use centre_events::event::Event;
 use centre_events::refusal::Refusal;
+use centre_lines::reached::{Reached, reached_by_edit, reached_by_other};
+use centre_past::kept::Kept;
+use centre_past::telling::{tell_known, tell_lines};
 use coverage_plan::Edit;
 use std::alloc::Global;
 
@@ -72,7 +72,7 @@ pub(crate) fn prepare_edit(
 
 /// What an event that is no edit is answered after the entries of the journal, which holds so many at most. Lines are read
 /// for an Ask alone.
-#[tactic(auto, using(crate::proofs::ReadLemmas::reads_none))]
+#[tactic(auto, using(centre_past::proofs::ReadLemmas::reads_none))]
 fn look_at_other(
     alloc: Global,
     network: [u8; 3],

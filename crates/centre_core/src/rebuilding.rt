@@ -2,21 +2,22 @@
 
 ghost use Rattle.std.specs.Prelude.{◌≡◌, ◌≤◌, ◌-◌, length, take, false, IfOk, OnOk, OnErr};
 ghost use Rattle.mirror.specs.Table.{counted};
-ghost use Rattle.centre_core.specs.Following.{Follows, IsLegal};
-ghost use Rattle.centre_core.specs.IsKept.{IsKept};
+ghost use Rattle.centre_lines.specs.Following.{Follows, IsLegal};
+ghost use Rattle.centre_past.specs.IsKept.{IsKept};
 ghost use Rattle.centre_core.specs.Journal.{counted_by};
 ghost use Rattle.centre_events.specs.Kept.{is_edit};
 ghost use Rattle.centre_events.specs.Past.{After, past_of};
 ghost use Rattle.centre_events.specs.declared.event.Event.TheVariants as event;
 
-use crate::entering::{make_again, up_before};
-use crate::events::tell_reads;
+use crate::entering::make_again;
 use crate::finishing::finish;
 use crate::journal::Journal;
-use crate::kept::Kept;
-use crate::reached::{reached_by_edit, reached_by_other};
 use centre_events::entry::Entry;
 use centre_events::event::Event;
+use centre_lines::reached::{reached_by_edit, reached_by_other};
+use centre_past::kept::Kept;
+use centre_past::links::up_before;
+use centre_past::telling::tell_reads;
 use coverage_plan::Edit;
 use std::alloc::{AllocError, Global};
 

@@ -1,13 +1,13 @@
 -- What a question is answered.
 use Rattle.std.specs.Prelude.{◌≡◌, ◌⊎◌, Bool, true, false, Option, Some, None, Result, Ok, Err, IsOk}
 use Rattle.centre_events.specs.InFlight.{in_flight}
-use Rattle.centre_core.specs.Legal.{Known, past}
+use Rattle.centre_past.specs.Legal.{Known, past}
 use Rattle.centre_events.specs.Links.{is_bsc}
-use Rattle.centre_core.specs.Numbers.{board, area_board}
+use Rattle.centre_past.specs.Numbers.{board, area_board}
 use Rattle.centre_events.specs.Past.{Past}
 use Rattle.centre_events.specs.Pending.{pending}
 use Rattle.centre_events.specs.Places.{place}
-use Rattle.centre_core.specs.Table.{table}
+use Rattle.centre_past.specs.Table.{table}
 use Rattle.centre_events.specs.declared.refusal.Refusal.{Refusal}
 use Rattle.centre_events.specs.declared.refusal.Refusal.TheVariants as refusal
 use Rattle.coverage_board.specs.declared.numbers.Numbers.{Numbers}

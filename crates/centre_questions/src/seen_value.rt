@@ -1,7 +1,7 @@
 //! What a question is answered.
 
 use cell_register::BscId;
-use centre_core::reported::ReportedKeys;
+use centre_past::reported::ReportedKeys;
 use centre_events::in_flight::InFlight;
 use coverage_board::Numbers;
 use order_maker::Orders;

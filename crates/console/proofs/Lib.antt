@@ -1,7 +1,3 @@
-pub mod PartLemmas
-pub mod RunLemmas
-pub mod HexTextLemmas
-pub mod FrameLemmas
 pub mod GenerationLemmas
 pub mod QuestionLemmas
 pub mod TextLemmas
@@ -10,4 +6,3 @@ pub mod ReplayLemmas
 pub mod UniqueLemmas
 pub mod SessionLemmas
 pub mod WholeLemmas
-pub mod CommandLineLemmas

@@ -2,10 +2,10 @@
 use Rattle.std.proofs.Common.{◌≡◌, inl, inr, ℕ, Bool, true, false, Option, Some, None, Result, Ok, Err, List, refl, sym, ap, ◌∙◌, subst}
 use Rattle.std.specs.Bool.{MatchBool}
 use Rattle.std.specs.Prelude.{IsOk}
-use Rattle.centre_core.specs.Legal.{past}
+use Rattle.centre_past.specs.Legal.{past}
 use Rattle.centre_events.specs.Links.{is_bsc}
-use Rattle.centre_core.specs.Numbers.{area_board, board}
-use Rattle.centre_core.specs.Table.{table}
+use Rattle.centre_past.specs.Numbers.{area_board, board}
+use Rattle.centre_past.specs.Table.{table}
 use Rattle.centre_events.specs.Past.{Past}
 use Rattle.centre_events.specs.Pending.{pending}
 use Rattle.centre_events.specs.declared.refusal.Refusal.{Refusal}
@@ -17,9 +17,9 @@ use Rattle.centre_questions.specs.declared.seen_value.SeenValue.{SeenValue}
 use Rattle.centre_questions.specs.declared.seen_value.SeenValue.TheVariants as value
 use Rattle.coverage_board.specs.declared.numbers.Numbers.{Numbers}
 use Rattle.console.specs.Sessions.{SessionState, Asks, AsksOrStarves, HasLine, IsToldInLine, Says, SaysValue, RespondsOrStarves, told}
-use Rattle.console.specs.declared.line.Line.TheVariants as line
-use Rattle.console.specs.declared.response.Response.{Response}
-use Rattle.console.specs.declared.response.Response.TheVariants as response
+use Rattle.console_text.specs.declared.line.Line.TheVariants as line
+use Rattle.console_text.specs.declared.response.Response.{Response}
+use Rattle.console_text.specs.declared.response.Response.TheVariants as response
 
 warning_in_line : (numbers : Option Numbers) (v : SeenValue) → of_warning numbers ≡ Ok v → IsToldInLine v
 warning_in_line (Some n) v is =

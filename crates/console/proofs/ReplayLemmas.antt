@@ -11,21 +11,23 @@ use Rattle.centre_events.specs.declared.event.Event.TheVariants as event
 use Rattle.centre_events.specs.declared.refusal.Refusal.TheVariants as refusal
 use Rattle.console.specs.Consoles.{ConsoleState, EndsLine, BreaksInLine, BreaksLine, Stops, Reads, ReadsAndStops, IsWritten}
 use Rattle.console.specs.Generations.{generation_of}
-use Rattle.console.specs.Grammar.{line_of}
-use Rattle.console.specs.HexText.{octets_of}
+use Rattle.console_text.specs.Grammar.{line_of}
+use Rattle.console_text.specs.HexText.{octets_of}
 use Rattle.console.specs.Replays.{IsLeft, MeetsWant, Replays, BreaksOff}
-use Rattle.console.specs.Sessions.{SessionState, Says, event_of, Responds, RespondsOrStarves, StarvesAt, BodyStarves, OctetsStarve, Starves, is_comment, AnswersLine, AnswersWords, AnswersOrStarves, LineStarves}
+use Rattle.console.specs.Sessions.{SessionState, Says, event_of, Responds, RespondsOrStarves, StarvesAt, BodyStarves, OctetsStarve, Starves, AnswersLine, AnswersWords, AnswersOrStarves, LineStarves}
+use Rattle.console_text.specs.Words.{is_comment}
 use Rattle.cbsp_messages.specs.MessageType.{report_type}
-use Rattle.console.specs.Text.{lines_from, lines_of, without_return, IsText, IsTextOrStarves}
-use Rattle.console.specs.Texts.{response_text, refused_text}
-use Rattle.console.specs.Words.{words_of}
-use Rattle.console.specs.declared.fault.ReplayFault.{ReplayFault}
-use Rattle.console.specs.declared.fault.ReplayFault.TheVariants.{ReadFault, WriteFault, Memory, LongLine}
-use Rattle.console.specs.declared.line.Line.{Line}
-use Rattle.console.specs.declared.line.Line.TheVariants as request
-use Rattle.console.specs.declared.response.Response.{Response}
-use Rattle.console.specs.declared.response.Response.TheVariants as response
-use Rattle.console.proofs.PartLemmas.{lines_from_start}
+use Rattle.console.specs.Text.{IsText, IsTextOrStarves}
+use Rattle.console_text.specs.Lines.{lines_from, lines_of, without_return}
+use Rattle.console_text.specs.Texts.{response_text, refused_text}
+use Rattle.console_text.specs.Words.{words_of}
+use Rattle.console_text.specs.declared.fault.ReplayFault.{ReplayFault}
+use Rattle.console_text.specs.declared.fault.ReplayFault.TheVariants.{ReadFault, WriteFault, Memory, LongLine}
+use Rattle.console_text.specs.declared.line.Line.{Line}
+use Rattle.console_text.specs.declared.line.Line.TheVariants as request
+use Rattle.console_text.specs.declared.response.Response.{Response}
+use Rattle.console_text.specs.declared.response.Response.TheVariants as response
+use Rattle.console_text.proofs.PartLemmas.{lines_from_start}
 use Rattle.console.proofs.StopLemmas.{goes_stops, written_after}
 use Rattle.console.proofs.TextLemmas.{text_append, goes_goes, goes_nowhere}
 

@@ -2,9 +2,9 @@
 use Rattle.std.proofs.Common.{◌≡◌, ◌⊎◌, inl, inr, ℕ, true, false, Some, Ok, Err, List, [], ◌∷◌, ◌++◌, length, length-append, refl, sym, ap, ◌∙◌}
 use Rattle.cbsp_messages.specs.declared.message_type.MessageType.{MessageType}
 use Rattle.centre_core.specs.Centre.{Leaves, Refuses}
-use Rattle.centre_core.specs.Legal.{Known, past}
+use Rattle.centre_past.specs.Legal.{Known, past}
 use Rattle.centre_events.specs.Verdict.{verdict}
-use Rattle.centre_core.specs.VerdictLaws.{verdict_is_no_want}
+use Rattle.centre_past.specs.VerdictLaws.{verdict_is_no_want}
 use Rattle.centre_events.specs.declared.answer.Answer.{Answer}
 use Rattle.centre_events.specs.declared.event.Event.{Event}
 use Rattle.centre_events.specs.declared.refusal.Refusal.{Refusal}
@@ -13,8 +13,8 @@ use Rattle.framing.specs.declared.frame.Frame.{Frame}
 use Rattle.console.specs.Sessions.{SessionState, verdict_in, entry_of, ReportsBody, ReportsFrame, SubmitsOrStarves, BodyStarves, FrameStarves}
 use Rattle.cbsp_messages.specs.MessageType.{report_type}
 use Rattle.console.specs.declared.kept.Kept.{Kept}
-use Rattle.console.specs.declared.response.Response.{Response}
-use Rattle.console.specs.declared.response.Response.TheVariants as response
+use Rattle.console_text.specs.declared.response.Response.{Response}
+use Rattle.console_text.specs.declared.response.Response.TheVariants as response
 
 -- a whole centre answers the verdict, a stale one that it is stale
 pub verdict_whole : (old : SessionState) (e : Event) → old.centre.stale ≡ false → verdict_in old e ≡ verdict old.centre.settings (past old.centre) e

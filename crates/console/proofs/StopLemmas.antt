@@ -2,16 +2,16 @@
 use Rattle.std.proofs.Common.{◌≡◌, ℕ, ◌+◌, ◌-◌, ◌<◌, ◌≤◌, true, false, cond, eqb, Option, List, [], ◌∷◌, ◌++◌, length, take, get_or, refl, sym, ap, ◌∙◌, subst, arith, append_assoc, append-nil, length-append}
 use Rattle.std.proofs.lemmas.List.{length-take}
 use Rattle.std.proofs.Math.Seq.{take-append-add}
-use Rattle.std.proofs.KnownBytes.{Appends-nil, Appends-trans}
-use Rattle.std.specs.Io.KnownBytes.{Appends}
-use Rattle.console.specs.Consoles.{ConsoleState, BreaksInLine, BreaksLine, Goes, Stops, BeginsLong, Behind, IsWritten}
+use Rattle.std.proofs.KnownBytes.{Appends-nil, Appends-trans, Consumes-kept, Consumes-nil}
+use Rattle.std.specs.Io.KnownBytes.{Appends, Keeps}
+use Rattle.console.specs.Consoles.{ConsoleState, BreaksInLine, BreaksLine, Goes, Stops, BeginsLong, Behind, IsWritten, ReadsAndStops}
 use Rattle.console.specs.Sessions.{AnswersOrStarves}
-use Rattle.console.specs.Text.{longest_line, without_return, lines_from, lines_of}
-use Rattle.console.specs.Texts.{response_text}
-use Rattle.console.specs.Parts.{in_front, HasNone}
-use Rattle.console.specs.declared.fault.ReplayFault.{ReplayFault}
-use Rattle.console.specs.declared.fault.ReplayFault.TheVariants.{ReadFault, WriteFault, Memory, LongLine}
-use Rattle.console.proofs.PartLemmas.{line_ends, line_goes_on}
+use Rattle.console_text.specs.Lines.{longest_line, without_return, lines_from, lines_of}
+use Rattle.console_text.specs.Texts.{response_text}
+use Rattle.console_text.specs.Parts.{in_front, HasNone}
+use Rattle.console_text.specs.declared.fault.ReplayFault.{ReplayFault}
+use Rattle.console_text.specs.declared.fault.ReplayFault.TheVariants.{ReadFault, WriteFault, Memory, LongLine}
+use Rattle.console_text.proofs.PartLemmas.{line_ends, line_goes_on}
 use Rattle.console.proofs.TextLemmas.{text_append, cut_behind}
 
 -- at most one octet is dropped
@@ -130,3 +130,9 @@ pub stops_behind : (a b : ConsoleState) (rest run behind : List ℕ) (p q r : Op
     → Stops a rest p r fault
 stops_behind a b rest run behind p q r fault is one stops =
     subst (λ octets. Stops a octets p r fault) (cut_behind rest run behind is) (goes_stops a b (run ++ 10 ∷ []) behind p q r fault one stops)
+
+-- a read fails: no octets come, and nothing is written
+pub reads_none : (a : ConsoleState) (given left before : Option (List ℕ)) → Keeps given left → ReadsAndStops a given left before before ReadFault
+reads_none a given left before same =
+    let none = Consumes-kept given given left [] (Consumes-nil given) same in
+    record { octets = []; consumed = none; stops = stops_at_once a [] before before ReadFault (λ rest. tt) refl refl; unread = λ fault. (none, refl) }

@@ -2,11 +2,12 @@
 use Rattle.std.proofs.Common.{◌≡◌, ℕ, Option, List, [], ◌∷◌, ◌++◌, refl, sym, ap, ◌∙◌, subst, append_assoc, append-nil}
 use Rattle.std.proofs.KnownBytes.{Appends-nil, Appends-trans}
 use Rattle.console.specs.Consoles.{ConsoleState, EndsLine, Goes}
-use Rattle.console.specs.Parts.{HasNone}
+use Rattle.console_text.specs.Parts.{HasNone}
 use Rattle.console.specs.Sessions.{SessionState, AnswersOrStarves}
-use Rattle.console.specs.Text.{lines_from, Answering, IsTextBy, IsTextOrStarves}
-use Rattle.console.specs.Texts.{response_text}
-use Rattle.console.proofs.PartLemmas.{line_ends, line_goes_on}
+use Rattle.console.specs.Text.{Answering, IsTextBy, IsTextOrStarves}
+use Rattle.console_text.specs.Lines.{lines_from}
+use Rattle.console_text.specs.Texts.{response_text}
+use Rattle.console_text.proofs.PartLemmas.{line_ends, line_goes_on}
 
 -- the answers to some lines, and those to the lines after them
 pub text_append : (answers : Answering) (a b c : SessionState) (xs ys : List (List ℕ)) (s t : List ℕ) → IsTextBy answers a xs b s → IsTextBy answers b ys c t

@@ -11,7 +11,7 @@ use Rattle.cbsp_messages.specs.declared.message.Message.{Message}
 use Rattle.cbsp_messages.specs.declared.message_type.MessageType.{MessageType}
 use Rattle.cbsp_messages.specs.declared.message_type.MessageType.TheVariants as type
 use Rattle.cbsp_messages.proofs.UniqueLemmas.{no_fault_if_spelled, not_whole, one_cut_fault, one_message_at_most, one_whole_fault}
-use Rattle.centre_core.specs.Legal.{past}
+use Rattle.centre_past.specs.Legal.{past}
 use Rattle.centre_events.specs.declared.answer.Answer.{Answer}
 use Rattle.centre_events.specs.declared.event.Event.{Event}
 use Rattle.centre_events.specs.declared.event.Event.TheVariants as event
@@ -22,17 +22,19 @@ use Rattle.centre_questions.specs.declared.question.Question.{Question}
 use Rattle.centre_questions.specs.declared.question.Question.TheVariants as question
 use Rattle.centre_questions.specs.declared.seen_value.SeenValue.{SeenValue}
 use Rattle.console.specs.Generations.{generation_of}
-use Rattle.console.specs.Grammar.{line_of}
-use Rattle.console.specs.HexText.{octets_of}
-use Rattle.console.specs.Sessions.{SessionState, Says, verdict_in, entered, with_link, Submits, BringsUp, Asks, AsksWhole, SaysValue, told, ReportsBody, ReportsFrame, ReportsOctets, event_of, SubmitsLine, Responds, is_comment, AnswersLine, AnswersWords}
-use Rattle.console.specs.Text.{IsText, without_return}
-use Rattle.console.specs.Texts.{response_text}
-use Rattle.console.specs.Words.{words_of}
-use Rattle.console.specs.declared.line.Line.{Line}
-use Rattle.console.specs.declared.line.Line.TheVariants as line
-use Rattle.console.specs.declared.response.Response.{Response}
-use Rattle.console.specs.declared.response.Response.TheVariants as response
-use Rattle.console.proofs.FrameLemmas.{one_frame}
+use Rattle.console_text.specs.Grammar.{line_of}
+use Rattle.console_text.specs.HexText.{octets_of}
+use Rattle.console.specs.Sessions.{SessionState, Says, verdict_in, entered, with_link, Submits, BringsUp, Asks, AsksWhole, SaysValue, told, ReportsBody, ReportsFrame, ReportsOctets, event_of, SubmitsLine, Responds, AnswersLine, AnswersWords}
+use Rattle.console_text.specs.Words.{is_comment}
+use Rattle.console.specs.Text.{IsText}
+use Rattle.console_text.specs.Lines.{without_return}
+use Rattle.console_text.specs.Texts.{response_text}
+use Rattle.console_text.specs.Words.{words_of}
+use Rattle.console_text.specs.declared.line.Line.{Line}
+use Rattle.console_text.specs.declared.line.Line.TheVariants as line
+use Rattle.console_text.specs.declared.response.Response.{Response}
+use Rattle.console_text.specs.declared.response.Response.TheVariants as response
+use Rattle.console_text.proofs.FrameLemmas.{one_frame}
 
 -- the two answers are the same, and leave the same
 abbrev Same : Response → Response → SessionState → SessionState → Type 0

@@ -3,16 +3,16 @@ use Rattle.std.proofs.Common.{◌≡◌, inl, inr, ℕ, Bool, true, false, Optio
 use Rattle.std.specs.Bool.{MatchBool}
 use Rattle.std.specs.Prelude.{MatchOption}
 use Rattle.cbsp_messages.specs.declared.message_type.MessageType.{MessageType}
-use Rattle.centre_core.specs.Legal.{past}
+use Rattle.centre_past.specs.Legal.{past}
 use Rattle.centre_events.specs.InFlight.{in_flight}
 use Rattle.centre_events.specs.Links.{is_bsc}
 use Rattle.centre_events.specs.Cover.{is_area}
-use Rattle.centre_core.specs.Numbers.{area_board, area_total, board, warning_area}
+use Rattle.centre_past.specs.Numbers.{area_board, area_total, board, warning_area}
 use Rattle.centre_events.specs.Past.{Past}
 use Rattle.centre_events.specs.Pending.{pending}
-use Rattle.centre_core.specs.Table.{table}
+use Rattle.centre_past.specs.Table.{table}
 use Rattle.centre_events.specs.Warnings.{book_of}
-use Rattle.centre_core.specs.VerdictLaws.{is_given, verdict_given}
+use Rattle.centre_past.specs.VerdictLaws.{is_given, verdict_given}
 use Rattle.centre_events.specs.declared.answer.Answer.{Answer}
 use Rattle.centre_events.specs.declared.answer.Answer.TheVariants as answer
 use Rattle.centre_events.specs.declared.event.Event.{Event}
@@ -28,17 +28,18 @@ use Rattle.coverage_board.specs.declared.numbers.Numbers.{Numbers}
 use Rattle.warning_book.specs.Book.{names, warning_of}
 use Rattle.warning_book.specs.declared.warning.Warning.{Warning}
 use Rattle.console.specs.Generations.{generation_of}
-use Rattle.console.specs.Grammar.{line_of}
-use Rattle.console.specs.HexText.{octets_of}
+use Rattle.console_text.specs.Grammar.{line_of}
+use Rattle.console_text.specs.HexText.{octets_of}
 use Rattle.console.specs.Laws.{StaysWhole}
-use Rattle.console.specs.Sessions.{SessionState, Says, verdict_in, entered, with_link, Submits, BringsUp, Asks, AsksWhole, SaysValue, told, ReportsBody, ReportsOctets, event_of, SubmitsLine, Responds, is_comment, AnswersLine, AnswersWords}
+use Rattle.console.specs.Sessions.{SessionState, Says, verdict_in, entered, with_link, Submits, BringsUp, Asks, AsksWhole, SaysValue, told, ReportsBody, ReportsOctets, event_of, SubmitsLine, Responds, AnswersLine, AnswersWords}
+use Rattle.console_text.specs.Words.{is_comment}
 use Rattle.cbsp_messages.specs.MessageType.{report_type}
-use Rattle.console.specs.Text.{without_return}
-use Rattle.console.specs.Words.{words_of}
-use Rattle.console.specs.declared.line.Line.{Line}
-use Rattle.console.specs.declared.line.Line.TheVariants as line
-use Rattle.console.specs.declared.response.Response.{Response}
-use Rattle.console.specs.declared.response.Response.TheVariants as response
+use Rattle.console_text.specs.Lines.{without_return}
+use Rattle.console_text.specs.Words.{words_of}
+use Rattle.console_text.specs.declared.line.Line.{Line}
+use Rattle.console_text.specs.declared.line.Line.TheVariants as line
+use Rattle.console_text.specs.declared.response.Response.{Response}
+use Rattle.console_text.specs.declared.response.Response.TheVariants as response
 use Rattle.console.proofs.SessionLemmas.{verdict_whole}
 
 -- the centre is whole then, and nothing was refused as stale

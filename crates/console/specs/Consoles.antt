@@ -3,11 +3,12 @@ use Rattle.std.specs.Prelude.{◌≡◌, ℕ, ◌<◌, ◌≤◌, Bool, true, fa
 use Rattle.std.specs.Io.KnownBytes.{Appends, Consumes}
 use Rattle.framing.specs.Sink.{AppendsFront}
 use Rattle.console.specs.Sessions.{SessionState, AnswersOrStarves}
-use Rattle.console.specs.Text.{longest_line, without_return, lines_from, IsTextOrStarves}
-use Rattle.console.specs.Texts.{response_text}
-use Rattle.console.specs.declared.fault.ReplayFault.{ReplayFault}
-use Rattle.console.specs.declared.fault.ReplayFault.TheVariants.{ReadFault, WriteFault, Memory, LongLine}
-use Rattle.console.specs.declared.response.Response.{Response}
+use Rattle.console.specs.Text.{IsTextOrStarves}
+use Rattle.console_text.specs.Lines.{longest_line, without_return, lines_from}
+use Rattle.console_text.specs.Texts.{response_text}
+use Rattle.console_text.specs.declared.fault.ReplayFault.{ReplayFault}
+use Rattle.console_text.specs.declared.fault.ReplayFault.TheVariants.{ReadFault, WriteFault, Memory, LongLine}
+use Rattle.console_text.specs.declared.response.Response.{Response}
 
 -- what contracts see of a console: its session, and the octets of the line that has begun
 pub record ConsoleState : Type 0 where

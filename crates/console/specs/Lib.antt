@@ -1,10 +1,3 @@
-pub mod Grammar
-pub mod HexText
-pub mod Numbers
-pub mod Parts
-pub mod Words
-pub mod Texts
-pub mod Frames
 pub mod Generations
 pub mod Sessions
 pub mod Text
@@ -12,4 +5,3 @@ pub mod Consoles
 pub mod Replays
 pub mod Running
 pub mod Laws
-pub mod CommandLine

@@ -1,15 +1,16 @@
 -- A whole run: what is written is the text of what was read.
 use Rattle.std.specs.Prelude.{◌≡◌, ◌⊎◌, ℕ, ◌≤◌, List, [], ◌∷◌, ◌++◌, length, Option}
 use Rattle.std.specs.Io.KnownBytes.{Appends, Consumes, IsAtEnd}
-use Rattle.centre_core.specs.Legal.{new_centre}
+use Rattle.centre_past.specs.Legal.{new_centre}
 use Rattle.centre_events.specs.declared.refusal.Refusal.TheVariants as refusal
 use Rattle.console.specs.Consoles.{BeginsLong, IsWritten}
 use Rattle.console.specs.Sessions.{SessionState, LineStarves}
-use Rattle.console.specs.Text.{longest_line, without_return, lines_of, IsText, IsTextOrStarves}
-use Rattle.console.specs.Texts.{refused_text}
-use Rattle.console.specs.declared.fault.ReplayFault.{ReplayFault}
-use Rattle.console.specs.declared.fault.ReplayFault.TheVariants.{ReadFault, LongLine}
-use Rattle.console.specs.declared.response.Response.TheVariants as response
+use Rattle.console.specs.Text.{IsText, IsTextOrStarves}
+use Rattle.console_text.specs.Lines.{longest_line, without_return, lines_of}
+use Rattle.console_text.specs.Texts.{refused_text}
+use Rattle.console_text.specs.declared.fault.ReplayFault.{ReplayFault}
+use Rattle.console_text.specs.declared.fault.ReplayFault.TheVariants.{ReadFault, LongLine}
+use Rattle.console_text.specs.declared.response.Response.TheVariants as response
 
 -- a session in which nothing has happened
 abbrev pub new_session : List ℕ → ℕ → SessionState

@@ -5,19 +5,13 @@ use Rattle.std.specs.Io.KnownBytes.{Appends}
 use Rattle.framing.specs.Sink.{AppendsFront}
 use Rattle.framing.specs.Source.{counted}
 use Rattle.clap.specs.Words.{Text}
-use Rattle.console.specs.CommandLine.{AreTaken, Asks, AsksBadJournal, AsksBadPlmn, AsksHelp, AsksServe, IsMistaken}
+use Rattle.console_text.specs.CommandLine.{AreTaken, Asks, AsksBadJournal, AsksBadPlmn, AsksHelp, AsksServe, IsMistaken}
 use Rattle.console.specs.Replays.{new_session, Replays, BreaksOff}
 use Rattle.console.specs.Sessions.{SessionState}
-use Rattle.console.specs.Texts.{newline}
-use Rattle.console.specs.declared.fault.ReplayFault.{ReplayFault}
-use Rattle.console.specs.declared.fault.ReplayFault.TheVariants.{ReadFault, WriteFault, Memory, LongLine}
-
--- what is said of a fault
-abbrev pub fault_words : ReplayFault → List ℕ
-fault_words ReadFault = codes "cbc: read fault" ++ newline
-fault_words WriteFault = codes "cbc: write fault" ++ newline
-fault_words Memory = codes "cbc: out of memory" ++ newline
-fault_words LongLine = codes "cbc: line too long" ++ newline
+use Rattle.console_text.specs.Faults.{fault_words}
+use Rattle.console_text.specs.Texts.{newline}
+use Rattle.console_text.specs.declared.fault.ReplayFault.{ReplayFault}
+use Rattle.console_text.specs.declared.fault.ReplayFault.TheVariants.{ReadFault, WriteFault, Memory, LongLine}
 
 -- what is said of a network that isn't six hexadecimal digits
 abbrev pub bad_plmn : List ℕ

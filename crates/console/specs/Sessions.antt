@@ -8,7 +8,7 @@ use Rattle.cbsp_messages.specs.declared.fault.MessageFault.{MessageFault}
 use Rattle.cbsp_messages.specs.declared.message.Message.{Message}
 use Rattle.cbsp_messages.specs.declared.message_type.MessageType.{MessageType}
 use Rattle.centre_events.specs.Kept.{MayStarve}
-use Rattle.centre_core.specs.Legal.{Known, past}
+use Rattle.centre_past.specs.Legal.{Known, past}
 use Rattle.centre_events.specs.Links.{is_bsc}
 use Rattle.centre_events.specs.Verdict.{verdict}
 use Rattle.centre_events.specs.declared.answer.Answer.{Answer}
@@ -25,20 +25,17 @@ use Rattle.centre_questions.specs.declared.seen_value.SeenValue.{SeenValue}
 use Rattle.centre_questions.specs.declared.seen_value.SeenValue.TheVariants as value
 use Rattle.coverage_plan.specs.declared.edit.Edit.TheVariants as edit
 use Rattle.framing.specs.declared.frame.Frame.{Frame}
-use Rattle.warning_book.specs.declared.content.Content.{Content}
-use Rattle.warning_book.specs.declared.notice.Notice.{Notice}
-use Rattle.console.specs.Frames.{IsFrame, IsNoFrame}
+use Rattle.console_text.specs.Frames.{IsFrame, IsNoFrame}
 use Rattle.console.specs.Generations.{generation_of, with_generation}
-use Rattle.console.specs.Grammar.{line_of}
-use Rattle.console.specs.HexText.{octets_of, pages_of}
-use Rattle.console.specs.Words.{words_of}
-use Rattle.console.specs.declared.content_heading.ContentHeading.{ContentHeading}
-use Rattle.console.specs.declared.heading.Heading.{Heading}
+use Rattle.console_text.specs.Grammar.{line_of}
+use Rattle.console_text.specs.Headings.{content_of, notice_of}
+use Rattle.console_text.specs.HexText.{octets_of, pages_of}
+use Rattle.console_text.specs.Words.{is_comment, words_of}
 use Rattle.console.specs.declared.kept.Kept.{Kept}
-use Rattle.console.specs.declared.line.Line.{Line}
-use Rattle.console.specs.declared.line.Line.TheVariants as line
-use Rattle.console.specs.declared.response.Response.{Response}
-use Rattle.console.specs.declared.response.Response.TheVariants as response
+use Rattle.console_text.specs.declared.line.Line.{Line}
+use Rattle.console_text.specs.declared.line.Line.TheVariants as line
+use Rattle.console_text.specs.declared.response.Response.{Response}
+use Rattle.console_text.specs.declared.response.Response.TheVariants as response
 
 -- what contracts see of a session: its centre, and the generations kept for the BSCs
 pub record SessionState : Type 0 where
@@ -81,14 +78,6 @@ abbrev pub BringsUp : SessionState → ℕ → Response → SessionState → Typ
 BringsUp old b (response.Accepted number a) new = Accepts old (event.LinkUp b) number a × (new ≡ with_link b a (entered old (event.LinkUp b) a))
 BringsUp old b (response.Refused r) new = (verdict_in old (event.LinkUp b) ≡ Err r) × (new ≡ old)
 BringsUp old b other new = ⊥
-
--- what an operator writes of a version
-abbrev pub content_of : ContentHeading → List (List ℕ) → Content
-content_of h pages = record { dcs = h.dcs; category = h.category; period = h.period; pages = pages }
-
--- what an operator writes of a warning that is issued
-abbrev pub notice_of : Heading → List (List ℕ) → Notice
-notice_of h pages = record { message_id = h.message_id; scope = h.scope; content = content_of h.content pages }
 
 -- a stale centre refuses every question
 abbrev pub AsksWhole : SessionState → Response → SessionState → Type 0 → Type 0
@@ -254,11 +243,6 @@ Starves old l r new = IsSomeAnd (event_of old l) (λ e. StarvesAt old e r new)
 -- the line has its answer, or memory ran out where it may be
 abbrev pub RespondsOrStarves : SessionState → Line → Response → SessionState → Type 0
 RespondsOrStarves old l r new = Responds old l r new ⊎ Starves old l r new
-
--- a line whose first word begins with `#`, which is 35, asks for nothing
-abbrev pub is_comment : List ℕ → Bool
-is_comment [] = false
-is_comment (x ∷ xs) = x == 35
 
 -- how the lines that ask for something are answered
 abbrev pub Responding : Type 1

@@ -1,18 +1,15 @@
 //! A session that takes octets and answers their lines.
 
 ghost use Rattle.std.specs.Prelude.{◌≡◌};
-ghost use Rattle.console.specs.Text.{without_return};
 
-use crate::answer_text::response_text;
-use crate::fault::ReplayFault;
-use crate::runs::cut_at;
 use crate::session::Session;
+use console_text::ReplayFault;
+use console_text::answer_text::response_text;
+use console_text::lines::{LONGEST_LINE, without_return};
+use console_text::runs::cut_at;
 use framing::{Sink, write_all};
 use std::alloc::Global;
 use std::marker::Model;
-
-/// The most octets that a line may have, without its end.
-pub const LONGEST_LINE: usize = 600_000;
 
 /// A session, and the octets of the line that has begun.
 #[derive(Drop)]
@@ -33,7 +30,7 @@ impl Model for Console {
 impl Console {
     ghost use Rattle.std.specs.Prelude.{◌≡◌, ℕ, ◌≤◌, ◌||◌, List, ◌∷◌, ◌++◌, [], false, Option, OnOk, IfErr};
     ghost use Rattle.console.specs.Consoles.{EndsLine, BreaksLine, Goes, Stops, is_read_fault, is_write_fault};
-    ghost use Rattle.console.specs.Parts.{HasNone};
+    ghost use Rattle.console_text.specs.Parts.{HasNone};
     ghost use Rattle.console.specs.Replays.{new_session};
 
     pub fn new(alloc: Global, plmn: [u8; 3], journal_limit: u32) -> Console
@@ -110,15 +107,5 @@ impl Console {
             rest = behind;
         }
         self.take_run(rest)
-    }
-}
-
-/// The line without one carriage return at its end.
-fn without_return(line: &[u8]) -> &[u8]
-    ensures { result.now ≡ without_return line.now }
-{
-    match line {
-        [front @ .., b'\r'] => front,
-        _ => line,
     }
 }

@@ -1,7 +1,6 @@
-//! What follows from the definitions. Each function does nothing, and its contract holds of all lines, or of all
-//! messages.
+//! What follows from the definitions. Each function does nothing, and its contract holds of all lines.
 
-ghost use Rattle.console.specs.Laws.{OneText, StaysWhole, WrittenIsCut};
+ghost use Rattle.console.specs.Laws.{OneText, StaysWhole};
 
 /// Lines have one text: what a run writes is determined by what it reads.
 #[tactic(auto, using(crate::proofs::UniqueLemmas::one_text))]
@@ -14,11 +13,4 @@ pub fn one_text()
 #[tactic(auto, using(crate::proofs::WholeLemmas::stays_whole))]
 pub fn stays_whole()
     ensures { StaysWhole }
-{}
-
-/// What is written of a message is one frame, as the framer cuts it; that its body is short enough is a promise of
-/// `cbsp_messages::write`.
-#[tactic(auto, using(crate::proofs::FrameLemmas::written_is_cut))]
-pub fn written_is_cut()
-    ensures { WrittenIsCut }
 {}

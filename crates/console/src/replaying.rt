@@ -1,15 +1,40 @@
 //! A run of the console over octets.
 
-ghost use Rattle.std.specs.Prelude.{◌≡◌, ◌≤◌, ◌⊎◌, ◌||◌, true, false, IfOk, IfErr, OnOk};
+ghost use Rattle.std.specs.Prelude.{◌≡◌, ◌<◌, ◌≤◌, ◌⊎◌, ◌||◌, true, false, length, IfOk, IfErr, OnOk};
 ghost use Rattle.std.specs.Io.KnownBytes.{IsAtEnd};
 ghost use Rattle.framing.specs.Source.{counted};
 ghost use Rattle.console.specs.Consoles.{Reads, ReadsAndStops, is_read_fault, is_write_fault};
 ghost use Rattle.console.specs.Replays.{new_session, Replays, BreaksOff};
 
 use crate::console::Console;
-use crate::fault::ReplayFault;
+use console_text::ReplayFault;
 use framing::{MOST_READS, Sink, Source};
 use std::alloc::Global;
+
+/// Reads once into the piece, and answers the lines that end. The answer is whether more may come.
+#[tactic(auto, using(crate::proofs::StopLemmas::reads_none))]
+fn turn_over<R: Source, W: Sink>(
+    console: &mut Console,
+    reader: &mut R,
+    writer: &mut W,
+    piece: &mut [u8],
+) -> Result<bool, ReplayFault>
+    requires { 0 < length piece.old }
+    ensures ok { OnOk result (Reads console.old console.new (R.remaining reader.old) (R.remaining reader.new) (W.written writer.old) (W.written writer.new)) }
+    ensures end { IfOk result (λ more. more ≡ false → IsAtEnd (R.remaining reader.new)) }
+    ensures err { IfErr result (ReadsAndStops console.old (R.remaining reader.old) (R.remaining reader.new) (W.written writer.old) (W.written writer.new)) }
+    ensures calls { R.calls reader.new ≡ counted (R.calls reader.old) 1 }
+    ensures read_failed { R.has_failed reader.new ≡ (is_read_fault result || R.has_failed reader.old) }
+    ensures write_failed { W.has_failed writer.new ≡ (is_write_fault result || W.has_failed writer.old) }
+{
+    match reader.read(piece) {
+        Ok(count) => {
+            console.take_piece(&piece[..count], writer)?;
+            Ok(count > 0)
+        }
+        Err(_) => Err(ReplayFault::ReadFault),
+    }
+}
 
 /// Reads once, and answers the lines that end. The answer is whether more may come.
 fn turn<R: Source, W: Sink>(
@@ -25,13 +50,7 @@ fn turn<R: Source, W: Sink>(
     ensures write_failed { W.has_failed writer.new ≡ (is_write_fault result || W.has_failed writer.old) }
 {
     let mut piece = [0; 4096];
-    match reader.read(&mut piece) {
-        Ok(count) => {
-            console.take_piece(&piece[..count], writer)?;
-            Ok(count > 0)
-        }
-        Err(_) => Err(ReplayFault::ReadFault),
-    }
+    turn_over(console, reader, writer, &mut piece)
 }
 
 /// Answers the lines that the reader gives, each at once, on a centre of the network `plmn` whose journal holds

@@ -2,12 +2,13 @@
 
 ghost use Rattle.std.specs.Prelude.{◌≡◌, map, string_bytes};
 ghost use Rattle.console.specs.Replays.{new_session};
-ghost use Rattle.console.specs.Running.{Ends, IsTold, Runs, fault_words};
+ghost use Rattle.console.specs.Running.{Ends, IsTold, Runs};
+ghost use Rattle.console_text.specs.Faults.{fault_words};
 
-use crate::fault::ReplayFault;
-use crate::no_run::NoRun;
-use crate::options::{Options, read_options};
 use crate::replaying::replay;
+use console_text::no_run::NoRun;
+use console_text::options::{Options, read_options};
+use console_text::{ReplayFault, fault_words};
 use framing::{Sink, Source, write_all};
 use std::alloc::Global;
 
@@ -83,16 +84,4 @@ fn tell<E: Sink>(errors: &mut E, text: &[u8])
     ensures { IsTold (E.written errors.old) (E.written errors.new) (E.has_failed errors.new) text.now }
 {
     let _ = write_all(errors, text);
-}
-
-/// What is said of a fault.
-pub fn fault_words(fault: ReplayFault) -> &'static [u8]
-    ensures { result.now ≡ fault_words fault }
-{
-    match fault {
-        ReplayFault::ReadFault => b"cbc: read fault\n",
-        ReplayFault::WriteFault => b"cbc: write fault\n",
-        ReplayFault::Memory => b"cbc: out of memory\n",
-        ReplayFault::LongLine => b"cbc: line too long\n",
-    }
 }

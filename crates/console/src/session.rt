@@ -2,17 +2,9 @@
 
 ghost use Rattle.std.specs.Prelude.{◌≡◌};
 ghost use Rattle.console.specs.Sessions.{IsToldInLine, told};
-ghost use Rattle.console.specs.Texts.{ResponseFits};
+ghost use Rattle.console_text.specs.Texts.{ResponseFits};
 
-use crate::content_heading::ContentHeading;
-use crate::frames::read_frame;
 use crate::generations::Generations;
-use crate::grammar::read_line;
-use crate::heading::Heading;
-use crate::hex_text::{read_octets, read_pages};
-use crate::line::Line;
-use crate::response::Response;
-use crate::words::{is_comment, split_words};
 use cbsp_messages::{MessageFault, MessageType, read_as};
 use cell_register::BscId;
 use centre_core::centre::Centre;
@@ -23,6 +15,14 @@ use centre_questions::asking::ask;
 use centre_questions::question::Question;
 use centre_questions::seen_value::SeenValue;
 use common::{Cell, Name, Names};
+use console_text::content_heading::ContentHeading;
+use console_text::frames::read_frame;
+use console_text::grammar::read_line;
+use console_text::heading::Heading;
+use console_text::hex_text::{read_octets, read_pages};
+use console_text::line::Line;
+use console_text::response::Response;
+use console_text::words::{is_comment, split_words};
 use coverage_plan::Edit;
 use framing::Frame;
 use std::alloc::{AllocError, Global};
@@ -51,10 +51,10 @@ impl Model for Session {
 impl Session {
     ghost use Rattle.std.specs.Prelude.{◌≡◌, ◌≤◌, ◌⊎◌, IfOk};
     ghost use Rattle.centre_events.specs.declared.event.Event.TheVariants as event;
-    ghost use Rattle.console.specs.Texts.{ResponseFits};
+    ghost use Rattle.console_text.specs.Texts.{ResponseFits};
     ghost use Rattle.console.specs.Replays.{new_session};
     ghost use Rattle.console.specs.Sessions.{AnswersOrStarves, AsksOrStarves, BodyStarves, FrameStarves, HasLine, ReportsBody, ReportsFrame, RespondsOrStarves, SubmitsOrStarves};
-    ghost use Rattle.console.specs.declared.line.Line.TheVariants as request;
+    ghost use Rattle.console_text.specs.declared.line.Line.TheVariants as request;
 
     pub fn new(alloc: Global, plmn: [u8; 3], journal_limit: u32) -> Session
         requires { journal_limit ≤ 4000000 }
@@ -121,14 +121,22 @@ impl Session {
         ensures fits { IfOk result ResponseFits }
     {
         let response = self.submit(Event::LinkUp(bsc));
-        if let Response::Accepted {
-            number: _,
-            answer: Answer::Link(generation),
-        } = &response
-        {
-            self.generations.keep(bsc, *generation)?;
+        match &response {
+            Response::Accepted {
+                number: _,
+                answer: Answer::Link(generation),
+            } => {
+                let generation = *generation;
+                match self.generations.keep(bsc, generation) {
+                    Ok(()) => Ok(response),
+                    Err(error) => {
+                        drop(response);
+                        Err(error)
+                    }
+                }
+            }
+            _ => Ok(response),
         }
-        Ok(response)
     }
 
     /// Keeps the generation for the BSC, which need not be there.

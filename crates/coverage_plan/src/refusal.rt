@@ -3,7 +3,8 @@
 ghost use Rattle.std.specs.Prelude.{◌≡◌};
 
 use std::alloc::{AllocError, AllocFailed};
-use thiserror::Error;
+use std::error::Error;
+use std::fmt;
 
 /// A number that would be passed.
 #[derive(Clone, Copy, Debug, PartialEq, Eq)]
@@ -26,57 +27,89 @@ pub enum Limit {
 
 /// Why an edit is refused, in the order in which the causes are looked at. The first that holds is the answer; out of
 /// memory is the last.
-#[derive(Clone, Copy, Debug, PartialEq, Eq, Error)]
+#[derive(Clone, Copy, Debug, PartialEq, Eq)]
 pub enum Refusal {
-    #[error("no such BSC")]
     NoSuchBsc,
-    #[error("the BSC is registered already")]
     BscExists,
-    #[error("cells are registered at the BSC")]
     BscHasCells,
-    #[error("the cell is registered already")]
     CellExists,
-    #[error("no such cell")]
     NoSuchCell,
-    #[error("the cell is registered at this BSC already")]
     SameBsc,
-    #[error("a name is 1 to 32 letters, digits or hyphens")]
     BadName,
-    #[error("the area is there already")]
     AreaExists,
-    #[error("no such area")]
     NoSuchArea,
-    #[error("a warning names the area")]
     AreaInUse,
-    #[error("the area has this selector already")]
     SelectorThere,
-    #[error("the area has no such selector")]
     SelectorNotThere,
-    #[error("no such warning")]
     NoSuchWarning,
-    #[error("the warning was stopped")]
     NotActive,
-    #[error("the warning is active")]
     StillActive,
-    #[error("a warning names one area at least")]
     NoAreas,
-    #[error("the warning names the area already, or it is named twice")]
     AreaThere,
-    #[error("the warning does not name the area")]
     AreaNotThere,
-    #[error("the warning names no other area")]
     LastArea,
-    #[error("a content has 1 to 15 pages of 1 to 82 octets")]
     BadPages,
-    #[error("a repetition period is 1 to 1,024")]
     BadPeriod,
-    #[error("the warning had its last update")]
     UpdatesExhausted,
-    #[error("a limit would be passed: {which:?}")]
     Limit { which: Limit },
-    #[error("out of memory")]
     Memory,
 }
+
+impl Refusal {
+    /// What is printed of it.
+    fn words(self) -> &'static str {
+        match self {
+            Refusal::NoSuchBsc => "no such BSC",
+            Refusal::BscExists => "the BSC is registered already",
+            Refusal::BscHasCells => "cells are registered at the BSC",
+            Refusal::CellExists => "the cell is registered already",
+            Refusal::NoSuchCell => "no such cell",
+            Refusal::SameBsc => "the cell is registered at this BSC already",
+            Refusal::BadName => "a name is 1 to 32 letters, digits or hyphens",
+            Refusal::AreaExists => "the area is there already",
+            Refusal::NoSuchArea => "no such area",
+            Refusal::AreaInUse => "a warning names the area",
+            Refusal::SelectorThere => "the area has this selector already",
+            Refusal::SelectorNotThere => "the area has no such selector",
+            Refusal::NoSuchWarning => "no such warning",
+            Refusal::NotActive => "the warning was stopped",
+            Refusal::StillActive => "the warning is active",
+            Refusal::NoAreas => "a warning names one area at least",
+            Refusal::AreaThere => "the warning names the area already, or it is named twice",
+            Refusal::AreaNotThere => "the warning does not name the area",
+            Refusal::LastArea => "the warning names no other area",
+            Refusal::BadPages => "a content has 1 to 15 pages of 1 to 82 octets",
+            Refusal::BadPeriod => "a repetition period is 1 to 1,024",
+            Refusal::UpdatesExhausted => "the warning had its last update",
+            Refusal::Limit { which: Limit::Bscs } => "a limit would be passed: Bscs",
+            Refusal::Limit {
+                which: Limit::Cells,
+            } => "a limit would be passed: Cells",
+            Refusal::Limit {
+                which: Limit::Areas,
+            } => "a limit would be passed: Areas",
+            Refusal::Limit {
+                which: Limit::Selectors,
+            } => "a limit would be passed: Selectors",
+            Refusal::Limit {
+                which: Limit::Warnings,
+            } => "a limit would be passed: Warnings",
+            Refusal::Limit {
+                which: Limit::WarningAreas,
+            } => "a limit would be passed: WarningAreas",
+            Refusal::Limit { which: Limit::Ids } => "a limit would be passed: Ids",
+            Refusal::Memory => "out of memory",
+        }
+    }
+}
+
+impl fmt::Display for Refusal {
+    fn fmt<W: fmt::Write>(&self, f: &mut fmt::Formatter<W>) -> fmt::Result {
+        f.write_str(self.words())
+    }
+}
+
+impl Error for Refusal {}
 
 impl From<cell_register::Refusal> for Refusal {
     ghost use Rattle.std.specs.Prelude.{◌≡◌};

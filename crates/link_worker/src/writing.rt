@@ -1,7 +1,7 @@
 //! The side of a link that writes.
 
 ghost use Rattle.std.specs.Prelude.{◌≡◌, ◌||◌, IfOk, IfSome};
-ghost use Rattle.centre_core.specs.Fits.{AnswerFits};
+ghost use Rattle.centre_past.specs.Fits.{AnswerFits};
 ghost use Rattle.link_worker.specs.Ends.{IsRefusedEnd, is_write_fault, order_end};
 ghost use Rattle.link_worker.specs.Orders.{EndsWriting, answer_frame};
 
@@ -65,7 +65,7 @@ pub fn write_side<L: Ledger, W: Sink, G: Gate, R: Wait>(
 impl<'o, 'g, L: Ledger, G: Gate> Link<'o, 'g, L, G> {
     ghost use Rattle.std.specs.Prelude.{◌≡◌, ◌||◌, IfOk, IfErr, OnOk};
     ghost use Rattle.std.specs.Io.KnownBytes.{Appends};
-    ghost use Rattle.centre_core.specs.Fits.{AnswerFits};
+    ghost use Rattle.centre_past.specs.Fits.{AnswerFits};
     ghost use Rattle.link_worker.specs.Ends.{fails_to_write};
     ghost use Rattle.link_worker.specs.Orders.{EndsWriting, IsOrder, IsWaitEnd, StopsInFrame, Writes, receipt_frame};
 

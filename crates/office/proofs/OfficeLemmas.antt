@@ -1,8 +1,8 @@
 -- From what holds under the lock to what a call of an office promises.
 use Rattle.std.proofs.Common.{◌≡◌, ℕ, Bool, true, false, Result, Ok, Err, OnOk, IfOk, IfErr, inl, inr, length, refl, ap, subst}
 use Rattle.centre_core.specs.Centre.{Refuses}
-use Rattle.centre_core.specs.Headline.{PendingGivesPlan}
-use Rattle.centre_core.specs.Legal.{Known, Legal, past}
+use Rattle.centre_past.specs.Headline.{PendingGivesPlan}
+use Rattle.centre_past.specs.Legal.{Known, Legal, past}
 use Rattle.centre_events.specs.declared.event.Event.{Event}
 use Rattle.centre_events.specs.declared.refusal.Refusal.{Refusal}
 use Rattle.centre_events.specs.declared.refusal.Refusal.TheVariants as refusal

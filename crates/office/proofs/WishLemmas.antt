@@ -1,7 +1,7 @@
 -- From what holds of wishes and wakes under the lock to what an office promises of them.
 use Rattle.std.proofs.Common.{ℕ, Result, Ok, Err, OnOk, IfErr}
-use Rattle.centre_core.specs.Headline.{PendingGivesPlan}
-use Rattle.centre_core.specs.Legal.{Known, Legal, past}
+use Rattle.centre_past.specs.Headline.{PendingGivesPlan}
+use Rattle.centre_past.specs.Legal.{Known, Legal, past}
 use Rattle.centre_events.specs.declared.refusal.Refusal.{Refusal}
 use Rattle.office.specs.Wakes.{IsDue, IsDueSomewhere}
 use Rattle.office.specs.Wishes.{CanWish, IsUnwishedSomewhere, IsWishedSomewhere, RefusesWish}

@@ -1,7 +1,7 @@
 -- What stands under the lock, what always holds of it, and when a desk is as the office knows it.
 use Rattle.std.specs.Prelude.{◌≡◌, ◌≤◌, ◌<◌, ◌+◌, ◌++◌, ◌==◌, ◌&&◌, ℕ, Bool, false, List, [], ◌∷◌, Ok, length, All, nat_lt, nat_le, get_or}
-use Rattle.centre_core.specs.Fits.{AnswerFits}
-use Rattle.centre_core.specs.Legal.{Known, past}
+use Rattle.centre_past.specs.Fits.{AnswerFits}
+use Rattle.centre_past.specs.Legal.{Known, past}
 use Rattle.centre_events.specs.Verdict.{verdict}
 use Rattle.centre_events.specs.declared.answer.Answer.{Answer}
 use Rattle.centre_events.specs.declared.entry.Entry.{Entry}

@@ -2,9 +2,9 @@
 use Rattle.std.specs.Prelude.{◌≡◌, ◌≤◌, ◌⊎◌, ◌+◌, ◌++◌, ℕ, [], ◌∷◌, Result, Ok, Err, Some, length, slice_get}
 use Rattle.std.specs.Borrow.{Bor}
 use Rattle.centre_core.specs.Centre.{Refuses}
-use Rattle.centre_core.specs.Fits.{AnswerFits}
-use Rattle.centre_core.specs.Headline.{PendingGivesPlan}
-use Rattle.centre_core.specs.Legal.{Known, Legal, past}
+use Rattle.centre_past.specs.Fits.{AnswerFits}
+use Rattle.centre_past.specs.Headline.{PendingGivesPlan}
+use Rattle.centre_past.specs.Legal.{Known, Legal, past}
 use Rattle.centre_events.specs.Verdict.{verdict}
 use Rattle.centre_events.specs.declared.answer.Answer.{Answer}
 use Rattle.centre_events.specs.declared.event.Event.{Event}

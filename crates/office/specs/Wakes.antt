@@ -1,8 +1,8 @@
 -- What there is to do for the link of a BSC.
 use Rattle.std.specs.Prelude.{◌≡◌, ◌≢◌, ◌≤◌, ◌⊎◌, ℕ, Bool, true, false, None, length}
-use Rattle.centre_core.specs.Headline.{PendingGivesPlan}
-use Rattle.centre_core.specs.Legal.{Known, Legal, past}
-use Rattle.centre_core.specs.LinkStates.{link_state}
+use Rattle.centre_past.specs.Headline.{PendingGivesPlan}
+use Rattle.centre_past.specs.Legal.{Known, Legal, past}
+use Rattle.centre_past.specs.LinkStates.{link_state}
 use Rattle.centre_events.specs.InFlight.{in_flight}
 use Rattle.centre_events.specs.Links.{is_bsc, is_up, last_link}
 use Rattle.office.specs.declared.wake.Wake.{Wake}

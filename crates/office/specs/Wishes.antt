@@ -1,8 +1,8 @@
 -- When a wish for a query is kept, and why it is refused.
 use Rattle.std.specs.Prelude.{◌≡◌, ◌⊎◌, ℕ, true, false, None, IsSome}
-use Rattle.centre_core.specs.Headline.{PendingGivesPlan}
-use Rattle.centre_core.specs.Legal.{Known, Legal, past}
-use Rattle.centre_core.specs.Numbers.{board}
+use Rattle.centre_past.specs.Headline.{PendingGivesPlan}
+use Rattle.centre_past.specs.Legal.{Known, Legal, past}
+use Rattle.centre_past.specs.Numbers.{board}
 use Rattle.centre_events.specs.Links.{is_bsc}
 use Rattle.centre_events.specs.declared.refusal.Refusal.{Refusal}
 use Rattle.centre_events.specs.declared.refusal.Refusal.TheVariants as refusal

@@ -12,7 +12,7 @@ use crate::waking::{has_work, wake_of};
 use crate::wish::{Wish, keep, take_out};
 use cell_register::BscId;
 use centre_core::centre::Centre;
-use centre_core::headline::pending_gives_plan;
+use centre_laws::headline::pending_gives_plan;
 use centre_events::event::Event;
 use centre_events::refusal::{Limit, Refusal};
 use centre_questions::asking::ask;
@@ -52,8 +52,8 @@ impl<L: Ledger> Model for Held<L> {
 impl<L: Ledger> Held<L> {
     ghost use Rattle.std.specs.Prelude.{◌≡◌, ◌≤◌, ◌<◌, ◌+◌, [], length, true, false, All, Ok, Err, IfOk, IfErr, IfSome, OnOk, OnErr, MatchBool, nat_lt};
     ghost use Rattle.centre_core.specs.Centre.{Leaves, Refuses};
-    ghost use Rattle.centre_core.specs.Headline.{PendingGivesPlan};
-    ghost use Rattle.centre_core.specs.Legal.{Legal, new_centre, past};
+    ghost use Rattle.centre_past.specs.Headline.{PendingGivesPlan};
+    ghost use Rattle.centre_past.specs.Legal.{Legal, new_centre, past};
     ghost use Rattle.office.specs.Helds.{IsByOpened, IsEntered, fits};
     ghost use Rattle.centre_questions.specs.Questions.{RefusesQuestion, Shows};
     ghost use Rattle.office.specs.Shuffles.{IsFault, IsShuffle};

@@ -1,7 +1,7 @@
 //! An office: one centre under one lock, for many callers.
 
 ghost use Rattle.std.specs.Prelude.{◌≡◌, ◌≤◌, ◌<◌, ◌⊎◌, [], IfOk, IfErr, OnOk, OnErr};
-ghost use Rattle.centre_core.specs.Legal.{Legal, past};
+ghost use Rattle.centre_past.specs.Legal.{Legal, past};
 ghost use Rattle.office.specs.Offices.{IsRefusedSomewhere, IsSeenSomewhere, IsSubmitted, IsUnseenSomewhere};
 ghost use Rattle.office.specs.Shuffles.{IsSettled, IsUnsettled};
 ghost use Rattle.office.specs.Wakes.{IsDueSomewhere};

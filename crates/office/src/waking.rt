@@ -1,7 +1,7 @@
 //! Whether there is something to do for the link of a BSC.
 
 ghost use Rattle.std.specs.Prelude.{◌≡◌, true, false, IfSome, None};
-ghost use Rattle.centre_core.specs.Legal.{past};
+ghost use Rattle.centre_past.specs.Legal.{past};
 ghost use Rattle.centre_events.specs.InFlight.{in_flight};
 ghost use Rattle.centre_events.specs.Links.{is_bsc};
 ghost use Rattle.office.specs.Wakes.{IsDue};

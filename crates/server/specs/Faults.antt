@@ -1,7 +1,7 @@
 -- What is said of a fault that ends a run of the server.
 use Rattle.std.specs.Prelude.{ℕ, List, ◌++◌, codes}
-use Rattle.console.specs.Running.{fault_words}
-use Rattle.console.specs.Texts.{newline}
+use Rattle.console_text.specs.Faults.{fault_words}
+use Rattle.console_text.specs.Texts.{newline}
 use Rattle.server.specs.declared.fault.ServeFault.{ServeFault}
 use Rattle.server.specs.declared.fault.ServeFault.TheVariants as serve_fault
 

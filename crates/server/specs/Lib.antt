@@ -1,4 +1,1 @@
-pub mod Allowances
 pub mod Faults
-pub mod Paces
-pub mod Rate

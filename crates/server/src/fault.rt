@@ -3,8 +3,7 @@
 ghost use Rattle.std.specs.Prelude.{◌≡◌};
 ghost use Rattle.server.specs.Faults.{words_of};
 
-use console::ReplayFault;
-use console::running::fault_words;
+use console_text::{ReplayFault, fault_words};
 
 /// Why a run ended.
 #[derive(Clone, Copy, Debug, PartialEq, Eq)]

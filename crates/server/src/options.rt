@@ -3,7 +3,7 @@
 ghost use Rattle.std.specs.Prelude.{◌≤◌, IfSome};
 
 use clap::ArgMatches;
-use console::options::{MOST_ENTRIES, command_line};
+use console_text::options::{MOST_ENTRIES, command_line};
 use hex::FromHex;
 use std::alloc::{AllocError, Global};
 

@@ -1,24 +1,18 @@
-//! The ports of a server: opened, given their desks, and closed.
+//! The ports of a server: opened, given their desks, and the desks handed in.
 
-use crate::errors::{Errors, tell};
 use crate::fault::ServeFault;
 use crate::options::ServeOptions;
-use crate::port::Port;
-use crate::shared::Shared;
 use cell_register::BscId;
-use console::ReplayFault;
+use console_text::ReplayFault;
 use office::desk::Desk;
 use office::office::Office;
+use server_links::{Errors, Port, tell};
 use std::alloc::Global;
+use std::io;
 use std::io::Write;
 use std::net::{Net, TcpListener, TcpStream};
 use std::sync::Wait;
 use std::sync::ledger::Ledger;
-use std::time::{Clock, Duration};
-use std::{io, thread};
-
-/// How often a connection to a closing port is tried.
-const MOST_TRIES: u32 = 1_000;
 
 /// Listens on the port of a BSC.
 fn bind<R: Net<Stream = TcpStream, Listener = TcpListener>, L: Ledger>(
@@ -91,41 +85,6 @@ pub(crate) fn open_desks<L: Ledger, R: Wait>(
         *port.write_desk.lock(rt) = Some(open_desk(rt, office)?);
     }
     Ok(())
-}
-
-/// Ends a port's wait for a connection by one of the program's own.
-fn wake_up<L: Ledger, R: Wait + Clock + Net<Stream = TcpStream, Listener = TcpListener>>(
-    rt: &R,
-    port: &Port<L>,
-) {
-    for _ in 0..MOST_TRIES {
-        if TcpStream::connect(rt, port.address).is_ok() {
-            return;
-        }
-        thread::sleep(rt, Duration::from_millis(10));
-    }
-}
-
-/// Has all ports take no further connections, and shuts those that are there.
-pub(crate) fn close_all<
-    L: Ledger,
-    R: Wait + Clock + Net<Stream = TcpStream, Listener = TcpListener>,
->(rt: &R, ports: &[Port<L>]) {
-    for port in ports {
-        port.close(rt);
-        wake_up(rt, port);
-    }
-}
-
-/// Closes a port of which a thread can't be started, and says so.
-pub(crate) fn close_port<L: Ledger, E: Write + Drop, R: Wait>(
-    rt: &R,
-    shared: &Shared<L, E>,
-    port: &Port<L>,
-) {
-    port.close(rt);
-    let why = "no thread can be started: its port is closed";
-    tell(rt, shared.alloc, &shared.errors, port.bsc, why);
 }
 
 /// Hands in the desks of the ports.

@@ -2,22 +2,17 @@
 
 ghost use Rattle.std.specs.Prelude.{◌≡◌};
 
-use crate::bucket::Bucket;
-use crate::errors::Errors;
 use crate::fault::ServeFault;
-use crate::operator::operate;
 use crate::options::{OptionsFault, ServeOptions, read_options};
-use crate::port::Port;
-use crate::ports::{bind_all, close_all, close_port, hand_in, open_desk, open_desks, push};
-use crate::reading::read_links;
-use crate::shared::Shared;
-use crate::simulating::simulate;
-use crate::terminal::Terminal;
-use crate::writing::write_links;
-use console::ReplayFault;
-use console::running::fault_words;
+use crate::ports::{bind_all, hand_in, open_desk, open_desks, push};
+use crate::simulated_ports::SimulatedPorts;
+use console_text::{ReplayFault, fault_words};
 use office::desk::Desk;
 use office::office::Office;
+use server_links::{
+    Bucket, Errors, Port, Shared, close_all, close_port, read_links, simulate, write_links,
+};
+use server_operator::{Operator, Terminal, operate};
 use std::alloc::Global;
 use std::io::{BufRead, Write};
 use std::marker::Brand;
@@ -48,7 +43,12 @@ fn run_simulators<
                 close_port(rt, shared, port);
             }
         }
-        let result = operate(rt, shared, terminal);
+        let operator = Operator {
+            alloc: shared.alloc,
+            office: &shared.office,
+            ports: &SimulatedPorts { shared },
+        };
+        let result = operate(rt, &operator, terminal);
         close_all(rt, ports);
         result
     })

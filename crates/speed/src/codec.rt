@@ -18,12 +18,16 @@ pub fn rounds(rt: &(impl Clock + AllocGlobal), octets: u64) -> Result<Vec<String
 
 fn complete_figure(rt: &(impl Clock + AllocGlobal), octets: u64) -> Result<String> {
     let message = long_complete(rt.alloc())?;
-    figure(rt, "WRITE-REPLACE COMPLETE", &message, octets)
+    let said = figure(rt, "WRITE-REPLACE COMPLETE", &message, octets);
+    drop(message);
+    said
 }
 
 fn order_figure(rt: &(impl Clock + AllocGlobal), octets: u64) -> Result<String> {
     let message = long_write(rt.alloc())?;
-    figure(rt, "WRITE-REPLACE", &message, octets)
+    let said = figure(rt, "WRITE-REPLACE", &message, octets);
+    drop(message);
+    said
 }
 
 fn figure(
@@ -32,24 +36,52 @@ fn figure(
     message: &Message,
     octets: u64,
 ) -> Result<String> {
-    let alloc = rt.alloc();
     ensure!(message.fits(), "the message can't be written");
-    let frame = write(alloc, message)?;
+    let frame = write(rt.alloc(), message)?;
+    let said = figure_of(rt, name, message, frame.as_slice(), octets);
+    drop(frame);
+    said
+}
+
+/// The figure of a message that is written as this frame.
+fn figure_of(
+    rt: &(impl Clock + AllocGlobal),
+    name: &str,
+    message: &Message,
+    frame: &[u8],
+    octets: u64,
+) -> Result<String> {
     let length = frame.len() as u64;
     let count = octets.checked_div(length).unwrap_or(0).max(1);
-    let octets = length.saturating_mul(count);
-
-    let stopwatch = Stopwatch::start(rt)?;
-    read_often(alloc, frame.as_slice(), message, count)?;
-    let read_rate = stopwatch.rate(rt, octets)?;
-
-    let stopwatch = Stopwatch::start(rt)?;
-    write_often(alloc, message, frame.as_slice(), count)?;
-    let write_rate = stopwatch.rate(rt, octets)?;
-
-    Ok(format!(in alloc;
+    let read_rate = rate_of_reading(rt, message, frame, count)?;
+    let write_rate = rate_of_writing(rt, message, frame, count)?;
+    Ok(format!(in rt.alloc();
         "{name} of {length} octets: {read_rate} million octets a second read, {write_rate} written"
     )?)
+}
+
+/// Millions of octets a second that are read, where the frame is read so many times.
+fn rate_of_reading(
+    rt: &(impl Clock + AllocGlobal),
+    message: &Message,
+    frame: &[u8],
+    count: u64,
+) -> Result<u64> {
+    let stopwatch = Stopwatch::start(rt)?;
+    read_often(rt.alloc(), frame, message, count)?;
+    Ok(stopwatch.rate(rt, (frame.len() as u64).saturating_mul(count))?)
+}
+
+/// Millions of octets a second that are written, where the message is written so many times.
+fn rate_of_writing(
+    rt: &(impl Clock + AllocGlobal),
+    message: &Message,
+    frame: &[u8],
+    count: u64,
+) -> Result<u64> {
+    let stopwatch = Stopwatch::start(rt)?;
+    write_often(rt.alloc(), message, frame, count)?;
+    Ok(stopwatch.rate(rt, (frame.len() as u64).saturating_mul(count))?)
 }
 
 /// Whether the body is read as a message of that type.

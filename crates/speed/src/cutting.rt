@@ -16,22 +16,42 @@ pub fn rounds(
     octets: usize,
     long_frame: usize,
 ) -> Result<Vec<String>> {
-    let alloc = rt.alloc();
-    let mut figures = Vec::new(alloc);
+    let mut figures = Vec::new(rt.alloc());
     for frame in [30, long_frame] {
-        let (stream, count) = stream_of(alloc, frame, octets)?;
-        for piece in &PIECES {
-            let piece = *piece;
-            let stopwatch = Stopwatch::start(rt)?;
-            let frames = cut(alloc, stream.as_slice(), piece)?;
-            let time = stopwatch.picoseconds_each(rt, stream.len() as u64)?;
-            ensure!(frames == count, "other frames are cut");
-            figures.push(format!(in alloc;
-                "frames of {frame} octets in pieces of {piece}: {time} picoseconds an octet"
-            )?)?;
-        }
+        add_figures(rt, frame, octets, &mut figures)?;
     }
     Ok(figures)
+}
+
+/// Puts the figures of a stream of frames of that size last.
+fn add_figures(
+    rt: &(impl Clock + AllocGlobal),
+    frame: usize,
+    octets: usize,
+    figures: &mut Vec<String>,
+) -> Result<()> {
+    let (stream, count) = stream_of(rt.alloc(), frame, octets)?;
+    for piece in &PIECES {
+        figures.push(figure(rt, frame, stream.as_slice(), *piece, count)?)?;
+    }
+    Ok(())
+}
+
+/// The figure of the stream, which is cut in pieces of that size and has so many frames.
+fn figure(
+    rt: &(impl Clock + AllocGlobal),
+    frame: usize,
+    stream: &[u8],
+    piece: usize,
+    count: u64,
+) -> Result<String> {
+    let stopwatch = Stopwatch::start(rt)?;
+    let frames = cut(rt.alloc(), stream, piece)?;
+    let time = stopwatch.picoseconds_each(rt, stream.len() as u64)?;
+    ensure!(frames == count, "other frames are cut");
+    Ok(format!(in rt.alloc();
+        "frames of {frame} octets in pieces of {piece}: {time} picoseconds an octet"
+    )?)
 }
 
 /// A stream of frames of the size with at least so many octets, and how many frames it has.

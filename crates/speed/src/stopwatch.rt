@@ -28,13 +28,8 @@ impl Stopwatch {
         Ok(picoseconds.checked_div(octets).unwrap_or(0))
     }
 
-    /// Milliseconds since the start.
-    pub fn milliseconds(&self, rt: &impl Clock) -> io::Result<u64> {
-        Ok(self.microseconds(rt)?.checked_div(1_000).unwrap_or(0))
-    }
-
     /// Microseconds since the start.
-    pub fn microseconds(&self, rt: &impl Clock) -> io::Result<u64> {
+    fn microseconds(&self, rt: &impl Clock) -> io::Result<u64> {
         let time: Duration = self.start.elapsed(rt)?;
         Ok(u64::try_from(time.as_micros()).unwrap_or(u64::MAX))
     }

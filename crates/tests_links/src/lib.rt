@@ -1,9 +1,11 @@
 //! Tests of the office and of the two sides of a link: what their contracts don't say.
 //!
-//! A test demands an answer by `expect` and not by `?`, and lets a value of a large enum go by `drop`. Either is a call to
-//! the prover; an early return, or the end of such a value's block, is a case for each value that may be dropped there.
+//! A test demands an answer by `expect`, `yes` or `same` and not by `?`, and lets a value of a large enum go by `drop`. Each is a
+//! call to the prover; an early return, or the end of such a value's block, is a case for each value that may be dropped there.
 #![tactic(auto)]
 
+#[cfg(test)]
+mod checks;
 #[cfg(test)]
 mod given_events;
 #[cfg(test)]
@@ -14,8 +16,6 @@ mod office_tests;
 mod read_side_tests;
 #[cfg(test)]
 mod two_links_tests;
-#[cfg(test)]
-mod values;
 #[cfg(test)]
 mod waiting_tests;
 #[cfg(test)]

@@ -1,9 +1,10 @@
 //! What no clause says of the side of a link that reads: that reports are submitted, that frames of other types are passed over and
 //! replies that answer nothing too, and how it ends at streams that fail or end early, at links that are over and at refusals.
 
-ghost use Rattle.std.specs.Prelude.{◌≡◌, ◌≤◌};
+ghost use Rattle.std.specs.Prelude.{◌≡◌};
 
-use crate::given_link::{LINK, STREAM, ShutAt, enters, first_bsc, linked, order_frame};
+use crate::checks::same;
+use crate::given_link::{COMPLETE, LINK, ORDER, STREAM, ShutAt, enters, first_bsc, linked, opens};
 use cbsp_ie::ElementId;
 use cbsp_messages::MessageFault;
 use centre_events::event::Event;
@@ -32,9 +33,9 @@ fn reads<L: Ledger, S: Source + Drop, G: Gate, R: Wait + Abort>(
     requires desks { blank.parts ≡ 1025 }
 {
     let b = first_bsc(rt);
-    let (office, mut desk) = linked::<L, R>(rt, alloc, blank, 1000, b);
+    let (office, mut desk) = linked::<L, R>(rt, alloc, blank, 1000);
     enters(rt, &office, &mut desk, Event::Send(b, LINK));
-    let mut reading = office.open_desk(rt).expect(rt, "a desk is opened");
+    let mut reading = opens(rt, &office);
     let end = read_side(
         rt,
         alloc,
@@ -53,30 +54,30 @@ fn read<S: Source + Drop, R: Wait + Abort>(rt: &R, alloc: Global, source: S) -> 
     reads::<Brand, S, OpenGate, R>(rt, alloc, Blank::new(1025), LINK, source, &OpenGate)
 }
 
-/// The same over octets, which come in one read.
-fn read_octets<R: Wait + Abort>(rt: &R, alloc: Global, octets: &[u8]) -> (End, usize) {
-    read(rt, alloc, FromRead::new(octets))
+/// The octets come in two pieces, and the side ends so.
+fn ends<R: Wait + Abort>(
+    rt: &R,
+    alloc: Global,
+    pieces: (&[u8], &[u8]),
+    want: (End, usize),
+    at: &str,
+) {
+    let source = FromRead::new(pieces.0.chain(pieces.1));
+    same(rt, read(rt, alloc, source), want, at);
 }
 
-/// The same over octets that are cut at one place.
-fn read_parts<R: Wait + Abort>(rt: &R, alloc: Global, octets: &[u8], rest: &[u8]) -> (End, usize) {
-    read(rt, alloc, FromRead::new(octets.chain(rest)))
+/// However the octets are cut into two pieces, the side ends so.
+fn ends_however_cut<R: Wait + Abort>(rt: &R, alloc: Global, octets: &[u8], want: (End, usize)) {
+    for cut in 0..=octets.len() {
+        ends(rt, alloc, octets.split_at(cut), want, "a cut");
+    }
 }
 
 #[test]
 fn reports_are_submitted_however_the_stream_is_cut(rt: HostRuntime) {
-    for cut in 0..=STREAM.len() {
-        let ended = read_parts(&rt, rt.alloc(), &STREAM[..cut], &STREAM[cut..]);
-        assert_eq!(rt; ended, (End::PeerEnded, 2), "cut at {cut}");
-        let last = STREAM.len() - 1;
-        let ended = read_parts(
-            &rt,
-            rt.alloc(),
-            &STREAM[..cut.min(last)],
-            &STREAM[cut.min(last)..last],
-        );
-        assert_eq!(rt; ended, (End::CutFrame, 1), "cut at {cut}");
-    }
+    ends_however_cut(&rt, rt.alloc(), &STREAM, (End::PeerEnded, 2));
+    let early = &STREAM[..37];
+    ends_however_cut(&rt, rt.alloc(), early, (End::CutFrame, 1));
 }
 
 /// How many reports are whole in so many octets of the stream.
@@ -107,111 +108,142 @@ fn octet_by_octet() -> InPieces<FromRead<&'static [u8]>> {
 #[test]
 fn each_octet_may_be_the_last(rt: HostRuntime) {
     for given in 0..=38 {
-        let ended = read(
-            &rt,
-            rt.alloc(),
-            EndsAtRead::new(octet_by_octet(), given + 1),
-        );
+        let source = EndsAtRead::new(octet_by_octet(), given + 1);
         let want = (end_after(given), reports_in(given));
-        assert_eq!(rt; ended, want, "after {given} octets");
+        same(&rt, read(&rt, rt.alloc(), source), want, "an early end");
     }
 }
 
 #[test]
 fn each_read_may_fail(rt: HostRuntime) {
     for given in 0..=38 {
-        let ended = read(
-            &rt,
-            rt.alloc(),
-            FailsAtRead::new(octet_by_octet(), given + 1),
-        );
+        let source = FailsAtRead::new(octet_by_octet(), given + 1);
         let want = (End::ReadFault, reports_in(given));
-        assert_eq!(rt; ended, want, "after {given} octets");
+        same(&rt, read(&rt, rt.alloc(), source), want, "a failed read");
     }
 }
 
-#[test]
-fn a_longer_body_ends_the_side_after_the_frames_before_it(rt: HostRuntime) {
-    let long = [0x02, 0x04, 0x00, 0x01];
-    assert_eq!(rt; read_octets(&rt, rt.alloc(), &long), (End::TooLong, 0));
-    assert_eq!(rt;
-        read_parts(&rt, rt.alloc(), &STREAM, &long),
-        (End::TooLong, 2)
-    );
-    let longest = [0x02, 0x04, 0x00, 0x00];
-    assert_eq!(rt; read_octets(&rt, rt.alloc(), &longest), (End::CutFrame, 0));
+/// Octets of a BSC, which come in two pieces.
+struct Row {
+    at: &'static str,
+    octets: &'static [u8],
+    rest: &'static [u8],
+    end: End,
+    reports: usize,
 }
+
+/// The header of a body of 262,145 octets, and of one of 262,144.
+const LONG: &[u8] = &[0x02, 0x04, 0x00, 0x01];
+
+const LONGEST: &[u8] = &[0x02, 0x04, 0x00, 0x00];
+
+/// A COMPLETE that has its message identifier twice.
+const TWICE: &[u8] = &[
+    0x02, 0x00, 0x00, 0x09, 0x0e, 0x11, 0x12, 0x03, 0xc0, 0x00, 0x0e, 0x11, 0x12,
+];
+
+const IS_TWICE: End = End::BadMessage(MessageFault::Repeated {
+    id: ElementId::MessageIdentifier,
+});
+
+const ROWS: &[Row] = &[
+    Row {
+        at: "reports",
+        octets: &STREAM,
+        rest: b"",
+        end: End::PeerEnded,
+        reports: 2,
+    },
+    Row {
+        at: "a longer body",
+        octets: LONG,
+        rest: b"",
+        end: End::TooLong,
+        reports: 0,
+    },
+    Row {
+        at: "a longer body after reports",
+        octets: &STREAM,
+        rest: LONG,
+        end: End::TooLong,
+        reports: 2,
+    },
+    Row {
+        at: "the longest body",
+        octets: LONGEST,
+        rest: b"",
+        end: End::CutFrame,
+        reports: 0,
+    },
+    Row {
+        at: "a report that can't be read",
+        octets: TWICE,
+        rest: b"",
+        end: IS_TWICE,
+        reports: 0,
+    },
+    Row {
+        at: "a report that can't be read after others",
+        octets: &STREAM,
+        rest: TWICE,
+        end: IS_TWICE,
+        reports: 2,
+    },
+    Row {
+        at: "a report that can't be read before others",
+        octets: TWICE,
+        rest: &STREAM,
+        end: IS_TWICE,
+        reports: 0,
+    },
+    Row {
+        at: "an order that comes from a BSC is passed over",
+        octets: &ORDER,
+        rest: &STREAM,
+        end: End::PeerEnded,
+        reports: 2,
+    },
+    Row {
+        at: "the second COMPLETE, which answers no order, is passed over",
+        octets: &COMPLETE,
+        rest: &STREAM,
+        end: End::PeerEnded,
+        reports: 2,
+    },
+];
 
 #[test]
-fn a_report_that_cannot_be_read_ends_the_side(rt: HostRuntime) {
-    let twice = [
-        0x02, 0x00, 0x00, 0x09, 0x0e, 0x11, 0x12, 0x03, 0xc0, 0x00, 0x0e, 0x11, 0x12,
-    ];
-    let fault = MessageFault::Repeated {
-        id: ElementId::MessageIdentifier,
-    };
-    let end = End::BadMessage(fault);
-    assert_eq!(rt; read_octets(&rt, rt.alloc(), &twice), (end, 0));
-    assert_eq!(rt; read_parts(&rt, rt.alloc(), &STREAM, &twice), (end, 2));
-    assert_eq!(rt; read_parts(&rt, rt.alloc(), &twice, &STREAM), (end, 0));
+fn every_stream_ends_the_side(rt: HostRuntime) {
+    for row in ROWS {
+        let pieces = (row.octets, row.rest);
+        let want = (row.end, row.reports);
+        ends(&rt, rt.alloc(), pieces, want, row.at);
+    }
 }
 
-#[test]
-fn an_order_that_comes_from_a_bsc_is_passed_over(rt: HostRuntime) {
-    let order = order_frame(&rt, rt.alloc());
-    let ended = read_parts(&rt, rt.alloc(), order.as_slice(), &STREAM);
-    assert_eq!(rt; ended, (End::PeerEnded, 2));
-}
-
-#[test]
-fn a_reply_that_answers_nothing_is_passed_over(rt: HostRuntime) {
-    // The second COMPLETE answers no order.
-    assert_eq!(rt;
-        read_parts(&rt, rt.alloc(), &STREAM[..20], &STREAM),
-        (End::PeerEnded, 2)
-    );
-}
-
-/// How the side of a link of that generation ends.
-fn read_over<R: Wait + Abort>(rt: &R, alloc: Global, generation: u64) -> (End, usize) {
-    let source = FromRead::new(STREAM.as_slice());
-    reads::<Brand, FromRead<&[u8]>, OpenGate, R>(
-        rt,
-        alloc,
-        Blank::new(1025),
-        generation,
-        source,
-        &OpenGate,
-    )
-}
-
-/// How the side ends where the gate is shut at the step.
-fn read_until<R: Wait + Abort>(rt: &R, alloc: Global, step: Step) -> (End, usize) {
-    let source = FromRead::new(STREAM.as_slice());
+/// How the side of a link of that generation ends at a gate that is shut at the step.
+fn read_until<R: Wait + Abort>(rt: &R, alloc: Global, generation: u64, step: Step) -> (End, usize) {
     reads::<Brand, FromRead<&[u8]>, ShutAt, R>(
         rt,
         alloc,
         Blank::new(1025),
-        LINK,
-        source,
+        generation,
+        FromRead::new(STREAM.as_slice()),
         &ShutAt { step },
     )
 }
 
 #[test]
 fn a_link_that_is_over_or_cut_ends_the_side(rt: HostRuntime) {
-    assert_eq!(rt; read_over(&rt, rt.alloc(), LINK - 1), (End::Superseded, 0));
-    assert_eq!(rt;
-        read_until(&rt, rt.alloc(), Step::AfterReport),
-        (End::GateShut, 1)
-    );
-    assert_eq!(rt;
-        read_until(&rt, rt.alloc(), Step::BeforeWrite),
-        (End::PeerEnded, 2)
-    );
+    let over = read_until(&rt, rt.alloc(), LINK - 1, Step::BeforeWrite);
+    same(&rt, over, (End::Superseded, 0), "an older link");
+    let cut = read_until(&rt, rt.alloc(), LINK, Step::AfterReport);
+    same(&rt, cut, (End::GateShut, 1), "a gate after a report");
+    let whole = read_until(&rt, rt.alloc(), LINK, Step::BeforeWrite);
+    same(&rt, whole, (End::PeerEnded, 2), "a gate before a write");
 }
 
-/// How the side ends at an office whose journal is full, and at one to which the link was lost.
+/// How the side ends at an office to which the link was lost, and whose journal holds so many entries.
 fn refused<L: Ledger, R: Wait + Abort>(
     rt: &R,
     alloc: Global,
@@ -221,10 +253,9 @@ fn refused<L: Ledger, R: Wait + Abort>(
     requires name { blank.name ≡ L.name }
     requires parts { blank.parts ≡ L.parts }
     requires desks { blank.parts ≡ 1025 }
-    requires limit { journal_limit ≤ 4000000 }
 {
     let b = first_bsc(rt);
-    let (office, mut desk) = linked::<L, R>(rt, alloc, blank, journal_limit, b);
+    let (office, mut desk) = linked::<L, R>(rt, alloc, blank, journal_limit);
     enters(rt, &office, &mut desk, Event::LinkDown(b, LINK));
     let mut source = FromRead::new(STREAM.as_slice());
     read_side(
@@ -239,21 +270,11 @@ fn refused<L: Ledger, R: Wait + Abort>(
     )
 }
 
-fn run_refused<R: Wait + Abort>(rt: &R, alloc: Global, journal_limit: u32) -> End
-    requires { journal_limit ≤ 4000000 }
-{
-    refused::<Brand, R>(rt, alloc, Blank::new(1025), journal_limit)
-}
-
 #[test]
 fn a_refusal_ends_the_side(rt: HostRuntime) {
     let full = End::Refused(Refusal::JournalFull);
-    assert_eq!(rt; run_refused(&rt, rt.alloc(), 7), full);
-    assert_eq!(rt; run_refused(&rt, rt.alloc(), 1000), End::Superseded);
-}
-
-#[test]
-fn every_call_answers(rt: HostRuntime) {
-    let ended = read_octets(&rt, rt.alloc(), &STREAM);
-    assert_eq!(rt; ended, (End::PeerEnded, 2));
+    for (limit, want) in [(7, full), (1000, End::Superseded)] {
+        let end = refused::<Brand, _>(&rt, rt.alloc(), Blank::new(1025), limit);
+        same(&rt, end, want, "a refusal");
+    }
 }

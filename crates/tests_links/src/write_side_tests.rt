@@ -1,20 +1,21 @@
 //! What no clause says of the side of a link that writes: that orders and queries are written as they become due, what a failed write
 //! leaves, how the side ends where the link is over, cut or refused, and what an operator reads of an end.
 
-ghost use Rattle.std.specs.Prelude.{◌≡◌, ◌≤◌};
+ghost use Rattle.std.specs.Prelude.{◌≡◌};
 
-use crate::given_events::{MESSAGE_ID, SEVEN, first_serial};
-use crate::given_link::{LINK, STREAM, ShutAt, enters, first_bsc, linked, order_frame};
+use crate::checks::{same, yes};
+use crate::given_events::{MESSAGE_ID, SEVEN, first_serial, first_warning};
+use crate::given_link::{COMPLETE, LINK, ORDER, ShutAt, enters, first_bsc, linked, opens};
 use cbsp_ie::ElementId;
 use cbsp_messages::{MessageFault, read};
 use cell_register::BscId;
-use centre_core::reported::{Presence, ReportedKey};
 use centre_events::answer::Answer;
 use centre_events::event::Event;
 use centre_events::refusal::Refusal;
+use centre_events::reported::{Presence, ReportedKey};
+use framing::FromWrite;
 use framing::faulty::FailsAfter;
-use framing::{FromWrite, Sink};
-use link_worker::{End, Gate, OpenGate, Step, write_side};
+use link_worker::{End, OpenGate, Step, write_side};
 use office::desk::Desk;
 use office::office::Office;
 use office::question::Question;
@@ -29,7 +30,6 @@ use std::sync::ledger::{Blank, Ledger};
 use std::thread;
 use std::thread::Threads;
 use std::time::Duration;
-use warning_book::WarningId;
 
 type Memory = FromWrite<Vec<u8>>;
 
@@ -45,35 +45,36 @@ fn is_first_order(order: &Order) -> bool {
         && order.cells.as_slice() == [SEVEN].as_slice()
 }
 
-/// Whether the first order is pending, and alone.
-fn is_pending<L: Ledger, R: Wait>(rt: &R, office: &Office<L>, desk: &Desk<L>, b: BscId) -> bool {
-    let Ok(seen) = office.look(rt, desk, Question::Pending(b)) else {
-        return false;
-    };
-    match &seen.value {
-        SeenValue::Pending(orders) => match orders.as_slice() {
-            [order] => is_first_order(order),
-            _ => false,
-        },
-        _ => false,
-    }
-}
-
-/// Whether the first version may be on air, and nothing else.
-fn is_unknown<L: Ledger, R: Wait>(rt: &R, office: &Office<L>, desk: &Desk<L>, b: BscId) -> bool {
-    let Ok(seen) = office.look(rt, desk, Question::Table(b)) else {
-        return false;
-    };
+/// Whether the first order is pending, and alone; or the first version may be on air, and nothing else.
+fn is_first(value: &SeenValue) -> bool {
     let key = ReportedKey {
         cell: SEVEN,
         message_id: MESSAGE_ID,
         serial: first_serial(),
         presence: Presence::Unknown,
     };
-    match &seen.value {
+    match value {
+        SeenValue::Pending(orders) => match orders.as_slice() {
+            [order] => is_first_order(order),
+            _ => false,
+        },
         SeenValue::Table(keys) => keys.as_slice() == [key].as_slice(),
         _ => false,
     }
+}
+
+/// The answer to the question is the first order, or the first version, alone.
+fn answers_first<L: Ledger, R: Wait + Abort>(
+    rt: &R,
+    office: &Office<L>,
+    desk: &Desk<L>,
+    question: Question,
+    at: &str,
+) {
+    let seen = office.look(rt, desk, question).expect(rt, at);
+    let is_right = is_first(&seen.value);
+    drop(seen);
+    yes(rt, is_right, at);
 }
 
 /// Whether the desk has one receipt, that of an order.
@@ -87,80 +88,59 @@ fn has_sent<L: Ledger>(desk: &Desk<L>) -> bool {
     }
 }
 
-/// How the side ends over a writer that takes so many octets, and those that it took. The order is in flight then, and after the loss
-/// of the link it is pending again.
+/// The order is in flight, and after the loss of the link it is pending again.
+fn is_in_flight<L: Ledger, R: Wait + Abort>(rt: &R, office: &Office<L>, desk: &mut Desk<L>) {
+    let b = first_bsc(rt);
+    let again = office.submit(rt, desk, Event::Send(b, LINK));
+    same(rt, again, Err(Refusal::InFlight), "it is not in flight");
+    enters(rt, office, desk, Event::LinkDown(b, LINK));
+    answers_first(rt, office, desk, Question::Table(b), "it is not unknown");
+    answers_first(rt, office, desk, Question::Pending(b), "it is not pending");
+}
+
+/// How the side ends over a writer that takes so many octets, and those that it took. The order is in flight then.
 fn breaks<L: Ledger, R: Wait + Abort>(
     rt: &R,
     alloc: Global,
     blank: Blank,
     room: usize,
+    gate: &ShutAt,
 ) -> (End, Vec<u8>)
     requires name { blank.name ≡ L.name }
     requires parts { blank.parts ≡ L.parts }
     requires desks { blank.parts ≡ 1025 }
 {
     let b = first_bsc(rt);
-    let (office, mut desk) = linked::<L, R>(rt, alloc, blank, 1000, b);
-    let mut writing = office.open_desk(rt).expect(rt, "a desk is opened");
+    let (office, mut desk) = linked::<L, R>(rt, alloc, blank, 1000);
+    let mut writing = opens(rt, &office);
     let mut sink = FailsAfter::new(memory(alloc), room);
-    let end = write_side(
-        rt,
-        alloc,
-        &office,
-        &mut writing,
-        b,
-        LINK,
-        &mut sink,
-        &OpenGate,
-    );
-    assert!(rt; has_sent(&writing));
-    enters(rt, &office, &mut desk, Event::LinkDown(b, LINK));
-    assert!(rt; is_unknown(rt, &office, &desk, b));
-    assert!(rt; is_pending(rt, &office, &desk, b));
+    let end = write_side(rt, alloc, &office, &mut writing, b, LINK, &mut sink, gate);
+    yes(rt, has_sent(&writing), "it has sent another order");
+    is_in_flight(rt, &office, &mut desk);
     (end, sink.into_inner().into_inner())
-}
-
-fn run_breaks<R: Wait + Abort>(rt: &R, alloc: Global, room: usize) -> (End, Vec<u8>) {
-    breaks::<Brand, R>(rt, alloc, Blank::new(1025), room)
 }
 
 #[test]
 fn each_octet_of_an_order_may_be_the_last_that_is_written(rt: HostRuntime) {
-    let frame = order_frame(&rt, rt.alloc());
-    assert_eq!(rt; frame.len(), 116);
-    for room in 0..116 {
-        let (end, octets) = run_breaks(&rt, rt.alloc(), room);
-        assert_eq!(rt; end, End::WriteFault, "after {room} octets");
-        assert_eq!(rt; Some(octets.as_slice()), frame.as_slice().get(..room));
-    }
-}
-
-/// How the side ends at a gate that is shut before a write, what was written, and whether the order is in flight.
-fn is_shut<L: Ledger, R: Wait + Abort>(rt: &R, alloc: Global, blank: Blank) -> (End, usize, bool)
-    requires name { blank.name ≡ L.name }
-    requires parts { blank.parts ≡ L.parts }
-    requires desks { blank.parts ≡ 1025 }
-{
-    let b = first_bsc(rt);
-    let (office, mut desk) = linked::<L, R>(rt, alloc, blank, 1000, b);
-    let mut writing = office.open_desk(rt).expect(rt, "a desk is opened");
-    let mut sink = memory(alloc);
     let gate = ShutAt {
-        step: Step::BeforeWrite,
+        step: Step::AfterReport,
     };
-    let end = write_side(rt, alloc, &office, &mut writing, b, LINK, &mut sink, &gate);
-    let again = office.submit(rt, &mut desk, Event::Send(b, LINK));
-    let is_in_flight = has_sent(&writing) && again == Err(Refusal::InFlight);
-    (end, sink.into_inner().len(), is_in_flight)
-}
-
-fn run_is_shut<R: Wait + Abort>(rt: &R, alloc: Global) -> (End, usize, bool) {
-    is_shut::<Brand, R>(rt, alloc, Blank::new(1025))
+    for room in 0..116 {
+        let (end, octets) = breaks::<Brand, _>(&rt, rt.alloc(), Blank::new(1025), room, &gate);
+        same(&rt, end, End::WriteFault, "another end");
+        let is_prefix = ORDER.as_slice().get(..room) == Some(octets.as_slice());
+        yes(&rt, is_prefix, "other octets");
+    }
 }
 
 #[test]
 fn a_gate_may_cut_the_link_before_a_write(rt: HostRuntime) {
-    assert_eq!(rt; run_is_shut(&rt, rt.alloc()), (End::GateShut, 0, true));
+    let gate = ShutAt {
+        step: Step::BeforeWrite,
+    };
+    let (end, octets) = breaks::<Brand, _>(&rt, rt.alloc(), Blank::new(1025), 116, &gate);
+    same(&rt, end, End::GateShut, "another end");
+    yes(&rt, octets.is_empty(), "something was written");
 }
 
 /// How the side of a link of that generation ends, at an office whose journal holds so many entries.
@@ -174,30 +154,22 @@ fn refused<L: Ledger, R: Wait + Abort>(
     requires name { blank.name ≡ L.name }
     requires parts { blank.parts ≡ L.parts }
     requires desks { blank.parts ≡ 1025 }
-    requires limit { journal_limit ≤ 4000000 }
 {
     let b = first_bsc(rt);
-    let (office, mut desk) = linked::<L, R>(rt, alloc, blank, journal_limit, b);
+    let (office, mut desk) = linked::<L, R>(rt, alloc, blank, journal_limit);
     let mut sink = memory(alloc);
     write_side(
         rt, alloc, &office, &mut desk, b, generation, &mut sink, &OpenGate,
     )
 }
 
-fn run_refused<R: Wait + Abort>(rt: &R, alloc: Global, journal_limit: u32, generation: u64) -> End
-    requires { journal_limit ≤ 4000000 }
-{
-    refused::<Brand, R>(rt, alloc, Blank::new(1025), journal_limit, generation)
-}
-
 #[test]
 fn a_refusal_ends_the_side(rt: HostRuntime) {
     let full = End::Refused(Refusal::JournalFull);
-    assert_eq!(rt; run_refused(&rt, rt.alloc(), 6, LINK), full);
-    assert_eq!(rt;
-        run_refused(&rt, rt.alloc(), 1000, LINK - 1),
-        End::Superseded
-    );
+    for (limit, generation, want) in [(6, LINK, full), (1000, LINK - 1, End::Superseded)] {
+        let end = refused::<Brand, _>(&rt, rt.alloc(), Blank::new(1025), limit, generation);
+        same(&rt, end, want, "a refusal");
+    }
 }
 
 /// The BSC reports, as soon as the report is accepted. The answer is whether it was.
@@ -207,11 +179,10 @@ fn reports<L: Ledger, R: Wait + Clock + Abort>(
     office: &Office<L>,
     desk: &mut Desk<L>,
     b: BscId,
-    kind: u8,
-    body: &[u8],
+    frame: (u8, &[u8]),
 ) -> bool {
     for _turn in 0..30_000 {
-        let message = read(alloc, kind, body).expect(rt, "a message");
+        let message = read(alloc, frame.0, frame.1).expect(rt, "a message");
         if office
             .submit(rt, desk, Event::Report(b, LINK, message))
             .is_ok()
@@ -223,7 +194,7 @@ fn reports<L: Ledger, R: Wait + Clock + Abort>(
     false
 }
 
-/// The MESSAGE STATUS QUERY COMPLETE: the first version was broadcast five times.
+/// The body of the MESSAGE STATUS QUERY COMPLETE: the first version was broadcast five times.
 const COUNTED: [u8; 17] = [
     0x0e, 0x11, 0x12, 0x02, 0xc0, 0x00, 0x08, 0x00, 0x08, 0x01, 0x00, 0x64, 0x00, 0x07, 0x00, 0x05,
     0x00,
@@ -242,14 +213,14 @@ fn answers<L: Ledger, R: Wait + Clock + Abort>(
     office: &Office<L>,
     mut desk: Desk<L>,
     b: BscId,
-) -> (Desk<L>, bool) {
-    let is_written = reports(rt, alloc, office, &mut desk, b, 0x02, &STREAM[4..20]);
-    office
-        .wish(rt, b, WarningId::new(1), None)
-        .expect(rt, "the wish is kept");
-    let is_asked = reports(rt, alloc, office, &mut desk, b, 0x0b, &COUNTED);
+) -> Desk<L> {
+    let is_written = reports(rt, alloc, office, &mut desk, b, (0x02, &COMPLETE[4..]));
+    let wished = office.wish(rt, b, first_warning(), None);
+    let is_asked = reports(rt, alloc, office, &mut desk, b, (0x0b, &COUNTED));
     enters(rt, office, &mut desk, Event::LinkDown(b, LINK));
-    (desk, is_written && is_asked)
+    same(rt, wished, Ok(()), "a wish");
+    yes(rt, is_written && is_asked, "a report is not accepted");
+    desk
 }
 
 /// How the side ends, and its desk and its writer.
@@ -265,6 +236,14 @@ fn writes<L: Ledger, R: Wait>(
     (desk, sink, end)
 }
 
+/// After how many entries the desks settle, 0 where they don't.
+fn entries<L: Ledger>(office: Office<L>, desks: Vec<Desk<L>>) -> u64 {
+    match office.settle(desks) {
+        Ok(centre) => centre.position(),
+        Err(_) => 0,
+    }
+}
+
 /// A BSC answers what the side writes, in another thread, until the link is lost. How the side ends, what it wrote, and after how many
 /// entries.
 fn at_once<L: Ledger + Send + Sync, R: Threads + Wait + Clock + Abort + Sync>(
@@ -277,73 +256,52 @@ fn at_once<L: Ledger + Send + Sync, R: Threads + Wait + Clock + Abort + Sync>(
     requires desks { blank.parts ≡ 1025 }
 {
     let b = first_bsc(rt);
-    let (office, desk) = linked::<L, R>(rt, alloc, blank, 1000, b);
-    let writing = office.open_desk(rt).expect(rt, "a desk is opened");
+    let (office, desk) = linked::<L, R>(rt, alloc, blank, 1000);
+    let writing = opens(rt, &office);
     let shared = &office;
-    let (written, answered) = thread::join(
+    let (written, desk) = thread::join(
         rt,
         move || writes(rt, alloc, shared, writing, b),
         move || answers(rt, alloc, shared, desk, b),
     );
-    assert!(rt; answered.1, "a report is not accepted");
-    let desks = vec![in alloc; answered.0, written.0].expect(rt, "memory");
-    let entries = match office.settle(desks) {
-        Ok(centre) => centre.position(),
-        Err(_) => 0,
-    };
+    let desks = vec![in alloc; desk, written.0].expect(rt, "memory");
+    let entries = entries(office, desks);
     (written.2, written.1.into_inner(), entries)
 }
 
-fn run_at_once<R: Threads + Wait + Clock + Abort + Sync>(
-    rt: &R,
-    alloc: Global,
-) -> (End, Vec<u8>, u64) {
-    at_once::<Brand, R>(rt, alloc, Blank::new(1025))
+/// Whether the octets are the one frame and then the other.
+fn are_both(octets: &[u8], first: &[u8], second: &[u8]) -> bool {
+    octets.strip_prefix(first) == Some(second)
 }
 
 #[test]
 fn an_order_and_a_query_are_written_until_the_link_is_lost(rt: HostRuntime) {
-    let mut frames = order_frame(&rt, rt.alloc());
-    frames.extend_from_slice(&QUERY).expect(&rt, "memory");
-    let (end, octets, entries) = run_at_once(&rt, rt.alloc());
-    assert_eq!(rt; end, End::Superseded);
-    assert!(rt; octets.as_slice() == frames.as_slice());
-    assert_eq!(rt; entries, 11);
+    let (end, octets, entries) = at_once::<Brand, _>(&rt, rt.alloc(), Blank::new(1025));
+    same(&rt, end, End::Superseded, "another end");
+    let is_right = are_both(octets.as_slice(), &ORDER, &QUERY);
+    yes(&rt, is_right, "other octets");
+    same(&rt, entries, 11, "the entries");
 }
 
-/// What is said of the end.
-fn is_said(rt: &impl Abort, alloc: Global, end: End, text: &str) {
-    let said = format!(in alloc; "{end}").expect(rt, "memory");
-    assert_eq!(rt; said.as_str(), text);
-}
+/// Ends, and what is said of them.
+const SAID: [(End, &str); 3] = [
+    (
+        End::BadMessage(MessageFault::Missing {
+            id: ElementId::MessageIdentifier,
+        }),
+        "a message of the BSC can't be read: MessageIdentifier is missing",
+    ),
+    (
+        End::Refused(Refusal::JournalFull),
+        "the centre refused to go on: the journal is full",
+    ),
+    (End::WriteFault, "writing to the BSC failed"),
+];
 
 #[test]
 fn an_operator_reads_why_a_side_ended(rt: HostRuntime) {
-    let missing = End::BadMessage(MessageFault::Missing {
-        id: ElementId::MessageIdentifier,
-    });
-    is_said(
-        &rt,
-        rt.alloc(),
-        missing,
-        "a message of the BSC can't be read: MessageIdentifier is missing",
-    );
-    is_said(
-        &rt,
-        rt.alloc(),
-        End::Refused(Refusal::JournalFull),
-        "the centre refused to go on: the journal is full",
-    );
-    is_said(
-        &rt,
-        rt.alloc(),
-        End::WriteFault,
-        "writing to the BSC failed",
-    );
-}
-
-#[test]
-fn every_call_answers(rt: HostRuntime) {
-    let (end, _, _) = run_at_once(&rt, rt.alloc());
-    assert_eq!(rt; end, End::Superseded);
+    for (end, text) in &SAID {
+        let said = format!(in rt.alloc(); "{end}").expect(&rt, "memory");
+        same(&rt, said.as_str(), *text, text);
+    }
 }

@@ -3,7 +3,8 @@
 ghost use Rattle.std.specs.Prelude.{◌≡◌};
 
 use std::alloc::{AllocError, AllocFailed};
-use thiserror::Error;
+use std::error::Error;
+use std::fmt;
 
 /// A number that would be passed.
 #[derive(Clone, Copy, Debug, PartialEq, Eq)]
@@ -17,33 +18,55 @@ pub enum Limit {
 }
 
 /// Why an edit is refused. Each edit says in which order it looks at the causes; `Memory` is the last.
-#[derive(Clone, Copy, Debug, PartialEq, Eq, Error)]
+#[derive(Clone, Copy, Debug, PartialEq, Eq)]
 pub enum Refusal {
-    #[error("no such warning")]
     NoSuchWarning,
-    #[error("the warning was stopped")]
     NotActive,
-    #[error("the warning is still active")]
     StillActive,
-    #[error("a warning needs an area")]
     NoAreas,
-    #[error("the warning names this area already")]
     AreaThere,
-    #[error("the warning does not name this area")]
     AreaNotThere,
-    #[error("the warning names no other area")]
     LastArea,
-    #[error("a content has 1 to 15 pages of 1 to 82 octets")]
     BadPages,
-    #[error("a repetition period is 1 to 1,024")]
     BadPeriod,
-    #[error("the warning was updated fifteen times")]
     UpdatesExhausted,
-    #[error("a limit would be passed: {which:?}")]
     Limit { which: Limit },
-    #[error("out of memory")]
     Memory,
 }
+
+impl Refusal {
+    /// What is printed of it.
+    fn words(self) -> &'static str {
+        match self {
+            Refusal::NoSuchWarning => "no such warning",
+            Refusal::NotActive => "the warning was stopped",
+            Refusal::StillActive => "the warning is still active",
+            Refusal::NoAreas => "a warning needs an area",
+            Refusal::AreaThere => "the warning names this area already",
+            Refusal::AreaNotThere => "the warning does not name this area",
+            Refusal::LastArea => "the warning names no other area",
+            Refusal::BadPages => "a content has 1 to 15 pages of 1 to 82 octets",
+            Refusal::BadPeriod => "a repetition period is 1 to 1,024",
+            Refusal::UpdatesExhausted => "the warning was updated fifteen times",
+            Refusal::Limit {
+                which: Limit::Warnings,
+            } => "a limit would be passed: Warnings",
+            Refusal::Limit {
+                which: Limit::WarningAreas,
+            } => "a limit would be passed: WarningAreas",
+            Refusal::Limit { which: Limit::Ids } => "a limit would be passed: Ids",
+            Refusal::Memory => "out of memory",
+        }
+    }
+}
+
+impl fmt::Display for Refusal {
+    fn fmt<W: fmt::Write>(&self, f: &mut fmt::Formatter<W>) -> fmt::Result {
+        f.write_str(self.words())
+    }
+}
+
+impl Error for Refusal {}
 
 impl From<AllocError> for Refusal {
     ghost use Rattle.std.specs.Prelude.{◌≡◌};

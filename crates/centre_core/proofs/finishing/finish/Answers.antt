@@ -1,6 +1,6 @@
 use Rattle.std.specs.Option.{option_copied}
 use Rattle.centre_events.specs.declared.entry.Entry.{Entry}
-use Rattle.centre_core.proofs.FinishLemmas.{bears_of, links_then, flights_then, steps_of}
+use Rattle.centre_lines.proofs.FinishLemmas.{bears_of, links_then, flights_then, steps_of}
 use Rattle.centre_core.proofs.finishing.finish.Goals as goal
 
 pub bear-requires-clause-bears : goal.bear-requires-clause-bears

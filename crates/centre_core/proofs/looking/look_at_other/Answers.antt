@@ -1,8 +1,8 @@
 use Rattle.std.proofs.Common.{◌<◌, ◌≤◌, ◌+◌, ◌∙◌, ap, inr, length, refl, rules, subst}
 use Rattle.centre_core.proofs.CentreLemmas.{full, given_there, next_place}
-use Rattle.centre_core.proofs.QuestionLemmas.{pending_list}
+use Rattle.centre_answers.proofs.QuestionLemmas.{pending_list}
 use Rattle.centre_events.specs.Past.{past_of}
-use Rattle.centre_core.specs.Reaching.{TellsLines}
+use Rattle.centre_past.specs.Reaching.{TellsLines}
 use Rattle.centre_events.specs.Settings.{Settings}
 use Rattle.centre_core.proofs.looking.look_at_other.Goals as goal
 

@@ -2,7 +2,7 @@ use Rattle.std.proofs.Common.{refl}
 use Rattle.centre_events.specs.Past.{past_of}
 use Rattle.centre_events.specs.declared.event.Event.TheVariants as event
 use Rattle.centre_core.proofs.CentreLemmas.{reached_within, refused_as, starved, starved_as}
-use Rattle.centre_core.proofs.UniqueLemmas.{verdict_answered}
+use Rattle.centre_past.proofs.UniqueLemmas.{verdict_answered}
 use Rattle.centre_core.proofs.looking.prepare_edit.Goals as goal
 
 pub returns-in_err-look_at_edit-clause-refusal : goal.returns-in_err-look_at_edit-clause-refusal

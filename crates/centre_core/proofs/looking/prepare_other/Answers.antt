@@ -3,8 +3,8 @@ use Rattle.centre_events.specs.Past.{past_of}
 use Rattle.centre_events.specs.Settings.{Settings}
 use Rattle.centre_events.specs.Verdict.{verdict}
 use Rattle.centre_core.proofs.CentreLemmas.{other_within}
-use Rattle.centre_core.proofs.ReadLemmas.{reads_kept, reads_then}
-use Rattle.centre_core.proofs.UniqueLemmas.{verdict_answered}
+use Rattle.centre_past.proofs.ReadLemmas.{reads_kept, reads_then}
+use Rattle.centre_past.proofs.UniqueLemmas.{verdict_answered}
 use Rattle.centre_core.proofs.looking.prepare_other.Goals as goal
 
 pub returns-in_err-reached-clause-reads : goal.returns-in_err-reached-clause-reads

@@ -1,5 +1,5 @@
 use Rattle.std.proofs.Common.{sym, subst}
-use Rattle.centre_core.specs.State.{AreLinksOf}
+use Rattle.centre_past.specs.State.{AreLinksOf}
 use Rattle.centre_core.proofs.RebuildLemmas.{other_finishes, other_followed}
 use Rattle.centre_core.proofs.rebuilding.follow_other.Goals as goal
 

@@ -1,5 +1,5 @@
 use Rattle.std.proofs.Common.{◌≡◌, take}
-use Rattle.centre_core.specs.IsKept.{IsKept}
+use Rattle.centre_past.specs.IsKept.{IsKept}
 use Rattle.centre_core.specs.Journal.{counted_by}
 use Rattle.centre_events.specs.Past.{past_of}
 use Rattle.centre_core.proofs.rebuilding.kept_of.Given as goal

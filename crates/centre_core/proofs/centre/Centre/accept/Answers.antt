@@ -1,4 +1,4 @@
-use Rattle.centre_core.specs.Legal.{past}
+use Rattle.centre_past.specs.Legal.{past}
 use Rattle.centre_events.specs.declared.event.Event.TheVariants as event
 use Rattle.centre_core.proofs.FitsLemmas.{carried_if, fits_if}
 use Rattle.centre_core.proofs.centre.Centre.accept.Goals as goal

@@ -1,12 +1,12 @@
 use Rattle.std.proofs.Common.{◌≡◌, ◌+◌, ◌≤◌, ◌∙◌, false, length, sym, ap, subst}
 use Rattle.centre_core.specs.Centre.{IsCentre}
-use Rattle.centre_core.specs.Legal.{CentreState}
+use Rattle.centre_past.specs.Legal.{CentreState}
 use Rattle.centre_events.specs.Past.{past_of}
-use Rattle.centre_core.specs.Reach.{edit_reach, size}
+use Rattle.centre_past.specs.Reach.{edit_reach, size}
 use Rattle.centre_events.specs.declared.event.Event.TheVariants as event
-use Rattle.centre_core.specs.declared.kept.Kept.{Kept}
+use Rattle.centre_past.specs.declared.kept.Kept.{Kept}
 use Rattle.centre_core.proofs.CentreLemmas.{centre_after, centre_entered, centre_stale, edit_enters, edit_lines, edit_lines_then, entry_accepted, kept_entered, leaves_stale, made_is, made_refused, may_be_made, refuses, refuses_starved}
-use Rattle.centre_core.proofs.ReadLemmas.{reads_kept}
+use Rattle.centre_past.proofs.ReadLemmas.{reads_kept}
 use Rattle.centre_core.proofs.centre.Centre.accept_edit.Goals as goal
 
 pub invariant_of-self : goal.invariant_of-self

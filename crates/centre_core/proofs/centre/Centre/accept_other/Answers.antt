@@ -1,9 +1,9 @@
 use Rattle.std.proofs.Common.{◌≡◌, ◌+◌, ◌∙◌, false, length, refl, sym, ap, subst}
 use Rattle.std.specs.Prelude.{IsOk}
 use Rattle.centre_core.specs.Centre.{IsCentre}
-use Rattle.centre_core.specs.Legal.{CentreState}
+use Rattle.centre_past.specs.Legal.{CentreState}
 use Rattle.centre_events.specs.Past.{past_of}
-use Rattle.centre_core.specs.State.{AreLinksOf}
+use Rattle.centre_past.specs.State.{AreLinksOf}
 use Rattle.centre_core.proofs.CentreLemmas.{centre_after, centre_entered, centre_stale, entry_accepted, kept_entered, leaves_stale, lines_then, other_enters, refuses, refuses_starved, within_four}
 use Rattle.centre_core.proofs.centre.Centre.accept_other.Goals as goal
 

@@ -1,5 +1,5 @@
 use Rattle.std.proofs.Common.{length, ap, ◌∙◌, arith}
-use Rattle.console.specs.Text.{without_return}
+use Rattle.console_text.specs.Lines.{without_return}
 use Rattle.console.proofs.console.Console.end_line.Goals as goal
 
 -- the answer is that of the line that had begun, and a prefix of it was written

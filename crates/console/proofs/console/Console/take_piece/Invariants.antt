@@ -1,6 +1,6 @@
 use Rattle.std.proofs.Common.{◌≡◌, List, ℕ, Option, length}
 use Rattle.console.specs.Consoles.{ConsoleState, Goes, Stops}
-use Rattle.console.specs.declared.fault.ReplayFault.{ReplayFault}
+use Rattle.console_text.specs.declared.fault.ReplayFault.{ReplayFault}
 use Rattle.console.proofs.console.Console.take_piece.Given as goal
 
 -- where what is left goes or stops, the whole piece does, and no write failed

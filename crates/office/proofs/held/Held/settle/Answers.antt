@@ -1,5 +1,5 @@
 use Rattle.std.proofs.Common.{rules, ◌≡◌, ◌<◌, ◌≤◌, ℕ, List, length, All, Any, subst, refl, sym, arith}
-use Rattle.centre_core.specs.Legal.{Known}
+use Rattle.centre_past.specs.Legal.{Known}
 use Rattle.office.specs.Desks.{DeskState}
 use Rattle.office.specs.Helds.{HeldState}
 use Rattle.office.specs.Shuffles.{HasItsEntries, IsMismatch, IsShuffle}

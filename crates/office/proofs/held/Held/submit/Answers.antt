@@ -1,5 +1,5 @@
 use Rattle.std.proofs.Common.{rules, ◌≡◌, ◌-◌, ◌∙◌, true, length, set, refl, sym, ap, subst}
-use Rattle.centre_core.specs.Legal.{Known}
+use Rattle.centre_past.specs.Legal.{Known}
 use Rattle.office.specs.Helds.{HeldState, entry_of, fits}
 use Rattle.office.specs.declared.row.Row.{Row}
 use Rattle.office.proofs.HeldLemmas.{held_entered, known_if}

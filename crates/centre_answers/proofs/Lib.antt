@@ -1,0 +1,9 @@
+pub mod ListedLemmas
+pub mod CarriedLemmas
+pub mod IdleLemmas
+pub mod SendingLemmas
+pub mod OnAirLemmas
+pub mod SeenLemmas
+pub mod QuestionLemmas
+pub mod BoardLemmas
+pub mod TableLemmas

@@ -1,0 +1,13 @@
+use Rattle.std.proofs.Common.{◌≡◌, ◌∙◌, true, sym, rules}
+use Rattle.areas.specs.Areas.{has_area}
+use Rattle.centre_past.proofs.GivenLemmas.{err_checked}
+use Rattle.centre_past.proofs.WarningLemmas.{widen_first}
+use Rattle.centre_events.specs.Refusals.{of_book}
+use Rattle.centre_events.specs.Verdict.{widen}
+use Rattle.centre_answers.proofs.events.warnings.check_widen.Goals as goal
+
+pub returns-in_err-check_widen : goal.returns-in_err-check_widen
+returns-in_err-check_widen c =
+    let there : has_area c.args.areas.now c.args.a.now ≡ true = search rules in
+    λ past tied booked. err_checked (widen past c.args.number c.args.a.now) c.from_residual.result (of_book c.in_err-check_widen.field-0.0) c.from_residual.ensures.1
+    (widen_first past c.args.book.now c.args.number c.args.a.now c.in_err-check_widen.field-0.0 booked (sym (tied.names c.args.a.now) ∙ there) c.in_err-check_widen.ensures.refused)

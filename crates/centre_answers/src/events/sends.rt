@@ -1,0 +1,64 @@
+//! Sending of orders.
+
+ghost use Rattle.std.specs.Prelude.{◌≡◌, IfSome};
+ghost use Rattle.std.specs.Option.{option_copied};
+ghost use Rattle.warning_book.specs.Book.{content_of};
+ghost use Rattle.order_maker.specs.OrderMessage.{IsCarriable};
+ghost use Rattle.order_maker.specs.Pending.{IsListOf};
+ghost use Rattle.centre_past.specs.IsKept.{IsKept};
+ghost use Rattle.centre_events.specs.Kept.{Gives};
+ghost use Rattle.centre_past.specs.Legal.{Legal};
+ghost use Rattle.centre_events.specs.Past.{Past};
+ghost use Rattle.centre_events.specs.Pending.{all_actions};
+ghost use Rattle.centre_events.specs.Settings.{Settings};
+ghost use Rattle.centre_answers.specs.Sending.{is_carriable};
+ghost use Rattle.centre_events.specs.Verdict.{send, send_answer};
+ghost use Rattle.centre_events.specs.Warnings.{book_of};
+
+use crate::events::Verdict;
+use crate::events::links::check_link;
+use cell_register::BscId;
+use centre_events::answer::Answer;
+use centre_events::refusal::Refusal;
+use centre_past::flights::flight_in;
+use centre_past::kept::Kept;
+use order_maker::{Order, OrderKind, message_of};
+use std::alloc::Global;
+use warning_book::{Book, Content};
+
+/// Whether an order of that kind can be carried: a KILL needs no content.
+fn is_carriable(kind: OrderKind, content: Option<&Content>) -> bool
+    ensures { result ≡ is_carriable kind (option_copied content.entry) }
+{
+    kind == OrderKind::Kill || content.is_some()
+}
+
+/// What is answered where that is the first pending order. In every legal past it can be carried.
+fn send_answer(alloc: Global, book: &Book, order: Option<Order>) -> Verdict
+    ensures { (past : Past) → book.now ≡ book_of past → IfSome order (λ o. IsCarriable o.kind (content_of o.message_id o.serial book.now.warnings)) → Gives (send_answer past order) result }
+{
+    let Some(order) = order else {
+        return Err(Refusal::NothingPending);
+    };
+    let content = book.content_of(order.message_id, order.serial);
+    if !is_carriable(order.kind, content) {
+        return Err(Refusal::NothingPending);
+    }
+    let message = message_of(alloc, &order, content)?;
+    Ok(Answer::Sent { order, message })
+}
+
+/// Send: takes the first pending order of a BSC, over its link. Whether one is pending is asked before any memory is taken.
+pub(crate) fn send(alloc: Global, kept: &Kept, b: BscId, generation: u64) -> Verdict
+    ensures { (settings : Settings) (past : Past) → Legal settings past → IsKept past kept.now → IsListOf (all_actions past b) kept.now.tables.pending b → Gives (send past b generation) result }
+{
+    check_link(kept.links.as_slice(), &kept.register, b, generation)?;
+    if flight_in(kept.flights.as_slice(), b).is_some() {
+        return Err(Refusal::InFlight);
+    }
+    if !kept.tables.has(b) {
+        return Err(Refusal::NothingPending);
+    }
+    let order = kept.tables.first(b)?;
+    send_answer(alloc, &kept.book, order)
+}

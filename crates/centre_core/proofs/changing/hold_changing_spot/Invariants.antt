@@ -1,8 +1,0 @@
-use Rattle.std.proofs.Common.{◌≡◌, ◌≤◌, ◌+◌, ◌++◌, take}
-use Rattle.kept_tables.specs.Tables.{Tables}
-use Rattle.centre_core.specs.Following.{AsBefore, changing_at, happens}
-use Rattle.centre_core.proofs.changing.hold_changing_spot.Given as goal
-
--- the lines of the warnings passed are read, and nothing of them changes
-abbrev pub invariant-loop-warning : goal.invariant-loop-warning
-invariant-loop-warning l = ((t : Tables) → AsBefore t l.initial.tables → (AsBefore t l.tables × (l.out.items ≡ l.initial.out.items ++ changing_at (happens l.h) l.plan.register.now l.plan.areas.now l.plan.book.now t (take l.warning-index l.warnings) l.at.spot))) × ((l.tables.lines.meter ≤ l.initial.tables.lines.meter + l.warning-index) × (l.found ≡ l.initial.found))

@@ -1,6 +1,0 @@
-use Rattle.std.proofs.Common.{◌≡◌, map, take}
-use Rattle.areas.specs.Areas.{selectors_of}
-use Rattle.centre_core.proofs.coverages.Coverages.of.Given as goal
-
-abbrev pub invariant-loop-name : goal.invariant-loop-name
-invariant-loop-name l = l.coverages.items ≡ map (selectors_of l.areas) (take l.name-index l.names)

@@ -1,5 +1,0 @@
-use Rattle.centre_core.proofs.events.answer.Goals as goal
-
-pub returns-in-Send-clause-verdict : goal.returns-in-Send-clause-verdict
-returns-in-Send-clause-verdict c =
-    λ settings past legal same kept knows listed place. rw c.in-Send.is (c.send.ensures settings past legal kept (listed c.in-Send.b))

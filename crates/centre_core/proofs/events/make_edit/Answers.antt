@@ -1,9 +1,0 @@
-use Rattle.centre_core.proofs.events.make_edit.Goals as goal
-
-pub returns-in-Widen-clause-verdict : goal.returns-in-Widen-clause-verdict
-returns-in-Widen-clause-verdict c =
-    λ past registered selected booked free. rw c.in-Widen.is (c.widen.ensures.verdict past selected booked)
-
-pub returns-in-Narrow-clause-verdict : goal.returns-in-Narrow-clause-verdict
-returns-in-Narrow-clause-verdict c =
-    λ past registered selected booked free. rw c.in-Narrow.is (c.narrow.ensures.verdict past selected booked)

@@ -1,5 +1,0 @@
-use Rattle.centre_core.proofs.JoinLemmas as join
-use Rattle.centre_core.proofs.follow_lemmas.begins.Goals as goal
-
-pub returns : goal.returns
-returns c = λ r l st t h spots held x u same downs. join.begins x u same downs

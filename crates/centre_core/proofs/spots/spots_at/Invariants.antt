@@ -1,7 +1,0 @@
-use Rattle.std.proofs.Common.{◌≡◌, map, take}
-use Rattle.centre_core.specs.Reach.{spot}
-use Rattle.centre_core.proofs.spots.spots_at.Given as goal
-
--- the cells passed
-abbrev pub invariant-loop-cell : goal.invariant-loop-cell
-invariant-loop-cell l = l.spots.items ≡ map (spot l.b) (take l.cell-index l.cells)

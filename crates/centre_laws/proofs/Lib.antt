@@ -1,0 +1,4 @@
+pub mod SpareLemmas
+pub mod AwaitedLemmas
+pub mod HeadlineExamples
+pub mod IssuedLemmas

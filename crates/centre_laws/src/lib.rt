@@ -1,0 +1,8 @@
+//! What holds after every legal history, as the contracts of calls that do nothing.
+//!
+//! `headline` says that the pending orders leave every cell broadcasting what the plan wants there. `laws` says what the
+//! entries of a journal come to in other words.
+#![tactic(auto)]
+
+pub mod headline;
+pub mod laws;

@@ -1,0 +1,187 @@
+-- What is read of the lines on which an event bears is what the past says of them.
+use Rattle.std.proofs.Common.{◌≡◌, ℕ, ◌+◌, ◌*◌, ◌≤◌, Bool, true, false, not, List, [], ◌∷◌, ◌++◌, Option, Some, None, Ok, cond, filter, length, map, refl, sym, ◌∙◌, ap, subst, arith}
+use Rattle.std.specs.Prelude.{if◌then◌else◌}
+use Rattle.std.specs.List.{flat_map, list_any}
+use Rattle.std.proofs.Math.Bool.{not-not}
+use Rattle.std.proofs.lemmas.List.Elements.{filter-append}
+use Rattle.std.proofs.lemmas.List.Filters.{length-filter_both}
+use Rattle.common.specs.OnceLaws.{any_turned, any_filter_same, once_filter}
+use Rattle.kept_tables.specs.Same.{SamePart}
+use Rattle.kept_tables.specs.SpotLaws.{key_decides}
+use Rattle.kept_tables.specs.Tables.{Tables}
+use Rattle.kept_tables.specs.View.{key_at, key_eq}
+use Rattle.kept_tables.specs.declared.line_facts.LineFacts.{LineFacts}
+use Rattle.kept_tables.specs.declared.spot.Spot.{Spot}
+use Rattle.kept_tables.specs.declared.step.Step.{Step}
+use Rattle.mirror.specs.Table.{line_at, down_at}
+use Rattle.mirror.specs.declared.line_key.LineKey.{LineKey}
+use Rattle.warning_book.specs.Book.{warning_of}
+use Rattle.warning_book.specs.declared.warning.Warning.{Warning}
+use Rattle.centre_events.specs.Facts.{IsLineOf}
+use Rattle.centre_past.specs.Facts.{facts_of, facts}
+use Rattle.centre_past.specs.Flights.{up_before, flight_kept}
+use Rattle.centre_lines.specs.Following.{AreSteps, Happens, flight_before, facts_in, happens_after, held_in, held_line, held_lines, held_of, changing_lines, passed_over, stays, step_of, held_past, keys_of, WasReached}
+use Rattle.centre_past.specs.Idle.{AsBefore, OnlyReads}
+use Rattle.centre_past.specs.IsKept.{IsKept}
+use Rattle.centre_events.specs.Kept.{AreFlightsOf, is_edit}
+use Rattle.centre_past.specs.Legal.{Legal}
+use Rattle.centre_events.specs.Past.{Past, After}
+use Rattle.centre_past.specs.Reach.{Reach, IsReach, reach_of, size, spot}
+use Rattle.centre_past.specs.Reaching.{Told, IsFlightOf, bsc_of}
+use Rattle.centre_events.specs.Settings.{Settings}
+use Rattle.centre_events.specs.Verdict.{verdict}
+use Rattle.centre_events.specs.Warnings.{book_of}
+use Rattle.centre_events.specs.declared.answer.Answer.{Answer}
+use Rattle.centre_events.specs.declared.event.Event.{Event}
+use Rattle.centre_events.specs.declared.event.Event.TheVariants as event
+use Rattle.centre_events.specs.declared.flight.Flight.{Flight}
+use Rattle.centre_lines.specs.declared.held.Held.{Held}
+use Rattle.centre_lines.specs.declared.held_lines.HeldLines.{HeldLines}
+use Rattle.centre_events.specs.declared.in_flight.InFlight.{InFlight}
+use Rattle.centre_past.specs.declared.kept.Kept.{Kept}
+use Rattle.coverage_plan.specs.declared.edit.Edit.{Edit}
+use Rattle.centre_lines.proofs.DownLemmas.{down_outside}
+use Rattle.centre_past.proofs.FactsLemmas.{facts_same}
+use Rattle.centre_lines.proofs.OutsideLemmas.{outside}
+use Rattle.centre_lines.proofs.PassedLemmas.{passed_same}
+use Rattle.centre_lines.proofs.StayLemmas.{stays_same}
+use Rattle.centre_lines.proofs.TellLemmas.{bears_of, keys_counted, keys_once}
+
+-- what is read of a line is what the past says
+pub facts_kept : (past : Past) (s : Kept) → IsKept past s → (k : LineKey) → facts_in s.register s.areas s.book s.tables k ≡ facts past k
+facts_kept past s kept k =
+    rw (kept.booked)
+    (facts_same past s.register s.areas (down_at s.tables.lines k.bsc k.cell) k.bsc k.cell (line_at s.tables.lines k.bsc k.cell k.warning) (warning_of (book_of past) k.warning) kept.registered kept.selected (kept.downs k.bsc k.cell)
+    (is (warning_of (book_of past) k.warning) (kept.tables.lines k)))
+  where
+    is : (o : Option Warning) → line_at s.tables.lines k.bsc k.cell k.warning ≡ (facts_of past k.bsc k.cell o).line → IsLineOf past k.bsc k.cell (line_at s.tables.lines k.bsc k.cell k.warning) o
+    is None h = tt
+    is (Some w) h = h
+
+map_map : {A B C : Type 0} (f : A → B) (g : B → C) (xs : List A) → map g (map f xs) ≡ map (λ x. g (f x)) xs
+map_map f g [] = refl
+map_map f g (x ∷ xs) = ap (λ ys. g (f x) ∷ ys) (map_map f g xs)
+
+map_append : {A B : Type 0} (f : A → B) (xs ys : List A) → map f (xs ++ ys) ≡ map f xs ++ map f ys
+map_append f [] ys = refl
+map_append f (x ∷ xs) ys = ap (λ zs. f x ∷ zs) (map_append f xs ys)
+
+-- Lines that are held but for those that pass a test, at spots and of warnings.
+
+-- the line, if it does not pass
+abbrev pub unless : {A : Type 0} → (LineKey → Bool) → (LineKey → A) → LineKey → List A
+unless passes line k = if passes k then [] else line k ∷ []
+
+-- the lines that do not pass
+abbrev pub failing : (LineKey → Bool) → List LineKey → List LineKey
+failing passes ks = filter (λ k. not (passes k)) ks
+
+failing_at : {A : Type 0} (passes : LineKey → Bool) (line was : LineKey → A) → ((k : LineKey) → line k ≡ was k) → (p : Spot) (ns : List ℕ) → flat_map (λ n. unless passes line (key_at p n)) ns ≡ map was (failing passes (map (key_at p) ns))
+failing_at passes line was same p [] = refl
+failing_at passes line was same p (n ∷ ns) = step (passes (key_at p n)) (failing_at passes line was same p ns)
+  where
+    step : (t : Bool) → flat_map (λ m. unless passes line (key_at p m)) ns ≡ map was (failing passes (map (key_at p) ns)) → (if t then [] else line (key_at p n) ∷ []) ++ flat_map (λ m. unless passes line (key_at p m)) ns ≡ map was (cond (not t) (key_at p n ∷ failing passes (map (key_at p) ns)) (failing passes (map (key_at p) ns)))
+    step true rest = rest
+    step false rest = λ i. same (key_at p n) i ∷ rest i
+
+failing_lines : {A : Type 0} (passes : LineKey → Bool) (line was : LineKey → A) → ((k : LineKey) → line k ≡ was k) → (ps : List Spot) (ns : List ℕ) → flat_map (λ p. flat_map (λ n. unless passes line (key_at p n)) ns) ps ≡ map was (failing passes (keys_of ps ns))
+failing_lines passes line was same [] ns = refl
+failing_lines passes line was same (p ∷ ps) ns =
+    (λ i. failing_at passes line was same p ns i ++ failing_lines passes line was same ps ns i)
+    ∙ sym (map_append was (failing passes (map (key_at p) ns)) (failing passes (keys_of ps ns)))
+    ∙ ap (map was) (sym (filter-append (λ k. not (passes k)) (map (key_at p) ns) (keys_of ps ns)))
+
+pub held_as : (past : Past) (s : Kept) → IsKept past s → (k : LineKey) → held_line s.register s.areas s.book s.tables k ≡ held_past past k
+held_as past s kept k = ap (λ (f : LineFacts). let h : Held = record { key = k; before = f } in h) (facts_kept past s kept k)
+
+-- a line of the reach that does not fail the test passes it
+pub passed : (passes : LineKey → Bool) (k : LineKey) (ks : List LineKey) → list_any (key_eq k) (failing passes ks) ≡ false → list_any (key_eq k) ks ≡ true → passes k ≡ true
+passed passes k ks out among = step (passes k) refl
+  where
+    step : (t : Bool) → passes k ≡ t → t ≡ true
+    step true e = refl
+    step false e =
+        let there : list_any (key_eq k) (failing passes ks) ≡ true = any_turned key_eq key_decides k (failing passes ks) ∙ any_filter_same key_eq key_decides (λ q. not (passes q)) k ks ∙ rw (e, sym (any_turned key_eq key_decides k ks) ∙ among) refl in
+        sym out ∙ there
+
+-- such lines were read, if each that passes has the same part after the event
+was_held : (past : Past) (e : Event) (a : Answer) (spots : List Spot) (numbers : List ℕ) (passes : LineKey → Bool) (held : HeldLines) → IsReach (record { spots = spots; warnings = numbers }) (reach_of past e a) → AreSteps (happens_after past e a) (book_of past) held → held_in held ≡ map (held_past past) (failing passes (keys_of spots numbers)) → ((settings : Settings) (desk : ℕ) → Legal settings past → verdict settings past e ≡ Ok a → (k : LineKey) → passes k ≡ true → SamePart (facts past k) (facts (After (record { desk = desk; event = e; answer = a }) past) k)) → WasReached past e a spots held
+was_held past e a spots numbers passes held reach steps are same = record {
+  away = λ settings legal b c out. down_outside settings past legal e a b c (sym (reach.spots (spot b c)) ∙ out);
+  keys = failing passes (keys_of spots numbers);
+  lines = are;
+  steps = steps;
+  once = once_filter key_eq (λ k. not (passes k)) (keys_of spots numbers) (keys_once spots numbers reach.spots_once reach.warnings_once);
+  few = few;
+  rest = λ settings desk legal accepted k out. step settings desk legal accepted k out (list_any (key_eq k) (keys_of spots numbers)) refl;
+}
+  where
+    few : length (failing passes (keys_of spots numbers)) ≤ size (reach_of past e a)
+    few =
+        omega (arith, length-filter_both (λ k. not (passes k)) passes (λ k. sym (not-not (passes k))) (keys_of spots numbers), keys_counted spots numbers ∙ ap (λ n. n * length numbers) reach.spots_counted ∙ ap (λ n. length (reach_of past e a).spots * n) reach.warnings_counted)
+
+    step : (settings : Settings) (desk : ℕ) → Legal settings past → verdict settings past e ≡ Ok a → (k : LineKey) → list_any (key_eq k) (failing passes (keys_of spots numbers)) ≡ false → (t : Bool) → list_any (key_eq k) (keys_of spots numbers) ≡ t → SamePart (facts past k) (facts (After (record { desk = desk; event = e; answer = a }) past) k)
+    step settings desk legal accepted k out true among = same settings desk legal accepted k (passed passes k (keys_of spots numbers) out among)
+    step settings desk legal accepted k out false away =
+        outside settings past legal (record { desk = desk; event = e; answer = a }) accepted k (sym (bears_of k spots numbers (reach_of past e a) reach) ∙ away)
+
+pub told_kept : (settings : Settings) (past : Past) (s : Kept) → Legal settings past → IsKept past s → Told settings past s.register s.book s.tables.lines
+told_kept settings past s legal kept = record { legal = legal; registered = kept.registered; booked = kept.booked; downs = kept.downs; lines = kept.tables.lines }
+
+-- before an edit that has been accepted
+pub edit_was_reached : (past : Past) (s : Kept) (e : Edit) (a : Answer) (spots : List Spot) (numbers : List ℕ) (held : HeldLines) → IsKept past s → IsReach (record { spots = spots; warnings = numbers }) (reach_of past (event.Edit e) a) → AreSteps (happens_after past (event.Edit e) a) (book_of past) held → held_in held ≡ held_lines e s.register s.areas s.book s.tables spots numbers → WasReached past (event.Edit e) a spots held
+edit_was_reached past s e a spots numbers held kept reach steps are =
+    was_held past (event.Edit e) a spots numbers passed held reach steps
+    (are ∙ failing_lines passed (held_line s.register s.areas s.book s.tables) (held_past past) (held_as past s kept) spots numbers)
+    (λ settings desk legal accepted k h. passed_same settings past legal desk e a accepted s kept k h)
+  where
+    passed : LineKey → Bool
+    passed k = passed_over e s.areas (warning_of s.book k.warning) k.cell (line_at s.tables.lines k.bsc k.cell k.warning)
+
+-- the steps that were found are those of the lines as the past says
+steps_found : (past : Past) (s : Kept) (h : Happens) (spots : List Spot) (numbers : List ℕ) (steps : List Step) → IsKept past s → steps ≡ changing_lines h s.register s.areas s.book s.tables spots numbers → steps ≡ map (λ k. step_of h s.book (held_past past k)) (failing (stays h s.areas s.book s.tables) (keys_of spots numbers))
+steps_found past s h spots numbers steps kept are =
+    are ∙ failing_lines (stays h s.areas s.book s.tables) (λ k. step_of h s.book (held_line s.register s.areas s.book s.tables k)) (λ k. step_of h s.book (held_past past k)) (λ k. ap (step_of h s.book) (held_as past s kept k)) spots numbers
+
+-- before another event
+pub other_was_reached : (past : Past) (s : Kept) (h : Happens) (spots : List Spot) (numbers : List ℕ) (steps : List Step) (held : HeldLines) → IsKept past s → is_edit h.event ≡ false → h.up ≡ up_before past h.event → h.flight ≡ flight_before past h.event → IsReach (record { spots = spots; warnings = numbers }) (reach_of past h.event h.answer) → steps ≡ changing_lines h s.register s.areas s.book s.tables spots numbers → held_in held ≡ map held_of steps → (steps ≡ map (step_of h s.book) (map held_of steps) → AreSteps h s.book held) → WasReached past h.event h.answer spots held
+other_was_reached past s h spots numbers steps held kept other up flight reach are lines told =
+    was_held past h.event h.answer spots numbers (stays h s.areas s.book s.tables) held reach
+    (subst (λ (x : Happens). AreSteps x (book_of past) held) happens (subst (λ b. AreSteps h b held) kept.booked (told (found ∙ ap (map (step_of h s.book)) (sym stood)))))
+    (lines ∙ stood)
+    (λ settings desk legal accepted k g. stays_same settings past legal desk h accepted other s kept up flight k g)
+  where
+    keys : List LineKey
+    keys = failing (stays h s.areas s.book s.tables) (keys_of spots numbers)
+
+    were : steps ≡ map (λ k. step_of h s.book (held_past past k)) keys
+    were = steps_found past s h spots numbers steps kept are
+
+    stood : map held_of steps ≡ map (held_past past) keys
+    stood = ap (map held_of) were ∙ map_map (λ k. step_of h s.book (held_past past k)) held_of keys
+
+    found : steps ≡ map (step_of h s.book) (map (held_past past) keys)
+    found = were ∙ sym (map_map (held_past past) (step_of h s.book) keys)
+
+    happens : h ≡ happens_after past h.event h.answer
+    happens = λ i. record { event = h.event; answer = h.answer; up = up i; flight = flight i }
+
+pub reads_as : (t u : Tables) → AsBefore t u → OnlyReads t u
+reads_as t u h = record { lines = h.lines; downs = h.downs; same = h.same; meter = h.meter }
+
+-- what is in flight to the BSC of an event that is no edit
+pub flying_kept : (past : Past) (fs gs : List Flight) (e : Event) (f : Option InFlight) → AreFlightsOf past fs → is_edit e ≡ false → gs ≡ fs → f ≡ flight_kept gs e → IsFlightOf past (bsc_of e) f
+flying_kept past fs gs (event.Edit x) f flying h same is = cc
+flying_kept past fs gs (event.Retry b) f flying h same is = is ∙ ap (λ xs. flight_kept xs (event.Retry b)) same ∙ flying b
+flying_kept past fs gs (event.LinkUp b) f flying h same is = is ∙ ap (λ xs. flight_kept xs (event.LinkUp b)) same ∙ flying b
+flying_kept past fs gs (event.LinkDown b generation) f flying h same is = is ∙ ap (λ xs. flight_kept xs (event.LinkDown b generation)) same ∙ flying b
+flying_kept past fs gs (event.Send b generation) f flying h same is = is ∙ ap (λ xs. flight_kept xs (event.Send b generation)) same ∙ flying b
+flying_kept past fs gs (event.Ask b generation n after) f flying h same is = is ∙ ap (λ xs. flight_kept xs (event.Ask b generation n after)) same ∙ flying b
+flying_kept past fs gs (event.Report b generation message) f flying h same is = is ∙ ap (λ xs. flight_kept xs (event.Report b generation message)) same ∙ flying b
+
+-- as many lines are read as an event bears on
+pub reads_within : (old new : ℕ) (ps qs : List Spot) (ns ms : List ℕ) (r : Reach) → ps ≡ qs → ns ≡ ms → new ≤ old + length ps * length ns → IsReach (record { spots = qs; warnings = ms }) r → new ≤ old + size r
+reads_within old new ps qs ns ms r spots warnings within reach =
+    subst (λ n. new ≤ old + n)
+    (ap (λ xs. length xs * length ns) spots ∙ ap (λ xs. length qs * length xs) warnings ∙ ap (λ n. n * length ms) reach.spots_counted ∙ ap (λ n. length r.spots * n) reach.warnings_counted)
+    within

@@ -1,0 +1,180 @@
+-- Where what happens leaves blank lines blank, only the lines that are kept may change.
+use Rattle.std.proofs.Common.{◌≡◌, ℕ, Bool, true, false, ◌&&◌, ◌||◌, not, nat_eq, ltb, List, [], ◌∷◌, ◌++◌, Option, Some, None, cond, map, filter, length, refl, sym, ◌∙◌, ap, arith}
+use Rattle.std.specs.Prelude.{find, if◌then◌else◌}
+use Rattle.std.proofs.lemmas.Bool.Decides.{nat_tests}
+use Rattle.std.specs.Cmp.{unsigned_Decides}
+use Rattle.std.specs.List.{flat_map, list_any}
+use Rattle.std.specs.Map.{lookup}
+use Rattle.std.specs.Option.{unwrap_or}
+use Rattle.areas.specs.declared.area.Area.{Area}
+use Rattle.cell_register.specs.CellLaws.{ltb_follows}
+use Rattle.cell_register.specs.Register as register
+use Rattle.common.specs.OnceLaws.{any_turned, any_filter_same, ascending_once}
+use Rattle.common.specs.Order.{is_ascending}
+use Rattle.common.specs.OrderLaws.{ascending_filter, ascending_map}
+use Rattle.common.specs.SortingLaws.{same_ascending}
+use Rattle.kept_tables.specs.Tables.{Tables}
+use Rattle.kept_tables.specs.View.{key_at}
+use Rattle.kept_tables.specs.declared.spot.Spot.{Spot}
+use Rattle.mirror.specs.Blank.{is_blank, line_eq}
+use Rattle.mirror.specs.BlankLaws.{blank_decides, line_decides}
+use Rattle.mirror.specs.Line.{blank_line}
+use Rattle.mirror.specs.Table.{is_slot, is_that_place, line_at, down_at}
+use Rattle.mirror.specs.declared.line.Line.{Line}
+use Rattle.mirror.specs.declared.line_key.LineKey.{LineKey}
+use Rattle.warning_book.specs.Book as book
+use Rattle.warning_book.specs.Book.{has_number, number_lt, numbers, warning_of}
+use Rattle.warning_book.specs.declared.warning.Warning.{Warning}
+use Rattle.centre_events.specs.Down.{down_mark}
+use Rattle.centre_past.specs.Facts.{facts_of}
+use Rattle.centre_lines.specs.Following.{AreInBook, Happens, bearing, changing_at, held_line, is_idle, keeps_down, leaves_blank, line_now, may_change, stays, step_of}
+use Rattle.centre_past.specs.Idle.{AsBefore}
+use Rattle.centre_past.specs.IsKept.{IsKept}
+use Rattle.centre_past.specs.Legal.{Legal}
+use Rattle.centre_past.specs.Reach.{IsReach, reach_of}
+use Rattle.centre_events.specs.Past.{Past}
+use Rattle.centre_events.specs.Settings.{Settings}
+use Rattle.centre_events.specs.Warnings.{book_of, warnings_of}
+use Rattle.centre_events.specs.declared.answer.Answer.{Answer}
+use Rattle.centre_events.specs.declared.answer.Answer.TheVariants.{Listed}
+use Rattle.centre_events.specs.declared.event.Event.{Event}
+use Rattle.centre_events.specs.declared.event.Event.TheVariants as event
+use Rattle.centre_past.specs.declared.kept.Kept.{Kept}
+use Rattle.centre_lines.proofs.BlankLineLemmas.{unchanged}
+use Rattle.centre_lines.proofs.ReachedWarningLemmas.{all_listed}
+use Rattle.centre_past.proofs.RegisterLemmas.{nat_apart}
+use Rattle.centre_past.proofs.WarningLemmas.{legal_sound}
+
+-- Of two lists of numbers in order, those that fail a test are the same where each of them is in both.
+
+not_before : (x : ℕ) → ltb x x ≡ false
+not_before x = grind (arith, nat_tests)
+
+-- the line, if it does not pass
+abbrev unless : {A : Type 0} → (ℕ → Bool) → (ℕ → A) → ℕ → List A
+unless passes line n = if passes n then [] else line n ∷ []
+
+failing : {A : Type 0} (passes : ℕ → Bool) (line : ℕ → A) (ns : List ℕ) → flat_map (unless passes line) ns ≡ map line (filter (λ n. not (passes n)) ns)
+failing passes line [] = refl
+failing passes line (n ∷ ns) = step (passes n) (failing passes line ns)
+  where
+    step : (t : Bool) → flat_map (unless passes line) ns ≡ map line (filter (λ m. not (passes m)) ns) → (if t then [] else line n ∷ []) ++ flat_map (unless passes line) ns ≡ map line (cond (not t) (n ∷ filter (λ m. not (passes m)) ns) (filter (λ m. not (passes m)) ns))
+    step true rest = rest
+    step false rest = ap (λ ls. line n ∷ ls) rest
+
+pub failing_same : {A : Type 0} (passes : ℕ → Bool) (line : ℕ → A) (ns ms : List ℕ) → is_ascending ltb ns ≡ true → is_ascending ltb ms ≡ true → ((n : ℕ) → passes n ≡ false → list_any (nat_eq n) ns ≡ list_any (nat_eq n) ms) → flat_map (unless passes line) ns ≡ flat_map (unless passes line) ms
+failing_same passes line ns ms first second same =
+    failing passes line ns ∙ ap (map line) (same_ascending nat_eq ltb unsigned_Decides not_before ltb_follows (filter fails ns) (filter fails ms) (ascending_filter ltb fails ns first) (ascending_filter ltb fails ms second) each) ∙ sym (failing passes line ms)
+  where
+    fails : ℕ → Bool
+    fails n = not (passes n)
+
+    among : (n : ℕ) (xs : List ℕ) → list_any (nat_eq n) (filter fails xs) ≡ (fails n && list_any (nat_eq n) xs)
+    among n xs = any_turned nat_eq unsigned_Decides n (filter fails xs) ∙ any_filter_same nat_eq unsigned_Decides fails n xs ∙ ap (λ t. fails n && t) (sym (any_turned nat_eq unsigned_Decides n xs))
+
+    step : (n : ℕ) (t : Bool) → passes n ≡ t → (not t && list_any (nat_eq n) ns) ≡ (not t && list_any (nat_eq n) ms)
+    step n true h = refl
+    step n false h = same n h
+
+    each : (n : ℕ) → list_any (nat_eq n) (filter fails ns) ≡ list_any (nat_eq n) (filter fails ms)
+    each n = among n ns ∙ step n (passes n) refl ∙ sym (among n ms)
+
+-- The numbers of the warnings of a book ascend, and have each that is found.
+
+pub numbers_ascend : (ws : List Warning) → is_ascending number_lt ws ≡ true → is_ascending ltb (numbers ws) ≡ true
+numbers_ascend ws h = ascending_map number_lt ltb (λ w. w.number) (λ x y before. before) ws h
+
+pub number_there : (n : ℕ) (ws : List Warning) (w : Warning) → find (has_number n) ws ≡ Some w → list_any (nat_eq n) (numbers ws) ≡ true
+number_there n [] w h = cc
+number_there n (v ∷ ws) w h = step (nat_eq v.number n) (nat_eq n v.number) (turn v.number n) (number_there n ws w) h
+  where
+    turn : (x y : ℕ) → nat_eq x y ≡ nat_eq y x
+    turn x y = grind (arith, nat_tests)
+
+    step : (t u : Bool) → t ≡ u → (find (has_number n) ws ≡ Some w → list_any (nat_eq n) (numbers ws) ≡ true) → cond t (Some v) (find (has_number n) ws) ≡ Some w → (u || list_any (nat_eq n) (numbers ws)) ≡ true
+    step true true e rest g = refl
+    step true false e rest g = cc
+    step false true e rest g = refl
+    step false false e rest g = rest g
+
+-- A line that changes is one that may, and its warning is in the book.
+
+itself : (line : Line) → line_eq line line ≡ true
+itself line = (line_decides line line).1 refl
+
+changes_some : (h : Happens) (l : List Area) (st : book.State) (t : Tables) (k : LineKey) → leaves_blank h.event h.answer ≡ true → keeps_down (down_mark k.bsc k.cell h.event h.answer) (down_at t.lines k.bsc k.cell) ≡ true → stays h l st t k ≡ false → (may_change h.event (line_at t.lines k.bsc k.cell k.warning) ≡ true) × (list_any (nat_eq k.warning) (numbers st.warnings) ≡ true)
+changes_some h l st t k blanks down changes = (kept (may_change h.event line) refl, booked (warning_of st k.warning) refl)
+  where
+    line : Line
+    line = line_at t.lines k.bsc k.cell k.warning
+
+    stay : line_eq (line_now h st.warnings k.bsc k.cell (warning_of st k.warning) line) line ≡ true → false ≡ true
+    stay e =
+        sym changes ∙ ap (λ x. line_eq (line_now h st.warnings k.bsc k.cell (warning_of st k.warning) line) line && (x || is_idle l (warning_of st k.warning) k.cell line)) down ∙ ap (λ x. x && true) e
+
+    kept : (x : Bool) → may_change h.event line ≡ x → x ≡ true
+    kept true e = refl
+    kept false e = stay (sym (unchanged h st.warnings k.bsc k.cell (warning_of st k.warning) line blanks e))
+
+    booked : (o : Option Warning) → warning_of st k.warning ≡ o → list_any (nat_eq k.warning) (numbers st.warnings) ≡ true
+    booked None e = let no : false ≡ true = stay (ap (λ x. line_eq (line_now h st.warnings k.bsc k.cell x line) line) e ∙ itself line) in cc
+    booked (Some w) e = number_there k.warning st.warnings w e
+
+-- so those of the lines that may change are those of all
+pub known_same : (h : Happens) (r : register.State) (l : List Area) (st : book.State) (t : Tables) (p : Spot) (ws : List ℕ) → leaves_blank h.event h.answer ≡ true → keeps_down (down_mark p.bsc p.cell h.event h.answer) (down_at t.lines p.bsc p.cell) ≡ true → is_ascending number_lt st.warnings ≡ true → is_ascending ltb ws ≡ true → ((n : ℕ) → list_any (nat_eq n) ws ≡ may_change h.event (line_at t.lines p.bsc p.cell n)) → changing_at h r l st t ws p ≡ changing_at h r l st t (numbers st.warnings) p
+known_same h r l st t p ws blanks down ordered ascend which =
+    failing_same (λ n. stays h l st t (key_at p n)) (λ n. step_of h st (held_line r l st t (key_at p n))) ws (numbers st.warnings) ascend (numbers_ascend st.warnings ordered)
+    (λ n changes. let both = changes_some h l st t (key_at p n) blanks down changes in which n ∙ both.0 ∙ sym both.1)
+
+-- What is kept of a legal past: each line that isn't blank is of a warning in the book.
+pub in_book : (past : Past) (s : Kept) → IsKept past s → AreInBook s.book s.tables
+in_book past s kept b c n h = step (warning_of (book_of past) n) refl
+  where
+    step : (o : Option Warning) → warning_of (book_of past) n ≡ o → list_any (nat_eq n) (numbers s.book.warnings) ≡ true
+    step None e =
+        let blank : line_at s.tables.lines b c n ≡ blank_line = kept.tables.lines (record { bsc = b; cell = c; warning = n }) ∙ ap (λ o. (facts_of past b c o).line) e in
+        let no : true ≡ false = sym ((blank_decides (line_at s.tables.lines b c n)).1 blank) ∙ h in
+        cc
+    step (Some w) e = ap (λ (st : book.State). list_any (nat_eq n) (numbers st.warnings)) kept.booked ∙ number_there n (warnings_of past) w e
+
+-- the same tables have the same lines
+pub in_book_as : (st : book.State) (t u : Tables) → AsBefore t u → AreInBook st t → AreInBook st u
+in_book_as st t u same h b c n blank = h b c n (ap (λ ls. is_blank (unwrap_or (lookup (is_slot b c n) ls) blank_line)) (sym same.lines) ∙ blank)
+
+-- An indication and a Retry bear on all warnings.
+
+all_reached : (past : Past) (e : Event) (a : Answer) → leaves_blank e a ≡ true → (reach_of past e a).warnings ≡ numbers (warnings_of past)
+all_reached past (event.Retry b) a h = sym (all_listed past (book_of past) (numbers (warnings_of past)) refl refl)
+all_reached past (event.Report b g message) (Listed cells) h = sym (all_listed past (book_of past) (numbers (warnings_of past)) refl refl)
+all_reached past (event.Report b g message) a h = cc
+all_reached past (event.Edit x) a h = cc
+all_reached past (event.LinkUp b) a h = cc
+all_reached past (event.LinkDown b g) a h = cc
+all_reached past (event.Send b g) a h = cc
+all_reached past (event.Ask b g n after) a h = cc
+
+pub bears_on_all : (settings : Settings) (past : Past) → Legal settings past → (s : Kept) → IsKept past s → (e : Event) (a : Answer) (spots : List Spot) (ns : List ℕ) → IsReach (record { spots = spots; warnings = ns }) (reach_of past e a) → IsReach (record { spots = spots; warnings = bearing e a s.book ns }) (reach_of past e a)
+bears_on_all settings past legal s kept e a spots ns reach = step (leaves_blank e a) refl
+  where
+    all : leaves_blank e a ≡ true → numbers s.book.warnings ≡ (reach_of past e a).warnings
+    all h = ap (λ (x : book.State). numbers x.warnings) kept.booked ∙ sym (all_reached past e a h)
+
+    ordered : is_ascending number_lt s.book.warnings ≡ true
+    ordered = ap (λ (x : book.State). is_ascending number_lt x.warnings) kept.booked ∙ (legal_sound settings past legal).ordered
+
+    step : (t : Bool) → leaves_blank e a ≡ t → IsReach (record { spots = spots; warnings = if t then numbers s.book.warnings else ns }) (reach_of past e a)
+    step true h = record {
+      spots = reach.spots;
+      warnings = λ n. ap (list_any (nat_eq n)) (all h);
+      spots_once = reach.spots_once;
+      warnings_once = ascending_once nat_eq ltb nat_apart (numbers s.book.warnings) (numbers_ascend s.book.warnings ordered);
+      spots_counted = reach.spots_counted;
+      warnings_counted = ap length (all h);
+    }
+    step false h = reach
+
+-- and so those of the lines that a table keeps which has the same
+pub known_before : (h : Happens) (r : register.State) (l : List Area) (st : book.State) (t u : Tables) (p : Spot) (ws : List ℕ) → AsBefore t u → leaves_blank h.event h.answer ≡ true → keeps_down (down_mark p.bsc p.cell h.event h.answer) (down_at u.lines p.bsc p.cell) ≡ true → is_ascending number_lt st.warnings ≡ true → is_ascending ltb ws ≡ true → ((n : ℕ) → list_any (nat_eq n) ws ≡ may_change h.event (line_at u.lines p.bsc p.cell n)) → changing_at h r l st t ws p ≡ changing_at h r l st t (numbers st.warnings) p
+known_before h r l st t u p ws same blanks down ordered ascend which =
+    known_same h r l st t p ws blanks (ap (λ ps. keeps_down (down_mark p.bsc p.cell h.event h.answer) (list_any (is_that_place p.bsc p.cell) ps)) (sym same.downs) ∙ down) ordered ascend
+    (λ n. which n ∙ ap (λ ls. may_change h.event (unwrap_or (lookup (is_slot p.bsc p.cell n) ls) blank_line)) same.lines)

@@ -1,0 +1,133 @@
+-- The lines of the warnings that are not near a cell are passed over where an edit leaves what each area covers, and stay
+-- where what happens leaves blank lines blank.
+use Rattle.std.proofs.Common.{◌≡◌, ℕ, Bool, true, false, ◌&&◌, ◌||◌, not, List, [], ◌∷◌, ◌++◌, Option, Some, None, cond, filter, refl, sym, ◌∙◌, ap}
+use Rattle.std.specs.Prelude.{bytes_eq, find, if◌then◌else◌}
+use Rattle.std.specs.List.{list_any}
+use Rattle.std.specs.Map.{lookup}
+use Rattle.std.specs.Option.{unwrap_or}
+use Rattle.std.proofs.lemmas.Slice.Eq.{bytes_eq-Decides}
+use Rattle.areas.specs.Areas.{areas_of, covers}
+use Rattle.areas.specs.Laws.{among_areas_of}
+use Rattle.areas.specs.declared.area.Area.{Area}
+use Rattle.cell_register.specs.Register as register
+use Rattle.common.specs.OnceLaws.{any_turned}
+use Rattle.common.specs.declared.cell.Cell.{Cell}
+use Rattle.kept_tables.specs.Tables.{Tables}
+use Rattle.kept_tables.specs.View.{key_at}
+use Rattle.kept_tables.specs.declared.spot.Spot.{Spot}
+use Rattle.mirror.specs.Blank.{is_blank, line_eq}
+use Rattle.mirror.specs.Line.{blank_line}
+use Rattle.mirror.specs.Table.{is_slot, line_at}
+use Rattle.mirror.specs.declared.line.Line.{Line}
+use Rattle.warning_book.specs.Book as book
+use Rattle.warning_book.specs.Book.{has_number, is_so, names, names_one_of, warning_of}
+use Rattle.warning_book.specs.declared.warning.Warning.{Warning}
+use Rattle.coverage_plan.specs.declared.edit.Edit.{Edit}
+use Rattle.coverage_plan.specs.declared.edit.Edit.TheVariants as edit
+use Rattle.centre_past.specs.Idle.{AsBefore}
+use Rattle.centre_lines.specs.Following.{Happens, changing_at, changing_line, held_at, held_line, held_unless, is_idle, is_near, leaves_blank, leaves_cover, line_now, passed_over, stays, step_of}
+use Rattle.centre_lines.proofs.BlankLineLemmas.{blank_left}
+
+-- neither of two is so
+
+neither : (p q : Bool) → (p || q) ≡ false → (p ≡ false) × (q ≡ false)
+neither true q h = cc
+neither false true h = cc
+neither false false h = (refl, refl)
+
+-- none of the names is among the others, the one way and the other
+
+none_turned : (xs ys : List (List ℕ)) → list_any (λ x. list_any (λ y. bytes_eq y x) ys) xs ≡ false → list_any (λ y. list_any (λ x. bytes_eq x y) xs) ys ≡ false
+none_turned xs [] h = refl
+none_turned xs (y ∷ ys) h =
+    let parts = split xs h in
+    ap (λ t. t || list_any (λ z. list_any (λ x. bytes_eq x z) xs) ys) (sym (any_turned bytes_eq bytes_eq-Decides y xs) ∙ parts.0) ∙ none_turned xs ys parts.1
+  where
+    split : (zs : List (List ℕ)) → list_any (λ x. list_any (λ z. bytes_eq z x) (y ∷ ys)) zs ≡ false → (list_any (bytes_eq y) zs ≡ false) × (list_any (λ x. list_any (λ z. bytes_eq z x) ys) zs ≡ false)
+    split [] g = (refl, refl)
+    split (z ∷ zs) g =
+        let first = neither (bytes_eq y z || list_any (λ x. bytes_eq x z) ys) (list_any (λ x. list_any (λ v. bytes_eq v x) (y ∷ ys)) zs) g in
+        let one = neither (bytes_eq y z) (list_any (λ x. bytes_eq x z) ys) first.0 in
+        let rest = split zs first.1 in
+        (ap (λ t. t || list_any (bytes_eq y) zs) one.0 ∙ rest.0, ap (λ t. t || list_any (λ x. list_any (λ v. bytes_eq v x) ys) zs) one.1 ∙ rest.1)
+
+-- no area of a warning covers a cell where the warning names none of those that do
+
+covers_none : (l : List Area) (c : Cell) (ys : List (List ℕ)) → list_any (λ y. list_any (λ x. bytes_eq x y) (areas_of l c)) ys ≡ false → list_any (λ a. covers l a c) ys ≡ false
+covers_none l c [] h = refl
+covers_none l c (y ∷ ys) h =
+    let parts = neither (list_any (λ x. bytes_eq x y) (areas_of l c)) (list_any (λ z. list_any (λ x. bytes_eq x z) (areas_of l c)) ys) h in
+    ap (λ t. t || list_any (λ a. covers l a c) ys) (sym (among_areas_of l c y) ∙ parts.0) ∙ covers_none l c ys parts.1
+
+found_so : (n : ℕ) (f : Warning → Bool) (ws : List Warning) (w : Warning) → find (has_number n) ws ≡ Some w → is_so n f ws ≡ false → f w ≡ false
+found_so n f [] w found so = cc
+found_so n f (v ∷ ws) w found so = step (has_number n v) (λ g later. found_so n f ws w g later) found (neither (has_number n v && f v) (is_so n f ws) so)
+  where
+    step : (t : Bool) → (find (has_number n) ws ≡ Some w → is_so n f ws ≡ false → f w ≡ false) → cond t (Some v) (find (has_number n) ws) ≡ Some w → ((t && f v) ≡ false) × (is_so n f ws ≡ false) → f w ≡ false
+    step true rest g parts = let same : v ≡ w = cc in ap f (sym same) ∙ parts.0
+    step false rest g parts = rest g parts.1
+
+-- the line is idle
+
+idle_there : (l : List Area) (st : book.State) (c : Cell) (n : ℕ) (line : Line) → is_blank line ≡ true → is_so n (names_one_of (areas_of l c)) st.warnings ≡ false → (o : Option Warning) → warning_of st n ≡ o → is_idle l o c line ≡ true
+idle_there l st c n line blank so None e = refl
+idle_there l st c n line blank so (Some w) e =
+    let none = covers_none l c w.areas (none_turned (areas_of l c) w.areas (found_so n (names_one_of (areas_of l c)) st.warnings w e so)) in
+    ap (λ t. t && not (list_any (λ a. covers l a c) w.areas)) blank ∙ ap not none
+
+-- so it is passed over
+
+over : (e : Edit) (l : List Area) (o : Option Warning) (c : Cell) (line : Line) → leaves_cover e ≡ true → is_idle l o c line ≡ true → passed_over e l o c line ≡ true
+over (edit.RemoveBsc b) l o c line leaves idle = idle
+over (edit.AddCell d b) l o c line leaves idle = idle
+over (edit.MoveCell d b) l o c line leaves idle = idle
+over (edit.RemoveCell d) l o c line leaves idle = idle
+over other l o c line leaves idle = cc
+
+blank_of : (t : Bool) → not t ≡ false → t ≡ true
+blank_of true h = refl
+blank_of false h = cc
+
+far_passed : (e : Edit) (r : register.State) (l : List Area) (st : book.State) (t u : Tables) (p : Spot) (n : ℕ) → AsBefore t u → leaves_cover e ≡ true → is_near l st u.lines p.bsc p.cell n ≡ false → held_unless e r l st t (key_at p n) ≡ []
+far_passed e r l st t u p n same leaves far =
+    let parts = neither (not (is_blank (line_at u.lines p.bsc p.cell n))) (is_so n (names_one_of (areas_of l p.cell)) st.warnings) far in
+    let blank : is_blank (line_at t.lines p.bsc p.cell n) ≡ true = ap (λ ls. is_blank (unwrap_or (lookup (is_slot p.bsc p.cell n) ls) blank_line)) (sym same.lines) ∙ blank_of (is_blank (line_at u.lines p.bsc p.cell n)) parts.0 in
+    let idle = idle_there l st p.cell n (line_at t.lines p.bsc p.cell n) blank parts.1 (warning_of st n) refl in
+    ap (λ x. if x then [] else held_line r l st t (key_at p n) ∷ []) (over e l (warning_of st n) p.cell (line_at t.lines p.bsc p.cell n) leaves idle)
+
+-- and the lines that are held are those of the warnings that are near
+pub near_held : (e : Edit) (r : register.State) (l : List Area) (st : book.State) (t u : Tables) (p : Spot) (ns : List ℕ) → AsBefore t u → leaves_cover e ≡ true → held_at e r l st t (filter (is_near l st u.lines p.bsc p.cell) ns) p ≡ held_at e r l st t ns p
+near_held e r l st t u p [] same leaves = refl
+near_held e r l st t u p (n ∷ ns) same leaves = step (near_held e r l st t u p ns same leaves) (is_near l st u.lines p.bsc p.cell n) refl
+  where
+    step : held_at e r l st t (filter (is_near l st u.lines p.bsc p.cell) ns) p ≡ held_at e r l st t ns p → (x : Bool) → is_near l st u.lines p.bsc p.cell n ≡ x → held_at e r l st t (cond x (n ∷ filter (is_near l st u.lines p.bsc p.cell) ns) (filter (is_near l st u.lines p.bsc p.cell) ns)) p ≡ held_unless e r l st t (key_at p n) ++ held_at e r l st t ns p
+    step rest true h = ap (λ xs. held_unless e r l st t (key_at p n) ++ xs) rest
+    step rest false h = rest ∙ ap (λ xs. xs ++ held_at e r l st t ns p) (sym (far_passed e r l st t u p n same leaves h))
+
+-- an idle line stays where what happens leaves blank lines blank
+far_stays : (h : Happens) (l : List Area) (st : book.State) (t u : Tables) (p : Spot) (n : ℕ) → AsBefore t u → leaves_blank h.event h.answer ≡ true → is_near l st u.lines p.bsc p.cell n ≡ false → stays h l st t (key_at p n) ≡ true
+far_stays h l st t u p n same blanks far =
+    let parts = neither (not (is_blank (line_at u.lines p.bsc p.cell n))) (is_so n (names_one_of (areas_of l p.cell)) st.warnings) far in
+    let blank : is_blank line ≡ true = ap (λ ls. is_blank (unwrap_or (lookup (is_slot p.bsc p.cell n) ls) blank_line)) (sym same.lines) ∙ blank_of (is_blank (line_at u.lines p.bsc p.cell n)) parts.0 in
+    let left : line_eq (line_now h st.warnings p.bsc p.cell (warning_of st n) line) line ≡ true = sym (blank_left h st.warnings p.bsc p.cell (warning_of st n) line blanks blank) in
+    both _ _ _ left (idle_there l st p.cell n line blank parts.1 (warning_of st n) refl)
+  where
+    line : Line
+    line = line_at t.lines p.bsc p.cell n
+
+    both : (x y z : Bool) → x ≡ true → z ≡ true → (x && (y || z)) ≡ true
+    both true true z f g = refl
+    both true false z f g = g
+    both false y z f g = cc
+
+-- so the steps are those of the lines of the warnings that are near
+pub near_changing : (h : Happens) (r : register.State) (l : List Area) (st : book.State) (t u : Tables) (p : Spot) (ns : List ℕ) → AsBefore t u → leaves_blank h.event h.answer ≡ true → changing_at h r l st t (filter (is_near l st u.lines p.bsc p.cell) ns) p ≡ changing_at h r l st t ns p
+near_changing h r l st t u p [] same blanks = refl
+near_changing h r l st t u p (n ∷ ns) same blanks = step (near_changing h r l st t u p ns same blanks) (is_near l st u.lines p.bsc p.cell n) refl
+  where
+    none : is_near l st u.lines p.bsc p.cell n ≡ false → changing_line h r l st t (key_at p n) ≡ []
+    none far = ap (λ x. if x then [] else step_of h st (held_line r l st t (key_at p n)) ∷ []) (far_stays h l st t u p n same blanks far)
+
+    step : changing_at h r l st t (filter (is_near l st u.lines p.bsc p.cell) ns) p ≡ changing_at h r l st t ns p → (x : Bool) → is_near l st u.lines p.bsc p.cell n ≡ x → changing_at h r l st t (cond x (n ∷ filter (is_near l st u.lines p.bsc p.cell) ns) (filter (is_near l st u.lines p.bsc p.cell) ns)) p ≡ changing_line h r l st t (key_at p n) ++ changing_at h r l st t ns p
+    step rest true far = ap (λ xs. changing_line h r l st t (key_at p n) ++ xs) rest
+    step rest false far = rest ∙ ap (λ xs. xs ++ changing_at h r l st t ns p) (sym (none far))

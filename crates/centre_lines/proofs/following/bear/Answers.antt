@@ -1,0 +1,61 @@
+use Rattle.std.proofs.Common.{◌≡◌, false, map, sym, ◌∙◌, ap, subst}
+use Rattle.std.proofs.lemmas.Result.{on_ok_weaker}
+use Rattle.std.specs.List.{list_any}
+use Rattle.mirror.specs.Table.{is_that_place}
+use Rattle.kept_tables.specs.Changes.{Begins, change_of as change_of_step}
+use Rattle.centre_lines.specs.Following.{AreCovered, AreSteps, Happens, change_of, happens, held_in, held_of, step_of}
+use Rattle.centre_events.specs.Kept.{is_edit}
+use Rattle.centre_lines.proofs.JoinLemmas.{begins, settled, downs_then}
+use Rattle.centre_lines.proofs.CoveredLemmas.{bears_covered}
+use Rattle.centre_lines.proofs.PlainLemmas.{steps_change}
+use Rattle.centre_lines.proofs.following.bear.Goals as goal
+
+-- of an edit
+
+pub change_lines-requires-clause-covered : goal.change_lines-requires-clause-covered
+change_lines-requires-clause-covered c =
+    λ leaves. subst (AreCovered c.args.plan.now.areas.now c.args.plan.now.book.now) (ap held_in c.in-Whole.is ∙ sym c.as_slice.ensures.value) (bears_covered c.requires.bears leaves)
+
+pub change_lines-requires-clause-begins : goal.change_lines-requires-clause-begins
+change_lines-requires-clause-begins c =
+    let h : Happens = happens c.args.h.now in
+    subst (Begins c.mark_downs.new.tables)
+    (ap (map (change_of h c.args.plan.now.register.now c.args.plan.now.areas.now c.args.plan.now.book.now c.mark_downs.new.tables)) (ap held_in c.in-Whole.is ∙ sym c.as_slice.ensures.value))
+    (begins c.requires.bears c.mark_downs.new.tables c.in_ok-mark_downs.ensures.lines c.in_ok-mark_downs.ensures.downs)
+
+pub returns-in_ok-found-in-Whole-clause-tables : goal.returns-in_ok-found-in-Whole-clause-tables
+returns-in_ok-found-in-Whole-clause-tables c =
+    let h : Happens = happens c.args.h.now in
+    on_ok_weaker c.change_lines.result
+    (λ done x.
+    settled x c.mark_downs.new.tables c.change_lines.new.tables (map (change_of h c.args.plan.now.register.now c.args.plan.now.areas.now c.args.plan.now.book.now c.mark_downs.new.tables) c.as_slice.result.now)
+    (ap (map (change_of h c.args.plan.now.register.now c.args.plan.now.areas.now c.args.plan.now.book.now c.mark_downs.new.tables)) (c.as_slice.ensures.value ∙ sym (ap held_in c.in-Whole.is)))
+    c.in_ok-mark_downs.ensures.lines c.in_ok-mark_downs.ensures.downs done)
+    c.change_lines.ensures.made
+
+pub returns-in_ok-found-in-Whole-clause-downs : goal.returns-in_ok-found-in-Whole-clause-downs
+returns-in_ok-found-in-Whole-clause-downs c = on_ok_weaker c.change_lines.result (λ done x b d. ap (list_any (is_that_place b d)) c.change_lines.ensures.downs ∙ c.in_ok-mark_downs.ensures.downs b d ∙ downs_then x b d) c.change_lines.ensures.made
+
+-- of another event
+
+pub take_steps-requires : goal.take_steps-requires
+take_steps-requires c =
+    let h : Happens = happens c.args.h.now in
+    let steps : (is_edit h.event ≡ false) × (c.in-Steps.steps.items ≡ map (step_of h c.args.plan.now.book.now) (map held_of c.in-Steps.steps.items)) = subst (AreSteps h c.args.plan.now.book.now) c.in-Steps.is c.requires.steps in
+    subst (Begins c.mark_downs.new.tables)
+    (sym (ap (map change_of_step) c.as_slice-in-Steps.ensures.value ∙ steps_change c.in-Steps.steps.items c.requires.bears c.mark_downs.new.tables (λ b d. c.in_ok-mark_downs.ensures.downs b d ∙ downs_then c.requires.bears b d) steps.0 (steps.1 ∙ ap (map (step_of h c.args.plan.now.book.now)) (sym (ap held_in c.in-Steps.is)))))
+    (begins c.requires.bears c.mark_downs.new.tables c.in_ok-mark_downs.ensures.lines c.in_ok-mark_downs.ensures.downs)
+
+pub returns-in-Steps-clause-tables : goal.returns-in-Steps-clause-tables
+returns-in-Steps-clause-tables c =
+    let h : Happens = happens c.args.h.now in
+    let steps : (is_edit h.event ≡ false) × (c.in-Steps.steps.items ≡ map (step_of h c.args.plan.now.book.now) (map held_of c.in-Steps.steps.items)) = subst (AreSteps h c.args.plan.now.book.now) c.in-Steps.is c.requires.steps in
+    on_ok_weaker c.take_steps.result
+    (λ done x.
+    settled x c.mark_downs.new.tables c.take_steps.new.self (map change_of_step c.as_slice-in-Steps.result.now)
+    (ap (map change_of_step) c.as_slice-in-Steps.ensures.value ∙ steps_change c.in-Steps.steps.items x c.mark_downs.new.tables (λ b d. c.in_ok-mark_downs.ensures.downs b d ∙ downs_then x b d) steps.0 (steps.1 ∙ ap (map (step_of h c.args.plan.now.book.now)) (sym (ap held_in c.in-Steps.is))))
+    c.in_ok-mark_downs.ensures.lines c.in_ok-mark_downs.ensures.downs done)
+    c.take_steps.ensures.settled
+
+pub returns-in-Steps-clause-downs : goal.returns-in-Steps-clause-downs
+returns-in-Steps-clause-downs c = on_ok_weaker c.take_steps.result (λ done x b d. c.take_steps.ensures.downs b d ∙ c.in_ok-mark_downs.ensures.downs b d ∙ downs_then x b d) c.take_steps.ensures.settled

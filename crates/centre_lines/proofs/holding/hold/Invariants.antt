@@ -1,0 +1,9 @@
+use Rattle.std.proofs.Common.{◌≡◌, ◌≤◌, ◌+◌, ◌*◌, take, length}
+use Rattle.kept_tables.specs.Tables.{Tables}
+use Rattle.centre_past.specs.Idle.{AsBefore}
+use Rattle.centre_lines.specs.Following.{held_lines}
+use Rattle.centre_lines.proofs.holding.hold.Given as goal
+
+-- the lines at the spots passed are read, and nothing of them changes
+abbrev pub invariant-loop-spot : goal.invariant-loop-spot
+invariant-loop-spot l = ((t : Tables) → AsBefore t l.initial.tables → (AsBefore t l.tables × (l.out.items ≡ held_lines l.edit l.plan.register.now l.plan.areas.now l.plan.book.now t (take l.spot-index l.spots) l.warnings))) × ((l.tables.lines.meter ≤ l.initial.tables.lines.meter + l.spot-index * length l.warnings) × (l.found ≡ l.initial.found))

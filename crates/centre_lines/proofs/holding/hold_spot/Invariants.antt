@@ -1,0 +1,9 @@
+use Rattle.std.proofs.Common.{◌≡◌, ◌≤◌, ◌+◌, ◌++◌, take}
+use Rattle.kept_tables.specs.Tables.{Tables}
+use Rattle.centre_past.specs.Idle.{AsBefore}
+use Rattle.centre_lines.specs.Following.{held_at}
+use Rattle.centre_lines.proofs.holding.hold_spot.Given as goal
+
+-- the lines of the warnings passed are read, and nothing of them changes
+abbrev pub invariant-loop-warning : goal.invariant-loop-warning
+invariant-loop-warning l = ((t : Tables) → AsBefore t l.initial.tables → (AsBefore t l.tables × (l.out.items ≡ l.initial.out.items ++ held_at l.edit l.plan.register.now l.plan.areas.now l.plan.book.now t (take l.warning-index l.warnings) l.at.spot))) × ((l.tables.lines.meter ≤ l.initial.tables.lines.meter + l.warning-index) × (l.found ≡ l.initial.found))

@@ -1,0 +1,325 @@
+-- How what is kept follows an event: the lines on which it bears, as they stand before it and after.
+use Rattle.std.specs.Prelude.{◌≡◌, ℕ, ◌+◌, ◌≤◌, Bool, true, false, ◌&&◌, ◌||◌, not, nat_eq, List, [], ◌∷◌, Option, Some, None, Ok, length, map, unwrap_or, if◌then◌else◌}
+use Rattle.std.specs.List.{flat_map, list_any}
+use Rattle.std.specs.Option.{option_copied}
+use Rattle.areas.specs.Areas.{areas_of, covers}
+use Rattle.areas.specs.declared.area.Area.{Area}
+use Rattle.cell_register.specs.Register as register
+use Rattle.common.specs.Order.{each_once}
+use Rattle.common.specs.declared.cell.Cell.{Cell}
+use Rattle.kept_tables.specs.Changes.{Change}
+use Rattle.kept_tables.specs.Consistent.{Consistent}
+use Rattle.kept_tables.specs.Same.{SamePart}
+use Rattle.kept_tables.specs.Tables.{Tables, SameTables}
+use Rattle.kept_tables.specs.View.{key_at, key_eq, spot_eq}
+use Rattle.kept_tables.specs.declared.line_facts.LineFacts.{LineFacts}
+use Rattle.kept_tables.specs.declared.spot.Spot.{Spot}
+use Rattle.kept_tables.specs.declared.step.Step.{Step}
+use Rattle.mirror.specs.Blank.{is_blank, line_eq}
+use Rattle.mirror.specs.Held.{is_held_line}
+use Rattle.mirror.specs.Table.{Table, line_at, down_at}
+use Rattle.mirror.specs.declared.line.Line.{Line}
+use Rattle.mirror.specs.declared.line_key.LineKey.{LineKey}
+use Rattle.warning_book.specs.Book as book
+use Rattle.warning_book.specs.Book.{is_so, names_one_of, warning_of}
+use Rattle.warning_book.specs.declared.warning.Warning.{Warning}
+use Rattle.centre_events.specs.Counts.{count_mark}
+use Rattle.centre_events.specs.Down.{down_mark, is_down}
+use Rattle.centre_past.specs.Facts.{facts}
+use Rattle.centre_past.specs.Flights.{up_before}
+use Rattle.centre_events.specs.InFlight.{in_flight}
+use Rattle.centre_past.specs.IsKept.{IsKept}
+use Rattle.centre_events.specs.Kept.{IsRegisterOf, AreAreasOf, AreFlightsOf, is_edit}
+use Rattle.centre_past.specs.Legal.{Legal}
+use Rattle.centre_events.specs.Past.{Past, After, position, past_of}
+use Rattle.centre_events.specs.Presence.{effect}
+use Rattle.centre_past.specs.Reach.{reach_of, size}
+use Rattle.centre_events.specs.Settings.{Settings}
+use Rattle.centre_past.specs.State.{AreCovering, AreLinksOf, covered_facts, facts_from}
+use Rattle.centre_events.specs.Stepping.{stepped}
+use Rattle.centre_events.specs.Warnings.{book_of, serials}
+use Rattle.centre_events.specs.Verdict.{verdict}
+use Rattle.centre_events.specs.declared.answer.Answer.{Answer}
+use Rattle.centre_events.specs.declared.answer.Answer.TheVariants.{Listed}
+use Rattle.coverage_plan.specs.declared.edit.Edit.{Edit}
+use Rattle.coverage_plan.specs.declared.edit.Edit.TheVariants as edit
+use Rattle.centre_events.specs.declared.event.Event.{Event}
+use Rattle.centre_events.specs.declared.event.Event.TheVariants as event
+use Rattle.centre_events.specs.declared.entry.Entry.{Entry}
+use Rattle.centre_lines.specs.declared.held.Held.{Held}
+use Rattle.centre_lines.specs.declared.held_lines.HeldLines.{HeldLines}
+use Rattle.centre_lines.specs.declared.held_lines.HeldLines.TheVariants as lines
+use Rattle.centre_events.specs.declared.in_flight.InFlight.{InFlight}
+use Rattle.centre_events.specs.declared.stepping.Happening.{Happening}
+use Rattle.centre_past.specs.declared.kept.Kept.{Kept}
+use Rattle.centre_past.specs.Reaching.{is_forget}
+
+-- what is read of a line, from what is kept
+abbrev pub facts_in : register.State → List Area → book.State → Tables → LineKey → LineFacts
+facts_in r l st t k = facts_from r l (down_at t.lines k.bsc k.cell) k.bsc k.cell (line_at t.lines k.bsc k.cell k.warning) (warning_of st k.warning)
+
+-- the line as it stands
+abbrev pub held_line : register.State → List Area → book.State → Tables → LineKey → Held
+held_line r l st t k = record { key = k; before = facts_in r l st t k }
+
+-- nothing is kept of the line, and no area of its warning covers the cell, if the book has the warning
+abbrev pub is_idle : List Area → Option Warning → Cell → Line → Bool
+is_idle l None c line = true
+is_idle l (Some w) c line = is_blank line && not (list_any (λ a. covers l a c) w.areas)
+
+-- the edit leaves what each area covers, and which areas a warning has: a line that is idle before it has no part after it
+abbrev pub leaves_cover : Edit → Bool
+leaves_cover (edit.RemoveBsc b) = true
+leaves_cover (edit.AddCell c b) = true
+leaves_cover (edit.MoveCell c b) = true
+leaves_cover (edit.RemoveCell c) = true
+leaves_cover other = false
+
+-- something is kept of the warning's line in the cell at the BSC, or one of its areas covers the cell
+abbrev pub is_near : List Area → book.State → Table → ℕ → Cell → ℕ → Bool
+is_near l st lines b c n = not (is_blank (line_at lines b c n)) || is_so n (names_one_of (areas_of l c)) st.warnings
+
+-- the edit leaves the line without a part: a blank one where it forgets a warning, an idle one where it leaves what each
+-- area covers
+abbrev pub passed_over : Edit → List Area → Option Warning → Cell → Line → Bool
+passed_over e l o c line = if is_forget e then is_blank line else (leaves_cover e && is_idle l o c line)
+
+-- the line as it stands, if it is not passed over
+abbrev pub held_unless : Edit → register.State → List Area → book.State → Tables → LineKey → List Held
+held_unless e r l st t k = if passed_over e l (warning_of st k.warning) k.cell (line_at t.lines k.bsc k.cell k.warning) then [] else held_line r l st t k ∷ []
+
+-- the lines of each of the warnings at the spot
+abbrev pub held_at : Edit → register.State → List Area → book.State → Tables → List ℕ → Spot → List Held
+held_at e r l st t ns p = flat_map (λ n. held_unless e r l st t (key_at p n)) ns
+
+-- at each of the spots
+abbrev pub held_lines : Edit → register.State → List Area → book.State → Tables → List Spot → List ℕ → List Held
+held_lines e r l st t ps ns = flat_map (held_at e r l st t ns) ps
+
+-- what happens: an event with its answer, whether the link of its BSC was up before it, and what was in flight to it
+pub record Happens : Type 0 where
+  pub event : Event
+  pub answer : Answer
+  pub up : Bool
+  pub flight : Option InFlight
+
+-- what happens, as the code has it
+abbrev pub happens : Happening → Happens
+happens h = record { event = h.event.now; answer = h.answer.now; up = h.up; flight = option_copied h.flight }
+
+-- the line after what happens, of a warning in the book, if it has it
+abbrev pub line_now : Happens → List Warning → ℕ → Cell → Option Warning → Line → Line
+line_now h ws b c None line = line
+line_now h ws b c (Some w) line = stepped (λ s. effect b c w.message_id s h.event h.answer h.up h.flight ws) (λ s. count_mark b c w.message_id s h.event h.answer h.flight ws) line (serials w)
+
+-- what is read of it then, from what is kept after the event
+abbrev pub facts_then : Happens → register.State → List Area → book.State → Tables → LineKey → Line → LineFacts
+facts_then h r l st t k line = facts_from r l (down_at t.lines k.bsc k.cell) k.bsc k.cell (line_now h st.warnings k.bsc k.cell (warning_of st k.warning) line) (warning_of st k.warning)
+
+-- what brings a cell down, or up, leaves it as it was
+abbrev pub keeps_down : Option Bool → Bool → Bool
+keeps_down None was = true
+keeps_down (Some true) was = was
+keeps_down (Some false) was = not was
+
+-- what happens leaves the line as it is, and either leaves the cell down, or up, as it was, or the line is idle
+abbrev pub stays : Happens → List Area → book.State → Tables → LineKey → Bool
+stays h l st t k =
+    line_eq (line_now h st.warnings k.bsc k.cell (warning_of st k.warning) (line_at t.lines k.bsc k.cell k.warning)) (line_at t.lines k.bsc k.cell k.warning)
+    && (keeps_down (down_mark k.bsc k.cell h.event h.answer) (down_at t.lines k.bsc k.cell) || is_idle l (warning_of st k.warning) k.cell (line_at t.lines k.bsc k.cell k.warning))
+
+-- an indication or a Retry, which leaves a blank line blank
+abbrev pub leaves_blank : Event → Answer → Bool
+leaves_blank (event.Retry b) answer = true
+leaves_blank (event.Report b generation message) (Listed cells) = true
+leaves_blank e answer = false
+
+-- an indication may change a line that isn't blank, and a Retry one that is held
+abbrev pub may_change : Event → Line → Bool
+may_change (event.Retry b) line = is_held_line line
+may_change other line = not (is_blank line)
+
+-- an edit that leaves every line as it is: each but the end of a BSC and a Forget
+abbrev pub leaves_lines : Event → Bool
+leaves_lines (event.Edit (edit.RemoveBsc b)) = false
+leaves_lines (event.Edit (edit.Forget n)) = false
+leaves_lines (event.Edit e) = true
+leaves_lines other = false
+
+-- each line that isn't blank is of a warning in the book
+abbrev pub AreInBook : book.State → Tables → Type 0
+AreInBook st t = (b : ℕ) (c : Cell) (n : ℕ) → is_blank (line_at t.lines b c n) ≡ false → list_any (nat_eq n) (book.numbers st.warnings) ≡ true
+
+-- the warnings on whose lines what happens bears, from those that were found: all in the book, where it is an indication or
+-- a Retry
+abbrev pub bearing : Event → Answer → book.State → List ℕ → List ℕ
+bearing e a st ns = if leaves_blank e a then book.numbers st.warnings else ns
+
+-- the step that what happens makes of a line that was held, where it is no edit
+abbrev pub step_of : Happens → book.State → Held → Step
+step_of h st x = record { key = x.key; before = x.before; line = line_now h st.warnings x.key.bsc x.key.cell (warning_of st x.key.warning) x.before.line; down = unwrap_or (down_mark x.key.bsc x.key.cell h.event h.answer) x.before.down }
+
+-- the line that a step is of, as it stood
+abbrev pub held_of : Step → Held
+held_of s = record { key = s.key; before = s.before }
+
+-- the step of the line, if it does not stay as it stands
+abbrev pub changing_line : Happens → register.State → List Area → book.State → Tables → LineKey → List Step
+changing_line h r l st t k = if stays h l st t k then [] else step_of h st (held_line r l st t k) ∷ []
+
+-- those of each of the warnings at the spot
+abbrev pub changing_at : Happens → register.State → List Area → book.State → Tables → List ℕ → Spot → List Step
+changing_at h r l st t ns p = flat_map (λ n. changing_line h r l st t (key_at p n)) ns
+
+-- at each of the spots
+abbrev pub changing_lines : Happens → register.State → List Area → book.State → Tables → List Spot → List ℕ → List Step
+changing_lines h r l st t ps ns = flat_map (changing_at h r l st t ns) ps
+
+-- the change of the line
+abbrev pub change_of : Happens → register.State → List Area → book.State → Tables → Held → Change
+change_of h r l st t x = record { key = x.key; before = x.before; after = facts_then h r l st t x.key x.before.line }
+
+-- the change of the line where the areas that cover its cell are those that did
+abbrev pub covered_change : Happens → register.State → book.State → Tables → Held → Change
+covered_change h r st t x = record { key = x.key; before = x.before; after = covered_facts r (down_at t.lines x.key.bsc x.key.cell) x.key.bsc x.key.cell (line_now h st.warnings x.key.bsc x.key.cell (warning_of st x.key.warning) x.before.line) x.before.areas (warning_of st x.key.warning) }
+
+-- the edit leaves what each area covers, and which areas each warning has that it leaves in the book
+abbrev pub leaves_areas : Edit → Bool
+leaves_areas (edit.RemoveBsc b) = true
+leaves_areas (edit.AddCell c b) = true
+leaves_areas (edit.MoveCell c b) = true
+leaves_areas (edit.RemoveCell c) = true
+leaves_areas (edit.Update n content) = true
+leaves_areas (edit.Stop n) = true
+leaves_areas other = false
+
+-- the event is such an edit
+abbrev pub leaves_areas_then : Event → Bool
+leaves_areas_then (event.Edit e) = leaves_areas e
+leaves_areas_then other = false
+
+-- of each line the areas were read that cover its cell
+abbrev pub AreCovered : List Area → book.State → List Held → Type 0
+AreCovered l st [] = Unit {0}
+AreCovered l st (x ∷ xs) = AreCovering l x.key.cell x.before.areas (warning_of st x.key.warning) × AreCovered l st xs
+
+-- each line was read of this register, these areas and this book
+abbrev pub AreRead : register.State → List Area → book.State → List Held → Type 0
+AreRead r l st [] = Unit {0}
+AreRead r l st (x ∷ xs) = ((down : Bool) × (x.before ≡ facts_from r l down x.key.bsc x.key.cell x.before.line (warning_of st x.key.warning))) × AreRead r l st xs
+
+-- both have the same lines, the same actions pending, the same numbers and the same meter: nothing but the cells that are
+-- down differs
+pub record SameLines (t u : Tables) : Type 0 where
+  pub lines : u.lines.lines ≡ t.lines.lines
+  pub same : SameTables t u
+  pub meter : u.lines.meter ≡ t.lines.meter
+
+-- whether the cell is down at the BSC after the event with that answer, where it bears on these spots
+abbrev pub down_after : Event → Answer → List Spot → ℕ → Cell → Bool → Bool
+down_after e a spots b c was = if list_any (spot_eq (record { bsc = b; cell = c })) spots then unwrap_or (down_mark b c e a) was else was
+
+-- the event leaves each cell away from the spots down, or up, as it was
+abbrev pub LeavesDown : Past → Event → Answer → List Spot → Type 0
+LeavesDown past e a spots = (b : ℕ) (c : Cell) → list_any (spot_eq (record { bsc = b; cell = c })) spots ≡ false → is_down past b c ≡ unwrap_or (down_mark b c e a) (is_down past b c)
+
+-- what is in flight to the BSC of an event that is no edit
+abbrev pub flight_before : Past → Event → Option InFlight
+flight_before past (event.Report b generation message) = in_flight past b
+flight_before past (event.LinkUp b) = in_flight past b
+flight_before past (event.LinkDown b generation) = in_flight past b
+flight_before past (event.Retry b) = in_flight past b
+flight_before past (event.Send b generation) = in_flight past b
+flight_before past (event.Ask b generation n after) = in_flight past b
+flight_before past (event.Edit e) = None
+
+-- the entry of what happens
+abbrev pub entry_of : ℕ → Happens → Entry
+entry_of desk h = record { desk = desk; event = h.event; answer = h.answer }
+
+-- the keys of each of the warnings at each of the spots
+abbrev pub keys_of : List Spot → List ℕ → List LineKey
+keys_of ps ns = flat_map (λ p. map (key_at p) ns) ps
+
+-- the line as the past says
+abbrev pub held_past : Past → LineKey → Held
+held_past past k = record { key = k; before = facts past k }
+
+-- what is known where an accepted event has been made, but for the lines: the past before it, that the plan follows it,
+-- and that the lines which it changes were read
+pub record Bears (r : register.State) (l : List Area) (st : book.State) (t : Tables) (h : Happens) (spots : List Spot) (held : List Held) : Type 0 where
+  pub settings : Settings
+  pub past : Past
+  pub desk : ℕ
+  pub legal : Legal settings past
+  pub accepted : verdict settings past h.event ≡ Ok h.answer
+  pub registered : IsRegisterOf (After (entry_of desk h) past) r
+  pub selected : AreAreasOf (After (entry_of desk h) past) l
+  pub booked : st ≡ book_of (After (entry_of desk h) past)
+  pub up : h.up ≡ up_before past h.event
+  pub flight : h.flight ≡ flight_before past h.event
+  pub downs : (b : ℕ) (c : Cell) → down_at t.lines b c ≡ is_down past b c
+  pub tables : Consistent t (facts past)
+  pub away : LeavesDown past h.event h.answer spots
+  pub keys : List LineKey
+  pub lines : held ≡ map (held_past past) keys
+  pub once : each_once key_eq keys ≡ true
+  pub rest : (k : LineKey) → list_any (key_eq k) keys ≡ false → SamePart (facts past k) (facts (After (entry_of desk h) past) k)
+
+-- the lines as they stood
+abbrev pub held_in : HeldLines → List Held
+held_in (lines.Whole held) = held.items
+held_in (lines.Steps steps) = map held_of steps.items
+
+-- the steps, if there are any, are those that what happens makes of their lines, which is no edit then
+abbrev pub AreSteps : Happens → book.State → HeldLines → Type 0
+AreSteps h st (lines.Whole held) = Unit {0}
+AreSteps h st (lines.Steps steps) = (is_edit h.event ≡ false) × (steps.items ≡ map (step_of h st) (map held_of steps.items))
+
+-- the event with its answer, as the past before it tells what happens
+abbrev pub happens_after : Past → Event → Answer → Happens
+happens_after past e a = record { event = e; answer = a; up = up_before past e; flight = flight_before past e }
+
+-- the lines that an accepted event changes were read before it, with the steps that it makes of them where it is no edit;
+-- each other line has the same part after it, and each cell away from the spots stays down, or up
+pub record WasReached (past : Past) (e : Event) (a : Answer) (spots : List Spot) (held : HeldLines) : Type 0 where
+  pub away : (settings : Settings) → Legal settings past → LeavesDown past e a spots
+  pub keys : List LineKey
+  pub lines : held_in held ≡ map (held_past past) keys
+  pub steps : AreSteps (happens_after past e a) (book_of past) held
+  pub once : each_once key_eq keys ≡ true
+  pub few : length keys ≤ size (reach_of past e a)
+  pub rest : (settings : Settings) (desk : ℕ) → Legal settings past → verdict settings past e ≡ Ok a → (k : LineKey) → list_any (key_eq k) keys ≡ false → SamePart (facts past k) (facts (After (record { desk = desk; event = e; answer = a }) past) k)
+
+-- what is known of what is kept where an accepted event has been made, but for the lines, the links and the flights
+pub record Finishes (s : Kept) (e : Event) (a : Answer) (place : ℕ) (up : Bool) (spots : List Spot) (held : HeldLines) : Type 0 where
+  pub settings : Settings
+  pub past : Past
+  pub desk : ℕ
+  pub legal : Legal settings past
+  pub accepted : verdict settings past e ≡ Ok a
+  pub registered : IsRegisterOf (After (record { desk = desk; event = e; answer = a }) past) s.register
+  pub selected : AreAreasOf (After (record { desk = desk; event = e; answer = a }) past) s.areas
+  pub booked : s.book ≡ book_of (After (record { desk = desk; event = e; answer = a }) past)
+  pub linked : AreLinksOf past s.links.items
+  pub flying : AreFlightsOf past s.flights.items
+  pub is_up : up ≡ up_before past e
+  pub is_place : place ≡ position past + 1
+  pub downs : (b : ℕ) (c : Cell) → down_at s.tables.lines b c ≡ is_down past b c
+  pub tables : Consistent s.tables (facts past)
+  pub reached : WasReached past e a spots held
+
+-- what is known where an entry is to be followed: the past before it, which it is legal after, and that what is kept is
+-- what that says
+pub record Follows (s : Kept) (e : Entry) (place : ℕ) : Type 0 where
+  pub settings : Settings
+  pub past : Past
+  pub legal : Legal settings past
+  pub accepted : verdict settings past e.event ≡ Ok e.answer
+  pub kept : IsKept past s
+  pub is_place : place ≡ position past + 1
+
+-- the journal is legal, in a centre that is set up so
+pub record IsLegal (journal : List Entry) : Type 0 where
+  pub settings : Settings
+  pub legal : Legal settings (past_of journal)

@@ -1,0 +1,305 @@
+//! The lines on which an event bears that is no edit, read before it.
+
+ghost use Rattle.std.specs.Prelude.{◌≡◌, ◌≤◌, ◌+◌, ◌*◌, ◌++◌, ◌&&◌, ◌||◌, ℕ, List, true, false, nat_eq, ltb, length, unwrap_or, IfOk, OnOk};
+ghost use Rattle.std.specs.List.{list_any};
+ghost use Rattle.std.specs.Option.{option_copied};
+ghost use Rattle.kept_tables.specs.Tables.{Tables};
+ghost use Rattle.kept_tables.specs.View.{key_at};
+ghost use Rattle.common.specs.Order.{is_ascending};
+ghost use Rattle.mirror.specs.Blank.{is_blank, line_eq};
+ghost use Rattle.mirror.specs.Table.{line_at};
+ghost use Rattle.warning_book.specs.Book.{numbers, warning_of};
+ghost use Rattle.centre_events.specs.Down.{down_mark};
+ghost use Rattle.centre_lines.specs.Following.{AreInBook, bearing, happens, is_idle, keeps_down, leaves_blank, line_now, may_change, changing_line, changing_at, changing_lines};
+ghost use Rattle.centre_past.specs.Idle.{AsBefore};
+ghost use Rattle.centre_lines.specs.Found.{AreFound, IsKnown};
+
+use crate::facts::facts_from;
+use crate::following::line_now;
+use crate::found_warnings::FoundWarnings;
+use crate::holding::{is_idle, near};
+use crate::known_spot::KnownSpot;
+use crate::plan_parts::PlanParts;
+use areas::Areas;
+use centre_events::answer::Answer;
+use centre_events::effects::down_mark;
+use centre_events::event::Event;
+use centre_events::stepping::Happening;
+use centre_past::keys::key_at;
+use kept_tables::{KeptTables, LineFacts, Spot, Step};
+use mirror::{Line, LineTable};
+use std::alloc::{AllocError, Global};
+use warning_book::{Warning, WarningId};
+
+/// Whether what happens leaves the cell down, or up, as it was.
+fn keeps_down(h: &Happening<'_, '_>, spot: &Spot, was: bool) -> bool
+    ensures { result ≡ keeps_down (down_mark spot.now.bsc spot.now.cell h.now.event.now h.now.answer.now) was }
+{
+    match down_mark(spot.bsc, spot.cell, h.event, h.answer) {
+        Some(down) => down == was,
+        None => true,
+    }
+}
+
+/// Whether what happens is an indication or a Retry, which leaves a blank line blank.
+fn leaves_blank(h: &Happening<'_, '_>) -> bool
+    ensures { result ≡ leaves_blank h.now.event.now h.now.answer.now }
+{
+    match (h.event, h.answer) {
+        (Event::Retry(_), _) => true,
+        (Event::Report(_, _, _), Answer::Listed(_)) => true,
+        _ => false,
+    }
+}
+
+/// Whether a line becomes what it was. Where no version of it was given another state, it does.
+fn is_left(line: &Line, then: &Line, stepped: bool) -> bool
+    requires { stepped ≡ false → then.now ≡ line.now }
+    ensures { result ≡ line_eq then.now line.now }
+{
+    if stepped {
+        return *then == *line;
+    }
+    true
+}
+
+/// Whether what happens leaves the line, which becomes that one, as it is, and the cell down, or up, as it was; an idle line
+/// stays so in any case.
+fn stays(
+    h: &Happening<'_, '_>,
+    areas: &Areas,
+    at: &KnownSpot<'_>,
+    warning: Option<&Warning>,
+    line: &Line,
+    then: &Line,
+    stepped: bool,
+    down: bool,
+) -> bool
+    requires stepped { stepped ≡ false → then.now ≡ line.now }
+    requires known { IsKnown areas.now at.now }
+    ensures { result ≡ (line_eq then.now line.now && (keeps_down (down_mark at.now.spot.bsc at.now.spot.cell h.now.event.now h.now.answer.now) down || is_idle areas.now (option_copied warning.entry) at.now.spot.cell line.now)) }
+{
+    is_left(line, then, stepped)
+        && (keeps_down(h, &at.spot, down) || is_idle(areas, at, warning, line))
+}
+
+/// The step from how a line stood to the line after what happens.
+fn step_of(h: &Happening<'_, '_>, spot: &Spot, n: WarningId, before: LineFacts, line: Line) -> Step
+    ensures { result ≡ record { key = key_at spot.now n; before = before; line = line; down = unwrap_or (down_mark spot.now.bsc spot.now.cell h.now.event.now h.now.answer.now) before.down } }
+{
+    let down = down_mark(spot.bsc, spot.cell, h.event, h.answer).unwrap_or(before.down);
+    Step {
+        key: key_at(spot, n),
+        before,
+        line,
+        down,
+    }
+}
+
+/// Reads a line, and holds the step that what happens makes of it, if it does not leave it as it is.
+#[tactic(auto, using(crate::proofs::FollowLemmas::facts_as, centre_past::proofs::ReadLemmas::as_read))]
+fn hold_changing_line(
+    out: &mut Vec<Step>,
+    h: &Happening<'_, '_>,
+    plan: &PlanParts<'_>,
+    found: &mut FoundWarnings<'_>,
+    tables: &mut KeptTables,
+    at: &KnownSpot<'_>,
+    n: WarningId,
+) -> Result<(), AllocError>
+    requires found { AreFound plan.now.areas.now plan.now.book.now found.old }
+    requires known { IsKnown plan.now.areas.now at.now }
+    ensures held { (t : Tables) → AsBefore t tables.old → OnOk result (out.new.items ≡ out.old.items ++ changing_line (happens h.now) plan.now.register.now plan.now.areas.now plan.now.book.now t (key_at at.now.spot n)) }
+    ensures kept { (t : Tables) → AsBefore t tables.old → AsBefore t tables.new }
+    ensures meter { tables.new.lines.meter ≤ tables.old.lines.meter + 1 }
+    ensures same { found.new ≡ found.old }
+{
+    let spot = &at.spot;
+    let line = tables.read_line(key_at(spot, n));
+    let down = tables.is_down(spot.bsc, spot.cell);
+    let warning = plan.book.find(n);
+    let mut then = line;
+    let stepped = line_now(h, plan.book.as_slice(), spot, warning, &mut then);
+    if stays(h, plan.areas, at, warning, &line, &then, stepped, down) {
+        return Ok(());
+    }
+    let before = facts_from(plan, found, at, n, down, line, warning)?;
+    out.push(step_of(h, spot, n, before, then))?;
+    Ok(())
+}
+
+/// Reads the lines of the warnings at the spot, and holds the steps of those that what happens does not leave as they are.
+fn hold_changing_spot(
+    out: &mut Vec<Step>,
+    h: &Happening<'_, '_>,
+    plan: &PlanParts<'_>,
+    found: &mut FoundWarnings<'_>,
+    tables: &mut KeptTables,
+    at: &KnownSpot<'_>,
+    warnings: &[WarningId],
+) -> Result<(), AllocError>
+    requires found { AreFound plan.now.areas.now plan.now.book.now found.old }
+    requires known { IsKnown plan.now.areas.now at.now }
+    ensures held { (t : Tables) → AsBefore t tables.old → OnOk result (out.new.items ≡ out.old.items ++ changing_at (happens h.now) plan.now.register.now plan.now.areas.now plan.now.book.now t warnings.now at.now.spot) }
+    ensures kept { (t : Tables) → AsBefore t tables.old → AsBefore t tables.new }
+    ensures meter { tables.new.lines.meter ≤ tables.old.lines.meter + length warnings.now }
+    ensures same { found.new ≡ found.old }
+{
+    for warning in warnings {
+        hold_changing_line(out, h, plan, found, tables, at, *warning)?;
+    }
+    Ok(())
+}
+
+/// Reads the lines of those of the warnings that are near the cell at the BSC, and holds the steps of those that what happens
+/// does not leave as they are. What leaves a blank line blank leaves the lines of the others as they are: they are idle.
+fn hold_changing_near(
+    out: &mut Vec<Step>,
+    alloc: Global,
+    h: &Happening<'_, '_>,
+    plan: &PlanParts<'_>,
+    found: &mut FoundWarnings<'_>,
+    tables: &mut KeptTables,
+    spot: &Spot,
+    warnings: &[WarningId],
+) -> Result<(), AllocError>
+    requires blank { leaves_blank h.now.event.now h.now.answer.now ≡ true }
+    requires found { AreFound plan.now.areas.now plan.now.book.now found.old }
+    ensures held { (t : Tables) → AsBefore t tables.old → OnOk result (out.new.items ≡ out.old.items ++ changing_at (happens h.now) plan.now.register.now plan.now.areas.now plan.now.book.now t warnings.now spot.now) }
+    ensures kept { (t : Tables) → AsBefore t tables.old → AsBefore t tables.new }
+    ensures meter { tables.new.lines.meter ≤ tables.old.lines.meter + length warnings.now }
+    ensures same { found.new ≡ found.old }
+{
+    let near = near(alloc, plan, tables.lines(), spot, warnings)?;
+    let at = KnownSpot::covered(*spot, near.covering.as_slice());
+    let near = near.warnings.as_slice();
+    hold_changing_spot(out, h, plan, found, tables, &at, near)?;
+    Ok(())
+}
+
+/// The warnings whose lines at the spot may be changed by an indication, which leaves blank lines blank, or by a Retry, which
+/// leaves lines that aren't held. They are in ascending order. No line is read.
+fn indicated(
+    h: &Happening<'_, '_>,
+    lines: &LineTable,
+    spot: &Spot,
+) -> Result<Vec<WarningId>, AllocError>
+    ensures which { IfOk result (λ ws. (n : ℕ) → list_any (nat_eq n) ws.items ≡ may_change h.now.event.now (line_at lines.now spot.now.bsc spot.now.cell n)) }
+    ensures order { IfOk result (λ ws. is_ascending ltb ws.items ≡ true) }
+    ensures few { IfOk result (λ ws. (ns : List ℕ) → ((n : ℕ) → is_blank (line_at lines.now spot.now.bsc spot.now.cell n) ≡ false → list_any (nat_eq n) ns ≡ true) → length ws.items ≤ length ns) }
+{
+    match h.event {
+        Event::Retry(_) => lines.held_at(spot.bsc, spot.cell),
+        _ => lines.warnings_at(spot.bsc, spot.cell),
+    }
+}
+
+/// Reads the lines at the spot that an indication or a Retry may change, and holds those that it does not leave as they are.
+/// Where it brings the cell down, or up, the lines of all warnings that are near the cell are read.
+fn hold_indicated_spot(
+    out: &mut Vec<Step>,
+    alloc: Global,
+    h: &Happening<'_, '_>,
+    plan: &PlanParts<'_>,
+    found: &mut FoundWarnings<'_>,
+    tables: &mut KeptTables,
+    spot: &Spot,
+    all: &[WarningId],
+) -> Result<(), AllocError>
+    requires blank { leaves_blank h.now.event.now h.now.answer.now ≡ true }
+    requires all { all.now ≡ numbers plan.now.book.now.warnings }
+    requires found { AreFound plan.now.areas.now plan.now.book.now found.old }
+    ensures held { (t : Tables) → AsBefore t tables.old → OnOk result (out.new.items ≡ out.old.items ++ changing_at (happens h.now) plan.now.register.now plan.now.areas.now plan.now.book.now t all.now spot.now) }
+    ensures kept { (t : Tables) → AsBefore t tables.old → AsBefore t tables.new }
+    ensures meter { AreInBook plan.now.book.now tables.old → tables.new.lines.meter ≤ tables.old.lines.meter + length all.now }
+    ensures same { found.new ≡ found.old }
+{
+    plan.book.tell_soundness();
+    if !keeps_down(h, spot, tables.is_down(spot.bsc, spot.cell)) {
+        return hold_changing_near(out, alloc, h, plan, found, tables, spot, all);
+    }
+    let indicated = indicated(h, tables.lines(), spot)?;
+    let indicated = indicated.as_slice();
+    let at = KnownSpot {
+        spot: *spot,
+        covering: None,
+    };
+    hold_changing_spot(out, h, plan, found, tables, &at, indicated)?;
+    Ok(())
+}
+
+/// Reads the lines at each of the spots that an indication or a Retry may change, and holds those that it does not leave as
+/// they are.
+fn hold_indicated(
+    alloc: Global,
+    h: &Happening<'_, '_>,
+    plan: &PlanParts<'_>,
+    found: &mut FoundWarnings<'_>,
+    tables: &mut KeptTables,
+    spots: &[Spot],
+) -> Result<Vec<Step>, AllocError>
+    requires blank { leaves_blank h.now.event.now h.now.answer.now ≡ true }
+    requires found { AreFound plan.now.areas.now plan.now.book.now found.old }
+    ensures held { (t : Tables) → AsBefore t tables.old → IfOk result (λ v. v.items ≡ changing_lines (happens h.now) plan.now.register.now plan.now.areas.now plan.now.book.now t spots.now (numbers plan.now.book.now.warnings)) }
+    ensures kept { (t : Tables) → AsBefore t tables.old → AsBefore t tables.new }
+    ensures meter { AreInBook plan.now.book.now tables.old → tables.new.lines.meter ≤ tables.old.lines.meter + length spots.now * length (numbers plan.now.book.now.warnings) }
+{
+    let all = plan.book.warnings()?;
+    let mut out = Vec::with_capacity(alloc, spots.len())?;
+    for spot in spots {
+        let all = all.as_slice();
+        hold_indicated_spot(&mut out, alloc, h, plan, found, tables, spot, all)?;
+    }
+    Ok(out)
+}
+
+/// Reads the lines of each of the warnings at each of the spots, and holds those that what happens does not leave as they
+/// are.
+fn hold_named(
+    alloc: Global,
+    h: &Happening<'_, '_>,
+    plan: &PlanParts<'_>,
+    found: &mut FoundWarnings<'_>,
+    tables: &mut KeptTables,
+    spots: &[Spot],
+    warnings: &[WarningId],
+) -> Result<Vec<Step>, AllocError>
+    requires found { AreFound plan.now.areas.now plan.now.book.now found.old }
+    ensures held { (t : Tables) → AsBefore t tables.old → IfOk result (λ v. v.items ≡ changing_lines (happens h.now) plan.now.register.now plan.now.areas.now plan.now.book.now t spots.now warnings.now) }
+    ensures kept { (t : Tables) → AsBefore t tables.old → AsBefore t tables.new }
+    ensures meter { tables.new.lines.meter ≤ tables.old.lines.meter + length spots.now * length warnings.now }
+{
+    let mut out = Vec::with_capacity(alloc, spots.len())?;
+    for spot in spots {
+        let at = KnownSpot {
+            spot: *spot,
+            covering: None,
+        };
+        hold_changing_spot(&mut out, h, plan, found, tables, &at, warnings)?;
+    }
+    Ok(out)
+}
+
+/// Reads the lines at the spots on which what happens bears, and holds those that it does not leave as they are. The
+/// warnings are those that were found; an indication and a Retry bear on all.
+pub(crate) fn hold_changing(
+    alloc: Global,
+    h: &Happening<'_, '_>,
+    plan: &PlanParts<'_>,
+    found: &mut FoundWarnings<'_>,
+    tables: &mut KeptTables,
+    spots: &[Spot],
+    warnings: &[WarningId],
+) -> Result<Vec<Step>, AllocError>
+    requires found { AreFound plan.now.areas.now plan.now.book.now found.old }
+    ensures held { (t : Tables) → AsBefore t tables.old → IfOk result (λ v. v.items ≡ changing_lines (happens h.now) plan.now.register.now plan.now.areas.now plan.now.book.now t spots.now (bearing h.now.event.now h.now.answer.now plan.now.book.now warnings.now)) }
+    ensures kept { (t : Tables) → AsBefore t tables.old → AsBefore t tables.new }
+    ensures meter { AreInBook plan.now.book.now tables.old → tables.new.lines.meter ≤ tables.old.lines.meter + length spots.now * length (bearing h.now.event.now h.now.answer.now plan.now.book.now warnings.now) }
+{
+    if leaves_blank(h) {
+        let held = hold_indicated(alloc, h, plan, found, tables, spots)?;
+        return Ok(held);
+    }
+    let held = hold_named(alloc, h, plan, found, tables, spots, warnings)?;
+    Ok(held)
+}

@@ -1,0 +1,153 @@
+//! What is read of one line, from what a centre keeps.
+
+ghost use Rattle.std.specs.Prelude.{◌≡◌, ◌<◌, ◌&&◌, true, List, length, Some, None, filter, map, IfOk, if◌then◌else◌};
+ghost use Rattle.std.specs.List.{list_any, slice_index_or};
+ghost use Rattle.std.specs.Option.{option_copied};
+ghost use Rattle.areas.specs.Areas.{covers, selectors_of};
+ghost use Rattle.areas.specs.declared.selector.Selector.{Selector};
+ghost use Rattle.cell_register.specs.Register.{place_in, is_place};
+ghost use Rattle.coverage_board.specs.Parts.{has_area};
+ghost use Rattle.warning_book.specs.Book.{current_of};
+ghost use Rattle.centre_lines.specs.Found.{IsFound, IsFoundOf, IsKnown};
+ghost use Rattle.centre_past.specs.State.{covered_facts, facts_from};
+ghost use Rattle.centre_events.specs.Warnings.{serials};
+
+use crate::found_warnings::FoundWarnings;
+use crate::known_spot::KnownSpot;
+use crate::plan_parts::PlanParts;
+use areas::{Areas, Coverage};
+use cell_register::Register;
+use common::{Cell, Name};
+use kept_tables::{AreaNames, LineFacts, Serials, Spot};
+use mirror::Line;
+use serials::Serial;
+use std::alloc::AllocError;
+use warning_book::{Warning, WarningId};
+
+/// Whether the area covers the cell, by what was found of it, if anything was.
+pub(crate) fn covers_at(
+    areas: &Areas,
+    name: &Name,
+    coverages: &[Coverage<'_>],
+    i: usize,
+    c: Cell,
+) -> bool
+    requires { i < length coverages.now → (x : List Selector) → x ≡ slice_index_or coverages.now i x → x ≡ selectors_of areas.now name.now }
+    ensures { result ≡ covers areas.now name.now c }
+{
+    if i < coverages.len() {
+        return coverages[i].covers(c);
+    }
+    areas.covers(name, c)
+}
+
+/// Whether the name is among all these.
+pub(crate) fn is_among(all: &[Name], name: &Name) -> bool
+    ensures { result ≡ has_area all.now name.now }
+{
+    all.iter().any(|other| *other == *name)
+}
+
+/// Whether one of the names is among all these.
+fn is_one_among(names: &[Name], all: &[Name]) -> bool
+    ensures { result ≡ list_any (has_area all.now) names.now }
+{
+    names.iter().any(|name| is_among(all, name))
+}
+
+/// Whether one of the areas covers the cell.
+pub(crate) fn is_covered(areas: &Areas, names: &[Name], at: &KnownSpot<'_>) -> bool
+    requires { IsKnown areas.now at.now }
+    ensures { result ≡ list_any (λ a. covers areas.now a at.now.spot.cell) names.now }
+{
+    let c = at.spot.cell;
+    match at.covering {
+        Some(all) => is_one_among(names, all),
+        None => names.iter().any(|name| areas.covers(name, c)),
+    }
+}
+
+/// The serial number that is wanted in a cell that is registered at the BSC or isn't, and covered or isn't.
+fn wanted(w: &Warning, here: bool, covered: bool) -> Option<Serial>
+    ensures { result ≡ (if w.now.active && (here && covered) then current_of w.now else None) }
+{
+    if w.is_active() && here && covered {
+        w.serial()
+    } else {
+        None
+    }
+}
+
+/// What is read of the line of a warning in a cell that is down or not, where these are those of its areas that cover the
+/// cell, and the serial numbers of its versions.
+#[inline(always)]
+pub(crate) fn covered_facts(
+    register: &Register,
+    found: &mut FoundWarnings<'_>,
+    spot: &Spot,
+    down: bool,
+    line: Line,
+    w: &Warning,
+    covering: AreaNames,
+    versions: Serials,
+) -> Result<LineFacts, AllocError>
+    requires { versions ≡ serials w.now }
+    ensures facts { IfOk result (λ f. f ≡ covered_facts register.now down spot.now.bsc spot.now.cell line covering (Some w.now)) }
+    ensures same { found.new ≡ found.old }
+{
+    let here = found.is_here(register, spot);
+    let wanted = wanted(w, here, !covering.as_slice().is_empty());
+    Ok(LineFacts {
+        line,
+        message_id: w.message_id(),
+        versions,
+        wanted,
+        down,
+        areas: covering,
+        here,
+        active: w.is_active(),
+    })
+}
+
+/// What is read of the line of a warning, which has that number, in a cell that is down or not.
+fn facts_of(
+    plan: &PlanParts<'_>,
+    found: &mut FoundWarnings<'_>,
+    at: &KnownSpot<'_>,
+    n: WarningId,
+    down: bool,
+    line: Line,
+    w: &Warning,
+) -> Result<LineFacts, AllocError>
+    requires found { IsFound plan.now.areas.now w.now n found.old }
+    requires known { IsKnown plan.now.areas.now at.now }
+    ensures facts { IfOk result (λ f. f ≡ facts_from plan.now.register.now plan.now.areas.now down at.now.spot.bsc at.now.spot.cell line (Some w.now)) }
+    ensures same { found.new ≡ found.old }
+{
+    let register = plan.register;
+    let covering = found.covering(plan.areas, n, w, at)?;
+    let versions = found.serials_of(n, w)?;
+    let facts = covered_facts(register, found, &at.spot, down, line, w, covering, versions)?;
+    Ok(facts)
+}
+
+/// What is read of the line of a warning of that number, if the book has it, in a cell that is down or not.
+pub(crate) fn facts_from(
+    plan: &PlanParts<'_>,
+    found: &mut FoundWarnings<'_>,
+    at: &KnownSpot<'_>,
+    n: WarningId,
+    down: bool,
+    line: Line,
+    warning: Option<&Warning>,
+) -> Result<LineFacts, AllocError>
+    requires found { IsFoundOf plan.now.areas.now (option_copied warning) n found.old }
+    requires known { IsKnown plan.now.areas.now at.now }
+    ensures facts { IfOk result (λ f. f ≡ facts_from plan.now.register.now plan.now.areas.now down at.now.spot.bsc at.now.spot.cell line (option_copied warning.entry)) }
+    ensures same { found.new ≡ found.old }
+{
+    match warning {
+        Some(w) => facts_of(plan, found, at, n, down, line, w),
+        None => Ok(LineFacts::none(down, found.is_here(plan.register, &at.spot))),
+    }
+}

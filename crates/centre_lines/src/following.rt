@@ -1,0 +1,252 @@
+//! How what is kept follows an event: the lines that it changes are changed after it.
+
+ghost use Rattle.std.specs.Prelude.{◌≡◌, ℕ, ◌≤◌, ◌+◌, ◌++◌, ◌∷◌, ◌&&◌, [], true, false, not, nat_eq, length, map, IfOk, OnOk};
+ghost use Rattle.common.specs.declared.cell.Cell.{Cell};
+ghost use Rattle.kept_tables.specs.Changes.{Begins, IsNext, mixed};
+ghost use Rattle.kept_tables.specs.Consistent.{Consistent};
+ghost use Rattle.mirror.specs.Table.{down_at};
+ghost use Rattle.centre_events.specs.Down.{is_down};
+ghost use Rattle.centre_past.specs.Facts.{facts};
+ghost use Rattle.centre_events.specs.Past.{After};
+ghost use Rattle.std.specs.Option.{option_copied};
+ghost use Rattle.centre_lines.specs.Following.{AreCovered, AreSteps, Bears, entry_of, happens, held_in, line_now, facts_then, change_of, covered_change, leaves_areas_then, leaves_lines};
+ghost use Rattle.centre_lines.specs.Found.{AreFound};
+ghost use Rattle.centre_past.specs.State.{AreCovering};
+ghost use Rattle.warning_book.specs.Book.{warning_of};
+
+use crate::downs::mark_downs;
+use crate::facts::{covered_facts, facts_from};
+use crate::found_warnings::{FoundWarnings, find};
+use crate::held::Held;
+use crate::held_lines::HeldLines;
+use crate::known_spot::KnownSpot;
+use crate::plan_parts::PlanParts;
+use centre_events::event::Event;
+use centre_events::stepping::{Happening, step_line};
+use coverage_plan::Edit;
+use kept_tables::{KeptTables, LineFacts, Spot, Stays};
+use mirror::{Line, LineKey};
+use std::alloc::{AllocError, Global};
+use warning_book::{Warning, WarningId};
+
+/// Whether what happens is an edit that leaves every line as it is: each but the end of a BSC and a Forget.
+fn leaves_lines(h: &Happening<'_, '_>) -> bool
+    ensures { result ≡ leaves_lines h.now.event.now }
+{
+    match h.event {
+        Event::Edit(Edit::RemoveBsc(_) | Edit::Forget(_)) => false,
+        Event::Edit(_) => true,
+        _ => false,
+    }
+}
+
+/// Makes of the line what it is after what happens, of a warning if the book has it. At `false` it stayed as it was.
+#[tactic(auto, using(crate::proofs::BlankLineLemmas::edit_leaves))]
+#[inline(always)]
+pub(crate) fn line_now(
+    h: &Happening<'_, '_>,
+    warnings: &[Warning],
+    spot: &Spot,
+    warning: Option<&Warning>,
+    line: &mut Line,
+) -> bool
+    ensures line { line.new ≡ line_now (happens h.now) warnings.now spot.now.bsc spot.now.cell (option_copied warning.entry) line.old }
+    ensures stays { result ≡ false → line.new ≡ line.old }
+{
+    match warning {
+        Some(w) if !leaves_lines(h) => step_line(
+            h,
+            spot.bsc,
+            spot.cell,
+            w.message_id(),
+            w.versions(),
+            warnings,
+            line,
+        ),
+        _ => false,
+    }
+}
+
+/// What is read of a line after what happens.
+fn facts_then(
+    h: &Happening<'_, '_>,
+    plan: &PlanParts<'_>,
+    found: &mut FoundWarnings<'_>,
+    tables: &KeptTables,
+    held: &Held,
+) -> Result<LineFacts, AllocError>
+    requires found { AreFound plan.now.areas.now plan.now.book.now found.old }
+    ensures facts { IfOk result (λ f. f ≡ facts_then (happens h.now) plan.now.register.now plan.now.areas.now plan.now.book.now tables.now held.now.key held.now.before.line) }
+    ensures same { found.new ≡ found.old }
+{
+    let LineKey { bsc, cell, warning } = held.key;
+    let at = KnownSpot {
+        spot: Spot { bsc, cell },
+        covering: None,
+    };
+    let n = warning;
+    let warning = plan.book.find(n);
+    let mut line = held.before.line;
+    line_now(h, plan.book.as_slice(), &at.spot, warning, &mut line);
+    let down = tables.is_down(bsc, cell);
+    facts_from(plan, found, &at, n, down, line, warning)
+}
+
+/// What is read of a line after an edit that leaves the areas that cover its cell.
+fn covered_then(
+    h: &Happening<'_, '_>,
+    plan: &PlanParts<'_>,
+    found: &mut FoundWarnings<'_>,
+    tables: &KeptTables,
+    held: &Held,
+) -> Result<LineFacts, AllocError>
+    requires found { AreFound plan.now.areas.now plan.now.book.now found.old }
+    ensures facts { IfOk result (λ f. f ≡ (covered_change (happens h.now) plan.now.register.now plan.now.book.now tables.now held.now).after) }
+    ensures same { found.new ≡ found.old }
+{
+    let LineKey { bsc, cell, warning } = held.key;
+    let spot = Spot { bsc, cell };
+    let n = warning;
+    let warning = plan.book.find(n);
+    let mut line = held.before.line;
+    line_now(h, plan.book.as_slice(), &spot, warning, &mut line);
+    let down = tables.is_down(bsc, cell);
+    let register = plan.register;
+    match warning {
+        Some(w) => {
+            let covering = held.before.areas.shared()?;
+            let versions = found.serials_of(n, w)?;
+            covered_facts(register, found, &spot, down, line, w, covering, versions)
+        }
+        None => Ok(LineFacts::none(down, found.is_here(register, &spot))),
+    }
+}
+
+/// Whether what happens is an edit that leaves which areas cover each cell, and which areas each warning has.
+fn leaves_areas(h: &Happening<'_, '_>) -> bool
+    ensures { result ≡ leaves_areas_then h.now.event.now }
+{
+    match h.event {
+        Event::Edit(edit) => matches!(
+            edit,
+            Edit::RemoveBsc(_)
+                | Edit::AddCell(_, _)
+                | Edit::MoveCell(_, _)
+                | Edit::RemoveCell(_)
+                | Edit::Update(_, _)
+                | Edit::Stop(_)
+        ),
+        _ => false,
+    }
+}
+
+/// What is read of a line after an edit, from how it stood.
+fn then_of(
+    h: &Happening<'_, '_>,
+    plan: &PlanParts<'_>,
+    found: &mut FoundWarnings<'_>,
+    tables: &KeptTables,
+    held: &Held,
+) -> Result<LineFacts, AllocError>
+    requires found { AreFound plan.now.areas.now plan.now.book.now found.old }
+    requires covered { leaves_areas_then h.now.event.now ≡ true → AreCovering plan.now.areas.now held.now.key.cell held.now.before.areas (warning_of plan.now.book.now held.now.key.warning) }
+    ensures facts { IfOk result (λ f. f ≡ facts_then (happens h.now) plan.now.register.now plan.now.areas.now plan.now.book.now tables.now held.now.key held.now.before.line) }
+    ensures same { found.new ≡ found.old }
+{
+    if leaves_areas(h) {
+        let facts = covered_then(h, plan, found, tables, held)?;
+        return Ok(facts);
+    }
+    facts_then(h, plan, found, tables, held)
+}
+
+/// Whether the line itself is known to stay: what happens leaves every line as it is, and the warning is in the book, since
+/// the line has versions.
+fn line_stays(h: &Happening<'_, '_>, after: &LineFacts) -> bool
+    ensures { result ≡ (leaves_lines h.now.event.now && not (nat_eq (length after.now.versions) 0)) }
+{
+    leaves_lines(h) && !after.versions.as_slice().is_empty()
+}
+
+/// Whether the areas that cover the cell are known to stay: what happens leaves them, and the warning is in the book, since
+/// the line has versions.
+fn areas_stay(h: &Happening<'_, '_>, after: &LineFacts) -> bool
+    ensures { result ≡ (leaves_areas_then h.now.event.now && not (nat_eq (length after.now.versions) 0)) }
+{
+    leaves_areas(h) && !after.versions.as_slice().is_empty()
+}
+
+/// Changes a line by an edit, from how it stood. It is the next of the lines that the edit changes.
+fn change_line(
+    h: &Happening<'_, '_>,
+    plan: &PlanParts<'_>,
+    found: &mut FoundWarnings<'_>,
+    tables: &mut KeptTables,
+    held: &Held,
+) -> Result<(), AllocError>
+    requires found { AreFound plan.now.areas.now plan.now.book.now found.old }
+    requires covered { leaves_areas_then h.now.event.now ≡ true → AreCovering plan.now.areas.now held.now.key.cell held.now.before.areas (warning_of plan.now.book.now held.now.key.warning) }
+    requires next { IsNext tables.old (change_of (happens h.now) plan.now.register.now plan.now.areas.now plan.now.book.now tables.old held.now) }
+    ensures made { OnOk result ((n : IsNext tables.old (change_of (happens h.now) plan.now.register.now plan.now.areas.now plan.now.book.now tables.old held.now)) → Consistent tables.new (mixed n.begins.from n.begins.to (n.done ++ change_of (happens h.now) plan.now.register.now plan.now.areas.now plan.now.book.now tables.old held.now ∷ []))) }
+    ensures downs { tables.new.lines.downs ≡ tables.old.lines.downs }
+    ensures meter { tables.new.lines.meter ≤ tables.old.lines.meter + 1 }
+    ensures least { tables.old.lines.meter ≤ tables.new.lines.meter }
+    ensures same { found.new ≡ found.old }
+{
+    let after = then_of(h, plan, found, tables, held)?;
+    let stays = Stays {
+        line: line_stays(h, &after),
+        areas: areas_stay(h, &after),
+    };
+    tables.make(&held.key, &held.before, &after, stays)
+}
+
+/// Changes the lines by an edit, from how they stood.
+fn change_lines(
+    h: &Happening<'_, '_>,
+    plan: &PlanParts<'_>,
+    found: &mut FoundWarnings<'_>,
+    tables: &mut KeptTables,
+    held: &[Held],
+) -> Result<(), AllocError>
+    requires found { AreFound plan.now.areas.now plan.now.book.now found.old }
+    requires covered { leaves_areas_then h.now.event.now ≡ true → AreCovered plan.now.areas.now plan.now.book.now held.now }
+    requires begins { Begins tables.old (map (change_of (happens h.now) plan.now.register.now plan.now.areas.now plan.now.book.now tables.old) held.now) }
+    ensures made { OnOk result ((b : Begins tables.old (map (change_of (happens h.now) plan.now.register.now plan.now.areas.now plan.now.book.now tables.old) held.now)) → Consistent tables.new (mixed b.from b.to (map (change_of (happens h.now) plan.now.register.now plan.now.areas.now plan.now.book.now tables.old) held.now))) }
+    ensures downs { tables.new.lines.downs ≡ tables.old.lines.downs }
+    ensures meter { tables.new.lines.meter ≤ tables.old.lines.meter + length held.now }
+    ensures least { tables.old.lines.meter ≤ tables.new.lines.meter }
+{
+    for line in held {
+        change_line(h, plan, found, tables, line)?;
+    }
+    Ok(())
+}
+
+/// Changes the lines on which an event bears that has been made, from how they stood. At an `Err` memory ran out, and
+/// the tables are of no use any more.
+pub fn bear(
+    alloc: Global,
+    h: &Happening<'_, '_>,
+    plan: &PlanParts<'_>,
+    tables: &mut KeptTables,
+    spots: &[Spot],
+    warnings: &[WarningId],
+    lines: HeldLines,
+) -> Result<(), AllocError>
+    requires bears { Bears plan.now.register.now plan.now.areas.now plan.now.book.now tables.old (happens h.now) spots.now (held_in lines) }
+    requires steps { AreSteps (happens h.now) plan.now.book.now lines }
+    ensures tables { OnOk result ((x : Bears plan.now.register.now plan.now.areas.now plan.now.book.now tables.old (happens h.now) spots.now (held_in lines)) → Consistent tables.new (facts (After (entry_of x.desk (happens h.now)) x.past))) }
+    ensures downs { OnOk result ((x : Bears plan.now.register.now plan.now.areas.now plan.now.book.now tables.old (happens h.now) spots.now (held_in lines)) → (b : ℕ) (c : Cell) → down_at tables.new.lines b c ≡ is_down (After (entry_of x.desk (happens h.now)) x.past) b c) }
+    ensures meter { tables.new.lines.meter ≤ tables.old.lines.meter + length (held_in lines) }
+    ensures least { tables.old.lines.meter ≤ tables.new.lines.meter }
+{
+    mark_downs(tables, spots, h.event, h.answer)?;
+    match lines {
+        HeldLines::Whole(held) => {
+            let mut found = find(alloc, plan, warnings, spots.len())?;
+            change_lines(h, plan, &mut found, tables, held.as_slice())
+        }
+        HeldLines::Steps(steps) => tables.take_steps(steps.as_slice()),
+    }
+}

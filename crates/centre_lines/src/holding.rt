@@ -1,0 +1,283 @@
+//! The lines on which an edit bears, read before it.
+
+ghost use Rattle.std.specs.Prelude.{◌≡◌, ◌≤◌, ◌+◌, ◌*◌, ◌++◌, true, length, nat_eq, IfOk, OnOk};
+ghost use Rattle.std.specs.List.{filter, flat_map, list_any};
+ghost use Rattle.std.specs.Option.{option_copied};
+ghost use Rattle.areas.specs.Areas.{areas_of};
+ghost use Rattle.kept_tables.specs.Tables.{Tables};
+ghost use Rattle.kept_tables.specs.View.{key_at};
+ghost use Rattle.centre_past.specs.Idle.{AsBefore};
+ghost use Rattle.centre_lines.specs.Following.{held_unless, held_at, held_lines, is_idle, is_near, leaves_cover, passed_over};
+ghost use Rattle.centre_past.specs.Reaching.{is_forget};
+ghost use Rattle.centre_lines.specs.Found.{AreFound, IsKnown};
+
+use crate::facts::{facts_from, is_covered};
+use crate::found_warnings::FoundWarnings;
+use crate::held::Held;
+use crate::known_spot::KnownSpot;
+use crate::plan_parts::PlanParts;
+use areas::Areas;
+use centre_past::keys::key_at;
+use common::Names;
+use coverage_plan::Edit;
+use kept_tables::{KeptTables, LineFacts, Spot};
+use mirror::{Line, LineKey, LineTable};
+use std::alloc::{AllocError, Global};
+use warning_book::{Warning, WarningId};
+
+/// Room for as many lines as most cells have.
+const FEW: usize = 32;
+
+/// A line as it stood.
+fn held_of(spot: &Spot, n: WarningId, before: LineFacts) -> Held
+    ensures { result ≡ record { key = key_at spot.now n; before = before } }
+{
+    Held {
+        key: key_at(spot, n),
+        before,
+    }
+}
+
+/// Whether nothing is kept of the line of a warning, and none of its areas covers the cell.
+pub(crate) fn is_idle(
+    areas: &Areas,
+    at: &KnownSpot<'_>,
+    warning: Option<&Warning>,
+    line: &Line,
+) -> bool
+    requires { IsKnown areas.now at.now }
+    ensures { result ≡ is_idle areas.now (option_copied warning.entry) at.now.spot.cell line.now }
+{
+    match warning {
+        Some(w) => line.is_blank() && !is_covered(areas, w.areas(), at),
+        None => true,
+    }
+}
+
+/// Whether the warning is one of those.
+fn is_listed(n: WarningId, warnings: &[WarningId]) -> bool
+    ensures { result ≡ list_any (nat_eq n) warnings.now }
+{
+    warnings.iter().any(|other| n == *other)
+}
+
+/// Whether the edit leaves what each area covers, and which areas a warning has.
+fn leaves_cover(edit: &Edit) -> bool
+    ensures { result ≡ leaves_cover edit.now }
+{
+    matches!(
+        edit,
+        Edit::RemoveBsc(_) | Edit::AddCell(_, _) | Edit::MoveCell(_, _) | Edit::RemoveCell(_)
+    )
+}
+
+/// Whether the edit forgets a warning.
+fn is_forget(edit: &Edit) -> bool
+    ensures { result ≡ is_forget edit.now }
+{
+    matches!(edit, Edit::Forget(_))
+}
+
+/// Whether the edit leaves a line without a part. A warning that is forgotten isn't active, so that a blank line of it has
+/// none, whatever its areas cover.
+fn is_passed_over(
+    edit: &Edit,
+    areas: &Areas,
+    at: &KnownSpot<'_>,
+    warning: Option<&Warning>,
+    line: &Line,
+) -> bool
+    requires { IsKnown areas.now at.now }
+    ensures { result ≡ passed_over edit.now areas.now (option_copied warning.entry) at.now.spot.cell line.now }
+{
+    if is_forget(edit) {
+        return line.is_blank();
+    }
+    leaves_cover(edit) && is_idle(areas, at, warning, line)
+}
+
+/// Reads a line, and holds it, unless it is passed over.
+#[tactic(auto, using(crate::proofs::FollowLemmas::facts_as, centre_past::proofs::ReadLemmas::as_read))]
+fn hold_line(
+    out: &mut Vec<Held>,
+    plan: &PlanParts<'_>,
+    found: &mut FoundWarnings<'_>,
+    tables: &mut KeptTables,
+    at: &KnownSpot<'_>,
+    n: WarningId,
+    edit: &Edit,
+) -> Result<(), AllocError>
+    requires found { AreFound plan.now.areas.now plan.now.book.now found.old }
+    requires known { IsKnown plan.now.areas.now at.now }
+    ensures held { (t : Tables) → AsBefore t tables.old → OnOk result (out.new.items ≡ out.old.items ++ held_unless edit.now plan.now.register.now plan.now.areas.now plan.now.book.now t (key_at at.now.spot n)) }
+    ensures kept { (t : Tables) → AsBefore t tables.old → AsBefore t tables.new }
+    ensures meter { tables.new.lines.meter ≤ tables.old.lines.meter + 1 }
+    ensures same { found.new ≡ found.old }
+{
+    let line = tables.read_line(key_at(&at.spot, n));
+    let warning = plan.book.find(n);
+    if is_passed_over(edit, plan.areas, at, warning, &line) {
+        return Ok(());
+    }
+    let down = tables.is_down(at.spot.bsc, at.spot.cell);
+    let before = facts_from(plan, found, at, n, down, line, warning)?;
+    out.push(held_of(&at.spot, n, before))?;
+    Ok(())
+}
+
+/// Reads the lines of the warnings at the spot.
+fn hold_spot(
+    out: &mut Vec<Held>,
+    plan: &PlanParts<'_>,
+    found: &mut FoundWarnings<'_>,
+    tables: &mut KeptTables,
+    at: &KnownSpot<'_>,
+    warnings: &[WarningId],
+    edit: &Edit,
+) -> Result<(), AllocError>
+    requires found { AreFound plan.now.areas.now plan.now.book.now found.old }
+    requires known { IsKnown plan.now.areas.now at.now }
+    ensures held { (t : Tables) → AsBefore t tables.old → OnOk result (out.new.items ≡ out.old.items ++ held_at edit.now plan.now.register.now plan.now.areas.now plan.now.book.now t warnings.now at.now.spot) }
+    ensures kept { (t : Tables) → AsBefore t tables.old → AsBefore t tables.new }
+    ensures meter { tables.new.lines.meter ≤ tables.old.lines.meter + length warnings.now }
+    ensures same { found.new ≡ found.old }
+{
+    for warning in warnings {
+        hold_line(out, plan, found, tables, at, *warning, edit)?;
+    }
+    Ok(())
+}
+
+/// The warnings near a cell at a BSC, and all areas that cover the cell.
+#[derive(Drop)]
+pub(crate) struct NearCell {
+    pub(crate) warnings: Vec<WarningId>,
+    pub(crate) covering: Names,
+}
+
+/// Those of the warnings of which something is kept at the spot, or of which an area covers its cell. No line is read.
+pub(crate) fn near(
+    alloc: Global,
+    plan: &PlanParts<'_>,
+    lines: &LineTable,
+    spot: &Spot,
+    warnings: &[WarningId],
+) -> Result<NearCell, AllocError>
+    ensures warnings { IfOk result (λ v. v.warnings.items ≡ filter (is_near plan.now.areas.now plan.now.book.now lines.now spot.now.bsc spot.now.cell) warnings.now) }
+    ensures covering { IfOk result (λ v. v.covering ≡ areas_of plan.now.areas.now spot.now.cell) }
+{
+    let kept = lines.warnings_at(spot.bsc, spot.cell)?;
+    let covering = plan.areas.areas_of(spot.cell)?;
+    let named = plan.book.naming_one_of(covering.as_slice())?;
+    let mut near = Vec::with_capacity(alloc, warnings.len())?;
+    for warning in warnings {
+        if is_listed(*warning, kept.as_slice()) || is_listed(*warning, named.as_slice()) {
+            near.push(*warning)?;
+        }
+    }
+    Ok(NearCell {
+        warnings: near,
+        covering,
+    })
+}
+
+/// Reads the lines of those of the warnings that are near the cell at the BSC, and holds those that are not passed over. The
+/// lines of the others are idle.
+fn hold_near(
+    out: &mut Vec<Held>,
+    alloc: Global,
+    plan: &PlanParts<'_>,
+    found: &mut FoundWarnings<'_>,
+    tables: &mut KeptTables,
+    spot: &Spot,
+    warnings: &[WarningId],
+    edit: &Edit,
+) -> Result<(), AllocError>
+    requires cover { leaves_cover edit.now ≡ true }
+    requires found { AreFound plan.now.areas.now plan.now.book.now found.old }
+    ensures held { (t : Tables) → AsBefore t tables.old → OnOk result (out.new.items ≡ out.old.items ++ held_at edit.now plan.now.register.now plan.now.areas.now plan.now.book.now t warnings.now spot.now) }
+    ensures kept { (t : Tables) → AsBefore t tables.old → AsBefore t tables.new }
+    ensures meter { tables.new.lines.meter ≤ tables.old.lines.meter + length warnings.now }
+    ensures same { found.new ≡ found.old }
+{
+    let near = near(alloc, plan, tables.lines(), spot, warnings)?;
+    let at = KnownSpot::covered(*spot, near.covering.as_slice());
+    let near = near.warnings.as_slice();
+    hold_spot(out, plan, found, tables, &at, near, edit)?;
+    Ok(())
+}
+
+/// Reads the lines at the spot, and holds those that are not passed over.
+fn hold_there(
+    out: &mut Vec<Held>,
+    alloc: Global,
+    plan: &PlanParts<'_>,
+    found: &mut FoundWarnings<'_>,
+    tables: &mut KeptTables,
+    spot: &Spot,
+    warnings: &[WarningId],
+    edit: &Edit,
+) -> Result<(), AllocError>
+    requires found { AreFound plan.now.areas.now plan.now.book.now found.old }
+    ensures held { (t : Tables) → AsBefore t tables.old → OnOk result (out.new.items ≡ out.old.items ++ held_at edit.now plan.now.register.now plan.now.areas.now plan.now.book.now t warnings.now spot.now) }
+    ensures kept { (t : Tables) → AsBefore t tables.old → AsBefore t tables.new }
+    ensures meter { tables.new.lines.meter ≤ tables.old.lines.meter + length warnings.now }
+    ensures same { found.new ≡ found.old }
+{
+    if leaves_cover(edit) {
+        return hold_near(out, alloc, plan, found, tables, spot, warnings, edit);
+    }
+    let at = KnownSpot {
+        spot: *spot,
+        covering: None,
+    };
+    hold_spot(out, plan, found, tables, &at, warnings, edit)
+}
+
+/// Reads the lines of each of the warnings at each of the spots, and holds those that are not passed over.
+pub(crate) fn hold(
+    alloc: Global,
+    plan: &PlanParts<'_>,
+    found: &mut FoundWarnings<'_>,
+    tables: &mut KeptTables,
+    spots: &[Spot],
+    warnings: &[WarningId],
+    edit: &Edit,
+) -> Result<Vec<Held>, AllocError>
+    requires found { AreFound plan.now.areas.now plan.now.book.now found.old }
+    ensures held { (t : Tables) → AsBefore t tables.old → IfOk result (λ v. v.items ≡ held_lines edit.now plan.now.register.now plan.now.areas.now plan.now.book.now t spots.now warnings.now) }
+    ensures kept { (t : Tables) → AsBefore t tables.old → AsBefore t tables.new }
+    ensures meter { tables.new.lines.meter ≤ tables.old.lines.meter + length spots.now * length warnings.now }
+{
+    let mut out = Vec::with_capacity(alloc, spots.len().max(FEW))?;
+    for spot in spots {
+        hold_there(&mut out, alloc, plan, found, tables, spot, warnings, edit)?;
+    }
+    Ok(out)
+}
+
+/// Reads these lines, and holds those that are not passed over.
+pub(crate) fn hold_keys(
+    alloc: Global,
+    plan: &PlanParts<'_>,
+    found: &mut FoundWarnings<'_>,
+    tables: &mut KeptTables,
+    keys: &[LineKey],
+    edit: &Edit,
+) -> Result<Vec<Held>, AllocError>
+    requires found { AreFound plan.now.areas.now plan.now.book.now found.old }
+    ensures held { (t : Tables) → AsBefore t tables.old → IfOk result (λ v. v.items ≡ flat_map (held_unless edit.now plan.now.register.now plan.now.areas.now plan.now.book.now t) keys.now) }
+    ensures kept { (t : Tables) → AsBefore t tables.old → AsBefore t tables.new }
+    ensures meter { tables.new.lines.meter ≤ tables.old.lines.meter + length keys.now }
+{
+    let mut out = Vec::with_capacity(alloc, keys.len())?;
+    for key in keys {
+        let LineKey { bsc, cell, warning } = *key;
+        let at = KnownSpot {
+            spot: Spot { bsc, cell },
+            covering: None,
+        };
+        hold_line(&mut out, plan, found, tables, &at, warning, edit)?;
+    }
+    Ok(out)
+}

@@ -1,0 +1,146 @@
+//! On which lines an event bears.
+
+ghost use Rattle.std.specs.Prelude.{◌≡◌, false, IfOk};
+ghost use Rattle.std.specs.Option.{option_copied};
+ghost use Rattle.centre_events.specs.InFlight.{in_flight};
+ghost use Rattle.centre_events.specs.Past.{Past};
+ghost use Rattle.centre_past.specs.Reaching.{is_forget, AreThose, EditTold, EventTold};
+ghost use Rattle.centre_past.specs.Reach.{IsReach, flight_reach, edit_reach, report_reach, reach_of};
+ghost use Rattle.centre_events.specs.Settings.{Settings};
+
+use crate::plan_parts::PlanParts;
+use crate::reached_warnings;
+use crate::spots::{covered, known_at, moved, named, placed, spots_at};
+use cell_register::{BscId, Register};
+use centre_events::answer::Answer;
+use centre_events::event::Event;
+use centre_events::in_flight::InFlight;
+use centre_events::replying::cells_of;
+use centre_past::telling::tell_lines;
+use coverage_plan::Edit;
+use kept_tables::Spot;
+use mirror::LineTable;
+use std::alloc::{AllocError, Global};
+use std::slice;
+use warning_book::{Book, WarningId};
+
+/// Cells at BSCs, and warnings: an event bears on the line of each of these warnings in each of these cells.
+#[derive(Drop)]
+pub(crate) struct Reach {
+    pub(crate) spots: Vec<Spot>,
+    pub(crate) warnings: Vec<WarningId>,
+}
+
+/// The cells at BSCs on which an edit bears that is no Forget.
+fn edit_spots(
+    alloc: Global,
+    plan: &PlanParts<'_>,
+    tables: &LineTable,
+    edit: &Edit,
+) -> Result<Vec<Spot>, AllocError>
+    requires { is_forget edit.now ≡ false }
+    ensures { (settings : Settings) (past : Past) → EditTold settings past plan.now.register.now plan.now.areas.now plan.now.book.now tables.now edit.now → IfOk result (λ spots. AreThose spots.items (edit_reach past edit.now).spots) }
+{
+    tell_lines(tables);
+    let register = plan.register;
+    let areas = plan.areas;
+    let spots = match edit {
+        Edit::RemoveBsc(b) => known_at(alloc, register, tables, *b)?,
+        Edit::AddCell(c, b) => spots_at(alloc, *b, &[*c])?,
+        Edit::MoveCell(c, b) => moved(alloc, register, *c, *b)?,
+        Edit::RemoveCell(c) => placed(alloc, register, *c)?,
+        Edit::Put(_, s) | Edit::Cut(_, s) => named(alloc, register, *s)?,
+        Edit::Issue(_, names) => covered(alloc, register, areas, names.as_slice())?,
+        Edit::Update(n, _) | Edit::Stop(n) => {
+            covered(alloc, register, areas, plan.book.areas_of(*n))?
+        }
+        Edit::Widen(_, a) | Edit::Narrow(_, a) => {
+            covered(alloc, register, areas, slice::from_ref(a))?
+        }
+        Edit::AddBsc(_) | Edit::AddArea(_) | Edit::DropArea(_) => Vec::new(alloc),
+        Edit::Forget(_) => Vec::new(alloc),
+    };
+    Ok(spots)
+}
+
+/// The cells of what is in flight to the BSC, if anything is.
+fn flight_spots(alloc: Global, b: BscId, flight: Option<&InFlight>) -> Result<Vec<Spot>, AllocError>
+    ensures { (past : Past) → IfOk result (λ spots. spots.items ≡ (flight_reach past b (option_copied flight.entry)).spots) }
+{
+    let spots = match flight {
+        Some(flight) => spots_at(alloc, b, cells_of(flight))?,
+        None => Vec::new(alloc),
+    };
+    Ok(spots)
+}
+
+/// Those of a report that was answered so: a reply bears on what was in flight, an indication on the cells that it lists.
+fn report_spots(
+    alloc: Global,
+    b: BscId,
+    answer: &Answer,
+    flight: Option<&InFlight>,
+) -> Result<Vec<Spot>, AllocError>
+    ensures { (past : Past) → option_copied flight.entry ≡ in_flight past b → IfOk result (λ spots. spots.items ≡ (report_reach past b answer.now).spots) }
+{
+    let spots = match answer {
+        Answer::Replied(_) => flight_spots(alloc, b, flight)?,
+        Answer::Listed(cells) => spots_at(alloc, b, cells.as_slice())?,
+        _ => Vec::new(alloc),
+    };
+    Ok(spots)
+}
+
+/// The cells at BSCs on which an event bears that is no edit.
+fn event_spots(
+    alloc: Global,
+    register: &Register,
+    book: &Book,
+    tables: &LineTable,
+    event: &Event,
+    answer: &Answer,
+    flight: Option<&InFlight>,
+) -> Result<Vec<Spot>, AllocError>
+    ensures { (settings : Settings) (past : Past) → EventTold settings past register.now book.now tables.now (option_copied flight.entry) event.now answer.now → IfOk result (λ spots. AreThose spots.items (reach_of past event.now answer.now).spots) }
+{
+    tell_lines(tables);
+    let spots = match event {
+        Event::Retry(b) => known_at(alloc, register, tables, *b)?,
+        Event::LinkUp(b) | Event::LinkDown(b, _) => flight_spots(alloc, *b, flight)?,
+        Event::Report(b, _, _) => report_spots(alloc, *b, answer, flight)?,
+        Event::Send(_, _) | Event::Ask(_, _, _, _) | Event::Edit(_) => Vec::new(alloc),
+    };
+    Ok(spots)
+}
+
+/// On which lines an edit bears that is accepted and no Forget.
+pub(crate) fn reach_of_edit(
+    alloc: Global,
+    plan: &PlanParts<'_>,
+    tables: &LineTable,
+    edit: &Edit,
+) -> Result<Reach, AllocError>
+    requires { is_forget edit.now ≡ false }
+    ensures { (settings : Settings) (past : Past) → EditTold settings past plan.now.register.now plan.now.areas.now plan.now.book.now tables.now edit.now → IfOk result (λ r. IsReach (record { spots = r.spots.items; warnings = r.warnings.items }) (edit_reach past edit.now)) }
+{
+    let spots = edit_spots(alloc, plan, tables, edit)?;
+    let warnings = reached_warnings::of_edit(alloc, plan.book, edit)?;
+    Ok(Reach { spots, warnings })
+}
+
+/// On which lines an event bears that is no edit, and that is answered so. What is in flight is so to its BSC.
+pub(crate) fn reach_of_other(
+    alloc: Global,
+    register: &Register,
+    book: &Book,
+    tables: &LineTable,
+    event: &Event,
+    answer: &Answer,
+    flight: Option<&InFlight>,
+) -> Result<Reach, AllocError>
+    ensures { (settings : Settings) (past : Past) → EventTold settings past register.now book.now tables.now (option_copied flight.entry) event.now answer.now → IfOk result (λ r. IsReach (record { spots = r.spots.items; warnings = r.warnings.items }) (reach_of past event.now answer.now)) }
+{
+    let spots = event_spots(alloc, register, book, tables, event, answer, flight)?;
+    let warnings = reached_warnings::of_event(alloc, book, event, answer, flight)?;
+    Ok(Reach { spots, warnings })
+}

@@ -1,0 +1,172 @@
+//! The lines on which an event bears, read before it.
+
+ghost use Rattle.std.specs.Prelude.{◌≡◌, ◌≤◌, ◌+◌, false, Ok, IfOk};
+ghost use Rattle.centre_lines.specs.Following.{WasReached};
+ghost use Rattle.centre_past.specs.Reaching.{is_forget};
+ghost use Rattle.centre_past.specs.IsKept.{IsKept, OnlyReadsIn};
+ghost use Rattle.centre_events.specs.Kept.{is_edit};
+ghost use Rattle.centre_past.specs.Legal.{Legal};
+ghost use Rattle.centre_events.specs.Past.{Past};
+ghost use Rattle.centre_past.specs.Reach.{edit_reach, reach_of, size};
+ghost use Rattle.centre_events.specs.Settings.{Settings};
+ghost use Rattle.centre_events.specs.Verdict.{answered, edit_answered};
+ghost use Rattle.centre_events.specs.declared.answer.Answer as answer_spec;
+ghost use Rattle.centre_events.specs.declared.event.Event.TheVariants as event;
+ghost use Rattle.coverage_plan.specs.declared.edit.Edit.TheVariants as edit_spec;
+
+use crate::changing::hold_changing;
+use crate::found_warnings::find;
+use crate::held_lines::HeldLines;
+use crate::holding::{hold, hold_keys};
+use crate::plan_parts::PlanParts;
+use crate::reach::{reach_of_edit, reach_of_other};
+use crate::reached_warnings::of_edit;
+use centre_events::answer::Answer;
+use centre_events::event::Event;
+use centre_events::stepping::Happening;
+use centre_past::flights::flight_of;
+use centre_past::kept::Kept;
+use centre_past::links::up_before;
+use centre_past::telling::tell_lines;
+use coverage_plan::Edit;
+use kept_tables::Spot;
+use std::alloc::{AllocError, Global};
+use warning_book::WarningId;
+
+/// At which cells an event bears, the warnings on whose lines it does, and the lines that it may change, as they stood.
+#[derive(Drop)]
+pub struct Reached {
+    pub spots: Vec<Spot>,
+    pub warnings: Vec<WarningId>,
+    pub lines: HeldLines,
+}
+
+/// The lines that an accepted edit may change which is no Forget, as they stand before it, found among the lines on which it
+/// bears.
+fn reached_at_spots(alloc: Global, kept: &mut Kept, edit: &Edit) -> Result<Reached, AllocError>
+    requires { is_forget edit.now ≡ false }
+    ensures reached { (settings : Settings) (past : Past) (a : answer_spec.Answer) → Legal settings past → IsKept past kept.old → edit_answered past edit.now ≡ Ok a → IfOk result (λ x. WasReached past (event.Edit edit.now) a x.spots.items x.lines) }
+    ensures reads { OnlyReadsIn kept.old kept.new }
+    ensures meter { (settings : Settings) (past : Past) (a : answer_spec.Answer) → Legal settings past → IsKept past kept.old → edit_answered past edit.now ≡ Ok a → kept.new.tables.lines.meter ≤ kept.old.tables.lines.meter + size (edit_reach past edit.now) }
+{
+    let plan = PlanParts {
+        register: &kept.register,
+        areas: &kept.areas,
+        book: &kept.book,
+    };
+    let reach = reach_of_edit(alloc, &plan, kept.tables.lines(), edit)?;
+    let mut found = find(alloc, &plan, &reach.warnings, reach.spots.len())?;
+    let held = hold(
+        alloc,
+        &plan,
+        &mut found,
+        &mut kept.tables,
+        reach.spots.as_slice(),
+        reach.warnings.as_slice(),
+        edit,
+    )?;
+    Ok(Reached {
+        spots: reach.spots,
+        warnings: reach.warnings,
+        lines: HeldLines::Whole(held),
+    })
+}
+
+/// Those that a Forget may change: those of its warning that aren't blank, whatever cells it bears on. It brings no cell down or up.
+fn reached_by_forget(
+    alloc: Global,
+    kept: &mut Kept,
+    edit: &Edit,
+    n: WarningId,
+) -> Result<Reached, AllocError>
+    requires { edit.now ≡ edit_spec.Forget n }
+    ensures reached { (settings : Settings) (past : Past) (a : answer_spec.Answer) → Legal settings past → IsKept past kept.old → edit_answered past edit.now ≡ Ok a → IfOk result (λ x. WasReached past (event.Edit edit.now) a x.spots.items x.lines) }
+    ensures reads { OnlyReadsIn kept.old kept.new }
+    ensures meter { (settings : Settings) (past : Past) (a : answer_spec.Answer) → Legal settings past → IsKept past kept.old → edit_answered past edit.now ≡ Ok a → kept.new.tables.lines.meter ≤ kept.old.tables.lines.meter + size (edit_reach past edit.now) }
+{
+    tell_lines(kept.tables.lines());
+    let keys = kept.tables.lines().places_of(n)?;
+    let warnings = of_edit(alloc, &kept.book, edit)?;
+    let plan = PlanParts {
+        register: &kept.register,
+        areas: &kept.areas,
+        book: &kept.book,
+    };
+    let mut found = find(alloc, &plan, &warnings, keys.len())?;
+    let held = hold_keys(
+        alloc,
+        &plan,
+        &mut found,
+        &mut kept.tables,
+        keys.as_slice(),
+        edit,
+    )?;
+    Ok(Reached {
+        spots: Vec::new(alloc),
+        warnings,
+        lines: HeldLines::Whole(held),
+    })
+}
+
+/// The lines that an accepted edit may change, as they stand before it: those on which it bears, but for those that have no
+/// part before it or after it.
+pub fn reached_by_edit(alloc: Global, kept: &mut Kept, edit: &Edit) -> Result<Reached, AllocError>
+    ensures reached { (settings : Settings) (past : Past) (a : answer_spec.Answer) → Legal settings past → IsKept past kept.old → edit_answered past edit.now ≡ Ok a → IfOk result (λ x. WasReached past (event.Edit edit.now) a x.spots.items x.lines) }
+    ensures reads { OnlyReadsIn kept.old kept.new }
+    ensures meter { (settings : Settings) (past : Past) (a : answer_spec.Answer) → Legal settings past → IsKept past kept.old → edit_answered past edit.now ≡ Ok a → kept.new.tables.lines.meter ≤ kept.old.tables.lines.meter + size (edit_reach past edit.now) }
+{
+    let reached = match edit {
+        Edit::Forget(n) => reached_by_forget(alloc, kept, edit, *n)?,
+        _ => reached_at_spots(alloc, kept, edit)?,
+    };
+    Ok(reached)
+}
+
+/// The lines that an accepted event changes which is no edit, as they stand before it, with the steps that it makes of them.
+pub fn reached_by_other<'x>(
+    alloc: Global,
+    kept: &mut Kept,
+    event: &'x Event,
+    answer: &'x Answer,
+) -> Result<Reached, AllocError>
+    requires other { is_edit event.now ≡ false }
+    ensures reached { (settings : Settings) (past : Past) → Legal settings past → IsKept past kept.old → answered settings.network past event.now ≡ Ok answer.now → IfOk result (λ x. WasReached past event.now answer.now x.spots.items x.lines) }
+    ensures reads { OnlyReadsIn kept.old kept.new }
+    ensures meter { (settings : Settings) (past : Past) → Legal settings past → IsKept past kept.old → answered settings.network past event.now ≡ Ok answer.now → kept.new.tables.lines.meter ≤ kept.old.tables.lines.meter + size (reach_of past event.now answer.now) }
+{
+    let reach = reach_of_other(
+        alloc,
+        &kept.register,
+        &kept.book,
+        kept.tables.lines(),
+        event,
+        answer,
+        flight_of(kept.flights.as_slice(), event),
+    )?;
+    let h = Happening {
+        event,
+        answer,
+        up: up_before(kept.links.as_slice(), event),
+        flight: flight_of(kept.flights.as_slice(), event),
+    };
+    let plan = PlanParts {
+        register: &kept.register,
+        areas: &kept.areas,
+        book: &kept.book,
+    };
+    let mut found = find(alloc, &plan, &reach.warnings, reach.spots.len())?;
+    let steps = hold_changing(
+        alloc,
+        &h,
+        &plan,
+        &mut found,
+        &mut kept.tables,
+        reach.spots.as_slice(),
+        reach.warnings.as_slice(),
+    )?;
+    Ok(Reached {
+        spots: reach.spots,
+        warnings: reach.warnings,
+        lines: HeldLines::Steps(steps),
+    })
+}

@@ -1,0 +1,288 @@
+-- The book of a legal past is sound, and what the book refuses is what an event is refused.
+use Rattle.std.proofs.Common.{◌≡◌, ◌⊎◌, arith, ℕ, ◌+◌, ◌<◌, Bool, true, false, ◌&&◌, ◌||◌, not, List, [], ◌∷◌, Option, Some, None, Ok, Err, nat_eq, length, cond, refl, sym, ◌∙◌, ap, eqb-true, subst}
+use Rattle.std.specs.Prelude.{IfSome, IsOk, find}
+use Rattle.std.specs.List.{list_any, list_all}
+use Rattle.std.specs.Option.{option_map, option_and_then}
+use Rattle.std.proofs.lemmas.Bool.{leb-false, and_parts, and_from, or_parts, not-false}
+use Rattle.std.proofs.lemmas.List.Folds.{list_all-append}
+use Rattle.serials.specs.Serials.{next_of}
+use Rattle.common.specs.CheckLaws.{NoneHolds, none_holds}
+use Rattle.common.specs.Checks.{first_refusal}
+use Rattle.common.specs.Order.{is_ascending}
+use Rattle.warning_book.specs.Book.{State, empty, has_number, number_lt, warning_is, warning_of, is_so, versions_if, versions_with, content_of, new_serial, next_serial, current_of, is_exhausted, ends_updates}
+use Rattle.warning_book.specs.Checks as book
+use Rattle.warning_book.specs.Content.{are_pages, is_period}
+use Rattle.warning_book.specs.Laws.{found_so}
+use Rattle.warning_book.specs.SerialLaws.{serial_is_there}
+use Rattle.warning_book.specs.Sound.{IsSound, IsCounted, is_good, has_contents}
+use Rattle.warning_book.specs.SoundLaws.{sound_after_issue, sound_after_update, sound_after_widen, sound_after_narrow, sound_after_stop, sound_after_forget}
+use Rattle.warning_book.specs.declared.content.Content.{Content}
+use Rattle.warning_book.specs.declared.notice.Notice.{Notice}
+use Rattle.warning_book.specs.declared.refusal.Refusal as book_refusal
+use Rattle.warning_book.specs.declared.refusal.Refusal.TheVariants as book_refusal_is
+use Rattle.warning_book.specs.declared.version.Version.{Version}
+use Rattle.warning_book.specs.declared.warning.Warning.{Warning}
+use Rattle.centre_events.specs.Base.{Base}
+use Rattle.centre_events.specs.Cover.{is_area}
+use Rattle.centre_events.specs.Kept.{Gives}
+use Rattle.centre_past.specs.Legal.{Legal}
+use Rattle.centre_events.specs.Past.{Past, From, After}
+use Rattle.centre_events.specs.Refusals.{of_book}
+use Rattle.centre_events.specs.Reported.{is_reported, is_in_flight}
+use Rattle.centre_events.specs.Settings.{Settings}
+use Rattle.centre_events.specs.Verdict.{unless, answered, edit_answered, by_book, issue, issue_answer, update, update_answer, widen, narrow, stop, forget, idle_checks}
+use Rattle.centre_events.specs.Warnings.{book_of, book_then}
+use Rattle.coverage_plan.specs.Edited.{book_after, with_issue}
+use Rattle.centre_events.specs.declared.answer.Answer.{Answer}
+use Rattle.centre_events.specs.declared.answer.Answer.TheVariants as answer
+use Rattle.coverage_plan.specs.declared.edit.Edit.{Edit}
+use Rattle.coverage_plan.specs.declared.edit.Edit.TheVariants as edit
+use Rattle.centre_events.specs.declared.event.Event.{Event}
+use Rattle.centre_events.specs.declared.event.Event.TheVariants as event
+use Rattle.centre_events.specs.declared.refusal.Refusal.{Refusal}
+use Rattle.centre_events.specs.declared.refusal.Refusal.TheVariants as refusal
+use Rattle.centre_past.proofs.CheckLemmas.{taken, refused, refused_first, passed, given, ok_after, none_held, past_check, past_given, past_ok, checked_after}
+use Rattle.centre_past.proofs.FoundLemmas.{found_number}
+use Rattle.centre_past.proofs.UniqueLemmas.{verdict_answered}
+
+-- What the book refuses.
+
+-- no warning has the number where none is found
+none_found : (n : ℕ) (ws : List Warning) → find (has_number n) ws ≡ None → list_any (has_number n) ws ≡ false
+none_found n [] h = refl
+none_found n (w ∷ ws) h = step (none_found n ws) (has_number n w) h
+  where
+    step : (find (has_number n) ws ≡ None → list_any (has_number n) ws ≡ false) → (t : Bool) → cond t (Some w) (find (has_number n) ws) ≡ None → (t || list_any (has_number n) ws) ≡ false
+    step rest true g = cc
+    step rest false g = rest g
+
+-- what is issued has a serial number, since a code is free
+issue_ok : (past : Past) (notice : Notice) (areas : List (List ℕ)) → first_refusal (book.issue_checks (book_of past) notice areas) ≡ None → IsOk (issue_answer ((book_of past).issued + 1) (new_serial (book_of past) notice))
+issue_ok past notice areas h = step (new_serial (book_of past) notice) refl
+  where
+    none : NoneHolds (book.issue_checks (book_of past) notice areas)
+    none = none_holds (book.issue_checks (book_of past) notice areas) h
+
+    few : length (book_of past).warnings < 256
+    few = leb-false 256 (length (book_of past).warnings) none.1.1.1.1.0
+
+    step : (o : Option ℕ) → new_serial (book_of past) notice ≡ o → IsOk (issue_answer ((book_of past).issued + 1) o)
+    step None e = serial_is_there (book_of past).issued (book_of past).warnings notice few e
+    step (Some s) e = refl
+
+-- what is so of no warning of the number is not so of the one that is found
+found_not : (n : ℕ) (f : Warning → Bool) (ws : List Warning) (w : Warning) → find (has_number n) ws ≡ Some w → is_so n f ws ≡ false → f w ≡ false
+found_not n f [] w h g = cc
+found_not n f (v ∷ ws) w h g = step (found_not n f ws w) (has_number n v) h g
+  where
+    step : (find (has_number n) ws ≡ Some w → is_so n f ws ≡ false → f w ≡ false) → (t : Bool) → cond t (Some v) (find (has_number n) ws) ≡ Some w → ((t && f v) || is_so n f ws) ≡ false → f w ≡ false
+    step rest true e k = let same : v ≡ w = cc in ap f (sym same) ∙ (or_parts (f v) (is_so n f ws) k).0
+    step rest false e k = rest e k
+
+-- what is updated has a next serial number
+update_ok : (past : Past) (n : ℕ) (content : Content) → first_refusal (book.update_checks (book_of past) n content) ≡ None → IsOk (update_answer (next_serial (book_of past) n))
+update_ok past n content h = step (warning_of (book_of past) n) refl
+  where
+    none : NoneHolds (book.update_checks (book_of past) n content)
+    none = none_holds (book.update_checks (book_of past) n content) h
+
+    there : list_any (has_number n) (book_of past).warnings ≡ true
+    there = not-false (list_any (has_number n) (book_of past).warnings) none.0
+
+    next : (o : Option ℕ) → ends_updates o ≡ false → IsOk (update_answer (option_map next_of o))
+    next None e = absurd (let no : true ≡ false = e in cc)
+    next (Some s) e = refl
+
+    step : (o : Option Warning) → warning_of (book_of past) n ≡ o → IsOk (update_answer (option_map next_of (option_and_then current_of o)))
+    step None e = absurd (let no : true ≡ false = sym there ∙ none_found n (book_of past).warnings e in cc)
+    step (Some w) e = next (current_of w) (found_not n is_exhausted (book_of past).warnings w e none.1.1.1.1.0)
+
+-- an area that is not there
+pub issue_elsewhere : (past : Past) (notice : Notice) (areas : List (List ℕ)) → list_any (λ a. not (is_area past a)) areas ≡ true → issue past notice areas ≡ Err refusal.NoSuchArea
+issue_elsewhere past notice areas missing = rw missing refl
+
+pub issue_taken : (past : Past) (st : State) (notice : Notice) (areas : List (List ℕ)) (n s : ℕ) → st ≡ book_of past → list_any (λ a. not (is_area past a)) areas ≡ false → first_refusal (book.issue_checks st notice areas) ≡ None → n ≡ st.issued + 1 → new_serial st notice ≡ Some s → issue past notice areas ≡ Ok (answer.Issued n s)
+issue_taken past st notice areas n s is there checked number serial =
+    past_check (list_any (λ a. not (is_area past a)) areas) refusal.NoSuchArea (unless (by_book (book.issue_checks (book_of past) notice areas)) (issue_answer ((book_of past).issued + 1) (new_serial (book_of past) notice))) (Ok (answer.Issued n s)) there
+    (taken of_book (book.issue_checks (book_of past) notice areas) (issue_answer ((book_of past).issued + 1) (new_serial (book_of past) notice)) (rw (← is) checked)
+    ∙ (rw (← is, serial, ← number) refl))
+
+pub issue_refused : (past : Past) (st : State) (notice : Notice) (areas : List (List ℕ)) (e : book_refusal.Refusal) → st ≡ book_of past → list_any (λ a. not (is_area past a)) areas ≡ false → (first_refusal (book.issue_checks st notice areas) ≡ Some e) ⊎ ((e ≡ book_refusal_is.Memory) × (first_refusal (book.issue_checks st notice areas) ≡ None)) → Gives (issue past notice areas) (Err (of_book e))
+issue_refused past st notice areas e is there h =
+    past_given (list_any (λ a. not (is_area past a)) areas) refusal.NoSuchArea (unless (by_book (book.issue_checks (book_of past) notice areas)) (issue_answer ((book_of past).issued + 1) (new_serial (book_of past) notice))) (Err (of_book e)) there
+    (given of_book book_refusal_is.Memory refl (book.issue_checks (book_of past) notice areas) (issue_answer ((book_of past).issued + 1) (new_serial (book_of past) notice)) e (issue_ok past notice areas) (rw (← is) h))
+
+pub update_taken : (past : Past) (st : State) (n : ℕ) (content : Content) (s : ℕ) → st ≡ book_of past → first_refusal (book.update_checks st n content) ≡ None → next_serial st n ≡ Some s → update past n content ≡ Ok (answer.Updated s)
+update_taken past st n content s is checked serial =
+    taken of_book (book.update_checks (book_of past) n content) (update_answer (next_serial (book_of past) n)) (rw (← is) checked) ∙ (rw (← is, serial) refl)
+
+pub update_refused : (past : Past) (st : State) (n : ℕ) (content : Content) (e : book_refusal.Refusal) → st ≡ book_of past → (first_refusal (book.update_checks st n content) ≡ Some e) ⊎ ((e ≡ book_refusal_is.Memory) × (first_refusal (book.update_checks st n content) ≡ None)) → Gives (update past n content) (Err (of_book e))
+update_refused past st n content e is h = given of_book book_refusal_is.Memory refl (book.update_checks (book_of past) n content) (update_answer (next_serial (book_of past) n)) e (update_ok past n content) (rw (← is) h)
+
+pub widen_taken : (past : Past) (st : State) (n : ℕ) (a : List ℕ) → st ≡ book_of past → is_area past a ≡ true → first_refusal (book.widen_checks st n a) ≡ None → widen past n a ≡ Ok answer.Done
+widen_taken past st n a is there checked =
+    past_check (not (is_area past a)) refusal.NoSuchArea (unless (by_book (book.widen_checks (book_of past) n a)) (Ok answer.Done)) (Ok answer.Done) (ap not there)
+    (taken of_book (book.widen_checks (book_of past) n a) (Ok answer.Done) (rw (← is) checked))
+
+pub widen_refused : (past : Past) (st : State) (n : ℕ) (a : List ℕ) (e : book_refusal.Refusal) → st ≡ book_of past → is_area past a ≡ true → (first_refusal (book.widen_checks st n a) ≡ Some e) ⊎ ((e ≡ book_refusal_is.Memory) × (first_refusal (book.widen_checks st n a) ≡ None)) → Gives (widen past n a) (Err (of_book e))
+widen_refused past st n a e is there h =
+    past_given (not (is_area past a)) refusal.NoSuchArea (unless (by_book (book.widen_checks (book_of past) n a)) (Ok answer.Done)) (Err (of_book e)) (ap not there)
+    (given of_book book_refusal_is.Memory refl (book.widen_checks (book_of past) n a) (Ok answer.Done) e (λ none. refl) (rw (← is) h))
+
+pub narrow_taken : (past : Past) (st : State) (n : ℕ) (a : List ℕ) → st ≡ book_of past → is_area past a ≡ true → first_refusal (book.narrow_checks st n a) ≡ None → narrow past n a ≡ Ok answer.Done
+narrow_taken past st n a is there checked =
+    past_check (not (is_area past a)) refusal.NoSuchArea (unless (by_book (book.narrow_checks (book_of past) n a)) (Ok answer.Done)) (Ok answer.Done) (ap not there)
+    (taken of_book (book.narrow_checks (book_of past) n a) (Ok answer.Done) (rw (← is) checked))
+
+pub narrow_refused : (past : Past) (st : State) (n : ℕ) (a : List ℕ) (e : book_refusal.Refusal) → st ≡ book_of past → is_area past a ≡ true → first_refusal (book.narrow_checks st n a) ≡ Some e → narrow past n a ≡ Err (of_book e)
+narrow_refused past st n a e is there h =
+    past_check (not (is_area past a)) refusal.NoSuchArea (unless (by_book (book.narrow_checks (book_of past) n a)) (Ok answer.Done)) (Err (of_book e)) (ap not there)
+    (refused of_book (book.narrow_checks (book_of past) n a) (Ok answer.Done) e (rw (← is) h))
+
+pub stop_taken : (past : Past) (st : State) (n : ℕ) → st ≡ book_of past → first_refusal (book.stop_checks st n) ≡ None → stop past n ≡ Ok answer.Done
+stop_taken past st n is checked = taken of_book (book.stop_checks (book_of past) n) (Ok answer.Done) (rw (← is) checked)
+
+pub stop_refused : (past : Past) (st : State) (n : ℕ) (e : book_refusal.Refusal) → st ≡ book_of past → first_refusal (book.stop_checks st n) ≡ Some e → stop past n ≡ Err (of_book e)
+stop_refused past st n e is h = refused of_book (book.stop_checks (book_of past) n) (Ok answer.Done) e (rw (← is) h)
+
+pub issue_free : (past : Past) (st : State) (notice : Notice) (areas : List (List ℕ)) → st ≡ book_of past → list_any (λ a. not (is_area past a)) areas ≡ false → first_refusal (book.issue_checks st notice areas) ≡ None → IsOk (issue past notice areas)
+issue_free past st notice areas is there checked =
+    past_ok (list_any (λ a. not (is_area past a)) areas) refusal.NoSuchArea (unless (by_book (book.issue_checks (book_of past) notice areas)) (issue_answer ((book_of past).issued + 1) (new_serial (book_of past) notice))) there
+    (ok_after of_book (book.issue_checks (book_of past) notice areas) (issue_answer ((book_of past).issued + 1) (new_serial (book_of past) notice)) (rw (← is) checked) (issue_ok past notice areas (rw (← is) checked)))
+
+pub issue_first : (past : Past) (st : State) (notice : Notice) (areas : List (List ℕ)) (e : book_refusal.Refusal) → st ≡ book_of past → list_any (λ a. not (is_area past a)) areas ≡ false → first_refusal (book.issue_checks st notice areas) ≡ Some e → issue past notice areas ≡ Err (of_book e)
+issue_first past st notice areas e is there h =
+    past_check (list_any (λ a. not (is_area past a)) areas) refusal.NoSuchArea (unless (by_book (book.issue_checks (book_of past) notice areas)) (issue_answer ((book_of past).issued + 1) (new_serial (book_of past) notice))) (Err (of_book e)) there
+    (refused of_book (book.issue_checks (book_of past) notice areas) (issue_answer ((book_of past).issued + 1) (new_serial (book_of past) notice)) e (rw (← is) h))
+
+pub update_free : (past : Past) (st : State) (n : ℕ) (content : Content) → st ≡ book_of past → first_refusal (book.update_checks st n content) ≡ None → IsOk (update past n content)
+update_free past st n content is checked =
+    ok_after of_book (book.update_checks (book_of past) n content) (update_answer (next_serial (book_of past) n)) (rw (← is) checked) (update_ok past n content (rw (← is) checked))
+
+pub update_first : (past : Past) (st : State) (n : ℕ) (content : Content) (e : book_refusal.Refusal) → st ≡ book_of past → first_refusal (book.update_checks st n content) ≡ Some e → update past n content ≡ Err (of_book e)
+update_first past st n content e is h = refused of_book (book.update_checks (book_of past) n content) (update_answer (next_serial (book_of past) n)) e (rw (← is) h)
+
+pub widen_free : (past : Past) (st : State) (n : ℕ) (a : List ℕ) → st ≡ book_of past → is_area past a ≡ true → first_refusal (book.widen_checks st n a) ≡ None → IsOk (widen past n a)
+widen_free past st n a is there checked = subst IsOk (sym (widen_taken past st n a is there checked)) refl
+
+pub widen_first : (past : Past) (st : State) (n : ℕ) (a : List ℕ) (e : book_refusal.Refusal) → st ≡ book_of past → is_area past a ≡ true → first_refusal (book.widen_checks st n a) ≡ Some e → widen past n a ≡ Err (of_book e)
+widen_first past st n a e is there h =
+    past_check (not (is_area past a)) refusal.NoSuchArea (unless (by_book (book.widen_checks (book_of past) n a)) (Ok answer.Done)) (Err (of_book e)) (ap not there)
+    (refused of_book (book.widen_checks (book_of past) n a) (Ok answer.Done) e (rw (← is) h))
+
+pub narrow_free : (past : Past) (st : State) (n : ℕ) (a : List ℕ) → st ≡ book_of past → is_area past a ≡ true → first_refusal (book.narrow_checks st n a) ≡ None → IsOk (narrow past n a)
+narrow_free past st n a is there checked = subst IsOk (sym (narrow_taken past st n a is there checked)) refl
+
+pub narrow_first : (past : Past) (st : State) (n : ℕ) (a : List ℕ) (e : book_refusal.Refusal) → st ≡ book_of past → is_area past a ≡ true → first_refusal (book.narrow_checks st n a) ≡ Some e → narrow past n a ≡ Err (of_book e)
+narrow_first past st n a e is there h = narrow_refused past st n a e is there h
+
+pub stop_free : (past : Past) (st : State) (n : ℕ) → st ≡ book_of past → first_refusal (book.stop_checks st n) ≡ None → IsOk (stop past n)
+stop_free past st n is checked = subst IsOk (sym (stop_taken past st n is checked)) refl
+
+pub stop_first : (past : Past) (st : State) (n : ℕ) (e : book_refusal.Refusal) → st ≡ book_of past → first_refusal (book.stop_checks st n) ≡ Some e → stop past n ≡ Err (of_book e)
+stop_first past st n e is h = stop_refused past st n e is h
+
+-- what follows the book's checks of a Forget
+abbrev kept_checks : Past → ℕ → List (Bool × Refusal)
+kept_checks past n = (warning_is (book_of past) n (is_reported past), refusal.StillReported) ∷ (warning_is (book_of past) n (is_in_flight past), refusal.StillInFlight) ∷ []
+
+pub forget_refused : (past : Past) (st : State) (n : ℕ) (e : book_refusal.Refusal) → st ≡ book_of past → first_refusal (book.forget_checks st n) ≡ Some e → forget past n ≡ Err (of_book e)
+forget_refused past st n e is h =
+    refused_first of_book (book.forget_checks (book_of past) n) (kept_checks past n) (Ok answer.Done) e (rw (← is) h)
+
+pub forget_missing : (past : Past) (st : State) (n : ℕ) → st ≡ book_of past → warning_of st n ≡ None → forget past n ≡ Err refusal.NoSuchWarning
+forget_missing past st n is h =
+    let none : list_any (has_number n) (book_of past).warnings ≡ false = none_found n (book_of past).warnings (rw (← is) h) in
+    rw none refl
+
+-- what the book does not refuse is refused by what is kept of the warning
+pub forget_found : (past : Past) (st : State) (n : ℕ) (w : Warning) → st ≡ book_of past → is_ascending number_lt st.warnings ≡ true → warning_of st n ≡ Some w → first_refusal (book.forget_checks st n) ≡ None → forget past n ≡ unless (idle_checks past w) (Ok answer.Done)
+forget_found past st n w is ordered h checked =
+    let order : is_ascending number_lt (book_of past).warnings ≡ true = rw (← is) ordered in
+    let found : find (has_number n) (book_of past).warnings ≡ Some w = rw (← is) h in
+    let reported : is_so n (is_reported past) (book_of past).warnings ≡ is_reported past w = found_so n (is_reported past) (book_of past).warnings w order found in
+    let flying : is_so n (is_in_flight past) (book_of past).warnings ≡ is_in_flight past w = found_so n (is_in_flight past) (book_of past).warnings w order found in
+    passed of_book (book.forget_checks (book_of past) n) (kept_checks past n) (Ok answer.Done) (rw (← is) checked) ∙ (rw (reported, flying) refl)
+
+-- a warning that the book does not refuse to forget is not active
+pub forget_inactive : (st : State) (n : ℕ) (w : Warning) → warning_of st n ≡ Some w → first_refusal (book.forget_checks st n) ≡ None → w.active ≡ false
+forget_inactive st n w h checked =
+    let none : NoneHolds (book.forget_checks st n) = none_holds (book.forget_checks st n) checked in
+    found_not n (λ v. v.active) st.warnings w h none.1.0
+
+-- a warning that is found is found by its own number
+pub found_itself : (past : Past) (st : State) (n : ℕ) (w : Warning) → st ≡ book_of past → warning_of st n ≡ Some w → warning_of (book_of past) w.number ≡ Some w
+found_itself past st n w is h =
+    let same : w.number ≡ n = eqb-true w.number n (found_number n st.warnings w h) in
+    ap (warning_of (book_of past)) same ∙ ap (λ k. warning_of k n) (sym is) ∙ h
+
+-- What holds of the book of a legal past.
+
+issued_sound : (past : Past) (notice : Notice) (areas : List (List ℕ)) (a : Answer) → issue past notice areas ≡ Ok a → IsCounted (book_of past) → IsCounted (with_issue notice areas (new_serial (book_of past) notice) (book_of past))
+issued_sound past notice areas a h sound = step (new_serial (book_of past) notice) refl
+  where
+    after : unless (by_book (book.issue_checks (book_of past) notice areas)) (issue_answer ((book_of past).issued + 1) (new_serial (book_of past) notice)) ≡ Ok a
+    after = checked_after (list_any (λ a. not (is_area past a)) areas) refusal.NoSuchArea (unless (by_book (book.issue_checks (book_of past) notice areas)) (issue_answer ((book_of past).issued + 1) (new_serial (book_of past) notice))) a h
+
+    step : (o : Option ℕ) → new_serial (book_of past) notice ≡ o → IsCounted (with_issue notice areas o (book_of past))
+    step None e = sound
+    step (Some s) e =
+        sound_after_issue (book_of past) notice areas s
+        (none_held of_book (book.issue_checks (book_of past) notice areas) (issue_answer ((book_of past).issued + 1) (new_serial (book_of past) notice)) a after) e sound
+
+sound_after : (past : Past) (e : Edit) (a : Answer) → edit_answered past e ≡ Ok a → IsCounted (book_of past) → IsCounted (book_after e (book_of past))
+sound_after past (edit.Issue notice areas) a h sound = issued_sound past notice areas a h sound
+sound_after past (edit.Update n content) a h sound = sound_after_update (book_of past) n content (none_held of_book (book.update_checks (book_of past) n content) (update_answer (next_serial (book_of past) n)) a h) sound
+sound_after past (edit.Widen n x) a h sound =
+    sound_after_widen (book_of past) n x (none_held of_book (book.widen_checks (book_of past) n x) (Ok answer.Done) a (checked_after (not (is_area past x)) refusal.NoSuchArea (unless (by_book (book.widen_checks (book_of past) n x)) (Ok answer.Done)) a h)) sound
+sound_after past (edit.Narrow n x) a h sound =
+    sound_after_narrow (book_of past) n x (none_held of_book (book.narrow_checks (book_of past) n x) (Ok answer.Done) a (checked_after (not (is_area past x)) refusal.NoSuchArea (unless (by_book (book.narrow_checks (book_of past) n x)) (Ok answer.Done)) a h)) sound
+sound_after past (edit.Stop n) a h sound = sound_after_stop (book_of past) n sound
+sound_after past (edit.Forget n) a h sound = sound_after_forget (book_of past) n sound
+sound_after past other a h sound = sound
+
+sound_then : (network : List ℕ) (past : Past) (e : Event) (a : Answer) → answered network past e ≡ Ok a → IsCounted (book_of past) → IsCounted (book_then e (book_of past))
+sound_then network past (event.Edit e) a h sound = sound_after past e a h sound
+sound_then network past other a h sound = sound
+
+-- the empty book is sound
+counted_empty : IsCounted empty
+counted_empty = record {
+  sound = record { ordered = refl; given = refl; few = omega arith; areas = refl; contents = refl; versions = refl; serials = refl; codes = refl; own_codes = refl };
+  counted = refl;
+}
+
+pub legal_counted : (settings : Settings) (past : Past) → Legal settings past → IsCounted (book_of past)
+legal_counted settings (From base) legal = subst (λ (k : Base). IsCounted k.book) (sym legal) counted_empty
+legal_counted settings (After e before) legal = sound_then settings.network before e.event e.answer (verdict_answered settings before e.event e.answer legal.0) (legal_counted settings before legal.1)
+
+-- the book of a legal past is sound
+pub legal_sound : (settings : Settings) (past : Past) → Legal settings past → IsSound (book_of past)
+legal_sound settings past legal = (legal_counted settings past legal).sound
+
+-- The pages of what the book holds.
+
+good_if : (m : ℕ) (w : Warning) → has_contents w ≡ true → list_all is_good (versions_if m w) ≡ true
+good_if m w h = step (nat_eq w.message_id m)
+  where
+    step : (t : Bool) → list_all is_good (cond t w.versions []) ≡ true
+    step true = h
+    step false = refl
+
+good_with : (m : ℕ) (ws : List Warning) → list_all has_contents ws ≡ true → list_all is_good (versions_with m ws) ≡ true
+good_with m [] h = refl
+good_with m (w ∷ ws) h =
+    let parts = and_parts (has_contents w) (list_all has_contents ws) h in
+    list_all-append is_good (versions_if m w) (versions_with m ws) ∙ and_from (list_all is_good (versions_if m w)) (list_all is_good (versions_with m ws)) (good_if m w parts.0) (good_with m ws parts.1)
+
+found_good : (s : ℕ) (vs : List Version) → list_all is_good vs ≡ true → IfSome (option_map (λ v. v.content) (find (λ v. nat_eq v.serial s) vs)) (λ c. are_pages c.pages ≡ true)
+found_good s [] h = tt
+found_good s (v ∷ vs) h = step (found_good s vs) (nat_eq v.serial s) (and_parts (is_good v) (list_all is_good vs) h)
+  where
+    step : (list_all is_good vs ≡ true → IfSome (option_map (λ u. u.content) (find (λ u. nat_eq u.serial s) vs)) (λ c. are_pages c.pages ≡ true)) → (t : Bool) → (is_good v ≡ true) × (list_all is_good vs ≡ true) → IfSome (option_map (λ u. u.content) (cond t (Some v) (find (λ u. nat_eq u.serial s) vs))) (λ c. are_pages c.pages ≡ true)
+    step rest true parts = (and_parts (are_pages v.content.pages) (is_period v.content.period) parts.0).0
+    step rest false parts = rest parts.1
+
+-- a content of the book has good pages
+pub content_has_pages : (m s : ℕ) (ws : List Warning) → list_all has_contents ws ≡ true → IfSome (content_of m s ws) (λ c. are_pages c.pages ≡ true)
+content_has_pages m s ws h = found_good s (versions_with m ws) (good_with m ws h)

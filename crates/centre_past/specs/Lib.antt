@@ -1,0 +1,16 @@
+pub mod Facts
+pub mod Table
+pub mod Numbers
+pub mod Fits
+pub mod Legal
+pub mod LinkStates
+pub mod Flights
+pub mod Headline
+pub mod Issued
+pub mod Beginning
+pub mod Reach
+pub mod Reaching
+pub mod State
+pub mod Idle
+pub mod IsKept
+pub mod VerdictLaws

@@ -1,0 +1,5 @@
+pub mod PartLemmas
+pub mod RunLemmas
+pub mod HexTextLemmas
+pub mod FrameLemmas
+pub mod CommandLineLemmas

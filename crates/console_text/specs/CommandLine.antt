@@ -1,0 +1,156 @@
+-- The command line: `cbc replay [--plmn HEX] [--journal N]`, and `cbc serve` with these and options of its own.
+use Rattle.std.specs.Prelude.{◌≡◌, ◌≢◌, ◌⊎◌, Bool, true, false, ℕ, List, [], ◌∷◌, Option, Some, None, codes, bytes_eq, option_and_then, if◌then◌else◌}
+use Rattle.std.specs.Result.{result_ok}
+use Rattle.std.specs.Str.Parse.{digits_value, without_leading_plus}
+use Rattle.hex.specs.Hex.{decode_sized}
+use Rattle.clap.specs.ValueTests.{accepts}
+use Rattle.clap.specs.Words.{App, IsAmong, Row, Rule, Text, fault_of, first_of, new_app, new_rule, one_of, subcommand_of, takes, with_rule, with_subcommand}
+use Rattle.clap.specs.declared.builder.action.ArgAction.TheVariants.{SetTrue}
+use Rattle.clap.specs.declared.builder.value_parser.ValueParser.{ValueParser}
+use Rattle.clap.specs.declared.builder.value_parser.ValueParser.TheVariants.{Unsigned}
+use Rattle.clap.specs.declared.error.kind.ErrorKind.{ErrorKind}
+use Rattle.clap.specs.declared.error.kind.ErrorKind.TheVariants as kind
+use Rattle.console_text.specs.declared.no_run.NoRun.{NoRun}
+use Rattle.console_text.specs.declared.no_run.NoRun.TheVariants.{Help, Refused, Serve, BadPlmn, BadJournal, Memory}
+
+-- the most entries that a journal may hold, and the number where none is given
+abbrev pub most_entries : ℕ
+most_entries = 4000000
+
+-- HEX is any text here
+abbrev pub plmn_option : Rule
+plmn_option = record (new_rule (codes "plmn")) { long = Some (codes "plmn"); value_names = 1; defaults = codes "00f110" ∷ [] }
+
+-- N is a number from 1 to 4,000,000
+abbrev pub entry_numbers : ValueParser
+entry_numbers = Unsigned 1 most_entries
+
+-- how many entries the journal may hold
+abbrev pub journal_option : Rule
+journal_option = record (new_rule (codes "journal")) { long = Some (codes "journal"); value_names = 1; defaults = codes "4000000" ∷ []; parser = Some entry_numbers }
+
+-- the options of both commands
+abbrev pub with_common : App → App
+with_common a = with_rule (with_rule a plmn_option) journal_option
+
+-- `replay`, with its two options
+abbrev pub replay_command : App
+replay_command = with_common (new_app (codes "replay"))
+
+-- the address that is listened on
+abbrev pub host_option : Rule
+host_option = record (new_rule (codes "host")) { long = Some (codes "host"); value_names = 1; defaults = codes "127.0.0.1" ∷ [] }
+
+-- the port of BSC 1, a number from 1 to 65,535
+abbrev pub base_option : Rule
+base_option = record (new_rule (codes "base")) { long = Some (codes "base"); value_names = 1; defaults = codes "48049" ∷ []; parser = Some (Unsigned 1 65535) }
+
+-- how many BSCs may connect, a number from 1 to 256
+abbrev pub links_option : Rule
+links_option = record (new_rule (codes "links")) { long = Some (codes "links"); value_names = 1; defaults = codes "1" ∷ []; parser = Some (Unsigned 1 256) }
+
+-- whether a simulated BSC connects to each port
+abbrev pub sim_option : Rule
+sim_option = record (new_rule (codes "sim")) { long = Some (codes "sim"); action = Some SetTrue }
+
+-- the options by which BSCs connect
+abbrev pub with_ports : App → App
+with_ports a = with_rule (with_rule (with_rule a host_option) base_option) links_option
+
+-- `serve`, with its six options
+abbrev pub serve_command : App
+serve_command = with_rule (with_ports (with_common (new_app (codes "serve")))) sim_option
+
+-- a program that is nothing without a command
+abbrev pub program : App
+program = let a = new_app (codes "cbc") in record a { top = record a.top { subcommand_required = true } }
+
+-- the program, with its two commands
+abbrev pub command_line : App
+command_line = with_subcommand (with_subcommand program replay_command.top) serve_command.top
+
+-- clap's rules find no fault in the words
+abbrev pub HasNoFault : List Text → Type 0
+HasNoFault words = fault_of command_line words ≡ []
+
+-- clap's rules take the words, by either of their two tests
+abbrev pub AreTaken : List Text → Type 0
+AreTaken words = (takes command_line words ≡ true) ⊎ HasNoFault words
+
+-- the matches of `replay`, where that is the command that is met
+abbrev pub replay_rows : Option (Text × List Row) → List Row
+replay_rows None = []
+replay_rows (Some met) = if bytes_eq met.0 (codes "replay") then met.1 else []
+
+-- the command that is met is `serve`
+abbrev pub meets_serve : Option (Text × List Row) → Bool
+meets_serve None = false
+meets_serve (Some met) = bytes_eq met.0 (codes "serve")
+
+-- the octets that the text spells in six hexadecimal digits, of either case
+abbrev pub network_of : Text → Option (List ℕ)
+network_of text = result_ok (decode_sized text 3)
+
+-- the network of the value of `--plmn`
+abbrev pub network_in : List Row → Option (List ℕ)
+network_in rows = option_and_then network_of (first_of (codes "plmn") rows)
+
+-- the number that the text writes, if the option takes it
+abbrev pub limit_of : Text → Option ℕ
+limit_of text = if accepts false entry_numbers text then Some (digits_value 10 (without_leading_plus text)) else None
+
+-- the number of the value of `--journal`
+abbrev pub limit_in : List Row → Option ℕ
+limit_in rows = option_and_then limit_of (one_of (codes "journal") rows)
+
+-- the network that the words ask for, by the matches that clap's rules give; none where the value isn't six hexadecimal digits
+abbrev pub asked_network : List Text → Option (List ℕ)
+asked_network words = network_in (replay_rows (subcommand_of command_line words))
+
+-- the greatest number of entries that they ask for; none where the value isn't a number from 1 to 4,000,000
+abbrev pub asked_limit : List Text → Option ℕ
+asked_limit words = limit_in (replay_rows (subcommand_of command_line words))
+
+-- the words ask for a script to be run with this network and this limit
+pub record Asks (words : List Text) (plmn : List ℕ) (limit : ℕ) : Type 0 where
+  pub well_formed : HasNoFault words
+  pub network : asked_network words ≡ Some plmn
+  pub entries : asked_limit words ≡ Some limit
+
+-- the words have no fault and don't ask for the server, and the value of `--plmn` isn't six hexadecimal digits
+abbrev pub AsksBadPlmn : List Text → Type 0
+AsksBadPlmn words = HasNoFault words × (meets_serve (subcommand_of command_line words) ≡ false) × (asked_network words ≡ None)
+
+-- the words have no fault and don't ask for the server, and the value of `--journal` isn't a number from 1 to 4,000,000
+abbrev pub AsksBadJournal : List Text → Type 0
+AsksBadJournal words = HasNoFault words × (meets_serve (subcommand_of command_line words) ≡ false) × (asked_limit words ≡ None)
+
+-- the words have no fault, and ask for the server
+abbrev pub AsksServe : List Text → Type 0
+AsksServe words = HasNoFault words × (meets_serve (subcommand_of command_line words) ≡ true)
+
+-- clap's rules answer the words by help, or by a version
+abbrev pub AsksHelp : List Text → Type 0
+AsksHelp words = IsAmong kind.DisplayHelp (fault_of command_line words) ⊎ IsAmong kind.DisplayVersion (fault_of command_line words)
+
+-- clap's rules find a mistake in the words
+abbrev pub IsMistaken : List Text → Type 0
+IsMistaken words = (k : ErrorKind) × IsAmong k (fault_of command_line words) × (k ≢ kind.DisplayHelp) × (k ≢ kind.DisplayVersion)
+
+-- what the parser's error of this kind comes to: help is not a mistake
+abbrev pub ComesTo : ErrorKind → NoRun → Type 0
+ComesTo k (Help text) = (k ≡ kind.DisplayHelp) ⊎ (k ≡ kind.DisplayVersion)
+ComesTo k (Refused text) = (k ≢ kind.DisplayHelp) × (k ≢ kind.DisplayVersion)
+ComesTo k Serve = ⊥
+ComesTo k BadPlmn = ⊥
+ComesTo k BadJournal = ⊥
+ComesTo k Memory = Unit {0}
+
+-- what no script is run for: help is asked for, or the server, the words have a mistake, the network or the number of entries is bad, or memory ran out
+abbrev pub Refuses : List Text → NoRun → Type 0
+Refuses words (Help text) = (AreTaken words → ⊥) × AsksHelp words
+Refuses words (Refused text) = (AreTaken words → ⊥) × IsMistaken words
+Refuses words Serve = AsksServe words
+Refuses words BadPlmn = AsksBadPlmn words
+Refuses words BadJournal = AsksBadJournal words
+Refuses words Memory = Unit {0}

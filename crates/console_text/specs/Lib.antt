@@ -1,0 +1,12 @@
+pub mod Parts
+pub mod Words
+pub mod Lines
+pub mod Numbers
+pub mod Grammar
+pub mod Headings
+pub mod HexText
+pub mod Frames
+pub mod Laws
+pub mod Texts
+pub mod Faults
+pub mod CommandLine

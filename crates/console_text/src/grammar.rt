@@ -1,0 +1,385 @@
+//! The lines that an operator may write.
+
+ghost use Rattle.std.specs.Prelude.{◌≡◌, [], ◌∷◌, IfOk};
+ghost use Rattle.console_text.specs.Grammar.{bsc_of, two_octets_of, warning_of, link_generation_of, cell_of, scope_of, category_of, names_of, add_cell, move_cell, keep, ask, ask_after, content_heading_of, heading_of, line_of};
+
+use crate::content_heading::ContentHeading;
+use crate::heading::Heading;
+use crate::line::Line;
+use crate::numbers::read_number_in;
+use crate::parts::split_parts;
+use crate::words::is_word;
+use areas::Selector;
+use cell_register::BscId;
+use common::{Cell, Name, Names, Octets};
+use serials::Scope;
+use std::alloc::{AllocError, Global};
+use warning_book::{Category, WarningId};
+
+/// The line of the words; `None` where there is no such line, or a number isn't one or is out of its range.
+pub fn read_line(alloc: Global, words: &[Octets]) -> Result<Option<Line>, AllocError>
+    ensures { IfOk result (λ line. line ≡ line_of words.now) }
+{
+    match words {
+        [verb] => Ok(read_one(verb.as_slice())),
+        [verb, x] => Ok(read_two(verb.as_slice(), x.as_slice())),
+        [verb, x, y] => read_three(alloc, verb.as_slice(), x.as_slice(), y.as_slice()),
+        [verb, x, y, z] => read_four(
+            alloc,
+            verb.as_slice(),
+            x.as_slice(),
+            y.as_slice(),
+            z.as_slice(),
+        ),
+        [verb, x, y, z, t] => read_five(
+            alloc,
+            verb.as_slice(),
+            x.as_slice(),
+            y.as_slice(),
+            z.as_slice(),
+            t.as_slice(),
+        ),
+        [verb, warning, dcs, category, period, pages] => {
+            read_six(alloc, verb, warning, dcs, category, period, pages)
+        }
+        [verb, message_id, scope, dcs, category, period, pages, areas] => {
+            read_eight(
+                alloc, verb, message_id, scope, dcs, category, period, pages, areas,
+            )
+        }
+        _ => Ok(None),
+    }
+}
+
+/// B, a number from 1.
+fn read_bsc(word: &[u8]) -> Option<BscId>
+    ensures { result ≡ bsc_of word.now }
+{
+    let number = read_number_in(word, 1, 65535)?;
+    BscId::new(number as u16)
+}
+
+/// L, C, M and PERIOD, a number of two octets.
+fn read_two_octets(word: &[u8]) -> Option<u16>
+    ensures { result ≡ two_octets_of word.now }
+{
+    let number = read_number_in(word, 0, 65535)?;
+    Some(number as u16)
+}
+
+/// W, a number of four octets.
+fn read_warning(word: &[u8]) -> Option<WarningId>
+    ensures { result ≡ warning_of word.now }
+{
+    let number = read_number_in(word, 0, 4294967295)?;
+    Some(WarningId::new(number as u32))
+}
+
+/// G, a number of four octets.
+fn read_generation(word: &[u8]) -> Option<u64>
+    ensures { result ≡ link_generation_of word.now }
+{
+    read_number_in(word, 0, 4294967295)
+}
+
+/// L and C.
+fn read_cell(lac: &[u8], ci: &[u8]) -> Option<Cell>
+    ensures { result ≡ cell_of lac.now ci.now }
+{
+    Some(Cell {
+        lac: read_two_octets(lac)?,
+        ci: read_two_octets(ci)?,
+    })
+}
+
+/// SCOPE, 0 to 3.
+fn read_scope(word: &[u8]) -> Option<Scope>
+    ensures { result ≡ scope_of word.now }
+{
+    let number = read_number_in(word, 0, 3)?;
+    Scope::from_number(number as u16)
+}
+
+/// CAT, 0 high priority, 1 background, 2 normal.
+fn read_category(word: &[u8]) -> Option<Category>
+    ensures { result ≡ category_of word.now }
+{
+    let number = read_number_in(word, 0, 255)?;
+    Category::of_number(number as u8)
+}
+
+/// AREAS, names joined by `,`, or `-` for none.
+fn read_names(alloc: Global, word: &[u8]) -> Result<Names, AllocError>
+    ensures { IfOk result (λ names. names ≡ names_of word.now) }
+{
+    let mut names = Vec::new(alloc);
+    if is_word(word, b"-") {
+        return Ok(Names::from_vec(names));
+    }
+    let parts = split_parts(alloc, word, b',')?;
+    for part in parts {
+        names.push(Name::from_vec(part.into_vec()))?;
+    }
+    Ok(Names::from_vec(names))
+}
+
+fn read_name(alloc: Global, word: &[u8]) -> Result<Name, AllocError>
+    ensures { IfOk result (λ name. name ≡ word.now) }
+{
+    Ok(Name::from_vec(Vec::from_slice(alloc, word)?))
+}
+
+/// `rebuild`
+fn read_one(verb: &[u8]) -> Option<Line>
+    ensures { result ≡ line_of (verb.now ∷ []) }
+{
+    if is_word(verb, b"rebuild") {
+        Some(Line::Rebuild)
+    } else {
+        None
+    }
+}
+
+/// `retry B`, `up B`, `down B`, `send B`, `stop W`, `forget W`, `board W`, `pending B`, `table B`
+fn read_two(verb: &[u8], x: &[u8]) -> Option<Line>
+    ensures { result ≡ line_of (verb.now ∷ x.now ∷ []) }
+{
+    if is_word(verb, b"retry") {
+        Some(Line::Retry(read_bsc(x)?))
+    } else if is_word(verb, b"up") {
+        Some(Line::Up(read_bsc(x)?))
+    } else if is_word(verb, b"down") {
+        Some(Line::Down(read_bsc(x)?))
+    } else if is_word(verb, b"send") {
+        Some(Line::Send(read_bsc(x)?))
+    } else if is_word(verb, b"stop") {
+        Some(Line::Stop(read_warning(x)?))
+    } else if is_word(verb, b"forget") {
+        Some(Line::Forget(read_warning(x)?))
+    } else if is_word(verb, b"board") {
+        Some(Line::Board(read_warning(x)?))
+    } else if is_word(verb, b"pending") {
+        Some(Line::Pending(read_bsc(x)?))
+    } else if is_word(verb, b"table") {
+        Some(Line::Table(read_bsc(x)?))
+    } else {
+        None
+    }
+}
+
+/// `bsc add B`, `bsc remove B`, `area add N`, `area drop N`, `widen W N`, `narrow W N`, `gen B G`, `rx B HEX`, `ask B W`,
+/// `board W N`
+fn read_three(alloc: Global, verb: &[u8], x: &[u8], y: &[u8]) -> Result<Option<Line>, AllocError>
+    ensures { IfOk result (λ line. line ≡ line_of (verb.now ∷ x.now ∷ y.now ∷ [])) }
+{
+    if is_word(verb, b"bsc") && is_word(x, b"add") {
+        Ok(read_bsc(y).map(Line::AddBsc))
+    } else if is_word(verb, b"bsc") && is_word(x, b"remove") {
+        Ok(read_bsc(y).map(Line::RemoveBsc))
+    } else if is_word(verb, b"area") && is_word(x, b"add") {
+        Ok(Some(Line::AddArea(read_name(alloc, y)?)))
+    } else if is_word(verb, b"area") && is_word(x, b"drop") {
+        Ok(Some(Line::DropArea(read_name(alloc, y)?)))
+    } else if is_word(verb, b"widen") {
+        match read_warning(x) {
+            Some(warning) => Ok(Some(Line::Widen(warning, read_name(alloc, y)?))),
+            None => Ok(None),
+        }
+    } else if is_word(verb, b"narrow") {
+        match read_warning(x) {
+            Some(warning) => Ok(Some(Line::Narrow(warning, read_name(alloc, y)?))),
+            None => Ok(None),
+        }
+    } else if is_word(verb, b"gen") {
+        Ok(read_keep(x, y))
+    } else if is_word(verb, b"rx") {
+        match read_bsc(x) {
+            Some(bsc) => Ok(Some(Line::Report(bsc, Octets::from_vec(Vec::from_slice(alloc, y)?)))),
+            None => Ok(None),
+        }
+    } else if is_word(verb, b"ask") {
+        Ok(read_ask(x, y, None))
+    } else if is_word(verb, b"board") {
+        match read_warning(x) {
+            Some(warning) => Ok(Some(Line::AreaBoard(warning, read_name(alloc, y)?))),
+            None => Ok(None),
+        }
+    } else {
+        Ok(None)
+    }
+}
+
+fn read_keep(bsc: &[u8], generation: &[u8]) -> Option<Line>
+    ensures { result ≡ keep bsc.now generation.now }
+{
+    let bsc = read_bsc(bsc)?;
+    Some(Line::Keep(bsc, read_generation(generation)?))
+}
+
+fn read_ask(bsc: &[u8], warning: &[u8], after: Option<Cell>) -> Option<Line>
+    ensures { result ≡ ask bsc.now warning.now after }
+{
+    let bsc = read_bsc(bsc)?;
+    Some(Line::Ask(bsc, read_warning(warning)?, after))
+}
+
+fn read_ask_after(bsc: &[u8], warning: &[u8], lac: &[u8], ci: &[u8]) -> Option<Line>
+    ensures { result ≡ ask_after bsc.now warning.now lac.now ci.now }
+{
+    let after = read_cell(lac, ci)?;
+    read_ask(bsc, warning, Some(after))
+}
+
+/// `cell remove L C`, `area put N L`, `area cut N L`
+fn read_four(
+    alloc: Global,
+    verb: &[u8],
+    x: &[u8],
+    y: &[u8],
+    z: &[u8],
+) -> Result<Option<Line>, AllocError>
+    ensures { IfOk result (λ line. line ≡ line_of (verb.now ∷ x.now ∷ y.now ∷ z.now ∷ [])) }
+{
+    if is_word(verb, b"cell") && is_word(x, b"remove") {
+        Ok(read_cell(y, z).map(Line::RemoveCell))
+    } else if is_word(verb, b"area") && is_word(x, b"put") {
+        match read_two_octets(z) {
+            Some(lac) => Ok(Some(Line::Put(read_name(alloc, y)?, Selector::Lac(lac)))),
+            None => Ok(None),
+        }
+    } else if is_word(verb, b"area") && is_word(x, b"cut") {
+        match read_two_octets(z) {
+            Some(lac) => Ok(Some(Line::Cut(read_name(alloc, y)?, Selector::Lac(lac)))),
+            None => Ok(None),
+        }
+    } else {
+        Ok(None)
+    }
+}
+
+/// `cell add L C B`, `cell move L C B`, `area put N L C`, `area cut N L C`, `ask B W L C`
+fn read_five(
+    alloc: Global,
+    verb: &[u8],
+    x: &[u8],
+    y: &[u8],
+    z: &[u8],
+    t: &[u8],
+) -> Result<Option<Line>, AllocError>
+    ensures { IfOk result (λ line. line ≡ line_of (verb.now ∷ x.now ∷ y.now ∷ z.now ∷ t.now ∷ [])) }
+{
+    if is_word(verb, b"cell") && is_word(x, b"add") {
+        Ok(read_added_cell(y, z, t))
+    } else if is_word(verb, b"cell") && is_word(x, b"move") {
+        Ok(read_moved_cell(y, z, t))
+    } else if is_word(verb, b"area") && is_word(x, b"put") {
+        match read_cell(z, t) {
+            Some(cell) => Ok(Some(Line::Put(read_name(alloc, y)?, Selector::Cell(cell)))),
+            None => Ok(None),
+        }
+    } else if is_word(verb, b"area") && is_word(x, b"cut") {
+        match read_cell(z, t) {
+            Some(cell) => Ok(Some(Line::Cut(read_name(alloc, y)?, Selector::Cell(cell)))),
+            None => Ok(None),
+        }
+    } else if is_word(verb, b"ask") {
+        Ok(read_ask_after(x, y, z, t))
+    } else {
+        Ok(None)
+    }
+}
+
+fn read_added_cell(lac: &[u8], ci: &[u8], bsc: &[u8]) -> Option<Line>
+    ensures { result ≡ add_cell lac.now ci.now bsc.now }
+{
+    let cell = read_cell(lac, ci)?;
+    Some(Line::AddCell(cell, read_bsc(bsc)?))
+}
+
+fn read_moved_cell(lac: &[u8], ci: &[u8], bsc: &[u8]) -> Option<Line>
+    ensures { result ≡ move_cell lac.now ci.now bsc.now }
+{
+    let cell = read_cell(lac, ci)?;
+    Some(Line::MoveCell(cell, read_bsc(bsc)?))
+}
+
+fn read_content_heading(dcs: &Octets, category: &Octets, period: &Octets) -> Option<ContentHeading>
+    ensures { result ≡ content_heading_of dcs.now category.now period.now }
+{
+    Some(ContentHeading {
+        dcs: read_number_in(dcs.as_slice(), 0, 255)? as u8,
+        category: read_category(category.as_slice())?,
+        period: read_two_octets(period.as_slice())?,
+    })
+}
+
+fn read_heading(
+    message_id: &Octets,
+    scope: &Octets,
+    dcs: &Octets,
+    category: &Octets,
+    period: &Octets,
+) -> Option<Heading>
+    ensures { result ≡ heading_of message_id.now scope.now dcs.now category.now period.now }
+{
+    Some(Heading {
+        message_id: read_two_octets(message_id.as_slice())?,
+        scope: read_scope(scope.as_slice())?,
+        content: read_content_heading(dcs, category, period)?,
+    })
+}
+
+/// `update W DCS CAT PERIOD PAGES`
+fn read_six(
+    alloc: Global,
+    verb: &Octets,
+    warning: &Octets,
+    dcs: &Octets,
+    category: &Octets,
+    period: &Octets,
+    pages: &Octets,
+) -> Result<Option<Line>, AllocError>
+    ensures { IfOk result (λ line. line ≡ line_of (verb.now ∷ warning.now ∷ dcs.now ∷ category.now ∷ period.now ∷ pages.now ∷ [])) }
+{
+    if !is_word(verb.as_slice(), b"update") {
+        return Ok(None);
+    }
+    let Some(warning) = read_warning(warning.as_slice()) else {
+        return Ok(None);
+    };
+    let Some(heading) = read_content_heading(dcs, category, period) else {
+        return Ok(None);
+    };
+    Ok(Some(Line::Update {
+        warning,
+        heading,
+        pages: pages.copied(alloc)?,
+    }))
+}
+
+/// `issue M SCOPE DCS CAT PERIOD PAGES AREAS`
+fn read_eight(
+    alloc: Global,
+    verb: &Octets,
+    message_id: &Octets,
+    scope: &Octets,
+    dcs: &Octets,
+    category: &Octets,
+    period: &Octets,
+    pages: &Octets,
+    areas: &Octets,
+) -> Result<Option<Line>, AllocError>
+    ensures { IfOk result (λ line. line ≡ line_of (verb.now ∷ message_id.now ∷ scope.now ∷ dcs.now ∷ category.now ∷ period.now ∷ pages.now ∷ areas.now ∷ [])) }
+{
+    if !is_word(verb.as_slice(), b"issue") {
+        return Ok(None);
+    }
+    let Some(heading) = read_heading(message_id, scope, dcs, category, period) else {
+        return Ok(None);
+    };
+    Ok(Some(Line::Issue {
+        heading,
+        pages: pages.copied(alloc)?,
+        areas: read_names(alloc, areas.as_slice())?,
+    }))
+}

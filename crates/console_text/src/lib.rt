@@ -1,0 +1,29 @@
+//! The text of a console of a cell broadcast centre: what an operator may write, and what he is answered.
+//!
+//! Octets become lines (`lines`), a line becomes words (`words`) and a `Line` (`grammar`), and a `Response` becomes text
+//! (`answer_text`). Begin with `line` and `response`; what they mean stands in `specs/Grammar` and `specs/Texts`. What the command
+//! line asks for is read by `options`.
+#![tactic(auto)]
+
+pub mod answer_text;
+pub mod content_heading;
+mod digits;
+mod fault;
+pub mod frames;
+pub mod grammar;
+pub mod heading;
+pub mod hex_text;
+mod laws;
+pub mod line;
+pub mod lines;
+mod list_text;
+pub mod no_run;
+mod numbers;
+pub mod options;
+mod parts;
+pub mod response;
+pub mod runs;
+pub mod words;
+
+pub use fault::{ReplayFault, fault_words};
+pub use laws::written_is_cut;

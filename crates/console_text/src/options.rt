@@ -1,0 +1,213 @@
+//! What the command line asks for.
+
+ghost use Rattle.std.specs.Prelude.{◌≡◌, ◌≤◌, false, map, string_bytes, IfOk, IfErr, IfSome};
+ghost use Rattle.clap.specs.Words.{app_of, kind_of, rule_of, subcommand_rows_of};
+ghost use Rattle.clap.specs.declared.builder.command.Command.TheViews.{out-Command as fields_of};
+ghost use Rattle.console_text.specs.CommandLine.{plmn_option, journal_option, host_option, base_option, links_option, sim_option, with_common, with_ports, replay_command, serve_command, command_line, most_entries};
+ghost use Rattle.console_text.specs.CommandLine.{meets_serve, replay_rows, network_in, limit_in, Asks, ComesTo, Refuses};
+
+use crate::no_run::NoRun;
+use clap::builder::ValueParser;
+use clap::error::ErrorKind;
+use clap::{Arg, ArgAction, ArgMatches, Command, Error};
+use hex::FromHex;
+use std::alloc::{AllocError, Global};
+
+/// The most entries that a journal may hold, and the number where none is given.
+pub const MOST_ENTRIES: u32 = 4_000_000;
+
+/// What a script is run with.
+#[derive(Clone, Copy, Debug)]
+pub struct Options {
+    /// The network code, as TS 24.008 writes it in three octets.
+    pub plmn: [u8; 3],
+    pub journal_limit: u32,
+    ghost few: { journal_limit ≤ most_entries },
+}
+
+fn plmn_option<'a>(alloc: Global) -> Arg<'a>
+    ensures rule { rule_of result ≡ plmn_option }
+    ensures own { result.global ≡ false }
+{
+    Arg::new(alloc, "plmn")
+        .long("plmn")
+        .value_name("HEX")
+        .default_value("00f110")
+        .help("The network code, six hexadecimal digits")
+}
+
+fn journal_option<'a>(alloc: Global) -> Arg<'a>
+    ensures rule { rule_of result ≡ journal_option }
+    ensures own { result.global ≡ false }
+{
+    Arg::new(alloc, "journal")
+        .long("journal")
+        .value_name("N")
+        .default_value("4000000")
+        .value_parser(ValueParser::unsigned(1, u64::from(MOST_ENTRIES)))
+        .help("How many entries the journal holds")
+}
+
+/// The options of both commands.
+fn with_common<'a>(alloc: Global, command: Command<'a>) -> Result<Command<'a>, AllocError>
+    requires { (fields_of command).has_globals ≡ false }
+    ensures app { IfOk result (λ c. app_of c ≡ with_common (app_of command.entry)) }
+    ensures own { IfOk result (λ c. (fields_of c).has_globals ≡ false) }
+{
+    command.arg(plmn_option(alloc))?.arg(journal_option(alloc))
+}
+
+fn replay_command<'a>(alloc: Global) -> Result<Command<'a>, AllocError>
+    ensures app { IfOk result (λ c. app_of c ≡ replay_command) }
+    ensures own { IfOk result (λ c. (fields_of c).has_globals ≡ false) }
+{
+    let command = Command::new(alloc, "replay").about("Answers the lines of standard input");
+    with_common(alloc, command)
+}
+
+fn host_option<'a>(alloc: Global) -> Arg<'a>
+    ensures rule { rule_of result ≡ host_option }
+    ensures own { result.global ≡ false }
+{
+    Arg::new(alloc, "host")
+        .long("host")
+        .value_name("H")
+        .default_value("127.0.0.1")
+        .help("The address that is listened on")
+}
+
+fn base_option<'a>(alloc: Global) -> Arg<'a>
+    ensures rule { rule_of result ≡ base_option }
+    ensures own { result.global ≡ false }
+{
+    Arg::new(alloc, "base")
+        .long("base")
+        .value_name("P")
+        .default_value("48049")
+        .value_parser(ValueParser::unsigned(1, 65535))
+        .help("The port of BSC 1; BSC 2 has the next, and so on")
+}
+
+fn links_option<'a>(alloc: Global) -> Arg<'a>
+    ensures rule { rule_of result ≡ links_option }
+    ensures own { result.global ≡ false }
+{
+    Arg::new(alloc, "links")
+        .long("links")
+        .value_name("N")
+        .default_value("1")
+        .value_parser(ValueParser::unsigned(1, 256))
+        .help("How many BSCs may connect, from BSC 1 on")
+}
+
+fn sim_option<'a>(alloc: Global) -> Arg<'a>
+    ensures rule { rule_of result ≡ sim_option }
+    ensures own { result.global ≡ false }
+{
+    Arg::new(alloc, "sim")
+        .long("sim")
+        .action(ArgAction::SetTrue)
+        .help("A simulated BSC connects to each port, once its BSC is added")
+}
+
+/// The options by which BSCs connect.
+fn with_ports<'a>(alloc: Global, command: Command<'a>) -> Result<Command<'a>, AllocError>
+    requires { (fields_of command).has_globals ≡ false }
+    ensures app { IfOk result (λ c. app_of c ≡ with_ports (app_of command.entry)) }
+    ensures own { IfOk result (λ c. (fields_of c).has_globals ≡ false) }
+{
+    let command = command.arg(host_option(alloc))?.arg(base_option(alloc))?;
+    command.arg(links_option(alloc))
+}
+
+fn serve_command<'a>(alloc: Global) -> Result<Command<'a>, AllocError>
+    ensures app { IfOk result (λ c. app_of c ≡ serve_command) }
+    ensures own { IfOk result (λ c. (fields_of c).has_globals ≡ false) }
+{
+    let command = Command::new(alloc, "serve").about("Keeps warnings on air over TCP");
+    let command = with_ports(alloc, with_common(alloc, command)?)?;
+    command.arg(sim_option(alloc))
+}
+
+/// The command line that is taken.
+pub fn command_line<'a>(alloc: Global) -> Result<Command<'a>, AllocError>
+    ensures { IfOk result (λ c. app_of c ≡ command_line) }
+{
+    let replay = replay_command(alloc)?;
+    let serve = serve_command(alloc)?;
+    Command::new(alloc, "cbc")
+        .about("A cell broadcast centre")
+        .subcommand_required(true)
+        .subcommand(replay)?
+        .subcommand(serve)
+}
+
+/// What the words ask for; the program's own is the first.
+pub fn read_options<'a>(alloc: Global, words: &'a [String]) -> Result<Options, NoRun>
+    ensures asked { IfOk result (λ options. Asks (map string_bytes words.now) options.plmn options.journal_limit) }
+    ensures refused { IfErr result (Refuses (map string_bytes words.now)) }
+{
+    let matches = match command_line(alloc)?.try_get_matches_from(words) {
+        Ok(matches) => matches,
+        Err(error) => return Err(no_run(alloc, &error)),
+    };
+    if asks_server(&matches) {
+        return Err(NoRun::Serve);
+    }
+    let Some(plmn) = asked_plmn(&matches) else {
+        return Err(NoRun::BadPlmn);
+    };
+    let Some(journal_limit) = asked_journal(&matches) else {
+        return Err(NoRun::BadJournal);
+    };
+    Ok(Options {
+        plmn,
+        journal_limit,
+    })
+}
+
+/// Whether the server is asked for.
+fn asks_server(matches: &ArgMatches<'_>) -> bool
+    ensures { result ≡ meets_serve (subcommand_rows_of matches.now) }
+{
+    matches.subcommand_matches("serve").is_some()
+}
+
+/// The network code; `None` where it isn't six hexadecimal digits.
+fn asked_plmn(matches: &ArgMatches<'_>) -> Option<[u8; 3]>
+    ensures { result ≡ network_in (replay_rows (subcommand_rows_of matches.now)) }
+{
+    let replay = matches.subcommand_matches("replay")?;
+    <[u8; 3] as FromHex>::from_hex(replay.get_str("plmn")?).ok()
+}
+
+/// How many entries the journal may hold; `None` where that isn't a number from 1 to 4,000,000. The parser refuses
+/// other numbers, but no contract of its names the values of a command below the first.
+fn asked_journal(matches: &ArgMatches<'_>) -> Option<u32>
+    ensures asked { result ≡ limit_in (replay_rows (subcommand_rows_of matches.now)) }
+    ensures few { IfSome result (λ limit. limit ≤ most_entries) }
+{
+    let replay = matches.subcommand_matches("replay")?;
+    match replay.get_one::<u32>("journal") {
+        Some(limit @ 1..=MOST_ENTRIES) => Some(limit),
+        _ => None,
+    }
+}
+
+/// Why the parser of command lines gave no matches.
+fn no_run(alloc: Global, error: &Error) -> NoRun
+    ensures memory { kind_of error.now ≡ ErrorKind.OutOfMemory → result ≡ NoRun.Memory }
+    ensures kind { ComesTo (kind_of error.now) result }
+{
+    if error.kind() == ErrorKind::OutOfMemory {
+        return NoRun::Memory;
+    }
+    let Ok(text) = format!(in alloc; "{error}") else {
+        return NoRun::Memory;
+    };
+    if error.use_stderr() {
+        NoRun::Refused(text)
+    } else {
+        NoRun::Help(text)
+    }
+}

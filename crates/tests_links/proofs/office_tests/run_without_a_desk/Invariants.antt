@@ -1,4 +1,0 @@
-use Rattle.tests_links.proofs.office_tests.run_without_a_desk.Given as goal
-
-abbrev pub ghosts-without_a_desk : goal.ghosts-without_a_desk
-ghosts-without_a_desk g a = record { name = a.blank.name; parts = a.blank.parts }

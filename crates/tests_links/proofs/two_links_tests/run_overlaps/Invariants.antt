@@ -1,4 +1,0 @@
-use Rattle.tests_links.proofs.two_links_tests.run_overlaps.Given as goal
-
-abbrev pub ghosts-overlaps : goal.ghosts-overlaps
-ghosts-overlaps g a = record { name = a.blank.name; parts = a.blank.parts }

@@ -1,4 +1,0 @@
-use Rattle.tests_links.proofs.write_side_tests.run_breaks.Given as goal
-
-abbrev pub ghosts-breaks : goal.ghosts-breaks
-ghosts-breaks g a = record { name = a.blank.name; parts = a.blank.parts }

@@ -1,4 +1,0 @@
-use Rattle.tests_links.proofs.write_side_tests.run_refused.Given as goal
-
-abbrev pub ghosts-refused : goal.ghosts-refused
-ghosts-refused g a = record { name = a.blank.name; parts = a.blank.parts }
