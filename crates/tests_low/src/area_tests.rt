@@ -20,8 +20,7 @@ fn made(rt: &impl Abort, found: Result<(), Refusal>, at: &str) {
 fn named(rt: &impl Abort, alloc: Global, names: &[&[u8]]) -> Areas {
     let mut areas = Areas::new(alloc);
     for octets in names {
-        let area = name(rt, alloc, octets);
-        made(rt, areas.add_area(&area), "an area is added");
+        adds(rt, alloc, &mut areas, octets);
     }
     areas
 }
@@ -73,15 +72,20 @@ fn selectors_are_copied(rt: HostRuntime) {
     same(&rt, &area.selectors.into_vec().len(), &1, "the selectors");
 }
 
+/// Location area 100 is put into these areas.
+fn put_all(rt: &impl Abort, alloc: Global, areas: &mut Areas, all: &[&[u8]]) {
+    for octets in all {
+        let area = name(rt, alloc, octets);
+        made(rt, areas.put(&area, Selector::Lac(100)), "a put");
+    }
+}
+
 #[test]
 fn the_areas_of_a_cell_are_in_order_of_octets(rt: HostRuntime) {
     let alloc = rt.alloc();
     let all: [&[u8]; 6] = [b"b", b"a-1", b"B", b"a", b"9", b"other"];
     let mut areas = named(&rt, alloc, &all);
-    for octets in &[b"9".as_slice(), b"a", b"B", b"a-1", b"b"] {
-        let area = name(&rt, alloc, octets);
-        made(&rt, areas.put(&area, Selector::Lac(100)), "a put");
-    }
+    put_all(&rt, alloc, &mut areas, &[b"9", b"a", b"B", b"a-1", b"b"]);
     has_areas(&rt, alloc, &areas, CELL, b"9 B a a-1 b ");
     has_areas(&rt, alloc, &areas, FAR, b"");
 }
@@ -108,7 +112,7 @@ fn done(areas: &mut Areas, area: &Name, doing: Doing) -> Result<(), Refusal> {
 /// cell of another.
 type Row = (&'static [u8], Doing, [&'static [u8]; 3]);
 
-const ROWS: [Row; 10] = [
+const ROWS: &[Row] = &[
     (b"a", Doing::Put(Selector::Cell(CELL)), [b"a ", b"", b""]),
     (b"a", Doing::Put(Selector::Lac(100)), [b"a ", b"a ", b""]),
     (
@@ -142,12 +146,16 @@ fn follows(rt: &impl Abort, alloc: Global, areas: &mut Areas, row: &Row) {
     has_areas(rt, alloc, areas, FAR, far);
 }
 
+fn follows_all(rt: &impl Abort, alloc: Global, areas: &mut Areas) {
+    for row in ROWS {
+        follows(rt, alloc, areas, row);
+    }
+}
+
 #[test]
 fn the_areas_of_a_cell_follow_each_edit(rt: HostRuntime) {
     let mut areas = named(&rt, rt.alloc(), &[b"c", b"b", b"a"]);
-    for row in &ROWS {
-        follows(&rt, rt.alloc(), &mut areas, row);
-    }
+    follows_all(&rt, rt.alloc(), &mut areas);
 }
 
 /// The area covers the cell or not, also once what it covers was looked for.
@@ -157,26 +165,37 @@ fn covers(rt: &impl Abort, areas: &Areas, area: &Name, cell: Cell, want: bool) {
     yes(rt, coverage.covers(cell) == want, "a cell of a coverage");
 }
 
+/// Cells, and whether location area 100 has them.
+const CELLS: &[(Cell, bool)] = &[
+    (CELL, true),
+    (NEXT, true),
+    (
+        Cell {
+            lac: 100,
+            ci: 65535,
+        },
+        true,
+    ),
+    (FAR, false),
+    (Cell { lac: 7, ci: 100 }, false),
+];
+
+/// The area covers the cells of location area 100, or none.
+fn covers_all(rt: &impl Abort, alloc: Global, areas: &Areas, area: &[u8], has_some: bool) {
+    let area = name(rt, alloc, area);
+    for (cell, is_there) in CELLS {
+        covers(rt, areas, &area, *cell, has_some && *is_there);
+    }
+}
+
 #[test]
 fn a_location_area_covers_each_of_its_cells(rt: HostRuntime) {
     let alloc = rt.alloc();
-    let coast = name(&rt, alloc, b"Coast");
-    let hills = name(&rt, alloc, b"Hills");
-    let nowhere = name(&rt, alloc, b"nowhere");
     let mut areas = named(&rt, alloc, &[b"Coast", b"Hills"]);
-    made(&rt, areas.put(&coast, Selector::Lac(100)), "a put");
-    for (lac, ci, want) in &[
-        (100, 7, true),
-        (100, 8, true),
-        (100, 65535, true),
-        (101, 7, false),
-        (7, 100, false),
-    ] {
-        let cell = Cell { lac: *lac, ci: *ci };
-        covers(&rt, &areas, &coast, cell, *want);
-        covers(&rt, &areas, &hills, cell, false);
-        covers(&rt, &areas, &nowhere, cell, false);
-    }
+    put_all(&rt, alloc, &mut areas, &[b"Coast"]);
+    covers_all(&rt, alloc, &areas, b"Coast", true);
+    covers_all(&rt, alloc, &areas, b"Hills", false);
+    covers_all(&rt, alloc, &areas, b"nowhere", false);
 }
 
 /// The area has the selectors of the first 4,096 location areas: no other is put until one of them is cut.
@@ -229,16 +248,24 @@ fn are_all(rt: &impl Abort, areas: &mut Areas, more: &Name, there: &Name) {
     made(rt, areas.add_area(more), "another is added");
 }
 
+fn adds(rt: &impl Abort, alloc: Global, areas: &mut Areas, octets: &[u8]) {
+    let area = name(rt, alloc, octets);
+    made(rt, areas.add_area(&area), "an area is added");
+}
+
+fn adds_4096(rt: &impl Abort, alloc: Global, areas: &mut Areas) {
+    for first in 0..64u8 {
+        for second in 0..64u8 {
+            adds(rt, alloc, areas, &digits(first, second));
+        }
+    }
+}
+
 #[test]
 fn there_are_4096_areas_at_most(rt: HostRuntime) {
     let alloc = rt.alloc();
     let mut areas = Areas::new(alloc);
-    for first in 0..64u8 {
-        for second in 0..64u8 {
-            let area = name(&rt, alloc, &digits(first, second));
-            made(&rt, areas.add_area(&area), "an area is added");
-        }
-    }
+    adds_4096(&rt, alloc, &mut areas);
     let more = name(&rt, alloc, b"one-more");
     are_all(&rt, &mut areas, &more, &name(&rt, alloc, b"0000"));
 }
@@ -248,26 +275,29 @@ fn has_text(rt: &impl Abort, alloc: Global, refusal: &Refusal, want: &str) {
     yes(rt, text.as_str() == want, want);
 }
 
+const FULL: Refusal = Refusal::Limit {
+    which: Limit::Selectors,
+};
+
+const TEXTS: &[(Refusal, &str)] = &[
+    (
+        Refusal::BadName,
+        "a name is 1 to 32 letters, digits or hyphens",
+    ),
+    (Refusal::AreaExists, "the area is there already"),
+    (Refusal::NoSuchArea, "no such area"),
+    (Refusal::SelectorThere, "the area has this selector already"),
+    (
+        Refusal::SelectorNotThere,
+        "the area does not have this selector",
+    ),
+    (FULL, "a limit would be passed: Selectors"),
+    (Refusal::Memory, "out of memory"),
+];
+
 #[test]
 fn refusals_have_texts(rt: HostRuntime) {
-    let full = Refusal::Limit {
-        which: Limit::Selectors,
-    };
-    for (refusal, want) in &[
-        (
-            Refusal::BadName,
-            "a name is 1 to 32 letters, digits or hyphens",
-        ),
-        (Refusal::AreaExists, "the area is there already"),
-        (Refusal::NoSuchArea, "no such area"),
-        (Refusal::SelectorThere, "the area has this selector already"),
-        (
-            Refusal::SelectorNotThere,
-            "the area does not have this selector",
-        ),
-        (full, "a limit would be passed: Selectors"),
-        (Refusal::Memory, "out of memory"),
-    ] {
+    for (refusal, want) in TEXTS {
         has_text(&rt, rt.alloc(), refusal, want);
     }
 }

@@ -41,7 +41,7 @@ fn issued(
 fn issued_for(rt: &impl Abort, alloc: Global, areas: &[&[u8]], scope: Scope) -> Book {
     let mut book = Book::new(alloc);
     let found = issued(rt, alloc, &mut book, 4370, scope, areas);
-    yes(rt, found.is_ok(), "the warning is issued");
+    yes(rt, found.is_ok(), "the first warning is issued");
     book
 }
 
@@ -127,20 +127,23 @@ fn keeps(rt: &impl Abort, alloc: Global, book: &Book, n: u16) {
     yes(rt, has_content(book, updated(n), &want), "an old content");
 }
 
-#[test]
-fn fifteen_updates_count_in_the_serial_number(rt: HostRuntime) {
-    let alloc = rt.alloc();
-    let mut book = issued_for(&rt, alloc, &[b"coast"], Scope::Cell);
+fn updates_and_keeps(rt: &impl Abort, alloc: Global, book: &mut Book) {
     for n in 1..16u16 {
-        updates(&rt, alloc, &mut book, n);
+        updates(rt, alloc, book, n);
     }
     for n in 0..16u16 {
-        keeps(&rt, alloc, &book, n);
+        keeps(rt, alloc, book, n);
     }
     let other = book.content_of(4371, Serial::from_u16(0xc000));
-    yes(&rt, other.is_none(), "another message identifier");
+    yes(rt, other.is_none(), "another message identifier");
     let last = book.content_of(4370, Serial::from_u16(0xc010));
-    yes(&rt, last.is_none(), "another code");
+    yes(rt, last.is_none(), "another code");
+}
+
+#[test]
+fn fifteen_updates_count_in_the_serial_number(rt: HostRuntime) {
+    let mut book = issued_for(&rt, rt.alloc(), &[b"coast"], Scope::Cell);
+    updates_and_keeps(&rt, rt.alloc(), &mut book);
 }
 
 fn version(rt: &impl Abort, alloc: Global, serial: u16, octet: u8) -> Version {
@@ -257,7 +260,7 @@ fn narrow_keeps_the_order_of_the_rest(rt: HostRuntime) {
 }
 
 /// What is done to the first warning of three, and the numbers of the warnings that then name one of these areas.
-const NAMING: [(Doing, &[&[u8]], &[u32]); 11] = [
+const NAMING: &[(Doing, &[&[u8]], &[u32])] = &[
     (Doing::Nothing, &[], &[]),
     (Doing::Nothing, &[b"north"], &[]),
     (Doing::Nothing, &[b"coast"], &[1, 3]),
@@ -281,18 +284,26 @@ fn name_one_of(rt: &impl Abort, alloc: Global, book: &Book, areas: &[&[u8]], wan
     }
 }
 
+/// Issues a warning for these areas.
+fn issue_for(rt: &impl Abort, alloc: Global, book: &mut Book, areas: &[&[u8]]) {
+    let found = issued(rt, alloc, book, 4370, Scope::Cell, areas);
+    yes(rt, found.is_ok(), "the warning is issued");
+}
+
+fn names_all(rt: &impl Abort, alloc: Global, book: &mut Book) {
+    for (doing, areas, want) in NAMING {
+        does(rt, alloc, book, *doing);
+        name_one_of(rt, alloc, book, areas, want);
+    }
+}
+
 #[test]
 fn warnings_that_name_one_of_several_areas_stand_once_and_in_order(rt: HostRuntime) {
     let alloc = rt.alloc();
     let mut book = issued_for(&rt, alloc, &[b"coast", b"hills"], Scope::Cell);
-    for (areas, number) in &[(&[b"hills".as_slice(), b"bay"][..], 2), (&[b"coast"], 3)] {
-        let found = issued(&rt, alloc, &mut book, 4370, Scope::Cell, areas);
-        yes(&rt, found.is_ok_and(|both| both.0 == *number), "an issue");
-    }
-    for (doing, areas, want) in &NAMING {
-        does(&rt, alloc, &mut book, *doing);
-        name_one_of(&rt, alloc, &book, areas, want);
-    }
+    issue_for(&rt, alloc, &mut book, &[b"hills", b"bay"]);
+    issue_for(&rt, alloc, &mut book, &[b"coast"]);
+    names_all(&rt, alloc, &mut book);
 }
 
 /// Issues a warning for one area, and answers its number and its serial number.
@@ -336,29 +347,32 @@ fn has_text(rt: &impl Abort, alloc: Global, refusal: &Refusal, want: &str) {
     yes(rt, text.as_str() == want, want);
 }
 
+const FULL: Refusal = Refusal::Limit { which: Limit::Ids };
+
+const TEXTS: &[(Refusal, &str)] = &[
+    (Refusal::NoSuchWarning, "no such warning"),
+    (Refusal::NotActive, "the warning was stopped"),
+    (Refusal::StillActive, "the warning is still active"),
+    (Refusal::NoAreas, "a warning needs an area"),
+    (Refusal::AreaThere, "the warning names this area already"),
+    (Refusal::AreaNotThere, "the warning does not name this area"),
+    (Refusal::LastArea, "the warning names no other area"),
+    (
+        Refusal::BadPages,
+        "a content has 1 to 15 pages of 1 to 82 octets",
+    ),
+    (Refusal::BadPeriod, "a repetition period is 1 to 1,024"),
+    (
+        Refusal::UpdatesExhausted,
+        "the warning was updated fifteen times",
+    ),
+    (FULL, "a limit would be passed: Ids"),
+    (Refusal::Memory, "out of memory"),
+];
+
 #[test]
 fn refusals_have_texts(rt: HostRuntime) {
-    let full = Refusal::Limit { which: Limit::Ids };
-    for (refusal, want) in &[
-        (Refusal::NoSuchWarning, "no such warning"),
-        (Refusal::NotActive, "the warning was stopped"),
-        (Refusal::StillActive, "the warning is still active"),
-        (Refusal::NoAreas, "a warning needs an area"),
-        (Refusal::AreaThere, "the warning names this area already"),
-        (Refusal::AreaNotThere, "the warning does not name this area"),
-        (Refusal::LastArea, "the warning names no other area"),
-        (
-            Refusal::BadPages,
-            "a content has 1 to 15 pages of 1 to 82 octets",
-        ),
-        (Refusal::BadPeriod, "a repetition period is 1 to 1,024"),
-        (
-            Refusal::UpdatesExhausted,
-            "the warning was updated fifteen times",
-        ),
-        (full, "a limit would be passed: Ids"),
-        (Refusal::Memory, "out of memory"),
-    ] {
+    for (refusal, want) in TEXTS {
         has_text(&rt, rt.alloc(), refusal, want);
     }
 }

@@ -159,15 +159,20 @@ fn writes(rt: &impl Abort, sink: &mut impl Sink, octets: &[u8], ended: Result<()
     same(rt, &write_all(sink, octets), &ended, "writing all");
 }
 
+/// Four octets are written, and no octet after the tenth.
+fn writes_ten(rt: &impl Abort, sink: &mut impl Sink) {
+    writes(rt, sink, &STREAM[..4], Ok(()));
+    writes(rt, sink, &STREAM[4..], Err(Failed));
+    same(rt, &sink.write(&[1]), &Err(Failed), "a write after it");
+}
+
 #[test]
 fn a_front_is_written_where_a_write_fails(rt: HostRuntime) {
-    let mut room = Vec::with_capacity(rt.alloc(), STREAM.len()).expect(&rt, "memory");
+    let room = Vec::with_capacity(rt.alloc(), STREAM.len()).expect(&rt, "memory");
     let mut sink = FailsAfter::new(InPieces::new(FromWrite::new(room), 3), 10);
-    writes(&rt, &mut sink, &STREAM[..4], Ok(()));
-    writes(&rt, &mut sink, &STREAM[4..], Err(Failed));
-    same(&rt, &sink.write(&[1]), &Err(Failed), "a write after it");
-    room = sink.into_inner().into_inner().into_inner();
-    yes(&rt, room.as_slice() == &STREAM[..10], "the octets written");
+    writes_ten(&rt, &mut sink);
+    let wrote = sink.into_inner().into_inner().into_inner();
+    yes(&rt, wrote.as_slice() == &STREAM[..10], "the octets written");
 }
 
 /// A stream whose first calls fail, all for one cause.

@@ -65,36 +65,38 @@ fn every_call_answers(rt: HostRuntime) {
 }
 
 /// What each edit would answer at the second BSC, and that a third can be added.
+fn checks(rt: &impl Abort, register: &Register, second: BscId, third: BscId) {
+    let cell = Cell { lac: 7, ci: 7 };
+    made(rt, register.check_add_bsc(third), "a BSC");
+    let removed = register.check_remove_bsc(second);
+    same(rt, &removed, &Err(Refusal::BscHasCells), "a BSC with cells");
+    made(rt, register.check_add_cell(cell, second), "a cell");
+    made(rt, register.check_move_cell(FIRST, second), "a move");
+    made(rt, register.check_remove_cell(FIRST), "a removal");
+}
+
 #[test]
 fn a_check_accepts_what_its_edit_does(rt: HostRuntime) {
-    let (second, third) = (bsc(&rt, 2), bsc(&rt, 3));
     let register = begun(&rt, rt.alloc());
-    let cell = Cell { lac: 7, ci: 7 };
-    made(&rt, register.check_add_bsc(third), "a BSC");
-    let removed = register.check_remove_bsc(second);
-    same(
-        &rt,
-        &removed,
-        &Err(Refusal::BscHasCells),
-        "a BSC with cells",
-    );
-    made(&rt, register.check_add_cell(cell, second), "a cell");
-    made(&rt, register.check_move_cell(FIRST, second), "a move");
-    made(&rt, register.check_remove_cell(FIRST), "a removal");
+    checks(&rt, &register, bsc(&rt, 2), bsc(&rt, 3));
+}
+
+/// Cells that come first and between the others are listed there.
+fn lists_in_order(rt: &impl Abort, register: &mut Register, first: BscId) {
+    let least = Cell { lac: 3, ci: 65535 };
+    let between = Cell { lac: 100, ci: 8 };
+    made(rt, register.add_cell(least, first), "the least");
+    made(rt, register.add_cell(between, first), "the one between");
+    lists(rt, register, &[least, FIRST, between, THIRD]);
+    let of_area = [FIRST, between, SECOND];
+    are(rt, register.cells_in(100), &of_area, "location area 100");
+    are(rt, register.cells_in(7), &[], "location area 7");
 }
 
 #[test]
 fn cells_are_told_in_order(rt: HostRuntime) {
-    let least = Cell { lac: 3, ci: 65535 };
-    let between = Cell { lac: 100, ci: 8 };
-    let first = bsc(&rt, 1);
     let mut register = begun(&rt, rt.alloc());
-    made(&rt, register.add_cell(least, first), "the least");
-    made(&rt, register.add_cell(between, first), "the one between");
-    lists(&rt, &register, &[least, FIRST, between, THIRD]);
-    let of_area = [FIRST, between, SECOND];
-    are(&rt, register.cells_in(100), &of_area, "location area 100");
-    are(&rt, register.cells_in(7), &[], "location area 7");
+    lists_in_order(&rt, &mut register, bsc(&rt, 1));
 }
 
 /// The first BSC has these cells, the second has the second cell, and the third has none.

@@ -9,7 +9,7 @@ use bsc_sim::{Bsc, Choices, SimEnd};
 use cbsp_ie::{Cause, Cell, ElementId};
 use cbsp_messages::{Message, MessageFault, read, write};
 use framing::faulty::{EndsAtRead, FailsAfter, FailsAtRead, InPieces};
-use framing::{FromRead, FromWrite, Source};
+use framing::{FromRead, FromWrite, Sink, Source};
 use std::alloc::{AllocError, Global};
 use std::process::Abort;
 
@@ -353,19 +353,31 @@ const KILL_REFUSED: &str = "060000110e111202c000 090006010064000702 1200";
 /// How many octets of the stream of the two frames make a whole frame.
 const FRAME_ENDS: [usize; 2] = [116, 136];
 
-/// A conversation over the reader ends so, and what it writes is the answers to the frames that are whole then.
-fn came<R: Source>(rt: &impl Abort, alloc: Global, reader: &mut R, octets: usize, end: SimEnd) {
-    let mut writer = FromWrite::new(Vec::new(alloc));
-    let ended = Bsc::any(alloc).run(reader, &mut writer, &Choices::none(alloc));
-    same(rt, &ended, &end, "the end after some octets");
+/// The end of a conversation with a BSC of every cell.
+fn end_of(alloc: Global, reader: &mut impl Source, writer: &mut impl Sink) -> SimEnd {
+    let mut bsc = Bsc::any(alloc);
+    let choices = Choices::none(alloc);
+    bsc.run(reader, writer, &choices)
+}
+
+/// The answers to the frames that are whole after so many octets.
+fn due_after(rt: &impl Abort, alloc: Global, octets: usize) -> Vec<u8> {
     let [first, second] = FRAME_ENDS;
-    let replies = if octets < first {
+    if octets < first {
         due(rt, alloc, &[])
     } else if octets < second {
         due(rt, alloc, &[WRITTEN])
     } else {
         due(rt, alloc, &[WRITTEN, KILLED])
-    };
+    }
+}
+
+/// A conversation over the reader ends so, and what it writes is the answers to the frames that are whole then.
+fn came<R: Source>(rt: &impl Abort, alloc: Global, reader: &mut R, octets: usize, end: SimEnd) {
+    let mut writer = FromWrite::new(Vec::new(alloc));
+    let ended = end_of(alloc, reader, &mut writer);
+    same(rt, &ended, &end, "the end after some octets");
+    let replies = due_after(rt, alloc, octets);
     let wrote = writer.into_inner();
     yes(rt, wrote.as_slice() == replies.as_slice(), "the replies");
 }
@@ -408,7 +420,7 @@ fn takes(rt: &impl Abort, alloc: Global, octets: &[u8], room: usize, due: &[u8])
     let sink = InPieces::new(FromWrite::new(Vec::new(alloc)), 1);
     let mut writer = FailsAfter::new(sink, room);
     let mut reader = FromRead::new(octets);
-    let ended = Bsc::any(alloc).run(&mut reader, &mut writer, &Choices::none(alloc));
+    let ended = end_of(alloc, &mut reader, &mut writer);
     let end = if room == due.len() {
         SimEnd::PeerEnded
     } else {

@@ -1,6 +1,6 @@
 //! What no clause says of the lines of reports: that each call can succeed, and one report, worked by hand.
 
-use crate::values::bsc;
+use crate::values::{bsc, same, yes};
 use cbsp_ie::{Cause, CellId};
 use cell_register::{BscId, Register};
 use common::Cell;
@@ -57,11 +57,11 @@ fn reported(rt: &impl Abort, alloc: Global) -> LineTable {
 }
 
 fn sets_line(rt: &impl Abort, table: &mut LineTable, key: LineKey, line: Line) {
-    assert_eq!(rt; table.set_line(key, line), Ok(()));
+    table.set_line(key, line).expect(rt, "memory");
 }
 
 fn sets_down(rt: &impl Abort, table: &mut LineTable, b: BscId, is_down: bool) {
-    assert_eq!(rt; table.set_down(b, DOWN, is_down), Ok(()));
+    table.set_down(b, DOWN, is_down).expect(rt, "memory");
 }
 
 fn names(
@@ -72,30 +72,9 @@ fn names(
     ids: &[CellId],
     want: &[Cell],
 ) {
-    let cells = table
-        .cells_named(register, NETWORK, b, ids)
-        .expect(rt, "the cells are named");
-    assert!(rt; cells.as_slice() == want, "the cells named at {b:?}");
-}
-
-#[test]
-fn every_call_answers(rt: HostRuntime) {
-    let b = bsc(&rt, 1);
-    let register = registered(&rt, rt.alloc());
-    let mut table = LineTable::new(rt.alloc());
-    sets_line(&rt, &mut table, key(b, MOVED), on_air());
-    sets_line(&rt, &mut table, key(b, MOVED), Line::blank());
-    sets_down(&rt, &mut table, b, true);
-    sets_down(&rt, &mut table, b, false);
-    assert!(rt; table.known_cells(&register, b).is_ok());
-    let named = table.cells_named(&register, NETWORK, b, &[CellId::All]);
-    assert!(rt; named.is_ok());
-    assert!(rt; table.warnings_at(b, MOVED).is_ok());
-    assert!(rt; table.held_at(b, MOVED).is_ok());
-    assert!(rt; table.places_of(WarningId::new(1)).is_ok());
-    finds(&rt, &mut table, 0xc000, None, 1, &[]);
-    table.tell_soundness();
-    table.tell_line_count();
+    let cells = table.cells_named(register, NETWORK, b, ids);
+    let cells = cells.expect(rt, "memory");
+    yes(rt, cells.as_slice() == want, "the cells that are named");
 }
 
 /// Compares the cells after the given one in which that version of the first warning is on air at BSC 1.
@@ -111,45 +90,67 @@ fn finds(
     let cells = table
         .cells_on_air(bsc(rt, 1), WarningId::new(1), version, after, most)
         .expect(rt, "the cells are found");
-    assert!(rt; cells.as_slice() == want, "the cells on air with {serial}");
+    yes(rt, cells.as_slice() == want, "the cells on air");
+}
+
+/// The first version is on air in two cells, page by page, and the second in none.
+fn finds_pages(rt: &impl Abort, table: &mut LineTable) {
+    finds(rt, table, 0xc000, None, 1, &[MOVED]);
+    finds(rt, table, 0xc000, Some(MOVED), 9, &[DOWN]);
+    finds(rt, table, 0xc000, Some(DOWN), 9, &[]);
+    finds(rt, table, 0xc001, None, 9, &[]);
+    finds(rt, table, 0xc000, None, 0, &[]);
+    yes(rt, table.meter() == 7, "the lines that were read");
 }
 
 #[test]
 fn cells_on_air_are_found_page_by_page(rt: HostRuntime) {
+    let b = bsc(&rt, 1);
     let mut table = reported(&rt, rt.alloc());
-    sets_line(&rt, &mut table, key(bsc(&rt, 1), DOWN), on_air());
-    let mut other = key(bsc(&rt, 1), REGISTERED);
+    sets_line(&rt, &mut table, key(b, DOWN), on_air());
+    let mut other = key(b, REGISTERED);
     other.warning = WarningId::new(2);
     sets_line(&rt, &mut table, other, on_air());
-    finds(&rt, &mut table, 0xc000, None, 1, &[MOVED]);
-    finds(&rt, &mut table, 0xc000, Some(MOVED), 9, &[DOWN]);
-    finds(&rt, &mut table, 0xc000, Some(DOWN), 9, &[]);
-    finds(&rt, &mut table, 0xc001, None, 9, &[]);
-    finds(&rt, &mut table, 0xc000, None, 0, &[]);
-    assert_eq!(rt; table.meter(), 7);
+    finds_pages(&rt, &mut table);
+}
+
+/// At BSC 1 all three cells are known, and at BSC 2 none.
+fn names_known(rt: &impl Abort, table: &LineTable, register: &Register, b: BscId) {
+    let every = [REGISTERED, MOVED, DOWN];
+    let known = table.known_cells(register, b).expect(rt, "memory");
+    yes(rt, known.as_slice() == &every[..], "the cells known");
+    let in_area = [CellId::Lac { lac: 100 }];
+    names(rt, table, register, b, &in_area, &[REGISTERED, MOVED]);
+    names(rt, table, register, b, &[CellId::All], &every);
+    names(rt, table, register, bsc(rt, 2), &[CellId::All], &[]);
+    names(rt, table, register, b, &[], &[]);
 }
 
 #[test]
 fn a_report_names_the_known_cells(rt: HostRuntime) {
-    let b = bsc(&rt, 1);
-    let every = [REGISTERED, MOVED, DOWN];
     let register = registered(&rt, rt.alloc());
     let table = reported(&rt, rt.alloc());
-    let known = table.known_cells(&register, b).expect(&rt, "memory");
-    assert!(rt; known.as_slice() == every.as_slice());
-    let in_area = [CellId::Lac { lac: 100 }];
-    names(&rt, &table, &register, b, &in_area, &[REGISTERED, MOVED]);
-    names(&rt, &table, &register, b, &[CellId::All], &every);
-    names(&rt, &table, &register, bsc(&rt, 2), &[CellId::All], &[]);
-    names(&rt, &table, &register, b, &[], &[]);
+    names_known(&rt, &table, &register, bsc(&rt, 1));
+    table.tell_soundness();
+    table.tell_line_count();
 }
 
 /// The table has a line and a cell that is down at BSC 1.
 fn are_reported(rt: &impl Abort, table: &mut LineTable, b: BscId) {
-    assert_eq!(rt; table.read_line(key(b, MOVED)), on_air());
-    assert!(rt; table.read_line(key(b, REGISTERED)).is_blank());
-    assert!(rt; table.is_down(b, DOWN));
-    assert!(rt; !table.is_down(bsc(rt, 2), DOWN));
+    let line = table.read_line(key(b, MOVED));
+    yes(rt, line == on_air(), "a line that was set");
+    let other = table.read_line(key(b, REGISTERED));
+    yes(rt, other.is_blank(), "a line that was not");
+    yes(rt, table.is_down(b, DOWN), "the cell that is down");
+    yes(rt, !table.is_down(bsc(rt, 2), DOWN), "another BSC's cell");
+}
+
+/// The line is blank again, and the cell is up.
+fn are_forgotten(rt: &impl Abort, table: &mut LineTable, register: &Register, b: BscId) {
+    sets_line(rt, table, key(b, MOVED), Line::blank());
+    sets_down(rt, table, b, false);
+    names(rt, table, register, b, &[CellId::All], &[REGISTERED]);
+    yes(rt, table.meter() == 4, "the lines that were read or set");
 }
 
 #[test]
@@ -158,23 +159,19 @@ fn a_blank_line_and_a_cell_that_is_up_are_not_known(rt: HostRuntime) {
     let register = registered(&rt, rt.alloc());
     let mut table = reported(&rt, rt.alloc());
     are_reported(&rt, &mut table, b);
-    sets_line(&rt, &mut table, key(b, MOVED), Line::blank());
-    sets_down(&rt, &mut table, b, false);
-    names(&rt, &table, &register, b, &[CellId::All], &[REGISTERED]);
-    assert_eq!(rt; table.meter(), 4);
+    are_forgotten(&rt, &mut table, &register, b);
 }
 
 #[test]
 fn a_held_key_is_not_blank(rt: HostRuntime) {
+    let serial = Serial::from_u16(0xc00f);
     let mut state = KeyState::blank();
     state.hold = Some(Cause::UNSPECIFIED_ERROR);
-    let line = Line::blank().with_state(Serial::from_u16(0xc00f), state);
-    assert!(rt; !line.is_blank());
-    assert!(rt;
-        line.with_state(Serial::from_u16(0xc00f), KeyState::blank())
-            .is_blank()
-    );
-    assert_eq!(rt; line.state(Serial::from_u16(0xc00f)), state);
+    let line = Line::blank().with_state(serial, state);
+    yes(&rt, !line.is_blank(), "a line with a hold");
+    let blank = line.with_state(serial, KeyState::blank());
+    yes(&rt, blank.is_blank(), "the line without it");
+    same(&rt, &line.state(serial), &state, "the hold");
 }
 
 /// A line whose first version is held.
@@ -196,27 +193,31 @@ fn seventh(bsc: BscId, cell: Cell) -> LineKey {
 /// Compares the warnings whose line in the cell at BSC 1 is held.
 fn holds(rt: &impl Abort, table: &LineTable, cell: Cell, want: &[u32]) {
     let found = table.held_at(bsc(rt, 1), cell).expect(rt, "memory");
-    assert_eq!(rt; found.len(), want.len());
-    for index in 0..want.len() {
-        assert_eq!(rt; found[index].number(), want[index]);
+    yes(rt, found.len() == want.len(), "how many are held");
+    for (warning, number) in found.iter().zip(want) {
+        yes(rt, warning.number() == *number, "a line that is held");
     }
+}
+
+/// Lines come to be held in two cells, and are so no more in one of them.
+fn come_to_be_held(rt: &impl Abort, table: &mut LineTable, b: BscId) {
+    holds(rt, table, MOVED, &[]);
+    sets_line(rt, table, key(b, MOVED), held());
+    sets_line(rt, table, key(b, DOWN), held());
+    sets_line(rt, table, seventh(b, MOVED), held());
+    holds(rt, table, MOVED, &[1, 7]);
+    sets_line(rt, table, key(b, MOVED), on_air());
+    holds(rt, table, MOVED, &[7]);
+    sets_line(rt, table, seventh(b, MOVED), Line::blank());
+    holds(rt, table, MOVED, &[]);
+    holds(rt, table, DOWN, &[1]);
+    holds(rt, table, REGISTERED, &[]);
 }
 
 #[test]
 fn held_lines_are_found_by_their_cell(rt: HostRuntime) {
-    let b = bsc(&rt, 1);
     let mut table = reported(&rt, rt.alloc());
-    holds(&rt, &table, MOVED, &[]);
-    sets_line(&rt, &mut table, key(b, MOVED), held());
-    sets_line(&rt, &mut table, key(b, DOWN), held());
-    sets_line(&rt, &mut table, seventh(b, MOVED), held());
-    holds(&rt, &table, MOVED, &[1, 7]);
-    sets_line(&rt, &mut table, key(b, MOVED), on_air());
-    holds(&rt, &table, MOVED, &[7]);
-    sets_line(&rt, &mut table, seventh(b, MOVED), Line::blank());
-    holds(&rt, &table, MOVED, &[]);
-    holds(&rt, &table, DOWN, &[1]);
-    holds(&rt, &table, REGISTERED, &[]);
+    come_to_be_held(&rt, &mut table, bsc(&rt, 1));
 }
 
 #[test]
@@ -230,8 +231,11 @@ fn a_state_is_read_as_it_was_set(rt: HostRuntime) {
     let mut line = Line::blank();
     line.set_state(serial, state);
     line.tell_counts();
-    assert_eq!(rt; line.state(serial), state);
-    assert_eq!(rt; line.state(Serial::from_u16(0xc000)), KeyState::blank());
-    assert_eq!(rt; line, Line::blank().with_state(serial, state));
-    assert_eq!(rt; Line::of_each(state).state(Serial::from_u16(0xc003)), state);
+    same(&rt, &line.state(serial), &state, "the state that was set");
+    let other = line.state(Serial::from_u16(0xc000));
+    same(&rt, &other, &KeyState::blank(), "another");
+    let again = Line::blank().with_state(serial, state);
+    yes(&rt, line == again, "the line at once");
+    let third = Line::of_each(state).state(Serial::from_u16(0xc003));
+    same(&rt, &third, &state, "a state of each");
 }

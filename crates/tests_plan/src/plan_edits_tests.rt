@@ -1,7 +1,7 @@
 //! The pairs that an edit of the plan gives, against a comparison of whole plans: all that a pair depends on is read
 //! before the edit and after it, of every cell and warning that the edits can name.
 
-use crate::values::{bsc, content, name};
+use crate::values::{bsc, content, name, yes};
 use areas::Selector;
 use cell_register::BscId;
 use common::{Cell, Name, Names};
@@ -250,19 +250,22 @@ fn make(rt: &impl Abort, alloc: Global, plan: &mut Plan, edit: &Edit) -> Option<
         Ok(pairs) => {
             let expected = compared(alloc, before.as_slice(), after.as_slice());
             let expected = expected.expect(rt, "memory");
-            assert!(rt; pairs.as_slice() == expected.as_slice());
+            let is_same = pairs.as_slice() == expected.as_slice();
+            yes(rt, is_same, "the pairs that differ");
             Some(expected.len())
         }
         Err(_) => {
-            assert!(rt; before.as_slice() == after.as_slice());
+            let is_same = before.as_slice() == after.as_slice();
+            yes(rt, is_same, "a refused edit changes nothing");
             None
         }
     }
 }
 
 fn makes(rt: &impl Abort, plan: &mut Plan, edit: Edit) {
-    assert!(rt; plan.make(&edit) == Ok(()));
+    let made = plan.make(&edit);
     drop(edit);
+    yes(rt, made == Ok(()), "an edit is made");
 }
 
 /// Three BSCs, all cells at the first, and the four areas.
@@ -279,25 +282,36 @@ fn begun(rt: &impl Abort, alloc: Global) -> Plan {
     plan
 }
 
-#[test]
-fn edit_as_before(rt: HostRuntime) {
-    let alloc = rt.alloc();
-    let mut plan = begun(&rt, alloc);
+/// Draws an edit and makes it. How many pairs it gives, or none where it is refused.
+fn draws(rt: &impl Abort, alloc: Global, plan: &mut Plan, draw: &mut Draw) -> Option<usize> {
+    let edit = next_edit(rt, alloc, draw);
+    let pairs = make(rt, alloc, plan, &edit);
+    drop(edit);
+    pairs
+}
+
+/// Makes drawn edits until so many are accepted. How many are, and how many pairs they give.
+fn draws_all(rt: &impl Abort, alloc: Global, plan: &mut Plan) -> (u32, usize) {
     let mut draw = Draw { state: 1 };
     let mut accepted: u32 = 0;
     let mut changed: usize = 0;
     for _ in 0..DRAWN {
-        let edit = next_edit(&rt, alloc, &mut draw);
-        if let Some(pairs) = make(&rt, alloc, &mut plan, &edit) {
+        if let Some(pairs) = draws(rt, alloc, plan, &mut draw) {
             accepted = accepted.saturating_add(1);
             changed = changed.saturating_add(pairs);
         }
-        drop(edit);
         if accepted == EDITS {
             break;
         }
     }
-    assert!(rt; accepted == EDITS);
-    assert!(rt; changed >= 400);
-    assert!(rt; plan.book().issued() <= WARNINGS);
+    (accepted, changed)
+}
+
+#[test]
+fn edit_as_before(rt: HostRuntime) {
+    let mut plan = begun(&rt, rt.alloc());
+    let (accepted, changed) = draws_all(&rt, rt.alloc(), &mut plan);
+    yes(&rt, accepted == EDITS, "the edits that are accepted");
+    yes(&rt, changed >= 400, "the pairs that they give");
+    yes(&rt, plan.book().issued() <= WARNINGS, "the warnings issued");
 }

@@ -1,10 +1,24 @@
-//! Values that the tests of several libraries are given.
+//! Values that the tests of several libraries are given, and what they demand of values.
+
+ghost use Rattle.std.specs.Prelude.{IsTrue};
 
 use cell_register::BscId;
 use common::{Name, Names, Octets};
 use std::alloc::Global;
 use std::process::Abort;
 use warning_book::{Category, Content, ContentPages};
+
+/// The value found is the one that is wanted. The words say where.
+pub(crate) fn same<T: PartialEq>(rt: &impl Abort, found: &T, want: &T, at: &str) {
+    assert!(rt; found == want, "{at}");
+}
+
+/// This holds. The words say where.
+pub(crate) fn yes(rt: &impl Abort, holds: bool, at: &str)
+    ensures { IsTrue holds }
+{
+    assert!(rt; holds, "{at}");
+}
 
 /// The BSC of that number.
 pub(crate) fn bsc(rt: &impl Abort, number: u16) -> BscId {

@@ -1,2 +1,0 @@
-pub mod KeptTablesLemmas
-pub mod BoardLemmas
