@@ -186,6 +186,7 @@ impl Centre {
     {
         self.tell_soundness();
         if self.stale {
+            drop(event);
             return Err(Refusal::Stale);
         }
         match event {
