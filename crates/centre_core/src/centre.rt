@@ -141,14 +141,20 @@ impl Centre {
         ensures least { self.old.lines ≤ self.new.lines }
         ensures entries { self.new.entries ≡ self.old.entries }
     {
-        let found = prepare_other(
+        let found = match prepare_other(
             self.alloc,
             self.plmn,
             self.limit,
             &mut self.journal,
             &mut self.kept,
             &event,
-        )?;
+        ) {
+            Ok(found) => found,
+            Err(refusal) => {
+                drop(event);
+                return Err(refusal);
+            }
+        };
         let (entry, given) = with_entry(self.alloc, desk, event, found.answer)?;
         let up = up_before(self.kept.links.as_slice(), &entry.event);
         let place = self.journal.len() + 1;
@@ -186,6 +192,7 @@ impl Centre {
     {
         self.tell_soundness();
         if self.stale {
+            drop(event);
             return Err(Refusal::Stale);
         }
         match event {

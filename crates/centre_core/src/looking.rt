@@ -4,11 +4,13 @@
 ghost use Rattle.std.specs.Prelude.{◌≡◌, ◌<◌, ◌≤◌, ◌+◌, List, ℕ, length, false, Ok, IfOk, IfErr, IsOk, OnOk};
 ghost use Rattle.centre_core.specs.Centre.{IsCentre, IsRefused};
 ghost use Rattle.centre_lines.specs.Following.{WasReached};
-ghost use Rattle.centre_past.specs.IsKept.{OnlyReadsIn};
+ghost use Rattle.centre_past.specs.IsKept.{IsKept, OnlyReadsIn};
+ghost use Rattle.centre_past.specs.Legal.{Legal};
 ghost use Rattle.centre_events.specs.Kept.{Gives, IsChecked, is_edit};
-ghost use Rattle.centre_events.specs.Past.{past_of};
-ghost use Rattle.centre_past.specs.Reach.{edit_reach, looked_at, reach, size};
-ghost use Rattle.centre_events.specs.Verdict.{verdict};
+ghost use Rattle.centre_events.specs.Past.{Past, past_of};
+ghost use Rattle.centre_events.specs.Settings.{Settings};
+ghost use Rattle.centre_past.specs.Reach.{edit_reach, looked_at, reach, reach_of, size};
+ghost use Rattle.centre_events.specs.Verdict.{answered, verdict};
 ghost use Rattle.centre_events.specs.declared.answer.Answer as answer_spec;
 ghost use Rattle.centre_events.specs.declared.event.Event.TheVariants as event;
 
@@ -103,6 +105,28 @@ pub(crate) struct Found {
     pub(crate) reached: Reached,
 }
 
+/// Makes room for one more entry, and reads the lines on which an event bears that is no edit, and that is answered so.
+fn reach_with_room(
+    alloc: Global,
+    journal: &mut Journal,
+    kept: &mut Kept,
+    event: &Event,
+    answer: &Answer,
+) -> Result<Reached, Refusal>
+    requires other { is_edit event.now ≡ false }
+    ensures entries { journal.new.entries ≡ journal.old.entries }
+    ensures unread { journal.new.reads ≡ journal.old.reads }
+    ensures room { OnOk result (1 ≤ journal.new.room) }
+    ensures refusal { IfErr result (λ r. r ≡ Refusal.Memory) }
+    ensures reads { OnlyReadsIn kept.old kept.new }
+    ensures reached { (settings : Settings) (past : Past) → Legal settings past → IsKept past kept.old → answered settings.network past event.now ≡ Ok answer.now → IfOk result (λ x. WasReached past event.now answer.now x.spots.items x.lines) }
+    ensures meter { (settings : Settings) (past : Past) → Legal settings past → IsKept past kept.old → answered settings.network past event.now ≡ Ok answer.now → kept.new.tables.lines.meter ≤ kept.old.tables.lines.meter + size (reach_of past event.now answer.now) }
+{
+    make_room(journal)?;
+    let reached = reached_by_other(alloc, kept, event, answer)?;
+    Ok(reached)
+}
+
 /// Finds what an event that is no edit is answered after the entries of the journal, which holds so many at most and has
 /// room for one more then, and reads the lines on which it bears.
 pub(crate) fn prepare_other(
@@ -125,7 +149,12 @@ pub(crate) fn prepare_other(
     ensures meter { IsCentre (record { network = network; limit = limit }) journal.old.entries false kept.old → kept.new.tables.lines.meter ≤ kept.old.tables.lines.meter + reach (past_of journal.old.entries) event.now (verdict (record { network = network; limit = limit }) (past_of journal.old.entries) event.now) }
 {
     let answer = look_at_other(alloc, network, limit, journal, kept, event)?;
-    make_room(journal)?;
-    let reached = reached_by_other(alloc, kept, event, &answer)?;
-    Ok(Found { answer, reached })
+    let reached = reach_with_room(alloc, journal, kept, event, &answer);
+    match reached {
+        Ok(reached) => Ok(Found { answer, reached }),
+        Err(refusal) => {
+            drop(answer);
+            Err(refusal)
+        }
+    }
 }
