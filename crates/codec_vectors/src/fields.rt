@@ -1,12 +1,13 @@
 //! The fields of a message, in the order of the file.
 
 use crate::value::Value;
+use anyhow::{Result, ensure};
 use cbsp_ie::{CellIds, Counts, Failures};
 use cbsp_messages::{
     ErrorIndication, Failure, Kill, KillComplete, KillFailure, Message, Page, Restart,
     StatusComplete, StatusFailure, StatusQuery, WriteComplete, WriteFailure, WriteReplace,
 };
-use std::alloc::{AllocError, Global};
+use std::alloc::Global;
 
 /// A field: its name and its value.
 #[derive(Drop)]
@@ -15,156 +16,156 @@ pub struct Field<'m> {
     pub value: Value<'m>,
 }
 
-/// The fields of a message.
+/// The fields of a message, and whether there was no memory for one of them.
 #[derive(Drop)]
 struct Fields<'m> {
     fields: Vec<Field<'m>>,
+    is_short: bool,
 }
 
 impl<'m> Fields<'m> {
-    fn put(&mut self, name: &'static str, value: Value<'m>) -> Result<(), AllocError> {
-        self.fields.push(Field { name, value })?;
-        Ok(())
+    fn put(&mut self, name: &'static str, value: Value<'m>) {
+        match self.fields.push(Field { name, value }) {
+            Ok(_) => {}
+            Err(error) => {
+                drop(error);
+                self.is_short = true;
+            }
+        }
     }
 
-    fn put_number(&mut self, name: &'static str, number: Option<u16>) -> Result<(), AllocError> {
+    fn put_number(&mut self, name: &'static str, number: Option<u16>) {
         match number {
             Some(number) => self.put(name, Value::Number(number)),
-            None => Ok(()),
+            None => {}
         }
     }
 
     /// The numbers that name a message.
-    fn put_names(
-        &mut self,
-        message_id: u16,
-        serial: u16,
-        old: Option<u16>,
-    ) -> Result<(), AllocError> {
-        self.put("message_id", Value::Number(message_id))?;
-        self.put("serial", Value::Number(serial))?;
-        self.put_number("old", old)
+    fn put_names(&mut self, message_id: u16, serial: u16, old: Option<u16>) {
+        self.put("message_id", Value::Number(message_id));
+        self.put("serial", Value::Number(serial));
+        self.put_number("old", old);
     }
 
-    fn put_failures(&mut self, failures: &'m Failures) -> Result<(), AllocError> {
-        self.put("failures", Value::Failures(failures))
+    fn put_failures(&mut self, failures: &'m Failures) {
+        self.put("failures", Value::Failures(failures));
     }
 
-    fn put_counts(&mut self, counts: Option<&'m Counts>) -> Result<(), AllocError> {
+    fn put_counts(&mut self, counts: Option<&'m Counts>) {
         match counts {
             Some(counts) => self.put("counts", Value::Counts(counts)),
-            None => Ok(()),
+            None => {}
         }
     }
 
-    fn put_cells(&mut self, cells: Option<&'m CellIds>) -> Result<(), AllocError> {
+    fn put_cells(&mut self, cells: Option<&'m CellIds>) {
         match cells {
             Some(cells) => self.put("cells", Value::Cells(cells)),
-            None => Ok(()),
+            None => {}
         }
     }
 
-    fn put_octet(&mut self, name: &'static str, octet: u8) -> Result<(), AllocError> {
-        self.put(name, Value::Number(u16::from(octet)))
+    fn put_octet(&mut self, name: &'static str, octet: u8) {
+        self.put(name, Value::Number(u16::from(octet)));
     }
 
-    fn put_channel(&mut self, channel: Option<u8>) -> Result<(), AllocError> {
-        self.put_number("channel", channel.map(|channel| u16::from(channel)))
+    fn put_channel(&mut self, channel: Option<u8>) {
+        self.put_number("channel", channel.map(|channel| u16::from(channel)));
     }
 
-    fn put_pages(&mut self, pages: &'m [Page]) -> Result<(), AllocError> {
+    fn put_pages(&mut self, pages: &'m [Page]) {
         for page in pages {
-            self.put("page", Value::Page(page))?;
+            self.put("page", Value::Page(page));
         }
-        Ok(())
     }
 
-    fn put_write_replace(&mut self, m: &'m WriteReplace) -> Result<(), AllocError> {
-        self.put_names(m.message_id, m.serial, m.old)?;
-        self.put_cells(Some(&m.cells))?;
-        self.put_octet("category", m.category)?;
-        self.put("period", Value::Number(m.period))?;
-        self.put("requested", Value::Number(m.requested))?;
-        self.put_octet("dcs", m.dcs)?;
-        self.put_channel(m.channel)?;
-        self.put_pages(m.pages.as_slice())
+    fn put_write_replace(&mut self, m: &'m WriteReplace) {
+        self.put_names(m.message_id, m.serial, m.old);
+        self.put_cells(Some(&m.cells));
+        self.put_octet("category", m.category);
+        self.put("period", Value::Number(m.period));
+        self.put("requested", Value::Number(m.requested));
+        self.put_octet("dcs", m.dcs);
+        self.put_channel(m.channel);
+        self.put_pages(m.pages.as_slice());
     }
 
-    fn put_write_complete(&mut self, m: &'m WriteComplete) -> Result<(), AllocError> {
-        self.put_names(m.message_id, m.serial, m.old)?;
-        self.put_counts(m.counts.as_ref())?;
-        self.put_cells(m.cells.as_ref())?;
-        self.put_channel(m.channel)
+    fn put_write_complete(&mut self, m: &'m WriteComplete) {
+        self.put_names(m.message_id, m.serial, m.old);
+        self.put_counts(m.counts.as_ref());
+        self.put_cells(m.cells.as_ref());
+        self.put_channel(m.channel);
     }
 
-    fn put_write_failure(&mut self, m: &'m WriteFailure) -> Result<(), AllocError> {
-        self.put_names(m.message_id, m.serial, m.old)?;
-        self.put_failures(&m.failures)?;
-        self.put_counts(m.counts.as_ref())?;
-        self.put_cells(m.cells.as_ref())?;
-        self.put_channel(m.channel)
+    fn put_write_failure(&mut self, m: &'m WriteFailure) {
+        self.put_names(m.message_id, m.serial, m.old);
+        self.put_failures(&m.failures);
+        self.put_counts(m.counts.as_ref());
+        self.put_cells(m.cells.as_ref());
+        self.put_channel(m.channel);
     }
 
-    fn put_kill(&mut self, m: &'m Kill) -> Result<(), AllocError> {
-        self.put_names(m.message_id, m.serial, None)?;
-        self.put_cells(Some(&m.cells))?;
-        self.put_channel(m.channel)
+    fn put_kill(&mut self, m: &'m Kill) {
+        self.put_names(m.message_id, m.serial, None);
+        self.put_cells(Some(&m.cells));
+        self.put_channel(m.channel);
     }
 
-    fn put_kill_complete(&mut self, m: &'m KillComplete) -> Result<(), AllocError> {
-        self.put_names(m.message_id, m.serial, None)?;
-        self.put_counts(m.counts.as_ref())?;
-        self.put_cells(m.cells.as_ref())?;
-        self.put_channel(m.channel)
+    fn put_kill_complete(&mut self, m: &'m KillComplete) {
+        self.put_names(m.message_id, m.serial, None);
+        self.put_counts(m.counts.as_ref());
+        self.put_cells(m.cells.as_ref());
+        self.put_channel(m.channel);
     }
 
-    fn put_kill_failure(&mut self, m: &'m KillFailure) -> Result<(), AllocError> {
-        self.put_names(m.message_id, m.serial, None)?;
-        self.put_failures(&m.failures)?;
-        self.put_counts(m.counts.as_ref())?;
-        self.put_cells(m.cells.as_ref())?;
-        self.put_channel(m.channel)
+    fn put_kill_failure(&mut self, m: &'m KillFailure) {
+        self.put_names(m.message_id, m.serial, None);
+        self.put_failures(&m.failures);
+        self.put_counts(m.counts.as_ref());
+        self.put_cells(m.cells.as_ref());
+        self.put_channel(m.channel);
     }
 
-    fn put_status_query(&mut self, m: &'m StatusQuery) -> Result<(), AllocError> {
-        self.put_names(m.message_id, m.serial, None)?;
-        self.put_cells(Some(&m.cells))?;
-        self.put_channel(m.channel)
+    fn put_status_query(&mut self, m: &'m StatusQuery) {
+        self.put_names(m.message_id, m.serial, None);
+        self.put_cells(Some(&m.cells));
+        self.put_channel(m.channel);
     }
 
-    fn put_status_complete(&mut self, m: &'m StatusComplete) -> Result<(), AllocError> {
-        self.put_names(m.message_id, m.serial, None)?;
-        self.put_counts(Some(&m.counts))?;
-        self.put_channel(m.channel)
+    fn put_status_complete(&mut self, m: &'m StatusComplete) {
+        self.put_names(m.message_id, m.serial, None);
+        self.put_counts(Some(&m.counts));
+        self.put_channel(m.channel);
     }
 
-    fn put_status_failure(&mut self, m: &'m StatusFailure) -> Result<(), AllocError> {
-        self.put_names(m.message_id, m.serial, None)?;
-        self.put_failures(&m.failures)?;
-        self.put_counts(m.counts.as_ref())?;
-        self.put_channel(m.channel)
+    fn put_status_failure(&mut self, m: &'m StatusFailure) {
+        self.put_names(m.message_id, m.serial, None);
+        self.put_failures(&m.failures);
+        self.put_counts(m.counts.as_ref());
+        self.put_channel(m.channel);
     }
 
-    fn put_restart(&mut self, m: &'m Restart) -> Result<(), AllocError> {
-        self.put_cells(Some(&m.cells))?;
-        self.put_octet("kind", m.kind)?;
-        self.put_octet("recovery", m.recovery)
+    fn put_restart(&mut self, m: &'m Restart) {
+        self.put_cells(Some(&m.cells));
+        self.put_octet("kind", m.kind);
+        self.put_octet("recovery", m.recovery);
     }
 
-    fn put_failure(&mut self, m: &'m Failure) -> Result<(), AllocError> {
-        self.put_failures(&m.failures)?;
-        self.put_octet("kind", m.kind)
+    fn put_failure(&mut self, m: &'m Failure) {
+        self.put_failures(&m.failures);
+        self.put_octet("kind", m.kind);
     }
 
-    fn put_error_indication(&mut self, m: &'m ErrorIndication) -> Result<(), AllocError> {
-        self.put_octet("cause", m.cause.0)?;
-        self.put_number("message_id", m.message_id)?;
-        self.put_number("serial", m.serial)?;
-        self.put_number("old", m.old)?;
-        self.put_channel(m.channel)
+    fn put_error_indication(&mut self, m: &'m ErrorIndication) {
+        self.put_octet("cause", m.cause.0);
+        self.put_number("message_id", m.message_id);
+        self.put_number("serial", m.serial);
+        self.put_number("old", m.old);
+        self.put_channel(m.channel);
     }
 
-    fn put_message(&mut self, message: &'m Message) -> Result<(), AllocError> {
+    fn put_message(&mut self, message: &'m Message) {
         match message {
             Message::WriteReplace(m) => self.put_write_replace(m),
             Message::WriteComplete(m) => self.put_write_complete(m),
@@ -183,10 +184,12 @@ impl<'m> Fields<'m> {
 }
 
 /// The fields that the message has.
-pub fn fields_of(alloc: Global, message: &Message) -> Result<Vec<Field<'_>>, AllocError> {
+pub fn fields_of(alloc: Global, message: &Message) -> Result<Vec<Field<'_>>> {
     let mut fields = Fields {
         fields: Vec::new(alloc),
+        is_short: false,
     };
-    fields.put_message(message)?;
+    fields.put_message(message);
+    ensure!(!fields.is_short, "out of memory");
     Ok(fields.fields)
 }

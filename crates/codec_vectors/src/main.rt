@@ -22,16 +22,22 @@ use vectors::{Vector, vectors_in};
 
 /// Prints what comes of a frame, and says whether it agrees with the file.
 fn agrees(rt: &(impl Print + AllocGlobal), vector: &Vector<'_>) -> Result<bool> {
-    let name = vector.name;
-    match difference(rt.alloc(), vector) {
-        Ok(None) => {
-            println!(rt; "{name} agrees")?;
-            return Ok(true);
-        }
+    let found = difference(rt.alloc(), vector);
+    let said = print(rt, vector.name, &found);
+    let is_same = matches!(&found, Ok(None));
+    drop(found);
+    said?;
+    Ok(is_same)
+}
+
+/// Prints that the frame of that name agrees, or how it differs.
+fn print(rt: &impl Print, name: &str, found: &Result<Option<String>>) -> Result<()> {
+    match found {
+        Ok(None) => println!(rt; "{name} agrees")?,
         Ok(Some(line)) => println!(rt; "{name} differs: {line}")?,
         Err(error) => println!(rt; "{name} differs: {error}")?,
     }
-    Ok(false)
+    Ok(())
 }
 
 fn main(rt: HostRuntime) -> Result<ExitCode> {

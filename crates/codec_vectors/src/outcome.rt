@@ -2,7 +2,7 @@
 
 use crate::damage::{fault_of, unnamed_damage};
 use crate::faults::fault_line;
-use crate::fields::fields_of;
+use crate::fields::{Field, fields_of};
 use crate::names::type_name;
 use crate::vectors::Vector;
 use anyhow::{Context, Result, ensure};
@@ -12,38 +12,72 @@ use std::alloc::{AllocError, Global};
 
 /// The first line of the file on the frame that doesn't say what comes of it.
 pub fn difference(alloc: Global, vector: &Vector<'_>) -> Result<Option<String>> {
-    let outcome = outcome_of(alloc, vector.hex)?;
-    for (index, line) in outcome.iter().enumerate() {
-        let listed = vector.outcome.get(index).copied().unwrap_or("nothing");
+    let octets = hex::decode(alloc, vector.hex)?;
+    let found = difference_in(alloc, vector, octets.as_slice());
+    drop(octets);
+    found
+}
+
+/// The same, where the frame has these octets.
+fn difference_in(alloc: Global, vector: &Vector<'_>, octets: &[u8]) -> Result<Option<String>> {
+    let outcome = outcome_of(alloc, octets)?;
+    let found = first_other(alloc, outcome.as_slice(), vector.outcome.as_slice());
+    drop(outcome);
+    match found? {
+        Some(other) => Ok(Some(other)),
+        None => damage_line(alloc, octets),
+    }
+}
+
+/// The first of the lines that isn't the listed one at its place, if any.
+fn first_other(alloc: Global, lines: &[String], listed: &[&str]) -> Result<Option<String>> {
+    for (index, line) in lines.iter().enumerate() {
+        let listed = listed.get(index).copied().unwrap_or("nothing");
         if line.as_str() != listed {
             return Ok(Some(format!(in alloc; "{line} where {listed} is listed")?));
         }
     }
-    match vector.outcome.get(outcome.len()) {
+    match listed.get(lines.len()) {
         Some(listed) => Ok(Some(format!(in alloc; "nothing where {listed} is listed")?)),
-        None => damage_line(alloc, vector.hex),
+        None => Ok(None),
     }
 }
 
 /// The damage to the frame's body that is not named by its fault, where the frame is a message.
-fn damage_line(alloc: Global, digits: &str) -> Result<Option<String>> {
-    let octets = hex::decode(alloc, digits)?;
-    let frame = one_frame(alloc, octets.as_slice())?;
-    if fault_of(alloc, frame.kind, frame.body.as_slice()).is_some() {
-        return Ok(None);
-    }
-    match unnamed_damage(alloc, frame.kind, frame.body.as_slice())? {
+fn damage_line(alloc: Global, octets: &[u8]) -> Result<Option<String>> {
+    let frame = one_frame(alloc, octets)?;
+    let damage = damage_of(alloc, frame.kind, frame.body.as_slice());
+    drop(frame);
+    match damage? {
         Some(damage) => Ok(Some(format!(in alloc; "the fault of {damage}")?)),
         None => Ok(None),
     }
 }
 
-fn outcome_of(alloc: Global, digits: &str) -> Result<Vec<String>> {
-    let octets = hex::decode(alloc, digits)?;
-    match message_in(alloc, octets.as_slice())? {
-        Ok(message) => message_lines(alloc, &message, octets.as_slice()),
-        Err(MessageFault::NotInProfile) => one_line(alloc, String::from_str(alloc, "skipped")?),
-        Err(fault) => one_line(alloc, fault_line(alloc, fault)?),
+/// The damage to a message's body that is not named by its fault, if any.
+fn damage_of(alloc: Global, kind: u8, body: &[u8]) -> Result<Option<&'static str>> {
+    if fault_of(alloc, kind, body).is_some() {
+        return Ok(None);
+    }
+    unnamed_damage(alloc, kind, body)
+}
+
+fn outcome_of(alloc: Global, octets: &[u8]) -> Result<Vec<String>> {
+    match message_in(alloc, octets)? {
+        Ok(message) => {
+            let lines = message_lines(alloc, &message, octets);
+            drop(message);
+            lines
+        }
+        Err(fault) => one_line(alloc, fault_text(alloc, fault)?),
+    }
+}
+
+/// What the file has of a frame that is no message.
+fn fault_text(alloc: Global, fault: MessageFault) -> Result<String> {
+    match fault {
+        MessageFault::NotInProfile => Ok(String::from_str(alloc, "skipped")?),
+        fault => fault_line(alloc, fault),
     }
 }
 
@@ -71,16 +105,25 @@ fn one_line(alloc: Global, line: String) -> Result<Vec<String>> {
 
 /// The lines on a message that was read from the octets.
 fn message_lines(alloc: Global, message: &Message, octets: &[u8]) -> Result<Vec<String>> {
-    let mut lines = Vec::new(alloc);
     let name = type_name(message.message_type());
-    lines.push(format!(in alloc; "read {name}")?)?;
-    for field in &fields_of(alloc, message)? {
-        let name = field.name;
-        let value = &field.value;
-        lines.push(format!(in alloc; "field {name} {value}")?)?;
-    }
+    let mut lines = one_line(alloc, format!(in alloc; "read {name}")?)?;
+    add_fields(alloc, &mut lines, message)?;
     lines.push(written_line(alloc, message, octets)?)?;
     Ok(lines)
+}
+
+/// Puts a line for each field last.
+fn add_fields(alloc: Global, lines: &mut Vec<String>, message: &Message) -> Result<()> {
+    for field in &fields_of(alloc, message)? {
+        lines.push(field_line(alloc, field)?)?;
+    }
+    Ok(())
+}
+
+fn field_line(alloc: Global, field: &Field<'_>) -> Result<String, AllocError> {
+    let name = field.name;
+    let value = &field.value;
+    format!(in alloc; "field {name} {value}")
 }
 
 fn is_copied(alloc: Global, message: &Message) -> Result<bool, AllocError> {
@@ -95,14 +138,21 @@ fn written_line(alloc: Global, message: &Message, octets: &[u8]) -> Result<Strin
     ensure!(is_copied(alloc, message)?, "the copy is another message");
     ensure!(message.fits(), "the message can't be written");
     let written = write(alloc, message)?;
+    let line = line_on(alloc, message, written.as_slice(), octets);
+    drop(written);
+    line
+}
+
+/// The line on these octets, which the message is written as.
+fn line_on(alloc: Global, message: &Message, written: &[u8], octets: &[u8]) -> Result<String> {
     ensure!(
-        is_read_as(alloc, written.as_slice(), message)?,
+        is_read_as(alloc, written, message)?,
         "what is written is read as another message"
     );
-    if written.as_slice() == octets {
+    if written == octets {
         return Ok(String::from_str(alloc, "written same")?);
     }
-    let digits = hex::encode(alloc, written.as_slice())?;
+    let digits = hex::encode(alloc, written)?;
     Ok(format!(in alloc; "written {digits}")?)
 }
 

@@ -1,6 +1,6 @@
 //! What the tests share: an office, its desks, an office with a link, octets of a BSC, and a gate.
 
-ghost use Rattle.std.specs.Prelude.{◌≡◌, ◌≤◌};
+ghost use Rattle.std.specs.Prelude.{◌≡◌};
 
 use crate::given_events::{PLMN, SEVEN, bsc, coast, issue};
 use areas::Selector;

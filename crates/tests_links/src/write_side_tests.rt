@@ -12,10 +12,10 @@ use cell_register::BscId;
 use centre_events::answer::Answer;
 use centre_events::event::Event;
 use centre_events::refusal::Refusal;
-use centre_events::reported::{Presence, ReportedKey};
 use framing::FromWrite;
 use framing::faulty::FailsAfter;
 use link_worker::{End, OpenGate, Step, write_side};
+use mirror::Presence;
 use office::desk::Desk;
 use office::office::Office;
 use office::question::Question;
@@ -47,18 +47,20 @@ fn is_first_order(order: &Order) -> bool {
 
 /// Whether the first order is pending, and alone; or the first version may be on air, and nothing else.
 fn is_first(value: &SeenValue) -> bool {
-    let key = ReportedKey {
-        cell: SEVEN,
-        message_id: MESSAGE_ID,
-        serial: first_serial(),
-        presence: Presence::Unknown,
-    };
     match value {
         SeenValue::Pending(orders) => match orders.as_slice() {
             [order] => is_first_order(order),
             _ => false,
         },
-        SeenValue::Table(keys) => keys.as_slice() == [key].as_slice(),
+        SeenValue::Table(keys) => match keys.as_slice() {
+            [key] => {
+                key.cell == SEVEN
+                    && key.message_id == MESSAGE_ID
+                    && key.serial == first_serial()
+                    && key.presence == Presence::Unknown
+            }
+            _ => false,
+        },
         _ => false,
     }
 }
