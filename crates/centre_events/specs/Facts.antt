@@ -1,26 +1,16 @@
--- What a past says of every line: a BSC, a cell and the number of a warning.
+-- What a past says of a key, and of the line of a warning.
 use Rattle.std.specs.Prelude.{◌≡◌, ℕ, List, Option, Some, None, find, map, nat_eq}
-use Rattle.std.specs.List.{filter, range_with_len}
-use Rattle.cell_register.specs.Register.{is_place}
+use Rattle.std.specs.List.{range_with_len}
 use Rattle.common.specs.declared.cell.Cell.{Cell}
-use Rattle.kept_tables.specs.Facts.{no_facts}
-use Rattle.kept_tables.specs.View.{View}
-use Rattle.kept_tables.specs.declared.line_facts.LineFacts.{LineFacts}
 use Rattle.mirror.specs.Line.{blank}
 use Rattle.mirror.specs.declared.key_state.KeyState.{KeyState}
 use Rattle.mirror.specs.declared.line.Line.{Line}
 use Rattle.serials.specs.Serials.{update_of}
-use Rattle.warning_book.specs.Book.{warning_of}
 use Rattle.warning_book.specs.declared.version.Version.{Version}
 use Rattle.warning_book.specs.declared.warning.Warning.{Warning}
 use Rattle.centre_events.specs.Counts.{count}
-use Rattle.centre_events.specs.Cover.{covers}
-use Rattle.centre_events.specs.Down.{is_down}
 use Rattle.centre_events.specs.Past.{Past}
-use Rattle.centre_events.specs.Places.{place}
-use Rattle.centre_events.specs.Plan.{wanted}
 use Rattle.centre_events.specs.Presence.{presence, hold}
-use Rattle.centre_events.specs.Warnings.{book_of, serials}
 
 -- what the past says of one key
 abbrev pub key_state : Past → ℕ → Cell → ℕ → ℕ → KeyState
@@ -38,24 +28,6 @@ version_state past b c m (Some v) = key_state past b c m v.serial
 -- what it says of the versions of a warning in a cell of a BSC, by their update numbers
 abbrev pub line_of : Past → ℕ → Cell → Warning → Line
 line_of past b c w = record { states = map (λ u. version_state past b c w.message_id (version_at w.versions u)) (range_with_len 0 16) }
-
--- what it says of the line of a warning, if the book has it
-abbrev pub facts_of : Past → ℕ → Cell → Option Warning → LineFacts
-facts_of past b c None = no_facts (is_down past b c) (is_place (place past c) b)
-facts_of past b c (Some w) = record {
-  line = line_of past b c w;
-  message_id = w.message_id;
-  versions = serials w;
-  wanted = wanted past b w c;
-  down = is_down past b c;
-  areas = filter (λ a. covers past a c) w.areas;
-  here = is_place (place past c) b;
-  active = w.active;
-}
-
--- what it says of every line
-abbrev pub facts : Past → View
-facts past k = facts_of past k.bsc k.cell (warning_of (book_of past) k.warning)
 
 -- the line is the one that the past says, if the book has the warning
 abbrev pub IsLineOf : Past → ℕ → Cell → Line → Option Warning → Type 0
