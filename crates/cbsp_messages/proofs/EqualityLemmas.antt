@@ -2,6 +2,7 @@
 use Rattle.std.proofs.Common.{◌≡◌, nat_eq, Bool, Option, Some, None, refl, ap}
 use Rattle.std.specs.Bool.{Decides}
 use Rattle.std.specs.Cmp.{unsigned_Decides}
+use Rattle.std.specs.Cmp.Lexicographic.{pointwise_decides}
 use Rattle.std.specs.Option.{option_eq}
 use Rattle.cbsp_ie.specs.declared.cause.Cause.{Cause}
 use Rattle.common.specs.Equality.{both, amounts}
@@ -12,6 +13,8 @@ use Rattle.cbsp_messages.specs.declared.message.Message.TheVariants as message
 use Rattle.cbsp_messages.specs.contracts.message.MessagePartialEq.TheImpl.{ghosts}
 use Rattle.cbsp_messages.specs.declared.messages.write_replace.WriteReplace.{WriteReplace}
 use Rattle.cbsp_messages.specs.contracts.messages.write_replace.WriteReplacePartialEq.TheImpl as write_replace_eq
+use Rattle.cbsp_messages.specs.declared.messages.write_emergency.WriteEmergency.{WriteEmergency}
+use Rattle.cbsp_messages.specs.contracts.messages.write_emergency.WriteEmergencyPartialEq.TheImpl as write_emergency_eq
 use Rattle.cbsp_messages.specs.declared.messages.write_complete.WriteComplete.{WriteComplete}
 use Rattle.cbsp_messages.specs.contracts.messages.write_complete.WriteCompletePartialEq.TheImpl as write_complete_eq
 use Rattle.cbsp_messages.specs.declared.messages.write_failure.WriteFailure.{WriteFailure}
@@ -48,6 +51,11 @@ write_replace_decides : (x y : WriteReplace) → Decides (write_replace_eq.ghost
 write_replace_decides x y =
     amounts (both _ _ (unsigned_Decides x.message_id y.message_id) (both _ _ (unsigned_Decides x.serial y.serial) (both _ _ (option_decides unsigned_Decides x.old y.old) (both _ _ (identifications_decide x.cells y.cells) (both _ _ (option_decides unsigned_Decides x.channel y.channel) (both _ _ (unsigned_Decides x.category y.category) (both _ _ (unsigned_Decides x.period y.period) (both _ _ (unsigned_Decides x.requested y.requested) (both _ _ (pages_decide x.pages y.pages) (unsigned_Decides x.dcs y.dcs))))))))))
     (λ e. λ i. record { message_id = e.0 i; serial = e.1.0 i; old = e.1.1.0 i; cells = e.1.1.1.0 i; channel = e.1.1.1.1.0 i; category = e.1.1.1.1.1.0 i; period = e.1.1.1.1.1.1.0 i; requested = e.1.1.1.1.1.1.1.0 i; pages = e.1.1.1.1.1.1.1.1.0 i; dcs = e.1.1.1.1.1.1.1.1.1 i }) (λ e. (λ i. (e i).message_id, (λ i. (e i).serial, (λ i. (e i).old, (λ i. (e i).cells, (λ i. (e i).channel, (λ i. (e i).category, (λ i. (e i).period, (λ i. (e i).requested, (λ i. (e i).pages, λ i. (e i).dcs))))))))))
+
+write_emergency_decides : (x y : WriteEmergency) → Decides (write_emergency_eq.ghosts.eq x y) (x ≡ y)
+write_emergency_decides x y =
+    amounts (both _ _ (unsigned_Decides x.message_id y.message_id) (both _ _ (unsigned_Decides x.serial y.serial) (both _ _ (option_decides unsigned_Decides x.old y.old) (both _ _ (identifications_decide x.cells y.cells) (both _ _ (unsigned_Decides x.indicator y.indicator) (both _ _ (unsigned_Decides x.warning_type y.warning_type) (both _ _ (unsigned_Decides x.warning_period y.warning_period) (pointwise_decides unsigned_Decides x.security y.security))))))))
+    (λ e. λ i. record { message_id = e.0 i; serial = e.1.0 i; old = e.1.1.0 i; cells = e.1.1.1.0 i; indicator = e.1.1.1.1.0 i; warning_type = e.1.1.1.1.1.0 i; warning_period = e.1.1.1.1.1.1.0 i; security = e.1.1.1.1.1.1.1 i }) (λ e. (λ i. (e i).message_id, (λ i. (e i).serial, (λ i. (e i).old, (λ i. (e i).cells, (λ i. (e i).indicator, (λ i. (e i).warning_type, (λ i. (e i).warning_period, λ i. (e i).security))))))))
 
 write_complete_decides : (x y : WriteComplete) → Decides (write_complete_eq.ghosts.eq x y) (x ≡ y)
 write_complete_decides x y =
@@ -106,6 +114,7 @@ error_indication_decides x y =
 
 pub message_decides : (x y : Message) → Decides (ghosts.eq x y) (x ≡ y)
 message_decides (message.WriteReplace a) (message.WriteReplace b) = amounts (write_replace_decides a b) (λ e. λ i. message.WriteReplace (e i)) (λ e. cc)
+message_decides (message.WriteEmergency a) (message.WriteEmergency b) = amounts (write_emergency_decides a b) (λ e. λ i. message.WriteEmergency (e i)) (λ e. cc)
 message_decides (message.WriteComplete a) (message.WriteComplete b) = amounts (write_complete_decides a b) (λ e. λ i. message.WriteComplete (e i)) (λ e. cc)
 message_decides (message.WriteFailure a) (message.WriteFailure b) = amounts (write_failure_decides a b) (λ e. λ i. message.WriteFailure (e i)) (λ e. cc)
 message_decides (message.Kill a) (message.Kill b) = amounts (kill_decides a b) (λ e. λ i. message.Kill (e i)) (λ e. cc)

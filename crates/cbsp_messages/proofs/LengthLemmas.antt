@@ -13,10 +13,10 @@ use Rattle.cbsp_ie.specs.Page.{PageContent}
 use Rattle.cbsp_ie.specs.Written.{cells_octets, counts_octets, element_octets, failures_octets, listed_octets}
 use Rattle.cbsp_messages.specs.declared.message.Message.{Message}
 use Rattle.cbsp_messages.specs.declared.message.Message.TheVariants as message
-use Rattle.cbsp_messages.specs.declared.message_type.MessageType.{MessageType}
-use Rattle.cbsp_messages.specs.declared.message_type.MessageType.TheVariants as type
-use Rattle.cbsp_messages.specs.Message.{type_of}
-use Rattle.cbsp_messages.specs.MessageType.{written_of}
+use Rattle.cbsp_messages.specs.declared.layout.Layout.{Layout}
+use Rattle.cbsp_messages.specs.declared.layout.Layout.TheVariants as layout
+use Rattle.cbsp_messages.specs.Layout.{written_of}
+use Rattle.cbsp_messages.specs.Message.{layout_of}
 use Rattle.cbsp_messages.specs.Parts.{Parts, one_of, page_element, parts_of}
 use Rattle.cbsp_messages.specs.Ranged.{AreInRange}
 use Rattle.cbsp_messages.specs.Spelling.{HasPages}
@@ -51,6 +51,7 @@ pages_length (page ∷ pages) h =
 
 few_pages : (m : Message) → HasPages m → length (parts_of m).pages ≤ 15
 few_pages (message.WriteReplace m) h = h.1
+few_pages (message.WriteEmergency m) h = omega arith
 few_pages (message.WriteComplete m) h = omega arith
 few_pages (message.WriteFailure m) h = omega arith
 few_pages (message.Kill m) h = omega arith
@@ -63,27 +64,13 @@ few_pages (message.Restart m) h = omega arith
 few_pages (message.Failure m) h = omega arith
 few_pages (message.ErrorIndication m) h = omega arith
 
--- no message has security information
-no_security : (m : Message) → (parts_of m).security ≡ None
-no_security (message.WriteReplace m) = refl
-no_security (message.WriteComplete m) = refl
-no_security (message.WriteFailure m) = refl
-no_security (message.Kill m) = refl
-no_security (message.KillComplete m) = refl
-no_security (message.KillFailure m) = refl
-no_security (message.StatusQuery m) = refl
-no_security (message.StatusComplete m) = refl
-no_security (message.StatusFailure m) = refl
-no_security (message.Restart m) = refl
-no_security (message.Failure m) = refl
-no_security (message.ErrorIndication m) = refl
-
 -- the most octets that the elements with an identifier have
 abbrev most_at : ElementId → ℕ
 most_at id.MessageContent = 1260
 most_at id.CellList = 65538
 most_at id.BroadcastsCompleted = 65538
 most_at id.FailureList = 65538
+most_at id.WarningSecurity = 51
 most_at other = 3
 
 -- what of the parts bounds their octets
@@ -93,7 +80,7 @@ record AreShort (parts : Parts) : Type 0 where
   cells : IfSome parts.cells (λ cells. length (cells_octets cells) < 65536)
   counts : IfSome parts.counts (λ counts. length (counts_octets counts) < 65536)
   failures : IfSome parts.failures (λ failures. length (failures_octets failures) < 65536)
-  security : parts.security ≡ None
+  security : IfSome parts.security (λ octets. length octets ≡ 50)
 
 at_most : (parts : Parts) → AreShort parts → (which : ElementId) → length (octets_at parts which) ≤ most_at which
 at_most parts h id.MessageContent = let few = h.pages in omega (arith, pages_length parts.pages h.whole)
@@ -111,7 +98,7 @@ at_most parts h id.RecoveryIndication = any_short (λ n. element.RecoveryIndicat
 at_most parts h id.MessageIdentifier = any_short (λ n. element.MessageIdentifier n) 3 (λ n. omega arith) parts.message_id
 at_most parts h id.EmergencyIndicator = any_short (λ n. element.EmergencyIndicator n) 3 (λ n. omega arith) parts.emergency
 at_most parts h id.WarningType = any_short (λ n. element.WarningType n) 3 (λ n. omega arith) parts.warning_type
-at_most parts h id.WarningSecurity = omega (arith, ap (λ o. length (flat_map element_octets (one_of (λ octets. element.WarningSecurity octets) o))) h.security)
+at_most parts h id.WarningSecurity = one_short (λ octets. element.WarningSecurity octets) (λ octets. length octets ≡ 50) 51 (λ octets k. omega (arith, k)) parts.security h.security
 at_most parts h id.ChannelIndicator = any_short (λ n. element.ChannelIndicator n) 3 (λ n. omega arith) parts.channel
 at_most parts h id.NumberOfPages = any_short (λ n. element.NumberOfPages n) 3 (λ n. omega arith) parts.page_count
 at_most parts h id.BroadcastMessageType = any_short (λ n. element.BroadcastMessageType n) 3 (λ n. omega arith) parts.kind
@@ -130,23 +117,24 @@ all_short parts h (which ∷ ids) =
     let rest : length (flat_map (octets_at parts) ids) ≤ most_of ids = all_short parts h ids in
     omega (arith, length-append (octets_at parts which) (flat_map (octets_at parts) ids))
 
-type_short : (t : MessageType) → most_of (written_of t) ≤ longest_body
-type_short type.WriteReplace = omega arith
-type_short type.WriteComplete = omega arith
-type_short type.WriteFailure = omega arith
-type_short type.Kill = omega arith
-type_short type.KillComplete = omega arith
-type_short type.KillFailure = omega arith
-type_short type.StatusQuery = omega arith
-type_short type.StatusComplete = omega arith
-type_short type.StatusFailure = omega arith
-type_short type.Restart = omega arith
-type_short type.Failure = omega arith
-type_short type.ErrorIndication = omega arith
+layout_short : (l : Layout) → most_of (written_of l) ≤ longest_body
+layout_short layout.WriteReplace = omega arith
+layout_short layout.WriteEmergency = omega arith
+layout_short layout.WriteComplete = omega arith
+layout_short layout.WriteFailure = omega arith
+layout_short layout.Kill = omega arith
+layout_short layout.KillComplete = omega arith
+layout_short layout.KillFailure = omega arith
+layout_short layout.StatusQuery = omega arith
+layout_short layout.StatusComplete = omega arith
+layout_short layout.StatusFailure = omega arith
+layout_short layout.Restart = omega arith
+layout_short layout.Failure = omega arith
+layout_short layout.ErrorIndication = omega arith
 
 pub short_body : (m : Message) → AreInRange (parts_of m) → Fits m → length (written m) ≤ longest_body
 short_body m ranges fits =
-    let short : AreShort (parts_of m) = record { pages = few_pages m fits.pages; whole = ranges.pages; cells = fits.cells; counts = fits.counts; failures = fits.failures; security = no_security m } in
-    let all : length (written m) ≤ most_of (written_of (type_of m)) = all_short (parts_of m) short (written_of (type_of m)) in
-    let most : most_of (written_of (type_of m)) ≤ longest_body = type_short (type_of m) in
+    let short : AreShort (parts_of m) = record { pages = few_pages m fits.pages; whole = ranges.pages; cells = fits.cells; counts = fits.counts; failures = fits.failures; security = ranges.security } in
+    let all : length (written m) ≤ most_of (written_of (layout_of m)) = all_short (parts_of m) short (written_of (layout_of m)) in
+    let most : most_of (written_of (layout_of m)) ≤ longest_body = layout_short (layout_of m) in
     omega arith

@@ -8,12 +8,12 @@ use Rattle.cbsp_ie.specs.declared.element.Element.TheVariants as element
 use Rattle.cbsp_ie.specs.declared.element_id.ElementId.{ElementId}
 use Rattle.cbsp_ie.specs.declared.element_id.ElementId.TheVariants as id
 use Rattle.cbsp_ie.specs.Page.{PageContent}
+use Rattle.cbsp_messages.specs.declared.layout.Layout.TheVariants as layout
 use Rattle.cbsp_messages.specs.declared.message.Message.{Message}
 use Rattle.cbsp_messages.specs.declared.message.Message.TheVariants as message
-use Rattle.cbsp_messages.specs.declared.message_type.MessageType.TheVariants as type
 use Rattle.cbsp_messages.specs.Faults.{HavePages, missing}
-use Rattle.cbsp_messages.specs.Message.{type_of}
-use Rattle.cbsp_messages.specs.MessageType.{written_of}
+use Rattle.cbsp_messages.specs.Layout.{written_of}
+use Rattle.cbsp_messages.specs.Message.{layout_of}
 use Rattle.cbsp_messages.specs.Parts.{one_of, parts_of, values_at}
 use Rattle.cbsp_messages.specs.Spelling.{Says}
 
@@ -32,8 +32,8 @@ pages_same (p ∷ ps) (q ∷ qs) e =
     let others : ps ≡ qs = pages_same ps qs cc in
     λ i. first i ∷ others i
 
--- messages of one type with the same elements are the same
-pub one_values : (m n : Message) → type_of m ≡ type_of n → AllByRecursion (λ which. values_at (parts_of m) which ≡ values_at (parts_of n) which) (written_of (type_of m)) → m ≡ n
+-- messages of one layout with the same elements are the same
+pub one_values : (m n : Message) → layout_of m ≡ layout_of n → AllByRecursion (λ which. values_at (parts_of m) which ≡ values_at (parts_of n) which) (written_of (layout_of m)) → m ≡ n
 one_values (message.WriteReplace a) (message.WriteReplace b) t h =
     let e0 : a.message_id ≡ b.message_id = (let e : element.MessageIdentifier a.message_id ∷ [] ≡ element.MessageIdentifier b.message_id ∷ [] = h.0 in cc) in
     let e1 : a.serial ≡ b.serial = (let e : element.NewSerialNumber a.serial ∷ [] ≡ element.NewSerialNumber b.serial ∷ [] = h.1.0 in cc) in
@@ -46,6 +46,16 @@ one_values (message.WriteReplace a) (message.WriteReplace b) t h =
     let e8 = pages_same a.pages b.pages h.1.1.1.1.1.1.1.1.1.1.0 in
     let e9 : a.dcs ≡ b.dcs = (let e : element.DataCodingScheme a.dcs ∷ [] ≡ element.DataCodingScheme b.dcs ∷ [] = h.1.1.1.1.1.1.1.1.1.0 in cc) in
     λ i. message.WriteReplace (record { message_id = e0 i; serial = e1 i; old = e2 i; cells = e3 i; channel = e4 i; category = e5 i; period = e6 i; requested = e7 i; pages = e8 i; dcs = e9 i })
+one_values (message.WriteEmergency a) (message.WriteEmergency b) t h =
+    let e0 : a.message_id ≡ b.message_id = (let e : element.MessageIdentifier a.message_id ∷ [] ≡ element.MessageIdentifier b.message_id ∷ [] = h.0 in cc) in
+    let e1 : a.serial ≡ b.serial = (let e : element.NewSerialNumber a.serial ∷ [] ≡ element.NewSerialNumber b.serial ∷ [] = h.1.0 in cc) in
+    let e2 = one_of_same (λ n. element.OldSerialNumber n) (λ x y e. cc) a.old b.old h.1.1.0 in
+    let e3 : a.cells ≡ b.cells = (let e : element.CellList a.cells ∷ [] ≡ element.CellList b.cells ∷ [] = h.1.1.1.0 in cc) in
+    let e4 : a.indicator ≡ b.indicator = (let e : element.EmergencyIndicator a.indicator ∷ [] ≡ element.EmergencyIndicator b.indicator ∷ [] = h.1.1.1.1.0 in cc) in
+    let e5 : a.warning_type ≡ b.warning_type = (let e : element.WarningType a.warning_type ∷ [] ≡ element.WarningType b.warning_type ∷ [] = h.1.1.1.1.1.0 in cc) in
+    let e6 : a.warning_period ≡ b.warning_period = (let e : element.WarningPeriod a.warning_period ∷ [] ≡ element.WarningPeriod b.warning_period ∷ [] = h.1.1.1.1.1.1.0 in cc) in
+    let e7 : a.security ≡ b.security = (let e : element.WarningSecurity a.security ∷ [] ≡ element.WarningSecurity b.security ∷ [] = h.1.1.1.1.1.1.1.0 in cc) in
+    λ i. message.WriteEmergency (record { message_id = e0 i; serial = e1 i; old = e2 i; cells = e3 i; indicator = e4 i; warning_type = e5 i; warning_period = e6 i; security = e7 i })
 one_values (message.WriteComplete a) (message.WriteComplete b) t h =
     let e0 : a.message_id ≡ b.message_id = (let e : element.MessageIdentifier a.message_id ∷ [] ≡ element.MessageIdentifier b.message_id ∷ [] = h.0 in cc) in
     let e1 : a.serial ≡ b.serial = (let e : element.NewSerialNumber a.serial ∷ [] ≡ element.NewSerialNumber b.serial ∷ [] = h.1.0 in cc) in
@@ -128,8 +138,9 @@ pages_there : (pages : List PageContent) → 1 ≤ length pages → (length (map
 pages_there pages some = not_empty _ (rw (length-map pages (λ page. element.MessageContent page)) some)
 
 -- no demanded element of a message is missing
-pub none_missing : (m : Message) (at : ElementId → List Element) → Says at m → missing (type_of m) at ≡ None
+pub none_missing : (m : Message) (at : ElementId → List Element) → Says at m → missing (layout_of m) at ≡ None
 none_missing (message.WriteReplace m) at h = rw (h.0.0, h.0.1.0, h.0.1.1.1.0, h.0.1.1.1.1.1.0, h.0.1.1.1.1.1.1.0, h.0.1.1.1.1.1.1.1.0, h.0.1.1.1.1.1.1.1.1.0, h.0.1.1.1.1.1.1.1.1.1.0, h.0.1.1.1.1.1.1.1.1.1.1.0, pages_there m.pages h.1.0) refl
+none_missing (message.WriteEmergency m) at h = rw (h.0.0, h.0.1.0, h.0.1.1.1.0, h.0.1.1.1.1.0, h.0.1.1.1.1.1.0, h.0.1.1.1.1.1.1.0, h.0.1.1.1.1.1.1.1.0) refl
 none_missing (message.WriteComplete m) at h = rw (h.0.0, h.0.1.0) refl
 none_missing (message.WriteFailure m) at h = rw (h.0.0, h.0.1.0, h.0.1.1.1.0) refl
 none_missing (message.Kill m) at h = rw (h.0.0, h.0.1.0, h.0.1.1.0) refl
@@ -142,8 +153,8 @@ none_missing (message.Restart m) at h = rw (h.0.0, h.0.1.0, h.0.1.1.0) refl
 none_missing (message.Failure m) at h = rw (h.0.0, h.0.1.0) refl
 none_missing (message.ErrorIndication m) at h = rw h.0.0 refl
 
--- the pages of a WRITE-REPLACE are as many as they should be
-pub pages_right : (m : Message) (at : ElementId → List Element) → type_of m ≡ type.WriteReplace → Says at m → HavePages at
+-- the pages of a WRITE-REPLACE that is laid out with them are as many as they should be
+pub pages_right : (m : Message) (at : ElementId → List Element) → layout_of m ≡ layout.WriteReplace → Says at m → HavePages at
 pages_right (message.WriteReplace m) at t h =
     let count : length (at id.MessageContent) ≡ length m.pages = ap length h.0.1.1.1.1.1.1.1.1.1.1.0 ∙ length-map m.pages (λ page. element.MessageContent page) in
     (omega (arith, h.1.0), omega (arith, h.1.1), h.0.1.1.1.1.1.1.1.1.0 ∙ ap (λ n. element.NumberOfPages n ∷ []) (sym count))

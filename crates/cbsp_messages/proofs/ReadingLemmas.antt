@@ -13,11 +13,16 @@ use Rattle.common.specs.OrderLaws.{find_passes}
 use Rattle.cbsp_messages.specs.declared.fault.MessageFault.{MessageFault}
 use Rattle.cbsp_messages.specs.declared.fault.MessageFault.TheVariants as fault
 use Rattle.cbsp_messages.specs.declared.message.Message.{Message}
+use Rattle.cbsp_messages.specs.declared.message.Message.TheVariants as message
+use Rattle.cbsp_messages.specs.declared.layout.Layout.{Layout}
+use Rattle.cbsp_messages.specs.declared.layout.Layout.TheVariants as layout
 use Rattle.cbsp_messages.specs.declared.message_type.MessageType.{MessageType}
+use Rattle.cbsp_messages.specs.declared.message_type.MessageType.TheVariants as type
 use Rattle.cbsp_messages.specs.Elements.{AreElements, IsOnce, with_id}
 use Rattle.cbsp_messages.specs.Faults.{IsCutFault, IsWholeFault, IsContentFault, IsPagesFault, IsFault, IsFaultAs, missing}
-use Rattle.cbsp_messages.specs.Message.{type_of}
-use Rattle.cbsp_messages.specs.MessageType.{code_of, demanded_of, message_types, type_with}
+use Rattle.cbsp_messages.specs.Layout.{demanded_of, layout_at, type_in}
+use Rattle.cbsp_messages.specs.Message.{layout_of, type_of}
+use Rattle.cbsp_messages.specs.MessageType.{code_of, message_types, type_with}
 use Rattle.cbsp_messages.specs.Parts.{Parts, no_parts, values_at, is_there, with_element}
 use Rattle.cbsp_messages.specs.Spelling.{Says, Spells}
 use Rattle.cbsp_messages.specs.Taken.{HasDemanded, Holds, Takes}
@@ -115,18 +120,18 @@ not_not false = refl
 not_there : (parts : Parts) → ◌≡◌ {A = ElementId → Bool} (λ which. not (is_there parts which)) (λ which. length (values_at parts which) == 0)
 not_there parts i which = (ap not (is_there-values parts which) ∙ not_not (length (values_at parts which) == 0)) i
 
-pub missing-taken : (parts : Parts) (t : MessageType) → find (λ which. not (is_there parts which)) (demanded_of t) ≡ missing t (values_at parts)
-missing-taken parts t = ap (λ test. find test (demanded_of t)) (not_there parts)
+pub missing-taken : (parts : Parts) (l : Layout) → find (λ which. not (is_there parts which)) (demanded_of l) ≡ missing l (values_at parts)
+missing-taken parts l = ap (λ test. find test (demanded_of l)) (not_there parts)
 
 pub IsFault-missing : (body : List ℕ) (parts : Parts) (t : MessageType) (which : ElementId) → Takes body [] parts
-    → Some which ≡ find (λ which. not (is_there parts which)) (demanded_of t) → IsFaultAs t body (fault.Missing which)
+    → Some which ≡ find (λ which. not (is_there parts which)) (demanded_of (layout_at t (values_at parts))) → IsFaultAs t body (fault.Missing which)
 IsFault-missing body parts t which taken first =
-    inr (IsWholeFault-taken body parts t (fault.Missing which) taken (rw (sym (first ∙ missing-taken parts t)) refl))
+    inr (IsWholeFault-taken body parts t (fault.Missing which) taken (rw (sym (first ∙ missing-taken parts (layout_at t (values_at parts)))) refl))
 
 IsFault-pages : (body : List ℕ) (parts : Parts) (t : MessageType) (f : MessageFault) → Takes body [] parts
-    → None ≡ find (λ which. not (is_there parts which)) (demanded_of t) → IsPagesFault t (values_at parts) f → IsFaultAs t body f
+    → None ≡ find (λ which. not (is_there parts which)) (demanded_of (layout_at t (values_at parts))) → IsPagesFault (layout_at t (values_at parts)) (values_at parts) f → IsFaultAs t body f
 IsFault-pages body parts t f taken none bad =
-    inr (IsWholeFault-taken body parts t f taken (rw (sym (none ∙ missing-taken parts t)) bad))
+    inr (IsWholeFault-taken body parts t f taken (rw (sym (none ∙ missing-taken parts (layout_at t (values_at parts)))) bad))
 
 -- what no look-up finds is nowhere
 all_there : (parts : Parts) (ids : List ElementId) → None ≡ find (λ which. not (is_there parts which)) ids → AllByRecursion (λ which. is_there parts which ≡ true) ids
@@ -137,19 +142,64 @@ all_there parts (which ∷ ids) none =
       | false ↦ λ h. absurd cc
     ] none
 
-pub HasDemanded-taken : (parts : Parts) (t : MessageType) → None ≡ find (λ which. not (is_there parts which)) (demanded_of t) → HasDemanded t parts
-HasDemanded-taken parts t none = all_there parts (demanded_of t) none
+pub HasDemanded-taken : (parts : Parts) (l : Layout) → None ≡ find (λ which. not (is_there parts which)) (demanded_of l) → HasDemanded l parts
+HasDemanded-taken parts l none = all_there parts (demanded_of l) none
+
+-- ---- the layout
+
+-- the layout of a body of a type is one of the type
+pub type_in-layout_at : (t : MessageType) (at : ElementId → List Element) → type_in (layout_at t at) ≡ t
+type_in-layout_at type.WriteReplace at = elim (length (at id.EmergencyIndicator) == 0) as (λ none. type_in (cond none layout.WriteReplace layout.WriteEmergency) ≡ type.WriteReplace) [
+  | true ↦ refl
+  | false ↦ refl
+]
+type_in-layout_at type.WriteComplete at = refl
+type_in-layout_at type.WriteFailure at = refl
+type_in-layout_at type.Kill at = refl
+type_in-layout_at type.KillComplete at = refl
+type_in-layout_at type.KillFailure at = refl
+type_in-layout_at type.StatusQuery at = refl
+type_in-layout_at type.StatusComplete at = refl
+type_in-layout_at type.StatusFailure at = refl
+type_in-layout_at type.Restart at = refl
+type_in-layout_at type.Failure at = refl
+type_in-layout_at type.ErrorIndication at = refl
+
+-- the type of a message is that of its layout
+type_in-layout_of : (m : Message) → type_in (layout_of m) ≡ type_of m
+type_in-layout_of (message.WriteReplace m) = refl
+type_in-layout_of (message.WriteEmergency m) = refl
+type_in-layout_of (message.WriteComplete m) = refl
+type_in-layout_of (message.WriteFailure m) = refl
+type_in-layout_of (message.Kill m) = refl
+type_in-layout_of (message.KillComplete m) = refl
+type_in-layout_of (message.KillFailure m) = refl
+type_in-layout_of (message.StatusQuery m) = refl
+type_in-layout_of (message.StatusComplete m) = refl
+type_in-layout_of (message.StatusFailure m) = refl
+type_in-layout_of (message.Restart m) = refl
+type_in-layout_of (message.Failure m) = refl
+type_in-layout_of (message.ErrorIndication m) = refl
+
+-- a message of the layout of a body is of the body's type
+of_type : (t : MessageType) (at : ElementId → List Element) (m : Message) → layout_of m ≡ layout_at t at → type_of m ≡ t
+of_type t at m laid = sym (type_in-layout_of m) ∙ ap type_in laid ∙ type_in-layout_at t at
 
 -- ---- what read_as and read answer
 
+pub type_of-result : (at : ElementId → List Element) (t : MessageType) (l : Layout) (r : Result Message MessageFault) → l ≡ layout_at t at → IfOk r (λ m. layout_of m ≡ l)
+    → IfOk r (λ m. type_of m ≡ t)
+type_of-result at t l (Ok m) is laid = of_type t at m (laid ∙ is)
+type_of-result at t l (Err f) is laid = tt
+
 pub Spells-result : (body : List ℕ) (parts : Parts) (t : MessageType) (r : Result Message MessageFault) → Takes body [] parts
-    → IfOk r (λ m. type_of m ≡ t) → IfOk r (Says (values_at parts)) → IfOk r (Spells (code_of t) body)
-Spells-result body parts t (Ok m) taken has_type says = Spells-taken body parts t (code_of t) m taken refl has_type says
-Spells-result body parts t (Err f) taken has_type says = tt
+    → IfOk r (λ m. layout_of m ≡ layout_at t (values_at parts)) → IfOk r (Says (values_at parts)) → IfOk r (Spells (code_of t) body)
+Spells-result body parts t (Ok m) taken laid says = Spells-taken body parts t (code_of t) m taken refl (of_type t (values_at parts) m laid) says
+Spells-result body parts t (Err f) taken laid says = tt
 
 pub IsFault-result : (body : List ℕ) (parts : Parts) (t : MessageType) (r : Result Message MessageFault) → Takes body [] parts
-    → None ≡ find (λ which. not (is_there parts which)) (demanded_of t)
-    → IfErr r (λ f. (f ≡ fault.Memory) ⊎ IsPagesFault t (values_at parts) f) → IfErr r (λ f. (f ≡ fault.Memory) ⊎ IsFaultAs t body f)
+    → None ≡ find (λ which. not (is_there parts which)) (demanded_of (layout_at t (values_at parts)))
+    → IfErr r (λ f. (f ≡ fault.Memory) ⊎ IsPagesFault (layout_at t (values_at parts)) (values_at parts) f) → IfErr r (λ f. (f ≡ fault.Memory) ⊎ IsFaultAs t body f)
 IsFault-result body parts t (Ok m) taken none bad = tt
 IsFault-result body parts t (Err f) taken none (inl memory) = inl memory
 IsFault-result body parts t (Err f) taken none (inr bad) = inr (IsFault-pages body parts t f taken none bad)

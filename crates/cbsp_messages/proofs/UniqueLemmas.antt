@@ -12,14 +12,17 @@ use Rattle.cbsp_ie.proofs.ElementLemmas.{no_fault_lem, one_fault_lem, one_readin
 use Rattle.cbsp_messages.specs.declared.fault.MessageFault.{MessageFault}
 use Rattle.cbsp_messages.specs.declared.fault.MessageFault.TheVariants as fault
 use Rattle.cbsp_messages.specs.declared.message.Message.{Message}
+use Rattle.cbsp_messages.specs.declared.layout.Layout.{Layout}
+use Rattle.cbsp_messages.specs.declared.layout.Layout.TheVariants as layout
 use Rattle.cbsp_messages.specs.declared.message_type.MessageType.{MessageType}
 use Rattle.cbsp_messages.specs.declared.message_type.MessageType.TheVariants as type
 use Rattle.cbsp_messages.specs.Elements.{AreElements, IsOnce, has_id, with_id}
 use Rattle.cbsp_messages.specs.Faults.{HavePages, IsContentFault, IsCutFault, IsFault, IsFaultAs, IsNextFault, IsPagesFault, IsWholeFault, missing}
-use Rattle.cbsp_messages.specs.Message.{type_of}
-use Rattle.cbsp_messages.specs.MessageType.{code_of, type_with, written_of}
+use Rattle.cbsp_messages.specs.Layout.{layout_at, written_of}
+use Rattle.cbsp_messages.specs.Message.{layout_of, type_of}
+use Rattle.cbsp_messages.specs.MessageType.{code_of, type_with}
 use Rattle.cbsp_messages.specs.Parts.{parts_of, values_at}
-use Rattle.cbsp_messages.specs.Spelling.{Spells}
+use Rattle.cbsp_messages.specs.Spelling.{Says, Spells}
 use Rattle.cbsp_messages.proofs.MessageLemmas.{none_missing, one_values, pages_right}
 
 one_reading : (a x b y : List ℕ) (d e : Element) → a ++ x ≡ b ++ y → IsElement a d → IsElement b e → (a ≡ b) × (d ≡ e)
@@ -149,19 +152,20 @@ not_whole body es f joined once cut =
 
 -- ---- the fault of a body of whole elements
 
-pages_fault : (t : MessageType) (at : ElementId → List Element) (f : MessageFault) → IsPagesFault t at f → (t ≡ type.WriteReplace) × ¬ (HavePages at) × (f ≡ fault.BadPages)
-pages_fault type.WriteReplace at f bad = (refl, bad.0, bad.1)
+pages_fault : (l : Layout) (at : ElementId → List Element) (f : MessageFault) → IsPagesFault l at f → (l ≡ layout.WriteReplace) × ¬ (HavePages at) × (f ≡ fault.BadPages)
+pages_fault layout.WriteReplace at f bad = (refl, bad.0, bad.1)
 pages_fault other at f bad = absurd bad
 
-one_content_fault : (t : MessageType) (at : ElementId → List Element) (first : Option ElementId) (f g : MessageFault)
-    → MatchOption first (IsPagesFault t at f) (λ which. f ≡ fault.Missing which) → MatchOption first (IsPagesFault t at g) (λ which. g ≡ fault.Missing which) → f ≡ g
-one_content_fault t at None f g a b = (pages_fault t at f a).2 ∙ sym (pages_fault t at g b).2
-one_content_fault t at (Some which) f g a b = a ∙ sym b
+one_content_fault : (l : Layout) (at : ElementId → List Element) (first : Option ElementId) (f g : MessageFault)
+    → MatchOption first (IsPagesFault l at f) (λ which. f ≡ fault.Missing which) → MatchOption first (IsPagesFault l at g) (λ which. g ≡ fault.Missing which) → f ≡ g
+one_content_fault l at None f g a b = (pages_fault l at f a).2 ∙ sym (pages_fault l at g b).2
+one_content_fault l at (Some which) f g a b = a ∙ sym b
 
 pub one_whole_fault : (t : MessageType) (body : List ℕ) (f g : MessageFault) → IsWholeFault t body f → IsWholeFault t body g → f ≡ g
 one_whole_fault t body f g a b =
     let same : a.elements ≡ b.elements = one_list body a.elements b.elements a.joined b.joined in
-    one_content_fault t (λ which. with_id which b.elements) (missing t (λ which. with_id which b.elements)) f g
+    let at : ElementId → List Element = λ which. with_id which b.elements in
+    one_content_fault (layout_at t at) at (missing (layout_at t at) at) f g
     (subst (λ es. IsContentFault t (λ which. with_id which es) f) same a.bad) b.bad
 
 one_typed_fault : (body : List ℕ) (kind : Option MessageType) (f g : MessageFault)
@@ -195,8 +199,10 @@ type_with-code_of type.ErrorIndication = refl
 no_whole_fault : (body : List ℕ) (m : Message) (f : MessageFault) (kind : ℕ) (spells : Spells kind body m) → IsContentFault (type_of m) (λ which. with_id which spells.elements) f → ⊥
 no_whole_fault body m f kind spells bad =
     let at : ElementId → List Element = λ which. with_id which spells.elements in
-    let pages : IsPagesFault (type_of m) at f = subst (λ first. MatchOption first (IsPagesFault (type_of m) at f) (λ which. f ≡ fault.Missing which)) (none_missing m at spells.says) bad in
-    let wrong = pages_fault (type_of m) at f pages in
+    let laid : MatchOption (missing (layout_of m) at) (IsPagesFault (layout_of m) at f) (λ which. f ≡ fault.Missing which) =
+    subst (λ l. MatchOption (missing l at) (IsPagesFault l at f) (λ which. f ≡ fault.Missing which)) spells.says.2 bad in
+    let pages : IsPagesFault (layout_of m) at f = subst (λ first. MatchOption first (IsPagesFault (layout_of m) at f) (λ which. f ≡ fault.Missing which)) (none_missing m at spells.says) laid in
+    let wrong = pages_fault (layout_of m) at f pages in
     wrong.1 (pages_right m at wrong.0 spells.says)
 
 -- a body that spells a message has no fault
@@ -223,10 +229,11 @@ one_message_at_most kind body m n a b =
     let same_code : code_of (type_of m) ≡ code_of (type_of n) = sym a.is_kind ∙ b.is_kind in
     let same_type : type_of m ≡ type_of n = some_same (type_of m) (type_of n) (sym (type_with-code_of (type_of m)) ∙ ap type_with same_code ∙ type_with-code_of (type_of n)) in
     let same : b.elements ≡ a.elements = one_list body b.elements a.elements b.joined a.joined in
-    let says_n : AllByRecursion (λ which. with_id which a.elements ≡ values_at (parts_of n) which) (written_of (type_of m)) =
-    subst (λ es. AllByRecursion (λ which. with_id which es ≡ values_at (parts_of n) which) (written_of (type_of m))) same
-    (subst (λ t. AllByRecursion (λ which. with_id which b.elements ≡ values_at (parts_of n) which) (written_of t)) (sym same_type) b.says.0) in
-    one_values m n same_type (both_say (written_of (type_of m)) (λ which. with_id which a.elements) (values_at (parts_of m)) (values_at (parts_of n)) a.says.0 says_n)
+    let says_n : Says (λ which. with_id which a.elements) n = subst (λ es. Says (λ which. with_id which es) n) same b.says in
+    let same_layout : layout_of m ≡ layout_of n = sym a.says.2 ∙ ap (λ t. layout_at t (λ which. with_id which a.elements)) same_type ∙ says_n.2 in
+    let values_n : AllByRecursion (λ which. with_id which a.elements ≡ values_at (parts_of n) which) (written_of (layout_of m)) =
+    subst (λ l. AllByRecursion (λ which. with_id which a.elements ≡ values_at (parts_of n) which) (written_of l)) (sym same_layout) says_n.0 in
+    one_values m n same_layout (both_say (written_of (layout_of m)) (λ which. with_id which a.elements) (values_at (parts_of m)) (values_at (parts_of n)) a.says.0 values_n)
 
 -- an answer that is spelled so or is the fault is the message that is spelled, unless memory ran out
 pub only_answer : (kind : ℕ) (body : List ℕ) (answer : Result Message MessageFault) (m : Message) → IfOk answer (Spells kind body)

@@ -17,11 +17,11 @@ use Rattle.cbsp_ie.specs.Written.{FitsElement, IsInRange, element_octets, plain_
 use Rattle.cbsp_ie.proofs.WrittenLemmas.{written_is_read_lem}
 use Rattle.cbsp_messages.specs.declared.message.Message.{Message}
 use Rattle.cbsp_messages.specs.declared.message.Message.TheVariants as message
-use Rattle.cbsp_messages.specs.declared.message_type.MessageType.{MessageType}
-use Rattle.cbsp_messages.specs.declared.message_type.MessageType.TheVariants as type
+use Rattle.cbsp_messages.specs.declared.layout.Layout.{Layout}
+use Rattle.cbsp_messages.specs.declared.layout.Layout.TheVariants as layout
 use Rattle.cbsp_messages.specs.Elements.{AreElements, IsOnce, has_id, with_id}
-use Rattle.cbsp_messages.specs.Message.{type_of}
-use Rattle.cbsp_messages.specs.MessageType.{written_of}
+use Rattle.cbsp_messages.specs.Layout.{layout_at, written_of}
+use Rattle.cbsp_messages.specs.Message.{layout_of, type_of}
 use Rattle.cbsp_messages.specs.MessageType as types
 use Rattle.cbsp_messages.specs.Parts.{Parts, one_of, page_element, parts_of, values_at}
 use Rattle.cbsp_messages.specs.Ranged.{AreInRange}
@@ -72,45 +72,27 @@ pages_writable : (pages : List PageContent) → AllByRecursion (λ page. page.us
 pages_writable [] h k = tt
 pages_writable (page ∷ pages) h k = (((h.0, k.0), tt), pages_writable pages h.1 k.1)
 
--- what is not among the parts of a message
-abbrev HasNone : Parts → Type 0
-HasNone parts = (parts.warning_type ≡ None) × (parts.security ≡ None)
-
-parts_writable : (m : Message) → AreInRange (parts_of m) → HasShortPages m → Fits m → HasNone (parts_of m) → (which : ElementId) → AllByRecursion IsWritable (values_at (parts_of m) which)
-parts_writable m ranges short fits none id.MessageContent = pages_writable (parts_of m).pages short ranges.pages
-parts_writable m ranges short fits none id.OldSerialNumber = one_writable (λ n. element.OldSerialNumber n) (λ n. n < 65536) (λ n h. (h, tt)) (parts_of m).old_serial ranges.old_serial
-parts_writable m ranges short fits none id.NewSerialNumber = one_writable (λ n. element.NewSerialNumber n) (λ n. n < 65536) (λ n h. (h, tt)) (parts_of m).new_serial ranges.new_serial
-parts_writable m ranges short fits none id.CellList = one_writable (λ cells. element.CellList cells) _ (λ x h. h) (parts_of m).cells (both_if _ _ (parts_of m).cells ranges.cells fits.cells)
-parts_writable m ranges short fits none id.Category = any_writable (λ n. element.Category n) (λ x. (tt, tt)) (parts_of m).category
-parts_writable m ranges short fits none id.RepetitionPeriod = one_writable (λ n. element.RepetitionPeriod n) (λ n. n < 65536) (λ n h. (h, tt)) (parts_of m).period ranges.period
-parts_writable m ranges short fits none id.BroadcastsRequested = one_writable (λ n. element.BroadcastsRequested n) (λ n. n < 65536) (λ n h. (h, tt)) (parts_of m).requested ranges.requested
-parts_writable m ranges short fits none id.BroadcastsCompleted = one_writable (λ counts. element.BroadcastsCompleted counts) _ (λ x h. h) (parts_of m).counts (both_if _ _ (parts_of m).counts ranges.counts fits.counts)
-parts_writable m ranges short fits none id.FailureList = one_writable (λ failures. element.FailureList failures) _ (λ x h. h) (parts_of m).failures (both_if _ _ (parts_of m).failures ranges.failures fits.failures)
-parts_writable m ranges short fits none id.Cause = any_writable (λ cause. element.Cause cause) (λ x. (tt, tt)) (parts_of m).cause
-parts_writable m ranges short fits none id.DataCodingScheme = any_writable (λ n. element.DataCodingScheme n) (λ x. (tt, tt)) (parts_of m).dcs
-parts_writable m ranges short fits none id.RecoveryIndication = any_writable (λ n. element.RecoveryIndication n) (λ x. (tt, tt)) (parts_of m).recovery
-parts_writable m ranges short fits none id.MessageIdentifier = one_writable (λ n. element.MessageIdentifier n) (λ n. n < 65536) (λ n h. (h, tt)) (parts_of m).message_id ranges.message_id
-parts_writable m ranges short fits none id.EmergencyIndicator = any_writable (λ n. element.EmergencyIndicator n) (λ x. (tt, tt)) (parts_of m).emergency
-parts_writable m ranges short fits none id.WarningType = rw none.0 tt
-parts_writable m ranges short fits none id.WarningSecurity = rw none.1 tt
-parts_writable m ranges short fits none id.ChannelIndicator = any_writable (λ n. element.ChannelIndicator n) (λ x. (tt, tt)) (parts_of m).channel
-parts_writable m ranges short fits none id.NumberOfPages = any_writable (λ n. element.NumberOfPages n) (λ x. (tt, tt)) (parts_of m).page_count
-parts_writable m ranges short fits none id.BroadcastMessageType = any_writable (λ n. element.BroadcastMessageType n) (λ x. (tt, tt)) (parts_of m).kind
-parts_writable m ranges short fits none id.WarningPeriod = any_writable (λ n. element.WarningPeriod n) (λ x. (tt, tt)) (parts_of m).warning_period
-
-has_none : (m : Message) → HasNone (parts_of m)
-has_none (message.WriteReplace m) = (refl, refl)
-has_none (message.WriteComplete m) = (refl, refl)
-has_none (message.WriteFailure m) = (refl, refl)
-has_none (message.Kill m) = (refl, refl)
-has_none (message.KillComplete m) = (refl, refl)
-has_none (message.KillFailure m) = (refl, refl)
-has_none (message.StatusQuery m) = (refl, refl)
-has_none (message.StatusComplete m) = (refl, refl)
-has_none (message.StatusFailure m) = (refl, refl)
-has_none (message.Restart m) = (refl, refl)
-has_none (message.Failure m) = (refl, refl)
-has_none (message.ErrorIndication m) = (refl, refl)
+parts_writable : (m : Message) → AreInRange (parts_of m) → HasShortPages m → Fits m → (which : ElementId) → AllByRecursion IsWritable (values_at (parts_of m) which)
+parts_writable m ranges short fits id.MessageContent = pages_writable (parts_of m).pages short ranges.pages
+parts_writable m ranges short fits id.OldSerialNumber = one_writable (λ n. element.OldSerialNumber n) (λ n. n < 65536) (λ n h. (h, tt)) (parts_of m).old_serial ranges.old_serial
+parts_writable m ranges short fits id.NewSerialNumber = one_writable (λ n. element.NewSerialNumber n) (λ n. n < 65536) (λ n h. (h, tt)) (parts_of m).new_serial ranges.new_serial
+parts_writable m ranges short fits id.CellList = one_writable (λ cells. element.CellList cells) _ (λ x h. h) (parts_of m).cells (both_if _ _ (parts_of m).cells ranges.cells fits.cells)
+parts_writable m ranges short fits id.Category = any_writable (λ n. element.Category n) (λ x. (tt, tt)) (parts_of m).category
+parts_writable m ranges short fits id.RepetitionPeriod = one_writable (λ n. element.RepetitionPeriod n) (λ n. n < 65536) (λ n h. (h, tt)) (parts_of m).period ranges.period
+parts_writable m ranges short fits id.BroadcastsRequested = one_writable (λ n. element.BroadcastsRequested n) (λ n. n < 65536) (λ n h. (h, tt)) (parts_of m).requested ranges.requested
+parts_writable m ranges short fits id.BroadcastsCompleted = one_writable (λ counts. element.BroadcastsCompleted counts) _ (λ x h. h) (parts_of m).counts (both_if _ _ (parts_of m).counts ranges.counts fits.counts)
+parts_writable m ranges short fits id.FailureList = one_writable (λ failures. element.FailureList failures) _ (λ x h. h) (parts_of m).failures (both_if _ _ (parts_of m).failures ranges.failures fits.failures)
+parts_writable m ranges short fits id.Cause = any_writable (λ cause. element.Cause cause) (λ x. (tt, tt)) (parts_of m).cause
+parts_writable m ranges short fits id.DataCodingScheme = any_writable (λ n. element.DataCodingScheme n) (λ x. (tt, tt)) (parts_of m).dcs
+parts_writable m ranges short fits id.RecoveryIndication = any_writable (λ n. element.RecoveryIndication n) (λ x. (tt, tt)) (parts_of m).recovery
+parts_writable m ranges short fits id.MessageIdentifier = one_writable (λ n. element.MessageIdentifier n) (λ n. n < 65536) (λ n h. (h, tt)) (parts_of m).message_id ranges.message_id
+parts_writable m ranges short fits id.EmergencyIndicator = any_writable (λ n. element.EmergencyIndicator n) (λ x. (tt, tt)) (parts_of m).emergency
+parts_writable m ranges short fits id.WarningType = one_writable (λ n. element.WarningType n) (λ n. n < 65536) (λ n h. (h, tt)) (parts_of m).warning_type ranges.warning_type
+parts_writable m ranges short fits id.WarningSecurity = one_writable (λ octets. element.WarningSecurity octets) (λ octets. length octets ≡ 50) (λ octets h. (h, tt)) (parts_of m).security ranges.security
+parts_writable m ranges short fits id.ChannelIndicator = any_writable (λ n. element.ChannelIndicator n) (λ x. (tt, tt)) (parts_of m).channel
+parts_writable m ranges short fits id.NumberOfPages = any_writable (λ n. element.NumberOfPages n) (λ x. (tt, tt)) (parts_of m).page_count
+parts_writable m ranges short fits id.BroadcastMessageType = any_writable (λ n. element.BroadcastMessageType n) (λ x. (tt, tt)) (parts_of m).kind
+parts_writable m ranges short fits id.WarningPeriod = any_writable (λ n. element.WarningPeriod n) (λ x. (tt, tt)) (parts_of m).warning_period
 
 -- ---- the elements by their identifiers
 
@@ -174,95 +156,105 @@ with_id-flat_map parts which (own ∷ ids) =
 abbrev picked : (ElementId → List Element) → ElementId → List ElementId → List Element
 picked at which ids = flat_map (λ own. if_same which own (at own)) ids
 
-picks : (t : MessageType) (at : ElementId → List Element) → AllByRecursion (λ which. picked at which (written_of t) ≡ at which) (written_of t)
-picks type.WriteReplace at = (append-nil _, (append-nil _, (append-nil _, (append-nil _, (append-nil _, (append-nil _, (append-nil _, (append-nil _, (append-nil _, (append-nil _, (append-nil _, tt)))))))))))
-picks type.WriteComplete at = (append-nil _, (append-nil _, (append-nil _, (append-nil _, (append-nil _, (append-nil _, tt))))))
-picks type.WriteFailure at = (append-nil _, (append-nil _, (append-nil _, (append-nil _, (append-nil _, (append-nil _, (append-nil _, tt)))))))
-picks type.Kill at = (append-nil _, (append-nil _, (append-nil _, (append-nil _, tt))))
-picks type.KillComplete at = (append-nil _, (append-nil _, (append-nil _, (append-nil _, (append-nil _, tt)))))
-picks type.KillFailure at = (append-nil _, (append-nil _, (append-nil _, (append-nil _, (append-nil _, (append-nil _, tt))))))
-picks type.StatusQuery at = (append-nil _, (append-nil _, (append-nil _, (append-nil _, tt))))
-picks type.StatusComplete at = (append-nil _, (append-nil _, (append-nil _, (append-nil _, tt))))
-picks type.StatusFailure at = (append-nil _, (append-nil _, (append-nil _, (append-nil _, (append-nil _, tt)))))
-picks type.Restart at = (append-nil _, (append-nil _, (append-nil _, tt)))
-picks type.Failure at = (append-nil _, (append-nil _, tt))
-picks type.ErrorIndication at = (append-nil _, (append-nil _, (append-nil _, (append-nil _, (append-nil _, tt)))))
+picks : (l : Layout) (at : ElementId → List Element) → AllByRecursion (λ which. picked at which (written_of l) ≡ at which) (written_of l)
+picks layout.WriteReplace at = (append-nil _, (append-nil _, (append-nil _, (append-nil _, (append-nil _, (append-nil _, (append-nil _, (append-nil _, (append-nil _, (append-nil _, (append-nil _, tt)))))))))))
+picks layout.WriteEmergency at = (append-nil _, (append-nil _, (append-nil _, (append-nil _, (append-nil _, (append-nil _, (append-nil _, (append-nil _, tt))))))))
+picks layout.WriteComplete at = (append-nil _, (append-nil _, (append-nil _, (append-nil _, (append-nil _, (append-nil _, tt))))))
+picks layout.WriteFailure at = (append-nil _, (append-nil _, (append-nil _, (append-nil _, (append-nil _, (append-nil _, (append-nil _, tt)))))))
+picks layout.Kill at = (append-nil _, (append-nil _, (append-nil _, (append-nil _, tt))))
+picks layout.KillComplete at = (append-nil _, (append-nil _, (append-nil _, (append-nil _, (append-nil _, tt)))))
+picks layout.KillFailure at = (append-nil _, (append-nil _, (append-nil _, (append-nil _, (append-nil _, (append-nil _, tt))))))
+picks layout.StatusQuery at = (append-nil _, (append-nil _, (append-nil _, (append-nil _, tt))))
+picks layout.StatusComplete at = (append-nil _, (append-nil _, (append-nil _, (append-nil _, tt))))
+picks layout.StatusFailure at = (append-nil _, (append-nil _, (append-nil _, (append-nil _, (append-nil _, tt)))))
+picks layout.Restart at = (append-nil _, (append-nil _, (append-nil _, tt)))
+picks layout.Failure at = (append-nil _, (append-nil _, tt))
+picks layout.ErrorIndication at = (append-nil _, (append-nil _, (append-nil _, (append-nil _, (append-nil _, tt)))))
 
-picks_few : (t : MessageType) (at : ElementId → List Element) (which : ElementId) → (picked at which (written_of t) ≡ at which) ⊎ (picked at which (written_of t) ≡ [])
-picks_few type.WriteReplace at id.MessageIdentifier = inl (append-nil _)
-picks_few type.WriteReplace at id.NewSerialNumber = inl (append-nil _)
-picks_few type.WriteReplace at id.OldSerialNumber = inl (append-nil _)
-picks_few type.WriteReplace at id.CellList = inl (append-nil _)
-picks_few type.WriteReplace at id.ChannelIndicator = inl (append-nil _)
-picks_few type.WriteReplace at id.Category = inl (append-nil _)
-picks_few type.WriteReplace at id.RepetitionPeriod = inl (append-nil _)
-picks_few type.WriteReplace at id.BroadcastsRequested = inl (append-nil _)
-picks_few type.WriteReplace at id.NumberOfPages = inl (append-nil _)
-picks_few type.WriteReplace at id.DataCodingScheme = inl (append-nil _)
-picks_few type.WriteReplace at id.MessageContent = inl (append-nil _)
-picks_few type.WriteReplace at which = inr refl
-picks_few type.WriteComplete at id.MessageIdentifier = inl (append-nil _)
-picks_few type.WriteComplete at id.NewSerialNumber = inl (append-nil _)
-picks_few type.WriteComplete at id.OldSerialNumber = inl (append-nil _)
-picks_few type.WriteComplete at id.BroadcastsCompleted = inl (append-nil _)
-picks_few type.WriteComplete at id.CellList = inl (append-nil _)
-picks_few type.WriteComplete at id.ChannelIndicator = inl (append-nil _)
-picks_few type.WriteComplete at which = inr refl
-picks_few type.WriteFailure at id.MessageIdentifier = inl (append-nil _)
-picks_few type.WriteFailure at id.NewSerialNumber = inl (append-nil _)
-picks_few type.WriteFailure at id.OldSerialNumber = inl (append-nil _)
-picks_few type.WriteFailure at id.FailureList = inl (append-nil _)
-picks_few type.WriteFailure at id.BroadcastsCompleted = inl (append-nil _)
-picks_few type.WriteFailure at id.CellList = inl (append-nil _)
-picks_few type.WriteFailure at id.ChannelIndicator = inl (append-nil _)
-picks_few type.WriteFailure at which = inr refl
-picks_few type.Kill at id.MessageIdentifier = inl (append-nil _)
-picks_few type.Kill at id.OldSerialNumber = inl (append-nil _)
-picks_few type.Kill at id.CellList = inl (append-nil _)
-picks_few type.Kill at id.ChannelIndicator = inl (append-nil _)
-picks_few type.Kill at which = inr refl
-picks_few type.KillComplete at id.MessageIdentifier = inl (append-nil _)
-picks_few type.KillComplete at id.OldSerialNumber = inl (append-nil _)
-picks_few type.KillComplete at id.BroadcastsCompleted = inl (append-nil _)
-picks_few type.KillComplete at id.CellList = inl (append-nil _)
-picks_few type.KillComplete at id.ChannelIndicator = inl (append-nil _)
-picks_few type.KillComplete at which = inr refl
-picks_few type.KillFailure at id.MessageIdentifier = inl (append-nil _)
-picks_few type.KillFailure at id.OldSerialNumber = inl (append-nil _)
-picks_few type.KillFailure at id.FailureList = inl (append-nil _)
-picks_few type.KillFailure at id.BroadcastsCompleted = inl (append-nil _)
-picks_few type.KillFailure at id.CellList = inl (append-nil _)
-picks_few type.KillFailure at id.ChannelIndicator = inl (append-nil _)
-picks_few type.KillFailure at which = inr refl
-picks_few type.StatusQuery at id.MessageIdentifier = inl (append-nil _)
-picks_few type.StatusQuery at id.OldSerialNumber = inl (append-nil _)
-picks_few type.StatusQuery at id.CellList = inl (append-nil _)
-picks_few type.StatusQuery at id.ChannelIndicator = inl (append-nil _)
-picks_few type.StatusQuery at which = inr refl
-picks_few type.StatusComplete at id.MessageIdentifier = inl (append-nil _)
-picks_few type.StatusComplete at id.OldSerialNumber = inl (append-nil _)
-picks_few type.StatusComplete at id.BroadcastsCompleted = inl (append-nil _)
-picks_few type.StatusComplete at id.ChannelIndicator = inl (append-nil _)
-picks_few type.StatusComplete at which = inr refl
-picks_few type.StatusFailure at id.MessageIdentifier = inl (append-nil _)
-picks_few type.StatusFailure at id.OldSerialNumber = inl (append-nil _)
-picks_few type.StatusFailure at id.FailureList = inl (append-nil _)
-picks_few type.StatusFailure at id.BroadcastsCompleted = inl (append-nil _)
-picks_few type.StatusFailure at id.ChannelIndicator = inl (append-nil _)
-picks_few type.StatusFailure at which = inr refl
-picks_few type.Restart at id.CellList = inl (append-nil _)
-picks_few type.Restart at id.BroadcastMessageType = inl (append-nil _)
-picks_few type.Restart at id.RecoveryIndication = inl (append-nil _)
-picks_few type.Restart at which = inr refl
-picks_few type.Failure at id.FailureList = inl (append-nil _)
-picks_few type.Failure at id.BroadcastMessageType = inl (append-nil _)
-picks_few type.Failure at which = inr refl
-picks_few type.ErrorIndication at id.Cause = inl (append-nil _)
-picks_few type.ErrorIndication at id.MessageIdentifier = inl (append-nil _)
-picks_few type.ErrorIndication at id.NewSerialNumber = inl (append-nil _)
-picks_few type.ErrorIndication at id.OldSerialNumber = inl (append-nil _)
-picks_few type.ErrorIndication at id.ChannelIndicator = inl (append-nil _)
-picks_few type.ErrorIndication at which = inr refl
+picks_few : (l : Layout) (at : ElementId → List Element) (which : ElementId) → (picked at which (written_of l) ≡ at which) ⊎ (picked at which (written_of l) ≡ [])
+picks_few layout.WriteReplace at id.MessageIdentifier = inl (append-nil _)
+picks_few layout.WriteReplace at id.NewSerialNumber = inl (append-nil _)
+picks_few layout.WriteReplace at id.OldSerialNumber = inl (append-nil _)
+picks_few layout.WriteReplace at id.CellList = inl (append-nil _)
+picks_few layout.WriteReplace at id.ChannelIndicator = inl (append-nil _)
+picks_few layout.WriteReplace at id.Category = inl (append-nil _)
+picks_few layout.WriteReplace at id.RepetitionPeriod = inl (append-nil _)
+picks_few layout.WriteReplace at id.BroadcastsRequested = inl (append-nil _)
+picks_few layout.WriteReplace at id.NumberOfPages = inl (append-nil _)
+picks_few layout.WriteReplace at id.DataCodingScheme = inl (append-nil _)
+picks_few layout.WriteReplace at id.MessageContent = inl (append-nil _)
+picks_few layout.WriteReplace at which = inr refl
+picks_few layout.WriteEmergency at id.MessageIdentifier = inl (append-nil _)
+picks_few layout.WriteEmergency at id.NewSerialNumber = inl (append-nil _)
+picks_few layout.WriteEmergency at id.OldSerialNumber = inl (append-nil _)
+picks_few layout.WriteEmergency at id.CellList = inl (append-nil _)
+picks_few layout.WriteEmergency at id.EmergencyIndicator = inl (append-nil _)
+picks_few layout.WriteEmergency at id.WarningType = inl (append-nil _)
+picks_few layout.WriteEmergency at id.WarningPeriod = inl (append-nil _)
+picks_few layout.WriteEmergency at id.WarningSecurity = inl (append-nil _)
+picks_few layout.WriteEmergency at which = inr refl
+picks_few layout.WriteComplete at id.MessageIdentifier = inl (append-nil _)
+picks_few layout.WriteComplete at id.NewSerialNumber = inl (append-nil _)
+picks_few layout.WriteComplete at id.OldSerialNumber = inl (append-nil _)
+picks_few layout.WriteComplete at id.BroadcastsCompleted = inl (append-nil _)
+picks_few layout.WriteComplete at id.CellList = inl (append-nil _)
+picks_few layout.WriteComplete at id.ChannelIndicator = inl (append-nil _)
+picks_few layout.WriteComplete at which = inr refl
+picks_few layout.WriteFailure at id.MessageIdentifier = inl (append-nil _)
+picks_few layout.WriteFailure at id.NewSerialNumber = inl (append-nil _)
+picks_few layout.WriteFailure at id.OldSerialNumber = inl (append-nil _)
+picks_few layout.WriteFailure at id.FailureList = inl (append-nil _)
+picks_few layout.WriteFailure at id.BroadcastsCompleted = inl (append-nil _)
+picks_few layout.WriteFailure at id.CellList = inl (append-nil _)
+picks_few layout.WriteFailure at id.ChannelIndicator = inl (append-nil _)
+picks_few layout.WriteFailure at which = inr refl
+picks_few layout.Kill at id.MessageIdentifier = inl (append-nil _)
+picks_few layout.Kill at id.OldSerialNumber = inl (append-nil _)
+picks_few layout.Kill at id.CellList = inl (append-nil _)
+picks_few layout.Kill at id.ChannelIndicator = inl (append-nil _)
+picks_few layout.Kill at which = inr refl
+picks_few layout.KillComplete at id.MessageIdentifier = inl (append-nil _)
+picks_few layout.KillComplete at id.OldSerialNumber = inl (append-nil _)
+picks_few layout.KillComplete at id.BroadcastsCompleted = inl (append-nil _)
+picks_few layout.KillComplete at id.CellList = inl (append-nil _)
+picks_few layout.KillComplete at id.ChannelIndicator = inl (append-nil _)
+picks_few layout.KillComplete at which = inr refl
+picks_few layout.KillFailure at id.MessageIdentifier = inl (append-nil _)
+picks_few layout.KillFailure at id.OldSerialNumber = inl (append-nil _)
+picks_few layout.KillFailure at id.FailureList = inl (append-nil _)
+picks_few layout.KillFailure at id.BroadcastsCompleted = inl (append-nil _)
+picks_few layout.KillFailure at id.CellList = inl (append-nil _)
+picks_few layout.KillFailure at id.ChannelIndicator = inl (append-nil _)
+picks_few layout.KillFailure at which = inr refl
+picks_few layout.StatusQuery at id.MessageIdentifier = inl (append-nil _)
+picks_few layout.StatusQuery at id.OldSerialNumber = inl (append-nil _)
+picks_few layout.StatusQuery at id.CellList = inl (append-nil _)
+picks_few layout.StatusQuery at id.ChannelIndicator = inl (append-nil _)
+picks_few layout.StatusQuery at which = inr refl
+picks_few layout.StatusComplete at id.MessageIdentifier = inl (append-nil _)
+picks_few layout.StatusComplete at id.OldSerialNumber = inl (append-nil _)
+picks_few layout.StatusComplete at id.BroadcastsCompleted = inl (append-nil _)
+picks_few layout.StatusComplete at id.ChannelIndicator = inl (append-nil _)
+picks_few layout.StatusComplete at which = inr refl
+picks_few layout.StatusFailure at id.MessageIdentifier = inl (append-nil _)
+picks_few layout.StatusFailure at id.OldSerialNumber = inl (append-nil _)
+picks_few layout.StatusFailure at id.FailureList = inl (append-nil _)
+picks_few layout.StatusFailure at id.BroadcastsCompleted = inl (append-nil _)
+picks_few layout.StatusFailure at id.ChannelIndicator = inl (append-nil _)
+picks_few layout.StatusFailure at which = inr refl
+picks_few layout.Restart at id.CellList = inl (append-nil _)
+picks_few layout.Restart at id.BroadcastMessageType = inl (append-nil _)
+picks_few layout.Restart at id.RecoveryIndication = inl (append-nil _)
+picks_few layout.Restart at which = inr refl
+picks_few layout.Failure at id.FailureList = inl (append-nil _)
+picks_few layout.Failure at id.BroadcastMessageType = inl (append-nil _)
+picks_few layout.Failure at which = inr refl
+picks_few layout.ErrorIndication at id.Cause = inl (append-nil _)
+picks_few layout.ErrorIndication at id.MessageIdentifier = inl (append-nil _)
+picks_few layout.ErrorIndication at id.NewSerialNumber = inl (append-nil _)
+picks_few layout.ErrorIndication at id.OldSerialNumber = inl (append-nil _)
+picks_few layout.ErrorIndication at id.ChannelIndicator = inl (append-nil _)
+picks_few layout.ErrorIndication at which = inr refl
 
 -- ---- the message without spare bits
 
@@ -278,8 +270,9 @@ pages_kept : (pages : List PageContent) → map plain_element (map page_element 
 pages_kept [] = refl
 pages_kept (page ∷ pages) = ap (λ es. page_element page ∷ es) (pages_kept pages)
 
-plain_values : (m : Message) → AllByRecursion (λ which. plain_at (parts_of m) which ≡ values_at (parts_of (plain m)) which) (written_of (type_of m))
+plain_values : (m : Message) → AllByRecursion (λ which. plain_at (parts_of m) which ≡ values_at (parts_of (plain m)) which) (written_of (layout_of m))
 plain_values (message.WriteReplace m) = (refl, (refl, (kept (λ n. element.OldSerialNumber n) (λ x. refl) m.old, (refl, (plain_option (λ n. element.ChannelIndicator n) low (λ x. refl) m.channel, (refl, (refl, (refl, (refl, (refl, (pages_kept m.pages, tt)))))))))))
+plain_values (message.WriteEmergency m) = (refl, (refl, (kept (λ n. element.OldSerialNumber n) (λ x. refl) m.old, (refl, (refl, (refl, (refl, (refl, tt))))))))
 plain_values (message.WriteComplete m) = (refl, (refl, (kept (λ n. element.OldSerialNumber n) (λ x. refl) m.old, (plain_option (λ counts. element.BroadcastsCompleted counts) plain_counts (λ x. refl) m.counts, (kept (λ cells. element.CellList cells) (λ x. refl) m.cells, (plain_option (λ n. element.ChannelIndicator n) low (λ x. refl) m.channel, tt))))))
 plain_values (message.WriteFailure m) = (refl, (refl, (kept (λ n. element.OldSerialNumber n) (λ x. refl) m.old, (refl, (plain_option (λ counts. element.BroadcastsCompleted counts) plain_counts (λ x. refl) m.counts, (kept (λ cells. element.CellList cells) (λ x. refl) m.cells, (plain_option (λ n. element.ChannelIndicator n) low (λ x. refl) m.channel, tt)))))))
 plain_values (message.Kill m) = (refl, (refl, (refl, (plain_option (λ n. element.ChannelIndicator n) low (λ x. refl) m.channel, tt))))
@@ -294,6 +287,7 @@ plain_values (message.ErrorIndication m) = (refl, (kept (λ n. element.MessageId
 
 type_of-plain : (m : Message) → type_of (plain m) ≡ type_of m
 type_of-plain (message.WriteReplace m) = refl
+type_of-plain (message.WriteEmergency m) = refl
 type_of-plain (message.WriteComplete m) = refl
 type_of-plain (message.WriteFailure m) = refl
 type_of-plain (message.Kill m) = refl
@@ -306,8 +300,24 @@ type_of-plain (message.Restart m) = refl
 type_of-plain (message.Failure m) = refl
 type_of-plain (message.ErrorIndication m) = refl
 
+layout_of-plain : (m : Message) → layout_of (plain m) ≡ layout_of m
+layout_of-plain (message.WriteReplace m) = refl
+layout_of-plain (message.WriteEmergency m) = refl
+layout_of-plain (message.WriteComplete m) = refl
+layout_of-plain (message.WriteFailure m) = refl
+layout_of-plain (message.Kill m) = refl
+layout_of-plain (message.KillComplete m) = refl
+layout_of-plain (message.KillFailure m) = refl
+layout_of-plain (message.StatusQuery m) = refl
+layout_of-plain (message.StatusComplete m) = refl
+layout_of-plain (message.StatusFailure m) = refl
+layout_of-plain (message.Restart m) = refl
+layout_of-plain (message.Failure m) = refl
+layout_of-plain (message.ErrorIndication m) = refl
+
 HasPages-plain : (m : Message) → HasPages m → HasPages (plain m)
 HasPages-plain (message.WriteReplace m) h = h
+HasPages-plain (message.WriteEmergency m) h = tt
 HasPages-plain (message.WriteComplete m) h = tt
 HasPages-plain (message.WriteFailure m) h = tt
 HasPages-plain (message.Kill m) h = tt
@@ -327,27 +337,44 @@ joined (which ∷ ids) a b c d f g h = (f which ∙ g.0 ∙ h.0, joined ids a b 
 
 -- the elements of a message as they are read
 abbrev plain_elements : Message → List Element
-plain_elements m = flat_map (plain_at (parts_of m)) (written_of (type_of m))
+plain_elements m = flat_map (plain_at (parts_of m)) (written_of (layout_of m))
 
 once : (m : Message) → IsOnce (plain_elements m)
 once m which other =
-    let all = with_id-flat_map (parts_of m) which (written_of (type_of m)) in
+    let all = with_id-flat_map (parts_of m) which (written_of (layout_of m)) in
     let few : length (plain_at (parts_of m) which) ≤ 1 = rw (length-map (values_at (parts_of m) which) plain_element) (values_at-once (parts_of m) which other) in
-    rw all (elim (picks_few (type_of m) (plain_at (parts_of m)) which) [ inl own ↦ rw own few | inr none ↦ rw none (omega arith) ])
+    rw all (elim (picks_few (layout_of m) (plain_at (parts_of m)) which) [ inl own ↦ rw own few | inr none ↦ rw none (omega arith) ])
+
+-- they are laid out as the message is
+laid : (m : Message) → layout_at (type_of (plain m)) (λ which. with_id which (plain_elements m)) ≡ layout_of (plain m)
+laid (message.WriteReplace m) = rw (with_id-flat_map (parts_of (message.WriteReplace m)) id.EmergencyIndicator (written_of layout.WriteReplace)) refl
+laid (message.WriteEmergency m) = rw (with_id-flat_map (parts_of (message.WriteEmergency m)) id.EmergencyIndicator (written_of layout.WriteEmergency)) refl
+laid (message.WriteComplete m) = refl
+laid (message.WriteFailure m) = refl
+laid (message.Kill m) = refl
+laid (message.KillComplete m) = refl
+laid (message.KillFailure m) = refl
+laid (message.StatusQuery m) = refl
+laid (message.StatusComplete m) = refl
+laid (message.StatusFailure m) = refl
+laid (message.Restart m) = refl
+laid (message.Failure m) = refl
+laid (message.ErrorIndication m) = refl
 
 says : (m : Message) → HasPages m → Says (λ which. with_id which (plain_elements m)) (plain m)
 says m pages = (
-  subst (λ t. AllByRecursion (λ which. with_id which (plain_elements m) ≡ values_at (parts_of (plain m)) which) (written_of t)) (sym (type_of-plain m))
-      (joined (written_of (type_of m)) (λ which. with_id which (plain_elements m)) (λ which. picked (plain_at (parts_of m)) which (written_of (type_of m))) (plain_at (parts_of m)) (values_at (parts_of (plain m)))
-      (λ which. with_id-flat_map (parts_of m) which (written_of (type_of m))) (picks (type_of m) (plain_at (parts_of m))) (plain_values m)),
+  subst (λ l. AllByRecursion (λ which. with_id which (plain_elements m) ≡ values_at (parts_of (plain m)) which) (written_of l)) (sym (layout_of-plain m))
+      (joined (written_of (layout_of m)) (λ which. with_id which (plain_elements m)) (λ which. picked (plain_at (parts_of m)) which (written_of (layout_of m))) (plain_at (parts_of m)) (values_at (parts_of (plain m)))
+      (λ which. with_id-flat_map (parts_of m) which (written_of (layout_of m))) (picks (layout_of m) (plain_at (parts_of m))) (plain_values m)),
   HasPages-plain m pages,
+  laid m,
 )
 
 pub Spells-written : (m : Message) → AreInRange (parts_of m) → HasShortPages m → Fits m → Spells (types.code_of (type_of m)) (written m) (plain m)
 Spells-written m ranges short fits = record {
   is_kind = ap types.code_of (sym (type_of-plain m));
   elements = plain_elements m;
-  joined = are_plain_at (parts_of m) (parts_writable m ranges short fits (has_none m)) (written_of (type_of m));
+  joined = are_plain_at (parts_of m) (parts_writable m ranges short fits) (written_of (layout_of m));
   once = once m;
   says = says m fits.pages;
 }

@@ -11,10 +11,12 @@ use Rattle.cbsp_ie.specs.Element.{IsElement, IsElementFault, element_id_of}
 use Rattle.cbsp_ie.specs.IeFault.{fault_number}
 use Rattle.cbsp_messages.specs.declared.fault.MessageFault.{MessageFault}
 use Rattle.cbsp_messages.specs.declared.fault.MessageFault.TheVariants as fault
+use Rattle.cbsp_messages.specs.declared.layout.Layout.{Layout}
+use Rattle.cbsp_messages.specs.declared.layout.Layout.TheVariants as layout
 use Rattle.cbsp_messages.specs.declared.message_type.MessageType.{MessageType}
-use Rattle.cbsp_messages.specs.declared.message_type.MessageType.TheVariants as type
 use Rattle.cbsp_messages.specs.Elements.{AreElements, IsOnce, with_id}
-use Rattle.cbsp_messages.specs.MessageType.{demanded_of, type_with}
+use Rattle.cbsp_messages.specs.Layout.{demanded_of, layout_at}
+use Rattle.cbsp_messages.specs.MessageType.{type_with}
 
 -- the number by which the fault is known; out of memory has none
 abbrev pub number_of : MessageFault → Option ℕ
@@ -44,8 +46,8 @@ pub record IsCutFault (body : List ℕ) (f : MessageFault) : Type 0 where
   pub bad : IsNextFault elements rest f
 
 -- the first demanded identifier with no element
-abbrev pub missing : MessageType → (ElementId → List Element) → Option ElementId
-missing t at = find (λ id. length (at id) == 0) (demanded_of t)
+abbrev pub missing : Layout → (ElementId → List Element) → Option ElementId
+missing l at = find (λ id. length (at id) == 0) (demanded_of l)
 
 -- the pages are 1 to 15, and as many as the Number of Pages says
 abbrev pub HavePages : (ElementId → List Element) → Type 0
@@ -54,13 +56,13 @@ HavePages at =
     × (at id.NumberOfPages ≡ element.NumberOfPages (length (at id.MessageContent)) ∷ [])
 
 -- what is wrong with the pages
-abbrev pub IsPagesFault : MessageType → (ElementId → List Element) → MessageFault → Type 0
-IsPagesFault type.WriteReplace at f = ¬ (HavePages at) × (f ≡ fault.BadPages)
+abbrev pub IsPagesFault : Layout → (ElementId → List Element) → MessageFault → Type 0
+IsPagesFault layout.WriteReplace at f = ¬ (HavePages at) × (f ≡ fault.BadPages)
 IsPagesFault other at f = ⊥
 
 -- what is wrong with elements of which each is whole and none stands twice
 abbrev pub IsContentFault : MessageType → (ElementId → List Element) → MessageFault → Type 0
-IsContentFault t at f = MatchOption (missing t at) (IsPagesFault t at f) (λ id. f ≡ fault.Missing id)
+IsContentFault t at f = MatchOption (missing (layout_at t at) at) (IsPagesFault (layout_at t at) at f) (λ id. f ≡ fault.Missing id)
 
 -- the same of a whole body
 pub record IsWholeFault (t : MessageType) (body : List ℕ) (f : MessageFault) : Type 0 where

@@ -3,7 +3,7 @@ use Rattle.std.specs.Prelude.{◌≡◌, ℕ, ◌≤◌, ◌-◌, List, ◌++◌
 use Rattle.cbsp_messages.specs.declared.fault.MessageFault.{MessageFault}
 use Rattle.cbsp_messages.specs.declared.message.Message.{Message}
 use Rattle.cbsp_messages.specs.Faults.{IsFault}
-use Rattle.cbsp_messages.specs.MessageType.{is_whole_table}
+use Rattle.cbsp_messages.specs.Layout.{is_whole_table}
 use Rattle.cbsp_messages.specs.PageText.{page_with}
 use Rattle.cbsp_messages.specs.Spelling.{Spells}
 
@@ -19,7 +19,7 @@ NoFault = (kind : ℕ) (body : List ℕ) (m : Message) (f : MessageFault) → Sp
 abbrev pub OneFault : Type 0
 OneFault = (kind : ℕ) (body : List ℕ) (f g : MessageFault) → IsFault kind body f → IsFault kind body g → f ≡ g
 
--- the elements that a type writes are those that it demands and those that it may have, each once
+-- the elements that a layout writes are those that it demands and those that it may have, each once
 abbrev pub TableIsWhole : Type 0
 TableIsWhole = IsTrue is_whole_table
 

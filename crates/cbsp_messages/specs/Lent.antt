@@ -13,7 +13,7 @@ pages_lent (Some pages) = pages.now
 
 -- the parts, as values
 abbrev pub parts_lent : MessageParts → Parts
-parts_lent p = record no_parts { message_id = p.message_id; new_serial = p.new_serial; old_serial = p.old_serial; failures = option_map (λ lent. lent.now) p.failures; counts = option_map (λ lent. lent.now) p.counts; cells = option_map (λ lent. lent.now) p.cells; channel = p.channel; category = p.category; period = p.period; requested = p.requested; page_count = p.page_count; dcs = p.dcs; pages = pages_lent p.pages; kind = p.kind; recovery = p.recovery; cause = p.cause }
+parts_lent p = record no_parts { message_id = p.message_id; new_serial = p.new_serial; old_serial = p.old_serial; failures = option_map (λ lent. lent.now) p.failures; counts = option_map (λ lent. lent.now) p.counts; cells = option_map (λ lent. lent.now) p.cells; channel = p.channel; category = p.category; period = p.period; requested = p.requested; page_count = p.page_count; dcs = p.dcs; pages = pages_lent p.pages; kind = p.kind; recovery = p.recovery; cause = p.cause; emergency = p.emergency; warning_type = p.warning_type; security = option_map (λ lent. lent.now) p.security; warning_period = p.warning_period }
 
 -- the lists and the number of pages have room in their elements
 pub record PartsFit (parts : Parts) : Type 0 where

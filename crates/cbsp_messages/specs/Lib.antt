@@ -1,6 +1,7 @@
 pub mod Elements
 pub mod Faults
 pub mod Laws
+pub mod Layout
 pub mod Lent
 pub mod Message
 pub mod MessageType

@@ -12,6 +12,7 @@ use Rattle.cbsp_ie.specs.Page.{PageContent}
 use Rattle.cbsp_messages.specs.declared.message.Message.{Message}
 use Rattle.cbsp_messages.specs.declared.message.Message.TheVariants as message
 use Rattle.cbsp_messages.specs.declared.messages.write_replace.WriteReplace.{WriteReplace}
+use Rattle.cbsp_messages.specs.declared.messages.write_emergency.WriteEmergency.{WriteEmergency}
 use Rattle.cbsp_messages.specs.declared.messages.write_complete.WriteComplete.{WriteComplete}
 use Rattle.cbsp_messages.specs.declared.messages.write_failure.WriteFailure.{WriteFailure}
 use Rattle.cbsp_messages.specs.declared.messages.kill.Kill.{Kill}
@@ -133,6 +134,10 @@ with_element parts (element.WarningPeriod n) = record parts { warning_period = S
 abbrev pub write_replace_parts : WriteReplace → Parts
 write_replace_parts m = record no_parts { message_id = Some m.message_id; new_serial = Some m.serial; old_serial = m.old; cells = Some m.cells; channel = m.channel; category = Some m.category; period = Some m.period; requested = Some m.requested; page_count = Some (length m.pages); pages = m.pages; dcs = Some m.dcs }
 
+-- the parts of a WRITE-REPLACE of an emergency warning
+abbrev pub write_emergency_parts : WriteEmergency → Parts
+write_emergency_parts m = record no_parts { message_id = Some m.message_id; new_serial = Some m.serial; old_serial = m.old; cells = Some m.cells; emergency = Some m.indicator; warning_type = Some m.warning_type; warning_period = Some m.warning_period; security = Some m.security }
+
 -- the parts of a WRITE-REPLACE COMPLETE
 abbrev pub write_complete_parts : WriteComplete → Parts
 write_complete_parts m = record no_parts { message_id = Some m.message_id; new_serial = Some m.serial; old_serial = m.old; counts = m.counts; cells = m.cells; channel = m.channel }
@@ -180,6 +185,7 @@ error_indication_parts m = record no_parts { cause = Some m.cause; message_id = 
 -- the parts of a message
 abbrev pub parts_of : Message → Parts
 parts_of (message.WriteReplace m) = write_replace_parts m
+parts_of (message.WriteEmergency m) = write_emergency_parts m
 parts_of (message.WriteComplete m) = write_complete_parts m
 parts_of (message.WriteFailure m) = write_failure_parts m
 parts_of (message.Kill m) = kill_parts m

@@ -16,4 +16,6 @@ pub record AreInRange (parts : Parts) : Type 0 where
   pub cells : IfSome parts.cells (λ cells. HasForm cells.form cells.ids)
   pub counts : IfSome parts.counts (λ counts. AreCountsOf counts.form counts.entries)
   pub failures : IfSome parts.failures (λ failures. AllByRecursion IsFailEntry failures)
+  pub warning_type : IfSome parts.warning_type (λ n. n < 65536)
+  pub security : IfSome parts.security (λ octets. length octets ≡ 50)
   pub pages : AllByRecursion (λ page. length page.octets ≡ 82) parts.pages

@@ -4,9 +4,9 @@ use Rattle.std.specs.List.{AllByRecursion}
 use Rattle.cbsp_ie.specs.declared.element.Element.{Element}
 use Rattle.cbsp_ie.specs.declared.element_id.ElementId.{ElementId}
 use Rattle.cbsp_messages.specs.declared.elements.Elements.{Elements}
-use Rattle.cbsp_messages.specs.declared.message_type.MessageType.{MessageType}
+use Rattle.cbsp_messages.specs.declared.layout.Layout.{Layout}
 use Rattle.cbsp_messages.specs.Elements.{AreElements, with_id}
-use Rattle.cbsp_messages.specs.MessageType.{demanded_of}
+use Rattle.cbsp_messages.specs.Layout.{demanded_of}
 use Rattle.cbsp_messages.specs.Parts.{Parts, is_there, values_at}
 
 -- the values in their places
@@ -26,5 +26,5 @@ pub record Takes (octets rest : List ℕ) (parts : Parts) : Type 0 where
   pub holds : Holds parts elements
 
 -- each demanded element is there
-abbrev pub HasDemanded : MessageType → Parts → Type 0
-HasDemanded t parts = AllByRecursion (λ id. is_there parts id ≡ true) (demanded_of t)
+abbrev pub HasDemanded : Layout → Parts → Type 0
+HasDemanded l parts = AllByRecursion (λ id. is_there parts id ≡ true) (demanded_of l)

@@ -7,8 +7,9 @@ use Rattle.cbsp_ie.specs.Frame.{framed}
 use Rattle.cbsp_ie.specs.Written.{cells_octets, counts_octets, element_octets, failures_octets, plain_counts}
 use Rattle.cbsp_messages.specs.declared.message.Message.{Message}
 use Rattle.cbsp_messages.specs.declared.message.Message.TheVariants as message
-use Rattle.cbsp_messages.specs.Message.{type_of}
-use Rattle.cbsp_messages.specs.MessageType.{code_of, written_of}
+use Rattle.cbsp_messages.specs.Layout.{written_of}
+use Rattle.cbsp_messages.specs.Message.{layout_of, type_of}
+use Rattle.cbsp_messages.specs.MessageType.{code_of}
 use Rattle.cbsp_messages.specs.Parts.{Parts, parts_of, values_at}
 use Rattle.cbsp_messages.specs.Spelling.{HasPages}
 
@@ -24,9 +25,9 @@ pub record Fits (m : Message) : Type 0 where
 abbrev pub octets_at : Parts → ElementId → List ℕ
 octets_at parts which = flat_map element_octets (values_at parts which)
 
--- the body: the elements in the order of the message's type
+-- the body: the elements in the order of the message's layout
 abbrev pub written : Message → List ℕ
-written m = flat_map (octets_at (parts_of m)) (written_of (type_of m))
+written m = flat_map (octets_at (parts_of m)) (written_of (layout_of m))
 
 -- the whole frame
 abbrev pub frame_of : Message → List ℕ
@@ -43,6 +44,7 @@ low n = n % 16
 -- the message without spare bits
 abbrev pub plain : Message → Message
 plain (message.WriteReplace m) = message.WriteReplace (record m { channel = option_map low m.channel; category = low m.category })
+plain (message.WriteEmergency m) = message.WriteEmergency m
 plain (message.WriteComplete m) = message.WriteComplete (record m { counts = option_map plain_counts m.counts; channel = option_map low m.channel })
 plain (message.WriteFailure m) = message.WriteFailure (record m { counts = option_map plain_counts m.counts; channel = option_map low m.channel })
 plain (message.Kill m) = message.Kill (record m { channel = option_map low m.channel })

@@ -3,11 +3,12 @@
 ghost use Rattle.std.specs.Prelude.{◌≡◌, ◌≢◌, ◌⊎◌, true, false, not, None, Some, IsSome, OnOk, IfErr, is_some};
 ghost use Rattle.std.specs.List.{find};
 ghost use Rattle.cbsp_ie.specs.Element.{element_id_of};
-ghost use Rattle.cbsp_messages.specs.MessageType.{demanded_of};
-ghost use Rattle.cbsp_messages.specs.Parts.{no_parts, is_there, with_element};
+ghost use Rattle.cbsp_messages.specs.Layout.{demanded_of, layout_at};
+ghost use Rattle.cbsp_messages.specs.Parts.{no_parts, is_there, values_at, with_element};
 ghost use Rattle.cbsp_messages.specs.Taken.{parts_taken};
 
 use crate::fault::MessageFault;
+use crate::layout::Layout;
 use crate::message_type::MessageType;
 use crate::page::Page;
 use crate::pages::Pages;
@@ -174,11 +175,35 @@ impl<'a> Elements<'a> {
         }
     }
 
-    /// The first element that the type demands and that isn't there.
-    pub fn first_missing(&self, kind: MessageType) -> Option<ElementId>
-        ensures { result ≡ find (λ id. not (is_there (parts_taken self.now) id)) (demanded_of kind) }
+    /// The layout of a body of the type with these elements.
+    pub fn layout(&self, kind: MessageType) -> Layout
+        ensures { result ≡ layout_at kind (values_at (parts_taken self.now)) }
     {
-        kind.demanded().iter().copied().find(|id| !self.has(*id))
+        match kind {
+            MessageType::WriteReplace => match self.emergency {
+                None => Layout::WriteReplace,
+                Some(_) => Layout::WriteEmergency,
+            },
+            MessageType::WriteComplete => Layout::WriteComplete,
+            MessageType::WriteFailure => Layout::WriteFailure,
+            MessageType::Kill => Layout::Kill,
+            MessageType::KillComplete => Layout::KillComplete,
+            MessageType::KillFailure => Layout::KillFailure,
+            MessageType::StatusQuery => Layout::StatusQuery,
+            MessageType::StatusComplete => Layout::StatusComplete,
+            MessageType::StatusFailure => Layout::StatusFailure,
+            MessageType::Restart => Layout::Restart,
+            MessageType::Failure => Layout::Failure,
+            MessageType::ErrorIndication => Layout::ErrorIndication,
+        }
+    }
+
+    /// The first element that the layout demands and that isn't there.
+    pub fn first_missing(&self, layout: Layout) -> Option<ElementId>
+        ensures { result ≡ find (λ id. not (is_there (parts_taken self.now) id)) (demanded_of layout) }
+    {
+        let demanded = layout.table().demanded;
+        demanded.iter().copied().find(|id| !self.has(*id))
     }
 }
 

@@ -14,7 +14,7 @@ const LONGEST_LIST: usize = 65535;
 
 impl Message {
     /// Whether each list has at most 65,535 octets after its length, and a WRITE-REPLACE has 1 to 15
-    /// pages.
+    /// pages. Nothing is asked of the pages of an emergency warning.
     pub fn fits(&self) -> bool
         ensures { IsTrue result ↔ Fits self.now }
     {

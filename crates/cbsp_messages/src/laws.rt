@@ -17,7 +17,7 @@ pub fn one_fault()
     ensures { OneFault }
 {}
 
-/// The elements that a type writes are those that it demands and those that it may have, each once.
+/// The elements that a layout writes are those that it demands and those that it may have, each once.
 pub fn table_is_whole()
     ensures { TableIsWhole }
 {}

@@ -1,7 +1,8 @@
 //! The messages of the Cell Broadcast Service Protocol (3GPP TS 48.049, clause 8.1), read from the octets
 //! behind a frame's length and written as whole frames.
 //!
-//! `message_type` has the one table of which elements each type demands, may have and writes in which order.
+//! `layout` has the one table of which elements each layout demands, may have and writes in which order. A type has one
+//! layout, but WRITE-REPLACE has two.
 //! `messages` has a file for each message, and `reading` and `writing` go between messages and their octets by
 //! that table.
 #![tactic(auto)]
@@ -11,6 +12,7 @@ mod elements;
 mod fault;
 mod fits;
 mod laws;
+mod layout;
 mod message;
 mod message_parts;
 mod message_type;
@@ -24,11 +26,12 @@ mod writing;
 
 pub use fault::MessageFault;
 pub use laws::{no_fault, one_fault, one_message, short_page, table_is_whole};
+pub use layout::{Layout, Table};
 pub use message::Message;
 pub use message_type::MessageType;
 pub use messages::{
     ErrorIndication, Failure, Kill, KillComplete, KillFailure, Restart, StatusComplete,
-    StatusFailure, StatusQuery, WriteComplete, WriteFailure, WriteReplace,
+    StatusFailure, StatusQuery, WriteComplete, WriteEmergency, WriteFailure, WriteReplace,
 };
 pub use page::Page;
 pub use pages::Pages;

@@ -1,12 +1,13 @@
 //! A message.
 
 ghost use Rattle.std.specs.Prelude.{◌≡◌, ◌↔◌, IsTrue, IfOk};
-ghost use Rattle.cbsp_messages.specs.Message.{type_of};
+ghost use Rattle.cbsp_messages.specs.Message.{layout_of, type_of};
 
+use crate::layout::Layout;
 use crate::message_type::MessageType;
 use crate::messages::{
     ErrorIndication, Failure, Kill, KillComplete, KillFailure, Restart, StatusComplete,
-    StatusFailure, StatusQuery, WriteComplete, WriteFailure, WriteReplace,
+    StatusFailure, StatusQuery, WriteComplete, WriteEmergency, WriteFailure, WriteReplace,
 };
 use std::alloc::{AllocError, Global};
 
@@ -25,6 +26,8 @@ use std::alloc::{AllocError, Global};
 #[derive(Drop, PartialEq, Eq)]
 pub enum Message {
     WriteReplace(WriteReplace),
+    /// A WRITE-REPLACE of an emergency warning.
+    WriteEmergency(WriteEmergency),
     WriteComplete(WriteComplete),
     WriteFailure(WriteFailure),
     Kill(Kill),
@@ -39,12 +42,12 @@ pub enum Message {
 }
 
 impl Message {
-    /// The type by whose table the message is read and written.
+    /// The type of the message.
     pub fn message_type(&self) -> MessageType
         ensures { result ≡ type_of self.now }
     {
         match self {
-            Message::WriteReplace(_) => MessageType::WriteReplace,
+            Message::WriteReplace(_) | Message::WriteEmergency(_) => MessageType::WriteReplace,
             Message::WriteComplete(_) => MessageType::WriteComplete,
             Message::WriteFailure(_) => MessageType::WriteFailure,
             Message::Kill(_) => MessageType::Kill,
@@ -56,6 +59,27 @@ impl Message {
             Message::Restart(_) => MessageType::Restart,
             Message::Failure(_) => MessageType::Failure,
             Message::ErrorIndication(_) => MessageType::ErrorIndication,
+        }
+    }
+
+    /// The layout by which the message is read and written.
+    pub fn layout(&self) -> Layout
+        ensures { result ≡ layout_of self.now }
+    {
+        match self {
+            Message::WriteReplace(_) => Layout::WriteReplace,
+            Message::WriteEmergency(_) => Layout::WriteEmergency,
+            Message::WriteComplete(_) => Layout::WriteComplete,
+            Message::WriteFailure(_) => Layout::WriteFailure,
+            Message::Kill(_) => Layout::Kill,
+            Message::KillComplete(_) => Layout::KillComplete,
+            Message::KillFailure(_) => Layout::KillFailure,
+            Message::StatusQuery(_) => Layout::StatusQuery,
+            Message::StatusComplete(_) => Layout::StatusComplete,
+            Message::StatusFailure(_) => Layout::StatusFailure,
+            Message::Restart(_) => Layout::Restart,
+            Message::Failure(_) => Layout::Failure,
+            Message::ErrorIndication(_) => Layout::ErrorIndication,
         }
     }
 
@@ -72,6 +96,7 @@ impl Message {
     {
         Ok(match self {
             Message::WriteReplace(m) => Message::WriteReplace(m.copied(alloc)?),
+            Message::WriteEmergency(m) => Message::WriteEmergency(m.copied(alloc)?),
             Message::WriteComplete(m) => Message::WriteComplete(m.copied(alloc)?),
             Message::WriteFailure(m) => Message::WriteFailure(m.copied(alloc)?),
             Message::Kill(m) => Message::Kill(m.copied(alloc)?),

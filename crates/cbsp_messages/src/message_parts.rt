@@ -28,12 +28,16 @@ pub struct MessageParts<'m> {
     pub kind: Option<u8>,
     pub recovery: Option<u8>,
     pub cause: Option<Cause>,
+    pub emergency: Option<u8>,
+    pub warning_type: Option<u16>,
+    pub security: Option<&'m [u8; 50]>,
+    pub warning_period: Option<u8>,
 }
 
 impl<'m> MessageParts<'m> {
     /// No parts, which those of a message fill.
     pub fn none() -> MessageParts<'m>
-        ensures { result ≡ record { message_id = None; new_serial = None; old_serial = None; failures = None; counts = None; cells = None; channel = None; category = None; period = None; requested = None; page_count = None; dcs = None; pages = None; kind = None; recovery = None; cause = None } }
+        ensures { result ≡ record { message_id = None; new_serial = None; old_serial = None; failures = None; counts = None; cells = None; channel = None; category = None; period = None; requested = None; page_count = None; dcs = None; pages = None; kind = None; recovery = None; cause = None; emergency = None; warning_type = None; security = None; warning_period = None } }
     {
         MessageParts {
             message_id: None,
@@ -52,6 +56,10 @@ impl<'m> MessageParts<'m> {
             kind: None,
             recovery: None,
             cause: None,
+            emergency: None,
+            warning_type: None,
+            security: None,
+            warning_period: None,
         }
     }
 
@@ -61,6 +69,7 @@ impl<'m> MessageParts<'m> {
     {
         match message {
             Message::WriteReplace(m) => m.parts(),
+            Message::WriteEmergency(m) => m.parts(),
             Message::WriteComplete(m) => m.parts(),
             Message::WriteFailure(m) => m.parts(),
             Message::Kill(m) => m.parts(),

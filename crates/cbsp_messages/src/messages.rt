@@ -11,6 +11,7 @@ mod status_complete;
 mod status_failure;
 mod status_query;
 mod write_complete;
+mod write_emergency;
 mod write_failure;
 mod write_replace;
 
@@ -24,5 +25,6 @@ pub use status_complete::StatusComplete;
 pub use status_failure::StatusFailure;
 pub use status_query::StatusQuery;
 pub use write_complete::WriteComplete;
+pub use write_emergency::WriteEmergency;
 pub use write_failure::WriteFailure;
 pub use write_replace::WriteReplace;

@@ -26,6 +26,8 @@ impl<'m> MessageParts<'m> {
         cells_range(self.cells);
         counts_range(self.counts);
         failures_range(self.failures);
+        number_range(self.warning_type);
+        security_range(self.security);
         pages_range(self.pages);
     }
 }
@@ -59,6 +61,14 @@ fn failures_range(failures: Option<&Failures>)
 {
     if let Some(failures) = failures {
         let _entries = failures.as_slice();
+    }
+}
+
+fn security_range(security: Option<&[u8; 50]>)
+    ensures { IfSome (option_map (λ lent. lent.now) security.entry) (λ octets. length octets ≡ 50) }
+{
+    if let Some(octets) = security {
+        let _octets: &[u8] = octets;
     }
 }
 

@@ -17,10 +17,10 @@ use cbsp_ie::read_element;
 use std::alloc::Global;
 
 /// Reads the message of the type with this octet from the octets behind a frame's length
-/// (3GPP TS 48.049, 8.1). The elements may come in any order, and those that the type doesn't list are
-/// passed over. The faults are looked for in this order: the type isn't in the profile; an element, from
-/// the left, has a fault or stands a second time; a demanded element isn't there; the pages aren't as many
-/// as they should be.
+/// (3GPP TS 48.049, 8.1). A WRITE-REPLACE with an Emergency Indicator is that of an emergency warning. The elements may
+/// come in any order, and those that the message's layout doesn't list are passed over. The faults are looked for in this
+/// order: the type isn't in the profile; an element, from the left, has a fault or stands a second time; a demanded
+/// element isn't there; the pages aren't as many as they should be.
 pub fn read(alloc: Global, kind: u8, body: &[u8]) -> Result<Message, MessageFault>
     // What is read is spelled so.
     ensures found { IfOk result (Spells kind body.now) }
@@ -62,10 +62,11 @@ fn message_as(alloc: Global, kind: MessageType, body: &[u8]) -> Result<Message, 
     ensures fault { IfErr result (λ f. (f ≡ MessageFault.Memory) ⊎ IsFaultAs kind body.now f) }
 {
     let elements = read_elements(alloc, body)?;
-    if let Some(id) = elements.first_missing(kind) {
+    let layout = elements.layout(kind);
+    if let Some(id) = elements.first_missing(layout) {
         return Err(MessageFault::Missing { id });
     }
-    message_of(alloc, kind, elements)
+    message_of(alloc, layout, elements)
 }
 
 fn read_elements(alloc: Global, body: &[u8]) -> Result<Elements<'_>, MessageFault>

@@ -15,12 +15,13 @@ use crate::message::Message;
 use crate::message_parts::MessageParts;
 use crate::page::Page;
 use cbsp_ie::{
-    Element, ElementId, PageView, write_cells, write_counts, write_element, write_failures,
+    Element, ElementId, PageView, SecurityView, write_cells, write_counts, write_element,
+    write_failures,
 };
 use std::alloc::{AllocError, Global};
 
 /// Writes the whole frame of a message: the octet of its type, three octets of length and its elements, in
-/// the order of its type (3GPP TS 48.049, 8.1).
+/// the order of its layout (3GPP TS 48.049, 8.1).
 pub fn write(alloc: Global, message: &Message) -> Result<Vec<u8>, AllocError>
     requires { Fits message.now }
     ensures frame { IfOk result (λ octets. octets.items ≡ frame_of message.now) }
@@ -54,13 +55,13 @@ fn set_header(frame: &mut [u8], header: [u8; 4])
     frame[..4].copy_from_slice(&header);
 }
 
-/// Appends the elements in the order of the message's type.
+/// Appends the elements in the order of the message's layout.
 fn write_body(out: &mut Vec<u8>, message: &Message) -> Result<(), AllocError>
     requires { Fits message.now }
     ensures { OnOk result (out.new.items ≡ out.old.items ++ written message.now) }
 {
     let parts = MessageParts::of(message);
-    for id in message.message_type().written() {
+    for id in message.layout().table().written {
         write_part(out, &parts, *id)?;
     }
     Ok(())
@@ -130,10 +131,25 @@ fn write_part(out: &mut Vec<u8>, parts: &MessageParts<'_>, id: ElementId) -> Res
             out,
             parts.kind.map(|n| Element::BroadcastMessageType(n)),
         ),
-        ElementId::EmergencyIndicator
-        | ElementId::WarningType
-        | ElementId::WarningSecurity
-        | ElementId::WarningPeriod => Ok(()),
+        ElementId::EmergencyIndicator => write_if_there(
+            out,
+            parts.emergency.map(|n| Element::EmergencyIndicator(n)),
+        ),
+        ElementId::WarningType => write_if_there(
+            out,
+            parts.warning_type.map(|n| Element::WarningType(n)),
+        ),
+        ElementId::WarningSecurity => match parts.security {
+            None => Ok(()),
+            Some(octets) => write_element(
+                out,
+                &Element::WarningSecurity(SecurityView::new(octets)),
+            ),
+        },
+        ElementId::WarningPeriod => write_if_there(
+            out,
+            parts.warning_period.map(|n| Element::WarningPeriod(n)),
+        ),
     }
 }
 

@@ -84,15 +84,24 @@ fn is_cut_everywhere(alloc: Global, kind: u8, body: &[u8], elements: &[&[u8]]) -
     Ok(true)
 }
 
-/// An element that stands a second time is Repeated. A page too many is BadPages in a WRITE-REPLACE, and passed over in every other
-/// message.
+/// Whether the body has pages of its own: it is a WRITE-REPLACE without an Emergency Indicator.
+fn has_pages(kind: u8, elements: &[&[u8]]) -> bool {
+    kind == 0x01
+        && !elements
+            .iter()
+            .any(|element| element.first() == Some(&0x0f))
+}
+
+/// An element that stands a second time is Repeated. A page too many is BadPages in a WRITE-REPLACE with pages, and passed over in
+/// every other message.
 fn repeats_are_named(alloc: Global, kind: u8, body: &[u8], elements: &[&[u8]]) -> Result<bool> {
+    let has_pages = has_pages(kind, elements);
     for element in elements {
         let first = element.first().copied().unwrap_or(0);
         let is_named = match fault_with(alloc, kind, body, element)? {
             Some(MessageFault::Repeated { id }) => id.code() == first && first != 0x01,
-            Some(MessageFault::BadPages) => first == 0x01 && kind == 0x01,
-            None => first == 0x01 && kind != 0x01,
+            Some(MessageFault::BadPages) => first == 0x01 && has_pages,
+            None => first == 0x01 && !has_pages,
             _ => false,
         };
         if !is_named {

@@ -5,7 +5,8 @@ use anyhow::{Result, ensure};
 use cbsp_ie::{CellIds, Counts, Failures};
 use cbsp_messages::{
     ErrorIndication, Failure, Kill, KillComplete, KillFailure, Message, Page, Restart,
-    StatusComplete, StatusFailure, StatusQuery, WriteComplete, WriteFailure, WriteReplace,
+    StatusComplete, StatusFailure, StatusQuery, WriteComplete, WriteEmergency, WriteFailure,
+    WriteReplace,
 };
 use std::alloc::Global;
 
@@ -91,6 +92,15 @@ impl<'m> Fields<'m> {
         self.put_pages(m.pages.as_slice());
     }
 
+    fn put_write_emergency(&mut self, m: &'m WriteEmergency) {
+        self.put_names(m.message_id, m.serial, m.old);
+        self.put_cells(Some(&m.cells));
+        self.put_octet("indicator", m.indicator);
+        self.put("warning_type", Value::Number(m.warning_type));
+        self.put_octet("warning_period", m.warning_period);
+        self.put("security", Value::Octets(&m.security));
+    }
+
     fn put_write_complete(&mut self, m: &'m WriteComplete) {
         self.put_names(m.message_id, m.serial, m.old);
         self.put_counts(m.counts.as_ref());
@@ -168,6 +178,7 @@ impl<'m> Fields<'m> {
     fn put_message(&mut self, message: &'m Message) {
         match message {
             Message::WriteReplace(m) => self.put_write_replace(m),
+            Message::WriteEmergency(m) => self.put_write_emergency(m),
             Message::WriteComplete(m) => self.put_write_complete(m),
             Message::WriteFailure(m) => self.put_write_failure(m),
             Message::Kill(m) => self.put_kill(m),

@@ -1,21 +1,22 @@
 //! Names of messages.
 
-use cbsp_messages::MessageType;
+use cbsp_messages::Layout;
 
-/// The name of the type in the file.
-pub fn type_name(kind: MessageType) -> &'static str {
-    match kind {
-        MessageType::WriteReplace => "WriteReplace",
-        MessageType::WriteComplete => "WriteComplete",
-        MessageType::WriteFailure => "WriteFailure",
-        MessageType::Kill => "Kill",
-        MessageType::KillComplete => "KillComplete",
-        MessageType::KillFailure => "KillFailure",
-        MessageType::StatusQuery => "StatusQuery",
-        MessageType::StatusComplete => "StatusComplete",
-        MessageType::StatusFailure => "StatusFailure",
-        MessageType::Restart => "Restart",
-        MessageType::Failure => "Failure",
-        MessageType::ErrorIndication => "ErrorIndication",
+/// The name in the file of a message that is laid out so.
+pub fn layout_name(layout: Layout) -> &'static str {
+    match layout {
+        Layout::WriteReplace => "WriteReplace",
+        Layout::WriteEmergency => "WriteEmergency",
+        Layout::WriteComplete => "WriteComplete",
+        Layout::WriteFailure => "WriteFailure",
+        Layout::Kill => "Kill",
+        Layout::KillComplete => "KillComplete",
+        Layout::KillFailure => "KillFailure",
+        Layout::StatusQuery => "StatusQuery",
+        Layout::StatusComplete => "StatusComplete",
+        Layout::StatusFailure => "StatusFailure",
+        Layout::Restart => "Restart",
+        Layout::Failure => "Failure",
+        Layout::ErrorIndication => "ErrorIndication",
     }
 }

@@ -3,7 +3,7 @@
 use crate::damage::{fault_of, unnamed_damage};
 use crate::faults::fault_line;
 use crate::fields::{Field, fields_of};
-use crate::names::type_name;
+use crate::names::layout_name;
 use crate::vectors::Vector;
 use anyhow::{Context, Result, ensure};
 use cbsp_messages::{Message, MessageFault, read, write};
@@ -105,7 +105,7 @@ fn one_line(alloc: Global, line: String) -> Result<Vec<String>> {
 
 /// The lines on a message that was read from the octets.
 fn message_lines(alloc: Global, message: &Message, octets: &[u8]) -> Result<Vec<String>> {
-    let name = type_name(message.message_type());
+    let name = layout_name(message.layout());
     let mut lines = one_line(alloc, format!(in alloc; "read {name}")?)?;
     add_fields(alloc, &mut lines, message)?;
     lines.push(written_line(alloc, message, octets)?)?;

@@ -12,6 +12,7 @@ pub enum Value<'m> {
     Counts(&'m Counts),
     Failures(&'m Failures),
     Page(&'m Page),
+    Octets(&'m [u8]),
 }
 
 impl fmt::Display for Value<'_> {
@@ -22,6 +23,7 @@ impl fmt::Display for Value<'_> {
             Value::Counts(counts) => print_counts(f, counts.form(), counts.entries()),
             Value::Failures(failures) => print_failures(f, failures.as_slice()),
             Value::Page(page) => print_page(f, page),
+            Value::Octets(octets) => print_octets(f, octets),
         }
     }
 }
@@ -76,6 +78,13 @@ fn print_page<W: fmt::Write>(f: &mut fmt::Formatter<W>, page: &Page) -> fmt::Res
         return write!(f, "-");
     }
     for octet in page.octets().iter().take(usize::from(used)) {
+        write!(f, "{octet:02x}")?;
+    }
+    Ok(())
+}
+
+fn print_octets<W: fmt::Write>(f: &mut fmt::Formatter<W>, octets: &[u8]) -> fmt::Result {
+    for octet in octets {
         write!(f, "{octet:02x}")?;
     }
     Ok(())

@@ -7,9 +7,9 @@ ghost use Rattle.cbsp_messages.specs.Spelling.{Says};
 ghost use Rattle.cbsp_messages.specs.Taken.{HasDemanded, parts_taken};
 
 use crate::elements::Elements;
+use crate::layout::Layout;
 use crate::message::Message;
 use crate::message_parts::MessageParts;
-use crate::message_type::MessageType;
 use cbsp_ie::Cause;
 
 /// What a BSC got was not understood.
@@ -25,7 +25,7 @@ pub struct ErrorIndication {
 impl ErrorIndication {
     /// The message of a body's elements, each demanded one of which is there.
     pub(crate) fn of(elements: Elements<'_>) -> ErrorIndication
-        requires { HasDemanded MessageType.ErrorIndication (parts_taken elements) }
+        requires { HasDemanded Layout.ErrorIndication (parts_taken elements) }
         ensures says { Says (values_at (parts_taken elements.entry)) (Message.ErrorIndication result) }
     {
         ErrorIndication {

@@ -7,9 +7,9 @@ ghost use Rattle.cbsp_messages.specs.Spelling.{Says};
 ghost use Rattle.cbsp_messages.specs.Taken.{HasDemanded, parts_taken};
 
 use crate::elements::Elements;
+use crate::layout::Layout;
 use crate::message::Message;
 use crate::message_parts::MessageParts;
-use crate::message_type::MessageType;
 use cbsp_ie::Failures;
 use std::alloc::{AllocError, Global};
 
@@ -23,7 +23,7 @@ pub struct Failure {
 impl Failure {
     /// The message of a body's elements, each demanded one of which is there.
     pub(crate) fn of(alloc: Global, elements: Elements<'_>) -> Result<Failure, AllocError>
-        requires { HasDemanded MessageType.Failure (parts_taken elements) }
+        requires { HasDemanded Layout.Failure (parts_taken elements) }
         ensures says { IfOk result (λ m. Says (values_at (parts_taken elements.entry)) (Message.Failure m)) }
     {
         Ok(Failure {

@@ -7,9 +7,9 @@ ghost use Rattle.cbsp_messages.specs.Spelling.{Says};
 ghost use Rattle.cbsp_messages.specs.Taken.{HasDemanded, parts_taken};
 
 use crate::elements::Elements;
+use crate::layout::Layout;
 use crate::message::Message;
 use crate::message_parts::MessageParts;
-use crate::message_type::MessageType;
 use crate::optional_lists::{copied_counts, copied_ids, owned_counts, owned_ids};
 use cbsp_ie::{CellIds, Counts, Failures};
 use std::alloc::{AllocError, Global};
@@ -28,7 +28,7 @@ pub struct KillFailure {
 impl KillFailure {
     /// The message of a body's elements, each demanded one of which is there.
     pub(crate) fn of(alloc: Global, elements: Elements<'_>) -> Result<KillFailure, AllocError>
-        requires { HasDemanded MessageType.KillFailure (parts_taken elements) }
+        requires { HasDemanded Layout.KillFailure (parts_taken elements) }
         ensures says { IfOk result (λ m. Says (values_at (parts_taken elements.entry)) (Message.KillFailure m)) }
     {
         Ok(KillFailure {

@@ -7,9 +7,9 @@ ghost use Rattle.cbsp_messages.specs.Spelling.{Says};
 ghost use Rattle.cbsp_messages.specs.Taken.{HasDemanded, parts_taken};
 
 use crate::elements::Elements;
+use crate::layout::Layout;
 use crate::message::Message;
 use crate::message_parts::MessageParts;
-use crate::message_type::MessageType;
 use cbsp_ie::CellIds;
 use std::alloc::{AllocError, Global};
 
@@ -25,7 +25,7 @@ pub struct StatusQuery {
 impl StatusQuery {
     /// The message of a body's elements, each demanded one of which is there.
     pub(crate) fn of(alloc: Global, elements: Elements<'_>) -> Result<StatusQuery, AllocError>
-        requires { HasDemanded MessageType.StatusQuery (parts_taken elements) }
+        requires { HasDemanded Layout.StatusQuery (parts_taken elements) }
         ensures says { IfOk result (λ m. Says (values_at (parts_taken elements.entry)) (Message.StatusQuery m)) }
     {
         Ok(StatusQuery {

@@ -7,9 +7,9 @@ ghost use Rattle.cbsp_messages.specs.Spelling.{Says};
 ghost use Rattle.cbsp_messages.specs.Taken.{HasDemanded, parts_taken};
 
 use crate::elements::Elements;
+use crate::layout::Layout;
 use crate::message::Message;
 use crate::message_parts::MessageParts;
-use crate::message_type::MessageType;
 use crate::optional_lists::{copied_counts, copied_ids, owned_counts, owned_ids};
 use cbsp_ie::{CellIds, Counts};
 use std::alloc::{AllocError, Global};
@@ -28,7 +28,7 @@ pub struct WriteComplete {
 impl WriteComplete {
     /// The message of a body's elements, each demanded one of which is there.
     pub(crate) fn of(alloc: Global, elements: Elements<'_>) -> Result<WriteComplete, AllocError>
-        requires { HasDemanded MessageType.WriteComplete (parts_taken elements) }
+        requires { HasDemanded Layout.WriteComplete (parts_taken elements) }
         ensures says { IfOk result (λ m. Says (values_at (parts_taken elements.entry)) (Message.WriteComplete m)) }
     {
         Ok(WriteComplete {

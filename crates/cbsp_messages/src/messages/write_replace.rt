@@ -1,7 +1,8 @@
-//! The message WRITE-REPLACE (3GPP TS 48.049, 8.1.3).
+//! The message WRITE-REPLACE but that of an emergency warning (3GPP TS 48.049, 8.1.3).
 
 ghost use Rattle.std.specs.Prelude.{◌≡◌, ◌⊎◌, IfOk, IfErr};
 ghost use Rattle.cbsp_messages.specs.Faults.{IsPagesFault};
+ghost use Rattle.cbsp_messages.specs.Layout.{layout_at};
 ghost use Rattle.cbsp_messages.specs.Lent.{parts_lent};
 ghost use Rattle.cbsp_messages.specs.Parts.{write_replace_parts, values_at};
 ghost use Rattle.cbsp_messages.specs.Spelling.{Says};
@@ -9,6 +10,7 @@ ghost use Rattle.cbsp_messages.specs.Taken.{HasDemanded, parts_taken};
 
 use crate::elements::Elements;
 use crate::fault::MessageFault;
+use crate::layout::Layout;
 use crate::message::Message;
 use crate::message_parts::MessageParts;
 use crate::message_type::MessageType;
@@ -34,9 +36,10 @@ pub struct WriteReplace {
 impl WriteReplace {
     /// The message of a body's elements, each demanded one of which is there.
     pub(crate) fn of(alloc: Global, elements: Elements<'_>) -> Result<WriteReplace, MessageFault>
-        requires { HasDemanded MessageType.WriteReplace (parts_taken elements) }
+        requires demanded { HasDemanded Layout.WriteReplace (parts_taken elements) }
+        requires laid { layout_at MessageType.WriteReplace (values_at (parts_taken elements)) ≡ Layout.WriteReplace }
         ensures says { IfOk result (λ m. Says (values_at (parts_taken elements.entry)) (Message.WriteReplace m)) }
-        ensures fault { IfErr result (λ f. (f ≡ MessageFault.Memory) ⊎ IsPagesFault MessageType.WriteReplace (values_at (parts_taken elements.entry)) f) }
+        ensures fault { IfErr result (λ f. (f ≡ MessageFault.Memory) ⊎ IsPagesFault Layout.WriteReplace (values_at (parts_taken elements.entry)) f) }
     {
         let pages = elements.pages.len();
         if pages != usize::from(elements.page_count.unwrap()) || pages > 15 {
