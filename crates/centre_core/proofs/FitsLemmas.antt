@@ -16,9 +16,10 @@ use Rattle.cbsp_messages.specs.declared.message.Message.TheVariants.{Restart, Fa
 use Rattle.cbsp_messages.specs.declared.message_type.MessageType.TheVariants as type
 use Rattle.common.specs.declared.cell.Cell.{Cell}
 use Rattle.warning_book.specs.Book.{new_serial, next_serial, content_of}
-use Rattle.warning_book.specs.Content.{is_page, are_pages}
+use Rattle.warning_book.specs.Content.{is_page, are_pages, have_pages}
 use Rattle.warning_book.specs.Sound.{IsSound}
 use Rattle.warning_book.specs.declared.content.Content.{Content}
+use Rattle.warning_book.specs.declared.content.Content.TheVariants as contents
 use Rattle.centre_past.proofs.AskLemmas.{IsQuery, ask_query}
 use Rattle.centre_answers.proofs.CarriedLemmas.{sent_carriable}
 use Rattle.centre_past.proofs.CheckLemmas.{unless_ok}
@@ -29,7 +30,7 @@ use Rattle.centre_past.specs.Fits.{AnswerFits, IsCarried}
 use Rattle.order_maker.specs.Grouping.{first, most_cells}
 use Rattle.centre_events.specs.InFlight.{in_flight, is_kill}
 use Rattle.centre_past.specs.Legal.{Legal}
-use Rattle.centre_events.specs.OrderMessage.{IsCarriable, listed, message_by}
+use Rattle.centre_events.specs.OrderMessage.{IsCarriable, given_content, listed, message_by, write_message}
 use Rattle.centre_events.specs.Past.{Past, position}
 use Rattle.centre_events.specs.Pending.{pending}
 use Rattle.centre_events.specs.Settings.{Settings}
@@ -65,19 +66,28 @@ pages_fit pages h =
     let high : length pages ≤ 15 = leb-true (length pages) 15 parts.1 in
     (omega (arith, length-map pages page_with), omega (arith, length-map pages page_with))
 
-message_fits : (order : Order) (kind : OrderKind) (content : Option Content) → length order.cells ≤ 1000 → IsCarriable kind content → IfSome content (λ c. are_pages c.pages ≡ true) → Fits (message_by order kind content)
-message_fits order Write (Some content) few there good =
-    record { cells = listed_fits order.cells few; counts = tt; failures = tt; pages = pages_fit content.pages good }
-message_fits order (Replace old) (Some content) few there good =
-    record { cells = listed_fits order.cells few; counts = tt; failures = tt; pages = pages_fit content.pages good }
-message_fits order Kill content few there good = record { cells = listed_fits order.cells few; counts = tt; failures = tt; pages = tt }
+cells_fit : (order : Order) → length order.cells ≤ 1000 → length (cells_octets (listed order.cells)) < 65536
+cells_fit order few = listed_fits order.cells few
+
+write_fits : (order : Order) (old : Option ℕ) (content : Content) → length order.cells ≤ 1000 → have_pages content ≡ true → Fits (write_message order old content)
+write_fits order old (contents.Cbs c) few good = record { cells = cells_fit order few; counts = tt; failures = tt; pages = pages_fit c.pages good }
+write_fits order old (contents.Emergency c) few good = record { cells = cells_fit order few; counts = tt; failures = tt; pages = tt }
+
+message_fits : (order : Order) (kind : OrderKind) (content : Option Content) → length order.cells ≤ 1000 → IsCarriable content → IfSome content (λ c. have_pages c ≡ true) → Fits (message_by order kind content)
+message_fits order Write (Some content) few there good = write_fits order None content few good
+message_fits order (Replace old) (Some content) few there good = write_fits order (Some old) content few good
+message_fits order Kill content few there good = record { cells = cells_fit order few; counts = tt; failures = tt; pages = tt }
 message_fits order Write None few there good = cc
 message_fits order (Replace old) None few there good = cc
 
+write_carries : (order : Order) (old : Option ℕ) (content : Content) → type_of (write_message order old content) ≡ type.WriteReplace
+write_carries order old (contents.Cbs c) = refl
+write_carries order old (contents.Emergency c) = refl
+
 -- a KILL carries a kill, and a WRITE-REPLACE a write
 message_carries : (order : Order) (kind : OrderKind) (content : Option Content) → type_of (message_by order kind content) ≡ (if is_kill kind then type.Kill else type.WriteReplace)
-message_carries order Write content = refl
-message_carries order (Replace old) content = refl
+message_carries order Write content = write_carries order None (given_content content)
+message_carries order (Replace old) content = write_carries order (Some old) (given_content content)
 message_carries order Kill content = refl
 
 few_cells : most_cells ≤ 1000
@@ -93,7 +103,7 @@ first_is_short (order ∷ orders) = omega (arith, few_cells, take_few most_cells
 
 -- The first pending order, if there is one.
 
-send_fits : (past : Past) (next : Option Order) → IsSound (book_of past) → IfSome next (λ o. length o.cells ≤ 1000) → IfSome next (λ (o : Order). IsCarriable o.kind (content_of o.message_id o.serial (warnings_of past))) → IfOk (send_answer past next) AnswerFits
+send_fits : (past : Past) (next : Option Order) → IsSound (book_of past) → IfSome next (λ o. length o.cells ≤ 1000) → IfSome next (λ (o : Order). IsCarriable (content_of o.message_id o.serial (warnings_of past))) → IfOk (send_answer past next) AnswerFits
 send_fits past None good few there = tt
 send_fits past (Some o) good few there = message_fits o o.kind (content_of o.message_id o.serial (warnings_of past)) few there (content_has_pages o.message_id o.serial (warnings_of past) good.contents)
 

@@ -8,7 +8,10 @@ use Rattle.cbsp_messages.specs.declared.message.Message.{Message}
 use Rattle.cbsp_messages.specs.declared.message.Message.TheVariants as message
 use Rattle.warning_book.specs.Content.{category_number}
 use Rattle.warning_book.specs.declared.category.Category.TheVariants.{Normal}
+use Rattle.warning_book.specs.declared.cbs_content.CbsContent.{CbsContent}
 use Rattle.warning_book.specs.declared.content.Content.{Content}
+use Rattle.warning_book.specs.declared.content.Content.TheVariants as content
+use Rattle.warning_book.specs.declared.emergency_content.EmergencyContent.{EmergencyContent}
 use Rattle.order_maker.specs.declared.order.Order.{Order}
 use Rattle.order_maker.specs.declared.order_kind.OrderKind.{OrderKind}
 use Rattle.order_maker.specs.declared.order_kind.OrderKind.TheVariants.{Write, Replace, Kill}
@@ -17,24 +20,47 @@ use Rattle.order_maker.specs.declared.order_kind.OrderKind.TheVariants.{Write, R
 abbrev pub listed : List Cell → Identifications
 listed cells = record { form = form.LacCi; ids = map id_of_cell cells }
 
--- a write, which may replace a version: until killed, on the basic channel
-abbrev pub write_message : Order → Option ℕ → Content → Message
-write_message order old content = message.WriteReplace (record {
+-- a write of pages, which may replace a version: until killed, on the basic channel
+abbrev pub cbs_message : Order → Option ℕ → CbsContent → Message
+cbs_message order old c = message.WriteReplace (record {
   message_id = order.message_id;
   serial = order.serial;
   old = old;
   cells = listed order.cells;
   channel = Some 0;
-  category = category_number content.category;
-  period = content.period;
+  category = category_number c.category;
+  period = c.period;
   requested = 0;
-  pages = map page_with content.pages;
-  dcs = content.dcs;
+  pages = map page_with c.pages;
+  dcs = c.dcs;
 })
 
--- a KILL, on the basic channel
-abbrev pub kill_message : Order → Message
-kill_message order = message.Kill (record { message_id = order.message_id; serial = order.serial; cells = listed order.cells; channel = Some 0 })
+-- a write of an emergency warning, which may replace a version
+abbrev pub emergency_message : Order → Option ℕ → EmergencyContent → Message
+emergency_message order old c = message.WriteEmergency (record {
+  message_id = order.message_id;
+  serial = order.serial;
+  old = old;
+  cells = listed order.cells;
+  indicator = c.indicator;
+  warning_type = c.warning_type;
+  warning_period = c.warning_period;
+  security = c.security;
+})
+
+-- a write of the content
+abbrev pub write_message : Order → Option ℕ → Content → Message
+write_message order old (content.Cbs c) = cbs_message order old c
+write_message order old (content.Emergency c) = emergency_message order old c
+
+-- pages are on the basic channel, an emergency warning on none
+abbrev pub channel_of : Content → Option ℕ
+channel_of (content.Cbs c) = Some 0
+channel_of (content.Emergency c) = None
+
+-- a KILL of a version with this content, on the channel of the content
+abbrev pub kill_message : Order → Content → Message
+kill_message order c = message.Kill (record { message_id = order.message_id; serial = order.serial; cells = listed order.cells; channel = channel_of c })
 
 -- a MESSAGE STATUS QUERY of a version in these cells, on the basic channel (TS 48.049, 8.1.3)
 abbrev pub query_message : ℕ → ℕ → List Cell → Message
@@ -42,25 +68,23 @@ query_message m s cells = message.StatusQuery (record { message_id = m; serial =
 
 -- the content of an order where there is none: no pages
 abbrev pub no_content : Content
-no_content = record { dcs = 0; category = Normal; period = 1; pages = [] }
+no_content = content.Cbs (record { dcs = 0; category = Normal; period = 1; pages = [] })
 
 -- the content that is given
 abbrev pub given_content : Option Content → Content
 given_content None = no_content
-given_content (Some content) = content
+given_content (Some c) = c
 
--- an order of the kind can be carried: a KILL, or a write or a replace whose content is there
-abbrev pub IsCarriable : OrderKind → Option Content → Type 0
-IsCarriable Kill content = Unit {0}
-IsCarriable Write content = IsSome content
-IsCarriable (Replace old) content = IsSome content
+-- an order can be carried: its content is there
+abbrev pub IsCarriable : Option Content → Type 0
+IsCarriable c = IsSome c
 
 -- the message of an order of the kind: a KILL, or a WRITE-REPLACE with its content
 abbrev pub message_by : Order → OrderKind → Option Content → Message
-message_by order Write content = write_message order None (given_content content)
-message_by order (Replace old) content = write_message order (Some old) (given_content content)
-message_by order Kill content = kill_message order
+message_by order Write c = write_message order None (given_content c)
+message_by order (Replace old) c = write_message order (Some old) (given_content c)
+message_by order Kill c = kill_message order (given_content c)
 
 -- the message of the order
 abbrev pub order_message : Order → Option Content → Message
-order_message order content = message_by order order.kind content
+order_message order c = message_by order order.kind c

@@ -1,17 +1,17 @@
 //! The message that carries an order, or a query.
 
-ghost use Rattle.std.specs.Prelude.{◌≡◌, map, IfOk, IsSome};
+ghost use Rattle.std.specs.Prelude.{◌≡◌, map, IfOk};
 ghost use Rattle.std.specs.Option.{option_copied};
 ghost use Rattle.cbsp_messages.specs.PageText.{page_with};
-ghost use Rattle.centre_events.specs.OrderMessage.{IsCarriable, given_content, order_message, write_message, kill_message, query_message};
+ghost use Rattle.centre_events.specs.OrderMessage.{IsCarriable, order_message, cbs_message, emergency_message, write_message, channel_of, kill_message, query_message};
 
 use cbsp_ie::CellIds;
-use cbsp_messages::{Kill, Message, Page, Pages, StatusQuery, WriteReplace};
+use cbsp_messages::{Kill, Message, Page, Pages, StatusQuery, WriteEmergency, WriteReplace};
 use common::{Cell, Octets};
 use order_maker::{Order, OrderKind};
 use serials::Serial;
 use std::alloc::{AllocError, Global};
-use warning_book::Content;
+use warning_book::{CbsContent, Content, EmergencyContent};
 
 /// The pages as they are sent, each with zeros up to 82 octets.
 fn pages_of(alloc: Global, contents: &[Octets]) -> Result<Pages, AllocError>
@@ -24,13 +24,13 @@ fn pages_of(alloc: Global, contents: &[Octets]) -> Result<Pages, AllocError>
     Ok(pages)
 }
 
-fn write_message(
+fn cbs_message(
     alloc: Global,
     order: &Order,
     old: Option<u16>,
-    content: &Content,
+    content: &CbsContent,
 ) -> Result<Message, AllocError>
-    ensures { IfOk result (λ m. m ≡ write_message order.now old content.now) }
+    ensures { IfOk result (λ m. m ≡ cbs_message order.now old content.now) }
 {
     Ok(Message::WriteReplace(WriteReplace {
         message_id: order.message_id,
@@ -46,48 +46,78 @@ fn write_message(
     }))
 }
 
-fn kill_message(alloc: Global, order: &Order) -> Result<Message, AllocError>
-    ensures { IfOk result (λ m. m ≡ kill_message order.now) }
+fn emergency_message(
+    alloc: Global,
+    order: &Order,
+    old: Option<u16>,
+    content: &EmergencyContent,
+) -> Result<Message, AllocError>
+    ensures { IfOk result (λ m. m ≡ emergency_message order.now old content.now) }
+{
+    Ok(Message::WriteEmergency(WriteEmergency {
+        message_id: order.message_id,
+        serial: order.serial.to_u16(),
+        old,
+        cells: CellIds::of_cells(alloc, order.cells.as_slice())?,
+        indicator: content.indicator,
+        warning_type: content.warning_type,
+        warning_period: content.warning_period,
+        security: content.security,
+    }))
+}
+
+fn write_message(
+    alloc: Global,
+    order: &Order,
+    old: Option<u16>,
+    content: &Content,
+) -> Result<Message, AllocError>
+    ensures { IfOk result (λ m. m ≡ write_message order.now old content.now) }
+{
+    match content {
+        Content::Cbs(content) => cbs_message(alloc, order, old, content),
+        Content::Emergency(content) => emergency_message(alloc, order, old, content),
+    }
+}
+
+fn channel_of(content: &Content) -> Option<u8>
+    ensures { result ≡ channel_of content.now }
+{
+    match content {
+        Content::Cbs(_) => Some(0),
+        Content::Emergency(_) => None,
+    }
+}
+
+fn kill_message(alloc: Global, order: &Order, content: &Content) -> Result<Message, AllocError>
+    ensures { IfOk result (λ m. m ≡ kill_message order.now content.now) }
 {
     Ok(Message::Kill(Kill {
         message_id: order.message_id,
         serial: order.serial.to_u16(),
         cells: CellIds::of_cells(alloc, order.cells.as_slice())?,
-        channel: Some(0),
+        channel: channel_of(content),
     }))
 }
 
-/// The WRITE-REPLACE of an order whose content is there.
-fn written(
-    alloc: Global,
-    order: &Order,
-    old: Option<u16>,
-    content: Option<&Content>,
-) -> Result<Message, AllocError>
-    requires { IsSome (option_copied content) }
-    ensures { IfOk result (λ m. m ≡ write_message order.now old (given_content (option_copied content.entry))) }
-{
-    match content {
-        Some(content) => write_message(alloc, order, old, content),
-        None => unreachable!(),
-    }
-}
-
-/// The message that carries the order (TS 48.049, 8.1.3.1 and 8.1.3.4): a WRITE-REPLACE on the basic channel that is
-/// broadcast until it is killed, with the Old Serial Number where it replaces a message, or a KILL. A write or a replace
-/// needs its content.
+/// The message that carries the order (TS 48.049, 8.1.3.1 and 8.1.3.4), whose version has this content: a WRITE-REPLACE
+/// with the Old Serial Number where it replaces a message, or a KILL. Pages are on the basic channel and are broadcast
+/// until they are killed; an emergency warning is on no channel.
 pub fn message_of(
     alloc: Global,
     order: &Order,
     content: Option<&Content>,
 ) -> Result<Message, AllocError>
-    requires { IsCarriable order.now.kind (option_copied content) }
+    requires { IsCarriable (option_copied content) }
     ensures { IfOk result (λ m. m ≡ order_message order.now (option_copied content.entry)) }
 {
+    let Some(content) = content else {
+        unreachable!();
+    };
     match order.kind {
-        OrderKind::Write => written(alloc, order, None, content),
-        OrderKind::Replace { old } => written(alloc, order, Some(old.to_u16()), content),
-        OrderKind::Kill => kill_message(alloc, order),
+        OrderKind::Write => write_message(alloc, order, None, content),
+        OrderKind::Replace { old } => write_message(alloc, order, Some(old.to_u16()), content),
+        OrderKind::Kill => kill_message(alloc, order, content),
     }
 }
 

@@ -59,6 +59,7 @@ pub enum Refusal {
     LastArea,
     BadPages,
     BadPeriod,
+    WrongKind,
     UpdatesExhausted,
     StaleLink {
         /// The generation of the latest link, 0 where there was none.
@@ -111,6 +112,7 @@ impl Refusal {
             Refusal::LastArea => 24,
             Refusal::BadPages => 25,
             Refusal::BadPeriod => 26,
+            Refusal::WrongKind => 27,
             Refusal::UpdatesExhausted => 28,
             Refusal::StaleLink { now: _ } => 29,
             Refusal::LinkNotUp => 30,
@@ -154,6 +156,7 @@ impl Refusal {
             Refusal::LastArea => "the warning names no other area",
             Refusal::BadPages => "a content has 1 to 15 pages of 1 to 82 octets",
             Refusal::BadPeriod => "a repetition period is 1 to 1,024",
+            Refusal::WrongKind => "the warning is of the other kind",
             Refusal::UpdatesExhausted => "the warning had its last update",
             Refusal::StaleLink { .. } => "the link has ended; the latest is ",
             Refusal::LinkNotUp => "the link is down",
@@ -272,6 +275,7 @@ impl From<warning_book::Refusal> for Refusal {
             warning_book::Refusal::LastArea => Refusal::LastArea,
             warning_book::Refusal::BadPages => Refusal::BadPages,
             warning_book::Refusal::BadPeriod => Refusal::BadPeriod,
+            warning_book::Refusal::WrongKind => Refusal::WrongKind,
             warning_book::Refusal::UpdatesExhausted => Refusal::UpdatesExhausted,
             warning_book::Refusal::Limit {
                 which: warning_book::Limit::Warnings,

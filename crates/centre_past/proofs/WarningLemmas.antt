@@ -11,7 +11,7 @@ use Rattle.common.specs.Checks.{first_refusal}
 use Rattle.common.specs.Order.{is_ascending}
 use Rattle.warning_book.specs.Book.{State, empty, has_number, number_lt, warning_is, warning_of, is_so, versions_if, versions_with, content_of, new_serial, next_serial, current_of, is_exhausted, ends_updates}
 use Rattle.warning_book.specs.Checks as book
-use Rattle.warning_book.specs.Content.{are_pages, is_period}
+use Rattle.warning_book.specs.Content.{have_pages, has_period}
 use Rattle.warning_book.specs.Laws.{found_so}
 use Rattle.warning_book.specs.SerialLaws.{serial_is_there}
 use Rattle.warning_book.specs.Sound.{IsSound, IsCounted, is_good, has_contents}
@@ -275,14 +275,14 @@ good_with m (w ∷ ws) h =
     let parts = and_parts (has_contents w) (list_all has_contents ws) h in
     list_all-append is_good (versions_if m w) (versions_with m ws) ∙ and_from (list_all is_good (versions_if m w)) (list_all is_good (versions_with m ws)) (good_if m w parts.0) (good_with m ws parts.1)
 
-found_good : (s : ℕ) (vs : List Version) → list_all is_good vs ≡ true → IfSome (option_map (λ v. v.content) (find (λ v. nat_eq v.serial s) vs)) (λ c. are_pages c.pages ≡ true)
+found_good : (s : ℕ) (vs : List Version) → list_all is_good vs ≡ true → IfSome (option_map (λ v. v.content) (find (λ v. nat_eq v.serial s) vs)) (λ c. have_pages c ≡ true)
 found_good s [] h = tt
 found_good s (v ∷ vs) h = step (found_good s vs) (nat_eq v.serial s) (and_parts (is_good v) (list_all is_good vs) h)
   where
-    step : (list_all is_good vs ≡ true → IfSome (option_map (λ u. u.content) (find (λ u. nat_eq u.serial s) vs)) (λ c. are_pages c.pages ≡ true)) → (t : Bool) → (is_good v ≡ true) × (list_all is_good vs ≡ true) → IfSome (option_map (λ u. u.content) (cond t (Some v) (find (λ u. nat_eq u.serial s) vs))) (λ c. are_pages c.pages ≡ true)
-    step rest true parts = (and_parts (are_pages v.content.pages) (is_period v.content.period) parts.0).0
+    step : (list_all is_good vs ≡ true → IfSome (option_map (λ u. u.content) (find (λ u. nat_eq u.serial s) vs)) (λ c. have_pages c ≡ true)) → (t : Bool) → (is_good v ≡ true) × (list_all is_good vs ≡ true) → IfSome (option_map (λ u. u.content) (cond t (Some v) (find (λ u. nat_eq u.serial s) vs))) (λ c. have_pages c ≡ true)
+    step rest true parts = (and_parts (have_pages v.content) (has_period v.content) parts.0).0
     step rest false parts = rest parts.1
 
 -- a content of the book has good pages
-pub content_has_pages : (m s : ℕ) (ws : List Warning) → list_all has_contents ws ≡ true → IfSome (content_of m s ws) (λ c. are_pages c.pages ≡ true)
+pub content_has_pages : (m s : ℕ) (ws : List Warning) → list_all has_contents ws ≡ true → IfSome (content_of m s ws) (λ c. have_pages c ≡ true)
 content_has_pages m s ws h = found_good s (versions_with m ws) (good_with m ws h)

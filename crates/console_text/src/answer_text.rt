@@ -151,6 +151,7 @@ fn refusal_name(refusal: Refusal) -> &'static str
         Refusal::LastArea => "LastArea",
         Refusal::BadPages => "BadPages",
         Refusal::BadPeriod => "BadPeriod",
+        Refusal::WrongKind => "WrongKind",
         Refusal::UpdatesExhausted => "UpdatesExhausted",
         Refusal::StaleLink { .. } => "StaleLink",
         Refusal::LinkNotUp => "LinkNotUp",

@@ -1,6 +1,6 @@
 //! What stands in front of the pages of a version.
 
-use warning_book::{Category, Content, ContentPages};
+use warning_book::{Category, CbsContent, Content, ContentPages};
 
 /// The numbers of a version of a warning.
 #[derive(Clone, Copy, Debug)]
@@ -20,11 +20,11 @@ impl ContentHeading {
     pub fn content(self, pages: ContentPages) -> Content
         ensures { result ≡ content_of self pages }
     {
-        Content {
+        Content::Cbs(CbsContent {
             dcs: self.dcs,
             category: self.category,
             period: self.period,
             pages,
-        }
+        })
     }
 }

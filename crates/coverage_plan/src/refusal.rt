@@ -50,6 +50,7 @@ pub enum Refusal {
     LastArea,
     BadPages,
     BadPeriod,
+    WrongKind,
     UpdatesExhausted,
     Limit { which: Limit },
     Memory,
@@ -80,6 +81,7 @@ impl Refusal {
             Refusal::LastArea => "the warning names no other area",
             Refusal::BadPages => "a content has 1 to 15 pages of 1 to 82 octets",
             Refusal::BadPeriod => "a repetition period is 1 to 1,024",
+            Refusal::WrongKind => "the warning is of the other kind",
             Refusal::UpdatesExhausted => "the warning had its last update",
             Refusal::Limit { which: Limit::Bscs } => "a limit would be passed: Bscs",
             Refusal::Limit {
@@ -183,6 +185,7 @@ impl From<warning_book::Refusal> for Refusal {
             warning_book::Refusal::LastArea => Refusal::LastArea,
             warning_book::Refusal::BadPages => Refusal::BadPages,
             warning_book::Refusal::BadPeriod => Refusal::BadPeriod,
+            warning_book::Refusal::WrongKind => Refusal::WrongKind,
             warning_book::Refusal::UpdatesExhausted => Refusal::UpdatesExhausted,
             warning_book::Refusal::Limit {
                 which: warning_book::Limit::Warnings,

@@ -13,7 +13,7 @@ use common::{Cell, Name, Names, Octets};
 use coverage_plan::Edit;
 use std::alloc::{AllocError, Global};
 use std::process::Abort;
-use warning_book::Category;
+use warning_book::{Category, CbsContent};
 
 /// The network code 001-01.
 pub(crate) const PLMN: [u8; 3] = [0x00, 0xf1, 0x10];
@@ -83,12 +83,12 @@ fn content(alloc: Global) -> Result<Content, AllocError> {
     let page = Octets::from_vec(Vec::from_slice(alloc, &[0xd4, 0xf2, 0x9c, 0x0e])?);
     let mut pages = Vec::new(alloc);
     pages.push(page)?;
-    Ok(Content {
+    Ok(Content::Cbs(CbsContent {
         dcs: 15,
         category: Category::HighPriority,
         period: 30,
         pages: ContentPages::from_vec(pages),
-    })
+    }))
 }
 
 fn notice(alloc: Global) -> Result<Notice, AllocError> {

@@ -7,7 +7,7 @@ use coverage_plan::Edit;
 use serials::{Scope, Serial};
 use std::alloc::Global;
 use std::process::Abort;
-use warning_book::{Category, Content, ContentPages, Notice, WarningId};
+use warning_book::{Category, CbsContent, Content, ContentPages, Notice, WarningId};
 
 /// The network code 001-01.
 pub(crate) const PLMN: [u8; 3] = [0x00, 0xf1, 0x10];
@@ -48,12 +48,12 @@ fn content(rt: &impl Abort, alloc: Global) -> Content {
     let page = Vec::from_slice(alloc, &[0xd4, 0xf2, 0x9c, 0x0e]).expect(rt, "memory");
     let mut pages = Vec::new(alloc);
     pages.push(Octets::from_vec(page)).expect(rt, "memory");
-    Content {
+    Content::Cbs(CbsContent {
         dcs: 15,
         category: Category::HighPriority,
         period: 30,
         pages: ContentPages::from_vec(pages),
-    }
+    })
 }
 
 /// Issues a warning on the coast.

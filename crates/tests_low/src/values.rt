@@ -6,7 +6,7 @@ use cell_register::BscId;
 use common::{Name, Names, Octets};
 use std::alloc::Global;
 use std::process::Abort;
-use warning_book::{Category, Content, ContentPages};
+use warning_book::{Category, CbsContent, Content, ContentPages};
 
 /// The value found is the one that is wanted. The words say where.
 pub(crate) fn same<T: PartialEq>(rt: &impl Abort, found: &T, want: &T, at: &str) {
@@ -43,10 +43,10 @@ pub(crate) fn content(rt: &impl Abort, alloc: Global, octets: &[u8]) -> Content 
     let page = Octets::from_vec(Vec::from_slice(alloc, octets).expect(rt, "memory"));
     let mut pages = Vec::new(alloc);
     pages.push(page).expect(rt, "memory");
-    Content {
+    Content::Cbs(CbsContent {
         dcs: 0x0f,
         category: Category::HighPriority,
         period: 10,
         pages: ContentPages::from_vec(pages),
-    }
+    })
 }

@@ -4,7 +4,7 @@ use Rattle.std.specs.Prelude.{find}
 use Rattle.std.specs.List.{list_any}
 use Rattle.common.specs.Checks.{first_refusal}
 use Rattle.common.specs.Order.{is_ascending}
-use Rattle.warning_book.specs.Book.{State, has_number, number_lt, names, is_full, has_one_area, is_exhausted, is_there, warning_is, warning_of}
+use Rattle.warning_book.specs.Book.{State, has_number, number_lt, names, is_full, has_one_area, is_exhausted, is_of_other_kind, is_there, warning_is, warning_of}
 use Rattle.warning_book.specs.Checks.{update_checks, widen_checks, narrow_checks, stop_checks, forget_checks, warning_update_checks, warning_widen_checks, warning_narrow_checks, warning_stop_checks, warning_forget_checks}
 use Rattle.warning_book.specs.Laws.{found_so}
 use Rattle.warning_book.proofs.FoundLemmas.{absent_in}
@@ -30,7 +30,7 @@ found_is st n f w o h = found_so n f st.warnings w o h
 
 pub update_found : (st : State) (n : ℕ) (content : Content) (w : Warning) → is_ascending number_lt st.warnings ≡ true → warning_of st n ≡ Some w → first_refusal (update_checks st n content) ≡ first_refusal (warning_update_checks content w)
 update_found st n content w o h =
-    rw (found_there st n w h, found_is st n (λ v. v.active) w o h, found_is st n is_exhausted w o h) refl
+    rw (found_there st n w h, found_is st n (λ v. v.active) w o h, found_is st n (is_of_other_kind content) w o h, found_is st n is_exhausted w o h) refl
 
 pub widen_found : (st : State) (n : ℕ) (a : List ℕ) (w : Warning) → is_ascending number_lt st.warnings ≡ true → warning_of st n ≡ Some w → first_refusal (widen_checks st n a) ≡ first_refusal (warning_widen_checks a w)
 widen_found st n a w o h =

@@ -3,7 +3,10 @@ use Rattle.std.specs.Prelude.{ℕ, ◌+◌, Bool, true, false, ◌&&◌, not, Li
 use Rattle.std.specs.List.{list_any, filter, last_or}
 use Rattle.std.specs.Option.{option_map, option_and_then, option_to_list}
 use Rattle.serials.specs.Serials.{scope_number, serial_of, code_of, next_of, is_last, least_free}
+use Rattle.warning_book.specs.Content.{content_kind, is_same_kind}
 use Rattle.warning_book.specs.declared.content.Content.{Content}
+use Rattle.warning_book.specs.declared.kind.Kind.{Kind}
+use Rattle.warning_book.specs.declared.kind.Kind.TheVariants as kind
 use Rattle.warning_book.specs.declared.notice.Notice.{Notice}
 use Rattle.warning_book.specs.declared.version.Version.{Version}
 use Rattle.warning_book.specs.declared.warning.Warning.{Warning}
@@ -30,6 +33,15 @@ current_of w = last_serial w.versions
 -- the code of a warning: that of its current version
 abbrev pub code_in : Warning → Option ℕ
 code_in w = option_map code_of (current_of w)
+
+-- the kind of the first of the versions
+abbrev pub first_kind : List Version → Kind
+first_kind [] = kind.Cbs
+first_kind (v ∷ versions) = content_kind v.content
+
+-- the kind of a warning: that of its first version
+abbrev pub kind_of : Warning → Kind
+kind_of w = first_kind w.versions
 
 -- no update number is left after this serial number, or there is no version that one could follow
 abbrev pub ends_updates : Option ℕ → Bool
@@ -61,6 +73,10 @@ has_one_area w = nat_le (length w.areas) 1
 -- no update number is left for a next version of it
 abbrev pub is_exhausted : Warning → Bool
 is_exhausted w = ends_updates (current_of w)
+
+-- the content is for a warning of the other kind
+abbrev pub is_of_other_kind : Content → Warning → Bool
+is_of_other_kind content w = not (is_same_kind (content_kind content) (kind_of w))
 
 -- one of the warnings has that number, and it is as the test says
 abbrev pub is_so : ℕ → (Warning → Bool) → List Warning → Bool

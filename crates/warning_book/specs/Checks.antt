@@ -1,8 +1,8 @@
 -- Why an edit is refused: the first cause that holds, in the order of the checks.
 use Rattle.std.specs.Prelude.{ℕ, Bool, true, false, not, List, [], ◌∷◌, bytes_eq, nat_le, ltb, length}
 use Rattle.common.specs.Order.{each_once}
-use Rattle.warning_book.specs.Book.{State, names, is_full, has_one_area, is_exhausted, warning_is, is_there, is_active}
-use Rattle.warning_book.specs.Content.{are_pages, is_period}
+use Rattle.warning_book.specs.Book.{State, names, is_full, has_one_area, is_exhausted, is_of_other_kind, warning_is, is_there, is_active}
+use Rattle.warning_book.specs.Content.{have_pages, has_period}
 use Rattle.warning_book.specs.declared.content.Content.{Content}
 use Rattle.warning_book.specs.declared.notice.Notice.{Notice}
 use Rattle.warning_book.specs.declared.refusal.Limit.TheVariants as limit
@@ -17,11 +17,11 @@ is_empty (a ∷ areas) = false
 
 -- the checks of issuing a warning, in their order
 abbrev pub issue_checks : State → Notice → List (List ℕ) → List (Bool × Refusal)
-issue_checks st notice areas = (is_empty areas, refusal.NoAreas) ∷ (not (each_once bytes_eq areas), refusal.AreaThere) ∷ (not (are_pages notice.content.pages), refusal.BadPages) ∷ (not (is_period notice.content.period), refusal.BadPeriod) ∷ (nat_le 256 (length st.warnings), refusal.Limit limit.Warnings) ∷ (ltb 16 (length areas), refusal.Limit limit.WarningAreas) ∷ (nat_le 4294967295 st.issued, refusal.Limit limit.Ids) ∷ []
+issue_checks st notice areas = (is_empty areas, refusal.NoAreas) ∷ (not (each_once bytes_eq areas), refusal.AreaThere) ∷ (not (have_pages notice.content), refusal.BadPages) ∷ (not (has_period notice.content), refusal.BadPeriod) ∷ (nat_le 256 (length st.warnings), refusal.Limit limit.Warnings) ∷ (ltb 16 (length areas), refusal.Limit limit.WarningAreas) ∷ (nat_le 4294967295 st.issued, refusal.Limit limit.Ids) ∷ []
 
 -- the checks of updating a warning
 abbrev pub update_checks : State → ℕ → Content → List (Bool × Refusal)
-update_checks st n content = (not (is_there st n), refusal.NoSuchWarning) ∷ (not (is_active st n), refusal.NotActive) ∷ (not (are_pages content.pages), refusal.BadPages) ∷ (not (is_period content.period), refusal.BadPeriod) ∷ (warning_is st n is_exhausted, refusal.UpdatesExhausted) ∷ []
+update_checks st n content = (not (is_there st n), refusal.NoSuchWarning) ∷ (not (is_active st n), refusal.NotActive) ∷ (not (have_pages content), refusal.BadPages) ∷ (not (has_period content), refusal.BadPeriod) ∷ (warning_is st n (is_of_other_kind content), refusal.WrongKind) ∷ (warning_is st n is_exhausted, refusal.UpdatesExhausted) ∷ []
 
 -- the checks of naming one more area
 abbrev pub widen_checks : State → ℕ → List ℕ → List (Bool × Refusal)
@@ -43,7 +43,7 @@ forget_checks st n = (not (is_there st n), refusal.NoSuchWarning) ∷ (is_active
 
 -- the checks of updating it
 abbrev pub warning_update_checks : Content → Warning → List (Bool × Refusal)
-warning_update_checks content w = (not w.active, refusal.NotActive) ∷ (not (are_pages content.pages), refusal.BadPages) ∷ (not (is_period content.period), refusal.BadPeriod) ∷ (is_exhausted w, refusal.UpdatesExhausted) ∷ []
+warning_update_checks content w = (not w.active, refusal.NotActive) ∷ (not (have_pages content), refusal.BadPages) ∷ (not (has_period content), refusal.BadPeriod) ∷ (is_of_other_kind content w, refusal.WrongKind) ∷ (is_exhausted w, refusal.UpdatesExhausted) ∷ []
 
 -- the checks of naming one more area in it
 abbrev pub warning_widen_checks : List ℕ → Warning → List (Bool × Refusal)

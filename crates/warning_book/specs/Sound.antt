@@ -3,8 +3,9 @@ use Rattle.std.specs.Prelude.{◌≡◌, ◌≤◌, ℕ, ◌+◌, Bool, true, fa
 use Rattle.std.specs.List.{list_all}
 use Rattle.serials.specs.Serials.{scope_part, code_of, update_of}
 use Rattle.common.specs.Order.{is_ascending, each_once}
-use Rattle.warning_book.specs.Book.{State, number_lt, last_serial, code_in}
-use Rattle.warning_book.specs.Content.{are_pages, is_period}
+use Rattle.warning_book.specs.Book.{State, number_lt, last_serial, code_in, first_kind}
+use Rattle.warning_book.specs.Content.{content_kind, is_same_kind, have_pages, has_period}
+use Rattle.warning_book.specs.declared.kind.Kind.{Kind}
 use Rattle.warning_book.specs.declared.version.Version.{Version}
 use Rattle.warning_book.specs.declared.warning.Warning.{Warning}
 
@@ -18,7 +19,7 @@ has_areas w = (nat_le 1 (length w.areas) && nat_le (length w.areas) 16) && each_
 
 -- its content can be broadcast
 abbrev pub is_good : Version → Bool
-is_good v = are_pages v.content.pages && is_period v.content.period
+is_good v = have_pages v.content && has_period v.content
 
 -- each of its versions can be broadcast
 abbrev pub has_contents : Warning → Bool
@@ -53,6 +54,18 @@ has_serials w = stand_once w.versions
 abbrev pub has_one_code : Warning → Bool
 has_one_code w = share_code w.versions
 
+-- the version has that kind
+abbrev pub has_kind : Kind → Version → Bool
+has_kind k v = is_same_kind (content_kind v.content) k
+
+-- each of the versions has the kind of the first
+abbrev pub share_kind : List Version → Bool
+share_kind versions = list_all (has_kind (first_kind versions)) versions
+
+-- all of its versions have one kind
+abbrev pub has_one_kind : Warning → Bool
+has_one_kind w = share_kind w.versions
+
 -- the message identifier and the code of a warning
 abbrev pub key_of : Warning → ℕ × Option ℕ
 key_of w = (w.message_id, code_in w)
@@ -81,6 +94,7 @@ pub record IsSound (st : State) : Type 0 where
   pub versions : list_all has_versions st.warnings ≡ true
   pub serials : list_all has_serials st.warnings ≡ true
   pub codes : list_all has_one_code st.warnings ≡ true
+  pub kinds : list_all has_one_kind st.warnings ≡ true
   pub own_codes : have_own_codes st.warnings ≡ true
 
 -- the versions have the update numbers from this one on, in their order

@@ -1,6 +1,6 @@
 -- Each edit that nothing forbids leaves the book sound. Crates that recompute the book from their own record of edits
 -- cite the last section.
-use Rattle.std.proofs.Common.{◌≡◌, ℕ, suc, ◌+◌, ◌<◌, ◌≤◌, Bool, true, false, ◌&&◌, ◌||◌, not, cond, List, [], ◌∷◌, ◌++◌, Option, Some, None, map, nat_eq, nat_le, ltb, length, refl, sym, ap, ◌∙◌, arith, length-append}
+use Rattle.std.proofs.Common.{◌≡◌, ℕ, suc, ◌+◌, ◌<◌, ◌≤◌, Bool, true, false, ◌&&◌, ◌||◌, not, cond, List, [], ◌∷◌, ◌++◌, Option, Some, None, map, nat_eq, nat_le, ltb, length, refl, sym, ap, ◌∙◌, arith, length-append, eq-eqb}
 use Rattle.std.specs.Prelude.{bytes_eq}
 use Rattle.std.specs.List.{list_any, list_all, filter}
 use Rattle.std.specs.Option.{option_to_list}
@@ -13,15 +13,15 @@ use Rattle.common.specs.OnceLaws.{once_last, once_filter, once_key, kept_whole, 
 use Rattle.common.specs.Order.{each_once}
 use Rattle.common.specs.OrderLaws.{all_same, all_filter, ascending_filter, ascending_last, ascending_map, length_filter}
 use Rattle.serials.specs.Serials.{scope_part, code_of, update_of}
-use Rattle.warning_book.specs.Book.{State, has_number, number_lt, names, is_full, has_one_area, is_exhausted, is_so, code_in, codes_of, new_serial, new_warning, updated, widened, narrowed, stopped, changed_if, edited, without, after_issue, after_update, after_widen, after_narrow, after_stop, after_forget}
+use Rattle.warning_book.specs.Book.{State, has_number, number_lt, names, is_full, has_one_area, is_exhausted, is_of_other_kind, is_so, code_in, kind_of, codes_of, new_serial, new_warning, updated, widened, narrowed, stopped, changed_if, edited, without, after_issue, after_update, after_widen, after_narrow, after_stop, after_forget}
 use Rattle.common.specs.CheckLaws.{none_holds}
 use Rattle.common.specs.Checks.{first_refusal}
 use Rattle.warning_book.specs.Checks.{is_empty, issue_checks, update_checks, widen_checks, narrow_checks}
-use Rattle.warning_book.specs.Content.{are_pages, is_period}
+use Rattle.warning_book.specs.Content.{kind_number, content_kind, is_same_kind, have_pages, has_period}
 use Rattle.warning_book.specs.SerialLaws.{new_serial_parts}
 use Rattle.warning_book.specs.Laws.{KeepsNumber, number-edited}
-use Rattle.warning_book.specs.Sound.{was_issued, has_areas, is_good, has_contents, has_versions, has_serials, has_one_code, key_of, is_same_code, is_same_key, counts_updates, IsCounted}
-use Rattle.warning_book.specs.VersionLaws.{all-last, has_own_code, few_next, once_next, code_next, counted_next, all_next, code_kept}
+use Rattle.warning_book.specs.Sound.{was_issued, has_areas, is_good, has_contents, has_versions, has_serials, has_one_code, has_one_kind, key_of, is_same_code, is_same_key, counts_updates, IsCounted}
+use Rattle.warning_book.specs.VersionLaws.{all-last, has_own_code, few_next, once_next, code_next, kind_next, counted_next, all_next, code_kept}
 use Rattle.warning_book.specs.declared.content.Content.{Content}
 use Rattle.warning_book.specs.declared.notice.Notice.{Notice}
 use Rattle.warning_book.specs.declared.warning.Warning.{Warning}
@@ -92,6 +92,7 @@ pub record Keeps (f : Warning → Warning) (g : Warning → Bool) : Type 0 where
   pub versions : (w : Warning) → g w ≡ false → counts_updates w ≡ true → has_versions w ≡ true → has_versions (f w) ≡ true
   pub serials : (w : Warning) → g w ≡ false → counts_updates w ≡ true → has_serials w ≡ true → has_serials (f w) ≡ true
   pub codes : (w : Warning) → g w ≡ false → has_one_code w ≡ true → has_one_code (f w) ≡ true
+  pub kinds : (w : Warning) → g w ≡ false → has_one_kind w ≡ true → has_one_kind (f w) ≡ true
   pub key : (w : Warning) → g w ≡ false → key_of (f w) ≡ key_of w
   pub counted : (w : Warning) → g w ≡ false → counts_updates w ≡ true → counts_updates (f w) ≡ true
 
@@ -107,6 +108,7 @@ sound-edited n f g i l k so s =
         versions = all-edited n f g counts_updates has_versions k.versions l so s.counted s.sound.versions;
         serials = all-edited n f g counts_updates has_serials k.serials l so s.counted s.sound.serials;
         codes = all-edited n f g counts_updates has_one_code (λ w h c e. k.codes w h e) l so s.counted s.sound.codes;
+        kinds = all-edited n f g counts_updates has_one_kind (λ w h c e. k.kinds w h e) l so s.counted s.sound.kinds;
         own_codes = ap (each_once is_same_key) (map-edited key_of n f g k.key l so) ∙ s.sound.own_codes;
       };
       counted = all-edited n f g counts_updates counts_updates (λ w h c e. k.counted w h e) l so s.counted s.counted;
@@ -123,6 +125,7 @@ keeps-stopped =
       versions = λ w h c e. e;
       serials = λ w h c e. e;
       codes = λ w h e. e;
+      kinds = λ w h e. e;
       key = λ w h. refl;
       counted = λ w h e. e;
     }
@@ -150,6 +153,7 @@ keeps-narrowed a =
       versions = λ w h c e. e;
       serials = λ w h c e. e;
       codes = λ w h e. e;
+      kinds = λ w h e. e;
       key = λ w h. refl;
       counted = λ w h e. e;
     }
@@ -178,6 +182,7 @@ keeps-widened a =
       versions = λ w h c e. e;
       serials = λ w h c e. e;
       codes = λ w h e. e;
+      kinds = λ w h e. e;
       key = λ w h. refl;
       counted = λ w h e. e;
     }
@@ -188,21 +193,26 @@ sound-widened n a i l so full s =
 
 -- update
 
-keeps-updated : (c : Content) → are_pages c.pages ≡ true → is_period c.period ≡ true → Keeps (updated c) is_exhausted
+keeps-updated : (c : Content) → have_pages c ≡ true → has_period c ≡ true → Keeps (updated c) (λ w. is_of_other_kind c w || is_exhausted w)
 keeps-updated c good period =
     record {
       number = λ w. refl;
       areas = λ w h e. e;
-      contents = λ w h e. all_next is_good c w.versions (λ s. and_from (are_pages c.pages) (is_period c.period) good period) h e;
-      versions = λ w h counted e. few_next c w.versions h counted e;
-      serials = λ w h counted e. once_next c w.versions h counted e;
-      codes = λ w h e. code_next c w.versions h e;
-      key = λ w h. ap (λ (k : Option ℕ). (w.message_id, k)) (code_kept c w.versions h);
-      counted = λ w h e. counted_next c w.versions h e;
+      contents = λ w h e. all_next is_good c w.versions (λ s. and_from (have_pages c) (has_period c) good period) (left w h) e;
+      versions = λ w h counted e. few_next c w.versions (left w h) counted e;
+      serials = λ w h counted e. once_next c w.versions (left w h) counted e;
+      codes = λ w h e. code_next c w.versions (left w h) e;
+      kinds = λ w h e. kind_next c w.versions (not-false (is_same_kind (content_kind c) (kind_of w)) (or_parts (is_of_other_kind c w) (is_exhausted w) h).0) (left w h) e;
+      key = λ w h. ap (λ (k : Option ℕ). (w.message_id, k)) (code_kept c w.versions (left w h));
+      counted = λ w h e. counted_next c w.versions (left w h) e;
     }
+  where
+    left : (w : Warning) → (is_of_other_kind c w || is_exhausted w) ≡ false → is_exhausted w ≡ false
+    left w h = (or_parts (is_of_other_kind c w) (is_exhausted w) h).1
 
-pub sound-updated : (n : ℕ) (c : Content) (i : ℕ) (l : List Warning) → are_pages c.pages ≡ true → is_period c.period ≡ true → is_so n is_exhausted l ≡ false → IsCounted (record { issued = i; warnings = l }) → IsCounted (record { issued = i; warnings = edited n (updated c) l })
-sound-updated n c i l good period so s = sound-edited n (updated c) is_exhausted i l (keeps-updated c good period) so s
+pub sound-updated : (n : ℕ) (c : Content) (i : ℕ) (l : List Warning) → have_pages c ≡ true → has_period c ≡ true → is_so n (is_of_other_kind c) l ≡ false → is_so n is_exhausted l ≡ false → IsCounted (record { issued = i; warnings = l }) → IsCounted (record { issued = i; warnings = edited n (updated c) l })
+sound-updated n c i l good period same so s =
+    sound-edited n (updated c) (λ w. is_of_other_kind c w || is_exhausted w) i l (keeps-updated c good period) (so_either n (is_of_other_kind c) is_exhausted l same so) s
 
 -- forget
 
@@ -218,6 +228,7 @@ sound-without n i l s =
         versions = all_filter has_versions (λ w. not (has_number n w)) l s.sound.versions;
         serials = all_filter has_serials (λ w. not (has_number n w)) l s.sound.serials;
         codes = all_filter has_one_code (λ w. not (has_number n w)) l s.sound.codes;
+        kinds = all_filter has_one_kind (λ w. not (has_number n w)) l s.sound.kinds;
         own_codes = once_key is_same_key key_of (without n l) ∙ once_filter (λ v w. is_same_key (key_of v) (key_of w)) (λ w. not (has_number n w)) l (sym (once_key is_same_key key_of l) ∙ s.sound.own_codes);
       };
       counted = all_filter counts_updates (λ w. not (has_number n w)) l s.counted;
@@ -268,11 +279,15 @@ pub record IsNew (l : List Warning) (notice : Notice) (areas : List (List ℕ)) 
   pub some : is_empty areas ≡ false
   pub once : each_once bytes_eq areas ≡ true
   pub few : length areas ≤ 16
-  pub pages : are_pages notice.content.pages ≡ true
-  pub period : is_period notice.content.period ≡ true
+  pub pages : have_pages notice.content ≡ true
+  pub period : has_period notice.content ≡ true
   pub room : length l < 256
   pub first : update_of serial ≡ 0
   pub free : list_any (nat_eq (code_of serial)) (codes_of notice.message_id l) ≡ false
+
+-- a content has its own kind
+own_kind : (c : Content) → is_same_kind (content_kind c) (content_kind c) ≡ true
+own_kind c = eq-eqb (kind_number (content_kind c)) (kind_number (content_kind c)) refl
 
 pub sound-issue : (i : ℕ) (l : List Warning) (notice : Notice) (areas : List (List ℕ)) (serial : ℕ) → IsNew l notice areas serial → IsCounted (record { issued = i; warnings = l }) → IsCounted (record { issued = i + 1; warnings = l ++ new_warning (i + 1) notice areas serial ∷ [] })
 sound-issue i l notice areas serial new s =
@@ -283,10 +298,11 @@ sound-issue i l notice areas serial new s =
         given = all-last (was_issued (i + 1)) w l (all_same (was_issued i) (was_issued (i + 1)) (was_issued-more i) l s.sound.given) (was_issued-new i);
         few = let room = new.room in omega (arith, length-append l (w ∷ []));
         areas = all-last has_areas w l s.sound.areas (new_areas areas new.some new.once new.few);
-        contents = all-last has_contents w l s.sound.contents (and_from (are_pages notice.content.pages && is_period notice.content.period) true (and_from (are_pages notice.content.pages) (is_period notice.content.period) new.pages new.period) refl);
+        contents = all-last has_contents w l s.sound.contents (and_from (have_pages notice.content && has_period notice.content) true (and_from (have_pages notice.content) (has_period notice.content) new.pages new.period) refl);
         versions = all-last has_versions w l s.sound.versions refl;
         serials = all-last has_serials w l s.sound.serials refl;
         codes = all-last has_one_code w l s.sound.codes (and_from (nat_eq (scope_part serial) (scope_part serial) && nat_eq (code_of serial) (code_of serial)) true (has_own_code serial) refl);
+        kinds = all-last has_one_kind w l s.sound.kinds (and_from (is_same_kind (content_kind notice.content) (content_kind notice.content)) true (own_kind notice.content) refl);
         own_codes = ap (each_once is_same_key) (map-append key_of l (w ∷ [])) ∙ once_last is_same_key (notice.message_id, Some (code_of serial)) (map key_of l) (no_same_key notice.message_id (code_of serial) l new.free) s.sound.own_codes;
       };
       counted = all-last counts_updates w l s.counted (and_from (nat_eq (update_of serial) 0) true (ap (λ (u : ℕ). nat_eq u 0) new.first) refl);
@@ -303,8 +319,8 @@ sound_after_issue st notice areas serial checked given sound =
       some = none.0;
       once = not-false (each_once bytes_eq areas) none.1.0;
       few = few (length areas) none.1.1.1.1.1.0;
-      pages = not-false (are_pages notice.content.pages) none.1.1.0;
-      period = not-false (is_period notice.content.period) none.1.1.1.0;
+      pages = not-false (have_pages notice.content) none.1.1.0;
+      period = not-false (has_period notice.content) none.1.1.1.0;
       room = room (length st.warnings) none.1.1.1.1.0;
       first = parts.0;
       free = parts.1;
@@ -320,7 +336,7 @@ sound_after_issue st notice areas serial checked given sound =
 pub sound_after_update : (st : State) (n : ℕ) (content : Content) → first_refusal (update_checks st n content) ≡ None → IsCounted st → IsCounted (after_update n content st)
 sound_after_update st n content checked sound =
     let none = none_holds (update_checks st n content) checked in
-    sound-updated n content st.issued st.warnings (not-false (are_pages content.pages) none.1.1.0) (not-false (is_period content.period) none.1.1.1.0) none.1.1.1.1.0 sound
+    sound-updated n content st.issued st.warnings (not-false (have_pages content) none.1.1.0) (not-false (has_period content) none.1.1.1.0) none.1.1.1.1.0 none.1.1.1.1.1.0 sound
 
 pub sound_after_widen : (st : State) (n : ℕ) (a : List ℕ) → first_refusal (widen_checks st n a) ≡ None → IsCounted st → IsCounted (after_widen n a st)
 sound_after_widen st n a checked sound =

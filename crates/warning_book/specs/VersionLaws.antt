@@ -14,8 +14,9 @@ use Rattle.common.specs.OrderLaws.{all_same}
 use Rattle.common.specs.Sums.{one, count_of}
 use Rattle.serials.specs.Laws.{update_left, next_scope, next_code, next_update}
 use Rattle.serials.specs.Serials.{scope_part, code_of, update_of, next_of, is_last}
-use Rattle.warning_book.specs.Book.{last_serial, current_of, code_in, ends_updates, version_after, with_next}
-use Rattle.warning_book.specs.Sound.{are_few, stand_once, shares_code, share_code, has_one_code, key_of, is_same_code, is_same_key, are_counted}
+use Rattle.warning_book.specs.Book.{last_serial, current_of, code_in, ends_updates, first_kind, version_after, with_next}
+use Rattle.warning_book.specs.Content.{content_kind, is_same_kind}
+use Rattle.warning_book.specs.Sound.{are_few, stand_once, shares_code, share_code, has_one_code, has_kind, share_kind, key_of, is_same_code, is_same_key, are_counted}
 use Rattle.warning_book.specs.declared.content.Content.{Content}
 use Rattle.warning_book.specs.declared.version.Version.{Version}
 use Rattle.warning_book.specs.declared.warning.Warning.{Warning}
@@ -144,6 +145,11 @@ counted_next content vs left counted =
 pub all_next : (p : Version → Bool) (content : Content) (vs : List Version) → ((s : ℕ) → p (version_after content s) ≡ true) → ends_updates (last_serial vs) ≡ false → list_all p vs ≡ true → list_all p (with_next content vs) ≡ true
 all_next p content vs good left h =
     next_keeps (list_all p) content vs (λ s e g k. all-last p (version_after content s) vs k (good s)) left h
+
+-- a next version of the first one's kind is of the kind that the others have
+pub kind_next : (content : Content) (vs : List Version) → is_same_kind (content_kind content) (first_kind vs) ≡ true → ends_updates (last_serial vs) ≡ false → share_kind vs ≡ true → share_kind (with_next content vs) ≡ true
+kind_next content [] same left h = cc
+kind_next content (v ∷ vs) same left h = all_next (has_kind (content_kind v.content)) content (v ∷ vs) (λ s. same) left h
 
 -- the current version keeps the code
 pub code_kept : (content : Content) (vs : List Version) → ends_updates (last_serial vs) ≡ false → option_map code_of (last_serial (with_next content vs)) ≡ option_map code_of (last_serial vs)

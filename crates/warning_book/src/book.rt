@@ -1,6 +1,6 @@
 //! The book of warnings.
 
-use crate::checks::{are_pages, each_once, is_period};
+use crate::checks::each_once;
 use crate::content::Content;
 use crate::notice::Notice;
 use crate::refusal::{Limit, Refusal};
@@ -40,7 +40,7 @@ impl Book {
     ghost use Rattle.common.specs.Checks.{first_refusal};
     ghost use Rattle.common.specs.Order.{is_ascending};
     ghost use Rattle.warning_book.specs.Checks.{issue_checks, update_checks, widen_checks, narrow_checks, stop_checks, forget_checks};
-    ghost use Rattle.warning_book.specs.Sound.{was_issued, has_areas, has_contents, has_versions, has_serials, has_one_code, have_own_codes};
+    ghost use Rattle.warning_book.specs.Sound.{was_issued, has_areas, has_contents, has_versions, has_serials, has_one_code, has_one_kind, have_own_codes};
     ghost use Rattle.warning_book.specs.declared.refusal.Refusal.TheVariants as refusal;
 
     /// A book without warnings. What it will need is taken from the allocator.
@@ -76,10 +76,10 @@ impl Book {
         if !each_once(areas) {
             return Err(Refusal::AreaThere);
         }
-        if !are_pages(notice.content.pages.as_slice()) {
+        if !notice.content.have_pages() {
             return Err(Refusal::BadPages);
         }
-        if !is_period(notice.content.period) {
+        if !notice.content.has_period() {
             return Err(Refusal::BadPeriod);
         }
         if self.warnings.len() >= 256 {
@@ -143,8 +143,8 @@ impl Book {
 
     /// Gives a warning a new version, and answers its serial number.
     ///
-    /// Refused as `NoSuchWarning`, `NotActive`, `BadPages`, `BadPeriod` or `UpdatesExhausted`, the first that holds,
-    /// else as `Memory` where it is out of memory; an `Err` leaves the book as it was.
+    /// Refused as `NoSuchWarning`, `NotActive`, `BadPages`, `BadPeriod`, `WrongKind` where the warning is of the other
+    /// kind, or `UpdatesExhausted`, the first that holds, else as `Memory` where it is out of memory; an `Err` leaves the book as it was.
     pub fn update(&mut self, number: WarningId, content: &Content) -> Result<Serial, Refusal>
         ensures accepted { OnOk result (first_refusal (update_checks self.old number content.now) ≡ None) }
         ensures serial { IfOk result (λ s. next_serial self.old number ≡ Some s) }
@@ -371,6 +371,7 @@ impl Book {
         ensures versions { list_all has_versions self.now.warnings ≡ true }
         ensures serials { list_all has_serials self.now.warnings ≡ true }
         ensures codes { list_all has_one_code self.now.warnings ≡ true }
+        ensures kinds { list_all has_one_kind self.now.warnings ≡ true }
         ensures own_codes { have_own_codes self.now.warnings ≡ true }
     {
         let _ = &self.alloc;

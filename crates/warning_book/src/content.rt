@@ -1,42 +1,69 @@
 //! What a version of a warning broadcasts.
 
 ghost use Rattle.std.specs.Prelude.{◌≡◌, ◌↔◌, IsTrue, IfOk};
+ghost use Rattle.warning_book.specs.Content.{content_kind, have_pages, has_period};
 
-use crate::category::Category;
-use crate::content_pages::ContentPages;
+use crate::cbs_content::CbsContent;
+use crate::checks::{are_pages, is_period};
+use crate::emergency_content::EmergencyContent;
+use crate::kind::Kind;
 use std::alloc::{AllocError, Global};
 
-/// What a version of a warning broadcasts (TS 48.049, 8.2.14, 8.2.7, 8.2.8 and 8.2.3).
+/// What a version of a warning broadcasts.
 #[derive(Debug, PartialEq, Eq, Drop)]
-pub struct Content {
-    /// The data coding scheme, as coded by TS 23.038.
-    pub dcs: u8,
-    pub category: Category,
-    /// The repetition period, in units of 1.883 s: 1 to 1,024.
-    pub period: u16,
-    /// 1 to 15 pages of 1 to 82 octets.
-    pub pages: ContentPages,
+pub enum Content {
+    Cbs(CbsContent),
+    Emergency(EmergencyContent),
 }
 
 impl Content {
+    /// The kind of warning that it is for.
+    pub fn kind(&self) -> Kind
+        ensures { result ≡ content_kind self.now }
+    {
+        match self {
+            Content::Cbs(_) => Kind::Cbs,
+            Content::Emergency(_) => Kind::Emergency,
+        }
+    }
+
+    /// Whether there are 1 to 15 pages of 1 to 82 octets, where it has pages.
+    pub(crate) fn have_pages(&self) -> bool
+        ensures { result ≡ have_pages self.now }
+    {
+        match self {
+            Content::Cbs(content) => are_pages(content.pages.as_slice()),
+            Content::Emergency(_) => true,
+        }
+    }
+
+    /// Whether the repetition period is 1 to 1,024, where it has one.
+    pub(crate) fn has_period(&self) -> bool
+        ensures { result ≡ has_period self.now }
+    {
+        match self {
+            Content::Cbs(content) => is_period(content.period),
+            Content::Emergency(_) => true,
+        }
+    }
+
     /// The same content in memory of its own.
     pub fn copied(&self, alloc: Global) -> Result<Content, AllocError>
         ensures { IfOk result (λ copy. copy ≡ self.now) }
     {
-        Ok(Content {
-            dcs: self.dcs,
-            category: self.category,
-            period: self.period,
-            pages: self.pages.copied(alloc)?,
+        Ok(match self {
+            Content::Cbs(content) => Content::Cbs(content.copied(alloc)?),
+            Content::Emergency(content) => Content::Emergency(*content),
         })
     }
 
     pub fn same(&self, other: &Content) -> bool
         ensures { IsTrue result ↔ (self.now ≡ other.now) }
     {
-        self.dcs == other.dcs
-            && self.category == other.category
-            && self.period == other.period
-            && self.pages.same(&other.pages)
+        match (self, other) {
+            (Content::Cbs(a), Content::Cbs(b)) => a.same(b),
+            (Content::Emergency(a), Content::Emergency(b)) => a.same(b),
+            _ => false,
+        }
     }
 }

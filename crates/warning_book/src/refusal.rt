@@ -29,6 +29,7 @@ pub enum Refusal {
     LastArea,
     BadPages,
     BadPeriod,
+    WrongKind,
     UpdatesExhausted,
     Limit { which: Limit },
     Memory,
@@ -47,6 +48,7 @@ impl Refusal {
             Refusal::LastArea => "the warning names no other area",
             Refusal::BadPages => "a content has 1 to 15 pages of 1 to 82 octets",
             Refusal::BadPeriod => "a repetition period is 1 to 1,024",
+            Refusal::WrongKind => "the warning is of the other kind",
             Refusal::UpdatesExhausted => "the warning was updated fifteen times",
             Refusal::Limit {
                 which: Limit::Warnings,

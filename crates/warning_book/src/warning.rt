@@ -1,5 +1,6 @@
 //! A warning in the book.
 
+use crate::kind::Kind;
 use crate::version::Version;
 use crate::versions::Versions;
 use crate::warning_areas::WarningAreas;
@@ -21,7 +22,7 @@ impl Warning {
     ghost use Rattle.std.specs.Prelude.{◌≡◌, Some, true, false, IfSome, IfNone};
     ghost use Rattle.std.specs.Option.{option_map};
     ghost use Rattle.serials.specs.Serials.{next_of};
-    ghost use Rattle.warning_book.specs.Book.{current_of, is_exhausted};
+    ghost use Rattle.warning_book.specs.Book.{current_of, is_exhausted, kind_of};
 
     pub fn number(&self) -> WarningId
         ensures { result ≡ self.now.number }
@@ -41,6 +42,16 @@ impl Warning {
         ensures { result.now ≡ self.now.versions }
     {
         self.versions.as_slice()
+    }
+
+    /// The kind of its versions.
+    pub fn kind(&self) -> Kind
+        ensures { result ≡ kind_of self.now }
+    {
+        match self.versions.as_slice().first() {
+            Some(version) => version.content.kind(),
+            None => Kind::Cbs,
+        }
     }
 
     /// The serial number of the current version.

@@ -4,7 +4,6 @@ ghost use Rattle.std.specs.Prelude.{◌≡◌, Some, None, IfErr, OnOk};
 ghost use Rattle.common.specs.Checks.{first_refusal};
 ghost use Rattle.warning_book.specs.Checks.{warning_update_checks, warning_widen_checks, warning_narrow_checks, warning_stop_checks, warning_forget_checks};
 
-use crate::checks::{are_pages, is_period};
 use crate::content::Content;
 use crate::refusal::{Limit, Refusal};
 use crate::warning::Warning;
@@ -18,11 +17,14 @@ pub(crate) fn check_update(warning: &Warning, content: &Content) -> Result<(), R
     if !warning.active {
         return Err(Refusal::NotActive);
     }
-    if !are_pages(content.pages.as_slice()) {
+    if !content.have_pages() {
         return Err(Refusal::BadPages);
     }
-    if !is_period(content.period) {
+    if !content.has_period() {
         return Err(Refusal::BadPeriod);
+    }
+    if content.kind() != warning.kind() {
+        return Err(Refusal::WrongKind);
     }
     if warning.is_exhausted() {
         return Err(Refusal::UpdatesExhausted);

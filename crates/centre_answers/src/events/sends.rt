@@ -1,7 +1,6 @@
 //! Sending of orders.
 
 ghost use Rattle.std.specs.Prelude.{◌≡◌, IfSome};
-ghost use Rattle.std.specs.Option.{option_copied};
 ghost use Rattle.warning_book.specs.Book.{content_of};
 ghost use Rattle.centre_events.specs.OrderMessage.{IsCarriable};
 ghost use Rattle.order_maker.specs.Pending.{IsListOf};
@@ -11,7 +10,6 @@ ghost use Rattle.centre_past.specs.Legal.{Legal};
 ghost use Rattle.centre_events.specs.Past.{Past};
 ghost use Rattle.centre_events.specs.Pending.{all_actions};
 ghost use Rattle.centre_events.specs.Settings.{Settings};
-ghost use Rattle.centre_answers.specs.Sending.{is_carriable};
 ghost use Rattle.centre_events.specs.Verdict.{send, send_answer};
 ghost use Rattle.centre_events.specs.Warnings.{book_of};
 
@@ -23,26 +21,19 @@ use centre_events::order_message::message_of;
 use centre_events::refusal::Refusal;
 use centre_past::flights::flight_in;
 use centre_past::kept::Kept;
-use order_maker::{Order, OrderKind};
+use order_maker::Order;
 use std::alloc::Global;
-use warning_book::{Book, Content};
-
-/// Whether an order of that kind can be carried: a KILL needs no content.
-fn is_carriable(kind: OrderKind, content: Option<&Content>) -> bool
-    ensures { result ≡ is_carriable kind (option_copied content.entry) }
-{
-    kind == OrderKind::Kill || content.is_some()
-}
+use warning_book::Book;
 
 /// What is answered where that is the first pending order. In every legal past it can be carried.
 fn send_answer(alloc: Global, book: &Book, order: Option<Order>) -> Verdict
-    ensures { (past : Past) → book.now ≡ book_of past → IfSome order (λ o. IsCarriable o.kind (content_of o.message_id o.serial book.now.warnings)) → Gives (send_answer past order) result }
+    ensures { (past : Past) → book.now ≡ book_of past → IfSome order (λ o. IsCarriable (content_of o.message_id o.serial book.now.warnings)) → Gives (send_answer past order) result }
 {
     let Some(order) = order else {
         return Err(Refusal::NothingPending);
     };
     let content = book.content_of(order.message_id, order.serial);
-    if !is_carriable(order.kind, content) {
+    if content.is_none() {
         return Err(Refusal::NothingPending);
     }
     let message = message_of(alloc, &order, content)?;
