@@ -1,5 +1,5 @@
 -- How a simulated BSC answers an order or a query (3GPP TS 48.049, 8.1.3).
-use Rattle.std.specs.Prelude.{ℕ, nat_le, Bool, true, ◌&&◌, List, [], ◌∷◌, ◌++◌, length, map, Option, Some, None, if◌then◌else◌}
+use Rattle.std.specs.Prelude.{ℕ, nat_le, Bool, true, false, ◌&&◌, List, [], ◌∷◌, ◌++◌, length, map, Option, Some, None, if◌then◌else◌}
 use Rattle.std.specs.List.{flat_map, list_any}
 use Rattle.common.specs.Cell.{cell_eq}
 use Rattle.common.specs.declared.cell.Cell.{Cell}
@@ -177,6 +177,13 @@ settled b chosen r t = record { reply = reply_of chosen r t.done t.failed; after
 abbrev pub carried : BscState → Chosen → Request → Identifications → Answered
 carried b chosen r cells =
     if is_taken cells then settled b chosen r (tally_of b.own chosen r b.keys (cells_named cells.ids)) else record { reply = not_understood; after = b }
+
+-- what the message asks is carried out, cell by cell
+abbrev pub is_understood : Message → Bool
+is_understood (message.WriteReplace m) = is_taken m.cells
+is_understood (message.Kill m) = is_taken m.cells
+is_understood (message.StatusQuery m) = is_taken m.cells
+is_understood other = false
 
 abbrev pub answered : BscState → Chosen → Message → Answered
 answered b chosen (message.WriteReplace m) = carried b chosen (record { message_id = m.message_id; serial = m.serial; task = Write m.old }) m.cells

@@ -1,11 +1,11 @@
 //! A simulated base station controller.
 
-ghost use Rattle.std.specs.Prelude.{◌≡◌, ◌≤◌, [], length, None, IfOk, OnOk, OnErr, if◌then◌else◌};
+ghost use Rattle.std.specs.Prelude.{◌≡◌, ◌≤◌, true, [], length, None, IfOk, OnOk, OnErr, if◌then◌else◌};
 ghost use Rattle.std.specs.List.{list_any};
 ghost use Rattle.common.specs.Cell.{cell_eq};
 ghost use Rattle.common.specs.declared.cell.Cell.{Cell as ACell};
 ghost use Rattle.cbsp_messages.specs.Written.{Fits};
-ghost use Rattle.bsc_sim.specs.Answering.{answered, carried, is_own, is_taken};
+ghost use Rattle.bsc_sim.specs.Answering.{answered, carried, is_own, is_taken, is_understood};
 ghost use Rattle.bsc_sim.specs.Bsc.{emptied};
 ghost use Rattle.bsc_sim.specs.Indications.{fail_message, restart_message};
 
@@ -89,11 +89,12 @@ impl Bsc {
     /// list. Everything else is answered by an ERROR INDICATION with cause 4. Each answer names the basic channel.
     ///
     /// What is done in one cell counts for the cells after it, so a cell may be named twice. An `Err` leaves the table
-    /// as it was.
+    /// as it was. It comes of a message that is taken alone: an ERROR INDICATION takes no memory.
     pub fn answer(&mut self, message: &Message, choices: &Choices) -> Result<Message, AllocError>
         ensures reply { IfOk result (λ reply. reply ≡ (answered self.old choices.now message.now).reply) }
         ensures table { OnOk result (self.new ≡ (answered self.old choices.now message.now).after) }
         ensures unchanged { OnErr result (self.new ≡ self.old) }
+        ensures starved { OnErr result (is_understood message.now ≡ true) }
         ensures fits { IfOk result (λ reply. Fits reply) }
     {
         match message {
@@ -137,6 +138,7 @@ impl Bsc {
         ensures reply { IfOk result (λ reply. reply ≡ (carried self.old choices.now request cells.now).reply) }
         ensures table { OnOk result (self.new ≡ (carried self.old choices.now request cells.now).after) }
         ensures unchanged { OnErr result (self.new ≡ self.old) }
+        ensures starved { OnErr result (is_taken cells.now ≡ true) }
     {
         if !is_taken(cells) {
             return Ok(not_understood());
@@ -173,11 +175,11 @@ impl Bsc {
         Ok(message)
     }
 
-    /// A FAILURE of these cells with the cause, for broadcast message type 0. The table stays as it is.
+    /// A FAILURE of these cells with the cause, for broadcast message type 0. The table stays as it is. Each cell takes six
+    /// octets, so the message fits, and can be written, where they are at most 10,922.
     pub fn fail(&self, cells: &[Cell], cause: Cause) -> Result<Message, AllocError>
-        requires { length cells.now ≤ 9000 }
         ensures message { IfOk result (λ m. m ≡ fail_message cells.now cause) }
-        ensures fits { IfOk result (λ m. Fits m) }
+        ensures fits { IfOk result (λ m. length cells.now ≤ 10922 → Fits m) }
     {
         fail_message(self.alloc, cells, cause)
     }
