@@ -127,7 +127,7 @@ fn shift_numbers(
 }
 
 impl KeptTables {
-    ghost use Rattle.std.specs.Prelude.{◌≡◌, ◌≤◌, ◌+◌, ◌++◌, ◌∷◌, [], ◌&&◌, ℕ, List, true, false, if◌then◌else◌, length, map, nat_eq, take, OnOk, OnErr, IfOk};
+    ghost use Rattle.std.specs.Prelude.{◌≡◌, ◌≤◌, ◌+◌, ◌++◌, ◌∷◌, [], ◌&&◌, ℕ, List, true, false, not, if◌then◌else◌, length, ltb, map, nat_eq, take, OnOk, OnErr, IfOk};
     ghost use Rattle.std.specs.List.{list_any};
     ghost use Rattle.std.specs.Option.{is_some};
     ghost use Rattle.common.specs.Cell.{cell_eq, cell_lt};
@@ -137,9 +137,13 @@ impl KeptTables {
     ghost use Rattle.kept_tables.specs.Changes.{Begins, IsNext, change_of, mixed};
     ghost use Rattle.kept_tables.specs.Consistent.{Consistent};
     ghost use Rattle.kept_tables.specs.Tables.{HasPart, IsEmpty, SameTables, Shifted};
+    ghost use Rattle.mirror.specs.Blank.{is_blank};
+    ghost use Rattle.mirror.specs.Held.{is_held_line};
+    ghost use Rattle.mirror.specs.Index.{key_before};
     ghost use Rattle.mirror.specs.Known.{is_known, is_named};
-    ghost use Rattle.mirror.specs.OnAir.{AreOnAir, line_count};
-    ghost use Rattle.mirror.specs.Table.{line_at, down_at};
+    ghost use Rattle.mirror.specs.OnAir.{AreOnAir, line_count, read_count};
+    ghost use Rattle.mirror.specs.Table.{counted_all, line_at, down_at};
+    ghost use Rattle.mirror.specs.declared.line_key.LineKey.{LineKey};
     ghost use Rattle.order_maker.specs.Grouping.{in_order, grouped, first};
     ghost use Rattle.order_maker.specs.Pending.{IsListOf};
     ghost use Rattle.order_maker.specs.declared.action.Action.{Action};
@@ -162,7 +166,8 @@ impl KeptTables {
         self.lines.meter()
     }
 
-    /// What is kept of the lines, to ask which cells are down and known: no line can be read through it.
+    /// What is kept of the lines, to ask which cells are down and known: what tells of one line changes the meter, so that no
+    /// line can be read through it, nor be told of.
     pub fn lines(&self) -> &LineTable
         ensures { result.now ≡ self.now.lines }
     {
@@ -199,8 +204,60 @@ impl KeptTables {
         ensures downs { self.new.lines.downs ≡ self.old.lines.downs }
         ensures meter { self.new.lines.meter ≤ self.old.lines.meter + line_count self.old.lines b w }
         ensures least { self.old.lines.meter ≤ self.new.lines.meter }
+        ensures counted { IfOk result (λ cells. self.new.lines.meter ≡ counted_all (read_count self.old.lines b w after most cells) self.old.lines.meter) }
     {
         self.lines.cells_on_air(b, w, serial, after, most)
+    }
+
+    /// The numbers of the warnings whose line in the cell at the BSC isn't blank, in ascending order. Each of these lines is
+    /// counted; none where memory runs out.
+    pub fn warnings_at(&mut self, b: BscId, c: Cell) -> Result<Vec<WarningId>, AllocError>
+        ensures order { IfOk result (λ ws. is_ascending ltb ws.items ≡ true) }
+        ensures which { IfOk result (λ ws. (w : ℕ) → list_any (nat_eq w) ws.items ≡ not (is_blank (line_at self.old.lines b c w))) }
+        ensures few { IfOk result (λ ws. (ns : List ℕ) → ((w : ℕ) → is_blank (line_at self.old.lines b c w) ≡ false → list_any (nat_eq w) ns ≡ true) → length ws.items ≤ length ns) }
+        ensures same { SameTables self.old self.new }
+        ensures lines { self.new.lines.lines ≡ self.old.lines.lines }
+        ensures downs { self.new.lines.downs ≡ self.old.lines.downs }
+        ensures meter { IfOk result (λ ws. self.new.lines.meter ≡ counted_all (length ws.items) self.old.lines.meter) }
+        ensures untold { OnErr result (self.new.lines.meter ≡ self.old.lines.meter) }
+        ensures most { (ns : List ℕ) → ((w : ℕ) → is_blank (line_at self.old.lines b c w) ≡ false → list_any (nat_eq w) ns ≡ true) → self.new.lines.meter ≤ self.old.lines.meter + length ns }
+        ensures least { self.old.lines.meter ≤ self.new.lines.meter }
+    {
+        self.lines.warnings_at(b, c)
+    }
+
+    /// The numbers of the warnings whose line in the cell at the BSC is held, in ascending order: a version of it has a hold.
+    /// Each of these lines is counted; none where memory runs out.
+    pub fn held_at(&mut self, b: BscId, c: Cell) -> Result<Vec<WarningId>, AllocError>
+        ensures order { IfOk result (λ ws. is_ascending ltb ws.items ≡ true) }
+        ensures which { IfOk result (λ ws. (w : ℕ) → list_any (nat_eq w) ws.items ≡ is_held_line (line_at self.old.lines b c w)) }
+        ensures few { IfOk result (λ ws. (ns : List ℕ) → ((w : ℕ) → is_blank (line_at self.old.lines b c w) ≡ false → list_any (nat_eq w) ns ≡ true) → length ws.items ≤ length ns) }
+        ensures same { SameTables self.old self.new }
+        ensures lines { self.new.lines.lines ≡ self.old.lines.lines }
+        ensures downs { self.new.lines.downs ≡ self.old.lines.downs }
+        ensures meter { IfOk result (λ ws. self.new.lines.meter ≡ counted_all (length ws.items) self.old.lines.meter) }
+        ensures untold { OnErr result (self.new.lines.meter ≡ self.old.lines.meter) }
+        ensures most { (ns : List ℕ) → ((w : ℕ) → is_blank (line_at self.old.lines b c w) ≡ false → list_any (nat_eq w) ns ≡ true) → self.new.lines.meter ≤ self.old.lines.meter + length ns }
+        ensures least { self.old.lines.meter ≤ self.new.lines.meter }
+    {
+        self.lines.held_at(b, c)
+    }
+
+    /// The lines of the warning that aren't blank, by BSC and cell, in ascending order. Each is counted; none where memory
+    /// runs out.
+    pub fn places_of(&mut self, w: WarningId) -> Result<Vec<LineKey>, AllocError>
+        ensures which { IfOk result (λ keys. (b : ℕ) (c : Cell) (v : ℕ) → list_any (λ k. is_key k b c v) keys.items ≡ (nat_eq w v && not (is_blank (line_at self.old.lines b c v)))) }
+        ensures order { IfOk result (λ keys. is_ascending key_before keys.items ≡ true) }
+        ensures few { IfOk result (λ keys. (ks : List LineKey) → ((b : ℕ) (c : Cell) → is_blank (line_at self.old.lines b c w) ≡ false → list_any (λ k. is_key k b c w) ks ≡ true) → length keys.items ≤ length ks) }
+        ensures same { SameTables self.old self.new }
+        ensures lines { self.new.lines.lines ≡ self.old.lines.lines }
+        ensures downs { self.new.lines.downs ≡ self.old.lines.downs }
+        ensures meter { IfOk result (λ keys. self.new.lines.meter ≡ counted_all (length keys.items) self.old.lines.meter) }
+        ensures untold { OnErr result (self.new.lines.meter ≡ self.old.lines.meter) }
+        ensures most { IfOk result (λ keys. self.new.lines.meter ≤ self.old.lines.meter + length keys.items) }
+        ensures least { self.old.lines.meter ≤ self.new.lines.meter }
+    {
+        self.lines.places_of(w)
     }
 
     /// Whether the cell is down at the BSC (TS 48.049, 8.1.3). It takes no memory.

@@ -1,6 +1,6 @@
 -- What a table of lines holds: a line for each BSC, cell and warning, which cells are down at each BSC, and how often
 -- lines were read or set.
-use Rattle.std.specs.Prelude.{ℕ, Bool, ◌+◌, ◌-◌, ◌^◌, ◌&&◌, List, nat_eq, if◌then◌else◌}
+use Rattle.std.specs.Prelude.{ℕ, Bool, ◌+◌, ◌-◌, ◌^◌, ◌&&◌, List, nat_eq, min, if◌then◌else◌}
 use Rattle.std.specs.List.{list_any}
 use Rattle.std.specs.Map.{lookup}
 use Rattle.std.specs.Option.{unwrap_or}
@@ -48,3 +48,7 @@ down_at t b c = list_any (is_that_place b c) t.downs
 -- one access more; the greatest value of 64 bits stays
 abbrev pub counted : ℕ → ℕ
 counted n = if nat_eq n (2 ^ 64 - 1) then n else n + 1
+
+-- so many accesses more, each counted; the greatest value of 64 bits stays
+abbrev pub counted_all : ℕ → ℕ → ℕ
+counted_all k n = min (n + k) (2 ^ 64 - 1)

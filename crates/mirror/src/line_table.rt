@@ -1,6 +1,6 @@
 //! The lines of all BSCs, cells and warnings, and which cells are down.
 
-ghost use Rattle.std.specs.Prelude.{◌≡◌, ◌≤◌, ◌<◌, ◌+◌, ◌-◌, ◌^◌, ◌&&◌, ◌||◌, ℕ, true, false, not, filter, if◌then◌else◌, nat_eq, ltb, List, length, take, OnOk, OnErr, IfOk};
+ghost use Rattle.std.specs.Prelude.{◌≡◌, ◌≤◌, ◌<◌, ◌+◌, ◌&&◌, ◌||◌, ℕ, true, false, not, filter, if◌then◌else◌, nat_eq, ltb, List, length, take, OnOk, OnErr, IfOk};
 ghost use Rattle.std.specs.List.{list_any};
 ghost use Rattle.common.specs.Cell.{cell_eq, cell_lt};
 ghost use Rattle.common.specs.Order.{is_ascending};
@@ -9,9 +9,9 @@ ghost use Rattle.mirror.specs.Blank.{is_blank};
 ghost use Rattle.mirror.specs.Held.{is_held_line};
 ghost use Rattle.mirror.specs.Index.{key_before};
 ghost use Rattle.mirror.specs.Line.{blank_line};
-ghost use Rattle.mirror.specs.Table.{line_at, has_line, down_at, counted, is_key};
+ghost use Rattle.mirror.specs.Table.{line_at, has_line, down_at, counted, counted_all, is_key};
 ghost use Rattle.mirror.specs.Known.{are_of_cells, is_known, is_named, warnings_at};
-ghost use Rattle.mirror.specs.OnAir.{AreOnAir, line_count};
+ghost use Rattle.mirror.specs.OnAir.{AreOnAir, line_count, read_count};
 ghost use Rattle.mirror.specs.declared.line_key.LineKey.{LineKey};
 
 use crate::cell_index::CellIndex;
@@ -38,8 +38,11 @@ use warning_book::WarningId;
 /// Room for as many warnings as most cells have.
 const FEW: usize = 16;
 
-/// A line for each BSC, cell and warning, and whether each cell is down at each BSC. Lines are read and set by
-/// `read_line`, `cells_on_air` and `set_line` alone, and each line that is read or set is counted.
+/// A line for each BSC, cell and warning, and whether each cell is down at each BSC. Each line that is read or set is
+/// counted; to be told that something is kept of a line is to read it. So the calls that read or set lines take
+/// `&mut self`: `read_line`, `set_line`, `cells_on_air`, `warnings_at`, `held_at` and `places_of`. No other call tells
+/// anything of one line: `known_cells` and `cells_named` tell of a cell whether it is known, by its registration, by a
+/// report or by its lines.
 #[derive(Drop)]
 pub struct LineTable {
     alloc: Global,
@@ -109,6 +112,13 @@ impl LineTable {
         self.meter = self.meter.saturating_add(1);
     }
 
+    /// Counts the lines of which something is told.
+    fn count_all(&mut self, told: usize)
+        ensures { self.new ≡ record self.old { meter = counted_all told self.old.meter } }
+    {
+        self.meter = self.meter.saturating_add(told as u64);
+    }
+
     /// The line of that BSC, cell and warning. It takes no memory, and is counted.
     pub fn read_line(&mut self, key: LineKey) -> Line
         ensures line { result ≡ line_at self.old key.bsc key.cell key.warning }
@@ -176,20 +186,28 @@ impl LineTable {
         }
     }
 
-    /// The lines of the warning that aren't blank, by BSC and cell, in ascending order. No line is read, and none is
-    /// counted.
-    pub fn places_of(&self, w: WarningId) -> Result<Vec<LineKey>, AllocError>
-        ensures which { IfOk result (λ keys. (b : ℕ) (c : Cell) (v : ℕ) → list_any (λ k. is_key k b c v) keys.items ≡ (nat_eq w v && not (is_blank (line_at self.now b c v)))) }
+    /// The lines of the warning that aren't blank, by BSC and cell, in ascending order. Each is counted; none where memory
+    /// runs out.
+    pub fn places_of(&mut self, w: WarningId) -> Result<Vec<LineKey>, AllocError>
+        ensures which { IfOk result (λ keys. (b : ℕ) (c : Cell) (v : ℕ) → list_any (λ k. is_key k b c v) keys.items ≡ (nat_eq w v && not (is_blank (line_at self.old b c v)))) }
         ensures order { IfOk result (λ keys. is_ascending key_before keys.items ≡ true) }
-        ensures few { IfOk result (λ keys. (ks : List LineKey) → ((b : ℕ) (c : Cell) → is_blank (line_at self.now b c w) ≡ false → list_any (λ k. is_key k b c w) ks ≡ true) → length keys.items ≤ length ks) }
+        ensures few { IfOk result (λ keys. (ks : List LineKey) → ((b : ℕ) (c : Cell) → is_blank (line_at self.old b c w) ≡ false → list_any (λ k. is_key k b c w) ks ≡ true) → length keys.items ≤ length ks) }
+        ensures lines { self.new.lines ≡ self.old.lines }
+        ensures downs { self.new.downs ≡ self.old.downs }
+        ensures meter { IfOk result (λ keys. self.new.meter ≡ counted_all (length keys.items) self.old.meter) }
+        ensures untold { OnErr result (self.new.meter ≡ self.old.meter) }
+        ensures most { IfOk result (λ keys. self.new.meter ≤ self.old.meter + length keys.items) }
+        ensures least { self.old.meter ≤ self.new.meter }
     {
         let keys = keys_of(self.alloc, &self.lines, w)?;
+        self.count_all(keys.len());
         Ok(keys)
     }
 
     /// The first `most` cells at the BSC, in ascending order and after the given one, in which the version of that serial
-    /// number of the warning is on air. Each line of the warning at the BSC that is read is counted. Memory is taken only
-    /// for a cell that is found.
+    /// number of the warning is on air. Each line of the warning at the BSC that is read is counted: those of all cells after
+    /// the given one, or, once `most` cells are found, those up to the last of these. Memory is taken only for a cell that is
+    /// found.
     pub fn cells_on_air(
         &mut self,
         b: BscId,
@@ -204,7 +222,7 @@ impl LineTable {
         ensures downs { self.new.downs ≡ self.old.downs }
         ensures meter { self.new.meter ≤ self.old.meter + line_count self.old b w }
         ensures least { self.old.meter ≤ self.new.meter }
-        ensures counted { IfOk result (λ cells. self.new.meter < 2 ^ 64 - 1 → self.old.meter + length cells ≤ self.new.meter) }
+        ensures counted { IfOk result (λ cells. self.new.meter ≡ counted_all (read_count self.old b w after most cells) self.old.meter) }
     {
         let slots = later(&self.lines, b, w, after);
         let version = VersionAt {
@@ -231,32 +249,46 @@ impl LineTable {
         self.downs.is_down(b, c)
     }
 
-    /// The numbers of the warnings whose line in the cell at the BSC isn't blank, in ascending order. No line is read, and
-    /// none is counted.
-    pub fn warnings_at(&self, b: BscId, c: Cell) -> Result<Vec<WarningId>, AllocError>
-        ensures warnings { IfOk result (λ ws. ws.items ≡ warnings_at self.now b c) }
+    /// The numbers of the warnings whose line in the cell at the BSC isn't blank, in ascending order. Each of these lines is
+    /// counted; none where memory runs out.
+    pub fn warnings_at(&mut self, b: BscId, c: Cell) -> Result<Vec<WarningId>, AllocError>
+        ensures warnings { IfOk result (λ ws. ws.items ≡ warnings_at self.old b c) }
         ensures order { IfOk result (λ ws. is_ascending ltb ws.items ≡ true) }
-        ensures which { IfOk result (λ ws. (w : ℕ) → list_any (nat_eq w) ws.items ≡ not (is_blank (line_at self.now b c w))) }
-        ensures few { IfOk result (λ ws. (ns : List ℕ) → ((w : ℕ) → is_blank (line_at self.now b c w) ≡ false → list_any (nat_eq w) ns ≡ true) → length ws.items ≤ length ns) }
+        ensures which { IfOk result (λ ws. (w : ℕ) → list_any (nat_eq w) ws.items ≡ not (is_blank (line_at self.old b c w))) }
+        ensures few { IfOk result (λ ws. (ns : List ℕ) → ((w : ℕ) → is_blank (line_at self.old b c w) ≡ false → list_any (nat_eq w) ns ≡ true) → length ws.items ≤ length ns) }
+        ensures lines { self.new.lines ≡ self.old.lines }
+        ensures downs { self.new.downs ≡ self.old.downs }
+        ensures meter { IfOk result (λ ws. self.new.meter ≡ counted_all (length ws.items) self.old.meter) }
+        ensures untold { OnErr result (self.new.meter ≡ self.old.meter) }
+        ensures most { (ns : List ℕ) → ((w : ℕ) → is_blank (line_at self.old b c w) ≡ false → list_any (nat_eq w) ns ≡ true) → self.new.meter ≤ self.old.meter + length ns }
+        ensures least { self.old.meter ≤ self.new.meter }
     {
         self.lines.tell_order();
         let mut warnings = Vec::with_capacity(self.alloc, FEW)?;
         add_warnings(self.index.slots(), b, c, false, &mut warnings)?;
+        self.count_all(warnings.len());
         Ok(warnings)
     }
 
     /// The numbers of the warnings whose line in the cell at the BSC is held, in ascending order: a version of it has a hold.
-    /// No line is read and none is counted.
-    pub fn held_at(&self, b: BscId, c: Cell) -> Result<Vec<WarningId>, AllocError>
-        ensures held { IfOk result (λ ws. ws.items ≡ filter (λ w. is_held_line (line_at self.now b c w)) (warnings_at self.now b c)) }
+    /// Each of these lines is counted; none where memory runs out.
+    pub fn held_at(&mut self, b: BscId, c: Cell) -> Result<Vec<WarningId>, AllocError>
+        ensures held { IfOk result (λ ws. ws.items ≡ filter (λ w. is_held_line (line_at self.old b c w)) (warnings_at self.old b c)) }
         ensures order { IfOk result (λ ws. is_ascending ltb ws.items ≡ true) }
-        ensures which { IfOk result (λ ws. (w : ℕ) → list_any (nat_eq w) ws.items ≡ is_held_line (line_at self.now b c w)) }
-        ensures few { IfOk result (λ ws. (ns : List ℕ) → ((w : ℕ) → is_blank (line_at self.now b c w) ≡ false → list_any (nat_eq w) ns ≡ true) → length ws.items ≤ length ns) }
+        ensures which { IfOk result (λ ws. (w : ℕ) → list_any (nat_eq w) ws.items ≡ is_held_line (line_at self.old b c w)) }
+        ensures few { IfOk result (λ ws. (ns : List ℕ) → ((w : ℕ) → is_blank (line_at self.old b c w) ≡ false → list_any (nat_eq w) ns ≡ true) → length ws.items ≤ length ns) }
+        ensures lines { self.new.lines ≡ self.old.lines }
+        ensures downs { self.new.downs ≡ self.old.downs }
+        ensures meter { IfOk result (λ ws. self.new.meter ≡ counted_all (length ws.items) self.old.meter) }
+        ensures untold { OnErr result (self.new.meter ≡ self.old.meter) }
+        ensures most { (ns : List ℕ) → ((w : ℕ) → is_blank (line_at self.old b c w) ≡ false → list_any (nat_eq w) ns ≡ true) → self.new.meter ≤ self.old.meter + length ns }
+        ensures least { self.old.meter ≤ self.new.meter }
     {
         self.lines.tell_order();
-        let mut warnings = Vec::new(self.alloc);
-        add_warnings(self.index.slots(), b, c, true, &mut warnings)?;
-        Ok(warnings)
+        let mut held = Vec::new(self.alloc);
+        add_warnings(self.index.slots(), b, c, true, &mut held)?;
+        self.count_all(held.len());
+        Ok(held)
     }
 
     /// Sets whether the cell is down at the BSC. Where memory runs out nothing changes. Memory is taken only for a
