@@ -16,12 +16,15 @@ use std::process::ExitCode;
 use std::rt::Files;
 
 /// Scripts as an operator writes them: NAME.txt, with its answers in NAME.answers.
-const SCRIPTS: [&str; 7] = [
+const SCRIPTS: [&str; 10] = [
+    "broadcasts-told",
     "day-of-failures",
     "first-warning",
     "flood-two-controllers",
     "link-lost",
     "link-up-again",
+    "replace-lost",
+    "thousand-cells",
     "warning-corrected",
     "wrong-input",
 ];
