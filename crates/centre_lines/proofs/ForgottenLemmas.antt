@@ -1,5 +1,5 @@
 -- Before a Forget the lines of its warning that aren't blank are read, and no others.
-use Rattle.std.proofs.Common.{◌≡◌, ℕ, ◌+◌, ◌≤◌, Bool, true, false, ◌&&◌, ◌||◌, not, nat_eq, List, [], ◌∷◌, ◌++◌, Ok, cond, length, map, refl, sym, ◌∙◌, ap, subst, arith}
+use Rattle.std.proofs.Common.{◌≡◌, ℕ, ◌+◌, ◌*◌, ◌≤◌, Bool, true, false, ◌&&◌, ◌||◌, not, nat_eq, List, [], ◌∷◌, ◌++◌, Ok, cond, length, map, refl, sym, ◌∙◌, ap, subst, arith}
 use Rattle.std.specs.Prelude.{if◌then◌else◌}
 use Rattle.std.specs.List.{flat_map, list_any}
 use Rattle.std.specs.Cmp.{unsigned_Decides}
@@ -73,10 +73,15 @@ forgotten_few settings past s n legal kept tells keys few =
         ((known_anywhere settings past legal).each (spot b c) ∙ kept_known settings past s legal kept tells b c n h)
         (or_left (nat_eq n n) false ((unsigned_Decides n n).1 refl))
 
--- so no more are read
-pub forgotten_read : (settings : Settings) (past : Past) (s : Kept) (n new : ℕ) → Legal settings past → IsKept past s → TellsLines s.tables.lines → (keys slice : List LineKey) → slice ≡ keys → ((ks : List LineKey) → ((b : ℕ) (c : Cell) → is_blank (line_at s.tables.lines b c n) ≡ false → list_any (λ k. is_key k b c n) ks ≡ true) → length keys ≤ length ks) → new ≤ s.tables.lines.meter + length slice → new ≤ s.tables.lines.meter + size (edit_reach past (edit.Forget n))
-forgotten_read settings past s n new legal kept tells keys slice same few read =
-    omega (arith, read, ap (λ (xs : List LineKey). length xs) same, forgotten_few settings past s n legal kept tells keys few)
+-- so no more are told of
+pub forgotten_told : (settings : Settings) (past : Past) (s : Kept) (n told : ℕ) → Legal settings past → IsKept past s → TellsLines s.tables.lines → (keys : List LineKey) → ((ks : List LineKey) → ((b : ℕ) (c : Cell) → is_blank (line_at s.tables.lines b c n) ≡ false → list_any (λ k. is_key k b c n) ks ≡ true) → length keys ≤ length ks) → told ≤ s.tables.lines.meter + length keys → told ≤ s.tables.lines.meter + 2 * size (edit_reach past (edit.Forget n))
+forgotten_told settings past s n told legal kept tells keys few most =
+    omega (arith, most, forgotten_few settings past s n legal kept tells keys few)
+
+-- and read
+pub forgotten_read : (settings : Settings) (past : Past) (s : Kept) (n told new : ℕ) → Legal settings past → IsKept past s → TellsLines s.tables.lines → (keys slice : List LineKey) → slice ≡ keys → ((ks : List LineKey) → ((b : ℕ) (c : Cell) → is_blank (line_at s.tables.lines b c n) ≡ false → list_any (λ k. is_key k b c n) ks ≡ true) → length keys ≤ length ks) → told ≤ s.tables.lines.meter + length keys → new ≤ told + length slice → new ≤ s.tables.lines.meter + 2 * size (edit_reach past (edit.Forget n))
+forgotten_read settings past s n told new legal kept tells keys slice same few most read =
+    omega (arith, read, most, ap (λ (xs : List LineKey). length xs) same, forgotten_few settings past s n legal kept tells keys few)
 
 -- the lines of the keys that do not pass a test
 failing_keys : (passes : LineKey → Bool) (line was : LineKey → Held) → ((k : LineKey) → line k ≡ was k) → (ks : List LineKey) → flat_map (unless passes line) ks ≡ map was (failing passes ks)

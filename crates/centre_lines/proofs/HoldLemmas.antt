@@ -179,9 +179,9 @@ flying_kept past fs gs (event.Send b generation) f flying h same is = is ∙ ap 
 flying_kept past fs gs (event.Ask b generation n after) f flying h same is = is ∙ ap (λ xs. flight_kept xs (event.Ask b generation n after)) same ∙ flying b
 flying_kept past fs gs (event.Report b generation message) f flying h same is = is ∙ ap (λ xs. flight_kept xs (event.Report b generation message)) same ∙ flying b
 
--- as many lines are read as an event bears on
-pub reads_within : (old new : ℕ) (ps qs : List Spot) (ns ms : List ℕ) (r : Reach) → ps ≡ qs → ns ≡ ms → new ≤ old + length ps * length ns → IsReach (record { spots = qs; warnings = ms }) r → new ≤ old + size r
+-- as many lines are read as an event bears on, and as many are told of
+pub reads_within : (old new : ℕ) (ps qs : List Spot) (ns ms : List ℕ) (r : Reach) → ps ≡ qs → ns ≡ ms → new ≤ old + 2 * (length ps * length ns) → IsReach (record { spots = qs; warnings = ms }) r → new ≤ old + 2 * size r
 reads_within old new ps qs ns ms r spots warnings within reach =
-    subst (λ n. new ≤ old + n)
+    subst (λ n. new ≤ old + 2 * n)
     (ap (λ xs. length xs * length ns) spots ∙ ap (λ xs. length qs * length xs) warnings ∙ ap (λ n. n * length ms) reach.spots_counted ∙ ap (λ n. length r.spots * n) reach.warnings_counted)
     within

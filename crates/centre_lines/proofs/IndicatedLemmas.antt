@@ -25,13 +25,15 @@ use Rattle.mirror.specs.declared.line_key.LineKey.{LineKey}
 use Rattle.warning_book.specs.Book as book
 use Rattle.warning_book.specs.Book.{has_number, number_lt, numbers, warning_of}
 use Rattle.warning_book.specs.declared.warning.Warning.{Warning}
+use Rattle.coverage_plan.specs.declared.edit.Edit.{Edit}
+use Rattle.coverage_plan.specs.declared.edit.Edit.TheVariants as edit
 use Rattle.centre_events.specs.Down.{down_mark}
 use Rattle.centre_past.specs.Facts.{facts_of}
-use Rattle.centre_lines.specs.Following.{AreInBook, Happens, bearing, changing_at, held_line, is_idle, keeps_down, leaves_blank, line_now, may_change, stays, step_of}
+use Rattle.centre_lines.specs.Following.{AreInBook, Happens, LinesAreOf, bearing, changing_at, held_line, is_idle, keeps_down, leaves_blank, leaves_cover, line_now, may_change, stays, step_of}
 use Rattle.centre_past.specs.Idle.{AsBefore}
 use Rattle.centre_past.specs.IsKept.{IsKept}
 use Rattle.centre_past.specs.Legal.{Legal}
-use Rattle.centre_past.specs.Reach.{IsReach, reach_of}
+use Rattle.centre_past.specs.Reach.{IsReach, edit_reach, reach_of}
 use Rattle.centre_events.specs.Past.{Past}
 use Rattle.centre_events.specs.Settings.{Settings}
 use Rattle.centre_events.specs.Warnings.{book_of, warnings_of}
@@ -138,8 +140,35 @@ in_book past s kept b c n h = step (warning_of (book_of past) n) refl
     step (Some w) e = ap (λ (st : book.State). list_any (nat_eq n) (numbers st.warnings)) kept.booked ∙ number_there n (warnings_of past) w e
 
 -- the same tables have the same lines
-pub in_book_as : (st : book.State) (t u : Tables) → AsBefore t u → AreInBook st t → AreInBook st u
-in_book_as st t u same h b c n blank = h b c n (ap (λ ls. is_blank (unwrap_or (lookup (is_slot b c n) ls) blank_line)) (sym same.lines) ∙ blank)
+pub lines_of_as : (ns : List ℕ) (t u : Tables) → AsBefore t u → LinesAreOf ns t → LinesAreOf ns u
+lines_of_as ns t u same h b c n blank = h b c n (ap (λ ls. is_blank (unwrap_or (lookup (is_slot b c n) ls) blank_line)) (sym same.lines) ∙ blank)
+
+-- An edit that leaves what each area covers bears on the lines of all warnings.
+
+cover_all : (past : Past) (e : Edit) → leaves_cover e ≡ true → (edit_reach past e).warnings ≡ numbers (warnings_of past)
+cover_all past (edit.RemoveBsc b) h = sym (all_listed past (book_of past) (numbers (warnings_of past)) refl refl)
+cover_all past (edit.AddCell c b) h = sym (all_listed past (book_of past) (numbers (warnings_of past)) refl refl)
+cover_all past (edit.MoveCell c b) h = sym (all_listed past (book_of past) (numbers (warnings_of past)) refl refl)
+cover_all past (edit.RemoveCell c) h = sym (all_listed past (book_of past) (numbers (warnings_of past)) refl refl)
+cover_all past (edit.AddBsc b) h = cc
+cover_all past (edit.AddArea a) h = cc
+cover_all past (edit.DropArea a) h = cc
+cover_all past (edit.Put a s) h = cc
+cover_all past (edit.Cut a s) h = cc
+cover_all past (edit.Issue notice areas) h = cc
+cover_all past (edit.Update n content) h = cc
+cover_all past (edit.Widen n a) h = cc
+cover_all past (edit.Narrow n a) h = cc
+cover_all past (edit.Stop n) h = cc
+cover_all past (edit.Forget n) h = cc
+
+-- so each line that isn't blank is of one of those
+pub cover_reached : (past : Past) (s : Kept) → IsKept past s → (e : Edit) (spots : List Spot) (ns ms : List ℕ) → ms ≡ ns → IsReach (record { spots = spots; warnings = ns }) (edit_reach past e) → leaves_cover e ≡ true → LinesAreOf ms s.tables
+cover_reached past s kept e spots ns ms same reach leaves b c n h =
+    ap (list_any (nat_eq n)) same
+    ∙ reach.warnings n
+    ∙ ap (list_any (nat_eq n)) (cover_all past e leaves ∙ ap (λ (x : book.State). numbers x.warnings) (sym kept.booked))
+    ∙ in_book past s kept b c n h
 
 -- An indication and a Retry bear on all warnings.
 

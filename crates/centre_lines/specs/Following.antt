@@ -146,9 +146,13 @@ leaves_lines (event.Edit (edit.Forget n)) = false
 leaves_lines (event.Edit e) = true
 leaves_lines other = false
 
+-- each line that isn't blank is of one of these warnings
+abbrev pub LinesAreOf : List ℕ → Tables → Type 0
+LinesAreOf ns t = (b : ℕ) (c : Cell) (n : ℕ) → is_blank (line_at t.lines b c n) ≡ false → list_any (nat_eq n) ns ≡ true
+
 -- each line that isn't blank is of a warning in the book
 abbrev pub AreInBook : book.State → Tables → Type 0
-AreInBook st t = (b : ℕ) (c : Cell) (n : ℕ) → is_blank (line_at t.lines b c n) ≡ false → list_any (nat_eq n) (book.numbers st.warnings) ≡ true
+AreInBook st t = LinesAreOf (book.numbers st.warnings) t
 
 -- the warnings on whose lines what happens bears, from those that were found: all in the book, where it is an indication or
 -- a Retry

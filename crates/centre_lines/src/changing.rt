@@ -10,7 +10,7 @@ ghost use Rattle.mirror.specs.Blank.{is_blank, line_eq};
 ghost use Rattle.mirror.specs.Table.{line_at};
 ghost use Rattle.warning_book.specs.Book.{numbers, warning_of};
 ghost use Rattle.centre_events.specs.Down.{down_mark};
-ghost use Rattle.centre_lines.specs.Following.{AreInBook, bearing, happens, is_idle, keeps_down, leaves_blank, line_now, may_change, changing_line, changing_at, changing_lines};
+ghost use Rattle.centre_lines.specs.Following.{AreInBook, LinesAreOf, bearing, happens, is_idle, keeps_down, leaves_blank, line_now, may_change, changing_line, changing_at, changing_lines};
 ghost use Rattle.centre_past.specs.Idle.{AsBefore};
 ghost use Rattle.centre_lines.specs.Found.{AreFound, IsKnown};
 
@@ -27,7 +27,7 @@ use centre_events::event::Event;
 use centre_events::stepping::Happening;
 use centre_past::keys::key_at;
 use kept_tables::{KeptTables, LineFacts, Spot, Step};
-use mirror::{Line, LineTable};
+use mirror::Line;
 use std::alloc::{AllocError, Global};
 use warning_book::{Warning, WarningId};
 
@@ -167,10 +167,10 @@ fn hold_changing_near(
     requires found { AreFound plan.now.areas.now plan.now.book.now found.old }
     ensures held { (t : Tables) → AsBefore t tables.old → OnOk result (out.new.items ≡ out.old.items ++ changing_at (happens h.now) plan.now.register.now plan.now.areas.now plan.now.book.now t warnings.now spot.now) }
     ensures kept { (t : Tables) → AsBefore t tables.old → AsBefore t tables.new }
-    ensures meter { tables.new.lines.meter ≤ tables.old.lines.meter + length warnings.now }
+    ensures meter { LinesAreOf warnings.now tables.old → tables.new.lines.meter ≤ tables.old.lines.meter + 2 * length warnings.now }
     ensures same { found.new ≡ found.old }
 {
-    let near = near(alloc, plan, tables.lines(), spot, warnings)?;
+    let near = near(alloc, plan, tables, spot, warnings)?;
     let at = KnownSpot::covered(*spot, near.covering.as_slice());
     let near = near.warnings.as_slice();
     hold_changing_spot(out, h, plan, found, tables, &at, near)?;
@@ -178,19 +178,22 @@ fn hold_changing_near(
 }
 
 /// The warnings whose lines at the spot may be changed by an indication, which leaves blank lines blank, or by a Retry, which
-/// leaves lines that aren't held. They are in ascending order. No line is read.
+/// leaves lines that aren't held. They are in ascending order, and their lines are counted.
+#[tactic(auto, using(centre_past::proofs::ReadLemmas::as_read))]
 fn indicated(
     h: &Happening<'_, '_>,
-    lines: &LineTable,
+    tables: &mut KeptTables,
     spot: &Spot,
 ) -> Result<Vec<WarningId>, AllocError>
-    ensures which { IfOk result (λ ws. (n : ℕ) → list_any (nat_eq n) ws.items ≡ may_change h.now.event.now (line_at lines.now spot.now.bsc spot.now.cell n)) }
+    ensures which { IfOk result (λ ws. (n : ℕ) → list_any (nat_eq n) ws.items ≡ may_change h.now.event.now (line_at tables.old.lines spot.now.bsc spot.now.cell n)) }
     ensures order { IfOk result (λ ws. is_ascending ltb ws.items ≡ true) }
-    ensures few { IfOk result (λ ws. (ns : List ℕ) → ((n : ℕ) → is_blank (line_at lines.now spot.now.bsc spot.now.cell n) ≡ false → list_any (nat_eq n) ns ≡ true) → length ws.items ≤ length ns) }
+    ensures few { IfOk result (λ ws. (ns : List ℕ) → ((n : ℕ) → is_blank (line_at tables.old.lines spot.now.bsc spot.now.cell n) ≡ false → list_any (nat_eq n) ns ≡ true) → length ws.items ≤ length ns) }
+    ensures kept { (t : Tables) → AsBefore t tables.old → AsBefore t tables.new }
+    ensures meter { (ns : List ℕ) → ((n : ℕ) → is_blank (line_at tables.old.lines spot.now.bsc spot.now.cell n) ≡ false → list_any (nat_eq n) ns ≡ true) → tables.new.lines.meter ≤ tables.old.lines.meter + length ns }
 {
     match h.event {
-        Event::Retry(_) => lines.held_at(spot.bsc, spot.cell),
-        _ => lines.warnings_at(spot.bsc, spot.cell),
+        Event::Retry(_) => tables.held_at(spot.bsc, spot.cell),
+        _ => tables.warnings_at(spot.bsc, spot.cell),
     }
 }
 
@@ -211,14 +214,14 @@ fn hold_indicated_spot(
     requires found { AreFound plan.now.areas.now plan.now.book.now found.old }
     ensures held { (t : Tables) → AsBefore t tables.old → OnOk result (out.new.items ≡ out.old.items ++ changing_at (happens h.now) plan.now.register.now plan.now.areas.now plan.now.book.now t all.now spot.now) }
     ensures kept { (t : Tables) → AsBefore t tables.old → AsBefore t tables.new }
-    ensures meter { AreInBook plan.now.book.now tables.old → tables.new.lines.meter ≤ tables.old.lines.meter + length all.now }
+    ensures meter { AreInBook plan.now.book.now tables.old → tables.new.lines.meter ≤ tables.old.lines.meter + 2 * length all.now }
     ensures same { found.new ≡ found.old }
 {
     plan.book.tell_soundness();
     if !keeps_down(h, spot, tables.is_down(spot.bsc, spot.cell)) {
         return hold_changing_near(out, alloc, h, plan, found, tables, spot, all);
     }
-    let indicated = indicated(h, tables.lines(), spot)?;
+    let indicated = indicated(h, tables, spot)?;
     let indicated = indicated.as_slice();
     let at = KnownSpot {
         spot: *spot,
@@ -242,7 +245,7 @@ fn hold_indicated(
     requires found { AreFound plan.now.areas.now plan.now.book.now found.old }
     ensures held { (t : Tables) → AsBefore t tables.old → IfOk result (λ v. v.items ≡ changing_lines (happens h.now) plan.now.register.now plan.now.areas.now plan.now.book.now t spots.now (numbers plan.now.book.now.warnings)) }
     ensures kept { (t : Tables) → AsBefore t tables.old → AsBefore t tables.new }
-    ensures meter { AreInBook plan.now.book.now tables.old → tables.new.lines.meter ≤ tables.old.lines.meter + length spots.now * length (numbers plan.now.book.now.warnings) }
+    ensures meter { AreInBook plan.now.book.now tables.old → tables.new.lines.meter ≤ tables.old.lines.meter + 2 * (length spots.now * length (numbers plan.now.book.now.warnings)) }
 {
     let all = plan.book.warnings()?;
     let mut out = Vec::with_capacity(alloc, spots.len())?;
@@ -294,7 +297,7 @@ pub(crate) fn hold_changing(
     requires found { AreFound plan.now.areas.now plan.now.book.now found.old }
     ensures held { (t : Tables) → AsBefore t tables.old → IfOk result (λ v. v.items ≡ changing_lines (happens h.now) plan.now.register.now plan.now.areas.now plan.now.book.now t spots.now (bearing h.now.event.now h.now.answer.now plan.now.book.now warnings.now)) }
     ensures kept { (t : Tables) → AsBefore t tables.old → AsBefore t tables.new }
-    ensures meter { AreInBook plan.now.book.now tables.old → tables.new.lines.meter ≤ tables.old.lines.meter + length spots.now * length (bearing h.now.event.now h.now.answer.now plan.now.book.now warnings.now) }
+    ensures meter { AreInBook plan.now.book.now tables.old → tables.new.lines.meter ≤ tables.old.lines.meter + 2 * (length spots.now * length (bearing h.now.event.now h.now.answer.now plan.now.book.now warnings.now)) }
 {
     if leaves_blank(h) {
         let held = hold_indicated(alloc, h, plan, found, tables, spots)?;
