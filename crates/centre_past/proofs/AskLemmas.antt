@@ -1,5 +1,5 @@
 -- What an Ask is answered, and what it puts in flight: a query of the current version of a warning in the book.
-use Rattle.std.proofs.Common.{◌≡◌, ℕ, true, false, not, List, [], ◌∷◌, Option, Some, None, Result, Ok, Err, cond, refl, sym, ◌∙◌, ap, subst}
+use Rattle.std.proofs.Common.{◌≡◌, ℕ, Bool, true, false, not, List, [], ◌∷◌, ◌++◌, Option, Some, None, Result, Ok, Err, cond, refl, sym, ◌∙◌, ap, subst}
 use Rattle.std.specs.Option.{is_some}
 use Rattle.common.specs.Checks.{first_refusal}
 use Rattle.common.specs.declared.cell.Cell.{Cell}
@@ -11,7 +11,7 @@ use Rattle.centre_events.specs.InFlight.{in_flight}
 use Rattle.centre_events.specs.Kept.{Gives}
 use Rattle.centre_events.specs.Links.{is_bsc}
 use Rattle.centre_events.specs.Past.{Past}
-use Rattle.centre_events.specs.Verdict.{ask, ask_checks, link_checks, send_checks, unless}
+use Rattle.centre_events.specs.Verdict.{ask, ask_checks, generation_checks, link_checks, unless}
 use Rattle.centre_events.specs.Warnings.{book_of}
 use Rattle.centre_events.specs.declared.answer.Answer.{Answer}
 use Rattle.centre_events.specs.declared.answer.Answer.TheVariants.{Asked}
@@ -54,14 +54,22 @@ ask_query past b generation n after a h =
     by_warning None e g = cc
     by_warning (Some w) e g = by_version w e (current_of w) refl g
 
+-- where no check holds, none behind the first does
+none_behind : (t : Bool) (r : Refusal) (checks : List (Bool × Refusal)) → first_refusal ((t, r) ∷ checks) ≡ None → first_refusal checks ≡ None
+none_behind true r checks none = cc
+none_behind false r checks none = none
+
 -- what is on air decides an Ask over its link while nothing is in flight
 pub ask_free : (past : Past) (b generation n : ℕ) (after : Option Cell) (w : Warning) → is_bsc past b ≡ true → warning_of (book_of past) n ≡ Some w → first_refusal (link_checks past b generation) ≡ None → is_some (in_flight past b) ≡ false → ask past b generation n after ≡ version_query past b w.message_id (current_of w) after
 ask_free past b generation n after w h g k f =
-    past_check (not (is_bsc past b)) NoSuchBsc (unless ((not (is_some (warning_of (book_of past) n)), NoSuchWarning) ∷ send_checks past b generation) (warning_query past b (warning_of (book_of past) n) after)) (version_query past b w.message_id (current_of w) after) (ap not h)
-    (past_check (not (is_some (warning_of (book_of past) n))) NoSuchWarning (unless (send_checks past b generation) (warning_query past b (warning_of (book_of past) n) after)) (version_query past b w.message_id (current_of w) after) (ap (λ o. not (is_some o)) g)
-    (ap (λ o. unless (send_checks past b generation) (warning_query past b o after)) g
-    ∙ none_before (link_checks past b generation) ((is_some (in_flight past b), InFlight) ∷ []) (warning_query past b (Some w) after) k
+    past_check (not (is_bsc past b)) NoSuchBsc (unless ((not (is_some (warning_of (book_of past) n)), NoSuchWarning) ∷ linked) (warning_query past b (warning_of (book_of past) n) after)) (version_query past b w.message_id (current_of w) after) (ap not h)
+    (past_check (not (is_some (warning_of (book_of past) n))) NoSuchWarning (unless linked (warning_query past b (warning_of (book_of past) n) after)) (version_query past b w.message_id (current_of w) after) (ap (λ o. not (is_some o)) g)
+    (ap (λ o. unless linked (warning_query past b o after)) g
+    ∙ none_before (generation_checks past b generation) ((is_some (in_flight past b), InFlight) ∷ []) (warning_query past b (Some w) after) (none_behind (not (is_bsc past b)) NoSuchBsc (generation_checks past b generation) k)
     ∙ ap (λ t. cond t (Err InFlight) (warning_query past b (Some w) after)) f))
+  where
+    linked : List (Bool × Refusal)
+    linked = generation_checks past b generation ++ (is_some (in_flight past b), InFlight) ∷ []
 
 -- its verdict is that of the query of the current version
 pub ask_given : (past : Past) (b generation n : ℕ) (after : Option Cell) (w : Warning) (s : ℕ) (r : Result Answer Refusal) → is_bsc past b ≡ true → warning_of (book_of past) n ≡ Some w → first_refusal (link_checks past b generation) ≡ None → is_some (in_flight past b) ≡ false → current_of w ≡ Some s → Gives (version_query past b w.message_id (Some s) after) r → Gives (ask past b generation n after) r

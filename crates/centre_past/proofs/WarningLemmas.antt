@@ -57,7 +57,7 @@ none_found n (w ∷ ws) h = step (none_found n ws) (has_number n w) h
     step rest false g = rest g
 
 -- what is issued has a serial number, since a code is free
-issue_ok : (past : Past) (notice : Notice) (areas : List (List ℕ)) → first_refusal (book.issue_checks (book_of past) notice areas) ≡ None → IsOk (issue_answer ((book_of past).issued + 1) (new_serial (book_of past) notice))
+pub issue_ok : (past : Past) (notice : Notice) (areas : List (List ℕ)) → first_refusal (book.issue_checks (book_of past) notice areas) ≡ None → IsOk (issue_answer ((book_of past).issued + 1) (new_serial (book_of past) notice))
 issue_ok past notice areas h = step (new_serial (book_of past) notice) refl
   where
     none : NoneHolds (book.issue_checks (book_of past) notice areas)
@@ -80,7 +80,7 @@ found_not n f (v ∷ ws) w h g = step (found_not n f ws w) (has_number n v) h g
     step rest false e k = rest e k
 
 -- what is updated has a next serial number
-update_ok : (past : Past) (n : ℕ) (content : Content) → first_refusal (book.update_checks (book_of past) n content) ≡ None → IsOk (update_answer (next_serial (book_of past) n))
+pub update_ok : (past : Past) (n : ℕ) (content : Content) → first_refusal (book.update_checks (book_of past) n content) ≡ None → IsOk (update_answer (next_serial (book_of past) n))
 update_ok past n content h = step (warning_of (book_of past) n) refl
   where
     none : NoneHolds (book.update_checks (book_of past) n content)

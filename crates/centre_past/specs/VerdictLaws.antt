@@ -121,7 +121,11 @@ verdict_given settings past e =
       | false ↦ event_given settings.network past e
     ]
 
--- so it is never that memory ran out
+-- so it is never that the centre is stale
+pub verdict_is_no_stale : (settings : Settings) (past : Past) (e : Event) → verdict settings past e ≡ Err refusal.Stale → ⊥
+verdict_is_no_stale settings past e is = cc (sym (verdict_given settings past e) ∙ ap is_given is)
+
+-- nor is it that memory ran out
 pub verdict_is_no_want : (settings : Settings) (past : Past) (e : Event) → verdict settings past e ≡ Err refusal.Memory → ⊥
 verdict_is_no_want settings past e is = cc (sym (verdict_given settings past e) ∙ ap is_given is)
 
