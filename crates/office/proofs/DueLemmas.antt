@@ -1,5 +1,5 @@
 -- After an accepted event nothing is due for a BSC that it doesn't affect and for which nothing was due.
-use Rattle.std.proofs.Common.{◌≡◌, ℕ, Bool, true, false, ◌&&◌, nat_eq, List, [], ◌∷◌, ◌++◌, Option, Some, None, Ok, unwrap_or, if◌then◌else◌, refl, sym, ap, ◌∙◌, subst, arith}
+use Rattle.std.proofs.Common.{◌≡◌, ℕ, Bool, true, false, ◌&&◌, nat_eq, List, [], ◌∷◌, Option, Some, None, Ok, unwrap_or, if◌then◌else◌, refl, sym, ap, ◌∙◌, arith}
 use Rattle.std.proofs.lemmas.Bool.{and_from, and_parts}
 use Rattle.std.proofs.lemmas.Bool.Decides.{nat_tests}
 use Rattle.std.proofs.lemmas.List.{reverse-append}
@@ -10,7 +10,7 @@ use Rattle.order_maker.specs.Grouping.{first}
 use Rattle.centre_events.specs.Base.{empty_base}
 use Rattle.centre_events.specs.InFlight.{asked_flight, in_flight, is_replied, sent_flight}
 use Rattle.centre_events.specs.Links.{is_bsc, is_up, last_link}
-use Rattle.centre_events.specs.Past.{Past, After, position, since}
+use Rattle.centre_events.specs.Past.{Past, After, since}
 use Rattle.centre_events.specs.Pending.{pending}
 use Rattle.centre_events.specs.Verdict.{add_bsc_checks, answered, ask_checks, edit_answered, remove_bsc_checks, send_answer, send_checks, verdict}
 use Rattle.centre_events.specs.declared.answer.Answer.{Answer}
@@ -24,7 +24,7 @@ use Rattle.centre_past.proofs.CheckLemmas.{no_check}
 use Rattle.centre_past.proofs.LineLemmas.{entry_of}
 use Rattle.centre_past.proofs.UniqueLemmas.{verdict_answered}
 use Rattle.office.specs.Affecting.{LeavesIdle, affects, with_entry}
-use Rattle.office.specs.Wakes.{due, is_full, is_linked, query_of}
+use Rattle.office.specs.Wakes.{is_full, is_linked, query_of}
 use Rattle.office.specs.Wishes.{wish_for}
 use Rattle.office.specs.declared.wake.Wake.{Wake}
 use Rattle.office.specs.declared.wake.Wake.TheVariants as wake

@@ -1,5 +1,5 @@
 -- Wishes without the one for a BSC: they are fewer where there is one, and none is for that BSC.
-use Rattle.std.proofs.Common.{◌≡◌, ℕ, ◌+◌, ◌<◌, ◌≤◌, Bool, true, false, not, ◌&&◌, ◌||◌, List, [], ◌∷◌, ◌++◌, Option, Some, None, IsSome, length, find, filter, if◌then◌else◌, cond, refl, sym, ap, ◌∙◌, arith, nat_eq, true≢false, subst}
+use Rattle.std.proofs.Common.{◌≡◌, ℕ, ◌<◌, ◌≤◌, Bool, true, false, not, List, [], ◌∷◌, Some, IsSome, length, cond, refl, sym, arith, true≢false, subst}
 use Rattle.std.specs.List.{list_any}
 use Rattle.common.specs.OnceLaws.{once_filter, once_last}
 use Rattle.common.specs.OrderLaws.{length_filter}

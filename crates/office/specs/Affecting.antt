@@ -1,5 +1,5 @@
 -- For which BSCs an event may make something to do.
-use Rattle.std.specs.Prelude.{◌≡◌, ℕ, Bool, true, false, ◌||◌, List, [], ◌∷◌, ◌++◌, Some, None, is_some, nat_eq}
+use Rattle.std.specs.Prelude.{◌≡◌, ℕ, Bool, true, false, ◌||◌, List, [], ◌∷◌, ◌++◌, None, is_some, nat_eq}
 use Rattle.cell_register.specs.Register.{is_place}
 use Rattle.centre_events.specs.Links.{is_bsc}
 use Rattle.centre_events.specs.Past.{Past, After}
