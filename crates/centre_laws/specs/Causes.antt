@@ -148,6 +148,7 @@ of_plan plan_refusal.AreaNotThere = refusal.AreaNotThere
 of_plan plan_refusal.LastArea = refusal.LastArea
 of_plan plan_refusal.BadPages = refusal.BadPages
 of_plan plan_refusal.BadPeriod = refusal.BadPeriod
+of_plan plan_refusal.WrongKind = refusal.WrongKind
 of_plan plan_refusal.UpdatesExhausted = refusal.UpdatesExhausted
 of_plan (plan_refusal.Limit plan_limit.Bscs) = refusal.Limit limit.Bscs
 of_plan (plan_refusal.Limit plan_limit.Cells) = refusal.Limit limit.Cells
