@@ -106,7 +106,7 @@ fn emergency_issued(rt: &impl Abort, alloc: Global) -> Book {
     let mut book = Book::new(alloc);
     let notice = Notice {
         message_id: 4352,
-        scope: Scope::Network,
+        scope: Scope::Plmn,
         content: emergency(0x0580),
     };
     let areas = names(rt, alloc, &[b"coast"]);
