@@ -179,7 +179,7 @@ impl Bsc {
     /// octets, so the message fits, and can be written, where they are at most 10,922.
     pub fn fail(&self, cells: &[Cell], cause: Cause) -> Result<Message, AllocError>
         ensures message { IfOk result (λ m. m ≡ fail_message cells.now cause) }
-        ensures fits { IfOk result (λ m. length cells.now ≤ 10922 → Fits m) }
+        ensures fits { length cells.now ≤ 10922 → IfOk result (λ m. Fits m) }
     {
         fail_message(self.alloc, cells, cause)
     }

@@ -28,7 +28,7 @@ pub(crate) fn fail_message(
     cause: Cause,
 ) -> Result<Message, AllocError>
     ensures message { IfOk result (λ m. m ≡ fail_message cells.now cause) }
-    ensures fits { IfOk result (λ m. length cells.now ≤ 10922 → Fits m) }
+    ensures fits { length cells.now ≤ 10922 → IfOk result (λ m. Fits m) }
 {
     let mut failures = Failures::with_capacity(alloc, cells.len())?;
     for cell in cells {
