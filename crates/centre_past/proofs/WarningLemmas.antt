@@ -95,7 +95,7 @@ update_ok past n content h = step (warning_of (book_of past) n) refl
 
     step : (o : Option Warning) → warning_of (book_of past) n ≡ o → IsOk (update_answer (option_map next_of (option_and_then current_of o)))
     step None e = absurd (let no : true ≡ false = sym there ∙ none_found n (book_of past).warnings e in cc)
-    step (Some w) e = next (current_of w) (found_not n is_exhausted (book_of past).warnings w e none.1.1.1.1.0)
+    step (Some w) e = next (current_of w) (found_not n is_exhausted (book_of past).warnings w e none.1.1.1.1.1.0)
 
 -- an area that is not there
 pub issue_elsewhere : (past : Past) (notice : Notice) (areas : List (List ℕ)) → list_any (λ a. not (is_area past a)) areas ≡ true → issue past notice areas ≡ Err refusal.NoSuchArea
@@ -248,7 +248,7 @@ sound_then network past other a h sound = sound
 -- the empty book is sound
 counted_empty : IsCounted empty
 counted_empty = record {
-  sound = record { ordered = refl; given = refl; few = omega arith; areas = refl; contents = refl; versions = refl; serials = refl; codes = refl; own_codes = refl };
+  sound = record { ordered = refl; given = refl; few = omega arith; areas = refl; contents = refl; versions = refl; serials = refl; codes = refl; own_codes = refl; kinds = refl };
   counted = refl;
 }
 
