@@ -17,7 +17,7 @@ use Rattle.kept_tables.specs.Same.{SamePart}
 use Rattle.kept_tables.specs.declared.spot.Spot.{Spot}
 use Rattle.mirror.specs.Blank.{is_blank}
 use Rattle.mirror.specs.Index.{key_before}
-use Rattle.mirror.specs.Table.{down_at, has_line, is_key, line_at}
+use Rattle.mirror.specs.Table.{down_for_some, has_line, is_key, line_at}
 use Rattle.mirror.specs.declared.line_key.LineKey.{LineKey}
 use Rattle.warning_book.specs.Book.{warning_of}
 use Rattle.centre_past.specs.Facts.{facts}
@@ -50,8 +50,8 @@ use Rattle.centre_lines.proofs.TellLemmas.{any_keys, keys_counted}
 kept_known : (settings : Settings) (past : Past) (s : Kept) → Legal settings past → IsKept past s → TellsLines s.tables.lines → (b : ℕ) (c : Cell) (n : ℕ) → is_blank (line_at s.tables.lines b c n) ≡ false → is_known past b c ≡ true
 kept_known settings past s legal kept tells b c n h =
     sym (known_same settings past s.register s.book s.tables.lines (told_kept settings past s legal kept) tells b c)
-    ∙ or_right (is_place (place_in s.register c) b) (down_at s.tables.lines b c || has_line s.tables.lines b c)
-    (or_right (down_at s.tables.lines b c) (has_line s.tables.lines b c) (there (has_line s.tables.lines b c) refl))
+    ∙ or_right (is_place (place_in s.register c) b) (down_for_some s.tables.lines b c || has_line s.tables.lines b c)
+    (or_right (down_for_some s.tables.lines b c) (has_line s.tables.lines b c) (there (has_line s.tables.lines b c) refl))
   where
     there : (t : Bool) → has_line s.tables.lines b c ≡ t → t ≡ true
     there true e = refl
@@ -98,7 +98,7 @@ before_apart j k h = grind (arith, nat_tests)
 -- these lines were read before it
 pub forgotten_was_reached : (past : Past) (s : Kept) (n : ℕ) (a : Answer) (keys : List LineKey) (held : HeldLines) → IsKept past s → ((b : ℕ) (c : Cell) (v : ℕ) → list_any (λ k. is_key k b c v) keys ≡ (nat_eq n v && not (is_blank (line_at s.tables.lines b c v)))) → is_ascending key_before keys ≡ true → length keys ≤ size (edit_reach past (edit.Forget n)) → AreSteps (happens_after past (event.Edit (edit.Forget n)) a) (book_of past) held → held_in held ≡ flat_map (held_unless (edit.Forget n) s.register s.areas s.book s.tables) keys → WasReached past (event.Edit (edit.Forget n)) a [] held
 forgotten_was_reached past s n a keys held kept which order few steps are = record {
-  away = λ settings legal b c out. refl;
+  away = λ settings legal kind b c out. refl;
   keys = failing passes keys;
   lines = are ∙ failing_keys passes (held_line s.register s.areas s.book s.tables) (held_past past) (held_as past s kept) keys;
   steps = steps;

@@ -19,7 +19,7 @@ use Rattle.kept_tables.specs.declared.spot.Spot.{Spot}
 use Rattle.mirror.specs.Blank.{is_blank, line_eq}
 use Rattle.mirror.specs.BlankLaws.{blank_decides, line_decides}
 use Rattle.mirror.specs.Line.{blank_line}
-use Rattle.mirror.specs.Table.{is_slot, is_that_place, line_at, down_at}
+use Rattle.mirror.specs.Table.{downs_of, is_slot, is_that_place, line_at, down_at}
 use Rattle.mirror.specs.declared.line.Line.{Line}
 use Rattle.mirror.specs.declared.line_key.LineKey.{LineKey}
 use Rattle.warning_book.specs.Book as book
@@ -36,7 +36,7 @@ use Rattle.centre_past.specs.Legal.{Legal}
 use Rattle.centre_past.specs.Reach.{IsReach, edit_reach, reach_of}
 use Rattle.centre_events.specs.Past.{Past}
 use Rattle.centre_events.specs.Settings.{Settings}
-use Rattle.centre_events.specs.Warnings.{book_of, warnings_of}
+use Rattle.centre_events.specs.Warnings.{book_of, kind_in, warnings_of}
 use Rattle.centre_events.specs.declared.answer.Answer.{Answer}
 use Rattle.centre_events.specs.declared.answer.Answer.TheVariants.{Listed}
 use Rattle.centre_events.specs.declared.event.Event.{Event}
@@ -46,6 +46,7 @@ use Rattle.centre_lines.proofs.BlankLineLemmas.{unchanged}
 use Rattle.centre_lines.proofs.ReachedWarningLemmas.{all_listed}
 use Rattle.centre_past.proofs.RegisterLemmas.{nat_apart}
 use Rattle.centre_past.proofs.WarningLemmas.{legal_sound}
+use Rattle.warning_book.specs.declared.kind.Kind.{Kind}
 
 -- Of two lists of numbers in order, those that fail a test are the same where each of them is in both.
 
@@ -104,7 +105,7 @@ number_there n (v ∷ ws) w h = step (nat_eq v.number n) (nat_eq n v.number) (tu
 itself : (line : Line) → line_eq line line ≡ true
 itself line = (line_decides line line).1 refl
 
-changes_some : (h : Happens) (l : List Area) (st : book.State) (t : Tables) (k : LineKey) → leaves_blank h.event h.answer ≡ true → keeps_down (down_mark k.bsc k.cell h.event h.answer) (down_at t.lines k.bsc k.cell) ≡ true → stays h l st t k ≡ false → (may_change h.event (line_at t.lines k.bsc k.cell k.warning) ≡ true) × (list_any (nat_eq k.warning) (numbers st.warnings) ≡ true)
+changes_some : (h : Happens) (l : List Area) (st : book.State) (t : Tables) (k : LineKey) → leaves_blank h.event h.answer ≡ true → ((kind : Kind) → keeps_down (down_mark kind k.bsc k.cell h.event h.answer) (down_at t.lines kind k.bsc k.cell) ≡ true) → stays h l st t k ≡ false → (may_change h.event (line_at t.lines k.bsc k.cell k.warning) ≡ true) × (list_any (nat_eq k.warning) (numbers st.warnings) ≡ true)
 changes_some h l st t k blanks down changes = (kept (may_change h.event line) refl, booked (warning_of st k.warning) refl)
   where
     line : Line
@@ -112,7 +113,7 @@ changes_some h l st t k blanks down changes = (kept (may_change h.event line) re
 
     stay : line_eq (line_now h st.warnings k.bsc k.cell (warning_of st k.warning) line) line ≡ true → false ≡ true
     stay e =
-        sym changes ∙ ap (λ x. line_eq (line_now h st.warnings k.bsc k.cell (warning_of st k.warning) line) line && (x || is_idle l (warning_of st k.warning) k.cell line)) down ∙ ap (λ x. x && true) e
+        sym changes ∙ ap (λ x. line_eq (line_now h st.warnings k.bsc k.cell (warning_of st k.warning) line) line && (x || is_idle l (warning_of st k.warning) k.cell line)) (down (kind_in (warning_of st k.warning))) ∙ ap (λ x. x && true) e
 
     kept : (x : Bool) → may_change h.event line ≡ x → x ≡ true
     kept true e = refl
@@ -123,7 +124,7 @@ changes_some h l st t k blanks down changes = (kept (may_change h.event line) re
     booked (Some w) e = number_there k.warning st.warnings w e
 
 -- so those of the lines that may change are those of all
-pub known_same : (h : Happens) (r : register.State) (l : List Area) (st : book.State) (t : Tables) (p : Spot) (ws : List ℕ) → leaves_blank h.event h.answer ≡ true → keeps_down (down_mark p.bsc p.cell h.event h.answer) (down_at t.lines p.bsc p.cell) ≡ true → is_ascending number_lt st.warnings ≡ true → is_ascending ltb ws ≡ true → ((n : ℕ) → list_any (nat_eq n) ws ≡ may_change h.event (line_at t.lines p.bsc p.cell n)) → changing_at h r l st t ws p ≡ changing_at h r l st t (numbers st.warnings) p
+pub known_same : (h : Happens) (r : register.State) (l : List Area) (st : book.State) (t : Tables) (p : Spot) (ws : List ℕ) → leaves_blank h.event h.answer ≡ true → ((kind : Kind) → keeps_down (down_mark kind p.bsc p.cell h.event h.answer) (down_at t.lines kind p.bsc p.cell) ≡ true) → is_ascending number_lt st.warnings ≡ true → is_ascending ltb ws ≡ true → ((n : ℕ) → list_any (nat_eq n) ws ≡ may_change h.event (line_at t.lines p.bsc p.cell n)) → changing_at h r l st t ws p ≡ changing_at h r l st t (numbers st.warnings) p
 known_same h r l st t p ws blanks down ordered ascend which =
     failing_same (λ n. stays h l st t (key_at p n)) (λ n. step_of h st (held_line r l st t (key_at p n))) ws (numbers st.warnings) ascend (numbers_ascend st.warnings ordered)
     (λ n changes. let both = changes_some h l st t (key_at p n) blanks down changes in which n ∙ both.0 ∙ sym both.1)
@@ -203,7 +204,7 @@ bears_on_all settings past legal s kept e a spots ns reach = step (leaves_blank 
     step false h = reach
 
 -- and so those of the lines that a table keeps which has the same
-pub known_before : (h : Happens) (r : register.State) (l : List Area) (st : book.State) (t u : Tables) (p : Spot) (ws : List ℕ) → AsBefore t u → leaves_blank h.event h.answer ≡ true → keeps_down (down_mark p.bsc p.cell h.event h.answer) (down_at u.lines p.bsc p.cell) ≡ true → is_ascending number_lt st.warnings ≡ true → is_ascending ltb ws ≡ true → ((n : ℕ) → list_any (nat_eq n) ws ≡ may_change h.event (line_at u.lines p.bsc p.cell n)) → changing_at h r l st t ws p ≡ changing_at h r l st t (numbers st.warnings) p
+pub known_before : (h : Happens) (r : register.State) (l : List Area) (st : book.State) (t u : Tables) (p : Spot) (ws : List ℕ) → AsBefore t u → leaves_blank h.event h.answer ≡ true → ((kind : Kind) → keeps_down (down_mark kind p.bsc p.cell h.event h.answer) (down_at u.lines kind p.bsc p.cell) ≡ true) → is_ascending number_lt st.warnings ≡ true → is_ascending ltb ws ≡ true → ((n : ℕ) → list_any (nat_eq n) ws ≡ may_change h.event (line_at u.lines p.bsc p.cell n)) → changing_at h r l st t ws p ≡ changing_at h r l st t (numbers st.warnings) p
 known_before h r l st t u p ws same blanks down ordered ascend which =
-    known_same h r l st t p ws blanks (ap (λ ps. keeps_down (down_mark p.bsc p.cell h.event h.answer) (list_any (is_that_place p.bsc p.cell) ps)) (sym same.downs) ∙ down) ordered ascend
+    known_same h r l st t p ws blanks (λ kind. ap (λ downs. keeps_down (down_mark kind p.bsc p.cell h.event h.answer) (list_any (is_that_place p.bsc p.cell) (downs_of kind downs))) (sym same.downs) ∙ down kind) ordered ascend
     (λ n. which n ∙ ap (λ ls. may_change h.event (unwrap_or (lookup (is_slot p.bsc p.cell n) ls) blank_line)) same.lines)

@@ -11,7 +11,7 @@ ghost use Rattle.centre_lines.specs.Following.{LinesAreOf, held_unless, held_at,
 ghost use Rattle.centre_past.specs.Reaching.{is_forget};
 ghost use Rattle.centre_lines.specs.Found.{AreFound, IsKnown};
 
-use crate::facts::{facts_from, is_covered};
+use crate::facts::{facts_from, is_covered, kind_in};
 use crate::found_warnings::FoundWarnings;
 use crate::held::Held;
 use crate::known_spot::KnownSpot;
@@ -119,7 +119,7 @@ fn hold_line(
     if is_passed_over(edit, plan.areas, at, warning, &line) {
         return Ok(());
     }
-    let down = tables.is_down(at.spot.bsc, at.spot.cell);
+    let down = tables.is_down(kind_in(warning), at.spot.bsc, at.spot.cell);
     let before = facts_from(plan, found, at, n, down, line, warning)?;
     out.push(held_of(&at.spot, n, before))?;
     Ok(())

@@ -26,10 +26,11 @@ use order_maker::{Order, Orders, Pending};
 use serials::Serial;
 use std::alloc::{AllocError, Global};
 use std::marker::Model;
-use warning_book::WarningId;
+use warning_book::{Kind, WarningId};
 
 /// What is kept of every line, what is pending for each BSC, and the numbers of the board. All three change in step, by
-/// `make` and `take_steps` alone. Which cells are down is kept beside the lines, and changes by `set_down` alone.
+/// `make` and `take_steps` alone. Which cells are down for warnings of each kind is kept beside the lines, and
+/// changes by `set_down` alone.
 #[derive(Drop)]
 pub struct KeptTables {
     lines: LineTable,
@@ -147,6 +148,8 @@ impl KeptTables {
     ghost use Rattle.order_maker.specs.Grouping.{in_order, grouped, first};
     ghost use Rattle.order_maker.specs.Pending.{IsListOf};
     ghost use Rattle.order_maker.specs.declared.action.Action.{Action};
+    ghost use Rattle.warning_book.specs.Content.{is_same_kind};
+    ghost use Rattle.warning_book.specs.declared.kind.Kind.{Kind};
 
     /// Blank lines, no cell that is down, nothing pending and nothing counted.
     pub fn new(alloc: Global) -> KeptTables
@@ -260,23 +263,24 @@ impl KeptTables {
         self.lines.places_of(w)
     }
 
-    /// Whether the cell is down at the BSC (TS 48.049, 8.1.3). It takes no memory.
-    pub fn is_down(&self, b: BscId, c: Cell) -> bool
-        ensures { result ≡ down_at self.now.lines b c }
+    /// Whether the cell is down at the BSC for warnings of the kind (TS 48.049, 8.1.3). It takes no memory.
+    pub fn is_down(&self, kind: Kind, b: BscId, c: Cell) -> bool
+        ensures { result ≡ down_at self.now.lines kind b c }
     {
-        self.lines.is_down(b, c)
+        self.lines.is_down(kind, b, c)
     }
 
-    /// Sets whether the cell is down at the BSC. Memory is taken only for a cell that is down and wasn't.
-    pub fn set_down(&mut self, b: BscId, c: Cell, down: bool) -> Result<(), AllocError>
-        ensures set { OnOk result ((d : ℕ) (e : Cell) → down_at self.new.lines d e ≡ (if nat_eq b d && cell_eq c e then down else down_at self.old.lines d e)) }
+    /// Sets whether the cell is down at the BSC for warnings of the kind. Memory is taken only for a cell that is down and
+    /// wasn't.
+    pub fn set_down(&mut self, kind: Kind, b: BscId, c: Cell, down: bool) -> Result<(), AllocError>
+        ensures set { OnOk result ((k : Kind) (d : ℕ) (e : Cell) → down_at self.new.lines k d e ≡ (if is_same_kind kind k && (nat_eq b d && cell_eq c e) then down else down_at self.old.lines k d e)) }
         ensures unchanged { OnErr result (self.new.lines.downs ≡ self.old.lines.downs) }
-        ensures grows { OnErr result ((down ≡ true) × (down_at self.old.lines b c ≡ false)) }
+        ensures grows { OnErr result ((down ≡ true) × (down_at self.old.lines kind b c ≡ false)) }
         ensures same { SameTables self.old self.new }
         ensures lines { self.new.lines.lines ≡ self.old.lines.lines }
         ensures meter { self.new.lines.meter ≡ self.old.lines.meter }
     {
-        self.lines.set_down(b, c, down)
+        self.lines.set_down(kind, b, c, down)
     }
 
     /// The cells that are known at the BSC, in ascending order: those registered there, those that are down there, and
@@ -422,7 +426,7 @@ impl KeptTables {
     pub fn take_steps(&mut self, steps: &[Step]) -> Result<(), AllocError>
         requires { Begins self.old (map change_of steps.now) }
         ensures settled { OnOk result ((b : Begins self.old (map change_of steps.now)) → Consistent self.new (mixed b.from b.to (map change_of steps.now))) }
-        ensures downs { (b : ℕ) (c : Cell) → down_at self.new.lines b c ≡ down_at self.old.lines b c }
+        ensures downs { (k : Kind) (b : ℕ) (c : Cell) → down_at self.new.lines k b c ≡ down_at self.old.lines k b c }
         ensures meter { self.new.lines.meter ≤ self.old.lines.meter + length steps.now }
         ensures least { self.old.lines.meter ≤ self.new.lines.meter }
     {

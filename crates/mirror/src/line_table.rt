@@ -13,10 +13,12 @@ ghost use Rattle.mirror.specs.Table.{line_at, has_line, down_at, counted, counte
 ghost use Rattle.mirror.specs.Known.{are_of_cells, is_known, is_named, warnings_at};
 ghost use Rattle.mirror.specs.OnAir.{AreOnAir, line_count, read_count};
 ghost use Rattle.mirror.specs.declared.line_key.LineKey.{LineKey};
+ghost use Rattle.warning_book.specs.Content.{is_same_kind};
+ghost use Rattle.warning_book.specs.declared.kind.Kind.{Kind};
 
 use crate::cell_index::CellIndex;
-use crate::downs::Downs;
-use crate::gathering::{add_downs, add_line_cells, cells_in_order};
+use crate::cells_down::CellsDown;
+use crate::gathering::{add_cells_down, add_line_cells, cells_in_order};
 use crate::known::{add_warnings, has_line, is_registered};
 use crate::line::Line;
 use crate::line_key::LineKey;
@@ -33,14 +35,14 @@ use serials::Serial;
 use std::alloc::{AllocError, Global};
 use std::collections::BTreeSet;
 use std::marker::Model;
-use warning_book::WarningId;
+use warning_book::{Kind, WarningId};
 
 /// Room for as many warnings as most cells have.
 const FEW: usize = 16;
 
-/// A line for each BSC, cell and warning, and whether each cell is down at each BSC. Each line that is read or set is
-/// counted; to be told that something is kept of a line is to read it. So the calls that read or set lines take
-/// `&mut self`: `read_line`, `set_line`, `cells_on_air`, `warnings_at`, `held_at` and `places_of`. No other call tells
+/// A line for each BSC, cell and warning, and whether each cell is down at each BSC for warnings of each kind. Each line
+/// that is read or set is counted; to be told that something is kept of a line is to read it. So the calls that read or set
+/// lines take `&mut self`: `read_line`, `set_line`, `cells_on_air`, `warnings_at`, `held_at` and `places_of`. No other call tells
 /// anything of one line: `known_cells` and `cells_named` tell of a cell whether it is known, by its registration, by a
 /// report or by its lines.
 #[derive(Drop)]
@@ -50,7 +52,7 @@ pub struct LineTable {
     lines: Lines,
     /// The same lines, by BSC and cell, and whether each is held.
     index: CellIndex,
-    downs: Downs,
+    downs: CellsDown,
     meter: u64,
 }
 
@@ -69,14 +71,14 @@ impl LineTable {
     /// Blank lines, no cell that is down, and no access counted.
     pub fn new(alloc: Global) -> LineTable
         ensures lines { (b : ℕ) (c : Cell) (w : ℕ) → line_at result b c w ≡ blank_line }
-        ensures downs { (b : ℕ) (c : Cell) → down_at result b c ≡ false }
+        ensures downs { (k : Kind) (b : ℕ) (c : Cell) → down_at result k b c ≡ false }
         ensures meter { result.meter ≡ 0 }
     {
         LineTable {
             alloc,
             lines: Lines::new(alloc),
             index: CellIndex::new(alloc),
-            downs: Downs::new(alloc),
+            downs: CellsDown::new(alloc),
             meter: 0,
         }
     }
@@ -241,12 +243,12 @@ impl LineTable {
         Ok(cells)
     }
 
-    /// Whether the cell is down at the BSC: the BSC's last indication of type 0 that named it was a FAILURE
-    /// (TS 48.049, 8.1.3). It takes no memory.
-    pub fn is_down(&self, b: BscId, c: Cell) -> bool
-        ensures { result ≡ down_at self.now b c }
+    /// Whether the cell is down at the BSC for warnings of the kind: the BSC's last indication of their type that named it
+    /// was a FAILURE (TS 48.049, 8.1.3). It takes no memory.
+    pub fn is_down(&self, kind: Kind, b: BscId, c: Cell) -> bool
+        ensures { result ≡ down_at self.now kind b c }
     {
-        self.downs.is_down(b, c)
+        self.downs.is_down(kind, b, c)
     }
 
     /// The numbers of the warnings whose line in the cell at the BSC isn't blank, in ascending order. Each of these lines is
@@ -291,30 +293,30 @@ impl LineTable {
         Ok(held)
     }
 
-    /// Sets whether the cell is down at the BSC. Where memory runs out nothing changes. Memory is taken only for a
-    /// cell that is down and wasn't.
-    pub fn set_down(&mut self, b: BscId, c: Cell, down: bool) -> Result<(), AllocError>
-        ensures set { OnOk result ((d : ℕ) (e : Cell) → down_at self.new d e ≡ (if nat_eq b d && cell_eq c e then down else down_at self.old d e)) }
+    /// Sets whether the cell is down at the BSC for warnings of the kind. Where memory runs out nothing changes. Memory is
+    /// taken only for a cell that is down and wasn't.
+    pub fn set_down(&mut self, kind: Kind, b: BscId, c: Cell, down: bool) -> Result<(), AllocError>
+        ensures set { OnOk result ((k : Kind) (d : ℕ) (e : Cell) → down_at self.new k d e ≡ (if is_same_kind kind k && (nat_eq b d && cell_eq c e) then down else down_at self.old k d e)) }
         ensures unchanged { OnErr result (self.new.downs ≡ self.old.downs) }
-        ensures grows { OnErr result ((down ≡ true) × (down_at self.old b c ≡ false)) }
+        ensures grows { OnErr result ((down ≡ true) × (down_at self.old kind b c ≡ false)) }
         ensures lines { self.new.lines ≡ self.old.lines }
         ensures meter { self.new.meter ≡ self.old.meter }
     {
         if !down {
-            self.downs.remove(b, c);
+            self.downs.remove(kind, b, c);
             return Ok(());
         }
-        self.downs.insert(b, c)
+        self.downs.insert(kind, b, c)
     }
 
-    /// The cells that are known at the BSC, in ascending order: those registered there, those that are down there, and
-    /// those of which a line isn't blank.
+    /// The cells that are known at the BSC, in ascending order: those registered there, those that are down there for
+    /// warnings of some kind, and those of which a line isn't blank.
     pub fn known_cells(&self, register: &Register, b: BscId) -> Result<Cells, AllocError>
         ensures order { IfOk result (λ cells. is_ascending cell_lt cells ≡ true) }
         ensures known { IfOk result (λ cells. (c : Cell) → list_any (cell_eq c) cells ≡ is_known self.now register.now b c) }
     {
         let mut gathered = register.cells_of(b)?.into_vec();
-        add_downs(b, self.downs.places(), &mut gathered)?;
+        add_cells_down(b, &self.downs, &mut gathered)?;
         add_line_cells(b, self.index.slots(), &mut gathered)?;
         register.tell_soundness();
         let cells = Cells::in_order(gathered)?;
@@ -378,7 +380,9 @@ impl LineTable {
     fn is_known(&self, register: &Register, b: BscId, c: Cell) -> bool
         ensures { result ≡ is_known self.now register.now b c }
     {
-        is_registered(register, b, c) || self.is_down(b, c) || has_line(self.index.slots(), b, c)
+        is_registered(register, b, c)
+            || self.downs.is_down_for_some(b, c)
+            || has_line(self.index.slots(), b, c)
     }
 
     /// Puts those known cells that the identifications name among those gathered.
