@@ -17,12 +17,14 @@ use Rattle.coverage_plan.specs.declared.edit.Edit.{Edit}
 use Rattle.coverage_plan.specs.declared.edit.Edit.TheVariants as edit
 use Rattle.order_maker.specs.Grouping.{first}
 use Rattle.order_maker.specs.declared.order.Order.{Order}
-use Rattle.warning_book.specs.Book.{current_of, warning_of, new_serial, next_serial}
+use Rattle.warning_book.specs.Book.{current_of, kind_of, warning_of, new_serial, next_serial}
+use Rattle.warning_book.specs.declared.kind.Kind.{Kind}
+use Rattle.warning_book.specs.declared.kind.Kind.TheVariants as kind
 use Rattle.warning_book.specs.Checks as book
 use Rattle.warning_book.specs.declared.notice.Notice.{Notice}
 use Rattle.warning_book.specs.declared.refusal.Refusal as book_refusal
 use Rattle.warning_book.specs.declared.warning.Warning.{Warning}
-use Rattle.centre_events.specs.Asking.{asked_cells, query_of, version_query, warning_query}
+use Rattle.centre_events.specs.Asking.{asked_cells, query_of, query_of_kind, version_query, warning_query}
 use Rattle.centre_events.specs.Cover.{is_area}
 use Rattle.centre_events.specs.InFlight.{in_flight, matches_flight}
 use Rattle.centre_events.specs.Past.{Past, entry_count, position}
@@ -40,7 +42,7 @@ use Rattle.centre_events.specs.declared.refusal.Refusal.{Refusal}
 use Rattle.centre_events.specs.declared.refusal.Refusal.TheVariants as refusal
 use Rattle.centre_past.proofs.WarningLemmas.{issue_ok, update_ok}
 use Rattle.centre_past.specs.VerdictLaws.{is_given, is_of_event, verdict_given}
-use Rattle.centre_laws.specs.Causes.{limit_place, is_smaller, comes_before, stands_before, is_empty, asks_no_cell, asks_nothing, edit_causes, event_causes, causes_of, comes_no_earlier, IsLeastCause}
+use Rattle.centre_laws.specs.Causes.{limit_place, is_smaller, comes_before, stands_before, is_empty, asks_no_cell, asks_none_of, asks_nothing, edit_causes, event_causes, causes_of, comes_no_earlier, IsLeastCause}
 
 -- The causes stand in order.
 
@@ -152,9 +154,15 @@ version_decides : (past : Past) (b m : ℕ) (s : Option ℕ) (after : Option Cel
 version_decides past b m None after = decides_one true refusal.NothingToAsk (Err refusal.NothingToAsk) (λ held. refl) (λ free. cc)
 version_decides past b m (Some s) after = cells_decide m s (asked_cells past b m s after)
 
+-- nor does one of an emergency warning
+kind_decides : (k : Kind) (t : Bool) (query : Result Answer Refusal) → Decides ((t, refusal.NothingToAsk) ∷ []) query → Decides ((asks_none_of k t, refusal.NothingToAsk) ∷ []) (query_of_kind k query)
+kind_decides kind.Cbs t query decides = decides
+kind_decides kind.Emergency t query decides = decides_one true refusal.NothingToAsk (Err refusal.NothingToAsk) (λ held. refl) (λ free. cc)
+
 query_decides : (past : Past) (b : ℕ) (w : Option Warning) (after : Option Cell) → not (is_some w) ≡ false → Decides ((asks_nothing past b w after, refusal.NothingToAsk) ∷ []) (warning_query past b w after)
 query_decides past b None after there = cc
-query_decides past b (Some w) after there = version_decides past b w.message_id (current_of w) after
+query_decides past b (Some w) after there =
+    kind_decides (kind_of w) (asks_no_cell past b w.message_id (current_of w) after) (version_query past b w.message_id (current_of w) after) (version_decides past b w.message_id (current_of w) after)
 
 ask_decides : (past : Past) (b generation n : ℕ) (after : Option Cell) → Decides (event_causes past (event.Ask b generation n after)) (unless (ask_checks past b generation n) (warning_query past b (warning_of (book_of past) n) after))
 ask_decides past b generation n after =

@@ -12,7 +12,9 @@ use Rattle.coverage_plan.specs.declared.edit.Edit.TheVariants as edit
 use Rattle.coverage_plan.specs.declared.refusal.Limit.TheVariants as plan_limit
 use Rattle.coverage_plan.specs.declared.refusal.Refusal as plan
 use Rattle.coverage_plan.specs.declared.refusal.Refusal.TheVariants as plan_refusal
-use Rattle.warning_book.specs.Book.{current_of, warning_is, warning_of}
+use Rattle.warning_book.specs.Book.{current_of, kind_of, warning_is, warning_of}
+use Rattle.warning_book.specs.declared.kind.Kind.{Kind}
+use Rattle.warning_book.specs.declared.kind.Kind.TheVariants as kind
 use Rattle.warning_book.specs.declared.warning.Warning.{Warning}
 use Rattle.centre_events.specs.Asking.{asked_cells}
 use Rattle.centre_events.specs.Kept.{IsRegisterOf, AreAreasOf}
@@ -68,10 +70,15 @@ abbrev pub asks_no_cell : Past → ℕ → ℕ → Option ℕ → Option Cell �
 asks_no_cell past b m None after = true
 asks_no_cell past b m (Some s) after = is_empty (asked_cells past b m s after)
 
--- nor is the current version of the warning
+-- an emergency warning is asked in no cell
+abbrev pub asks_none_of : Kind → Bool → Bool
+asks_none_of kind.Cbs none = none
+asks_none_of kind.Emergency none = true
+
+-- the current version of the warning is asked nowhere
 abbrev pub asks_nothing : Past → ℕ → Option Warning → Option Cell → Bool
 asks_nothing past b None after = true
-asks_nothing past b (Some w) after = asks_no_cell past b w.message_id (current_of w) after
+asks_nothing past b (Some w) after = asks_none_of (kind_of w) (asks_no_cell past b w.message_id (current_of w) after)
 
 -- why an edit is refused
 abbrev pub edit_causes : Past → Edit → List (Bool × Refusal)
