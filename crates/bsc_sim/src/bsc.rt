@@ -79,14 +79,15 @@ impl Bsc {
 
     /// Carries out a message, and gives the answer to it.
     ///
-    /// A WRITE-REPLACE, a KILL and a MESSAGE STATUS QUERY are taken where their list names at most 9,000 cells, each by
-    /// LAC and CI. In each cell in turn they fail with the cause that is chosen for it; else with 3 where the cell isn't
+    /// A WRITE-REPLACE of either form, a KILL and a MESSAGE STATUS QUERY are taken where their list names at most 9,000
+    /// cells, each by LAC and CI. In each cell in turn they fail with the cause that is chosen for it; else with 3 where the cell isn't
     /// the BSC's own; else a write fails with 13 where the message is on air, and a replace with 2 where the older one
     /// isn't, and the others fail with 2 where the message isn't. Where none failed the answer is a COMPLETE, else a
     /// FAILURE with the cells that failed. Both have the identifiers of the message, and list the cells in which it was
     /// done, if there are any, in their order; the answers to a query have no such list. They have the numbers of
     /// broadcasts that are chosen for these cells, if there are any; a MESSAGE STATUS QUERY COMPLETE always has that
-    /// list. Everything else is answered by an ERROR INDICATION with cause 4. Each answer names the basic channel.
+    /// list. Everything else is answered by an ERROR INDICATION with cause 4, which names the basic channel; the other
+    /// answers name it where the message names a channel.
     ///
     /// What is done in one cell counts for the cells after it, so a cell may be named twice. An `Err` leaves the table
     /// as it was. It comes of a message that is taken alone: an ERROR INDICATION takes no memory.
@@ -98,33 +99,32 @@ impl Bsc {
         ensures fits { IfOk result (λ reply. Fits reply) }
     {
         match message {
-            Message::WriteReplace(m) => self.carry_out(
-                Request {
-                    message_id: m.message_id,
-                    serial: m.serial,
-                    task: Task::Write { old: m.old },
-                },
-                &m.cells,
-                choices,
-            ),
-            Message::Kill(m) => self.carry_out(
-                Request {
-                    message_id: m.message_id,
-                    serial: m.serial,
-                    task: Task::Kill,
-                },
-                &m.cells,
-                choices,
-            ),
-            Message::StatusQuery(m) => self.carry_out(
-                Request {
-                    message_id: m.message_id,
-                    serial: m.serial,
-                    task: Task::Query,
-                },
-                &m.cells,
-                choices,
-            ),
+            Message::WriteReplace(m) => {
+                let request = Request::of(
+                    m.message_id,
+                    m.serial,
+                    Task::Write { old: m.old },
+                    m.channel.is_some(),
+                );
+                self.carry_out(request, &m.cells, choices)
+            }
+            Message::WriteEmergency(m) => {
+                let request = Request::of(
+                    m.message_id,
+                    m.serial,
+                    Task::Write { old: m.old },
+                    false,
+                );
+                self.carry_out(request, &m.cells, choices)
+            }
+            Message::Kill(m) => {
+                let request = Request::of(m.message_id, m.serial, Task::Kill, m.channel.is_some());
+                self.carry_out(request, &m.cells, choices)
+            }
+            Message::StatusQuery(m) => {
+                let request = Request::of(m.message_id, m.serial, Task::Query, m.channel.is_some());
+                self.carry_out(request, &m.cells, choices)
+            }
             _ => Ok(not_understood()),
         }
     }

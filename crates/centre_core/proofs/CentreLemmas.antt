@@ -91,7 +91,7 @@ finishes settings past desk e a s t place up spots held legal accepted kept regi
   flying = rw flying kept.flying;
   is_up = is_up;
   is_place = is_place;
-  downs = λ b c. ap (λ u. down_at u.lines b c) tables ∙ kept.downs b c;
+  downs = λ k b c. ap (λ u. down_at u.lines k b c) tables ∙ kept.downs k b c;
   tables = subst (λ u. Consistent u (facts past)) (sym tables) kept.tables;
   reached = reached;
 }
