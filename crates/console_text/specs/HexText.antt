@@ -27,6 +27,6 @@ pages_of word = if bytes_eq word (codes "-") then Some [] else all_octets_of (pa
 abbrev pub as_security : List ℕ → Option (List ℕ)
 as_security octets = if length octets == 50 then Some octets else None
 
--- security information has 50 octets (TS 48.049, 8.2.18); `-` alone is 50 zeros
+-- security information has 50 octets (TS 48.049, 8.2.19); `-` alone is 50 zeros
 abbrev pub security_of : List ℕ → Option (List ℕ)
 security_of word = if bytes_eq word (codes "-") then Some (replicate 50 0) else option_and_then as_security (octets_of word)

@@ -7,7 +7,7 @@ use warning_book::{Content, EmergencyContent};
 pub struct EmergencyHeading {
     /// The Emergency Indicator (TS 48.049, 8.2.17).
     pub indicator: u8,
-    /// The Warning Type (TS 23.041, 9.3.24).
+    /// The Warning Type (TS 48.049, 8.2.18, and TS 23.041, 9.3.24).
     pub warning_type: u16,
     /// The Warning Period (TS 48.049, 8.2.25).
     pub warning_period: u8,
