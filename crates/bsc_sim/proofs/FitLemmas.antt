@@ -76,7 +76,7 @@ part_fits counts (e ∷ entries) few = few
 counts_fit : (chosen : Chosen) (done : List Cell) → length done ≤ 9000 → length (counts_octets (counts_of chosen done)) < 65536
 counts_fit chosen done few = let n = entries_length chosen done in omega (arith, n, few)
 
-failures_fit : (failed : List FailEntry) → AllByRecursion IsShort failed → length failed ≤ 9000 → length (failures_octets failed) < 65536
+failures_fit : (failed : List FailEntry) → AllByRecursion IsShort failed → length failed ≤ 10922 → length (failures_octets failed) < 65536
 failures_fit failed short few = let n = failures_length failed short in omega (arith, n, few)
 
 -- a COMPLETE
@@ -88,9 +88,9 @@ complete_fits Query r chosen done few = record { cells = tt; counts = counts_fit
 -- a FAILURE
 failure_fits : (t : Task) (r : Request) (chosen : Chosen) (done : List Cell) (failed : List FailEntry) → length done ≤ 9000 → AllByRecursion IsShort failed → length failed ≤ 9000
     → Fits (task_failure t r done (counts_of chosen done) failed)
-failure_fits (Write old) r chosen done failed few short less = record { cells = done_fits done few; counts = part_fits (counts_of chosen done) (counts_of chosen done).entries (counts_fit chosen done few); failures = failures_fit failed short less; pages = tt }
-failure_fits Kill r chosen done failed few short less = record { cells = done_fits done few; counts = part_fits (counts_of chosen done) (counts_of chosen done).entries (counts_fit chosen done few); failures = failures_fit failed short less; pages = tt }
-failure_fits Query r chosen done failed few short less = record { cells = tt; counts = part_fits (counts_of chosen done) (counts_of chosen done).entries (counts_fit chosen done few); failures = failures_fit failed short less; pages = tt }
+failure_fits (Write old) r chosen done failed few short less = record { cells = done_fits done few; counts = part_fits (counts_of chosen done) (counts_of chosen done).entries (counts_fit chosen done few); failures = failures_fit failed short (omega (arith, less)); pages = tt }
+failure_fits Kill r chosen done failed few short less = record { cells = done_fits done few; counts = part_fits (counts_of chosen done) (counts_of chosen done).entries (counts_fit chosen done few); failures = failures_fit failed short (omega (arith, less)); pages = tt }
+failure_fits Query r chosen done failed few short less = record { cells = tt; counts = part_fits (counts_of chosen done) (counts_of chosen done).entries (counts_fit chosen done few); failures = failures_fit failed short (omega (arith, less)); pages = tt }
 
 -- either
 reply_fits : (chosen : Chosen) (r : Request) (done : List Cell) (failed : List FailEntry) → length done ≤ 9000 → AllByRecursion IsShort failed → length failed ≤ 9000 → Fits (reply_of chosen r done failed)
@@ -152,7 +152,7 @@ failed_length : (cells : List Cell) (cause : Cause) → length (map (λ c. failu
 failed_length [] cause = refl
 failed_length (c ∷ cells) cause = let more = failed_length cells cause in omega (arith, more)
 
-pub fail_fits : (failures : List FailEntry) (cells : List Cell) (cause : Cause) (n : ℕ) → failures ≡ map (λ c. failure_in c cause) (take n cells) → length cells ≤ 9000
+pub fail_fits : (failures : List FailEntry) (cells : List Cell) (cause : Cause) (n : ℕ) → failures ≡ map (λ c. failure_in c cause) (take n cells) → length cells ≤ 10922
     → Fits (message.Failure (record { failures = failures; kind = 0 }))
 fail_fits failures cells cause n same few =
     let short = subst (AllByRecursion IsShort) (sym same) (failed_short (take n cells) cause) in

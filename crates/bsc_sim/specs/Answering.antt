@@ -1,6 +1,7 @@
 -- How a simulated BSC answers an order or a query (3GPP TS 48.049, 8.1.3).
-use Rattle.std.specs.Prelude.{ℕ, nat_le, Bool, true, ◌&&◌, List, [], ◌∷◌, ◌++◌, length, map, Option, Some, None, if◌then◌else◌}
+use Rattle.std.specs.Prelude.{ℕ, nat_le, Bool, true, false, ◌&&◌, List, [], ◌∷◌, ◌++◌, length, map, Option, Some, None, if◌then◌else◌}
 use Rattle.std.specs.List.{flat_map, list_any}
+use Rattle.std.specs.Option.{is_some}
 use Rattle.common.specs.Cell.{cell_eq}
 use Rattle.common.specs.declared.cell.Cell.{Cell}
 use Rattle.cbsp_ie.specs.declared.cause.Cause.{Cause}
@@ -132,20 +133,24 @@ part_of counts (e ∷ entries) = Some counts
 abbrev pub counts_part : Numbers → Option Numbers
 counts_part counts = part_of counts counts.entries
 
+-- the basic channel, if the request names a channel
+abbrev pub channel_of : Request → Option ℕ
+channel_of r = if r.has_channel then Some 0 else None
+
 -- the COMPLETE of a task: the identifiers of the request, the numbers of broadcasts, and the cells but for a query
 abbrev pub task_complete : Task → Request → List Cell → Numbers → Message
-task_complete (Write old) r done counts = message.WriteComplete (record { message_id = r.message_id; serial = r.serial; old = old; counts = counts_part counts; cells = done_part done; channel = Some 0 })
-task_complete Kill r done counts = message.KillComplete (record { message_id = r.message_id; serial = r.serial; counts = counts_part counts; cells = done_part done; channel = Some 0 })
-task_complete Query r done counts = message.StatusComplete (record { message_id = r.message_id; serial = r.serial; counts = counts; channel = Some 0 })
+task_complete (Write old) r done counts = message.WriteComplete (record { message_id = r.message_id; serial = r.serial; old = old; counts = counts_part counts; cells = done_part done; channel = channel_of r })
+task_complete Kill r done counts = message.KillComplete (record { message_id = r.message_id; serial = r.serial; counts = counts_part counts; cells = done_part done; channel = channel_of r })
+task_complete Query r done counts = message.StatusComplete (record { message_id = r.message_id; serial = r.serial; counts = counts; channel = channel_of r })
 
 abbrev pub complete_of : Request → List Cell → Numbers → Message
 complete_of r done counts = task_complete r.task r done counts
 
 -- the FAILURE of a task: the same, with the cells that failed
 abbrev pub task_failure : Task → Request → List Cell → Numbers → List FailEntry → Message
-task_failure (Write old) r done counts failed = message.WriteFailure (record { message_id = r.message_id; serial = r.serial; old = old; failures = failed; counts = counts_part counts; cells = done_part done; channel = Some 0 })
-task_failure Kill r done counts failed = message.KillFailure (record { message_id = r.message_id; serial = r.serial; failures = failed; counts = counts_part counts; cells = done_part done; channel = Some 0 })
-task_failure Query r done counts failed = message.StatusFailure (record { message_id = r.message_id; serial = r.serial; failures = failed; counts = counts_part counts; channel = Some 0 })
+task_failure (Write old) r done counts failed = message.WriteFailure (record { message_id = r.message_id; serial = r.serial; old = old; failures = failed; counts = counts_part counts; cells = done_part done; channel = channel_of r })
+task_failure Kill r done counts failed = message.KillFailure (record { message_id = r.message_id; serial = r.serial; failures = failed; counts = counts_part counts; cells = done_part done; channel = channel_of r })
+task_failure Query r done counts failed = message.StatusFailure (record { message_id = r.message_id; serial = r.serial; failures = failed; counts = counts_part counts; channel = channel_of r })
 
 abbrev pub failure_of : Request → List Cell → Numbers → List FailEntry → Message
 failure_of r done counts failed = task_failure r.task r done counts failed
@@ -178,8 +183,16 @@ abbrev pub carried : BscState → Chosen → Request → Identifications → Ans
 carried b chosen r cells =
     if is_taken cells then settled b chosen r (tally_of b.own chosen r b.keys (cells_named cells.ids)) else record { reply = not_understood; after = b }
 
+-- what the message asks is carried out, cell by cell
+abbrev pub is_understood : Message → Bool
+is_understood (message.WriteReplace m) = is_taken m.cells
+is_understood (message.Kill m) = is_taken m.cells
+is_understood (message.StatusQuery m) = is_taken m.cells
+is_understood other = false
+
 abbrev pub answered : BscState → Chosen → Message → Answered
-answered b chosen (message.WriteReplace m) = carried b chosen (record { message_id = m.message_id; serial = m.serial; task = Write m.old }) m.cells
-answered b chosen (message.Kill m) = carried b chosen (record { message_id = m.message_id; serial = m.serial; task = Kill }) m.cells
-answered b chosen (message.StatusQuery m) = carried b chosen (record { message_id = m.message_id; serial = m.serial; task = Query }) m.cells
+answered b chosen (message.WriteReplace m) = carried b chosen (record { message_id = m.message_id; serial = m.serial; task = Write m.old; has_channel = is_some m.channel }) m.cells
+answered b chosen (message.WriteEmergency m) = carried b chosen (record { message_id = m.message_id; serial = m.serial; task = Write m.old; has_channel = false }) m.cells
+answered b chosen (message.Kill m) = carried b chosen (record { message_id = m.message_id; serial = m.serial; task = Kill; has_channel = is_some m.channel }) m.cells
+answered b chosen (message.StatusQuery m) = carried b chosen (record { message_id = m.message_id; serial = m.serial; task = Query; has_channel = is_some m.channel }) m.cells
 answered b chosen other = record { reply = not_understood; after = b }

@@ -1,11 +1,11 @@
 //! A simulated base station controller.
 
-ghost use Rattle.std.specs.Prelude.{◌≡◌, ◌≤◌, [], length, None, IfOk, OnOk, OnErr, if◌then◌else◌};
+ghost use Rattle.std.specs.Prelude.{◌≡◌, ◌≤◌, true, [], length, None, IfOk, OnOk, OnErr, if◌then◌else◌};
 ghost use Rattle.std.specs.List.{list_any};
 ghost use Rattle.common.specs.Cell.{cell_eq};
 ghost use Rattle.common.specs.declared.cell.Cell.{Cell as ACell};
 ghost use Rattle.cbsp_messages.specs.Written.{Fits};
-ghost use Rattle.bsc_sim.specs.Answering.{answered, carried, is_own, is_taken};
+ghost use Rattle.bsc_sim.specs.Answering.{answered, carried, is_own, is_taken, is_understood};
 ghost use Rattle.bsc_sim.specs.Bsc.{emptied};
 ghost use Rattle.bsc_sim.specs.Indications.{fail_message, restart_message};
 
@@ -79,51 +79,52 @@ impl Bsc {
 
     /// Carries out a message, and gives the answer to it.
     ///
-    /// A WRITE-REPLACE, a KILL and a MESSAGE STATUS QUERY are taken where their list names at most 9,000 cells, each by
-    /// LAC and CI. In each cell in turn they fail with the cause that is chosen for it; else with 3 where the cell isn't
+    /// A WRITE-REPLACE of either form, a KILL and a MESSAGE STATUS QUERY are taken where their list names at most 9,000
+    /// cells, each by LAC and CI. In each cell in turn they fail with the cause that is chosen for it; else with 3 where the cell isn't
     /// the BSC's own; else a write fails with 13 where the message is on air, and a replace with 2 where the older one
     /// isn't, and the others fail with 2 where the message isn't. Where none failed the answer is a COMPLETE, else a
     /// FAILURE with the cells that failed. Both have the identifiers of the message, and list the cells in which it was
     /// done, if there are any, in their order; the answers to a query have no such list. They have the numbers of
     /// broadcasts that are chosen for these cells, if there are any; a MESSAGE STATUS QUERY COMPLETE always has that
-    /// list. Everything else is answered by an ERROR INDICATION with cause 4. Each answer names the basic channel.
+    /// list. Everything else is answered by an ERROR INDICATION with cause 4, which names the basic channel; the other
+    /// answers name it where the message names a channel.
     ///
     /// What is done in one cell counts for the cells after it, so a cell may be named twice. An `Err` leaves the table
-    /// as it was.
+    /// as it was. It comes of a message that is taken alone: an ERROR INDICATION takes no memory.
     pub fn answer(&mut self, message: &Message, choices: &Choices) -> Result<Message, AllocError>
         ensures reply { IfOk result (λ reply. reply ≡ (answered self.old choices.now message.now).reply) }
         ensures table { OnOk result (self.new ≡ (answered self.old choices.now message.now).after) }
         ensures unchanged { OnErr result (self.new ≡ self.old) }
+        ensures starved { OnErr result (is_understood message.now ≡ true) }
         ensures fits { IfOk result (λ reply. Fits reply) }
     {
         match message {
-            Message::WriteReplace(m) => self.carry_out(
-                Request {
-                    message_id: m.message_id,
-                    serial: m.serial,
-                    task: Task::Write { old: m.old },
-                },
-                &m.cells,
-                choices,
-            ),
-            Message::Kill(m) => self.carry_out(
-                Request {
-                    message_id: m.message_id,
-                    serial: m.serial,
-                    task: Task::Kill,
-                },
-                &m.cells,
-                choices,
-            ),
-            Message::StatusQuery(m) => self.carry_out(
-                Request {
-                    message_id: m.message_id,
-                    serial: m.serial,
-                    task: Task::Query,
-                },
-                &m.cells,
-                choices,
-            ),
+            Message::WriteReplace(m) => {
+                let request = Request::of(
+                    m.message_id,
+                    m.serial,
+                    Task::Write { old: m.old },
+                    m.channel.is_some(),
+                );
+                self.carry_out(request, &m.cells, choices)
+            }
+            Message::WriteEmergency(m) => {
+                let request = Request::of(
+                    m.message_id,
+                    m.serial,
+                    Task::Write { old: m.old },
+                    false,
+                );
+                self.carry_out(request, &m.cells, choices)
+            }
+            Message::Kill(m) => {
+                let request = Request::of(m.message_id, m.serial, Task::Kill, m.channel.is_some());
+                self.carry_out(request, &m.cells, choices)
+            }
+            Message::StatusQuery(m) => {
+                let request = Request::of(m.message_id, m.serial, Task::Query, m.channel.is_some());
+                self.carry_out(request, &m.cells, choices)
+            }
             _ => Ok(not_understood()),
         }
     }
@@ -137,6 +138,7 @@ impl Bsc {
         ensures reply { IfOk result (λ reply. reply ≡ (carried self.old choices.now request cells.now).reply) }
         ensures table { OnOk result (self.new ≡ (carried self.old choices.now request cells.now).after) }
         ensures unchanged { OnErr result (self.new ≡ self.old) }
+        ensures starved { OnErr result (is_taken cells.now ≡ true) }
     {
         if !is_taken(cells) {
             return Ok(not_understood());
@@ -173,11 +175,11 @@ impl Bsc {
         Ok(message)
     }
 
-    /// A FAILURE of these cells with the cause, for broadcast message type 0. The table stays as it is.
+    /// A FAILURE of these cells with the cause, for broadcast message type 0. The table stays as it is. Each cell takes six
+    /// octets, so the message fits, and can be written, where they are at most 10,922.
     pub fn fail(&self, cells: &[Cell], cause: Cause) -> Result<Message, AllocError>
-        requires { length cells.now ≤ 9000 }
         ensures message { IfOk result (λ m. m ≡ fail_message cells.now cause) }
-        ensures fits { IfOk result (λ m. Fits m) }
+        ensures fits { length cells.now ≤ 10922 → IfOk result (λ m. Fits m) }
     {
         fail_message(self.alloc, cells, cause)
     }

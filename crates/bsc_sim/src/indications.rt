@@ -27,9 +27,8 @@ pub(crate) fn fail_message(
     cells: &[Cell],
     cause: Cause,
 ) -> Result<Message, AllocError>
-    requires { length cells.now ≤ 9000 }
     ensures message { IfOk result (λ m. m ≡ fail_message cells.now cause) }
-    ensures fits { IfOk result (λ m. Fits m) }
+    ensures fits { length cells.now ≤ 10922 → IfOk result (λ m. Fits m) }
 {
     let mut failures = Failures::with_capacity(alloc, cells.len())?;
     for cell in cells {

@@ -1,7 +1,7 @@
 //! The message that answers a request.
 
 ghost use Rattle.std.specs.Prelude.{◌≡◌, IfOk};
-ghost use Rattle.bsc_sim.specs.Answering.{complete_of, counts_of, counts_part, done_part, failure_of, not_understood, reply_of};
+ghost use Rattle.bsc_sim.specs.Answering.{channel_of, complete_of, counts_of, counts_part, done_part, failure_of, not_understood, reply_of};
 
 use crate::choices::Choices;
 use crate::request::{Request, Task};
@@ -13,7 +13,7 @@ use cbsp_messages::{
 use common::Cell;
 use std::alloc::{AllocError, Global};
 
-/// The basic channel, which each reply names.
+/// The basic channel.
 const BASIC_CHANNEL: u8 = 0;
 
 /// The answer to what isn't taken.
@@ -27,6 +27,17 @@ pub(crate) fn not_understood() -> Message
         old: None,
         channel: Some(BASIC_CHANNEL),
     })
+}
+
+/// The basic channel, if the request names a channel.
+fn channel_of(request: &Request) -> Option<u8>
+    ensures { result ≡ channel_of request.now }
+{
+    if request.has_channel {
+        Some(BASIC_CHANNEL)
+    } else {
+        None
+    }
 }
 
 /// The list of the cells, if there are any.
@@ -98,7 +109,7 @@ fn complete(
 {
     let message_id = request.message_id;
     let serial = request.serial;
-    let channel = Some(BASIC_CHANNEL);
+    let channel = channel_of(request);
     Ok(match request.task {
         Task::Write { old } => Message::WriteComplete(WriteComplete {
             message_id,
@@ -137,7 +148,7 @@ fn failure(
     let message_id = request.message_id;
     let serial = request.serial;
     let counts = counts_part(counts);
-    let channel = Some(BASIC_CHANNEL);
+    let channel = channel_of(request);
     Ok(match request.task {
         Task::Write { old } => Message::WriteFailure(WriteFailure {
             message_id,

@@ -18,15 +18,28 @@ pub(crate) enum Task {
     Query,
 }
 
-/// A task, and the message that it is about.
+/// A task, the message that it is about, and whether a channel is named.
 #[derive(Clone, Copy, Debug, PartialEq, Eq)]
 pub(crate) struct Request {
     pub(crate) message_id: u16,
     pub(crate) serial: u16,
     pub(crate) task: Task,
+    /// Whether it names a channel.
+    pub(crate) has_channel: bool,
 }
 
 impl Request {
+    pub(crate) fn of(message_id: u16, serial: u16, task: Task, has_channel: bool) -> Request
+        ensures { result ≡ record { message_id = message_id; serial = serial; task = task; has_channel = has_channel } }
+    {
+        Request {
+            message_id,
+            serial,
+            task,
+            has_channel,
+        }
+    }
+
     fn key(&self, serial: u16, cell: Cell) -> Key
         ensures { result ≡ key_in self.now serial cell }
     {

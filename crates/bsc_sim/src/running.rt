@@ -1,8 +1,8 @@
 //! A conversation of a simulated BSC over a stream.
 
-ghost use Rattle.std.specs.Prelude.{◌≡◌, ℕ, ◌⊎◌, ◌||◌, ◌∷◌, [], true, false, List, Option, IfErr, OnOk};
+ghost use Rattle.std.specs.Prelude.{◌≡◌, ℕ, ◌∷◌, [], true, false, List, Option, IfErr, OnOk};
 ghost use Rattle.std.specs.Io.KnownBytes.{Appends};
-ghost use Rattle.framing.specs.Source.{counted};
+ghost use Rattle.framing.specs.Source.{FailsToRead, counted, with_failure};
 ghost use Rattle.cbsp_messages.specs.Written.{Fits, frame_of};
 ghost use Rattle.bsc_sim.specs.Bsc.{emptied};
 ghost use Rattle.bsc_sim.specs.Conversation.{Breaks, Converses, Hears, HearsInPart, IsWaiting, Replies, SendsInPart, Turns, TurnsInPart, ends_by, frames_of, is_read_fault, is_write_fault, opening};
@@ -20,7 +20,7 @@ fn send<W: Sink>(alloc: Global, message: Message, writer: &mut W) -> Result<(), 
     requires { Fits message }
     ensures ok { OnOk result (Appends (W.written writer.old) (W.written writer.new) (frame_of message)) }
     ensures err { IfErr result (SendsInPart (message ∷ []) (W.written writer.old) (W.written writer.new)) }
-    ensures failed { W.has_failed writer.new ≡ (ends_by is_write_fault result || W.has_failed writer.old) }
+    ensures failed { W.failures writer.new ≡ with_failure (W.failures writer.old) (ends_by is_write_fault result) }
     ensures reads { ends_by is_read_fault result ≡ false }
 {
     let octets = write(alloc, &message);
@@ -37,7 +37,7 @@ fn open<W: Sink>(bsc: &mut Bsc, writer: &mut W) -> Result<(), SimEnd>
     ensures emptied { bsc.new ≡ emptied bsc.old }
     ensures ok { OnOk result (Appends (W.written writer.old) (W.written writer.new) (frames_of opening)) }
     ensures err { IfErr result (SendsInPart opening (W.written writer.old) (W.written writer.new)) }
-    ensures failed { W.has_failed writer.new ≡ (ends_by is_write_fault result || W.has_failed writer.old) }
+    ensures failed { W.failures writer.new ≡ with_failure (W.failures writer.old) (ends_by is_write_fault result) }
     ensures reads { ends_by is_read_fault result ≡ false }
 {
     bsc.clear();
@@ -57,7 +57,7 @@ fn answer_frame<W: Sink>(
 ) -> Result<(), SimEnd>
     ensures ok { OnOk result (Replies choices.now bsc.old (frame.now ∷ []) bsc.new (W.written writer.old) (W.written writer.new)) }
     ensures err { IfErr result (Breaks choices.now bsc.old (frame.now ∷ []) bsc.new (W.written writer.old) (W.written writer.new)) }
-    ensures failed { W.has_failed writer.new ≡ (ends_by is_write_fault result || W.has_failed writer.old) }
+    ensures failed { W.failures writer.new ≡ with_failure (W.failures writer.old) (ends_by is_write_fault result) }
     ensures reads { ends_by is_read_fault result ≡ false }
 {
     let message = read(bsc.alloc(), frame.kind, frame.body.as_slice())?;
@@ -78,7 +78,7 @@ fn answer_ready<W: Sink>(
     ensures err { IfErr result (Breaks choices.now bsc.old framer.old.frames bsc.new (W.written writer.old) (W.written writer.new)) }
     ensures drained { OnOk result (framer.new.frames ≡ []) }
     ensures rest { framer.new.rest ≡ framer.old.rest }
-    ensures failed { W.has_failed writer.new ≡ (ends_by is_write_fault result || W.has_failed writer.old) }
+    ensures failed { W.failures writer.new ≡ with_failure (W.failures writer.old) (ends_by is_write_fault result) }
     ensures reads { ends_by is_read_fault result ≡ false }
 {
     while let Some(frame) = framer.next() {
@@ -99,7 +99,7 @@ fn take_piece<W: Sink>(
     ensures ok { OnOk result (Hears choices.now bsc.old framer.old.rest piece.now bsc.new framer.new.rest (W.written writer.old) (W.written writer.new)) }
     ensures waiting { OnOk result (IsWaiting framer.new) }
     ensures err { IfErr result (λ end. (left : Option (List ℕ)) → HearsInPart choices.now bsc.old framer.old.rest piece.now bsc.new left (W.written writer.old) (W.written writer.new) end) }
-    ensures failed { W.has_failed writer.new ≡ (ends_by is_write_fault result || W.has_failed writer.old) }
+    ensures failed { W.failures writer.new ≡ with_failure (W.failures writer.old) (ends_by is_write_fault result) }
     ensures reads { ends_by is_read_fault result ≡ false }
 {
     match framer.feed(piece) {
@@ -125,8 +125,8 @@ fn turn<R: Source, W: Sink>(
     ensures waiting { OnOk result (IsWaiting framer.new) }
     ensures err { IfErr result (TurnsInPart choices.now bsc.old framer.old.rest bsc.new (R.remaining reader.old) (R.remaining reader.new) (W.written writer.old) (W.written writer.new)) }
     ensures calls { R.calls reader.new ≡ counted (R.calls reader.old) 1 }
-    ensures read_failed { R.has_failed reader.new ≡ (ends_by is_read_fault result || R.has_failed reader.old) }
-    ensures write_failed { W.has_failed writer.new ≡ (ends_by is_write_fault result || W.has_failed writer.old) }
+    ensures read_failed { R.failures reader.new ≡ with_failure (R.failures reader.old) (ends_by is_read_fault result) }
+    ensures write_failed { W.failures writer.new ≡ with_failure (W.failures writer.old) (ends_by is_write_fault result) }
 {
     let mut piece = [0; 4096];
     match reader.read(&mut piece) {
@@ -157,9 +157,9 @@ impl Bsc {
         choices: &Choices,
     ) -> SimEnd
         ensures conversation { Converses choices.now self.old self.new (R.remaining reader.old) (R.remaining reader.new) (W.written writer.old) (W.written writer.new) result }
-        ensures read_fault { is_read_fault result ≡ true → (R.has_failed reader.new ≡ true) ⊎ (R.calls reader.new ≡ counted (R.calls reader.old) 1000000000000) }
-        ensures read_failed { is_read_fault result ≡ false → R.has_failed reader.new ≡ R.has_failed reader.old }
-        ensures write_fault { W.has_failed writer.new ≡ (is_write_fault result || W.has_failed writer.old) }
+        ensures read_fault { is_read_fault result ≡ true → FailsToRead (R.calls reader.old) (R.calls reader.new) (R.failures reader.old) (R.failures reader.new) }
+        ensures read_failed { is_read_fault result ≡ false → R.failures reader.new ≡ R.failures reader.old }
+        ensures write_fault { W.failures writer.new ≡ with_failure (W.failures writer.old) (is_write_fault result) }
     {
         if let Err(end) = open(self, writer) {
             return end;

@@ -1,5 +1,5 @@
 -- The cells that a centre finds for an indication are those that the past says it lists.
-use Rattle.std.proofs.Common.{◌≡◌, ℕ, Bool, true, false, ◌&&◌, ◌||◌, List, nat_eq, filter, refl, sym, ◌∙◌, ap, eq-eqb}
+use Rattle.std.proofs.Common.{◌≡◌, ℕ, Bool, true, false, ◌&&◌, ◌||◌, List, filter, refl, sym, ◌∙◌, ap}
 use Rattle.std.specs.List.{list_any}
 use Rattle.std.proofs.lemmas.Bool.{and_parts, false_from_ne_true}
 use Rattle.cbsp_ie.specs.declared.cell_id.CellId.{CellId}
@@ -14,7 +14,8 @@ use Rattle.common.specs.SortingLaws.{any_sorted, same_ascending, sorted_ascends}
 use Rattle.common.specs.declared.cell.Cell.{Cell}
 use Rattle.mirror.specs.Known as kept
 use Rattle.mirror.specs.Table.{Table}
-use Rattle.centre_events.specs.Effects.{is_among}
+use Rattle.warning_book.specs.declared.kind.Kind.TheVariants as kind
+use Rattle.centre_events.specs.Effects.{is_about, is_among}
 use Rattle.centre_past.specs.Idle.{AreKnownOf}
 use Rattle.centre_events.specs.Known.{is_known, is_named, known_named}
 use Rattle.centre_past.specs.Legal.{Legal}
@@ -60,8 +61,6 @@ named_cells settings past network t r b ids cs legal knows ascends all =
         ∙ sym (filtered p c (cells past))
         ∙ sym (any_sorted cell_lt (cell_eq c) (filter p (cells past)))
 
--- where the indication is about CBS messages
-pub listed_is : (settings : Settings) (past : Past) (network : List ℕ) (t : Table) (r : State) (b kind : ℕ) (ids : List CellId) (cs : List Cell) → Legal settings past → AreKnownOf past t r → kind ≡ 0 → is_ascending cell_lt cs ≡ true → ((c : Cell) → list_any (cell_eq c) cs ≡ (kept.is_known t r b c && kept.is_named network ids c)) → cs ≡ listed_cells network past b kind ids
-listed_is settings past network t r b kind ids cs legal knows none ascends all =
-    let about : nat_eq kind 0 ≡ true = eq-eqb kind 0 none in
-    rw about (named_cells settings past network t r b ids cs legal knows ascends all)
+-- where the indication is about warnings of one of the kinds
+pub listed_is : (settings : Settings) (past : Past) (network : List ℕ) (t : Table) (r : State) (b number : ℕ) (ids : List CellId) (cs : List Cell) → Legal settings past → AreKnownOf past t r → (is_about number kind.Cbs || is_about number kind.Emergency) ≡ true → is_ascending cell_lt cs ≡ true → ((c : Cell) → list_any (cell_eq c) cs ≡ (kept.is_known t r b c && kept.is_named network ids c)) → cs ≡ listed_cells network past b number ids
+listed_is settings past network t r b number ids cs legal knows about ascends all = rw about (named_cells settings past network t r b ids cs legal knows ascends all)

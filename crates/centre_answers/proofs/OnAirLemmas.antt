@@ -19,7 +19,7 @@ use Rattle.mirror.specs.Blank.{is_blank}
 use Rattle.mirror.specs.Line.{state_of}
 use Rattle.mirror.specs.OnAir.{AreOnAir, is_after, is_on_air_at, line_count}
 use Rattle.mirror.specs.Seen.{is_absent, is_on_air}
-use Rattle.mirror.specs.Table.{Table, line_at, has_line, down_at}
+use Rattle.mirror.specs.Table.{Table, line_at, has_line, down_for_some}
 use Rattle.mirror.specs.declared.key_state.KeyState.{KeyState}
 use Rattle.mirror.specs.declared.line.Line.{Line}
 use Rattle.mirror.specs.declared.presence.Presence.{Presence}
@@ -91,7 +91,7 @@ line_known : (past : Past) (t : Table) (r : State) (b n : ℕ) (c : Cell) → Ar
 line_known past t r b n c knows tells h = step (has_line t b c) refl
   where
     step : (x : Bool) → has_line t b c ≡ x → is_known past b c ≡ true
-    step true e = sym (knows.known b c) ∙ or_right (is_place (place_in r c) b) (down_at t b c || has_line t b c) (or_right (down_at t b c) (has_line t b c) e)
+    step true e = sym (knows.known b c) ∙ or_right (is_place (place_in r c) b) (down_for_some t b c || has_line t b c) (or_right (down_for_some t b c) (has_line t b c) e)
     step false e = absurd (let no : true ≡ false = sym (ap is_blank (tells.none b c e n)) ∙ h in cc)
 
 -- that a table has no more lines of a warning at a BSC than there are cells in which the warning's line isn't blank

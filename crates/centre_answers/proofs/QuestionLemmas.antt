@@ -22,6 +22,7 @@ use Rattle.order_maker.specs.Pending.{action_eq, is_listed, IsListOf}
 use Rattle.order_maker.specs.declared.action.Action.{Action}
 use Rattle.order_maker.specs.declared.deed.Deed.{Deed}
 use Rattle.warning_book.specs.Book.{has_number, numbers, warning_of}
+use Rattle.warning_book.specs.declared.kind.Kind.TheVariants as kind
 use Rattle.warning_book.specs.declared.warning.Warning.{Warning}
 use Rattle.centre_events.specs.Down.{is_down}
 use Rattle.centre_events.specs.Effects.{is_among}
@@ -120,7 +121,7 @@ acts_to settings past legal b a h = step (owner_of (warnings_of past) a.message_
   where
     at : (n : ℕ) (o : Option Warning) → warning_of (book_of past) n ≡ o → is_deed (deed_of a) (deeds_of (facts_of past b a.cell o)) ≡ true → list_any (does_there past b a) (warnings_of past) ≡ true
     at n None e g =
-        let no : false ≡ true = sym (ap (is_deed (deed_of a)) (deeds_of_none (is_down past b a.cell) (is_place (place past a.cell) b))) ∙ g in cc
+        let no : false ≡ true = sym (ap (is_deed (deed_of a)) (deeds_of_none (is_down past kind.Cbs b a.cell) (is_place (place past a.cell) b))) ∙ g in cc
     at n (Some w) e g =
         found_passes (has_number n) (does_there past b a) (warnings_of past) w e
         (sym (ap (is_deed (deed_of a)) (deeds_seen settings past legal (key_of b a.cell n) w e)) ∙ ap (λ o. is_deed (deed_of a) (deeds_of (facts_of past b a.cell o))) e ∙ g)

@@ -20,7 +20,7 @@ use Rattle.warning_book.specs.declared.version.Version.{Version}
 use Rattle.warning_book.specs.declared.warning.Warning.{Warning}
 use Rattle.centre_answers.specs.Asked.{Tells}
 use Rattle.centre_events.specs.Counts.{count}
-use Rattle.centre_events.specs.Down.{is_down}
+use Rattle.centre_events.specs.Down.{is_down_for_some}
 use Rattle.centre_events.specs.Facts.{key_state, line_of}
 use Rattle.centre_past.specs.Facts.{facts_of}
 use Rattle.centre_past.specs.Idle.{AsBefore}
@@ -48,8 +48,8 @@ use Rattle.centre_past.proofs.WarningLemmas.{legal_sound}
 -- a cell with a key that is on air, or held, or was broadcast, is known
 marked_known : (settings : Settings) (past : Past) → Legal settings past → (b : ℕ) (c : Cell) (m s : ℕ) → is_marked past b c m s ≡ true → is_known past b c ≡ true
 marked_known settings past legal b c m s h =
-    or_right (is_place (place past c) b) (is_down past b c || list_any (has_mark past b c) (warnings_of past))
-    (or_right (is_down past b c) (list_any (has_mark past b c) (warnings_of past))
+    or_right (is_place (place past c) b) (is_down_for_some past b c || list_any (has_mark past b c) (warnings_of past))
+    (or_right (is_down_for_some past b c) (list_any (has_mark past b c) (warnings_of past))
     (any_implies (has_key m s) (has_mark past b c) each (warnings_of past) (marked_key settings past legal b c m s h)))
   where
     each : (w : Warning) → has_key m s w ≡ true → has_mark past b c w ≡ true

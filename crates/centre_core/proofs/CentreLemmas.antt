@@ -91,7 +91,7 @@ finishes settings past desk e a s t place up spots held legal accepted kept regi
   flying = rw flying kept.flying;
   is_up = is_up;
   is_place = is_place;
-  downs = λ b c. ap (λ u. down_at u.lines b c) tables ∙ kept.downs b c;
+  downs = λ k b c. ap (λ u. down_at u.lines k b c) tables ∙ kept.downs k b c;
   tables = subst (λ u. Consistent u (facts past)) (sym tables) kept.tables;
   reached = reached;
 }
@@ -138,14 +138,14 @@ answer_in : (v : Result Answer Refusal) → IsOk v → (a : Answer) × (v ≡ Ok
 answer_in (Ok a) h = (a, refl)
 answer_in (Err x) h = cc
 
--- the lines of an edit that is accepted are read within its reach
-pub reached_within : (settings : Settings) (journal : List Entry) (s : Kept) (e : Edit) (old new : ℕ) → IsOk (verdict settings (past_of journal) (event.Edit e)) → ((settings : Settings) (past : Past) (a : Answer) → Legal settings past → IsKept past s → edit_answered past e ≡ Ok a → new ≤ old + size (edit_reach past e)) → IsCentre settings journal false s → new ≤ old + size (edit_reach (past_of journal) e)
+-- the lines of an edit that is accepted are told of and read within its reach
+pub reached_within : (settings : Settings) (journal : List Entry) (s : Kept) (e : Edit) (old new : ℕ) → IsOk (verdict settings (past_of journal) (event.Edit e)) → ((settings : Settings) (past : Past) (a : Answer) → Legal settings past → IsKept past s → edit_answered past e ≡ Ok a → new ≤ old + 2 * size (edit_reach past e)) → IsCentre settings journal false s → new ≤ old + 2 * size (edit_reach (past_of journal) e)
 reached_within settings journal s e old new given now centre =
     let found = answer_in (verdict settings (past_of journal) (event.Edit e)) given in
     now settings (past_of journal) found.0 centre.legal (centre.whole refl) (verdict_answered settings (past_of journal) (event.Edit e) found.0 found.1)
 
 -- the lines of another event that is accepted: those that it looks at, and those on which it bears
-pub other_within : (settings : Settings) (journal : List Entry) (e : Event) (a : Answer) (old mid new : ℕ) → verdict settings (past_of journal) e ≡ Ok a → mid ≤ old + looked_at (past_of journal) e → new ≤ mid + size (reach_of (past_of journal) e a) → new ≤ old + reach (past_of journal) e (verdict settings (past_of journal) e)
+pub other_within : (settings : Settings) (journal : List Entry) (e : Event) (a : Answer) (old mid new : ℕ) → verdict settings (past_of journal) e ≡ Ok a → mid ≤ old + looked_at (past_of journal) e → new ≤ mid + 2 * size (reach_of (past_of journal) e a) → new ≤ old + 2 * reach (past_of journal) e (verdict settings (past_of journal) e)
 other_within settings journal e a old mid new is looks bears = omega (arith, looks, bears, ap (reach (past_of journal) e) is)
 
 -- What a centre is, one event further.
@@ -185,22 +185,22 @@ refuses_starved settings journal stale e (Err y) h whole given = inr (whole, inl
 
 -- The lines that were read or set.
 
--- no more lines were read than the event bears on
+-- no more lines are set than the event bears on
 pub held_counted : (past : Past) (e : Event) (a : Answer) (spots : List Spot) (held : HeldLines) → WasReached past e a spots held → length (held_in held) ≤ size (reach_of past e a)
 held_counted past e a spots held was =
     subst (λ n. n ≤ size (reach_of past e a)) (sym (ap length was.lines ∙ length-map was.keys (held_past past))) was.few
 
-pub within_four : (settings : Settings) (journal : List Entry) (e : Event) (old new : ℕ) → new ≤ old + reach (past_of journal) e (verdict settings (past_of journal) e) → new ≤ old + 4 * reach (past_of journal) e (verdict settings (past_of journal) e)
+pub within_four : (settings : Settings) (journal : List Entry) (e : Event) (old new : ℕ) → new ≤ old + 2 * reach (past_of journal) e (verdict settings (past_of journal) e) → new ≤ old + 4 * reach (past_of journal) e (verdict settings (past_of journal) e)
 within_four settings journal e old new h = omega (arith, h)
 
-pub edit_lines : (settings : Settings) (journal : List Entry) (e : Edit) (old new : ℕ) → new ≤ old + size (edit_reach (past_of journal) e) → new ≤ old + 4 * reach (past_of journal) (event.Edit e) (verdict settings (past_of journal) (event.Edit e))
+pub edit_lines : (settings : Settings) (journal : List Entry) (e : Edit) (old new : ℕ) → new ≤ old + 2 * size (edit_reach (past_of journal) e) → new ≤ old + 4 * reach (past_of journal) (event.Edit e) (verdict settings (past_of journal) (event.Edit e))
 edit_lines settings journal e old new h = omega (arith, h, edit_reach_is (past_of journal) e (verdict settings (past_of journal) (event.Edit e)))
 
-pub edit_lines_then : (settings : Settings) (journal : List Entry) (e : Edit) (a : Answer) (old mid new : ℕ) (spots : List Spot) (held : HeldLines) → mid ≤ old + size (edit_reach (past_of journal) e) → new ≤ mid + length (held_in held) → WasReached (past_of journal) (event.Edit e) a spots held → new ≤ old + 4 * reach (past_of journal) (event.Edit e) (verdict settings (past_of journal) (event.Edit e))
+pub edit_lines_then : (settings : Settings) (journal : List Entry) (e : Edit) (a : Answer) (old mid new : ℕ) (spots : List Spot) (held : HeldLines) → mid ≤ old + 2 * size (edit_reach (past_of journal) e) → new ≤ mid + length (held_in held) → WasReached (past_of journal) (event.Edit e) a spots held → new ≤ old + 4 * reach (past_of journal) (event.Edit e) (verdict settings (past_of journal) (event.Edit e))
 edit_lines_then settings journal e a old mid new spots held before now was =
     omega (arith, before, now, held_counted (past_of journal) (event.Edit e) a spots held was, edit_reach_is (past_of journal) e (verdict settings (past_of journal) (event.Edit e)))
 
-pub lines_then : (settings : Settings) (journal : List Entry) (e : Event) (a : Answer) (old mid new : ℕ) (spots : List Spot) (held : HeldLines) → verdict settings (past_of journal) e ≡ Ok a → mid ≤ old + reach (past_of journal) e (verdict settings (past_of journal) e) → new ≤ mid + length (held_in held) → WasReached (past_of journal) e a spots held → new ≤ old + 4 * reach (past_of journal) e (verdict settings (past_of journal) e)
+pub lines_then : (settings : Settings) (journal : List Entry) (e : Event) (a : Answer) (old mid new : ℕ) (spots : List Spot) (held : HeldLines) → verdict settings (past_of journal) e ≡ Ok a → mid ≤ old + 2 * reach (past_of journal) e (verdict settings (past_of journal) e) → new ≤ mid + length (held_in held) → WasReached (past_of journal) e a spots held → new ≤ old + 4 * reach (past_of journal) e (verdict settings (past_of journal) e)
 lines_then settings journal e a old mid new spots held is before now was =
     omega (arith, before, now, held_counted (past_of journal) e a spots held was, ap (reach (past_of journal) e) is)
 

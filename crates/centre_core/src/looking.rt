@@ -1,7 +1,7 @@
 //! What is looked at before an event is entered. Nothing is changed but room in the journal, and how often lines were
 //! read.
 
-ghost use Rattle.std.specs.Prelude.{◌≡◌, ◌<◌, ◌≤◌, ◌+◌, List, ℕ, length, false, Ok, IfOk, IfErr, IsOk, OnOk};
+ghost use Rattle.std.specs.Prelude.{◌≡◌, ◌<◌, ◌≤◌, ◌+◌, ◌*◌, List, ℕ, length, false, Ok, IfOk, IfErr, IsOk, OnOk};
 ghost use Rattle.centre_core.specs.Centre.{IsCentre, IsRefused};
 ghost use Rattle.centre_lines.specs.Following.{WasReached};
 ghost use Rattle.centre_past.specs.IsKept.{IsKept, OnlyReadsIn};
@@ -64,7 +64,7 @@ pub(crate) fn prepare_edit(
     ensures accepted { (network : List ℕ) → IsCentre (record { network = network; limit = limit }) journal.old.entries false kept.old → OnOk result (IsOk (verdict (record { network = network; limit = limit }) (past_of journal.old.entries) (event.Edit edit.now))) }
     ensures refusal { (network : List ℕ) → IsCentre (record { network = network; limit = limit }) journal.old.entries false kept.old → IfErr result (IsRefused (record { network = network; limit = limit }) journal.old.entries (event.Edit edit.now)) }
     ensures reached { (network : List ℕ) → IsCentre (record { network = network; limit = limit }) journal.old.entries false kept.old → (a : answer_spec.Answer) → verdict (record { network = network; limit = limit }) (past_of journal.old.entries) (event.Edit edit.now) ≡ Ok a → IfOk result (λ x. WasReached (past_of journal.old.entries) (event.Edit edit.now) a x.spots.items x.lines) }
-    ensures meter { (network : List ℕ) → IsCentre (record { network = network; limit = limit }) journal.old.entries false kept.old → kept.new.tables.lines.meter ≤ kept.old.tables.lines.meter + size (edit_reach (past_of journal.old.entries) edit.now) }
+    ensures meter { (network : List ℕ) → IsCentre (record { network = network; limit = limit }) journal.old.entries false kept.old → kept.new.tables.lines.meter ≤ kept.old.tables.lines.meter + 2 * size (edit_reach (past_of journal.old.entries) edit.now) }
 {
     look_at_edit(limit, journal, kept, edit)?;
     make_room(journal)?;
@@ -120,7 +120,7 @@ fn reach_with_room(
     ensures refusal { IfErr result (λ r. r ≡ Refusal.Memory) }
     ensures reads { OnlyReadsIn kept.old kept.new }
     ensures reached { (settings : Settings) (past : Past) → Legal settings past → IsKept past kept.old → answered settings.network past event.now ≡ Ok answer.now → IfOk result (λ x. WasReached past event.now answer.now x.spots.items x.lines) }
-    ensures meter { (settings : Settings) (past : Past) → Legal settings past → IsKept past kept.old → answered settings.network past event.now ≡ Ok answer.now → kept.new.tables.lines.meter ≤ kept.old.tables.lines.meter + size (reach_of past event.now answer.now) }
+    ensures meter { (settings : Settings) (past : Past) → Legal settings past → IsKept past kept.old → answered settings.network past event.now ≡ Ok answer.now → kept.new.tables.lines.meter ≤ kept.old.tables.lines.meter + 2 * size (reach_of past event.now answer.now) }
 {
     make_room(journal)?;
     let reached = reached_by_other(alloc, kept, event, answer)?;
@@ -146,7 +146,7 @@ pub(crate) fn prepare_other(
     ensures verdict { IsCentre (record { network = network; limit = limit }) journal.old.entries false kept.old → IfOk result (λ x. verdict (record { network = network; limit = limit }) (past_of journal.old.entries) event.now ≡ Ok x.answer) }
     ensures refusal { IsCentre (record { network = network; limit = limit }) journal.old.entries false kept.old → IfErr result (IsRefused (record { network = network; limit = limit }) journal.old.entries event.now) }
     ensures reached { IsCentre (record { network = network; limit = limit }) journal.old.entries false kept.old → IfOk result (λ x. WasReached (past_of journal.old.entries) event.now x.answer x.reached.spots.items x.reached.lines) }
-    ensures meter { IsCentre (record { network = network; limit = limit }) journal.old.entries false kept.old → kept.new.tables.lines.meter ≤ kept.old.tables.lines.meter + reach (past_of journal.old.entries) event.now (verdict (record { network = network; limit = limit }) (past_of journal.old.entries) event.now) }
+    ensures meter { IsCentre (record { network = network; limit = limit }) journal.old.entries false kept.old → kept.new.tables.lines.meter ≤ kept.old.tables.lines.meter + 2 * reach (past_of journal.old.entries) event.now (verdict (record { network = network; limit = limit }) (past_of journal.old.entries) event.now) }
 {
     let answer = look_at_other(alloc, network, limit, journal, kept, event)?;
     let reached = reach_with_room(alloc, journal, kept, event, &answer);

@@ -13,6 +13,7 @@ use Rattle.mirror.specs.Line.{blank, state_of, with_state}
 use Rattle.mirror.specs.declared.key_state.KeyState.{KeyState}
 use Rattle.mirror.specs.declared.line.Line.{Line}
 use Rattle.serials.specs.Serials.{update_of}
+use Rattle.warning_book.specs.declared.kind.Kind.{Kind}
 use Rattle.warning_book.specs.declared.warning.Warning.{Warning}
 use Rattle.centre_events.specs.Counts.{count_mark, is_counted_key, replied_count, report_count}
 use Rattle.centre_events.specs.Effects.{flight_effect, indicated_effect, is_among, outcome_in, report_effect, said_effect, state_after}
@@ -64,23 +65,23 @@ is_quiet b up (event.LinkDown other generation) = not (nat_eq other b)
 is_quiet b up (event.Retry other) = not (nat_eq other b)
 is_quiet b up other = true
 
-quiet_effect : (b : ℕ) (c : Cell) (m s : ℕ) (e : Event) (a : Answer) (up : Bool) (f : Option InFlight) (ws : List Warning) → is_quiet b up e ≡ true → effect b c m s e a up f ws ≡ Leaves
-quiet_effect b c m s (event.Edit e) a up f ws h = cc
-quiet_effect b c m s (event.Report other g message) a up f ws h = ap (λ t. if t then report_effect message a f c m s else Leaves) (not-true (nat_eq other b) h)
-quiet_effect b c m s (event.LinkUp other) a up f ws h = ap (λ t. if t then flight_effect f Silent c m s else Leaves) (not-true (nat_eq other b && up) h)
-quiet_effect b c m s (event.LinkDown other g) a up f ws h = ap (λ t. if t then flight_effect f Silent c m s else Leaves) (not-true (nat_eq other b) h)
-quiet_effect b c m s (event.Retry other) a up f ws h = ap (λ t. if t then Frees else Leaves) (not-true (nat_eq other b) h)
-quiet_effect b c m s (event.Send other g) a up f ws h = refl
-quiet_effect b c m s (event.Ask other g n after) a up f ws h = refl
+quiet_effect : (kind : Kind) (b : ℕ) (c : Cell) (m s : ℕ) (e : Event) (a : Answer) (up : Bool) (f : Option InFlight) (ws : List Warning) → is_quiet b up e ≡ true → effect kind b c m s e a up f ws ≡ Leaves
+quiet_effect kind b c m s (event.Edit e) a up f ws h = cc
+quiet_effect kind b c m s (event.Report other g message) a up f ws h = ap (λ t. if t then report_effect kind message a f c m s else Leaves) (not-true (nat_eq other b) h)
+quiet_effect kind b c m s (event.LinkUp other) a up f ws h = ap (λ t. if t then flight_effect f Silent c m s else Leaves) (not-true (nat_eq other b && up) h)
+quiet_effect kind b c m s (event.LinkDown other g) a up f ws h = ap (λ t. if t then flight_effect f Silent c m s else Leaves) (not-true (nat_eq other b) h)
+quiet_effect kind b c m s (event.Retry other) a up f ws h = ap (λ t. if t then Frees else Leaves) (not-true (nat_eq other b) h)
+quiet_effect kind b c m s (event.Send other g) a up f ws h = refl
+quiet_effect kind b c m s (event.Ask other g n after) a up f ws h = refl
 
 quiet_count : (b : ℕ) (c : Cell) (m s : ℕ) (e : Event) (a : Answer) (up : Bool) (f : Option InFlight) (ws : List Warning) → is_quiet b up e ≡ true → count_mark b c m s e a f ws ≡ None
 quiet_count b c m s (event.Edit e) a up f ws h = cc
 quiet_count b c m s (event.Report other g message) a up f ws h = ap (λ t. if t then report_count a f c m s else None) (not-true (nat_eq other b) h)
 quiet_count b c m s other a up f ws h = refl
 
-pub quiet_left : (b : ℕ) (c : Cell) (m : ℕ) (e : Event) (a : Answer) (up : Bool) (f : Option InFlight) (ws : List Warning) (line : Line) (ss : List ℕ) → is_quiet b up e ≡ true → line ≡ stepped (λ s. effect b c m s e a up f ws) (λ s. count_mark b c m s e a f ws) line ss
-quiet_left b c m e a up f ws line ss h =
-    sym (stepped_left (λ s. effect b c m s e a up f ws) (λ s. count_mark b c m s e a f ws) (λ s. quiet_effect b c m s e a up f ws h) (λ s. quiet_count b c m s e a up f ws h) line ss)
+pub quiet_left : (kind : Kind) (b : ℕ) (c : Cell) (m : ℕ) (e : Event) (a : Answer) (up : Bool) (f : Option InFlight) (ws : List Warning) (line : Line) (ss : List ℕ) → is_quiet b up e ≡ true → line ≡ stepped (λ s. effect kind b c m s e a up f ws) (λ s. count_mark b c m s e a f ws) line ss
+quiet_left kind b c m e a up f ws line ss h =
+    sym (stepped_left (λ s. effect kind b c m s e a up f ws) (λ s. count_mark b c m s e a f ws) (λ s. quiet_effect kind b c m s e a up f ws h) (λ s. quiet_count b c m s e a up f ws h) line ss)
 
 -- what is in flight is of the message, and the cell is one of its cells
 abbrev bears_on : Option InFlight → Cell → ℕ → Bool
@@ -114,21 +115,21 @@ is_silent (Replied replies) (Some f) c = false
 is_silent (Listed cells) f c = not (is_among c cells)
 is_silent other f c = true
 
-silent_effect : (message : Message) (a : Answer) (f : Option InFlight) (c : Cell) (m s : ℕ) → is_silent a f c ≡ true → report_effect message a f c m s ≡ Leaves
-silent_effect message (Replied replies) None c m s h = step (outcome_in c replies)
+silent_effect : (kind : Kind) (message : Message) (a : Answer) (f : Option InFlight) (c : Cell) (m s : ℕ) → is_silent a f c ≡ true → report_effect kind message a f c m s ≡ Leaves
+silent_effect kind message (Replied replies) None c m s h = step (outcome_in c replies)
   where
     step : (said : Option Outcome) → said_effect said None c m s ≡ Leaves
     step None = refl
     step (Some o) = refl
-silent_effect message (Replied replies) (Some f) c m s h = cc
-silent_effect message (Listed cells) f c m s h = ap (λ t. if t then indicated_effect message else Leaves) (not-true (is_among c cells) h)
-silent_effect message other f c m s h = refl
+silent_effect kind message (Replied replies) (Some f) c m s h = cc
+silent_effect kind message (Listed cells) f c m s h = ap (λ t. if t then indicated_effect kind message else Leaves) (not-true (is_among c cells) h)
+silent_effect kind message other f c m s h = refl
 
 silent_count : (a : Answer) (f : Option InFlight) (c : Cell) (m s : ℕ) → is_silent a f c ≡ true → report_count a f c m s ≡ None
 silent_count (Replied replies) None c m s h = refl
 silent_count (Replied replies) (Some f) c m s h = cc
 silent_count other f c m s h = refl
 
-pub silent_left : (message : Message) (a : Answer) (f : Option InFlight) (c : Cell) (m : ℕ) (line : Line) (ss : List ℕ) → is_silent a f c ≡ true → line ≡ stepped (λ s. report_effect message a f c m s) (λ s. report_count a f c m s) line ss
-silent_left message a f c m line ss h =
-    sym (stepped_left (λ s. report_effect message a f c m s) (λ s. report_count a f c m s) (λ s. silent_effect message a f c m s h) (λ s. silent_count a f c m s h) line ss)
+pub silent_left : (kind : Kind) (message : Message) (a : Answer) (f : Option InFlight) (c : Cell) (m : ℕ) (line : Line) (ss : List ℕ) → is_silent a f c ≡ true → line ≡ stepped (λ s. report_effect kind message a f c m s) (λ s. report_count a f c m s) line ss
+silent_left kind message a f c m line ss h =
+    sym (stepped_left (λ s. report_effect kind message a f c m s) (λ s. report_count a f c m s) (λ s. silent_effect kind message a f c m s h) (λ s. silent_count a f c m s h) line ss)

@@ -8,7 +8,9 @@ use Rattle.mirror.specs.OnAir.{is_after}
 use Rattle.mirror.specs.Seen.{is_on_air}
 use Rattle.order_maker.specs.Grouping.{most_cells}
 use Rattle.centre_events.specs.OrderMessage.{query_message}
-use Rattle.warning_book.specs.Book.{current_of}
+use Rattle.warning_book.specs.Book.{current_of, kind_of}
+use Rattle.warning_book.specs.declared.kind.Kind.{Kind}
+use Rattle.warning_book.specs.declared.kind.Kind.TheVariants as kind
 use Rattle.warning_book.specs.declared.warning.Warning.{Warning}
 use Rattle.centre_events.specs.Past.{Past}
 use Rattle.centre_events.specs.Places.{cells}
@@ -40,7 +42,12 @@ abbrev pub version_query : Past → ℕ → ℕ → Option ℕ → Option Cell �
 version_query past b m None after = Err NothingToAsk
 version_query past b m (Some s) after = query_of m s (asked_cells past b m s after)
 
+-- a query of a warning of the kind: an emergency warning is asked in no cell
+abbrev pub query_of_kind : Kind → Result Answer Refusal → Result Answer Refusal
+query_of_kind kind.Cbs query = query
+query_of_kind kind.Emergency query = Err NothingToAsk
+
 -- the query of the warning's current version, if the warning is in the book
 abbrev pub warning_query : Past → ℕ → Option Warning → Option Cell → Result Answer Refusal
 warning_query past b None after = Err NoSuchWarning
-warning_query past b (Some w) after = version_query past b w.message_id (current_of w) after
+warning_query past b (Some w) after = query_of_kind (kind_of w) (version_query past b w.message_id (current_of w) after)

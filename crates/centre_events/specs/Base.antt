@@ -5,6 +5,7 @@ use Rattle.std.specs.Prelude.{ℕ, Bool, false, List, [], Option, None}
 use Rattle.areas.specs.declared.selector.Selector.{Selector}
 use Rattle.common.specs.declared.cell.Cell.{Cell}
 use Rattle.warning_book.specs.Book as book
+use Rattle.warning_book.specs.declared.kind.Kind.{Kind}
 use Rattle.mirror.specs.declared.presence.Presence.{Presence}
 use Rattle.mirror.specs.declared.presence.Presence.TheVariants.{Absent}
 use Rattle.cbsp_ie.specs.declared.cause.Cause.{Cause}
@@ -29,7 +30,7 @@ pub record Base : Type 0 where
   pub presence : ℕ → Cell → ℕ → ℕ → Presence
   pub hold : ℕ → Cell → ℕ → ℕ → Option Cause
   pub count : ℕ → Cell → ℕ → ℕ → ℕ
-  pub is_down : ℕ → Cell → Bool
+  pub is_down : Kind → ℕ → Cell → Bool
 
 -- the base of a centre that has folded nothing: nothing is registered, nothing is on air
 abbrev pub empty_base : Base
@@ -50,5 +51,5 @@ empty_base = record {
   presence = λ b c m s. Absent;
   hold = λ b c m s. None;
   count = λ b c m s. 0;
-  is_down = λ b c. false;
+  is_down = λ k b c. false;
 }

@@ -23,6 +23,8 @@ use Rattle.order_maker.specs.declared.order_kind.OrderKind.TheVariants.{Write, R
 use Rattle.centre_events.specs.declared.outcome.Outcome.{Outcome}
 use Rattle.centre_events.specs.declared.outcome.Outcome.TheVariants.{Done, Refused, Silent}
 use Rattle.centre_events.specs.declared.reply.Reply.{Reply}
+use Rattle.warning_book.specs.Content.{kind_number}
+use Rattle.warning_book.specs.declared.kind.Kind.{Kind}
 
 -- the cell is one of the list
 abbrev pub is_among : Cell → List Cell → Bool
@@ -98,16 +100,22 @@ said_effect (Some o) f c m s = flight_effect f o c m s
 abbrev pub restart_effect : ℕ → Effect
 restart_effect recovery = if nat_eq recovery 0 then Frees else Sets Absent
 
--- an indication at each key of a cell that it lists: a FAILURE leaves them, since the cell is down
-abbrev pub indicated_effect : Message → Effect
-indicated_effect (Restart m) = restart_effect m.recovery
-indicated_effect other = Leaves
+-- an indication of that type is about warnings of the kind (TS 48.049, 8.2.24)
+abbrev pub is_about : ℕ → Kind → Bool
+is_about n k = nat_eq n (kind_number k)
 
--- a report that was answered so: a matched reply tells the outcome in each cell, an indication lists its cells
-abbrev pub report_effect : Message → Answer → Option InFlight → Cell → ℕ → ℕ → Effect
-report_effect message (Replied replies) f c m s = said_effect (outcome_in c replies) f c m s
-report_effect message (Listed cells) f c m s = if is_among c cells then indicated_effect message else Leaves
-report_effect message other f c m s = Leaves
+-- an indication at each key of a warning of the kind, in a cell that it lists: a FAILURE leaves them, since the cell is
+-- down, and so does what is about warnings of the other kind
+abbrev pub indicated_effect : Kind → Message → Effect
+indicated_effect k (Restart m) = if is_about m.kind k then restart_effect m.recovery else Leaves
+indicated_effect k other = Leaves
+
+-- a report that was answered so, at a key of a warning of the kind: a matched reply tells the outcome in each cell, an
+-- indication lists its cells
+abbrev pub report_effect : Kind → Message → Answer → Option InFlight → Cell → ℕ → ℕ → Effect
+report_effect k message (Replied replies) f c m s = said_effect (outcome_in c replies) f c m s
+report_effect k message (Listed cells) f c m s = if is_among c cells then indicated_effect k message else Leaves
+report_effect k message other f c m s = Leaves
 
 -- the presence that is set, if one is
 abbrev pub presence_mark : Effect → Option Presence

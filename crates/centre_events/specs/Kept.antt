@@ -19,6 +19,7 @@ use Rattle.centre_events.specs.Settings.{Settings}
 use Rattle.centre_events.specs.Verdict.{verdict}
 use Rattle.centre_events.specs.declared.answer.Answer.{Answer}
 use Rattle.centre_events.specs.declared.answer.Answer.TheVariants.{Sent, Asked, Replied, Listed}
+use Rattle.coverage_plan.specs.Checks.{is_plain_edit}
 use Rattle.coverage_plan.specs.Edited.{register_after, areas_after}
 use Rattle.centre_events.specs.declared.event.Event.{Event}
 use Rattle.centre_events.specs.declared.event.Event.TheVariants as event
@@ -77,6 +78,12 @@ is_plain (Asked m s cells message) = false
 is_plain (Replied replies) = false
 is_plain (Listed cells) = false
 is_plain other = true
+
+-- the event has no name, list, content or message, so that a copy of it takes no memory
+abbrev pub is_plain_event : Event → Bool
+is_plain_event (event.Edit e) = is_plain_edit e
+is_plain_event (event.Report b generation message) = false
+is_plain_event other = true
 
 -- what is answered is the verdict, or `Memory` where the verdict is no refusal
 abbrev pub Gives : Result Answer Refusal → Result Answer Refusal → Type 0

@@ -1,5 +1,5 @@
 -- The cells that are known at a BSC, of which its indications can speak: those that are registered there, that are down
--- there, or in which a message is on air, or may be, or is held back, or was broadcast.
+-- there for warnings of some kind, or in which a message is on air, or may be, or is held back, or was broadcast.
 use Rattle.std.specs.Prelude.{ℕ, Bool, ◌&&◌, ◌||◌, not, List, nat_eq}
 use Rattle.std.specs.List.{filter, list_any}
 use Rattle.cbsp_ie.specs.CellId.{names}
@@ -11,7 +11,7 @@ use Rattle.common.specs.declared.cell.Cell.{Cell}
 use Rattle.mirror.specs.Seen.{is_absent}
 use Rattle.warning_book.specs.declared.warning.Warning.{Warning}
 use Rattle.centre_events.specs.Counts.{count}
-use Rattle.centre_events.specs.Down.{is_down}
+use Rattle.centre_events.specs.Down.{is_down_for_some}
 use Rattle.centre_events.specs.Past.{Past}
 use Rattle.centre_events.specs.Places.{place, cells}
 use Rattle.centre_events.specs.Presence.{presence, is_held}
@@ -27,7 +27,7 @@ has_mark past b c w = list_any (is_marked past b c w.message_id) (serials w)
 
 -- the cell is known at the BSC
 abbrev pub is_known : Past → ℕ → Cell → Bool
-is_known past b c = is_place (place past c) b || (is_down past b c || list_any (has_mark past b c) (warnings_of past))
+is_known past b c = is_place (place past c) b || (is_down_for_some past b c || list_any (has_mark past b c) (warnings_of past))
 
 -- one of the identifications names the cell
 abbrev pub is_named : List ℕ → List CellId → Cell → Bool

@@ -3,6 +3,7 @@ use Rattle.std.specs.Prelude.{ℕ}
 use Rattle.std.specs.List.{filter}
 use Rattle.cell_register.specs.Register.{is_place}
 use Rattle.common.specs.declared.cell.Cell.{Cell}
+use Rattle.warning_book.specs.Book.{kind_of}
 use Rattle.warning_book.specs.declared.warning.Warning.{Warning}
 use Rattle.centre_events.specs.Counts.{count}
 use Rattle.centre_events.specs.Cover.{covers}
@@ -23,7 +24,7 @@ seen past b w c = record {
   message_id = w.message_id;
   versions = serials w;
   wanted = wanted past b w c;
-  down = is_down past b c;
+  down = is_down past (kind_of w) b c;
 }
 
 -- what a board reads of it besides

@@ -1,5 +1,5 @@
 -- What a reply says of each cell of what was in flight (TS 48.049, 8.1.3), and which cells an indication lists.
-use Rattle.std.specs.Prelude.{ℕ, Bool, false, ◌||◌, List, [], Option, Some, None, find, map, nat_eq, if◌then◌else◌}
+use Rattle.std.specs.Prelude.{ℕ, Bool, false, ◌||◌, List, [], Option, Some, None, find, map, if◌then◌else◌}
 use Rattle.std.specs.List.{list_any}
 use Rattle.cbsp_ie.specs.CellId.{names}
 use Rattle.cbsp_ie.specs.Counts as counts
@@ -11,6 +11,7 @@ use Rattle.cbsp_messages.specs.declared.message.Message.{Message}
 use Rattle.cbsp_messages.specs.declared.message.Message.TheVariants as message
 use Rattle.common.specs.declared.cell.Cell.{Cell}
 use Rattle.centre_events.specs.Counts.{number_of}
+use Rattle.centre_events.specs.Effects.{is_about}
 use Rattle.centre_events.specs.InFlight.{old_of, cells_of}
 use Rattle.centre_events.specs.Known.{is_named, known_named}
 use Rattle.centre_events.specs.Past.{Past}
@@ -18,6 +19,7 @@ use Rattle.centre_events.specs.declared.in_flight.InFlight.{InFlight}
 use Rattle.centre_events.specs.declared.outcome.Outcome.{Outcome}
 use Rattle.centre_events.specs.declared.outcome.Outcome.TheVariants.{Done, Refused, Silent}
 use Rattle.centre_events.specs.declared.reply.Reply.{Reply}
+use Rattle.warning_book.specs.declared.kind.Kind.TheVariants as kind
 
 -- the cell is one of those that a cell list names, where there is one
 abbrev pub is_in_list : List ℕ → Option Identifications → Cell → Bool
@@ -62,6 +64,7 @@ replies_to network message f = map (reply_of network message f) (cells_of f)
 abbrev pub failed_ids : List FailEntry → List CellId
 failed_ids failures = map (λ (f : FailEntry). f.id) failures
 
--- the cells known at the BSC that the identifications of an indication name; none where it isn't about CBS messages
+-- the cells known at the BSC that the identifications of an indication name; none where it is about warnings of neither
+-- kind
 abbrev pub listed_cells : List ℕ → Past → ℕ → ℕ → List CellId → List Cell
-listed_cells network past b kind ids = if nat_eq kind 0 then known_named network past b ids else []
+listed_cells network past b n ids = if is_about n kind.Cbs || is_about n kind.Emergency then known_named network past b ids else []

@@ -6,12 +6,13 @@ use Rattle.std.specs.Option.{is_some}
 use Rattle.cbsp_ie.specs.declared.cause.Cause.{Cause}
 use Rattle.common.specs.declared.cell.Cell.{Cell}
 use Rattle.warning_book.specs.Book.{has_number}
+use Rattle.warning_book.specs.declared.kind.Kind.{Kind}
 use Rattle.warning_book.specs.declared.warning.Warning.{Warning}
 use Rattle.centre_events.specs.Effects.{flight_effect, report_effect, presence_mark, hold_mark}
 use Rattle.centre_events.specs.InFlight.{in_flight}
 use Rattle.centre_events.specs.Links.{is_up}
 use Rattle.centre_events.specs.Past.{Past, latest}
-use Rattle.centre_events.specs.Warnings.{warnings_of, has_key}
+use Rattle.centre_events.specs.Warnings.{warnings_of, has_key, key_kind}
 use Rattle.centre_events.specs.declared.answer.Answer.{Answer}
 use Rattle.coverage_plan.specs.declared.edit.Edit.{Edit}
 use Rattle.coverage_plan.specs.declared.edit.Edit.TheVariants.{RemoveBsc, Forget}
@@ -31,20 +32,20 @@ edit_effect b m s (RemoveBsc other) warnings = if nat_eq other b then Sets Absen
 edit_effect b m s (Forget n) warnings = if list_any (λ w. has_number n w && has_key m s w) warnings then Frees else Leaves
 edit_effect b m s other warnings = Leaves
 
--- what the event does to the key, by its answer, whether the link was up, what was in flight, and the warnings in the
--- book before it: a matched reply tells the outcome in each cell, the loss of the link leaves it silent in all; a Retry
--- ends what holds the orders of its BSC back
-abbrev pub effect : ℕ → Cell → ℕ → ℕ → Event → Answer → Bool → Option InFlight → List Warning → Effect
-effect b c m s (event.Edit edit) answer up flight warnings = edit_effect b m s edit warnings
-effect b c m s (event.Report other generation message) answer up flight warnings = if nat_eq other b then report_effect message answer flight c m s else Leaves
-effect b c m s (event.LinkUp other) answer up flight warnings = if nat_eq other b && up then flight_effect flight Silent c m s else Leaves
-effect b c m s (event.LinkDown other generation) answer up flight warnings = if nat_eq other b then flight_effect flight Silent c m s else Leaves
-effect b c m s (event.Retry other) answer up flight warnings = if nat_eq other b then Frees else Leaves
-effect b c m s other answer up flight warnings = Leaves
+-- what the event does to the key of a warning of the kind, by its answer, whether the link was up, what was in flight, and
+-- the warnings in the book before it: a matched reply tells the outcome in each cell, the loss of the link leaves it silent
+-- in all; a Retry ends what holds the orders of its BSC back
+abbrev pub effect : Kind → ℕ → Cell → ℕ → ℕ → Event → Answer → Bool → Option InFlight → List Warning → Effect
+effect k b c m s (event.Edit edit) answer up flight warnings = edit_effect b m s edit warnings
+effect k b c m s (event.Report other generation message) answer up flight warnings = if nat_eq other b then report_effect k message answer flight c m s else Leaves
+effect k b c m s (event.LinkUp other) answer up flight warnings = if nat_eq other b && up then flight_effect flight Silent c m s else Leaves
+effect k b c m s (event.LinkDown other generation) answer up flight warnings = if nat_eq other b then flight_effect flight Silent c m s else Leaves
+effect k b c m s (event.Retry other) answer up flight warnings = if nat_eq other b then Frees else Leaves
+effect k b c m s other answer up flight warnings = Leaves
 
 -- what the entry does to the key after the past before it
 abbrev pub effect_at : ℕ → Cell → ℕ → ℕ → Entry → Past → Effect
-effect_at b c m s e before = effect b c m s e.event e.answer (is_up before b) (in_flight before b) (warnings_of before)
+effect_at b c m s e before = effect (key_kind before m s) b c m s e.event e.answer (is_up before b) (in_flight before b) (warnings_of before)
 
 -- whether the message is on air in the cell at the BSC
 abbrev pub presence : Past → ℕ → Cell → ℕ → ℕ → Presence

@@ -200,9 +200,13 @@ link_up_checks past b = (not (is_bsc past b), refusal.NoSuchBsc) ∷ []
 abbrev pub link_up : Past → ℕ → Result Answer Refusal
 link_up past b = unless (link_up_checks past b) (Ok (answer.Link (position past + 1)))
 
+-- what is asked of the link of a BSC that is there: it is the latest, and it is up
+abbrev pub generation_checks : Past → ℕ → ℕ → List (Bool × Refusal)
+generation_checks past b generation = (not (nat_eq generation (last_link past b)), refusal.StaleLink (last_link past b)) ∷ (not (is_up past b), refusal.LinkNotUp) ∷ []
+
 -- what is asked of a link: its BSC is there, it is the latest, and it is up
 abbrev pub link_checks : Past → ℕ → ℕ → List (Bool × Refusal)
-link_checks past b generation = (not (is_bsc past b), refusal.NoSuchBsc) ∷ (not (nat_eq generation (last_link past b)), refusal.StaleLink (last_link past b)) ∷ (not (is_up past b), refusal.LinkNotUp) ∷ []
+link_checks past b generation = (not (is_bsc past b), refusal.NoSuchBsc) ∷ generation_checks past b generation
 
 -- what a LinkDown is answered
 abbrev pub link_down : Past → ℕ → ℕ → Result Answer Refusal
@@ -221,9 +225,9 @@ send_answer past (Some order) = Ok (answer.Sent order (order_message order (cont
 abbrev pub send : Past → ℕ → ℕ → Result Answer Refusal
 send past b generation = unless (send_checks past b generation) (send_answer past (first (pending past b)))
 
--- why an Ask is refused, whatever is on air: its BSC and its warning are looked for first, then it is as for a Send
+-- why an Ask is refused, whatever is on air: as a Send, but that its warning is looked for after its BSC
 abbrev pub ask_checks : Past → ℕ → ℕ → ℕ → List (Bool × Refusal)
-ask_checks past b generation n = (not (is_bsc past b), refusal.NoSuchBsc) ∷ (not (is_some (warning_of (book_of past) n)), refusal.NoSuchWarning) ∷ send_checks past b generation
+ask_checks past b generation n = (not (is_bsc past b), refusal.NoSuchBsc) ∷ (not (is_some (warning_of (book_of past) n)), refusal.NoSuchWarning) ∷ generation_checks past b generation ++ (is_some (in_flight past b), refusal.InFlight) ∷ []
 
 -- what an Ask is answered: it is refused too where there is no cell to ask
 abbrev pub ask : Past → ℕ → ℕ → ℕ → Option Cell → Result Answer Refusal

@@ -1,7 +1,9 @@
 -- The book of warnings that the entries make.
-use Rattle.std.specs.Prelude.{ℕ, Bool, ◌&&◌, List, map, nat_eq}
+use Rattle.std.specs.Prelude.{ℕ, Bool, ◌&&◌, List, Option, Some, None, find, map, nat_eq}
 use Rattle.std.specs.List.{list_any}
-use Rattle.warning_book.specs.Book.{State}
+use Rattle.warning_book.specs.Book.{State, kind_of}
+use Rattle.warning_book.specs.declared.kind.Kind.{Kind}
+use Rattle.warning_book.specs.declared.kind.Kind.TheVariants as kind
 use Rattle.warning_book.specs.declared.version.Version.{Version}
 use Rattle.warning_book.specs.declared.warning.Warning.{Warning}
 use Rattle.centre_events.specs.Past.{Past, From, After}
@@ -38,3 +40,12 @@ has_key m s w = nat_eq w.message_id m && list_any (is_version s) w.versions
 -- a version of a warning in the book has them
 abbrev pub is_key : Past → ℕ → ℕ → Bool
 is_key past m s = list_any (has_key m s) (warnings_of past)
+
+-- the kind of a warning in the book; CBS where there is none
+abbrev pub kind_in : Option Warning → Kind
+kind_in None = kind.Cbs
+kind_in (Some w) = kind_of w
+
+-- the kind of the first warning in the book of which a version has them
+abbrev pub key_kind : Past → ℕ → ℕ → Kind
+key_kind past m s = kind_in (find (has_key m s) (warnings_of past))

@@ -35,7 +35,7 @@ pub enum Answer {
     },
     /// What a reply says of each cell of its order or query, in the order in which that names them.
     Replied(Replies),
-    /// The cells known at the BSC that an indication names, in order; none where it isn't about CBS messages.
+    /// The cells known at the BSC that an indication names, in order; none where it is about warnings of neither kind.
     Listed(Cells),
 }
 

@@ -4,7 +4,7 @@ ghost use Rattle.std.specs.Prelude.{◌≡◌, ◌&&◌, true, None};
 ghost use Rattle.std.specs.List.{list_any};
 ghost use Rattle.warning_book.specs.Book.{has_number};
 ghost use Rattle.centre_events.specs.Down.{says_down, listed_down, edit_down, down_mark};
-ghost use Rattle.centre_events.specs.Effects.{is_among, write_refused, replace_refused, kill_refused, new_effect, old_refused, old_effect, query_effect, replaces, key_effect, restart_effect, indicated_effect, presence_mark, hold_mark, state_after};
+ghost use Rattle.centre_events.specs.Effects.{is_about, is_among, write_refused, replace_refused, kill_refused, new_effect, old_refused, old_effect, query_effect, replaces, key_effect, restart_effect, indicated_effect, presence_mark, hold_mark, state_after};
 ghost use Rattle.centre_events.specs.Presence.{edit_effect};
 ghost use Rattle.centre_events.specs.Warnings.{has_key, is_version};
 
@@ -21,7 +21,7 @@ use coverage_plan::Edit;
 use mirror::{KeyState, Presence};
 use order_maker::{Order, OrderKind};
 use serials::Serial;
-use warning_book::{Version, Warning, WarningId};
+use warning_book::{Kind, Version, Warning, WarningId};
 
 /// Whether the cell is one of the list. In a list in ascending order one that is there is found by halves.
 pub fn is_among(c: Cell, cells: &[Cell]) -> bool
@@ -97,11 +97,22 @@ pub fn key_effect(order: &Order, outcome: Outcome, serial: Serial) -> Effect
     }
 }
 
-/// What an indication does at each key of a cell that it lists.
-pub(crate) fn indicated_effect(message: &Message) -> Effect
-    ensures { result ≡ indicated_effect message.now }
+/// Whether an indication of that type is about warnings of the kind (TS 48.049, 8.2.24).
+pub fn is_about(number: u8, kind: Kind) -> bool
+    ensures { result ≡ is_about number kind }
+{
+    match kind {
+        Kind::Cbs => number == 0,
+        Kind::Emergency => number == 1,
+    }
+}
+
+/// What an indication does at each key of a warning of the kind, in a cell that it lists.
+pub(crate) fn indicated_effect(kind: Kind, message: &Message) -> Effect
+    ensures { result ≡ indicated_effect kind message.now }
 {
     match message {
+        Message::Restart(restart) if !is_about(restart.kind, kind) => Effect::Leaves,
         Message::Restart(restart) if restart.recovery == 0 => Effect::Frees,
         Message::Restart(_) => Effect::Sets(Presence::Absent),
         _ => Effect::Leaves,
@@ -188,26 +199,27 @@ pub fn state_after(effect: Effect, count: Option<u16>, state: KeyState) -> KeySt
     }
 }
 
-/// Whether the message says that the cells it lists are down, or up.
-fn says_down(message: &Message) -> Option<bool>
-    ensures { result ≡ says_down message.now }
+/// Whether the message says that the cells it lists are down for warnings of the kind, or up.
+fn says_down(kind: Kind, message: &Message) -> Option<bool>
+    ensures { result ≡ says_down kind message.now }
 {
     match message {
-        Message::Failure(_) => Some(true),
-        Message::Restart(_) => Some(false),
+        Message::Failure(failure) if is_about(failure.kind, kind) => Some(true),
+        Message::Restart(restart) if is_about(restart.kind, kind) => Some(false),
         _ => None,
     }
 }
 
-/// Whether the event, answered so, brings the cell down at the BSC (`Some(true)`), or up (`Some(false)`).
+/// Whether the event, answered so, brings the cell down at the BSC for warnings of the kind (`Some(true)`), or up
+/// (`Some(false)`).
 #[inline(always)]
-pub fn down_mark(b: BscId, c: Cell, event: &Event, answer: &Answer) -> Option<bool>
-    ensures { result ≡ down_mark b c event.now answer.now }
+pub fn down_mark(kind: Kind, b: BscId, c: Cell, event: &Event, answer: &Answer) -> Option<bool>
+    ensures { result ≡ down_mark kind b c event.now answer.now }
 {
     match (event, answer) {
         (Event::Edit(Edit::RemoveBsc(other)), _) if *other == b => Some(false),
         (Event::Report(other, _, message), Answer::Listed(cells))
-            if *other == b && is_among(c, cells.as_slice()) => { says_down(message) }
+            if *other == b && is_among(c, cells.as_slice()) => { says_down(kind, message) }
         _ => None,
     }
 }

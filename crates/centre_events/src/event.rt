@@ -1,6 +1,7 @@
 //! What can happen to a centre.
 
-ghost use Rattle.std.specs.Prelude.{◌≡◌, ◌↔◌, IsTrue, IfOk};
+ghost use Rattle.std.specs.Prelude.{◌≡◌, ◌↔◌, true, IsTrue, IsOk, IfOk};
+ghost use Rattle.centre_events.specs.Kept.{is_plain_event};
 
 use cbsp_messages::Message;
 use cell_register::BscId;
@@ -30,9 +31,10 @@ pub enum Event {
 }
 
 impl Event {
-    /// The same event in memory of its own.
+    /// The same event in memory of its own. It takes none where the event has no name, list, content or message.
     pub fn copied(&self, alloc: Global) -> Result<Event, AllocError>
-        ensures { IfOk result (λ copy. copy ≡ self.now) }
+        ensures copy { IfOk result (λ copy. copy ≡ self.now) }
+        ensures plain { is_plain_event self.now ≡ true → IsOk result }
     {
         match self {
             Event::Edit(edit) => Ok(Event::Edit(edit.copied(alloc)?)),

@@ -30,7 +30,7 @@ use common::Cell;
 use coverage_plan::Edit;
 use mirror::Line;
 use serials::Serial;
-use warning_book::{Version, Warning};
+use warning_book::{Kind, Version, Warning};
 
 /// What happens: an event and what it is answered, whether the link of its BSC was up before, and what was in flight to it.
 #[derive(Clone, Copy)]
@@ -193,10 +193,11 @@ fn step_by_replies(
     }
 }
 
-/// Does to the versions what a report of their BSC does that was answered so. The result says whether one was given another
-/// value.
+/// Does to the versions of a warning of the kind what a report of their BSC does that was answered so. The result says
+/// whether one was given another value.
 fn step_by_report(
     line: &mut Line,
+    kind: Kind,
     c: Cell,
     message_id: u16,
     versions: &[Version],
@@ -204,7 +205,7 @@ fn step_by_report(
     answer: &Answer,
     flight: Option<&InFlight>,
 ) -> bool
-    ensures line { line.new ≡ stepped (λ s. report_effect message.now answer.now (option_copied flight.entry) c message_id s) (λ s. report_count answer.now (option_copied flight.entry) c message_id s) line.old (map (λ v. v.serial) versions.now) }
+    ensures line { line.new ≡ stepped (λ s. report_effect kind message.now answer.now (option_copied flight.entry) c message_id s) (λ s. report_count answer.now (option_copied flight.entry) c message_id s) line.old (map (λ v. v.serial) versions.now) }
     ensures same { result ≡ false → line.new ≡ line.old }
 {
     match answer {
@@ -213,16 +214,17 @@ fn step_by_report(
             None => false,
         },
         Answer::Listed(cells) if is_among(c, cells.as_slice()) => {
-            step_each(line, versions, indicated_effect(message), None)
+            step_each(line, versions, indicated_effect(kind, message), None)
         }
         _ => false,
     }
 }
 
-/// Changes the line of the versions of a message in the cell at the BSC by what happens. What a Forget does is said by the
+/// Changes the line of the versions of a warning of the kind in the cell at the BSC by what happens. What a Forget does is said by the
 /// warnings. The result says whether a version was given another value; most lines stay as they are.
 pub fn step_line(
     h: &Happening<'_, '_>,
+    kind: Kind,
     b: BscId,
     c: Cell,
     message_id: u16,
@@ -230,13 +232,15 @@ pub fn step_line(
     warnings: &[Warning],
     line: &mut Line,
 ) -> bool
-    ensures line { line.new ≡ stepped (λ s. effect b c message_id s h.now.event.now h.now.answer.now h.now.up (option_copied h.now.flight) warnings.now) (λ s. count_mark b c message_id s h.now.event.now h.now.answer.now (option_copied h.now.flight) warnings.now) line.old (map (λ v. v.serial) versions.now) }
+    ensures line { line.new ≡ stepped (λ s. effect kind b c message_id s h.now.event.now h.now.answer.now h.now.up (option_copied h.now.flight) warnings.now) (λ s. count_mark b c message_id s h.now.event.now h.now.answer.now (option_copied h.now.flight) warnings.now) line.old (map (λ v. v.serial) versions.now) }
     ensures same { result ≡ false → line.new ≡ line.old }
 {
     match h.event {
         Event::Edit(edit) => step_by_edit(line, b, message_id, versions, edit, warnings),
         Event::Report(other, _, message) if *other == b => {
-            step_by_report(line, c, message_id, versions, message, h.answer, h.flight)
+            step_by_report(
+                line, kind, c, message_id, versions, message, h.answer, h.flight,
+            )
         }
         Event::LinkUp(other) if *other == b && h.up => {
             step_by_loss(line, c, message_id, versions, h.flight)

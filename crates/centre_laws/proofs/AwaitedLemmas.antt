@@ -19,7 +19,7 @@ use Rattle.order_maker.specs.declared.deed.Deed.{Deed}
 use Rattle.order_maker.specs.declared.order.Order.{Order}
 use Rattle.order_maker.specs.declared.order_kind.OrderKind.{OrderKind}
 use Rattle.order_maker.specs.declared.order_kind.OrderKind.TheVariants.{Kill}
-use Rattle.warning_book.specs.Book.{current_of, has_number, warning_of}
+use Rattle.warning_book.specs.Book.{current_of, kind_of, has_number, warning_of}
 use Rattle.warning_book.specs.VersionLaws.{current_among}
 use Rattle.warning_book.specs.declared.warning.Warning.{Warning}
 use Rattle.centre_events.specs.Cover.{is_covered}
@@ -40,7 +40,8 @@ use Rattle.centre_laws.specs.Spare.{brings, brought, is_brought, AwaitedIsPendin
 use Rattle.centre_events.specs.Warnings.{book_of, warnings_of, is_version, has_key}
 use Rattle.centre_past.proofs.AnyLemmas.{and_none, any_same, any_never, all_flat, contrary}
 use Rattle.order_maker.specs.GroupingLaws.{kind_same}
-use Rattle.centre_past.proofs.HeadlineLemmas.{plans, is_free, airs_pending, key_of_plan}
+use Rattle.centre_past.proofs.HeadlineLemmas.{plans, is_free_for, airs_pending, key_of_plan}
+use Rattle.centre_past.proofs.KindLemmas.{key_kind_is}
 use Rattle.centre_past.proofs.KeyLemmas.{action_keyed, line_keyed}
 use Rattle.centre_past.proofs.KnownLemmas.{known_place, legal_unfolded}
 use Rattle.centre_past.proofs.LineLemmas.{found_passes}
@@ -326,8 +327,9 @@ awaited_in settings past legal n w found b c = step (current_of w) refl
         unwanted (Some t) f = let clash : None ≡ Some t = sym e ∙ wanted_current past b w c t f in cc
     step (Some s) e =
         sym (any_same (λ (order : Order). brings w order && is_among c order.cells) (airs c w.message_id s) (brings_airs w c s e) (pending past b)
-        ∙ airs_pending past b c w.message_id s
-        ∙ ap (λ t. (is_among c (cells past) && (is_free past b c w.message_id s && not (is_on_air (presence past b c w.message_id s)))) && t) by_own
+        ∙ airs_pending settings past legal b c w.message_id s
+        ∙ ap (λ k. (is_among c (cells past) && (is_free_for past k b c w.message_id s && not (is_on_air (presence past b c w.message_id s)))) && planned past b c w.message_id s) (key_kind_is settings past legal n w found s (current_among w s e))
+        ∙ ap (λ t. (is_among c (cells past) && (is_free_for past (kind_of w) b c w.message_id s && not (is_on_air (presence past b c w.message_id s)))) && t) by_own
         ∙ aired_awaited v s (is_among c (cells past)) (wanted past b w c) known)
       where
         by_own : planned past b c w.message_id s ≡ is_the (wanted past b w c) s

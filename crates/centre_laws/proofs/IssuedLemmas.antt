@@ -180,7 +180,7 @@ update_answered settings past legal m content a h =
     left : (w : Warning) → find (has_number m) (warnings_of past) ≡ Some w → is_exhausted w ≡ false
     left w e =
         let none = no_check (update_checks past m content) (update_answer (option_map next_of (option_and_then current_of (find (has_number m) (warnings_of past))))) a h in
-        sym (found_so m is_exhausted (warnings_of past) w (legal_sound settings past legal).ordered e) ∙ none.1.1.1.1.0
+        sym (found_so m is_exhausted (warnings_of past) w (legal_sound settings past legal).ordered e) ∙ none.1.1.1.1.1.0
 
     step : (o : Option Warning) → find (has_number m) (warnings_of past) ≡ o → update_answer (option_map next_of (option_and_then current_of o)) ≡ Ok a → IsAnsweredUpdate (versions_in o) a
     step None e g = absurd (cc)

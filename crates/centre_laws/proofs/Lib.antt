@@ -2,3 +2,5 @@ pub mod SpareLemmas
 pub mod AwaitedLemmas
 pub mod HeadlineExamples
 pub mod IssuedLemmas
+pub mod CauseLemmas
+pub mod PlanCauseLemmas

@@ -36,7 +36,7 @@ use Rattle.centre_events.specs.Plan.{wanted, planned}
 use Rattle.centre_events.specs.Presence.{presence, is_held}
 use Rattle.centre_events.specs.Settings.{Settings}
 use Rattle.centre_laws.specs.Spare.{without_cell, Misses, NoneToSpare, acts_on, ActsOnce}
-use Rattle.centre_events.specs.Warnings.{book_of, warnings_of, serials, is_version, has_key, is_key}
+use Rattle.centre_events.specs.Warnings.{book_of, warnings_of, serials, is_version, has_key, is_key, key_kind}
 use Rattle.centre_past.proofs.ActingLemmas.{does, writes_by, any_deeds, has_serial}
 use Rattle.centre_past.proofs.AnyLemmas.{or_none, any_implies, contrary}
 use Rattle.centre_past.proofs.ApplyingLemmas.{applied_airs}
@@ -309,9 +309,9 @@ own_key k (Replace old) m s h = (and_parts (k m s) (k m old) h).0
 own_key k Kill m s h = h
 
 -- a pending write or replace is of a key that is planned, free and not on air
-airs_needed : (past : Past) (b : ℕ) (c : Cell) (m s : ℕ) → is_key past m s ≡ true → list_any (airs c m s) (pending past b) ≡ true → IsNeeded past b c m s
-airs_needed past b c m s key h =
-    let parts = and_parts (is_among c (cells past) && (is_free past b c m s && not (is_on_air (presence past b c m s)))) (planned past b c m s) (sym (airs_pending past b c m s) ∙ h) in
+airs_needed : (settings : Settings) (past : Past) → Legal settings past → (b : ℕ) (c : Cell) (m s : ℕ) → is_key past m s ≡ true → list_any (airs c m s) (pending past b) ≡ true → IsNeeded past b c m s
+airs_needed settings past legal b c m s key h =
+    let parts = and_parts (is_among c (cells past) && (is_free past b c m s && not (is_on_air (presence past b c m s)))) (planned past b c m s) (sym (airs_pending settings past legal b c m s) ∙ h) in
     let here = and_parts (is_free past b c m s) (not (is_on_air (presence past b c m s))) (and_parts (is_among c (cells past)) (is_free past b c m s && not (is_on_air (presence past b c m s))) parts.0).1 in
     record { key = key; free = here.0; due = ap (λ q. if q then not (is_on_air (presence past b c m s)) else not (is_absent (presence past b c m s))) parts.1 ∙ here.1 }
 
@@ -342,7 +342,7 @@ is_needed settings past legal b front order back c e there = step order.kind ref
     among p h = ap (list_any p) e ∙ any_between p front order back h
 
     by_airs : (k : OrderKind) → order.kind ≡ k → is_kill k ≡ false → IsNeeded past b c m s
-    by_airs k is h = airs_needed past b c m s key (among (airs c m s) (and_from (nat_eq order.message_id m && is_among c order.cells) (not (is_kill order.kind) && nat_eq s s) in_cell_of (and_from (not (is_kill order.kind)) (nat_eq s s) (ap (λ j. not (is_kill j)) is ∙ ap not h) (eq-eqb s s refl))))
+    by_airs k is h = airs_needed settings past legal b c m s key (among (airs c m s) (and_from (nat_eq order.message_id m && is_among c order.cells) (not (is_kill order.kind) && nat_eq s s) in_cell_of (and_from (not (is_kill order.kind)) (nat_eq s s) (ap (λ j. not (is_kill j)) is ∙ ap not h) (eq-eqb s s refl))))
 
     step : (k : OrderKind) → order.kind ≡ k → IsNeeded past b c m s
     step Write is = by_airs Write is refl
@@ -378,10 +378,10 @@ none_to_spare settings past legal = record {
   where
     misses : (b : ℕ) (c : Cell) (m s : ℕ) (orders : List Order) → IsNeeded past b c m s → list_any (tests (acting s) c m) orders ≡ false → Misses past b c m s orders
     misses b c m s orders needed none =
-        let parts = and_parts (not (is_down past b c)) (not (is_held past b c m s)) needed.free in
+        let parts = and_parts (not (is_down past (key_kind past m s) b c)) (not (is_held past b c m s)) needed.free in
         record {
           key = needed.key;
-          up = not-true (is_down past b c) parts.0;
+          up = not-true (is_down past (key_kind past m s) b c) parts.0;
           free = not-true (is_held past b c m s) parts.1;
           differs = λ agrees. disagrees (presence past b c m s) (planned past b c m s) needed.due (subst (λ p. Agrees p (planned past b c m s)) (left_alone orders c m s (presence past b c m s) none) agrees);
         }

@@ -23,17 +23,18 @@ use Rattle.centre_events.specs.Past.{Past}
 use Rattle.centre_events.specs.Pending.{all_actions, pending}
 use Rattle.centre_events.specs.Plan.{planned}
 use Rattle.centre_events.specs.Presence.{presence, is_held}
-use Rattle.centre_events.specs.Warnings.{book_of, is_key}
+use Rattle.centre_events.specs.Warnings.{book_of, is_key, key_kind}
 
 -- the order without the cell
 abbrev pub without_cell : Cell → Order → Order
 without_cell c order = record order { cells = filter (λ d. not (cell_eq c d)) order.cells }
 
--- the orders leave the key otherwise than the plan has it, though it is one of the book, its cell is up at the BSC and
+-- the orders leave the key otherwise than the plan has it, though it is one of the book, its cell is up at the BSC for the kind of its
+-- warning, and
 -- nothing holds it back
 pub record Misses (past : Past) (b : ℕ) (c : Cell) (m s : ℕ) (orders : List Order) : Type 0 where
   pub key : is_key past m s ≡ true
-  pub up : is_down past b c ≡ false
+  pub up : is_down past (key_kind past m s) b c ≡ false
   pub free : is_held past b c m s ≡ false
   pub differs : Agrees (applied orders c m s (presence past b c m s)) (planned past b c m s) → ⊥
 

@@ -24,6 +24,7 @@ ghost use Rattle.centre_events.specs.Reported.{names_serial};
 ghost use Rattle.centre_events.specs.Settings.{Settings};
 ghost use Rattle.centre_events.specs.Warnings.{is_key};
 ghost use Rattle.order_maker.specs.declared.action.Action.{Action};
+ghost use Rattle.warning_book.specs.declared.kind.Kind.{Kind};
 ghost use Rattle.centre_events.specs.declared.in_flight.InFlight.{InFlight};
 
 /// Lemma: after every legal history the book has the warnings that were issued and not forgotten, in the order of issue.
@@ -55,7 +56,7 @@ pub fn counts_no_other_bsc()
 #[tactic(auto, using(centre_past::proofs::MarkLemmas::unknown_bsc_flight, centre_past::proofs::MarkLemmas::unknown_bsc_down, centre_past::proofs::MarkLemmas::unknown_bsc_presence, centre_past::proofs::MarkLemmas::unknown_bsc_hold, centre_past::proofs::MarkLemmas::unknown_bsc_count))]
 pub(crate) fn unknown_bsc()
     ensures flight { (settings : Settings) (past : Past) → Legal settings past → (b : ℕ) → is_bsc past b ≡ false → in_flight past b ≡ None }
-    ensures down { (settings : Settings) (past : Past) → Legal settings past → (b : ℕ) (c : Cell) → is_bsc past b ≡ false → is_down past b c ≡ false }
+    ensures down { (settings : Settings) (past : Past) → Legal settings past → (k : Kind) (b : ℕ) (c : Cell) → is_bsc past b ≡ false → is_down past k b c ≡ false }
     ensures presence { (settings : Settings) (past : Past) → Legal settings past → (b : ℕ) (c : Cell) (m s : ℕ) → is_bsc past b ≡ false → presence past b c m s ≡ Absent }
     ensures hold { (settings : Settings) (past : Past) → Legal settings past → (b : ℕ) (c : Cell) (m s : ℕ) → is_bsc past b ≡ false → hold past b c m s ≡ None }
     ensures count { (settings : Settings) (past : Past) → Legal settings past → (b : ℕ) (c : Cell) (m s : ℕ) → is_bsc past b ≡ false → count past b c m s ≡ 0 }
@@ -65,7 +66,7 @@ pub(crate) fn unknown_bsc()
 #[tactic(auto, using(centre_past::proofs::MarkLemmas::known_cell, centre_past::proofs::MarkLemmas::down_cell, centre_past::proofs::MarkLemmas::held_cell, centre_past::proofs::MarkLemmas::counted_cell))]
 pub(crate) fn known_cell()
     ensures known { (settings : Settings) (past : Past) → Legal settings past → (b : ℕ) (c : Cell) → is_known past b c ≡ true → is_among c (cells past) ≡ true }
-    ensures down { (settings : Settings) (past : Past) → Legal settings past → (b : ℕ) (c : Cell) → is_down past b c ≡ true → is_among c (cells past) ≡ true }
+    ensures down { (settings : Settings) (past : Past) → Legal settings past → (k : Kind) (b : ℕ) (c : Cell) → is_down past k b c ≡ true → is_among c (cells past) ≡ true }
     ensures held { (settings : Settings) (past : Past) → Legal settings past → (b : ℕ) (c : Cell) (m s : ℕ) → is_held past b c m s ≡ true → is_among c (cells past) ≡ true }
     ensures counted { (settings : Settings) (past : Past) → Legal settings past → (b : ℕ) (c : Cell) (m s : ℕ) → nat_eq (count past b c m s) 0 ≡ false → is_among c (cells past) ≡ true }
 {}

@@ -22,16 +22,16 @@ use Rattle.mirror.specs.declared.line.Line.{Line}
 use Rattle.mirror.specs.declared.presence.Presence.TheVariants.{Absent}
 use Rattle.serials.specs.Serials.{update_of}
 use Rattle.warning_book.specs.Book as book
-use Rattle.warning_book.specs.Book.{warning_of}
+use Rattle.warning_book.specs.Book.{kind_of, warning_of}
 use Rattle.warning_book.specs.declared.warning.Warning.{Warning}
 use Rattle.centre_events.specs.Counts.{count_mark}
-use Rattle.centre_events.specs.Effects.{indicated_effect, is_among, state_after}
+use Rattle.centre_events.specs.Effects.{indicated_effect, is_about, is_among, state_after}
 use Rattle.centre_lines.specs.Following.{Happens, change_of, leaves_blank, leaves_lines, line_now, may_change}
 use Rattle.centre_past.specs.State.{facts_from}
 use Rattle.centre_lines.specs.declared.held.Held.{Held}
 use Rattle.centre_events.specs.Presence.{effect}
 use Rattle.centre_events.specs.Stepping.{stepped}
-use Rattle.centre_events.specs.Warnings.{serials}
+use Rattle.centre_events.specs.Warnings.{kind_in, serials}
 use Rattle.centre_events.specs.declared.answer.Answer.{Answer}
 use Rattle.centre_events.specs.declared.answer.Answer.TheVariants.{Listed}
 use Rattle.centre_events.specs.declared.effect.Effect.{Effect}
@@ -40,6 +40,7 @@ use Rattle.centre_events.specs.declared.event.Event.{Event}
 use Rattle.centre_events.specs.declared.event.Event.TheVariants as event
 use Rattle.centre_events.specs.declared.in_flight.InFlight.{InFlight}
 use Rattle.centre_past.proofs.PartLemmas.{blank_state}
+use Rattle.warning_book.specs.declared.kind.Kind.{Kind}
 
 set_same : (n i : ℕ) → slice_set (replicate n blank) i blank ≡ replicate n blank
 set_same zero i = refl
@@ -55,39 +56,40 @@ stepped_blank f n stays (s ∷ ss) =
     ap (λ line. stepped f n line ss) (ap (λ k. with_state blank_line s (state_after (f s) (n s) k)) (blank_state s) ∙ ap (with_state blank_line s) (stays s) ∙ with_blank s)
     ∙ stepped_blank f n stays ss
 
-indicated : (m : Message) → state_after (indicated_effect m) None blank ≡ blank
-indicated (Restart r) = step (nat_eq r.recovery 0)
+indicated : (kind : Kind) (m : Message) → state_after (indicated_effect kind m) None blank ≡ blank
+indicated kind (Restart r) = step (is_about r.kind kind) (nat_eq r.recovery 0)
   where
-    step : (t : Bool) → state_after (if t then Frees else Sets Absent) None blank ≡ blank
-    step true = refl
-    step false = refl
-indicated other = refl
+    step : (u t : Bool) → state_after (if u then (if t then Frees else Sets Absent) else Leaves) None blank ≡ blank
+    step true true = refl
+    step true false = refl
+    step false t = refl
+indicated kind other = refl
 
 -- a blank key stays blank
-key_blank : (b : ℕ) (c : Cell) (m s : ℕ) (e : Event) (a : Answer) (up : Bool) (f : Option InFlight) (ws : List Warning) → leaves_blank e a ≡ true → state_after (effect b c m s e a up f ws) (count_mark b c m s e a f ws) blank ≡ blank
-key_blank b c m s (event.Retry other) a up f ws h = step (nat_eq other b)
+key_blank : (kind : Kind) (b : ℕ) (c : Cell) (m s : ℕ) (e : Event) (a : Answer) (up : Bool) (f : Option InFlight) (ws : List Warning) → leaves_blank e a ≡ true → state_after (effect kind b c m s e a up f ws) (count_mark b c m s e a f ws) blank ≡ blank
+key_blank kind b c m s (event.Retry other) a up f ws h = step (nat_eq other b)
   where
     step : (t : Bool) → state_after (if t then Frees else Leaves) None blank ≡ blank
     step true = refl
     step false = refl
-key_blank b c m s (event.Report other g message) (Listed cells) up f ws h = step (nat_eq other b) (is_among c cells)
+key_blank kind b c m s (event.Report other g message) (Listed cells) up f ws h = step (nat_eq other b) (is_among c cells)
   where
-    step : (t u : Bool) → state_after (if t then (if u then indicated_effect message else Leaves) else Leaves) (if t then None else None) blank ≡ blank
-    step true true = indicated message
+    step : (t u : Bool) → state_after (if t then (if u then indicated_effect kind message else Leaves) else Leaves) (if t then None else None) blank ≡ blank
+    step true true = indicated kind message
     step true false = refl
     step false u = refl
-key_blank b c m s (event.Report other g message) a up f ws h = cc
-key_blank b c m s (event.Edit e) a up f ws h = cc
-key_blank b c m s (event.LinkUp other) a up f ws h = cc
-key_blank b c m s (event.LinkDown other g) a up f ws h = cc
-key_blank b c m s (event.Send other g) a up f ws h = cc
-key_blank b c m s (event.Ask other g n after) a up f ws h = cc
+key_blank kind b c m s (event.Report other g message) a up f ws h = cc
+key_blank kind b c m s (event.Edit e) a up f ws h = cc
+key_blank kind b c m s (event.LinkUp other) a up f ws h = cc
+key_blank kind b c m s (event.LinkDown other g) a up f ws h = cc
+key_blank kind b c m s (event.Send other g) a up f ws h = cc
+key_blank kind b c m s (event.Ask other g n after) a up f ws h = cc
 
 -- and so does the line
 now_blank : (h : Happens) (ws : List Warning) (b : ℕ) (c : Cell) (o : Option Warning) → leaves_blank h.event h.answer ≡ true → line_now h ws b c o blank_line ≡ blank_line
 now_blank h ws b c None e = refl
 now_blank h ws b c (Some w) e =
-    stepped_blank (λ s. effect b c w.message_id s h.event h.answer h.up h.flight ws) (λ s. count_mark b c w.message_id s h.event h.answer h.flight ws) (λ s. key_blank b c w.message_id s h.event h.answer h.up h.flight ws e) (serials w)
+    stepped_blank (λ s. effect (kind_of w) b c w.message_id s h.event h.answer h.up h.flight ws) (λ s. count_mark b c w.message_id s h.event h.answer h.flight ws) (λ s. key_blank (kind_of w) b c w.message_id s h.event h.answer h.up h.flight ws e) (serials w)
 
 pub blank_stays : (h : Happens) (ws : List Warning) (b : ℕ) (c : Cell) (o : Option Warning) (line : Line) → leaves_blank h.event h.answer ≡ true → is_blank line ≡ true → line ≡ line_now h ws b c o line
 blank_stays h ws b c o line e blanks =
@@ -113,11 +115,11 @@ stepped_itself f n leaves silent line [] = refl
 stepped_itself f n leaves silent line (s ∷ ss) =
     ap (λ l. stepped f n l ss) (rw (leaves s, silent s) (with_itself line s)) ∙ stepped_itself f n leaves silent line ss
 
-leaves_effect : (b : ℕ) (c : Cell) (m s : ℕ) (e : Event) (a : Answer) (up : Bool) (f : Option InFlight) (ws : List Warning) → leaves_lines e ≡ true → effect b c m s e a up f ws ≡ Leaves
-leaves_effect b c m s (event.Edit (edit.RemoveBsc other)) a up f ws h = cc
-leaves_effect b c m s (event.Edit (edit.Forget n)) a up f ws h = cc
-leaves_effect b c m s (event.Edit e) a up f ws h = refl
-leaves_effect b c m s other a up f ws h = cc
+leaves_effect : (kind : Kind) (b : ℕ) (c : Cell) (m s : ℕ) (e : Event) (a : Answer) (up : Bool) (f : Option InFlight) (ws : List Warning) → leaves_lines e ≡ true → effect kind b c m s e a up f ws ≡ Leaves
+leaves_effect kind b c m s (event.Edit (edit.RemoveBsc other)) a up f ws h = cc
+leaves_effect kind b c m s (event.Edit (edit.Forget n)) a up f ws h = cc
+leaves_effect kind b c m s (event.Edit e) a up f ws h = refl
+leaves_effect kind b c m s other a up f ws h = cc
 
 leaves_count : (b : ℕ) (c : Cell) (m s : ℕ) (e : Event) (a : Answer) (f : Option InFlight) (ws : List Warning) → leaves_lines e ≡ true → count_mark b c m s e a f ws ≡ None
 leaves_count b c m s (event.Edit (edit.RemoveBsc other)) a f ws h = cc
@@ -128,14 +130,14 @@ leaves_count b c m s other a f ws h = cc
 pub edit_leaves : (h : Happens) (ws : List Warning) (b : ℕ) (c : Cell) (o : Option Warning) (line : Line) → leaves_lines h.event ≡ true → line ≡ line_now h ws b c o line
 edit_leaves h ws b c None line e = refl
 edit_leaves h ws b c (Some w) line e =
-    sym (stepped_itself (λ s. effect b c w.message_id s h.event h.answer h.up h.flight ws) (λ s. count_mark b c w.message_id s h.event h.answer h.flight ws) (λ s. leaves_effect b c w.message_id s h.event h.answer h.up h.flight ws e) (λ s. leaves_count b c w.message_id s h.event h.answer h.flight ws e) line (serials w))
+    sym (stepped_itself (λ s. effect (kind_of w) b c w.message_id s h.event h.answer h.up h.flight ws) (λ s. count_mark b c w.message_id s h.event h.answer h.flight ws) (λ s. leaves_effect (kind_of w) b c w.message_id s h.event h.answer h.up h.flight ws e) (λ s. leaves_count b c w.message_id s h.event h.answer h.flight ws e) line (serials w))
 
 -- so the line is itself in what is read of it then, if the line has versions then
 pub line_stays : (h : Happens) (r : register.State) (l : List Area) (st : book.State) (t : Tables) (x : Held) → leaves_lines h.event ≡ true → nat_eq (length (change_of h r l st t x).after.versions) 0 ≡ false → x.before.line ≡ (change_of h r l st t x).after.line
 line_stays h r l st t x e some = step (warning_of st x.key.warning) some
   where
     then_read : Option Warning → LineFacts
-    then_read o = facts_from r l (down_at t.lines x.key.bsc x.key.cell) x.key.bsc x.key.cell (line_now h st.warnings x.key.bsc x.key.cell o x.before.line) o
+    then_read o = facts_from r l (down_at t.lines (kind_in o) x.key.bsc x.key.cell) x.key.bsc x.key.cell (line_now h st.warnings x.key.bsc x.key.cell o x.before.line) o
 
     step : (o : Option Warning) → nat_eq (length (then_read o).versions) 0 ≡ false → x.before.line ≡ (then_read o).line
     step None none = cc
@@ -155,8 +157,8 @@ unheld_after false k none = refl
 pub retry_leaves : (h : Happens) (ws : List Warning) (b : ℕ) (c : Cell) (o : Option Warning) (line : Line) (other : ℕ) → h.event ≡ event.Retry other → is_held_line line ≡ false → line_now h ws b c o line ≡ line
 retry_leaves h ws b c None line other is free = refl
 retry_leaves h ws b c (Some w) line other is free =
-    stepped_same (λ s. effect b c w.message_id s h.event h.answer h.up h.flight ws) (λ s. count_mark b c w.message_id s h.event h.answer h.flight ws) line
-    (λ s. ap (λ (e : Event). state_after (effect b c w.message_id s e h.answer h.up h.flight ws) (count_mark b c w.message_id s e h.answer h.flight ws) (state_of line s)) is ∙ unheld_after (nat_eq other b) (state_of line s) (unheld_state line free s))
+    stepped_same (λ s. effect (kind_of w) b c w.message_id s h.event h.answer h.up h.flight ws) (λ s. count_mark b c w.message_id s h.event h.answer h.flight ws) line
+    (λ s. ap (λ (e : Event). state_after (effect (kind_of w) b c w.message_id s e h.answer h.up h.flight ws) (count_mark b c w.message_id s e h.answer h.flight ws) (state_of line s)) is ∙ unheld_after (nat_eq other b) (state_of line s) (unheld_state line free s))
     (serials w)
 
 -- so an indication and a Retry leave each line as it is that they can't change

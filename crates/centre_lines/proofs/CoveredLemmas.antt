@@ -19,7 +19,7 @@ use Rattle.centre_events.specs.Cover.{covers}
 use Rattle.centre_past.specs.Facts.{facts_of}
 use Rattle.centre_events.specs.Kept.{AreAreasOf}
 use Rattle.centre_events.specs.Past.{Past, After}
-use Rattle.centre_events.specs.Warnings.{book_of, book_then}
+use Rattle.centre_events.specs.Warnings.{book_of, book_then, kind_in}
 use Rattle.coverage_plan.specs.Edited.{book_after}
 use Rattle.centre_events.specs.declared.answer.Answer.{Answer}
 use Rattle.centre_events.specs.declared.event.Event.{Event}
@@ -42,7 +42,7 @@ covered_one r l down b c line names (Some w) are = covered_is r l down b c line 
 
 pub covered_held : (h : Happens) (r : register.State) (l : List Area) (st : book.State) (t : Tables) (x : Held) → AreCovering l x.key.cell x.before.areas (warning_of st x.key.warning) → covered_change h r st t x ≡ change_of h r l st t x
 covered_held h r l st t x are =
-    λ i. record { key = x.key; before = x.before; after = covered_one r l (down_at t.lines x.key.bsc x.key.cell) x.key.bsc x.key.cell (line_now h st.warnings x.key.bsc x.key.cell (warning_of st x.key.warning) x.before.line) x.before.areas (warning_of st x.key.warning) are i }
+    λ i. record { key = x.key; before = x.before; after = covered_one r l (down_at t.lines (kind_in (warning_of st x.key.warning)) x.key.bsc x.key.cell) x.key.bsc x.key.cell (line_now h st.warnings x.key.bsc x.key.cell (warning_of st x.key.warning) x.before.line) x.before.areas (warning_of st x.key.warning) are i }
 
 -- of the line at a place
 pub covered_at : (l : List Area) (st : book.State) (xs : List Held) (i : ℕ) (x : Held) → AreCovered l st xs → i < length xs → x ≡ get_or xs i x → AreCovering l x.key.cell x.before.areas (warning_of st x.key.warning)
@@ -128,4 +128,4 @@ areas_in r down b c line names None e = cc
 areas_in r down b c line names (Some w) e = refl
 
 pub covered_areas : (h : Happens) (r : register.State) (st : book.State) (t : Tables) (x : Held) → nat_eq (length (covered_change h r st t x).after.versions) 0 ≡ false → (covered_change h r st t x).after.areas ≡ x.before.areas
-covered_areas h r st t x e = areas_in r (down_at t.lines x.key.bsc x.key.cell) x.key.bsc x.key.cell (line_now h st.warnings x.key.bsc x.key.cell (warning_of st x.key.warning) x.before.line) x.before.areas (warning_of st x.key.warning) e
+covered_areas h r st t x e = areas_in r (down_at t.lines (kind_in (warning_of st x.key.warning)) x.key.bsc x.key.cell) x.key.bsc x.key.cell (line_now h st.warnings x.key.bsc x.key.cell (warning_of st x.key.warning) x.before.line) x.before.areas (warning_of st x.key.warning) e

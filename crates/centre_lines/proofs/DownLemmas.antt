@@ -20,30 +20,31 @@ use Rattle.centre_past.specs.Legal.{Legal}
 use Rattle.centre_past.specs.Reach.{reach_of, spot}
 use Rattle.centre_past.proofs.LineLemmas.{not_down}
 use Rattle.centre_lines.proofs.ReachLemmas.{spot_among, known_there}
+use Rattle.warning_book.specs.declared.kind.Kind.{Kind}
 
 unlisted : (past : Past) (other b : ℕ) (c : Cell) (cells : List Cell) → nat_eq other b ≡ true → list_any (spot_eq (spot b c)) (map (spot other) cells) ≡ false → is_among c cells ≡ false
 unlisted past other b c cells e out =
     ap (λ t. t && is_among c cells) (sym (turned nat_eq unsigned_Decides b other ∙ e)) ∙ sym (spot_among other b c cells) ∙ out
 
-pub down_outside : (settings : Settings) (past : Past) → Legal settings past → (e : Event) (a : Answer) (b : ℕ) (c : Cell) → list_any (spot_eq (spot b c)) (reach_of past e a).spots ≡ false → is_down past b c ≡ unwrap_or (down_mark b c e a) (is_down past b c)
-down_outside settings past legal (event.Edit (edit.RemoveBsc other)) a b c out = step (nat_eq other b) refl
+pub down_outside : (settings : Settings) (past : Past) → Legal settings past → (e : Event) (a : Answer) (kind : Kind) (b : ℕ) (c : Cell) → list_any (spot_eq (spot b c)) (reach_of past e a).spots ≡ false → is_down past kind b c ≡ unwrap_or (down_mark kind b c e a) (is_down past kind b c)
+down_outside settings past legal (event.Edit (edit.RemoveBsc other)) a kind b c out = step (nat_eq other b) refl
   where
     unknown : nat_eq other b ≡ true → (t : Bool) → is_known past other c ≡ t → is_known past b c ≡ false
     unknown e true h = absurd (let no : true ≡ false = sym (known_there settings past legal other b c e h) ∙ out in cc)
     unknown e false h = ap (λ k. is_known past k c) (sym (eqb-true other b e)) ∙ h
 
-    step : (t : Bool) → nat_eq other b ≡ t → is_down past b c ≡ unwrap_or (if t then Some false else None) (is_down past b c)
-    step true e = not_down past b c (unknown e (is_known past other c) refl)
+    step : (t : Bool) → nat_eq other b ≡ t → is_down past kind b c ≡ unwrap_or (if t then Some false else None) (is_down past kind b c)
+    step true e = not_down past kind b c (unknown e (is_known past other c) refl)
     step false e = refl
-down_outside settings past legal (event.Edit other) a b c out = refl
-down_outside settings past legal (event.Report other generation message) (Listed cells) b c out = step (nat_eq other b) refl
+down_outside settings past legal (event.Edit other) a kind b c out = refl
+down_outside settings past legal (event.Report other generation message) (Listed cells) kind b c out = step (nat_eq other b) refl
   where
-    step : (t : Bool) → nat_eq other b ≡ t → is_down past b c ≡ unwrap_or (if t then listed_down c message (Listed cells) else None) (is_down past b c)
+    step : (t : Bool) → nat_eq other b ≡ t → is_down past kind b c ≡ unwrap_or (if t then listed_down kind c message (Listed cells) else None) (is_down past kind b c)
     step true e = rw (unlisted past other b c cells e out) refl
     step false e = refl
-down_outside settings past legal (event.Report other generation message) a b c out = step (nat_eq other b)
+down_outside settings past legal (event.Report other generation message) a kind b c out = step (nat_eq other b)
   where
-    step : (t : Bool) → is_down past b c ≡ unwrap_or (if t then listed_down c message a else None) (is_down past b c)
+    step : (t : Bool) → is_down past kind b c ≡ unwrap_or (if t then listed_down kind c message a else None) (is_down past kind b c)
     step true = refl
     step false = refl
-down_outside settings past legal other a b c out = refl
+down_outside settings past legal other a kind b c out = refl

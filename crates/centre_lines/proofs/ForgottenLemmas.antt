@@ -1,5 +1,5 @@
 -- Before a Forget the lines of its warning that aren't blank are read, and no others.
-use Rattle.std.proofs.Common.{◌≡◌, ℕ, ◌+◌, ◌≤◌, Bool, true, false, ◌&&◌, ◌||◌, not, nat_eq, List, [], ◌∷◌, ◌++◌, Ok, cond, length, map, refl, sym, ◌∙◌, ap, subst, arith}
+use Rattle.std.proofs.Common.{◌≡◌, ℕ, ◌+◌, ◌*◌, ◌≤◌, Bool, true, false, ◌&&◌, ◌||◌, not, nat_eq, List, [], ◌∷◌, ◌++◌, Ok, cond, length, map, refl, sym, ◌∙◌, ap, subst, arith}
 use Rattle.std.specs.Prelude.{if◌then◌else◌}
 use Rattle.std.specs.List.{flat_map, list_any}
 use Rattle.std.specs.Cmp.{unsigned_Decides}
@@ -17,7 +17,7 @@ use Rattle.kept_tables.specs.Same.{SamePart}
 use Rattle.kept_tables.specs.declared.spot.Spot.{Spot}
 use Rattle.mirror.specs.Blank.{is_blank}
 use Rattle.mirror.specs.Index.{key_before}
-use Rattle.mirror.specs.Table.{down_at, has_line, is_key, line_at}
+use Rattle.mirror.specs.Table.{down_for_some, has_line, is_key, line_at}
 use Rattle.mirror.specs.declared.line_key.LineKey.{LineKey}
 use Rattle.warning_book.specs.Book.{warning_of}
 use Rattle.centre_past.specs.Facts.{facts}
@@ -50,8 +50,8 @@ use Rattle.centre_lines.proofs.TellLemmas.{any_keys, keys_counted}
 kept_known : (settings : Settings) (past : Past) (s : Kept) → Legal settings past → IsKept past s → TellsLines s.tables.lines → (b : ℕ) (c : Cell) (n : ℕ) → is_blank (line_at s.tables.lines b c n) ≡ false → is_known past b c ≡ true
 kept_known settings past s legal kept tells b c n h =
     sym (known_same settings past s.register s.book s.tables.lines (told_kept settings past s legal kept) tells b c)
-    ∙ or_right (is_place (place_in s.register c) b) (down_at s.tables.lines b c || has_line s.tables.lines b c)
-    (or_right (down_at s.tables.lines b c) (has_line s.tables.lines b c) (there (has_line s.tables.lines b c) refl))
+    ∙ or_right (is_place (place_in s.register c) b) (down_for_some s.tables.lines b c || has_line s.tables.lines b c)
+    (or_right (down_for_some s.tables.lines b c) (has_line s.tables.lines b c) (there (has_line s.tables.lines b c) refl))
   where
     there : (t : Bool) → has_line s.tables.lines b c ≡ t → t ≡ true
     there true e = refl
@@ -73,10 +73,15 @@ forgotten_few settings past s n legal kept tells keys few =
         ((known_anywhere settings past legal).each (spot b c) ∙ kept_known settings past s legal kept tells b c n h)
         (or_left (nat_eq n n) false ((unsigned_Decides n n).1 refl))
 
--- so no more are read
-pub forgotten_read : (settings : Settings) (past : Past) (s : Kept) (n new : ℕ) → Legal settings past → IsKept past s → TellsLines s.tables.lines → (keys slice : List LineKey) → slice ≡ keys → ((ks : List LineKey) → ((b : ℕ) (c : Cell) → is_blank (line_at s.tables.lines b c n) ≡ false → list_any (λ k. is_key k b c n) ks ≡ true) → length keys ≤ length ks) → new ≤ s.tables.lines.meter + length slice → new ≤ s.tables.lines.meter + size (edit_reach past (edit.Forget n))
-forgotten_read settings past s n new legal kept tells keys slice same few read =
-    omega (arith, read, ap (λ (xs : List LineKey). length xs) same, forgotten_few settings past s n legal kept tells keys few)
+-- so no more are told of
+pub forgotten_told : (settings : Settings) (past : Past) (s : Kept) (n told : ℕ) → Legal settings past → IsKept past s → TellsLines s.tables.lines → (keys : List LineKey) → ((ks : List LineKey) → ((b : ℕ) (c : Cell) → is_blank (line_at s.tables.lines b c n) ≡ false → list_any (λ k. is_key k b c n) ks ≡ true) → length keys ≤ length ks) → told ≤ s.tables.lines.meter + length keys → told ≤ s.tables.lines.meter + 2 * size (edit_reach past (edit.Forget n))
+forgotten_told settings past s n told legal kept tells keys few most =
+    omega (arith, most, forgotten_few settings past s n legal kept tells keys few)
+
+-- and read
+pub forgotten_read : (settings : Settings) (past : Past) (s : Kept) (n told new : ℕ) → Legal settings past → IsKept past s → TellsLines s.tables.lines → (keys slice : List LineKey) → slice ≡ keys → ((ks : List LineKey) → ((b : ℕ) (c : Cell) → is_blank (line_at s.tables.lines b c n) ≡ false → list_any (λ k. is_key k b c n) ks ≡ true) → length keys ≤ length ks) → told ≤ s.tables.lines.meter + length keys → new ≤ told + length slice → new ≤ s.tables.lines.meter + 2 * size (edit_reach past (edit.Forget n))
+forgotten_read settings past s n told new legal kept tells keys slice same few most read =
+    omega (arith, read, most, ap (λ (xs : List LineKey). length xs) same, forgotten_few settings past s n legal kept tells keys few)
 
 -- the lines of the keys that do not pass a test
 failing_keys : (passes : LineKey → Bool) (line was : LineKey → Held) → ((k : LineKey) → line k ≡ was k) → (ks : List LineKey) → flat_map (unless passes line) ks ≡ map was (failing passes ks)
@@ -93,7 +98,7 @@ before_apart j k h = grind (arith, nat_tests)
 -- these lines were read before it
 pub forgotten_was_reached : (past : Past) (s : Kept) (n : ℕ) (a : Answer) (keys : List LineKey) (held : HeldLines) → IsKept past s → ((b : ℕ) (c : Cell) (v : ℕ) → list_any (λ k. is_key k b c v) keys ≡ (nat_eq n v && not (is_blank (line_at s.tables.lines b c v)))) → is_ascending key_before keys ≡ true → length keys ≤ size (edit_reach past (edit.Forget n)) → AreSteps (happens_after past (event.Edit (edit.Forget n)) a) (book_of past) held → held_in held ≡ flat_map (held_unless (edit.Forget n) s.register s.areas s.book s.tables) keys → WasReached past (event.Edit (edit.Forget n)) a [] held
 forgotten_was_reached past s n a keys held kept which order few steps are = record {
-  away = λ settings legal b c out. refl;
+  away = λ settings legal kind b c out. refl;
   keys = failing passes keys;
   lines = are ∙ failing_keys passes (held_line s.register s.areas s.book s.tables) (held_past past) (held_as past s kept) keys;
   steps = steps;

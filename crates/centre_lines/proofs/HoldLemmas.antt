@@ -30,7 +30,7 @@ use Rattle.centre_past.specs.Reach.{Reach, IsReach, reach_of, size, spot}
 use Rattle.centre_past.specs.Reaching.{Told, IsFlightOf, bsc_of}
 use Rattle.centre_events.specs.Settings.{Settings}
 use Rattle.centre_events.specs.Verdict.{verdict}
-use Rattle.centre_events.specs.Warnings.{book_of}
+use Rattle.centre_events.specs.Warnings.{book_of, kind_in}
 use Rattle.centre_events.specs.declared.answer.Answer.{Answer}
 use Rattle.centre_events.specs.declared.event.Event.{Event}
 use Rattle.centre_events.specs.declared.event.Event.TheVariants as event
@@ -51,7 +51,7 @@ use Rattle.centre_lines.proofs.TellLemmas.{bears_of, keys_counted, keys_once}
 pub facts_kept : (past : Past) (s : Kept) → IsKept past s → (k : LineKey) → facts_in s.register s.areas s.book s.tables k ≡ facts past k
 facts_kept past s kept k =
     rw (kept.booked)
-    (facts_same past s.register s.areas (down_at s.tables.lines k.bsc k.cell) k.bsc k.cell (line_at s.tables.lines k.bsc k.cell k.warning) (warning_of (book_of past) k.warning) kept.registered kept.selected (kept.downs k.bsc k.cell)
+    (facts_same past s.register s.areas (down_at s.tables.lines (kind_in (warning_of (book_of past) k.warning)) k.bsc k.cell) k.bsc k.cell (line_at s.tables.lines k.bsc k.cell k.warning) (warning_of (book_of past) k.warning) kept.registered kept.selected (kept.downs (kind_in (warning_of (book_of past) k.warning)) k.bsc k.cell)
     (is (warning_of (book_of past) k.warning) (kept.tables.lines k)))
   where
     is : (o : Option Warning) → line_at s.tables.lines k.bsc k.cell k.warning ≡ (facts_of past k.bsc k.cell o).line → IsLineOf past k.bsc k.cell (line_at s.tables.lines k.bsc k.cell k.warning) o
@@ -107,7 +107,7 @@ passed passes k ks out among = step (passes k) refl
 -- such lines were read, if each that passes has the same part after the event
 was_held : (past : Past) (e : Event) (a : Answer) (spots : List Spot) (numbers : List ℕ) (passes : LineKey → Bool) (held : HeldLines) → IsReach (record { spots = spots; warnings = numbers }) (reach_of past e a) → AreSteps (happens_after past e a) (book_of past) held → held_in held ≡ map (held_past past) (failing passes (keys_of spots numbers)) → ((settings : Settings) (desk : ℕ) → Legal settings past → verdict settings past e ≡ Ok a → (k : LineKey) → passes k ≡ true → SamePart (facts past k) (facts (After (record { desk = desk; event = e; answer = a }) past) k)) → WasReached past e a spots held
 was_held past e a spots numbers passes held reach steps are same = record {
-  away = λ settings legal b c out. down_outside settings past legal e a b c (sym (reach.spots (spot b c)) ∙ out);
+  away = λ settings legal kind b c out. down_outside settings past legal e a kind b c (sym (reach.spots (spot b c)) ∙ out);
   keys = failing passes (keys_of spots numbers);
   lines = are;
   steps = steps;
@@ -179,9 +179,9 @@ flying_kept past fs gs (event.Send b generation) f flying h same is = is ∙ ap 
 flying_kept past fs gs (event.Ask b generation n after) f flying h same is = is ∙ ap (λ xs. flight_kept xs (event.Ask b generation n after)) same ∙ flying b
 flying_kept past fs gs (event.Report b generation message) f flying h same is = is ∙ ap (λ xs. flight_kept xs (event.Report b generation message)) same ∙ flying b
 
--- as many lines are read as an event bears on
-pub reads_within : (old new : ℕ) (ps qs : List Spot) (ns ms : List ℕ) (r : Reach) → ps ≡ qs → ns ≡ ms → new ≤ old + length ps * length ns → IsReach (record { spots = qs; warnings = ms }) r → new ≤ old + size r
+-- as many lines are read as an event bears on, and as many are told of
+pub reads_within : (old new : ℕ) (ps qs : List Spot) (ns ms : List ℕ) (r : Reach) → ps ≡ qs → ns ≡ ms → new ≤ old + 2 * (length ps * length ns) → IsReach (record { spots = qs; warnings = ms }) r → new ≤ old + 2 * size r
 reads_within old new ps qs ns ms r spots warnings within reach =
-    subst (λ n. new ≤ old + n)
+    subst (λ n. new ≤ old + 2 * n)
     (ap (λ xs. length xs * length ns) spots ∙ ap (λ xs. length qs * length xs) warnings ∙ ap (λ n. n * length ms) reach.spots_counted ∙ ap (λ n. length r.spots * n) reach.warnings_counted)
     within

@@ -19,22 +19,24 @@ use Rattle.kept_tables.specs.declared.spot.Spot.{Spot}
 use Rattle.mirror.specs.Blank.{is_blank, line_eq}
 use Rattle.mirror.specs.BlankLaws.{blank_decides, line_decides}
 use Rattle.mirror.specs.Line.{blank_line}
-use Rattle.mirror.specs.Table.{is_slot, is_that_place, line_at, down_at}
+use Rattle.mirror.specs.Table.{downs_of, is_slot, is_that_place, line_at, down_at}
 use Rattle.mirror.specs.declared.line.Line.{Line}
 use Rattle.mirror.specs.declared.line_key.LineKey.{LineKey}
 use Rattle.warning_book.specs.Book as book
 use Rattle.warning_book.specs.Book.{has_number, number_lt, numbers, warning_of}
 use Rattle.warning_book.specs.declared.warning.Warning.{Warning}
+use Rattle.coverage_plan.specs.declared.edit.Edit.{Edit}
+use Rattle.coverage_plan.specs.declared.edit.Edit.TheVariants as edit
 use Rattle.centre_events.specs.Down.{down_mark}
 use Rattle.centre_past.specs.Facts.{facts_of}
-use Rattle.centre_lines.specs.Following.{AreInBook, Happens, bearing, changing_at, held_line, is_idle, keeps_down, leaves_blank, line_now, may_change, stays, step_of}
+use Rattle.centre_lines.specs.Following.{AreInBook, Happens, LinesAreOf, bearing, changing_at, held_line, is_idle, keeps_down, leaves_blank, leaves_cover, line_now, may_change, stays, step_of}
 use Rattle.centre_past.specs.Idle.{AsBefore}
 use Rattle.centre_past.specs.IsKept.{IsKept}
 use Rattle.centre_past.specs.Legal.{Legal}
-use Rattle.centre_past.specs.Reach.{IsReach, reach_of}
+use Rattle.centre_past.specs.Reach.{IsReach, edit_reach, reach_of}
 use Rattle.centre_events.specs.Past.{Past}
 use Rattle.centre_events.specs.Settings.{Settings}
-use Rattle.centre_events.specs.Warnings.{book_of, warnings_of}
+use Rattle.centre_events.specs.Warnings.{book_of, kind_in, warnings_of}
 use Rattle.centre_events.specs.declared.answer.Answer.{Answer}
 use Rattle.centre_events.specs.declared.answer.Answer.TheVariants.{Listed}
 use Rattle.centre_events.specs.declared.event.Event.{Event}
@@ -44,6 +46,7 @@ use Rattle.centre_lines.proofs.BlankLineLemmas.{unchanged}
 use Rattle.centre_lines.proofs.ReachedWarningLemmas.{all_listed}
 use Rattle.centre_past.proofs.RegisterLemmas.{nat_apart}
 use Rattle.centre_past.proofs.WarningLemmas.{legal_sound}
+use Rattle.warning_book.specs.declared.kind.Kind.{Kind}
 
 -- Of two lists of numbers in order, those that fail a test are the same where each of them is in both.
 
@@ -102,7 +105,7 @@ number_there n (v ∷ ws) w h = step (nat_eq v.number n) (nat_eq n v.number) (tu
 itself : (line : Line) → line_eq line line ≡ true
 itself line = (line_decides line line).1 refl
 
-changes_some : (h : Happens) (l : List Area) (st : book.State) (t : Tables) (k : LineKey) → leaves_blank h.event h.answer ≡ true → keeps_down (down_mark k.bsc k.cell h.event h.answer) (down_at t.lines k.bsc k.cell) ≡ true → stays h l st t k ≡ false → (may_change h.event (line_at t.lines k.bsc k.cell k.warning) ≡ true) × (list_any (nat_eq k.warning) (numbers st.warnings) ≡ true)
+changes_some : (h : Happens) (l : List Area) (st : book.State) (t : Tables) (k : LineKey) → leaves_blank h.event h.answer ≡ true → ((kind : Kind) → keeps_down (down_mark kind k.bsc k.cell h.event h.answer) (down_at t.lines kind k.bsc k.cell) ≡ true) → stays h l st t k ≡ false → (may_change h.event (line_at t.lines k.bsc k.cell k.warning) ≡ true) × (list_any (nat_eq k.warning) (numbers st.warnings) ≡ true)
 changes_some h l st t k blanks down changes = (kept (may_change h.event line) refl, booked (warning_of st k.warning) refl)
   where
     line : Line
@@ -110,7 +113,7 @@ changes_some h l st t k blanks down changes = (kept (may_change h.event line) re
 
     stay : line_eq (line_now h st.warnings k.bsc k.cell (warning_of st k.warning) line) line ≡ true → false ≡ true
     stay e =
-        sym changes ∙ ap (λ x. line_eq (line_now h st.warnings k.bsc k.cell (warning_of st k.warning) line) line && (x || is_idle l (warning_of st k.warning) k.cell line)) down ∙ ap (λ x. x && true) e
+        sym changes ∙ ap (λ x. line_eq (line_now h st.warnings k.bsc k.cell (warning_of st k.warning) line) line && (x || is_idle l (warning_of st k.warning) k.cell line)) (down (kind_in (warning_of st k.warning))) ∙ ap (λ x. x && true) e
 
     kept : (x : Bool) → may_change h.event line ≡ x → x ≡ true
     kept true e = refl
@@ -121,7 +124,7 @@ changes_some h l st t k blanks down changes = (kept (may_change h.event line) re
     booked (Some w) e = number_there k.warning st.warnings w e
 
 -- so those of the lines that may change are those of all
-pub known_same : (h : Happens) (r : register.State) (l : List Area) (st : book.State) (t : Tables) (p : Spot) (ws : List ℕ) → leaves_blank h.event h.answer ≡ true → keeps_down (down_mark p.bsc p.cell h.event h.answer) (down_at t.lines p.bsc p.cell) ≡ true → is_ascending number_lt st.warnings ≡ true → is_ascending ltb ws ≡ true → ((n : ℕ) → list_any (nat_eq n) ws ≡ may_change h.event (line_at t.lines p.bsc p.cell n)) → changing_at h r l st t ws p ≡ changing_at h r l st t (numbers st.warnings) p
+pub known_same : (h : Happens) (r : register.State) (l : List Area) (st : book.State) (t : Tables) (p : Spot) (ws : List ℕ) → leaves_blank h.event h.answer ≡ true → ((kind : Kind) → keeps_down (down_mark kind p.bsc p.cell h.event h.answer) (down_at t.lines kind p.bsc p.cell) ≡ true) → is_ascending number_lt st.warnings ≡ true → is_ascending ltb ws ≡ true → ((n : ℕ) → list_any (nat_eq n) ws ≡ may_change h.event (line_at t.lines p.bsc p.cell n)) → changing_at h r l st t ws p ≡ changing_at h r l st t (numbers st.warnings) p
 known_same h r l st t p ws blanks down ordered ascend which =
     failing_same (λ n. stays h l st t (key_at p n)) (λ n. step_of h st (held_line r l st t (key_at p n))) ws (numbers st.warnings) ascend (numbers_ascend st.warnings ordered)
     (λ n changes. let both = changes_some h l st t (key_at p n) blanks down changes in which n ∙ both.0 ∙ sym both.1)
@@ -138,8 +141,35 @@ in_book past s kept b c n h = step (warning_of (book_of past) n) refl
     step (Some w) e = ap (λ (st : book.State). list_any (nat_eq n) (numbers st.warnings)) kept.booked ∙ number_there n (warnings_of past) w e
 
 -- the same tables have the same lines
-pub in_book_as : (st : book.State) (t u : Tables) → AsBefore t u → AreInBook st t → AreInBook st u
-in_book_as st t u same h b c n blank = h b c n (ap (λ ls. is_blank (unwrap_or (lookup (is_slot b c n) ls) blank_line)) (sym same.lines) ∙ blank)
+pub lines_of_as : (ns : List ℕ) (t u : Tables) → AsBefore t u → LinesAreOf ns t → LinesAreOf ns u
+lines_of_as ns t u same h b c n blank = h b c n (ap (λ ls. is_blank (unwrap_or (lookup (is_slot b c n) ls) blank_line)) (sym same.lines) ∙ blank)
+
+-- An edit that leaves what each area covers bears on the lines of all warnings.
+
+cover_all : (past : Past) (e : Edit) → leaves_cover e ≡ true → (edit_reach past e).warnings ≡ numbers (warnings_of past)
+cover_all past (edit.RemoveBsc b) h = sym (all_listed past (book_of past) (numbers (warnings_of past)) refl refl)
+cover_all past (edit.AddCell c b) h = sym (all_listed past (book_of past) (numbers (warnings_of past)) refl refl)
+cover_all past (edit.MoveCell c b) h = sym (all_listed past (book_of past) (numbers (warnings_of past)) refl refl)
+cover_all past (edit.RemoveCell c) h = sym (all_listed past (book_of past) (numbers (warnings_of past)) refl refl)
+cover_all past (edit.AddBsc b) h = cc
+cover_all past (edit.AddArea a) h = cc
+cover_all past (edit.DropArea a) h = cc
+cover_all past (edit.Put a s) h = cc
+cover_all past (edit.Cut a s) h = cc
+cover_all past (edit.Issue notice areas) h = cc
+cover_all past (edit.Update n content) h = cc
+cover_all past (edit.Widen n a) h = cc
+cover_all past (edit.Narrow n a) h = cc
+cover_all past (edit.Stop n) h = cc
+cover_all past (edit.Forget n) h = cc
+
+-- so each line that isn't blank is of one of those
+pub cover_reached : (past : Past) (s : Kept) → IsKept past s → (e : Edit) (spots : List Spot) (ns ms : List ℕ) → ms ≡ ns → IsReach (record { spots = spots; warnings = ns }) (edit_reach past e) → leaves_cover e ≡ true → LinesAreOf ms s.tables
+cover_reached past s kept e spots ns ms same reach leaves b c n h =
+    ap (list_any (nat_eq n)) same
+    ∙ reach.warnings n
+    ∙ ap (list_any (nat_eq n)) (cover_all past e leaves ∙ ap (λ (x : book.State). numbers x.warnings) (sym kept.booked))
+    ∙ in_book past s kept b c n h
 
 -- An indication and a Retry bear on all warnings.
 
@@ -174,7 +204,7 @@ bears_on_all settings past legal s kept e a spots ns reach = step (leaves_blank 
     step false h = reach
 
 -- and so those of the lines that a table keeps which has the same
-pub known_before : (h : Happens) (r : register.State) (l : List Area) (st : book.State) (t u : Tables) (p : Spot) (ws : List ℕ) → AsBefore t u → leaves_blank h.event h.answer ≡ true → keeps_down (down_mark p.bsc p.cell h.event h.answer) (down_at u.lines p.bsc p.cell) ≡ true → is_ascending number_lt st.warnings ≡ true → is_ascending ltb ws ≡ true → ((n : ℕ) → list_any (nat_eq n) ws ≡ may_change h.event (line_at u.lines p.bsc p.cell n)) → changing_at h r l st t ws p ≡ changing_at h r l st t (numbers st.warnings) p
+pub known_before : (h : Happens) (r : register.State) (l : List Area) (st : book.State) (t u : Tables) (p : Spot) (ws : List ℕ) → AsBefore t u → leaves_blank h.event h.answer ≡ true → ((kind : Kind) → keeps_down (down_mark kind p.bsc p.cell h.event h.answer) (down_at u.lines kind p.bsc p.cell) ≡ true) → is_ascending number_lt st.warnings ≡ true → is_ascending ltb ws ≡ true → ((n : ℕ) → list_any (nat_eq n) ws ≡ may_change h.event (line_at u.lines p.bsc p.cell n)) → changing_at h r l st t ws p ≡ changing_at h r l st t (numbers st.warnings) p
 known_before h r l st t u p ws same blanks down ordered ascend which =
-    known_same h r l st t p ws blanks (ap (λ ps. keeps_down (down_mark p.bsc p.cell h.event h.answer) (list_any (is_that_place p.bsc p.cell) ps)) (sym same.downs) ∙ down) ordered ascend
+    known_same h r l st t p ws blanks (λ kind. ap (λ downs. keeps_down (down_mark kind p.bsc p.cell h.event h.answer) (list_any (is_that_place p.bsc p.cell) (downs_of kind downs))) (sym same.downs) ∙ down kind) ordered ascend
     (λ n. which n ∙ ap (λ ls. may_change h.event (unwrap_or (lookup (is_slot p.bsc p.cell n) ls) blank_line)) same.lines)

@@ -42,6 +42,7 @@ use Rattle.centre_lines.proofs.TellLemmas.{from_to, any_changes, tells_keys}
 use Rattle.centre_lines.proofs.ThenLemmas.{then_is}
 use Rattle.centre_past.proofs.UniqueLemmas.{unique}
 use Rattle.centre_past.proofs.WarningLemmas.{legal_sound}
+use Rattle.warning_book.specs.declared.kind.Kind.{Kind}
 
 map_twice : {A B C : Type 0} (f : A → B) (g : B → C) (k : A → C) → ((x : A) → g (f x) ≡ k x) → (xs : List A) → map g (map f xs) ≡ map k xs
 map_twice f g k same [] = refl
@@ -49,12 +50,12 @@ map_twice f g k same (x ∷ xs) = ap (λ y. y ∷ map g (map f xs)) (same x) ∙
 
 -- which cells are down
 
-pub downs_then : {r : register.State} {l : List Area} {st : book.State} {t : Tables} {h : Happens} {spots : List Spot} {held : List Held} (x : Bears r l st t h spots held) (b : ℕ) (c : Cell) → down_after h.event h.answer spots b c (down_at t.lines b c) ≡ is_down (After (entry_of x.desk h) x.past) b c
-downs_then {h = h} {spots = spots} x b c = ap (down_after h.event h.answer spots b c) (x.downs b c) ∙ step (list_any (spot_eq (spot b c)) spots) refl
+pub downs_then : {r : register.State} {l : List Area} {st : book.State} {t : Tables} {h : Happens} {spots : List Spot} {held : List Held} (x : Bears r l st t h spots held) (kind : Kind) (b : ℕ) (c : Cell) → down_after h.event h.answer spots kind b c (down_at t.lines kind b c) ≡ is_down (After (entry_of x.desk h) x.past) kind b c
+downs_then {h = h} {spots = spots} x kind b c = ap (down_after h.event h.answer spots kind b c) (x.downs kind b c) ∙ step (list_any (spot_eq (spot b c)) spots) refl
   where
-    step : (u : Bool) → list_any (spot_eq (spot b c)) spots ≡ u → (if u then unwrap_or (down_mark b c h.event h.answer) (is_down x.past b c) else is_down x.past b c) ≡ is_down (After (entry_of x.desk h) x.past) b c
+    step : (u : Bool) → list_any (spot_eq (spot b c)) spots ≡ u → (if u then unwrap_or (down_mark kind b c h.event h.answer) (is_down x.past kind b c) else is_down x.past kind b c) ≡ is_down (After (entry_of x.desk h) x.past) kind b c
     step true e = refl
-    step false e = x.away b c e
+    step false e = x.away kind b c e
 
 -- a cell is registered at one BSC at most
 pub facts_placed : (past : Past) → Placed (facts past)
@@ -96,14 +97,14 @@ facts_few settings past legal k = step (warning_of (book_of past) k.warning) ref
         omega (arith, few, long)
 
 -- the changes are from the past to the past with the entry
-pub changes_are : {r : register.State} {l : List Area} {st : book.State} {t : Tables} {h : Happens} {spots : List Spot} {held : List Held} (x : Bears r l st t h spots held) (u : Tables) → ((b : ℕ) (c : Cell) → down_at u.lines b c ≡ is_down (After (entry_of x.desk h) x.past) b c) → map (change_of h r l st u) held ≡ map (from_to (facts x.past) (facts (After (entry_of x.desk h) x.past))) x.keys
+pub changes_are : {r : register.State} {l : List Area} {st : book.State} {t : Tables} {h : Happens} {spots : List Spot} {held : List Held} (x : Bears r l st t h spots held) (u : Tables) → ((kind : Kind) (b : ℕ) (c : Cell) → down_at u.lines kind b c ≡ is_down (After (entry_of x.desk h) x.past) kind b c) → map (change_of h r l st u) held ≡ map (from_to (facts x.past) (facts (After (entry_of x.desk h) x.past))) x.keys
 changes_are {r = r} {l = l} {st = st} {h = h} {spots = spots} x u downs =
     ap (map (change_of h r l st u)) x.lines
     ∙ map_twice (held_past x.past) (change_of h r l st u) (from_to (facts x.past) (facts (After (entry_of x.desk h) x.past)))
     (λ k. ap (λ (f : LineFacts). let y : Change = record { key = k; before = facts x.past k; after = f } in y) (then_is x.settings x.past x.legal x.desk h x.accepted x.up x.flight r l st u x.registered x.selected x.booked downs k))
     x.keys
 
-abbrev pub begins : {r : register.State} {l : List Area} {st : book.State} {t : Tables} {h : Happens} {spots : List Spot} {held : List Held} (x : Bears r l st t h spots held) (u : Tables) → SameLines t u → ((b : ℕ) (c : Cell) → down_at u.lines b c ≡ down_after h.event h.answer spots b c (down_at t.lines b c)) → Begins u (map (change_of h r l st u) held)
+abbrev pub begins : {r : register.State} {l : List Area} {st : book.State} {t : Tables} {h : Happens} {spots : List Spot} {held : List Held} (x : Bears r l st t h spots held) (u : Tables) → SameLines t u → ((kind : Kind) (b : ℕ) (c : Cell) → down_at u.lines kind b c ≡ down_after h.event h.answer spots kind b c (down_at t.lines kind b c)) → Begins u (map (change_of h r l st u) held)
 begins {r = r} {l = l} {st = st} {t = t} {h = h} {spots = spots} {held = held} x u same downs = record {
   from = facts x.past;
   to = facts new;
@@ -115,7 +116,7 @@ begins {r = r} {l = l} {st = st} {t = t} {h = h} {spots = spots} {held = held} x
   placed_to = facts_placed new;
   few_from = facts_few x.settings x.past x.legal;
   few_to = facts_few x.settings new legal_new;
-  tells = subst (Tells (facts x.past) (facts new)) (sym (changes_are x u (λ b c. downs b c ∙ downs_then x b c))) (tells_keys (facts x.past) (facts new) x.keys x.once);
+  tells = subst (Tells (facts x.past) (facts new)) (sym (changes_are x u (λ kind b c. downs kind b c ∙ downs_then x kind b c))) (tells_keys (facts x.past) (facts new) x.keys x.once);
 }
   where
     new : Past
@@ -134,7 +135,7 @@ begins {r = r} {l = l} {st = st} {t = t} {h = h} {spots = spots} {held = held} x
     few_after m s = unique (book_of new) (legal_sound x.settings new legal_new) m s
 
 -- once they are made, the tables are what the past with the entry says
-pub joined : {r : register.State} {l : List Area} {st : book.State} {t : Tables} {h : Happens} {spots : List Spot} {held : List Held} (x : Bears r l st t h spots held) (u v : Tables) → ((b : ℕ) (c : Cell) → down_at u.lines b c ≡ down_after h.event h.answer spots b c (down_at t.lines b c)) → Consistent v (mixed (facts x.past) (facts (After (entry_of x.desk h) x.past)) (map (change_of h r l st u) held)) → Consistent v (facts (After (entry_of x.desk h) x.past))
+pub joined : {r : register.State} {l : List Area} {st : book.State} {t : Tables} {h : Happens} {spots : List Spot} {held : List Held} (x : Bears r l st t h spots held) (u v : Tables) → ((kind : Kind) (b : ℕ) (c : Cell) → down_at u.lines kind b c ≡ down_after h.event h.answer spots kind b c (down_at t.lines kind b c)) → Consistent v (mixed (facts x.past) (facts (After (entry_of x.desk h) x.past)) (map (change_of h r l st u) held)) → Consistent v (facts (After (entry_of x.desk h) x.past))
 joined {r = r} {l = l} {st = st} {h = h} {spots = spots} {held = held} x u v downs done =
     same_parts v (mixed (facts x.past) (facts new) (map (change_of h r l st u) held)) (facts new) (λ k. each k (changes_key k (map (change_of h r l st u) held)) refl) done
   where
@@ -145,12 +146,12 @@ joined {r = r} {l = l} {st = st} {h = h} {spots = spots} {held = held} x u v dow
     itself f = record { line = refl; deeds = refl; total = refl; area = λ a. refl }
 
     read : (k : LineKey) → changes_key k (map (change_of h r l st u) held) ≡ list_any (key_eq k) x.keys
-    read k = ap (changes_key k) (changes_are x u (λ b c. downs b c ∙ downs_then x b c)) ∙ any_changes (facts x.past) (facts new) k x.keys
+    read k = ap (changes_key k) (changes_are x u (λ kind b c. downs kind b c ∙ downs_then x kind b c)) ∙ any_changes (facts x.past) (facts new) k x.keys
 
     each : (k : LineKey) (t : Bool) → changes_key k (map (change_of h r l st u) held) ≡ t → SamePart (if t then facts new k else facts x.past k) (facts new k)
     each k true e = itself (facts new k)
     each k false e = x.rest k (sym (read k) ∙ e)
 
-pub settled : {r : register.State} {l : List Area} {st : book.State} {t : Tables} {h : Happens} {spots : List Spot} {held : List Held} (x : Bears r l st t h spots held) (u v : Tables) (xs : List Change) → xs ≡ map (change_of h r l st u) held → SameLines t u → ((b : ℕ) (c : Cell) → down_at u.lines b c ≡ down_after h.event h.answer spots b c (down_at t.lines b c)) → ((y : Begins u xs) → Consistent v (mixed y.from y.to xs)) → Consistent v (facts (After (entry_of x.desk h) x.past))
+pub settled : {r : register.State} {l : List Area} {st : book.State} {t : Tables} {h : Happens} {spots : List Spot} {held : List Held} (x : Bears r l st t h spots held) (u v : Tables) (xs : List Change) → xs ≡ map (change_of h r l st u) held → SameLines t u → ((kind : Kind) (b : ℕ) (c : Cell) → down_at u.lines kind b c ≡ down_after h.event h.answer spots kind b c (down_at t.lines kind b c)) → ((y : Begins u xs) → Consistent v (mixed y.from y.to xs)) → Consistent v (facts (After (entry_of x.desk h) x.past))
 settled {r = r} {l = l} {st = st} {h = h} {spots = spots} {held = held} x u v xs are same downs done =
     joined x u v downs (subst (λ ys. (y : Begins u ys) → Consistent v (mixed y.from y.to ys)) are done (begins x u same downs))

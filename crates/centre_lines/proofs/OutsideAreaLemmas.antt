@@ -13,7 +13,7 @@ use Rattle.common.specs.declared.cell.Cell.{Cell}
 use Rattle.kept_tables.specs.Same.{SamePart}
 use Rattle.kept_tables.specs.View.{spot_eq}
 use Rattle.mirror.specs.declared.line_key.LineKey.{LineKey}
-use Rattle.warning_book.specs.Book.{has_number, names, warning_of}
+use Rattle.warning_book.specs.Book.{kind_of, has_number, names, warning_of}
 use Rattle.warning_book.specs.declared.warning.Warning.{Warning}
 use Rattle.centre_events.specs.Base.{Base, empty_base}
 use Rattle.centre_events.specs.Cover.{is_area, area_mark, has_selector, selector_mark, covers}
@@ -40,6 +40,7 @@ use Rattle.centre_past.proofs.FactsLemmas.{filter_pointwise}
 use Rattle.centre_past.proofs.LineLemmas.{same_line, same_kept, same_idle, same_none, apart_away, found_passes, entry_of, Outside}
 use Rattle.centre_lines.proofs.ReachLemmas.{not_there, number_there, placed_there}
 use Rattle.centre_past.proofs.UniqueLemmas.{verdict_answered}
+use Rattle.warning_book.specs.declared.kind.Kind.{Kind}
 
 -- An area that has a selector is there.
 
@@ -145,7 +146,7 @@ unnamed (selector.Cell d) c h = (h, refl)
 unnamed (selector.Lac lac) c h = (refl, h)
 
 -- where one selector of one area is put in, or taken out, and nothing else changes
-selector_kept : (settings : Settings) (past new : Past) → Legal settings past → (x : List ℕ) (t : Selector) (v : Bool) → ((y : List ℕ) (s : Selector) → has_selector new y s ≡ unwrap_or (if bytes_eq x y && selector_eq t s then Some v else None) (has_selector past y s)) → (k : LineKey) → place new k.cell ≡ place past k.cell → is_down past k.bsc k.cell ≡ is_down new k.bsc k.cell → ((m s : ℕ) → key_state new k.bsc k.cell m s ≡ key_state past k.bsc k.cell m s) → bears (let r : Reach = record { spots = placed_where past (is_named_by t); warnings = numbers_where past (names x) } in r) k ≡ false → SamePart (facts_of past k.bsc k.cell (warning_of (book_of past) k.warning)) (facts_of new k.bsc k.cell (warning_of (book_of past) k.warning))
+selector_kept : (settings : Settings) (past new : Past) → Legal settings past → (x : List ℕ) (t : Selector) (v : Bool) → ((y : List ℕ) (s : Selector) → has_selector new y s ≡ unwrap_or (if bytes_eq x y && selector_eq t s then Some v else None) (has_selector past y s)) → (k : LineKey) → place new k.cell ≡ place past k.cell → ((kind : Kind) → is_down past kind k.bsc k.cell ≡ is_down new kind k.bsc k.cell) → ((m s : ℕ) → key_state new k.bsc k.cell m s ≡ key_state past k.bsc k.cell m s) → bears (let r : Reach = record { spots = placed_where past (is_named_by t); warnings = numbers_where past (names x) } in r) k ≡ false → SamePart (facts_of past k.bsc k.cell (warning_of (book_of past) k.warning)) (facts_of new k.bsc k.cell (warning_of (book_of past) k.warning))
 selector_kept settings past new legal x t v has k placed down keys h = step (warning_of (book_of past) k.warning) refl
   where
     reached : Reach
@@ -184,16 +185,16 @@ selector_kept settings past new legal x t v has k placed down keys h = step (war
         at true named true there =
             let gone = away w e named there in
             same_idle past new k.bsc k.cell w w (apart_away past k.bsc k.cell w gone) (apart_away new k.bsc k.cell w (sym here ∙ gone))
-            (same_line past new k.bsc k.cell w (λ s known. keys w.message_id s)) refl refl down
+            (same_line past new k.bsc k.cell w (λ s known. keys w.message_id s)) refl refl (down (kind_of w))
         at true named false there =
-            same_kept past new k.bsc k.cell w here (filter_besides (λ y. covers past y k.cell) (λ y. covers new y k.cell) (λ y. bytes_eq y x) otherwise w.areas there) down (λ s known. keys w.message_id s)
+            same_kept past new k.bsc k.cell w here (filter_besides (λ y. covers past y k.cell) (λ y. covers new y k.cell) (λ y. bytes_eq y x) otherwise w.areas there) (down (kind_of w)) (λ s known. keys w.message_id s)
         at false named n there =
-            same_kept past new k.bsc k.cell w here (filter_pointwise (λ y. covers past y k.cell) (λ y. covers new y k.cell) (elsewhere named) w.areas) down (λ s known. keys w.message_id s)
+            same_kept past new k.bsc k.cell w here (filter_pointwise (λ y. covers past y k.cell) (λ y. covers new y k.cell) (elsewhere named) w.areas) (down (kind_of w)) (λ s known. keys w.message_id s)
 
 pub outside_put : (settings : Settings) (past : Past) → Legal settings past → (desk : ℕ) (x : List ℕ) (t : Selector) (a : Answer) → Outside past desk (event.Edit (edit.Put x t)) a
 outside_put settings past legal desk x t a k h =
-    selector_kept settings past (After (entry_of desk (event.Edit (edit.Put x t)) a) past) legal x t true (λ y s. refl) k refl refl (λ m s. refl) h
+    selector_kept settings past (After (entry_of desk (event.Edit (edit.Put x t)) a) past) legal x t true (λ y s. refl) k refl (λ kind. refl) (λ m s. refl) h
 
 pub outside_cut : (settings : Settings) (past : Past) → Legal settings past → (desk : ℕ) (x : List ℕ) (t : Selector) (a : Answer) → Outside past desk (event.Edit (edit.Cut x t)) a
 outside_cut settings past legal desk x t a k h =
-    selector_kept settings past (After (entry_of desk (event.Edit (edit.Cut x t)) a) past) legal x t false (λ y s. refl) k refl refl (λ m s. refl) h
+    selector_kept settings past (After (entry_of desk (event.Edit (edit.Cut x t)) a) past) legal x t false (λ y s. refl) k refl (λ kind. refl) (λ m s. refl) h

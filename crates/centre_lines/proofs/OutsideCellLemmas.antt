@@ -11,7 +11,7 @@ use Rattle.common.specs.declared.cell.Cell.{Cell}
 use Rattle.kept_tables.specs.Same.{SamePart}
 use Rattle.kept_tables.specs.View.{spot_eq}
 use Rattle.mirror.specs.declared.presence.Presence.TheVariants.{Absent}
-use Rattle.warning_book.specs.Book.{warning_of}
+use Rattle.warning_book.specs.Book.{kind_of, warning_of}
 use Rattle.warning_book.specs.declared.warning.Warning.{Warning}
 use Rattle.centre_events.specs.Down.{is_down}
 use Rattle.centre_events.specs.Effects.{state_after}
@@ -53,8 +53,8 @@ outside_remove_bsc settings past legal desk other a k h = step (warning_of (book
     step None e = same_none past new k.bsc k.cell
     step (Some w) e = same_kept past new k.bsc k.cell w refl refl (down (nat_eq other k.bsc) refl) (λ s there. at s there (nat_eq other k.bsc) refl)
       where
-        down : (t : Bool) → nat_eq other k.bsc ≡ t → is_down past k.bsc k.cell ≡ unwrap_or (if t then Some false else None) (is_down past k.bsc k.cell)
-        down true same = not_down past k.bsc k.cell (unknown w e same)
+        down : (t : Bool) → nat_eq other k.bsc ≡ t → is_down past (kind_of w) k.bsc k.cell ≡ unwrap_or (if t then Some false else None) (is_down past (kind_of w) k.bsc k.cell)
+        down true same = not_down past (kind_of w) k.bsc k.cell (unknown w e same)
         down false other = refl
 
         at : (s : ℕ) → list_any (is_version s) w.versions ≡ true → (t : Bool) → nat_eq other k.bsc ≡ t → state_after (if t then Sets Absent else Leaves) (if t then Some 0 else None) (key_state past k.bsc k.cell w.message_id s) ≡ key_state past k.bsc k.cell w.message_id s

@@ -11,7 +11,7 @@ use Rattle.common.specs.declared.cell.Cell.{Cell}
 use Rattle.kept_tables.specs.Same.{SamePart}
 use Rattle.kept_tables.specs.View.{spot_eq}
 use Rattle.mirror.specs.declared.line_key.LineKey.{LineKey}
-use Rattle.warning_book.specs.Book.{warning_of}
+use Rattle.warning_book.specs.Book.{kind_of, warning_of}
 use Rattle.warning_book.specs.declared.version.Version.{Version}
 use Rattle.warning_book.specs.declared.warning.Warning.{Warning}
 use Rattle.centre_events.specs.Counts.{replied_count, report_count}
@@ -27,7 +27,7 @@ use Rattle.centre_events.specs.Past.{Past, After}
 use Rattle.centre_past.specs.Reach.{bears, spot, numbers_where, flight_reach, report_reach}
 use Rattle.centre_events.specs.Reported.{names_serial, names_warning}
 use Rattle.centre_events.specs.Settings.{Settings}
-use Rattle.centre_events.specs.Warnings.{book_of, is_version}
+use Rattle.centre_events.specs.Warnings.{book_of, is_version, key_kind}
 use Rattle.centre_events.specs.declared.answer.Answer.{Answer}
 use Rattle.centre_events.specs.declared.answer.Answer.TheVariants.{Replied, Listed}
 use Rattle.centre_events.specs.declared.effect.Effect.TheVariants.{Frees, Leaves}
@@ -158,7 +158,7 @@ outside_ask past desk other generation n after a k h = record { line = refl; dee
 -- A Report.
 
 -- where it leaves the keys of the line's BSC, reports no number of them and brings nothing there down or up
-report_kept : (past : Past) (desk other generation : ℕ) (message : Message) (a : Answer) (k : LineKey) → (nat_eq other k.bsc ≡ true → (w : Warning) → warning_of (book_of past) k.warning ≡ Some w → (listed_down k.cell message a ≡ None) × ((s : ℕ) → list_any (is_version s) w.versions ≡ true → (report_effect message a (in_flight past k.bsc) k.cell w.message_id s ≡ Leaves) × (report_count a (in_flight past k.bsc) k.cell w.message_id s ≡ None))) → SamePart (facts_of past k.bsc k.cell (warning_of (book_of past) k.warning)) (facts_of (After (entry_of desk (event.Report other generation message) a) past) k.bsc k.cell (warning_of (book_of past) k.warning))
+report_kept : (past : Past) (desk other generation : ℕ) (message : Message) (a : Answer) (k : LineKey) → (nat_eq other k.bsc ≡ true → (w : Warning) → warning_of (book_of past) k.warning ≡ Some w → (listed_down (kind_of w) k.cell message a ≡ None) × ((s : ℕ) → list_any (is_version s) w.versions ≡ true → (report_effect (key_kind past w.message_id s) message a (in_flight past k.bsc) k.cell w.message_id s ≡ Leaves) × (report_count a (in_flight past k.bsc) k.cell w.message_id s ≡ None))) → SamePart (facts_of past k.bsc k.cell (warning_of (book_of past) k.warning)) (facts_of (After (entry_of desk (event.Report other generation message) a) past) k.bsc k.cell (warning_of (book_of past) k.warning))
 report_kept past desk other generation message a k left = step (warning_of (book_of past) k.warning) refl
   where
     new : Past
@@ -168,11 +168,11 @@ report_kept past desk other generation message a k left = step (warning_of (book
     step None e = same_none past new k.bsc k.cell
     step (Some w) e = same_kept past new k.bsc k.cell w refl refl (down (nat_eq other k.bsc) refl) (λ s there. at s there (nat_eq other k.bsc) refl)
       where
-        down : (t : Bool) → nat_eq other k.bsc ≡ t → is_down past k.bsc k.cell ≡ unwrap_or (if t then listed_down k.cell message a else None) (is_down past k.bsc k.cell)
-        down true same = ap (λ o. unwrap_or o (is_down past k.bsc k.cell)) (sym (left same w e).0)
+        down : (t : Bool) → nat_eq other k.bsc ≡ t → is_down past (kind_of w) k.bsc k.cell ≡ unwrap_or (if t then listed_down (kind_of w) k.cell message a else None) (is_down past (kind_of w) k.bsc k.cell)
+        down true same = ap (λ o. unwrap_or o (is_down past (kind_of w) k.bsc k.cell)) (sym (left same w e).0)
         down false other = refl
 
-        at : (s : ℕ) → list_any (is_version s) w.versions ≡ true → (t : Bool) → nat_eq other k.bsc ≡ t → state_after (if t then report_effect message a (in_flight past k.bsc) k.cell w.message_id s else Leaves) (if t then report_count a (in_flight past k.bsc) k.cell w.message_id s else None) (key_state past k.bsc k.cell w.message_id s) ≡ key_state past k.bsc k.cell w.message_id s
+        at : (s : ℕ) → list_any (is_version s) w.versions ≡ true → (t : Bool) → nat_eq other k.bsc ≡ t → state_after (if t then report_effect (key_kind past w.message_id s) message a (in_flight past k.bsc) k.cell w.message_id s else Leaves) (if t then report_count a (in_flight past k.bsc) k.cell w.message_id s else None) (key_state past k.bsc k.cell w.message_id s) ≡ key_state past k.bsc k.cell w.message_id s
         at s there true same = let it = (left same w e).1 s there in λ i. state_after (it.0 i) (it.1 i) (key_state past k.bsc k.cell w.message_id s)
         at s there false other = refl
 
@@ -184,7 +184,7 @@ outside_report past desk other generation message (Replied replies) k h =
     said w keys s there None = refl
     said w keys s there (Some o) = keys o s there
 outside_report past desk other generation message (Listed cells) k h =
-    report_kept past desk other generation message (Listed cells) k (λ same w e. (ap (λ t. if t then says_down message else None) (unlisted same w e), λ s there. (ap (λ t. if t then indicated_effect message else Leaves) (unlisted same w e), refl)))
+    report_kept past desk other generation message (Listed cells) k (λ same w e. (ap (λ t. if t then says_down (kind_of w) message else None) (unlisted same w e), λ s there. (ap (λ t. if t then indicated_effect (key_kind past w.message_id s) message else Leaves) (unlisted same w e), refl)))
   where
     unlisted : nat_eq other k.bsc ≡ true → (w : Warning) → warning_of (book_of past) k.warning ≡ Some w → is_among k.cell cells ≡ false
     unlisted same w e =

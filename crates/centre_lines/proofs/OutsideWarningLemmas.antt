@@ -15,10 +15,11 @@ use Rattle.kept_tables.specs.Same.{SamePart}
 use Rattle.kept_tables.specs.View.{spot_eq}
 use Rattle.mirror.specs.Line.{blank}
 use Rattle.mirror.specs.declared.line_key.LineKey.{LineKey}
-use Rattle.warning_book.specs.Book.{has_number, warning_of, areas_of, new_serial, new_warning, last_serial, version_after, updated, widened, narrowed, stopped, edited}
+use Rattle.warning_book.specs.Book.{first_kind, has_number, warning_of, areas_of, new_serial, new_warning, last_serial, version_after, updated, widened, narrowed, stopped, edited}
 use Rattle.warning_book.specs.Laws.{KeepsNumber, found_without, found_issued}
 use Rattle.warning_book.specs.declared.content.Content.{Content}
 use Rattle.warning_book.specs.declared.notice.Notice.{Notice}
+use Rattle.warning_book.specs.declared.version.Version.{Version}
 use Rattle.warning_book.specs.declared.warning.Warning.{Warning}
 use Rattle.centre_events.specs.Cover.{covers, is_covered}
 use Rattle.centre_events.specs.Effects.{state_after}
@@ -32,6 +33,7 @@ use Rattle.centre_events.specs.Places.{place}
 use Rattle.centre_past.specs.Reach.{Reach, bears, spot, placed_where, known_at, reach_of}
 use Rattle.centre_events.specs.Settings.{Settings}
 use Rattle.centre_events.specs.Verdict.{verdict}
+use Rattle.centre_events.specs.Down.{is_down}
 use Rattle.centre_events.specs.Warnings.{book_of, warnings_of, is_version, has_key, is_key}
 use Rattle.coverage_plan.specs.Edited.{with_issue}
 use Rattle.centre_events.specs.declared.answer.Answer.{Answer}
@@ -172,6 +174,11 @@ outside_issue settings past legal desk notice areas a v k h = step (new_serial (
         subst (λ o. SamePart (facts past k) (facts_of new k.bsc k.cell o)) (sym (found_issued k.warning (warnings_of past) (issued s)))
         (found s e (warning_of (book_of past) k.warning) (nat_eq ((book_of past).issued + 1) k.warning) refl)
 
+-- one version more leaves the kind of the first one
+first_kept : (vs : List Version) (x : Version) (s : ℕ) → last_serial vs ≡ Some s → first_kind (vs ++ x ∷ []) ≡ first_kind vs
+first_kept [] x s h = cc
+first_kept (v ∷ vs) x s h = refl
+
 pub outside_update : (settings : Settings) (past : Past) → Legal settings past → (desk n : ℕ) (content : Content) (a : Answer) → verdict settings past (event.Edit (edit.Update n content)) ≡ Ok a → Outside past desk (event.Edit (edit.Update n content)) a
 outside_update settings past legal desk n content a v k h =
     edited_kept past new n (updated content) (λ w. refl) k refl (λ w. record { line = refl; deeds = refl; total = refl; area = λ x. refl })
@@ -189,7 +196,7 @@ outside_update settings past legal desk n content a v k h =
         (record { line = refl; deeds = refl; total = refl; area = λ x. refl })
     at w e same (Some s) last =
         let fresh = update_new settings past legal n content a v w (ap (warning_of (book_of past)) (eqb-true n k.warning same) ∙ e) s last in
-        same_next past new k.bsc k.cell w (version_after content s) (idle w e same) (idle w e same) refl (λ t. refl) fresh.0 (key_blank settings past legal k.bsc k.cell w.message_id (version_after content s).serial fresh.1)
+        same_next past new k.bsc k.cell w (version_after content s) (idle w e same) (idle w e same) (ap (λ j. is_down past j k.bsc k.cell) (sym (first_kept w.versions (version_after content s) s last))) (λ t. refl) fresh.0 (key_blank settings past legal k.bsc k.cell w.message_id (version_after content s).serial fresh.1)
 
 -- A Forget: what is known of its warning is known at a BSC, and other warnings have other keys.
 

@@ -1,5 +1,5 @@
 -- The reach of an event, from what is told of the past.
-use Rattle.std.proofs.Common.{◌≡◌, ◌⊎◌, inl, inr, ℕ, Bool, true, false, ◌&&◌, not, nat_eq, ltb, List, [], ◌∷◌, Option, Some, None, Ok, filter, length, refl, sym, ◌∙◌, ap, subst}
+use Rattle.std.proofs.Common.{◌≡◌, ◌⊎◌, inl, inr, ℕ, Bool, true, false, ◌&&◌, ◌||◌, not, nat_eq, ltb, List, [], ◌∷◌, Option, Some, None, Ok, filter, length, refl, sym, ◌∙◌, ap, subst}
 use Rattle.std.specs.Prelude.{if◌then◌else◌}
 use Rattle.std.specs.List.{list_any}
 use Rattle.std.proofs.lemmas.Bool.{and_from, not_from_false}
@@ -28,6 +28,8 @@ use Rattle.warning_book.specs.Book.{number_lt, areas_of, names}
 use Rattle.warning_book.specs.declared.content.Content.{Content}
 use Rattle.warning_book.specs.declared.warning.Warning.{Warning}
 use Rattle.centre_events.specs.Cover.{covers, is_covered}
+use Rattle.centre_events.specs.Effects.{is_about}
+use Rattle.warning_book.specs.declared.kind.Kind.TheVariants as kind
 use Rattle.centre_events.specs.InFlight.{in_flight, cells_of}
 use Rattle.centre_events.specs.Known.{is_known, is_named}
 use Rattle.centre_past.specs.Legal.{Legal}
@@ -206,8 +208,8 @@ sorted_once : (cs : List Cell) → each_once cell_eq cs ≡ true → each_once c
 sorted_once cs once =
     ascending_cells (sorted_by cell_lt cs) (sorted_ascends cell_eq cell_lt (λ x y e. cell_lt_apart x y (turned cell_eq cell_decides y x ∙ e)) cell_lt_follows cs once)
 
-named_once : (network : List ℕ) (past : Past) (b kind : ℕ) (ids : List CellId) → each_once cell_eq (cells past) ≡ true → each_once cell_eq (listed_cells network past b kind ids) ≡ true
-named_once network past b kind ids once = step (nat_eq kind 0)
+named_once : (network : List ℕ) (past : Past) (b number : ℕ) (ids : List CellId) → each_once cell_eq (cells past) ≡ true → each_once cell_eq (listed_cells network past b number ids) ≡ true
+named_once network past b number ids once = step (is_about number kind.Cbs || is_about number kind.Emergency)
   where
     here : List Cell
     here = filter (λ c. is_known past b c && is_named network ids c) (cells past)

@@ -34,7 +34,7 @@ use Rattle.centre_events.specs.Places.{place}
 use Rattle.centre_events.specs.Settings.{Settings}
 use Rattle.centre_past.specs.State.{facts_from}
 use Rattle.centre_events.specs.Verdict.{verdict}
-use Rattle.centre_events.specs.Warnings.{book_of}
+use Rattle.centre_events.specs.Warnings.{book_of, kind_in}
 use Rattle.centre_events.specs.declared.answer.Answer.{Answer}
 use Rattle.centre_events.specs.declared.effect.Effect.TheVariants.{Sets, Leaves}
 use Rattle.centre_events.specs.declared.event.Event.{Event}
@@ -50,6 +50,7 @@ use Rattle.centre_past.proofs.PartLemmas.{same_blank}
 use Rattle.centre_past.proofs.RegisterLemmas.{register_with}
 use Rattle.centre_lines.proofs.ThenLemmas.{line_then}
 use Rattle.centre_past.proofs.UniqueLemmas.{verdict_answered}
+use Rattle.warning_book.specs.declared.kind.Kind.{Kind}
 
 -- an event that is no edit leaves the register, the areas and the book
 
@@ -85,7 +86,7 @@ uncovered past l selected c w h =
     sym (any_pointwise (λ a. areas.covers l a c) (λ a. covers past a c) (covers_same past l selected c) w.areas) ∙ not-true (list_any (λ a. areas.covers l a c) w.areas) h
 
 -- what the past with the entry says of a line, from what is kept
-facts_new : (settings : Settings) (past : Past) → Legal settings past → (desk : ℕ) (h : Happens) → verdict settings past h.event ≡ Ok h.answer → is_edit h.event ≡ false → (s : Kept) → IsKept past s → h.up ≡ up_before past h.event → h.flight ≡ flight_before past h.event → (k : LineKey) (down : Bool) → down ≡ is_down (After (entry_of desk h) past) k.bsc k.cell → facts_from s.register s.areas down k.bsc k.cell (line_now h s.book.warnings k.bsc k.cell (warning_of s.book k.warning) (facts past k).line) (warning_of s.book k.warning) ≡ facts (After (entry_of desk h) past) k
+facts_new : (settings : Settings) (past : Past) → Legal settings past → (desk : ℕ) (h : Happens) → verdict settings past h.event ≡ Ok h.answer → is_edit h.event ≡ false → (s : Kept) → IsKept past s → h.up ≡ up_before past h.event → h.flight ≡ flight_before past h.event → (k : LineKey) (down : Bool) → down ≡ is_down (After (entry_of desk h) past) (kind_in (warning_of (book_of (After (entry_of desk h) past)) k.warning)) k.bsc k.cell → facts_from s.register s.areas down k.bsc k.cell (line_now h s.book.warnings k.bsc k.cell (warning_of s.book k.warning) (facts past k).line) (warning_of s.book k.warning) ≡ facts (After (entry_of desk h) past) k
 facts_new settings past legal desk h accepted other s kept up flight k down fallen =
     rw (kept.booked ∙ sym (book_stays desk h.event h.answer past other))
     (facts_same new s.register s.areas down k.bsc k.cell (line_now h (book_of new).warnings k.bsc k.cell (warning_of (book_of new) k.warning) (facts past k).line) (warning_of (book_of new) k.warning) (register_stays settings past desk h.event h.answer accepted other s kept) (areas_stay settings past desk h.event h.answer accepted other s kept) fallen
@@ -106,11 +107,27 @@ stays_same settings past legal desk h accepted other s kept up flight k g =
     new : Past
     new = After (entry_of desk h) past
 
+    books : book_of new ≡ book_of past
+    books = book_stays desk h.event h.answer past other
+
+    -- the kind of its warning, before what happens and after it
+    kind : Kind
+    kind = kind_in (warning_of s.book k.warning)
+
+    now_kind : Kind
+    now_kind = kind_in (warning_of (book_of new) k.warning)
+
+    was_kind : kind ≡ kind_in (warning_of (book_of past) k.warning)
+    was_kind = ap (λ (st : book.State). kind_in (warning_of st k.warning)) kept.booked
+
+    kinds : kind ≡ now_kind
+    kinds = was_kind ∙ ap (λ (st : book.State). kind_in (warning_of st k.warning)) (sym books)
+
     was : Bool
-    was = down_at s.tables.lines k.bsc k.cell
+    was = down_at s.tables.lines kind k.bsc k.cell
 
     mark : Option Bool
-    mark = down_mark k.bsc k.cell h.event h.answer
+    mark = down_mark kind k.bsc k.cell h.event h.answer
 
     line : Line
     line = line_at s.tables.lines k.bsc k.cell k.warning
@@ -125,7 +142,7 @@ stays_same settings past legal desk h accepted other s kept up flight k g =
     same = (line_decides later line).0 parts.0
 
     -- what is read after it, with what is down then
-    after : (down : Bool) → down ≡ is_down new k.bsc k.cell → facts_from s.register s.areas down k.bsc k.cell line (warning_of s.book k.warning) ≡ facts new k
+    after : (down : Bool) → down ≡ is_down new now_kind k.bsc k.cell → facts_from s.register s.areas down k.bsc k.cell line (warning_of s.book k.warning) ≡ facts new k
     after down fallen =
         ap (λ l. facts_from s.register s.areas down k.bsc k.cell l (warning_of s.book k.warning)) (sym same ∙ ap (λ l. line_now h s.book.warnings k.bsc k.cell (warning_of s.book k.warning) l) (kept.tables.lines k))
         ∙ facts_new settings past legal desk h accepted other s kept up flight k down fallen
@@ -133,18 +150,15 @@ stays_same settings past legal desk h accepted other s kept up flight k g =
     -- and before it
     before : facts_from s.register s.areas was k.bsc k.cell line (warning_of s.book k.warning) ≡ facts past k
     before =
-        rw kept.booked
-        (facts_same past s.register s.areas was k.bsc k.cell line (warning_of (book_of past) k.warning) kept.registered kept.selected (kept.downs k.bsc k.cell) (is (warning_of (book_of past) k.warning) (kept.tables.lines k)))
+        ap (λ (st : book.State). facts_from s.register s.areas was k.bsc k.cell line (warning_of st k.warning)) kept.booked
+        ∙ facts_same past s.register s.areas was k.bsc k.cell line (warning_of (book_of past) k.warning) kept.registered kept.selected (kept.downs kind k.bsc k.cell ∙ ap (λ j. is_down past j k.bsc k.cell) was_kind) (is (warning_of (book_of past) k.warning) (kept.tables.lines k))
       where
         is : (o : Option Warning) → line ≡ (facts_of past k.bsc k.cell o).line → IsLineOf past k.bsc k.cell line o
         is None e = tt
         is (Some w) e = e
 
-    fallen : keeps_down mark was ≡ true → was ≡ is_down new k.bsc k.cell
-    fallen e = sym (down_kept mark was e) ∙ ap (unwrap_or mark) (kept.downs k.bsc k.cell)
-
-    books : book_of new ≡ book_of past
-    books = book_stays desk h.event h.answer past other
+    fallen : keeps_down mark was ≡ true → was ≡ is_down new now_kind k.bsc k.cell
+    fallen e = sym (down_kept mark was e) ∙ ap (unwrap_or mark) (kept.downs kind k.bsc k.cell) ∙ ap (λ j. is_down new j k.bsc k.cell) kinds
 
     -- an idle line
     idle : (o : Option Warning) → warning_of (book_of past) k.warning ≡ o → is_idle s.areas o k.cell line ≡ true → SamePart (facts_of past k.bsc k.cell o) (facts_of new k.bsc k.cell o)
@@ -162,8 +176,8 @@ stays_same settings past legal desk h accepted other s kept up flight k g =
 
         late : line ≡ line_of new k.bsc k.cell w
         late =
-            ap (λ o. (facts_from s.register s.areas (is_down new k.bsc k.cell) k.bsc k.cell line o).line) (sym (ap (λ (st : book.State). warning_of st k.warning) kept.booked ∙ found))
-            ∙ ap (λ (f : LineFacts). f.line) (after (is_down new k.bsc k.cell) refl)
+            ap (λ o. (facts_from s.register s.areas (is_down new now_kind k.bsc k.cell) k.bsc k.cell line o).line) (sym (ap (λ (st : book.State). warning_of st k.warning) kept.booked ∙ found))
+            ∙ ap (λ (f : LineFacts). f.line) (after (is_down new now_kind k.bsc k.cell) refl)
             ∙ ap (λ o. (facts_of new k.bsc k.cell o).line) (ap (λ (st : book.State). warning_of st k.warning) books ∙ found)
 
     whole : SamePart (facts_of past k.bsc k.cell (warning_of (book_of past) k.warning)) (facts_of new k.bsc k.cell (warning_of (book_of past) k.warning)) → SamePart (facts past k) (facts new k)

@@ -12,7 +12,7 @@ use Rattle.mirror.specs.Table.{down_at}
 use Rattle.mirror.specs.declared.line.Line.{Line}
 use Rattle.mirror.specs.declared.line_key.LineKey.{LineKey}
 use Rattle.warning_book.specs.Book as book
-use Rattle.warning_book.specs.Book.{has_number, warning_of, without}
+use Rattle.warning_book.specs.Book.{has_number, kind_of, warning_of, without}
 use Rattle.warning_book.specs.Laws.{found_without, so_without}
 use Rattle.warning_book.specs.declared.warning.Warning.{Warning}
 use Rattle.centre_events.specs.Counts.{report_count, edit_count, count_mark, count_at}
@@ -31,7 +31,7 @@ use Rattle.centre_events.specs.Presence.{effect, effect_at, edit_effect}
 use Rattle.centre_events.specs.Settings.{Settings}
 use Rattle.centre_events.specs.Stepping.{stepped}
 use Rattle.centre_events.specs.Verdict.{verdict}
-use Rattle.centre_events.specs.Warnings.{book_of, book_then, warnings_of, has_key, serials, is_version}
+use Rattle.centre_events.specs.Warnings.{book_of, book_then, warnings_of, has_key, key_kind, kind_in, serials, is_version}
 use Rattle.centre_events.specs.declared.answer.Answer.{Answer}
 use Rattle.coverage_plan.specs.declared.edit.Edit.{Edit}
 use Rattle.coverage_plan.specs.declared.edit.Edit.TheVariants as edit
@@ -41,29 +41,31 @@ use Rattle.centre_events.specs.declared.event.Event.{Event}
 use Rattle.centre_events.specs.declared.event.Event.TheVariants as event
 use Rattle.centre_events.specs.declared.outcome.Outcome.TheVariants.{Silent}
 use Rattle.centre_past.proofs.FactsLemmas.{facts_same}
+use Rattle.centre_past.proofs.KindLemmas.{key_kind_is}
 use Rattle.centre_lines.proofs.OutsideWarningLemmas.{kept_key}
 use Rattle.centre_past.proofs.OwnedLemmas.{turned_any}
 use Rattle.centre_past.proofs.StepLemmas.{line_after}
 use Rattle.centre_past.proofs.VersionLemmas.{legal_updates}
 use Rattle.centre_lines.proofs.WasLemmas.{was_line}
+use Rattle.warning_book.specs.declared.kind.Kind.{Kind}
 
 -- what an event does to a key asks for the link and the flight of its own BSC alone
-effect_own : (past : Past) (b : ℕ) (c : Cell) (m s : ℕ) (e : Event) (a : Answer) (ws : List Warning) → effect b c m s e a (up_before past e) (flight_before past e) ws ≡ effect b c m s e a (is_up past b) (in_flight past b) ws
-effect_own past b c m s (event.Edit x) a ws = refl
-effect_own past b c m s (event.Retry other) a ws = refl
-effect_own past b c m s (event.Send other generation) a ws = refl
-effect_own past b c m s (event.Ask other generation n after) a ws = refl
-effect_own past b c m s (event.Report other generation message) a ws = step (nat_eq other b) refl
+effect_own : (past : Past) (kind : Kind) (b : ℕ) (c : Cell) (m s : ℕ) (e : Event) (a : Answer) (ws : List Warning) → effect kind b c m s e a (up_before past e) (flight_before past e) ws ≡ effect kind b c m s e a (is_up past b) (in_flight past b) ws
+effect_own past kind b c m s (event.Edit x) a ws = refl
+effect_own past kind b c m s (event.Retry other) a ws = refl
+effect_own past kind b c m s (event.Send other generation) a ws = refl
+effect_own past kind b c m s (event.Ask other generation n after) a ws = refl
+effect_own past kind b c m s (event.Report other generation message) a ws = step (nat_eq other b) refl
   where
-    step : (t : Bool) → nat_eq other b ≡ t → (if t then report_effect message a (in_flight past other) c m s else Leaves) ≡ (if t then report_effect message a (in_flight past b) c m s else Leaves)
-    step true e = ap (λ k. report_effect message a (in_flight past k) c m s) (eqb-true other b e)
+    step : (t : Bool) → nat_eq other b ≡ t → (if t then report_effect kind message a (in_flight past other) c m s else Leaves) ≡ (if t then report_effect kind message a (in_flight past b) c m s else Leaves)
+    step true e = ap (λ k. report_effect kind message a (in_flight past k) c m s) (eqb-true other b e)
     step false e = refl
-effect_own past b c m s (event.LinkUp other) a ws = step (nat_eq other b) refl
+effect_own past kind b c m s (event.LinkUp other) a ws = step (nat_eq other b) refl
   where
     step : (t : Bool) → nat_eq other b ≡ t → (if t && is_up past other then flight_effect (in_flight past other) Silent c m s else Leaves) ≡ (if t && is_up past b then flight_effect (in_flight past b) Silent c m s else Leaves)
     step true e = ap (λ k. if is_up past k then flight_effect (in_flight past k) Silent c m s else Leaves) (eqb-true other b e)
     step false e = refl
-effect_own past b c m s (event.LinkDown other generation) a ws = step (nat_eq other b) refl
+effect_own past kind b c m s (event.LinkDown other generation) a ws = step (nat_eq other b) refl
   where
     step : (t : Bool) → nat_eq other b ≡ t → (if t then flight_effect (in_flight past other) Silent c m s else Leaves) ≡ (if t then flight_effect (in_flight past b) Silent c m s else Leaves)
     step true e = ap (λ k. flight_effect (in_flight past k) Silent c m s) (eqb-true other b e)
@@ -103,11 +105,11 @@ forget_leaves settings past legal n k w found m s key =
     stays false f g = kept_key settings past legal n k w g (ap (nat_eq n) (eqb-true w.number k (number g)) ∙ f) m s key
 
 -- what an event does to a key of a warning in the book after it
-effect_same : (settings : Settings) (past : Past) → Legal settings past → (desk : ℕ) (h : Happens) → h.up ≡ up_before past h.event → h.flight ≡ flight_before past h.event → (b : ℕ) (c : Cell) (n : ℕ) (w : Warning) → warning_of (book_of (After (entry_of desk h) past)) n ≡ Some w → (s : ℕ) → list_any (is_version s) w.versions ≡ true → effect b c w.message_id s h.event h.answer h.up h.flight (book_of (After (entry_of desk h) past)).warnings ≡ effect_at b c w.message_id s (entry_of desk h) past
+effect_same : (settings : Settings) (past : Past) → Legal settings past → (desk : ℕ) (h : Happens) → h.up ≡ up_before past h.event → h.flight ≡ flight_before past h.event → (b : ℕ) (c : Cell) (n : ℕ) (w : Warning) → warning_of (book_of (After (entry_of desk h) past)) n ≡ Some w → (s : ℕ) → list_any (is_version s) w.versions ≡ true → effect (kind_of w) b c w.message_id s h.event h.answer h.up h.flight (book_of (After (entry_of desk h) past)).warnings ≡ effect_at b c w.message_id s (entry_of desk h) past
 effect_same settings past legal desk h up flight b c n w found s version =
-    ap (λ u. effect b c w.message_id s h.event h.answer u h.flight (book_of (After (entry_of desk h) past)).warnings) up
-    ∙ ap (λ f. effect b c w.message_id s h.event h.answer (up_before past h.event) f (book_of (After (entry_of desk h) past)).warnings) flight
-    ∙ effect_own past b c w.message_id s h.event h.answer (book_of (After (entry_of desk h) past)).warnings
+    ap (λ u. effect (kind_of w) b c w.message_id s h.event h.answer u h.flight (book_of (After (entry_of desk h) past)).warnings) up
+    ∙ ap (λ f. effect (kind_of w) b c w.message_id s h.event h.answer (up_before past h.event) f (book_of (After (entry_of desk h) past)).warnings) flight
+    ∙ effect_own past (kind_of w) b c w.message_id s h.event h.answer (book_of (After (entry_of desk h) past)).warnings
     ∙ books h.event found
   where
     key : has_key w.message_id s w ≡ true
@@ -117,9 +119,9 @@ effect_same settings past legal desk h up flight b c n w found s version =
     edits (edit.Forget k) i = ap (λ t. if t then Frees else Leaves) (forget_leaves settings past legal k n w i w.message_id s key)
     edits other i = refl
 
-    books : (e : Event) → warning_of (book_then e (book_of past)) n ≡ Some w → effect b c w.message_id s e h.answer (is_up past b) (in_flight past b) (book_then e (book_of past)).warnings ≡ effect b c w.message_id s e h.answer (is_up past b) (in_flight past b) (warnings_of past)
+    books : (e : Event) → warning_of (book_then e (book_of past)) n ≡ Some w → effect (kind_of w) b c w.message_id s e h.answer (is_up past b) (in_flight past b) (book_then e (book_of past)).warnings ≡ effect (key_kind past w.message_id s) b c w.message_id s e h.answer (is_up past b) (in_flight past b) (warnings_of past)
     books (event.Edit e) i = edits e i
-    books other i = refl
+    books other i = ap (λ kind. effect kind b c w.message_id s other h.answer (is_up past b) (in_flight past b) (warnings_of past)) (sym (key_kind_is settings past legal n w i s version))
 
 -- and the number that it sets there
 count_same : (settings : Settings) (past : Past) → Legal settings past → (desk : ℕ) (h : Happens) → h.flight ≡ flight_before past h.event → (b : ℕ) (c : Cell) (n : ℕ) (w : Warning) → warning_of (book_of (After (entry_of desk h) past)) n ≡ Some w → (s : ℕ) → list_any (is_version s) w.versions ≡ true → count_mark b c w.message_id s h.event h.answer h.flight (book_of (After (entry_of desk h) past)).warnings ≡ count_at b c w.message_id s (entry_of desk h) past
@@ -151,14 +153,14 @@ stepped_same f g n p (s ∷ ss) line same counted =
 pub line_then : (settings : Settings) (past : Past) → Legal settings past → (desk : ℕ) (h : Happens) → verdict settings past h.event ≡ Ok h.answer → h.up ≡ up_before past h.event → h.flight ≡ flight_before past h.event → (k : LineKey) (o : Option Warning) → warning_of (book_of (After (entry_of desk h) past)) k.warning ≡ o → IsLineOf (After (entry_of desk h) past) k.bsc k.cell (line_now h (book_of (After (entry_of desk h) past)).warnings k.bsc k.cell o (facts past k).line) o
 line_then settings past legal desk h accepted up flight k None found = tt
 line_then settings past legal desk h accepted up flight k (Some w) found =
-    stepped_same (λ s. effect k.bsc k.cell w.message_id s h.event h.answer h.up h.flight (book_of (After (entry_of desk h) past)).warnings) (λ s. effect_at k.bsc k.cell w.message_id s (entry_of desk h) past)
+    stepped_same (λ s. effect (kind_of w) k.bsc k.cell w.message_id s h.event h.answer h.up h.flight (book_of (After (entry_of desk h) past)).warnings) (λ s. effect_at k.bsc k.cell w.message_id s (entry_of desk h) past)
     (λ s. count_mark k.bsc k.cell w.message_id s h.event h.answer h.flight (book_of (After (entry_of desk h) past)).warnings) (λ s. count_at k.bsc k.cell w.message_id s (entry_of desk h) past) (serials w) (facts past k).line
     (λ s among. effect_same settings past legal desk h up flight k.bsc k.cell k.warning w found s (turned_any s w.versions ∙ among))
     (λ s among. count_same settings past legal desk h flight k.bsc k.cell k.warning w found s (turned_any s w.versions ∙ among))
     ∙ line_after (entry_of desk h) past k.bsc k.cell w (facts past k).line (legal_updates settings (After (entry_of desk h) past) (accepted, legal) k.warning w found) (was_line settings past legal (entry_of desk h) accepted k.bsc k.cell k.warning w found)
 
-pub then_is : (settings : Settings) (past : Past) → Legal settings past → (desk : ℕ) (h : Happens) → verdict settings past h.event ≡ Ok h.answer → h.up ≡ up_before past h.event → h.flight ≡ flight_before past h.event → (r : register.State) (l : List Area) (st : book.State) (t : Tables) → IsRegisterOf (After (entry_of desk h) past) r → AreAreasOf (After (entry_of desk h) past) l → st ≡ book_of (After (entry_of desk h) past) → ((b : ℕ) (c : Cell) → down_at t.lines b c ≡ is_down (After (entry_of desk h) past) b c) → (k : LineKey) → facts_then h r l st t k (facts past k).line ≡ facts (After (entry_of desk h) past) k
+pub then_is : (settings : Settings) (past : Past) → Legal settings past → (desk : ℕ) (h : Happens) → verdict settings past h.event ≡ Ok h.answer → h.up ≡ up_before past h.event → h.flight ≡ flight_before past h.event → (r : register.State) (l : List Area) (st : book.State) (t : Tables) → IsRegisterOf (After (entry_of desk h) past) r → AreAreasOf (After (entry_of desk h) past) l → st ≡ book_of (After (entry_of desk h) past) → ((kind : Kind) (b : ℕ) (c : Cell) → down_at t.lines kind b c ≡ is_down (After (entry_of desk h) past) kind b c) → (k : LineKey) → facts_then h r l st t k (facts past k).line ≡ facts (After (entry_of desk h) past) k
 then_is settings past legal desk h accepted up flight r l st t registered selected booked downs k =
     rw booked
-    (facts_same (After (entry_of desk h) past) r l (down_at t.lines k.bsc k.cell) k.bsc k.cell (line_now h (book_of (After (entry_of desk h) past)).warnings k.bsc k.cell (warning_of (book_of (After (entry_of desk h) past)) k.warning) (facts past k).line) (warning_of (book_of (After (entry_of desk h) past)) k.warning) registered selected (downs k.bsc k.cell)
+    (facts_same (After (entry_of desk h) past) r l (down_at t.lines (kind_in (warning_of (book_of (After (entry_of desk h) past)) k.warning)) k.bsc k.cell) k.bsc k.cell (line_now h (book_of (After (entry_of desk h) past)).warnings k.bsc k.cell (warning_of (book_of (After (entry_of desk h) past)) k.warning) (facts past k).line) (warning_of (book_of (After (entry_of desk h) past)) k.warning) registered selected (downs (kind_in (warning_of (book_of (After (entry_of desk h) past)) k.warning)) k.bsc k.cell)
     (line_then settings past legal desk h accepted up flight k (warning_of (book_of (After (entry_of desk h) past)) k.warning) refl))

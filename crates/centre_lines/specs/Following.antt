@@ -21,7 +21,8 @@ use Rattle.mirror.specs.Table.{Table, line_at, down_at}
 use Rattle.mirror.specs.declared.line.Line.{Line}
 use Rattle.mirror.specs.declared.line_key.LineKey.{LineKey}
 use Rattle.warning_book.specs.Book as book
-use Rattle.warning_book.specs.Book.{is_so, names_one_of, warning_of}
+use Rattle.warning_book.specs.Book.{is_so, kind_of, names_one_of, warning_of}
+use Rattle.warning_book.specs.declared.kind.Kind.{Kind}
 use Rattle.warning_book.specs.declared.warning.Warning.{Warning}
 use Rattle.centre_events.specs.Counts.{count_mark}
 use Rattle.centre_events.specs.Down.{down_mark, is_down}
@@ -37,7 +38,7 @@ use Rattle.centre_past.specs.Reach.{reach_of, size}
 use Rattle.centre_events.specs.Settings.{Settings}
 use Rattle.centre_past.specs.State.{AreCovering, AreLinksOf, covered_facts, facts_from}
 use Rattle.centre_events.specs.Stepping.{stepped}
-use Rattle.centre_events.specs.Warnings.{book_of, serials}
+use Rattle.centre_events.specs.Warnings.{book_of, kind_in, serials}
 use Rattle.centre_events.specs.Verdict.{verdict}
 use Rattle.centre_events.specs.declared.answer.Answer.{Answer}
 use Rattle.centre_events.specs.declared.answer.Answer.TheVariants.{Listed}
@@ -56,7 +57,7 @@ use Rattle.centre_past.specs.Reaching.{is_forget}
 
 -- what is read of a line, from what is kept
 abbrev pub facts_in : register.State → List Area → book.State → Tables → LineKey → LineFacts
-facts_in r l st t k = facts_from r l (down_at t.lines k.bsc k.cell) k.bsc k.cell (line_at t.lines k.bsc k.cell k.warning) (warning_of st k.warning)
+facts_in r l st t k = facts_from r l (down_at t.lines (kind_in (warning_of st k.warning)) k.bsc k.cell) k.bsc k.cell (line_at t.lines k.bsc k.cell k.warning) (warning_of st k.warning)
 
 -- the line as it stands
 abbrev pub held_line : register.State → List Area → book.State → Tables → LineKey → Held
@@ -110,11 +111,11 @@ happens h = record { event = h.event.now; answer = h.answer.now; up = h.up; flig
 -- the line after what happens, of a warning in the book, if it has it
 abbrev pub line_now : Happens → List Warning → ℕ → Cell → Option Warning → Line → Line
 line_now h ws b c None line = line
-line_now h ws b c (Some w) line = stepped (λ s. effect b c w.message_id s h.event h.answer h.up h.flight ws) (λ s. count_mark b c w.message_id s h.event h.answer h.flight ws) line (serials w)
+line_now h ws b c (Some w) line = stepped (λ s. effect (kind_of w) b c w.message_id s h.event h.answer h.up h.flight ws) (λ s. count_mark b c w.message_id s h.event h.answer h.flight ws) line (serials w)
 
 -- what is read of it then, from what is kept after the event
 abbrev pub facts_then : Happens → register.State → List Area → book.State → Tables → LineKey → Line → LineFacts
-facts_then h r l st t k line = facts_from r l (down_at t.lines k.bsc k.cell) k.bsc k.cell (line_now h st.warnings k.bsc k.cell (warning_of st k.warning) line) (warning_of st k.warning)
+facts_then h r l st t k line = facts_from r l (down_at t.lines (kind_in (warning_of st k.warning)) k.bsc k.cell) k.bsc k.cell (line_now h st.warnings k.bsc k.cell (warning_of st k.warning) line) (warning_of st k.warning)
 
 -- what brings a cell down, or up, leaves it as it was
 abbrev pub keeps_down : Option Bool → Bool → Bool
@@ -126,7 +127,7 @@ keeps_down (Some false) was = not was
 abbrev pub stays : Happens → List Area → book.State → Tables → LineKey → Bool
 stays h l st t k =
     line_eq (line_now h st.warnings k.bsc k.cell (warning_of st k.warning) (line_at t.lines k.bsc k.cell k.warning)) (line_at t.lines k.bsc k.cell k.warning)
-    && (keeps_down (down_mark k.bsc k.cell h.event h.answer) (down_at t.lines k.bsc k.cell) || is_idle l (warning_of st k.warning) k.cell (line_at t.lines k.bsc k.cell k.warning))
+    && (keeps_down (down_mark (kind_in (warning_of st k.warning)) k.bsc k.cell h.event h.answer) (down_at t.lines (kind_in (warning_of st k.warning)) k.bsc k.cell) || is_idle l (warning_of st k.warning) k.cell (line_at t.lines k.bsc k.cell k.warning))
 
 -- an indication or a Retry, which leaves a blank line blank
 abbrev pub leaves_blank : Event → Answer → Bool
@@ -146,9 +147,13 @@ leaves_lines (event.Edit (edit.Forget n)) = false
 leaves_lines (event.Edit e) = true
 leaves_lines other = false
 
+-- each line that isn't blank is of one of these warnings
+abbrev pub LinesAreOf : List ℕ → Tables → Type 0
+LinesAreOf ns t = (b : ℕ) (c : Cell) (n : ℕ) → is_blank (line_at t.lines b c n) ≡ false → list_any (nat_eq n) ns ≡ true
+
 -- each line that isn't blank is of a warning in the book
 abbrev pub AreInBook : book.State → Tables → Type 0
-AreInBook st t = (b : ℕ) (c : Cell) (n : ℕ) → is_blank (line_at t.lines b c n) ≡ false → list_any (nat_eq n) (book.numbers st.warnings) ≡ true
+AreInBook st t = LinesAreOf (book.numbers st.warnings) t
 
 -- the warnings on whose lines what happens bears, from those that were found: all in the book, where it is an indication or
 -- a Retry
@@ -157,7 +162,7 @@ bearing e a st ns = if leaves_blank e a then book.numbers st.warnings else ns
 
 -- the step that what happens makes of a line that was held, where it is no edit
 abbrev pub step_of : Happens → book.State → Held → Step
-step_of h st x = record { key = x.key; before = x.before; line = line_now h st.warnings x.key.bsc x.key.cell (warning_of st x.key.warning) x.before.line; down = unwrap_or (down_mark x.key.bsc x.key.cell h.event h.answer) x.before.down }
+step_of h st x = record { key = x.key; before = x.before; line = line_now h st.warnings x.key.bsc x.key.cell (warning_of st x.key.warning) x.before.line; down = unwrap_or (down_mark (kind_in (warning_of st x.key.warning)) x.key.bsc x.key.cell h.event h.answer) x.before.down }
 
 -- the line that a step is of, as it stood
 abbrev pub held_of : Step → Held
@@ -181,7 +186,7 @@ change_of h r l st t x = record { key = x.key; before = x.before; after = facts_
 
 -- the change of the line where the areas that cover its cell are those that did
 abbrev pub covered_change : Happens → register.State → book.State → Tables → Held → Change
-covered_change h r st t x = record { key = x.key; before = x.before; after = covered_facts r (down_at t.lines x.key.bsc x.key.cell) x.key.bsc x.key.cell (line_now h st.warnings x.key.bsc x.key.cell (warning_of st x.key.warning) x.before.line) x.before.areas (warning_of st x.key.warning) }
+covered_change h r st t x = record { key = x.key; before = x.before; after = covered_facts r (down_at t.lines (kind_in (warning_of st x.key.warning)) x.key.bsc x.key.cell) x.key.bsc x.key.cell (line_now h st.warnings x.key.bsc x.key.cell (warning_of st x.key.warning) x.before.line) x.before.areas (warning_of st x.key.warning) }
 
 -- the edit leaves what each area covers, and which areas each warning has that it leaves in the book
 abbrev pub leaves_areas : Edit → Bool
@@ -215,13 +220,14 @@ pub record SameLines (t u : Tables) : Type 0 where
   pub same : SameTables t u
   pub meter : u.lines.meter ≡ t.lines.meter
 
--- whether the cell is down at the BSC after the event with that answer, where it bears on these spots
-abbrev pub down_after : Event → Answer → List Spot → ℕ → Cell → Bool → Bool
-down_after e a spots b c was = if list_any (spot_eq (record { bsc = b; cell = c })) spots then unwrap_or (down_mark b c e a) was else was
+-- whether the cell is down at the BSC for warnings of the kind after the event with that answer, where it bears on these
+-- spots
+abbrev pub down_after : Event → Answer → List Spot → Kind → ℕ → Cell → Bool → Bool
+down_after e a spots k b c was = if list_any (spot_eq (record { bsc = b; cell = c })) spots then unwrap_or (down_mark k b c e a) was else was
 
 -- the event leaves each cell away from the spots down, or up, as it was
 abbrev pub LeavesDown : Past → Event → Answer → List Spot → Type 0
-LeavesDown past e a spots = (b : ℕ) (c : Cell) → list_any (spot_eq (record { bsc = b; cell = c })) spots ≡ false → is_down past b c ≡ unwrap_or (down_mark b c e a) (is_down past b c)
+LeavesDown past e a spots = (k : Kind) (b : ℕ) (c : Cell) → list_any (spot_eq (record { bsc = b; cell = c })) spots ≡ false → is_down past k b c ≡ unwrap_or (down_mark k b c e a) (is_down past k b c)
 
 -- what is in flight to the BSC of an event that is no edit
 abbrev pub flight_before : Past → Event → Option InFlight
@@ -258,7 +264,7 @@ pub record Bears (r : register.State) (l : List Area) (st : book.State) (t : Tab
   pub booked : st ≡ book_of (After (entry_of desk h) past)
   pub up : h.up ≡ up_before past h.event
   pub flight : h.flight ≡ flight_before past h.event
-  pub downs : (b : ℕ) (c : Cell) → down_at t.lines b c ≡ is_down past b c
+  pub downs : (k : Kind) (b : ℕ) (c : Cell) → down_at t.lines k b c ≡ is_down past k b c
   pub tables : Consistent t (facts past)
   pub away : LeavesDown past h.event h.answer spots
   pub keys : List LineKey
@@ -305,7 +311,7 @@ pub record Finishes (s : Kept) (e : Event) (a : Answer) (place : ℕ) (up : Bool
   pub flying : AreFlightsOf past s.flights.items
   pub is_up : up ≡ up_before past e
   pub is_place : place ≡ position past + 1
-  pub downs : (b : ℕ) (c : Cell) → down_at s.tables.lines b c ≡ is_down past b c
+  pub downs : (k : Kind) (b : ℕ) (c : Cell) → down_at s.tables.lines k b c ≡ is_down past k b c
   pub tables : Consistent s.tables (facts past)
   pub reached : WasReached past e a spots held
 

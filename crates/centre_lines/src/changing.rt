@@ -7,14 +7,16 @@ ghost use Rattle.kept_tables.specs.Tables.{Tables};
 ghost use Rattle.kept_tables.specs.View.{key_at};
 ghost use Rattle.common.specs.Order.{is_ascending};
 ghost use Rattle.mirror.specs.Blank.{is_blank, line_eq};
-ghost use Rattle.mirror.specs.Table.{line_at};
+ghost use Rattle.mirror.specs.Table.{down_at, line_at};
 ghost use Rattle.warning_book.specs.Book.{numbers, warning_of};
+ghost use Rattle.warning_book.specs.declared.kind.Kind.{Kind};
+ghost use Rattle.centre_events.specs.Warnings.{kind_in};
 ghost use Rattle.centre_events.specs.Down.{down_mark};
-ghost use Rattle.centre_lines.specs.Following.{AreInBook, bearing, happens, is_idle, keeps_down, leaves_blank, line_now, may_change, changing_line, changing_at, changing_lines};
+ghost use Rattle.centre_lines.specs.Following.{AreInBook, LinesAreOf, bearing, happens, is_idle, keeps_down, leaves_blank, line_now, may_change, changing_line, changing_at, changing_lines};
 ghost use Rattle.centre_past.specs.Idle.{AsBefore};
 ghost use Rattle.centre_lines.specs.Found.{AreFound, IsKnown};
 
-use crate::facts::facts_from;
+use crate::facts::{facts_from, kind_in};
 use crate::following::line_now;
 use crate::found_warnings::FoundWarnings;
 use crate::holding::{is_idle, near};
@@ -27,18 +29,32 @@ use centre_events::event::Event;
 use centre_events::stepping::Happening;
 use centre_past::keys::key_at;
 use kept_tables::{KeptTables, LineFacts, Spot, Step};
-use mirror::{Line, LineTable};
+use mirror::Line;
 use std::alloc::{AllocError, Global};
-use warning_book::{Warning, WarningId};
+use warning_book::{Kind, Warning, WarningId};
 
-/// Whether what happens leaves the cell down, or up, as it was.
-fn keeps_down(h: &Happening<'_, '_>, spot: &Spot, was: bool) -> bool
-    ensures { result ≡ keeps_down (down_mark spot.now.bsc spot.now.cell h.now.event.now h.now.answer.now) was }
+/// Whether what happens leaves the cell down for warnings of the kind, or up, as it was.
+fn keeps_down(h: &Happening<'_, '_>, kind: Kind, spot: &Spot, was: bool) -> bool
+    ensures { result ≡ keeps_down (down_mark kind spot.now.bsc spot.now.cell h.now.event.now h.now.answer.now) was }
 {
-    match down_mark(spot.bsc, spot.cell, h.event, h.answer) {
+    match down_mark(kind, spot.bsc, spot.cell, h.event, h.answer) {
         Some(down) => down == was,
         None => true,
     }
+}
+
+/// Whether what happens leaves the cell down, or up, as it was, for warnings of the kind.
+fn keeps_down_at(h: &Happening<'_, '_>, kind: Kind, spot: &Spot, tables: &KeptTables) -> bool
+    ensures { result ≡ keeps_down (down_mark kind spot.now.bsc spot.now.cell h.now.event.now h.now.answer.now) (down_at tables.now.lines kind spot.now.bsc spot.now.cell) }
+{
+    keeps_down(h, kind, spot, tables.is_down(kind, spot.bsc, spot.cell))
+}
+
+/// Whether what happens leaves the cell down, or up, as it was, for warnings of each kind.
+fn keeps_downs(h: &Happening<'_, '_>, spot: &Spot, tables: &KeptTables) -> bool
+    ensures { result ≡ true → (kind : Kind) → keeps_down (down_mark kind spot.now.bsc spot.now.cell h.now.event.now h.now.answer.now) (down_at tables.now.lines kind spot.now.bsc spot.now.cell) ≡ true }
+{
+    keeps_down_at(h, Kind::Cbs, spot, tables) && keeps_down_at(h, Kind::Emergency, spot, tables)
 }
 
 /// Whether what happens is an indication or a Retry, which leaves a blank line blank.
@@ -77,17 +93,24 @@ fn stays(
 ) -> bool
     requires stepped { stepped ≡ false → then.now ≡ line.now }
     requires known { IsKnown areas.now at.now }
-    ensures { result ≡ (line_eq then.now line.now && (keeps_down (down_mark at.now.spot.bsc at.now.spot.cell h.now.event.now h.now.answer.now) down || is_idle areas.now (option_copied warning.entry) at.now.spot.cell line.now)) }
+    ensures { result ≡ (line_eq then.now line.now && (keeps_down (down_mark (kind_in (option_copied warning.entry)) at.now.spot.bsc at.now.spot.cell h.now.event.now h.now.answer.now) down || is_idle areas.now (option_copied warning.entry) at.now.spot.cell line.now)) }
 {
     is_left(line, then, stepped)
-        && (keeps_down(h, &at.spot, down) || is_idle(areas, at, warning, line))
+        && (keeps_down(h, kind_in(warning), &at.spot, down) || is_idle(areas, at, warning, line))
 }
 
-/// The step from how a line stood to the line after what happens.
-fn step_of(h: &Happening<'_, '_>, spot: &Spot, n: WarningId, before: LineFacts, line: Line) -> Step
-    ensures { result ≡ record { key = key_at spot.now n; before = before; line = line; down = unwrap_or (down_mark spot.now.bsc spot.now.cell h.now.event.now h.now.answer.now) before.down } }
+/// The step from how a line of a warning of the kind stood to the line after what happens.
+fn step_of(
+    h: &Happening<'_, '_>,
+    kind: Kind,
+    spot: &Spot,
+    n: WarningId,
+    before: LineFacts,
+    line: Line,
+) -> Step
+    ensures { result ≡ record { key = key_at spot.now n; before = before; line = line; down = unwrap_or (down_mark kind spot.now.bsc spot.now.cell h.now.event.now h.now.answer.now) before.down } }
 {
-    let down = down_mark(spot.bsc, spot.cell, h.event, h.answer).unwrap_or(before.down);
+    let down = down_mark(kind, spot.bsc, spot.cell, h.event, h.answer).unwrap_or(before.down);
     Step {
         key: key_at(spot, n),
         before,
@@ -116,15 +139,16 @@ fn hold_changing_line(
 {
     let spot = &at.spot;
     let line = tables.read_line(key_at(spot, n));
-    let down = tables.is_down(spot.bsc, spot.cell);
     let warning = plan.book.find(n);
+    let kind = kind_in(warning);
+    let down = tables.is_down(kind, spot.bsc, spot.cell);
     let mut then = line;
     let stepped = line_now(h, plan.book.as_slice(), spot, warning, &mut then);
     if stays(h, plan.areas, at, warning, &line, &then, stepped, down) {
         return Ok(());
     }
     let before = facts_from(plan, found, at, n, down, line, warning)?;
-    out.push(step_of(h, spot, n, before, then))?;
+    out.push(step_of(h, kind, spot, n, before, then))?;
     Ok(())
 }
 
@@ -167,10 +191,10 @@ fn hold_changing_near(
     requires found { AreFound plan.now.areas.now plan.now.book.now found.old }
     ensures held { (t : Tables) → AsBefore t tables.old → OnOk result (out.new.items ≡ out.old.items ++ changing_at (happens h.now) plan.now.register.now plan.now.areas.now plan.now.book.now t warnings.now spot.now) }
     ensures kept { (t : Tables) → AsBefore t tables.old → AsBefore t tables.new }
-    ensures meter { tables.new.lines.meter ≤ tables.old.lines.meter + length warnings.now }
+    ensures meter { LinesAreOf warnings.now tables.old → tables.new.lines.meter ≤ tables.old.lines.meter + 2 * length warnings.now }
     ensures same { found.new ≡ found.old }
 {
-    let near = near(alloc, plan, tables.lines(), spot, warnings)?;
+    let near = near(alloc, plan, tables, spot, warnings)?;
     let at = KnownSpot::covered(*spot, near.covering.as_slice());
     let near = near.warnings.as_slice();
     hold_changing_spot(out, h, plan, found, tables, &at, near)?;
@@ -178,19 +202,22 @@ fn hold_changing_near(
 }
 
 /// The warnings whose lines at the spot may be changed by an indication, which leaves blank lines blank, or by a Retry, which
-/// leaves lines that aren't held. They are in ascending order. No line is read.
+/// leaves lines that aren't held. They are in ascending order, and their lines are counted.
+#[tactic(auto, using(centre_past::proofs::ReadLemmas::as_read))]
 fn indicated(
     h: &Happening<'_, '_>,
-    lines: &LineTable,
+    tables: &mut KeptTables,
     spot: &Spot,
 ) -> Result<Vec<WarningId>, AllocError>
-    ensures which { IfOk result (λ ws. (n : ℕ) → list_any (nat_eq n) ws.items ≡ may_change h.now.event.now (line_at lines.now spot.now.bsc spot.now.cell n)) }
+    ensures which { IfOk result (λ ws. (n : ℕ) → list_any (nat_eq n) ws.items ≡ may_change h.now.event.now (line_at tables.old.lines spot.now.bsc spot.now.cell n)) }
     ensures order { IfOk result (λ ws. is_ascending ltb ws.items ≡ true) }
-    ensures few { IfOk result (λ ws. (ns : List ℕ) → ((n : ℕ) → is_blank (line_at lines.now spot.now.bsc spot.now.cell n) ≡ false → list_any (nat_eq n) ns ≡ true) → length ws.items ≤ length ns) }
+    ensures few { IfOk result (λ ws. (ns : List ℕ) → ((n : ℕ) → is_blank (line_at tables.old.lines spot.now.bsc spot.now.cell n) ≡ false → list_any (nat_eq n) ns ≡ true) → length ws.items ≤ length ns) }
+    ensures kept { (t : Tables) → AsBefore t tables.old → AsBefore t tables.new }
+    ensures meter { (ns : List ℕ) → ((n : ℕ) → is_blank (line_at tables.old.lines spot.now.bsc spot.now.cell n) ≡ false → list_any (nat_eq n) ns ≡ true) → tables.new.lines.meter ≤ tables.old.lines.meter + length ns }
 {
     match h.event {
-        Event::Retry(_) => lines.held_at(spot.bsc, spot.cell),
-        _ => lines.warnings_at(spot.bsc, spot.cell),
+        Event::Retry(_) => tables.held_at(spot.bsc, spot.cell),
+        _ => tables.warnings_at(spot.bsc, spot.cell),
     }
 }
 
@@ -211,14 +238,14 @@ fn hold_indicated_spot(
     requires found { AreFound plan.now.areas.now plan.now.book.now found.old }
     ensures held { (t : Tables) → AsBefore t tables.old → OnOk result (out.new.items ≡ out.old.items ++ changing_at (happens h.now) plan.now.register.now plan.now.areas.now plan.now.book.now t all.now spot.now) }
     ensures kept { (t : Tables) → AsBefore t tables.old → AsBefore t tables.new }
-    ensures meter { AreInBook plan.now.book.now tables.old → tables.new.lines.meter ≤ tables.old.lines.meter + length all.now }
+    ensures meter { AreInBook plan.now.book.now tables.old → tables.new.lines.meter ≤ tables.old.lines.meter + 2 * length all.now }
     ensures same { found.new ≡ found.old }
 {
     plan.book.tell_soundness();
-    if !keeps_down(h, spot, tables.is_down(spot.bsc, spot.cell)) {
+    if !keeps_downs(h, spot, tables) {
         return hold_changing_near(out, alloc, h, plan, found, tables, spot, all);
     }
-    let indicated = indicated(h, tables.lines(), spot)?;
+    let indicated = indicated(h, tables, spot)?;
     let indicated = indicated.as_slice();
     let at = KnownSpot {
         spot: *spot,
@@ -242,7 +269,7 @@ fn hold_indicated(
     requires found { AreFound plan.now.areas.now plan.now.book.now found.old }
     ensures held { (t : Tables) → AsBefore t tables.old → IfOk result (λ v. v.items ≡ changing_lines (happens h.now) plan.now.register.now plan.now.areas.now plan.now.book.now t spots.now (numbers plan.now.book.now.warnings)) }
     ensures kept { (t : Tables) → AsBefore t tables.old → AsBefore t tables.new }
-    ensures meter { AreInBook plan.now.book.now tables.old → tables.new.lines.meter ≤ tables.old.lines.meter + length spots.now * length (numbers plan.now.book.now.warnings) }
+    ensures meter { AreInBook plan.now.book.now tables.old → tables.new.lines.meter ≤ tables.old.lines.meter + 2 * (length spots.now * length (numbers plan.now.book.now.warnings)) }
 {
     let all = plan.book.warnings()?;
     let mut out = Vec::with_capacity(alloc, spots.len())?;
@@ -294,7 +321,7 @@ pub(crate) fn hold_changing(
     requires found { AreFound plan.now.areas.now plan.now.book.now found.old }
     ensures held { (t : Tables) → AsBefore t tables.old → IfOk result (λ v. v.items ≡ changing_lines (happens h.now) plan.now.register.now plan.now.areas.now plan.now.book.now t spots.now (bearing h.now.event.now h.now.answer.now plan.now.book.now warnings.now)) }
     ensures kept { (t : Tables) → AsBefore t tables.old → AsBefore t tables.new }
-    ensures meter { AreInBook plan.now.book.now tables.old → tables.new.lines.meter ≤ tables.old.lines.meter + length spots.now * length (bearing h.now.event.now h.now.answer.now plan.now.book.now warnings.now) }
+    ensures meter { AreInBook plan.now.book.now tables.old → tables.new.lines.meter ≤ tables.old.lines.meter + 2 * (length spots.now * length (bearing h.now.event.now h.now.answer.now plan.now.book.now warnings.now)) }
 {
     if leaves_blank(h) {
         let held = hold_indicated(alloc, h, plan, found, tables, spots)?;

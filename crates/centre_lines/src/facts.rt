@@ -10,7 +10,7 @@ ghost use Rattle.coverage_board.specs.Parts.{has_area};
 ghost use Rattle.warning_book.specs.Book.{current_of};
 ghost use Rattle.centre_lines.specs.Found.{IsFound, IsFoundOf, IsKnown};
 ghost use Rattle.centre_past.specs.State.{covered_facts, facts_from};
-ghost use Rattle.centre_events.specs.Warnings.{serials};
+ghost use Rattle.centre_events.specs.Warnings.{kind_in, serials};
 
 use crate::found_warnings::FoundWarnings;
 use crate::known_spot::KnownSpot;
@@ -22,7 +22,7 @@ use kept_tables::{AreaNames, LineFacts, Serials, Spot};
 use mirror::Line;
 use serials::Serial;
 use std::alloc::AllocError;
-use warning_book::{Warning, WarningId};
+use warning_book::{Kind, Warning, WarningId};
 
 /// Whether the area covers the cell, by what was found of it, if anything was.
 pub(crate) fn covers_at(
@@ -64,6 +64,16 @@ pub(crate) fn is_covered(areas: &Areas, names: &[Name], at: &KnownSpot<'_>) -> b
     match at.covering {
         Some(all) => is_one_among(names, all),
         None => names.iter().any(|name| areas.covers(name, c)),
+    }
+}
+
+/// The kind of a warning; CBS where the book doesn't have it.
+pub(crate) fn kind_in(warning: Option<&Warning>) -> Kind
+    ensures { result ≡ kind_in (option_copied warning.entry) }
+{
+    match warning {
+        Some(w) => w.kind(),
+        None => Kind::Cbs,
     }
 }
 

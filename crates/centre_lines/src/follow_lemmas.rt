@@ -9,6 +9,7 @@ ghost use Rattle.common.specs.Order.{each_once};
 ghost use Rattle.kept_tables.specs.View.{key_of, key_eq, spot_eq};
 ghost use Rattle.kept_tables.specs.declared.spot.Spot.{Spot};
 ghost use Rattle.warning_book.specs.Book.{is_so, warning_of};
+ghost use Rattle.warning_book.specs.declared.kind.Kind.{Kind};
 ghost use Rattle.warning_book.specs.declared.warning.Warning.{Warning};
 ghost use Rattle.areas.specs.declared.area.Area.{Area};
 ghost use Rattle.cell_register.specs.Register as register;
@@ -40,7 +41,7 @@ fn was_line()
 {}
 
 fn then_is()
-    ensures { (settings : Settings) (past : Past) → Legal settings past → (desk : ℕ) (h : Happens) → verdict settings past h.event ≡ Ok h.answer → h.up ≡ up_before past h.event → h.flight ≡ flight_before past h.event → (r : register.State) (l : List Area) (st : book.State) (t : Tables) → IsRegisterOf (After (entry_of desk h) past) r → AreAreasOf (After (entry_of desk h) past) l → st ≡ book_of (After (entry_of desk h) past) → ((b : ℕ) (c : Cell) → down_at t.lines b c ≡ is_down (After (entry_of desk h) past) b c) → (k : LineKey) → facts_then h r l st t k (facts past k).line ≡ facts (After (entry_of desk h) past) k }
+    ensures { (settings : Settings) (past : Past) → Legal settings past → (desk : ℕ) (h : Happens) → verdict settings past h.event ≡ Ok h.answer → h.up ≡ up_before past h.event → h.flight ≡ flight_before past h.event → (r : register.State) (l : List Area) (st : book.State) (t : Tables) → IsRegisterOf (After (entry_of desk h) past) r → AreAreasOf (After (entry_of desk h) past) l → st ≡ book_of (After (entry_of desk h) past) → ((k : Kind) (b : ℕ) (c : Cell) → down_at t.lines k b c ≡ is_down (After (entry_of desk h) past) k b c) → (k : LineKey) → facts_then h r l st t k (facts past k).line ≡ facts (After (entry_of desk h) past) k }
 {}
 
 fn keys_once()
@@ -48,5 +49,5 @@ fn keys_once()
 {}
 
 fn begins()
-    ensures { (r : register.State) (l : List Area) (st : book.State) (t : Tables) (h : Happens) (spots : List Spot) (held : List Held) (x : Bears r l st t h spots held) (u : Tables) → SameLines t u → ((b : ℕ) (c : Cell) → down_at u.lines b c ≡ down_after h.event h.answer spots b c (down_at t.lines b c)) → Begins u (map (change_of h r l st u) held) }
+    ensures { (r : register.State) (l : List Area) (st : book.State) (t : Tables) (h : Happens) (spots : List Spot) (held : List Held) (x : Bears r l st t h spots held) (u : Tables) → SameLines t u → ((k : Kind) (b : ℕ) (c : Cell) → down_at u.lines k b c ≡ down_after h.event h.answer spots k b c (down_at t.lines k b c)) → Begins u (map (change_of h r l st u) held) }
 {}

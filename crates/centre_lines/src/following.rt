@@ -13,9 +13,10 @@ ghost use Rattle.centre_lines.specs.Following.{AreCovered, AreSteps, Bears, entr
 ghost use Rattle.centre_lines.specs.Found.{AreFound};
 ghost use Rattle.centre_past.specs.State.{AreCovering};
 ghost use Rattle.warning_book.specs.Book.{warning_of};
+ghost use Rattle.warning_book.specs.declared.kind.Kind.{Kind};
 
 use crate::downs::mark_downs;
-use crate::facts::{covered_facts, facts_from};
+use crate::facts::{covered_facts, facts_from, kind_in};
 use crate::found_warnings::{FoundWarnings, find};
 use crate::held::Held;
 use crate::held_lines::HeldLines;
@@ -56,6 +57,7 @@ pub(crate) fn line_now(
     match warning {
         Some(w) if !leaves_lines(h) => step_line(
             h,
+            w.kind(),
             spot.bsc,
             spot.cell,
             w.message_id(),
@@ -88,7 +90,7 @@ fn facts_then(
     let warning = plan.book.find(n);
     let mut line = held.before.line;
     line_now(h, plan.book.as_slice(), &at.spot, warning, &mut line);
-    let down = tables.is_down(bsc, cell);
+    let down = tables.is_down(kind_in(warning), bsc, cell);
     facts_from(plan, found, &at, n, down, line, warning)
 }
 
@@ -110,7 +112,7 @@ fn covered_then(
     let warning = plan.book.find(n);
     let mut line = held.before.line;
     line_now(h, plan.book.as_slice(), &spot, warning, &mut line);
-    let down = tables.is_down(bsc, cell);
+    let down = tables.is_down(kind_in(warning), bsc, cell);
     let register = plan.register;
     match warning {
         Some(w) => {
@@ -237,7 +239,7 @@ pub fn bear(
     requires bears { Bears plan.now.register.now plan.now.areas.now plan.now.book.now tables.old (happens h.now) spots.now (held_in lines) }
     requires steps { AreSteps (happens h.now) plan.now.book.now lines }
     ensures tables { OnOk result ((x : Bears plan.now.register.now plan.now.areas.now plan.now.book.now tables.old (happens h.now) spots.now (held_in lines)) → Consistent tables.new (facts (After (entry_of x.desk (happens h.now)) x.past))) }
-    ensures downs { OnOk result ((x : Bears plan.now.register.now plan.now.areas.now plan.now.book.now tables.old (happens h.now) spots.now (held_in lines)) → (b : ℕ) (c : Cell) → down_at tables.new.lines b c ≡ is_down (After (entry_of x.desk (happens h.now)) x.past) b c) }
+    ensures downs { OnOk result ((x : Bears plan.now.register.now plan.now.areas.now plan.now.book.now tables.old (happens h.now) spots.now (held_in lines)) → (k : Kind) (b : ℕ) (c : Cell) → down_at tables.new.lines k b c ≡ is_down (After (entry_of x.desk (happens h.now)) x.past) k b c) }
     ensures meter { tables.new.lines.meter ≤ tables.old.lines.meter + length (held_in lines) }
     ensures least { tables.old.lines.meter ≤ tables.new.lines.meter }
 {

@@ -7,11 +7,11 @@ ghost use Rattle.areas.specs.Areas.{areas_of};
 ghost use Rattle.kept_tables.specs.Tables.{Tables};
 ghost use Rattle.kept_tables.specs.View.{key_at};
 ghost use Rattle.centre_past.specs.Idle.{AsBefore};
-ghost use Rattle.centre_lines.specs.Following.{held_unless, held_at, held_lines, is_idle, is_near, leaves_cover, passed_over};
+ghost use Rattle.centre_lines.specs.Following.{LinesAreOf, held_unless, held_at, held_lines, is_idle, is_near, leaves_cover, passed_over};
 ghost use Rattle.centre_past.specs.Reaching.{is_forget};
 ghost use Rattle.centre_lines.specs.Found.{AreFound, IsKnown};
 
-use crate::facts::{facts_from, is_covered};
+use crate::facts::{facts_from, is_covered, kind_in};
 use crate::found_warnings::FoundWarnings;
 use crate::held::Held;
 use crate::known_spot::KnownSpot;
@@ -21,7 +21,7 @@ use centre_past::keys::key_at;
 use common::Names;
 use coverage_plan::Edit;
 use kept_tables::{KeptTables, LineFacts, Spot};
-use mirror::{Line, LineKey, LineTable};
+use mirror::{Line, LineKey};
 use std::alloc::{AllocError, Global};
 use warning_book::{Warning, WarningId};
 
@@ -119,7 +119,7 @@ fn hold_line(
     if is_passed_over(edit, plan.areas, at, warning, &line) {
         return Ok(());
     }
-    let down = tables.is_down(at.spot.bsc, at.spot.cell);
+    let down = tables.is_down(kind_in(warning), at.spot.bsc, at.spot.cell);
     let before = facts_from(plan, found, at, n, down, line, warning)?;
     out.push(held_of(&at.spot, n, before))?;
     Ok(())
@@ -155,18 +155,22 @@ pub(crate) struct NearCell {
     pub(crate) covering: Names,
 }
 
-/// Those of the warnings of which something is kept at the spot, or of which an area covers its cell. No line is read.
+/// Those of the warnings of which something is kept at the spot, or of which an area covers its cell. The lines of which
+/// something is kept are counted.
+#[tactic(auto, using(centre_past::proofs::ReadLemmas::as_read))]
 pub(crate) fn near(
     alloc: Global,
     plan: &PlanParts<'_>,
-    lines: &LineTable,
+    tables: &mut KeptTables,
     spot: &Spot,
     warnings: &[WarningId],
 ) -> Result<NearCell, AllocError>
-    ensures warnings { IfOk result (λ v. v.warnings.items ≡ filter (is_near plan.now.areas.now plan.now.book.now lines.now spot.now.bsc spot.now.cell) warnings.now) }
+    ensures warnings { IfOk result (λ v. v.warnings.items ≡ filter (is_near plan.now.areas.now plan.now.book.now tables.new.lines spot.now.bsc spot.now.cell) warnings.now) }
     ensures covering { IfOk result (λ v. v.covering ≡ areas_of plan.now.areas.now spot.now.cell) }
+    ensures kept { (t : Tables) → AsBefore t tables.old → AsBefore t tables.new }
+    ensures meter { LinesAreOf warnings.now tables.old → tables.new.lines.meter ≤ tables.old.lines.meter + length warnings.now }
 {
-    let kept = lines.warnings_at(spot.bsc, spot.cell)?;
+    let kept = tables.warnings_at(spot.bsc, spot.cell)?;
     let covering = plan.areas.areas_of(spot.cell)?;
     let named = plan.book.naming_one_of(covering.as_slice())?;
     let mut near = Vec::with_capacity(alloc, warnings.len())?;
@@ -197,10 +201,10 @@ fn hold_near(
     requires found { AreFound plan.now.areas.now plan.now.book.now found.old }
     ensures held { (t : Tables) → AsBefore t tables.old → OnOk result (out.new.items ≡ out.old.items ++ held_at edit.now plan.now.register.now plan.now.areas.now plan.now.book.now t warnings.now spot.now) }
     ensures kept { (t : Tables) → AsBefore t tables.old → AsBefore t tables.new }
-    ensures meter { tables.new.lines.meter ≤ tables.old.lines.meter + length warnings.now }
+    ensures meter { LinesAreOf warnings.now tables.old → tables.new.lines.meter ≤ tables.old.lines.meter + 2 * length warnings.now }
     ensures same { found.new ≡ found.old }
 {
-    let near = near(alloc, plan, tables.lines(), spot, warnings)?;
+    let near = near(alloc, plan, tables, spot, warnings)?;
     let at = KnownSpot::covered(*spot, near.covering.as_slice());
     let near = near.warnings.as_slice();
     hold_spot(out, plan, found, tables, &at, near, edit)?;
@@ -221,7 +225,7 @@ fn hold_there(
     requires found { AreFound plan.now.areas.now plan.now.book.now found.old }
     ensures held { (t : Tables) → AsBefore t tables.old → OnOk result (out.new.items ≡ out.old.items ++ held_at edit.now plan.now.register.now plan.now.areas.now plan.now.book.now t warnings.now spot.now) }
     ensures kept { (t : Tables) → AsBefore t tables.old → AsBefore t tables.new }
-    ensures meter { tables.new.lines.meter ≤ tables.old.lines.meter + length warnings.now }
+    ensures meter { (leaves_cover edit.now ≡ true → LinesAreOf warnings.now tables.old) → tables.new.lines.meter ≤ tables.old.lines.meter + 2 * length warnings.now }
     ensures same { found.new ≡ found.old }
 {
     if leaves_cover(edit) {
@@ -247,7 +251,7 @@ pub(crate) fn hold(
     requires found { AreFound plan.now.areas.now plan.now.book.now found.old }
     ensures held { (t : Tables) → AsBefore t tables.old → IfOk result (λ v. v.items ≡ held_lines edit.now plan.now.register.now plan.now.areas.now plan.now.book.now t spots.now warnings.now) }
     ensures kept { (t : Tables) → AsBefore t tables.old → AsBefore t tables.new }
-    ensures meter { tables.new.lines.meter ≤ tables.old.lines.meter + length spots.now * length warnings.now }
+    ensures meter { (leaves_cover edit.now ≡ true → LinesAreOf warnings.now tables.old) → tables.new.lines.meter ≤ tables.old.lines.meter + 2 * (length spots.now * length warnings.now) }
 {
     let mut out = Vec::with_capacity(alloc, spots.len().max(FEW))?;
     for spot in spots {

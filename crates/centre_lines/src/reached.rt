@@ -1,6 +1,6 @@
 //! The lines on which an event bears, read before it.
 
-ghost use Rattle.std.specs.Prelude.{◌≡◌, ◌≤◌, ◌+◌, false, Ok, IfOk};
+ghost use Rattle.std.specs.Prelude.{◌≡◌, ◌≤◌, ◌+◌, ◌*◌, false, Ok, IfOk};
 ghost use Rattle.centre_lines.specs.Following.{WasReached};
 ghost use Rattle.centre_past.specs.Reaching.{is_forget};
 ghost use Rattle.centre_past.specs.IsKept.{IsKept, OnlyReadsIn};
@@ -47,7 +47,7 @@ fn reached_at_spots(alloc: Global, kept: &mut Kept, edit: &Edit) -> Result<Reach
     requires { is_forget edit.now ≡ false }
     ensures reached { (settings : Settings) (past : Past) (a : answer_spec.Answer) → Legal settings past → IsKept past kept.old → edit_answered past edit.now ≡ Ok a → IfOk result (λ x. WasReached past (event.Edit edit.now) a x.spots.items x.lines) }
     ensures reads { OnlyReadsIn kept.old kept.new }
-    ensures meter { (settings : Settings) (past : Past) (a : answer_spec.Answer) → Legal settings past → IsKept past kept.old → edit_answered past edit.now ≡ Ok a → kept.new.tables.lines.meter ≤ kept.old.tables.lines.meter + size (edit_reach past edit.now) }
+    ensures meter { (settings : Settings) (past : Past) (a : answer_spec.Answer) → Legal settings past → IsKept past kept.old → edit_answered past edit.now ≡ Ok a → kept.new.tables.lines.meter ≤ kept.old.tables.lines.meter + 2 * size (edit_reach past edit.now) }
 {
     let plan = PlanParts {
         register: &kept.register,
@@ -82,10 +82,10 @@ fn reached_by_forget(
     requires { edit.now ≡ edit_spec.Forget n }
     ensures reached { (settings : Settings) (past : Past) (a : answer_spec.Answer) → Legal settings past → IsKept past kept.old → edit_answered past edit.now ≡ Ok a → IfOk result (λ x. WasReached past (event.Edit edit.now) a x.spots.items x.lines) }
     ensures reads { OnlyReadsIn kept.old kept.new }
-    ensures meter { (settings : Settings) (past : Past) (a : answer_spec.Answer) → Legal settings past → IsKept past kept.old → edit_answered past edit.now ≡ Ok a → kept.new.tables.lines.meter ≤ kept.old.tables.lines.meter + size (edit_reach past edit.now) }
+    ensures meter { (settings : Settings) (past : Past) (a : answer_spec.Answer) → Legal settings past → IsKept past kept.old → edit_answered past edit.now ≡ Ok a → kept.new.tables.lines.meter ≤ kept.old.tables.lines.meter + 2 * size (edit_reach past edit.now) }
 {
     tell_lines(kept.tables.lines());
-    let keys = kept.tables.lines().places_of(n)?;
+    let keys = kept.tables.places_of(n)?;
     let warnings = of_edit(alloc, &kept.book, edit)?;
     let plan = PlanParts {
         register: &kept.register,
@@ -113,7 +113,7 @@ fn reached_by_forget(
 pub fn reached_by_edit(alloc: Global, kept: &mut Kept, edit: &Edit) -> Result<Reached, AllocError>
     ensures reached { (settings : Settings) (past : Past) (a : answer_spec.Answer) → Legal settings past → IsKept past kept.old → edit_answered past edit.now ≡ Ok a → IfOk result (λ x. WasReached past (event.Edit edit.now) a x.spots.items x.lines) }
     ensures reads { OnlyReadsIn kept.old kept.new }
-    ensures meter { (settings : Settings) (past : Past) (a : answer_spec.Answer) → Legal settings past → IsKept past kept.old → edit_answered past edit.now ≡ Ok a → kept.new.tables.lines.meter ≤ kept.old.tables.lines.meter + size (edit_reach past edit.now) }
+    ensures meter { (settings : Settings) (past : Past) (a : answer_spec.Answer) → Legal settings past → IsKept past kept.old → edit_answered past edit.now ≡ Ok a → kept.new.tables.lines.meter ≤ kept.old.tables.lines.meter + 2 * size (edit_reach past edit.now) }
 {
     let reached = match edit {
         Edit::Forget(n) => reached_by_forget(alloc, kept, edit, *n)?,
@@ -132,7 +132,7 @@ pub fn reached_by_other<'x>(
     requires other { is_edit event.now ≡ false }
     ensures reached { (settings : Settings) (past : Past) → Legal settings past → IsKept past kept.old → answered settings.network past event.now ≡ Ok answer.now → IfOk result (λ x. WasReached past event.now answer.now x.spots.items x.lines) }
     ensures reads { OnlyReadsIn kept.old kept.new }
-    ensures meter { (settings : Settings) (past : Past) → Legal settings past → IsKept past kept.old → answered settings.network past event.now ≡ Ok answer.now → kept.new.tables.lines.meter ≤ kept.old.tables.lines.meter + size (reach_of past event.now answer.now) }
+    ensures meter { (settings : Settings) (past : Past) → Legal settings past → IsKept past kept.old → answered settings.network past event.now ≡ Ok answer.now → kept.new.tables.lines.meter ≤ kept.old.tables.lines.meter + 2 * size (reach_of past event.now answer.now) }
 {
     let reach = reach_of_other(
         alloc,

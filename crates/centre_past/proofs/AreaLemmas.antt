@@ -171,7 +171,7 @@ selectors_counted past l a once tied = sym (same_count selector_eq selector_deci
 
 -- What is refused.
 
-add_area_same : (past : Past) (l : List Area) (a : List ℕ) → is_ascending named_lt l ≡ true → AreAreasOf past l → translated of_areas (checked.add_area_checks l a) ≡ add_area_checks past a
+pub add_area_same : (past : Past) (l : List Area) (a : List ℕ) → is_ascending named_lt l ≡ true → AreAreasOf past l → translated of_areas (checked.add_area_checks l a) ≡ add_area_checks past a
 add_area_same past l a ascending tied = rw (tied.names a, areas_counted past l ascending tied) refl
 
 pub add_area_taken : (past : Past) (l : List Area) (a : List ℕ) → is_ascending named_lt l ≡ true → AreAreasOf past l → first_refusal (checked.add_area_checks l a) ≡ None → add_area past a ≡ Ok answer.Done
@@ -180,7 +180,7 @@ add_area_taken past l a ascending tied h = ap (λ cs. unless cs (Ok answer.Done)
 pub add_area_refused : (past : Past) (l : List Area) (a : List ℕ) (e : areas_refusal.Refusal) → is_ascending named_lt l ≡ true → AreAreasOf past l → (first_refusal (checked.add_area_checks l a) ≡ Some e) ⊎ ((e ≡ areas_refusal_is.Memory) × (first_refusal (checked.add_area_checks l a) ≡ None)) → Gives (add_area past a) (Err (of_areas e))
 add_area_refused past l a e ascending tied h = subst (λ cs. Gives (unless cs (Ok answer.Done)) (Err (of_areas e))) (add_area_same past l a ascending tied) (given of_areas areas_refusal_is.Memory refl (checked.add_area_checks l a) (Ok answer.Done) e (λ n. refl) h)
 
-put_same : (past : Past) (l : List Area) (a : List ℕ) (s : Selector) → ((x : List ℕ) → each_once selector_eq (selectors_of l x) ≡ true) → AreAreasOf past l → translated of_areas (checked.put_checks l a s) ≡ put_checks past a s
+pub put_same : (past : Past) (l : List Area) (a : List ℕ) (s : Selector) → ((x : List ℕ) → each_once selector_eq (selectors_of l x) ≡ true) → AreAreasOf past l → translated of_areas (checked.put_checks l a s) ≡ put_checks past a s
 put_same past l a s once tied = rw (tied.names a, tied.selectors a s, selectors_counted past l a once tied) refl
 
 pub put_taken : (past : Past) (l : List Area) (a : List ℕ) (s : Selector) → ((x : List ℕ) → each_once selector_eq (selectors_of l x) ≡ true) → AreAreasOf past l → first_refusal (checked.put_checks l a s) ≡ None → put past a s ≡ Ok answer.Done
@@ -189,7 +189,7 @@ put_taken past l a s once tied h = ap (λ cs. unless cs (Ok answer.Done)) (sym (
 pub put_refused : (past : Past) (l : List Area) (a : List ℕ) (s : Selector) (e : areas_refusal.Refusal) → ((x : List ℕ) → each_once selector_eq (selectors_of l x) ≡ true) → AreAreasOf past l → (first_refusal (checked.put_checks l a s) ≡ Some e) ⊎ ((e ≡ areas_refusal_is.Memory) × (first_refusal (checked.put_checks l a s) ≡ None)) → Gives (put past a s) (Err (of_areas e))
 put_refused past l a s e once tied h = subst (λ cs. Gives (unless cs (Ok answer.Done)) (Err (of_areas e))) (put_same past l a s once tied) (given of_areas areas_refusal_is.Memory refl (checked.put_checks l a s) (Ok answer.Done) e (λ n. refl) h)
 
-cut_same : (past : Past) (l : List Area) (a : List ℕ) (s : Selector) → AreAreasOf past l → translated of_areas (checked.cut_checks l a s) ≡ cut_checks past a s
+pub cut_same : (past : Past) (l : List Area) (a : List ℕ) (s : Selector) → AreAreasOf past l → translated of_areas (checked.cut_checks l a s) ≡ cut_checks past a s
 cut_same past l a s tied = rw (tied.names a, tied.selectors a s) refl
 
 pub cut_taken : (past : Past) (l : List Area) (a : List ℕ) (s : Selector) → AreAreasOf past l → first_refusal (checked.cut_checks l a s) ≡ None → cut past a s ≡ Ok answer.Done

@@ -1,17 +1,19 @@
 -- What an Ask is answered, and what it puts in flight: a query of the current version of a warning in the book.
-use Rattle.std.proofs.Common.{◌≡◌, ℕ, true, false, not, List, [], ◌∷◌, Option, Some, None, Result, Ok, Err, cond, refl, sym, ◌∙◌, ap, subst}
+use Rattle.std.proofs.Common.{◌≡◌, ℕ, Bool, true, false, not, List, [], ◌∷◌, ◌++◌, Option, Some, None, Result, Ok, Err, cond, refl, sym, ◌∙◌, ap, subst}
 use Rattle.std.specs.Option.{is_some}
 use Rattle.common.specs.Checks.{first_refusal}
 use Rattle.common.specs.declared.cell.Cell.{Cell}
 use Rattle.centre_events.specs.OrderMessage.{query_message}
-use Rattle.warning_book.specs.Book.{current_of, warning_of}
+use Rattle.warning_book.specs.Book.{current_of, kind_of, warning_of}
+use Rattle.warning_book.specs.declared.kind.Kind.{Kind}
+use Rattle.warning_book.specs.declared.kind.Kind.TheVariants as kind
 use Rattle.warning_book.specs.declared.warning.Warning.{Warning}
-use Rattle.centre_events.specs.Asking.{asked_cells, query_of, version_query, warning_query}
+use Rattle.centre_events.specs.Asking.{asked_cells, query_of, query_of_kind, version_query, warning_query}
 use Rattle.centre_events.specs.InFlight.{in_flight}
 use Rattle.centre_events.specs.Kept.{Gives}
 use Rattle.centre_events.specs.Links.{is_bsc}
 use Rattle.centre_events.specs.Past.{Past}
-use Rattle.centre_events.specs.Verdict.{ask, ask_checks, link_checks, send_checks, unless}
+use Rattle.centre_events.specs.Verdict.{ask, ask_checks, generation_checks, link_checks, unless}
 use Rattle.centre_events.specs.Warnings.{book_of}
 use Rattle.centre_events.specs.declared.answer.Answer.{Answer}
 use Rattle.centre_events.specs.declared.answer.Answer.TheVariants.{Asked}
@@ -52,18 +54,30 @@ ask_query past b generation n after a h =
 
     by_warning : (o : Option Warning) → warning_of (book_of past) n ≡ o → warning_query past b o after ≡ Ok a → IsQuery past b a
     by_warning None e g = cc
-    by_warning (Some w) e g = by_version w e (current_of w) refl g
+    by_warning (Some w) e g = by_version w e (current_of w) refl (by_kind (kind_of w) g)
+      where
+        by_kind : (k : Kind) → query_of_kind k (version_query past b w.message_id (current_of w) after) ≡ Ok a → version_query past b w.message_id (current_of w) after ≡ Ok a
+        by_kind kind.Cbs f = f
+        by_kind kind.Emergency f = cc
+
+-- where no check holds, none behind the first does
+none_behind : (t : Bool) (r : Refusal) (checks : List (Bool × Refusal)) → first_refusal ((t, r) ∷ checks) ≡ None → first_refusal checks ≡ None
+none_behind true r checks none = cc
+none_behind false r checks none = none
 
 -- what is on air decides an Ask over its link while nothing is in flight
-pub ask_free : (past : Past) (b generation n : ℕ) (after : Option Cell) (w : Warning) → is_bsc past b ≡ true → warning_of (book_of past) n ≡ Some w → first_refusal (link_checks past b generation) ≡ None → is_some (in_flight past b) ≡ false → ask past b generation n after ≡ version_query past b w.message_id (current_of w) after
+pub ask_free : (past : Past) (b generation n : ℕ) (after : Option Cell) (w : Warning) → is_bsc past b ≡ true → warning_of (book_of past) n ≡ Some w → first_refusal (link_checks past b generation) ≡ None → is_some (in_flight past b) ≡ false → ask past b generation n after ≡ warning_query past b (Some w) after
 ask_free past b generation n after w h g k f =
-    past_check (not (is_bsc past b)) NoSuchBsc (unless ((not (is_some (warning_of (book_of past) n)), NoSuchWarning) ∷ send_checks past b generation) (warning_query past b (warning_of (book_of past) n) after)) (version_query past b w.message_id (current_of w) after) (ap not h)
-    (past_check (not (is_some (warning_of (book_of past) n))) NoSuchWarning (unless (send_checks past b generation) (warning_query past b (warning_of (book_of past) n) after)) (version_query past b w.message_id (current_of w) after) (ap (λ o. not (is_some o)) g)
-    (ap (λ o. unless (send_checks past b generation) (warning_query past b o after)) g
-    ∙ none_before (link_checks past b generation) ((is_some (in_flight past b), InFlight) ∷ []) (warning_query past b (Some w) after) k
+    past_check (not (is_bsc past b)) NoSuchBsc (unless ((not (is_some (warning_of (book_of past) n)), NoSuchWarning) ∷ linked) (warning_query past b (warning_of (book_of past) n) after)) (warning_query past b (Some w) after) (ap not h)
+    (past_check (not (is_some (warning_of (book_of past) n))) NoSuchWarning (unless linked (warning_query past b (warning_of (book_of past) n) after)) (warning_query past b (Some w) after) (ap (λ o. not (is_some o)) g)
+    (ap (λ o. unless linked (warning_query past b o after)) g
+    ∙ none_before (generation_checks past b generation) ((is_some (in_flight past b), InFlight) ∷ []) (warning_query past b (Some w) after) (none_behind (not (is_bsc past b)) NoSuchBsc (generation_checks past b generation) k)
     ∙ ap (λ t. cond t (Err InFlight) (warning_query past b (Some w) after)) f))
+  where
+    linked : List (Bool × Refusal)
+    linked = generation_checks past b generation ++ (is_some (in_flight past b), InFlight) ∷ []
 
--- its verdict is that of the query of the current version
-pub ask_given : (past : Past) (b generation n : ℕ) (after : Option Cell) (w : Warning) (s : ℕ) (r : Result Answer Refusal) → is_bsc past b ≡ true → warning_of (book_of past) n ≡ Some w → first_refusal (link_checks past b generation) ≡ None → is_some (in_flight past b) ≡ false → current_of w ≡ Some s → Gives (version_query past b w.message_id (Some s) after) r → Gives (ask past b generation n after) r
-ask_given past b generation n after w s r h g k f current given =
-    subst (λ v. Gives v r) (sym (ask_free past b generation n after w h g k f ∙ ap (λ o. version_query past b w.message_id o after) current)) given
+-- its verdict is that of the query of the warning
+pub ask_given : (past : Past) (b generation n : ℕ) (after : Option Cell) (w : Warning) (r : Result Answer Refusal) → is_bsc past b ≡ true → warning_of (book_of past) n ≡ Some w → first_refusal (link_checks past b generation) ≡ None → is_some (in_flight past b) ≡ false → Gives (warning_query past b (Some w) after) r → Gives (ask past b generation n after) r
+ask_given past b generation n after w r h g k f given =
+    subst (λ v. Gives v r) (sym (ask_free past b generation n after w h g k f)) given

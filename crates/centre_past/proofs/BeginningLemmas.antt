@@ -13,7 +13,7 @@ use Rattle.common.specs.SortingLaws.{sorted_counts}
 use Rattle.common.specs.SumLaws.{sums_agree, sum_same, sum_none, count_flat_map}
 use Rattle.common.specs.Sums.{one, sum_of, count_of}
 use Rattle.common.specs.declared.cell.Cell.{Cell}
-use Rattle.warning_book.specs.Book.{current_of}
+use Rattle.warning_book.specs.Book.{current_of, kind_of}
 use Rattle.warning_book.specs.declared.version.Version.{Version}
 use Rattle.warning_book.specs.declared.warning.Warning.{Warning}
 use Rattle.order_maker.specs.Actions.{deed, deeds, kills, in_cell}
@@ -66,7 +66,7 @@ blank w held down = record {
 }
 
 abbrev pub IsBlank : Past → ℕ → Warning → Cell → Type 0
-IsBlank past b w c = seen past b w c ≡ blank w (is_held past b c w.message_id) (is_down past b c)
+IsBlank past b w c = seen past b w c ≡ blank w (is_held past b c w.message_id) (is_down past (kind_of w) b c)
 
 unwanted : (past : Past) (b : ℕ) (w : Warning) (c : Cell) → is_place (place past c) b ≡ false → wanted past b w c ≡ None
 unwanted past b w c h =
@@ -74,7 +74,7 @@ unwanted past b w c h =
 
 pub seen_blank : (past : Past) (b : ℕ) (w : Warning) (c : Cell) → is_place (place past c) b ≡ false → ((m s : ℕ) → presence past b c m s ≡ Absent) → IsBlank past b w c
 seen_blank past b w c h g =
-    λ i. record { presence = λ s. g w.message_id s i; is_held = is_held past b c w.message_id; message_id = w.message_id; versions = serials w; wanted = unwanted past b w c h i; down = is_down past b c }
+    λ i. record { presence = λ s. g w.message_id s i; is_held = is_held past b c w.message_id; message_id = w.message_id; versions = serials w; wanted = unwanted past b w c h i; down = is_down past (kind_of w) b c }
 
 no_kills : (w : Warning) (held : ℕ → Bool) (down : Bool) (ts : List ℕ) → kills (blank w held down) ts ≡ []
 no_kills w held down [] = refl
@@ -88,7 +88,7 @@ no_kills w held down (t ∷ ts) =
 
 -- nothing is to be ordered there
 pub no_deeds : (past : Past) (b : ℕ) (w : Warning) (c : Cell) → IsBlank past b w c → deeds (seen past b w c) ≡ []
-no_deeds past b w c e = ap deeds e ∙ no_kills w (is_held past b c w.message_id) (is_down past b c) (serials w)
+no_deeds past b w c e = ap deeds e ∙ no_kills w (is_held past b c w.message_id) (is_down past (kind_of w) b c) (serials w)
 
 no_actions : (past : Past) (b : ℕ) (w : Warning) (c : Cell) → IsBlank past b w c → actions past b w c ≡ []
 no_actions past b w c e = ap (map (in_cell c)) (no_deeds past b w c e)
@@ -104,7 +104,7 @@ stands_nowhere way.Failed w held down t e = ap (λ v. is_way way.Failed (standin
 stands_nowhere way.Left w held down t e = ap is_left e ∙ none_left w held down (serials w)
 
 pub not_counted : (past : Past) (x : Way) (b : ℕ) (w : Warning) (c : Cell) → IsBlank past b w c → one (stands x (stand past b w c)) ≡ 0
-not_counted past x b w c e = ap one (stands_nowhere x w (is_held past b c w.message_id) (is_down past b c) (stand past b w c) e)
+not_counted past x b w c e = ap one (stands_nowhere x w (is_held past b c w.message_id) (is_down past (kind_of w) b c) (stand past b w c) e)
 
 -- nothing that was broadcast is counted in a cell away from its BSC
 not_broadcast : (past : Past) (w : Warning) (b : ℕ) (c : Cell) → is_place (place past c) b ≡ false → broadcasts_in past w b c ≡ 0

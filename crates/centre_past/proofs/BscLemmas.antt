@@ -130,7 +130,7 @@ flight_event network (event.Ask other generation n after) before a b v known up 
     step : (t : Bool) → nat_eq other b ≡ t → is_some (unwrap_or (cond t (Some (asked_flight a)) None) (in_flight before b)) ≡ true → is_up before b ≡ true
     step true e g =
         ap (is_up before) (sym (eqb-true other b e))
-        ∙ not-false (is_up before other) (no_check (ask_checks before other generation n) (warning_query before other (warning_of (book_of before) n) after) a v).1.1.1.1.0
+        ∙ not-false (is_up before other) (no_check (ask_checks before other generation n) (warning_query before other (warning_of (book_of before) n) after) a v).1.1.1.0
     step false e g = up g
 flight_event network (event.Report other generation message) before a b v known up h = step (nat_eq other b && is_replied a) h
   where

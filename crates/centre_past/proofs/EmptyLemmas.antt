@@ -17,6 +17,6 @@ empty_kept s registered selected booked linked flying tables = record {
   booked = booked;
   linked = rw linked (record { ups = λ b. refl; generations = λ b. refl });
   flying = rw flying (λ b. refl);
-  downs = λ b c. tables.downs b c;
+  downs = λ k b c. tables.downs k b c;
   tables = empty_consistent s.tables (facts (From empty_base)) (λ k. false) (λ k. false) (λ k. refl) tables;
 }

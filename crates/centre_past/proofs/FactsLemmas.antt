@@ -21,6 +21,7 @@ use Rattle.centre_events.specs.Kept.{IsRegisterOf, AreAreasOf}
 use Rattle.centre_events.specs.Past.{Past}
 use Rattle.centre_events.specs.Places.{place}
 use Rattle.centre_events.specs.Plan.{wants, wanted}
+use Rattle.centre_events.specs.Warnings.{kind_in}
 use Rattle.centre_events.specs.Down.{is_down}
 use Rattle.centre_past.specs.State.{wants_in, wanted_in, facts_from}
 
@@ -48,7 +49,7 @@ wants_same past r l registered selected b w c =
 wanted_same : (past : Past) (r : register.State) (l : List Area) → IsRegisterOf past r → AreAreasOf past l → (b : ℕ) (w : Warning) (c : Cell) → wanted_in r l b w c ≡ wanted past b w c
 wanted_same past r l registered selected b w c = ap (λ t. if t then current_of w else None) (wants_same past r l registered selected b w c)
 
-pub facts_same : (past : Past) (r : register.State) (l : List Area) (down : Bool) (b : ℕ) (c : Cell) (line : Line) (o : Option Warning) → IsRegisterOf past r → AreAreasOf past l → down ≡ is_down past b c → IsLineOf past b c line o → facts_from r l down b c line o ≡ facts_of past b c o
+pub facts_same : (past : Past) (r : register.State) (l : List Area) (down : Bool) (b : ℕ) (c : Cell) (line : Line) (o : Option Warning) → IsRegisterOf past r → AreAreasOf past l → down ≡ is_down past (kind_in o) b c → IsLineOf past b c line o → facts_from r l down b c line o ≡ facts_of past b c o
 facts_same past r l down b c line None registered selected fallen is =
     rw (fallen, here_same past r registered b c) refl
 facts_same past r l down b c line (Some w) registered selected fallen is =

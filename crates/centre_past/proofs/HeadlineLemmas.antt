@@ -5,8 +5,9 @@ use Rattle.std.proofs.lemmas.Bool.{and_parts, and_from}
 use Rattle.std.specs.List.{list_any}
 use Rattle.cell_register.specs.Register.{is_place}
 use Rattle.common.specs.declared.cell.Cell.{Cell}
-use Rattle.warning_book.specs.Book.{current_of}
+use Rattle.warning_book.specs.Book.{current_of, kind_of}
 use Rattle.warning_book.specs.VersionLaws.{current_among}
+use Rattle.warning_book.specs.declared.kind.Kind.{Kind}
 use Rattle.warning_book.specs.declared.version.Version.{Version}
 use Rattle.warning_book.specs.declared.warning.Warning.{Warning}
 use Rattle.centre_events.specs.Base.{empty_base}
@@ -24,16 +25,17 @@ use Rattle.centre_events.specs.Presence.{presence, is_held}
 use Rattle.mirror.specs.Seen.{is_absent, is_on_air, is_the}
 use Rattle.centre_events.specs.Settings.{Settings}
 use Rattle.centre_events.specs.Verdict.{verdict}
-use Rattle.centre_events.specs.Warnings.{book_of, warnings_of, is_version, has_key, is_key}
+use Rattle.centre_events.specs.Warnings.{book_of, warnings_of, is_version, has_key, is_key, key_kind}
 use Rattle.centre_events.specs.declared.answer.Answer.{Answer}
 use Rattle.centre_events.specs.declared.event.Event.{Event}
 use Rattle.mirror.specs.declared.presence.Presence.{Presence}
 use Rattle.mirror.specs.declared.presence.Presence.TheVariants.{Absent, OnAir, Unknown}
 use Rattle.centre_events.specs.declared.refusal.Refusal.{Refusal}
-use Rattle.centre_past.proofs.AnyLemmas.{and_none, any_same, any_pulled}
+use Rattle.centre_past.proofs.AnyLemmas.{and_none, any_same}
 use Rattle.centre_past.proofs.ApplyingLemmas.{applied_airs, applied_clears}
 use Rattle.centre_past.proofs.ActingLemmas.{does, any_all, airing, clearing, is_surplus, does_airing, does_clearing}
 use Rattle.centre_past.proofs.GroupingLemmas.{any_pending}
+use Rattle.centre_past.proofs.KindLemmas.{any_by_kind}
 use Rattle.centre_past.proofs.MarkLemmas.{known_presence}
 use Rattle.centre_past.proofs.KnownLemmas.{legal_unfolded, known_place}
 use Rattle.centre_events.proofs.PastLemmas.{any_image}
@@ -44,11 +46,15 @@ use Rattle.centre_past.proofs.WarningLemmas.{legal_sound}
 abbrev pub plans : Past → ℕ → Cell → ℕ → ℕ → Warning → Bool
 plans past b c m s w = nat_eq w.message_id m && is_the (wanted past b w c) s
 
--- the cell is up at the BSC, and nothing holds the key back
-abbrev pub is_free : Past → ℕ → Cell → ℕ → ℕ → Bool
-is_free past b c m s = not (is_down past b c) && not (is_held past b c m s)
+-- the cell is up at the BSC for warnings of the kind, and nothing holds the key back
+abbrev pub is_free_for : Past → Kind → ℕ → Cell → ℕ → ℕ → Bool
+is_free_for past k b c m s = not (is_down past k b c) && not (is_held past b c m s)
 
-airs_at : (past : Past) (b : ℕ) (c : Cell) (m s : ℕ) (w : Warning) → (nat_eq w.message_id m && (is_among c (cells past) && does (airing s) (seen past b w c))) ≡ ((is_among c (cells past) && (is_free past b c m s && not (is_on_air (presence past b c m s)))) && plans past b c m s w)
+-- so for those of the kind of the key's warning
+abbrev pub is_free : Past → ℕ → Cell → ℕ → ℕ → Bool
+is_free past b c m s = is_free_for past (key_kind past m s) b c m s
+
+airs_at : (past : Past) (b : ℕ) (c : Cell) (m s : ℕ) (w : Warning) → (nat_eq w.message_id m && (is_among c (cells past) && does (airing s) (seen past b w c))) ≡ ((is_among c (cells past) && (is_free_for past (kind_of w) b c m s && not (is_on_air (presence past b c m s)))) && plans past b c m s w)
 airs_at past b c m s w =
     ap (λ t. nat_eq w.message_id m && (is_among c (cells past) && t)) (does_airing (seen past b w c) s)
     ∙ step (nat_eq w.message_id m) refl
@@ -61,16 +67,16 @@ airs_at past b c m s w =
     table true false up free on = sym (and_none ((up && free) && on))
     table false wd up free on = refl
 
-    step : (t : Bool) → nat_eq w.message_id m ≡ t → (nat_eq w.message_id m && (is_among c (cells past) && (is_the (wanted past b w c) s && (not (is_down past b c) && (not (is_held past b c w.message_id s) && not (is_on_air (presence past b c w.message_id s))))))) ≡ ((is_among c (cells past) && (is_free past b c m s && not (is_on_air (presence past b c m s)))) && plans past b c m s w)
+    step : (t : Bool) → nat_eq w.message_id m ≡ t → (nat_eq w.message_id m && (is_among c (cells past) && (is_the (wanted past b w c) s && (not (is_down past (kind_of w) b c) && (not (is_held past b c w.message_id s) && not (is_on_air (presence past b c w.message_id s))))))) ≡ ((is_among c (cells past) && (is_free_for past (kind_of w) b c m s && not (is_on_air (presence past b c m s)))) && plans past b c m s w)
     step true e =
         let at_m : w.message_id ≡ m = eqb-true w.message_id m e in
-        let here : (is_among c (cells past) && (is_the (wanted past b w c) s && (not (is_down past b c) && (not (is_held past b c w.message_id s) && not (is_on_air (presence past b c w.message_id s)))))) ≡ ((is_among c (cells past) && (is_free past b c m s && not (is_on_air (presence past b c m s)))) && is_the (wanted past b w c) s) =
-        ap (λ (n : ℕ). is_among c (cells past) && (is_the (wanted past b w c) s && (not (is_down past b c) && (not (is_held past b c n s) && not (is_on_air (presence past b c n s)))))) at_m
-        ∙ table (is_among c (cells past)) (is_the (wanted past b w c) s) (not (is_down past b c)) (not (is_held past b c m s)) (not (is_on_air (presence past b c m s))) in
+        let here : (is_among c (cells past) && (is_the (wanted past b w c) s && (not (is_down past (kind_of w) b c) && (not (is_held past b c w.message_id s) && not (is_on_air (presence past b c w.message_id s)))))) ≡ ((is_among c (cells past) && (is_free_for past (kind_of w) b c m s && not (is_on_air (presence past b c m s)))) && is_the (wanted past b w c) s) =
+        ap (λ (n : ℕ). is_among c (cells past) && (is_the (wanted past b w c) s && (not (is_down past (kind_of w) b c) && (not (is_held past b c n s) && not (is_on_air (presence past b c n s)))))) at_m
+        ∙ table (is_among c (cells past)) (is_the (wanted past b w c) s) (not (is_down past (kind_of w) b c)) (not (is_held past b c m s)) (not (is_on_air (presence past b c m s))) in
         rw e here
-    step false e = rw e (sym (and_none (is_among c (cells past) && (is_free past b c m s && not (is_on_air (presence past b c m s))))))
+    step false e = rw e (sym (and_none (is_among c (cells past) && (is_free_for past (kind_of w) b c m s && not (is_on_air (presence past b c m s))))))
 
-clears_at : (past : Past) (b : ℕ) (c : Cell) (m s : ℕ) (w : Warning) → (nat_eq w.message_id m && (is_among c (cells past) && does (clearing s) (seen past b w c))) ≡ ((is_among c (cells past) && (is_free past b c m s && not (is_absent (presence past b c m s)))) && (has_key m s w && not (plans past b c m s w)))
+clears_at : (past : Past) (b : ℕ) (c : Cell) (m s : ℕ) (w : Warning) → (nat_eq w.message_id m && (is_among c (cells past) && does (clearing s) (seen past b w c))) ≡ ((is_among c (cells past) && (is_free_for past (kind_of w) b c m s && not (is_absent (presence past b c m s)))) && (has_key m s w && not (plans past b c m s w)))
 clears_at past b c m s w =
     ap (λ t. nat_eq w.message_id m && (is_among c (cells past) && t)) (does_clearing (seen past b w c) s)
     ∙ ap (λ t. nat_eq w.message_id m && (is_among c (cells past) && (t && is_surplus (seen past b w c) s))) (any_image (λ n. nat_eq n s) (λ (v : Version). v.serial) w.versions)
@@ -85,22 +91,14 @@ clears_at past b c m s w =
     table true false up p free a = sym (and_none ((up && free) && a))
     table false v up p free a = refl
 
-    step : (t : Bool) → nat_eq w.message_id m ≡ t → (nat_eq w.message_id m && (is_among c (cells past) && (list_any (is_version s) w.versions && (not (is_down past b c) && (not (is_the (wanted past b w c) s) && (not (is_held past b c w.message_id s) && not (is_absent (presence past b c w.message_id s)))))))) ≡ ((is_among c (cells past) && (is_free past b c m s && not (is_absent (presence past b c m s)))) && (has_key m s w && not (plans past b c m s w)))
+    step : (t : Bool) → nat_eq w.message_id m ≡ t → (nat_eq w.message_id m && (is_among c (cells past) && (list_any (is_version s) w.versions && (not (is_down past (kind_of w) b c) && (not (is_the (wanted past b w c) s) && (not (is_held past b c w.message_id s) && not (is_absent (presence past b c w.message_id s)))))))) ≡ ((is_among c (cells past) && (is_free_for past (kind_of w) b c m s && not (is_absent (presence past b c m s)))) && (has_key m s w && not (plans past b c m s w)))
     step true e =
         let at_m : w.message_id ≡ m = eqb-true w.message_id m e in
-        let here : (is_among c (cells past) && (list_any (is_version s) w.versions && (not (is_down past b c) && (not (is_the (wanted past b w c) s) && (not (is_held past b c w.message_id s) && not (is_absent (presence past b c w.message_id s))))))) ≡ ((is_among c (cells past) && (is_free past b c m s && not (is_absent (presence past b c m s)))) && (list_any (is_version s) w.versions && not (is_the (wanted past b w c) s))) =
-        ap (λ (n : ℕ). is_among c (cells past) && (list_any (is_version s) w.versions && (not (is_down past b c) && (not (is_the (wanted past b w c) s) && (not (is_held past b c n s) && not (is_absent (presence past b c n s))))))) at_m
-        ∙ table (is_among c (cells past)) (list_any (is_version s) w.versions) (not (is_down past b c)) (not (is_the (wanted past b w c) s)) (not (is_held past b c m s)) (not (is_absent (presence past b c m s))) in
+        let here : (is_among c (cells past) && (list_any (is_version s) w.versions && (not (is_down past (kind_of w) b c) && (not (is_the (wanted past b w c) s) && (not (is_held past b c w.message_id s) && not (is_absent (presence past b c w.message_id s))))))) ≡ ((is_among c (cells past) && (is_free_for past (kind_of w) b c m s && not (is_absent (presence past b c m s)))) && (list_any (is_version s) w.versions && not (is_the (wanted past b w c) s))) =
+        ap (λ (n : ℕ). is_among c (cells past) && (list_any (is_version s) w.versions && (not (is_down past (kind_of w) b c) && (not (is_the (wanted past b w c) s) && (not (is_held past b c n s) && not (is_absent (presence past b c n s))))))) at_m
+        ∙ table (is_among c (cells past)) (list_any (is_version s) w.versions) (not (is_down past (kind_of w) b c)) (not (is_the (wanted past b w c) s)) (not (is_held past b c m s)) (not (is_absent (presence past b c m s))) in
         rw e here
-    step false e = rw e (sym (and_none (is_among c (cells past) && (is_free past b c m s && not (is_absent (presence past b c m s))))))
-
--- the pending orders put a key on air just where it is planned, free and not on air
-pub airs_pending : (past : Past) (b : ℕ) (c : Cell) (m s : ℕ) → list_any (airs c m s) (pending past b) ≡ ((is_among c (cells past) && (is_free past b c m s && not (is_on_air (presence past b c m s)))) && planned past b c m s)
-airs_pending past b c m s =
-    any_pending (airing s) c m past b
-    ∙ any_all (airing s) c m past b
-    ∙ any_same (λ w. nat_eq w.message_id m && (is_among c (cells past) && does (airing s) (seen past b w c))) (λ w. (is_among c (cells past) && (is_free past b c m s && not (is_on_air (presence past b c m s)))) && plans past b c m s w) (airs_at past b c m s) (warnings_of past)
-    ∙ any_pulled (is_among c (cells past) && (is_free past b c m s && not (is_on_air (presence past b c m s)))) (plans past b c m s) (warnings_of past)
+    step false e = rw e (sym (and_none (is_among c (cells past) && (is_free_for past (kind_of w) b c m s && not (is_absent (presence past b c m s))))))
 
 -- what is the serial number is there
 pub the_some : (o : Option ℕ) (s : ℕ) → is_the o s ≡ true → o ≡ Some s
@@ -120,13 +118,21 @@ key_of_plan past b c m s w h =
     let parts = and_parts (nat_eq w.message_id m) (is_the (wanted past b w c) s) h in
     and_from (nat_eq w.message_id m) (list_any (is_version s) w.versions) parts.0 (wanted_version past b w c s parts.1)
 
+-- the pending orders put a key on air just where it is planned, free and not on air
+pub airs_pending : (settings : Settings) (past : Past) → Legal settings past → (b : ℕ) (c : Cell) (m s : ℕ) → list_any (airs c m s) (pending past b) ≡ ((is_among c (cells past) && (is_free past b c m s && not (is_on_air (presence past b c m s)))) && planned past b c m s)
+airs_pending settings past legal b c m s =
+    any_pending (airing s) c m past b
+    ∙ any_all (airing s) c m past b
+    ∙ any_same (λ w. nat_eq w.message_id m && (is_among c (cells past) && does (airing s) (seen past b w c))) (λ w. (is_among c (cells past) && (is_free_for past (kind_of w) b c m s && not (is_on_air (presence past b c m s)))) && plans past b c m s w) (airs_at past b c m s) (warnings_of past)
+    ∙ any_by_kind (λ k. is_among c (cells past) && (is_free_for past k b c m s && not (is_on_air (presence past b c m s)))) m s (plans past b c m s) (key_of_plan past b c m s) (warnings_of past) (unique (book_of past) (legal_sound settings past legal) m s)
+
 -- and take a key of the book off just where it is not planned, free and not absent
 pub clears_pending : (settings : Settings) (past : Past) → Legal settings past → (b : ℕ) (c : Cell) (m s : ℕ) → is_key past m s ≡ true → list_any (clears c m s) (pending past b) ≡ ((is_among c (cells past) && (is_free past b c m s && not (is_absent (presence past b c m s)))) && not (planned past b c m s))
 clears_pending settings past legal b c m s key =
     any_pending (clearing s) c m past b
     ∙ any_all (clearing s) c m past b
-    ∙ any_same (λ w. nat_eq w.message_id m && (is_among c (cells past) && does (clearing s) (seen past b w c))) (λ w. (is_among c (cells past) && (is_free past b c m s && not (is_absent (presence past b c m s)))) && (has_key m s w && not (plans past b c m s w))) (clears_at past b c m s) (warnings_of past)
-    ∙ any_pulled (is_among c (cells past) && (is_free past b c m s && not (is_absent (presence past b c m s)))) (λ w. has_key m s w && not (plans past b c m s w)) (warnings_of past)
+    ∙ any_same (λ w. nat_eq w.message_id m && (is_among c (cells past) && does (clearing s) (seen past b w c))) (λ w. (is_among c (cells past) && (is_free_for past (kind_of w) b c m s && not (is_absent (presence past b c m s)))) && (has_key m s w && not (plans past b c m s w))) (clears_at past b c m s) (warnings_of past)
+    ∙ any_by_kind (λ k. is_among c (cells past) && (is_free_for past k b c m s && not (is_absent (presence past b c m s)))) m s (λ w. has_key m s w && not (plans past b c m s w)) (λ w g. (and_parts (has_key m s w) (not (plans past b c m s w)) g).0) (warnings_of past) (unique (book_of past) (legal_sound settings past legal) m s)
     ∙ ap (λ t. (is_among c (cells past) && (is_free past b c m s && not (is_absent (presence past b c m s)))) && t) (one_other (has_key m s) (plans past b c m s) (key_of_plan past b c m s) (warnings_of past) (unique (book_of past) (legal_sound settings past legal) m s))
     ∙ ap (λ t. (is_among c (cells past) && (is_free past b c m s && not (is_absent (presence past b c m s)))) && (t && not (planned past b c m s))) key
 
@@ -161,14 +167,14 @@ decided k p x y false after ex ey kq kp airs_it clears_it = off p x y ex ey kp c
     off OnAir u v e f known g = g (e ∙ and_none (k && false)) ∙ ap (λ t. cond t Absent OnAir) (f ∙ ap (λ t. (t && true) && true) (known refl))
     off Unknown u v e f known g = g (e ∙ and_none (k && true)) ∙ ap (λ t. cond t Absent Unknown) (f ∙ ap (λ t. (t && true) && true) (known refl))
 
-free_from : (past : Past) (b : ℕ) (c : Cell) (m s : ℕ) → is_down past b c ≡ false → is_held past b c m s ≡ false → is_free past b c m s ≡ true
-free_from past b c m s up free = and_from (not (is_down past b c)) (not (is_held past b c m s)) (ap not up) (ap not free)
+free_from : (past : Past) (b : ℕ) (c : Cell) (m s : ℕ) → is_down past (key_kind past m s) b c ≡ false → is_held past b c m s ≡ false → is_free past b c m s ≡ true
+free_from past b c m s up free = and_from (not (is_down past (key_kind past m s) b c)) (not (is_held past b c m s)) (ap not up) (ap not free)
 
 pub pending_gives_plan : (settings : Settings) (past : Past) → Legal settings past → PendingGivesPlan past
 pending_gives_plan settings past legal = record {
   each = λ b c m s key up free.
       decided (is_among c (cells past)) (presence past b c m s) (list_any (airs c m s) (pending past b)) (list_any (clears c m s) (pending past b)) (planned past b c m s) (applied (pending past b) c m s (presence past b c m s))
-      (airs_pending past b c m s ∙ ap (λ t. (is_among c (cells past) && (t && not (is_on_air (presence past b c m s)))) && planned past b c m s) (free_from past b c m s up free))
+      (airs_pending settings past legal b c m s ∙ ap (λ t. (is_among c (cells past) && (t && not (is_on_air (presence past b c m s)))) && planned past b c m s) (free_from past b c m s up free))
       (clears_pending settings past legal b c m s key ∙ ap (λ t. (is_among c (cells past) && (t && not (is_absent (presence past b c m s)))) && not (planned past b c m s)) (free_from past b c m s up free))
       (planned_known past (legal_unfolded settings past legal) b c m s (warnings_of past)) (known_presence settings past legal b c m s)
       (applied_airs (pending past b) c m s (presence past b c m s)) (applied_clears (pending past b) c m s (presence past b c m s));

@@ -37,7 +37,7 @@ use Rattle.centre_events.specs.Presence.{presence, hold, effect}
 use Rattle.centre_events.specs.Reported.{names_serial, flight_names, is_in_flight, is_present, is_reported_in, is_reported_at, is_reported}
 use Rattle.centre_events.specs.Settings.{Settings}
 use Rattle.centre_events.specs.Verdict.{verdict, answered, forget_checks}
-use Rattle.centre_events.specs.Warnings.{warnings_of, book_of, book_then, serials, is_version, has_key, is_key}
+use Rattle.centre_events.specs.Warnings.{warnings_of, book_of, book_then, serials, is_version, has_key, is_key, key_kind}
 use Rattle.coverage_plan.specs.Edited.{book_after, with_issue}
 use Rattle.centre_events.specs.declared.answer.Answer.{Answer}
 use Rattle.centre_events.specs.declared.answer.Answer.TheVariants as answer
@@ -298,14 +298,14 @@ reported settings past legal b c m s w h g =
         ∙ ap not h
 
 -- no warning is forgotten of which a key is on air, or may be, and with one that is its holds and numbers end
-mark_left : (settings : Settings) (before : Past) → Legal settings before → (e : Event) (a : Answer) (b : ℕ) (c : Cell) (m s n : ℕ) → verdict settings before e ≡ Ok a → e ≡ event.Edit (edit.Forget n) → marks_after (effect b c m s e a (is_up before b) (in_flight before b) (warnings_of before)) (count_mark b c m s e a (in_flight before b) (warnings_of before)) (presence before b c m s) (hold before b c m s) (count before b c m s) ≡ true → list_any (λ w. has_number n w && has_key m s w) (warnings_of before) ≡ false
+mark_left : (settings : Settings) (before : Past) → Legal settings before → (e : Event) (a : Answer) (b : ℕ) (c : Cell) (m s n : ℕ) → verdict settings before e ≡ Ok a → e ≡ event.Edit (edit.Forget n) → marks_after (effect (key_kind before m s) b c m s e a (is_up before b) (in_flight before b) (warnings_of before)) (count_mark b c m s e a (in_flight before b) (warnings_of before)) (presence before b c m s) (hold before b c m s) (count before b c m s) ≡ true → list_any (λ w. has_number n w && has_key m s w) (warnings_of before) ≡ false
 mark_left settings before legal e a b c m s n v is h = step (list_any (λ w. has_number n w && has_key m s w) (warnings_of before)) refl marked
   where
     forgotten : answered settings.network before (event.Edit (edit.Forget n)) ≡ Ok a
     forgotten = sym (ap (answered settings.network before) is) ∙ verdict_answered settings before e a v
 
-    marked : marks_after (effect b c m s (event.Edit (edit.Forget n)) a (is_up before b) (in_flight before b) (warnings_of before)) (count_mark b c m s (event.Edit (edit.Forget n)) a (in_flight before b) (warnings_of before)) (presence before b c m s) (hold before b c m s) (count before b c m s) ≡ true
-    marked = sym (ap (λ x. marks_after (effect b c m s x a (is_up before b) (in_flight before b) (warnings_of before)) (count_mark b c m s x a (in_flight before b) (warnings_of before)) (presence before b c m s) (hold before b c m s) (count before b c m s)) is) ∙ h
+    marked : marks_after (effect (key_kind before m s) b c m s (event.Edit (edit.Forget n)) a (is_up before b) (in_flight before b) (warnings_of before)) (count_mark b c m s (event.Edit (edit.Forget n)) a (in_flight before b) (warnings_of before)) (presence before b c m s) (hold before b c m s) (count before b c m s) ≡ true
+    marked = sym (ap (λ x. marks_after (effect (key_kind before m s) b c m s x a (is_up before b) (in_flight before b) (warnings_of before)) (count_mark b c m s x a (in_flight before b) (warnings_of before)) (presence before b c m s) (hold before b c m s) (count before b c m s)) is) ∙ h
 
     step : (t : Bool) → list_any (λ w. has_number n w && has_key m s w) (warnings_of before) ≡ t → marks_after (if t then Frees else Leaves) (if t then Some 0 else None) (presence before b c m s) (hold before b c m s) (count before b c m s) ≡ true → list_any (λ w. has_number n w && has_key m s w) (warnings_of before) ≡ false
     step true f g =
@@ -316,7 +316,7 @@ pub marked_key : (settings : Settings) (past : Past) → Legal settings past →
 marked_key settings (From base) legal b c m s h = no_mark base b c m s (list_any (has_key m s) base.book.warnings) legal h
 marked_key settings (After e before) legal b c m s h =
     key_event e.event before m s (λ n is. mark_left settings before legal.1 e.event e.answer b c m s n legal.0 is h)
-    (event_marks (is_key before m s) b c m s e.event e.answer (is_up before b) (in_flight before b) (warnings_of before) (presence before b c m s) (hold before b c m s) (count before b c m s) (λ n. named_flight settings before legal.1 b m s (key_named (in_flight before b) c m s n)) (marked_key settings before legal.1 b c m s) h)
+    (event_marks (is_key before m s) (key_kind before m s) b c m s e.event e.answer (is_up before b) (in_flight before b) (warnings_of before) (presence before b c m s) (hold before b c m s) (count before b c m s) (λ n. named_flight settings before legal.1 b m s (key_named (in_flight before b) c m s n)) (marked_key settings before legal.1 b c m s) h)
 
 -- a key that no warning in the book has is nowhere on air, and nowhere held, and was broadcast nowhere
 

@@ -9,6 +9,7 @@ pub mod GroupingLemmas
 pub mod ActingLemmas
 pub mod UniqueLemmas
 pub mod CountLemmas
+pub mod KindLemmas
 pub mod KnownLemmas
 pub mod HeadlineLemmas
 pub mod RegisterLemmas

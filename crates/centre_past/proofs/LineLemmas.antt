@@ -17,12 +17,14 @@ use Rattle.mirror.specs.declared.line_key.LineKey.{LineKey}
 use Rattle.mirror.specs.declared.presence.Presence.{Presence}
 use Rattle.mirror.specs.declared.presence.Presence.TheVariants.{Absent, OnAir, Unknown}
 use Rattle.serials.specs.Serials.{update_of}
-use Rattle.warning_book.specs.Book.{has_number, current_of, warning_of}
+use Rattle.warning_book.specs.Book.{has_number, current_of, first_kind, kind_of, warning_of}
 use Rattle.warning_book.specs.declared.version.Version.{Version}
+use Rattle.warning_book.specs.declared.kind.Kind.{Kind}
+use Rattle.warning_book.specs.declared.kind.Kind.TheVariants as kind
 use Rattle.warning_book.specs.declared.warning.Warning.{Warning}
 use Rattle.centre_events.specs.Counts.{count}
 use Rattle.centre_events.specs.Cover.{covers, is_covered}
-use Rattle.centre_events.specs.Down.{is_down}
+use Rattle.centre_events.specs.Down.{is_down, is_down_for_some}
 use Rattle.centre_events.specs.Facts.{key_state, version_at, version_state, line_of}
 use Rattle.centre_past.specs.Facts.{facts_of, facts}
 use Rattle.centre_events.specs.Known.{is_marked, has_mark, is_known}
@@ -113,12 +115,12 @@ same_wanted past new b c w areas here same = λ i. if w.active && (here i && cov
     covered = covered_by (λ a. covers past a c) w.areas ∙ ap has_areas same ∙ sym (covered_by (λ a. covers new a c) areas)
 
 -- where the place, what is down and the keys of the versions are as before, and the areas that cover the cell
-pub same_areas : (past new : Past) (b : ℕ) (c : Cell) (w : Warning) (areas : List (List ℕ)) → is_place (place past c) b ≡ is_place (place new c) b → filter (λ a. covers past a c) w.areas ≡ filter (λ a. covers new a c) areas → is_down past b c ≡ is_down new b c → ((s : ℕ) → list_any (is_version s) w.versions ≡ true → key_state new b c w.message_id s ≡ key_state past b c w.message_id s) → SamePart (facts_of past b c (Some w)) (facts_of new b c (Some (record w { areas = areas })))
+pub same_areas : (past new : Past) (b : ℕ) (c : Cell) (w : Warning) (areas : List (List ℕ)) → is_place (place past c) b ≡ is_place (place new c) b → filter (λ a. covers past a c) w.areas ≡ filter (λ a. covers new a c) areas → is_down past (kind_of w) b c ≡ is_down new (kind_of w) b c → ((s : ℕ) → list_any (is_version s) w.versions ≡ true → key_state new b c w.message_id s ≡ key_state past b c w.message_id s) → SamePart (facts_of past b c (Some w)) (facts_of new b c (Some (record w { areas = areas })))
 same_areas past new b c w areas here same down keys =
     same_when (facts_of past b c (Some w)) (facts_of new b c (Some (record w { areas = areas }))) (same_line past new b c w keys) refl refl (same_wanted past new b c w areas here same) down same here
 
 -- where the warning has its areas still
-pub same_kept : (past new : Past) (b : ℕ) (c : Cell) (w : Warning) → is_place (place past c) b ≡ is_place (place new c) b → filter (λ a. covers past a c) w.areas ≡ filter (λ a. covers new a c) w.areas → is_down past b c ≡ is_down new b c → ((s : ℕ) → list_any (is_version s) w.versions ≡ true → key_state new b c w.message_id s ≡ key_state past b c w.message_id s) → SamePart (facts_of past b c (Some w)) (facts_of new b c (Some w))
+pub same_kept : (past new : Past) (b : ℕ) (c : Cell) (w : Warning) → is_place (place past c) b ≡ is_place (place new c) b → filter (λ a. covers past a c) w.areas ≡ filter (λ a. covers new a c) w.areas → is_down past (kind_of w) b c ≡ is_down new (kind_of w) b c → ((s : ℕ) → list_any (is_version s) w.versions ≡ true → key_state new b c w.message_id s ≡ key_state past b c w.message_id s) → SamePart (facts_of past b c (Some w)) (facts_of new b c (Some w))
 same_kept past new b c w here same down keys = same_areas past new b c w w.areas here same down keys
 
 -- where no warning has the number
@@ -139,7 +141,7 @@ quiet_apart past b c w h =
     unaired (facts_of past b c (Some w)) (ap (λ t. is_place (place past c) b && t) (sym (covered_by (λ a. covers past a c) w.areas)) ∙ h)
 
 -- where the cell is away from its BSC, or not covered, both before and after, and the warning has the same versions
-pub same_idle : (past new : Past) (b : ℕ) (c : Cell) (v w : Warning) → (is_place (place past c) b && is_covered past v.areas c) ≡ false → (is_place (place new c) b && is_covered new w.areas c) ≡ false → line_of past b c v ≡ line_of new b c w → v.message_id ≡ w.message_id → serials v ≡ serials w → is_down past b c ≡ is_down new b c → SamePart (facts_of past b c (Some v)) (facts_of new b c (Some w))
+pub same_idle : (past new : Past) (b : ℕ) (c : Cell) (v w : Warning) → (is_place (place past c) b && is_covered past v.areas c) ≡ false → (is_place (place new c) b && is_covered new w.areas c) ≡ false → line_of past b c v ≡ line_of new b c w → v.message_id ≡ w.message_id → serials v ≡ serials w → is_down past (kind_of v) b c ≡ is_down new (kind_of w) b c → SamePart (facts_of past b c (Some v)) (facts_of new b c (Some w))
 same_idle past new b c v w before after line id versions down =
     same_unwanted (facts_of past b c (Some v)) (facts_of new b c (Some w)) [] line id down (not_wanted past b c v (idle_apart past b c v before)) (not_wanted new b c w (idle_apart new b c w after)) (quiet_apart past b c v before) (quiet_apart new b c w after) (append-nil (serials v) ∙ versions) refl
 
@@ -165,7 +167,7 @@ version_more u (v ∷ vs) x = step (version_more u vs x) (nat_eq (update_of v.se
     step rest false = rest
 
 -- where it has one version more, of another update number, whose key is blank
-pub same_next : (past new : Past) (b : ℕ) (c : Cell) (w : Warning) (x : Version) → (is_place (place past c) b && is_covered past w.areas c) ≡ false → (is_place (place new c) b && is_covered new w.areas c) ≡ false → is_down past b c ≡ is_down new b c → ((s : ℕ) → key_state new b c w.message_id s ≡ key_state past b c w.message_id s) → version_at w.versions (update_of x.serial) ≡ None → key_state past b c w.message_id x.serial ≡ blank → SamePart (facts_of past b c (Some w)) (facts_of new b c (Some (record w { versions = w.versions ++ x ∷ [] })))
+pub same_next : (past new : Past) (b : ℕ) (c : Cell) (w : Warning) (x : Version) → (is_place (place past c) b && is_covered past w.areas c) ≡ false → (is_place (place new c) b && is_covered new w.areas c) ≡ false → is_down past (kind_of w) b c ≡ is_down new (first_kind (w.versions ++ x ∷ [])) b c → ((s : ℕ) → key_state new b c w.message_id s ≡ key_state past b c w.message_id s) → version_at w.versions (update_of x.serial) ≡ None → key_state past b c w.message_id x.serial ≡ blank → SamePart (facts_of past b c (Some w)) (facts_of new b c (Some (record w { versions = w.versions ++ x ∷ [] })))
 same_next past new b c w x before after down keys apart fresh =
     same_unwanted (facts_of past b c (Some w)) (facts_of new b c (Some longer)) (x.serial ∷ []) line refl down (not_wanted past b c w (idle_apart past b c w before)) (not_wanted new b c longer (idle_apart new b c longer after)) (quiet_apart past b c w before) (quiet_apart new b c longer after) (sym (map_joined (λ (v : Version). v.serial) w.versions (x ∷ [])))
     (ap (λ (k : KeyState). is_absent k.presence && true) (state_none past b c w x.serial apart))
@@ -205,18 +207,26 @@ found_passes p q (v ∷ ws) w h g = step (found_passes p q ws w) (p v) h
     step rest false e = or_right (q v) (list_any q ws) (rest e g)
 
 pub not_placed : (past : Past) (b : ℕ) (c : Cell) → is_known past b c ≡ false → is_place (place past c) b ≡ false
-not_placed past b c h = (or_parts (is_place (place past c) b) (is_down past b c || list_any (has_mark past b c) (warnings_of past)) h).0
+not_placed past b c h = (or_parts (is_place (place past c) b) (is_down_for_some past b c || list_any (has_mark past b c) (warnings_of past)) h).0
 
-pub not_down : (past : Past) (b : ℕ) (c : Cell) → is_known past b c ≡ false → is_down past b c ≡ false
-not_down past b c h =
-    (or_parts (is_down past b c) (list_any (has_mark past b c) (warnings_of past)) (or_parts (is_place (place past c) b) (is_down past b c || list_any (has_mark past b c) (warnings_of past)) h).1).0
+pub not_down : (past : Past) (k : Kind) (b : ℕ) (c : Cell) → is_known past b c ≡ false → is_down past k b c ≡ false
+not_down past k b c h = step k
+  where
+    neither : (is_down past kind.Cbs b c ≡ false) × (is_down past kind.Emergency b c ≡ false)
+    neither =
+        or_parts (is_down past kind.Cbs b c) (is_down past kind.Emergency b c)
+        (or_parts (is_down_for_some past b c) (list_any (has_mark past b c) (warnings_of past)) (or_parts (is_place (place past c) b) (is_down_for_some past b c || list_any (has_mark past b c) (warnings_of past)) h).1).0
+
+    step : (j : Kind) → is_down past j b c ≡ false
+    step kind.Cbs = neither.0
+    step kind.Emergency = neither.1
 
 -- the keys of the versions of each warning in the book are blank there
 pub unknown_blank : (past : Past) (b : ℕ) (c : Cell) (n : ℕ) (w : Warning) → is_known past b c ≡ false → warning_of (book_of past) n ≡ Some w → (s : ℕ) → list_any (is_version s) w.versions ≡ true → key_state past b c w.message_id s ≡ blank
 unknown_blank past b c n w h found s there = unmarked past b c w.message_id s (contrary (is_marked past b c w.message_id s) (list_any (has_mark past b c) (warnings_of past)) in_book none)
   where
     none : list_any (has_mark past b c) (warnings_of past) ≡ false
-    none = (or_parts (is_down past b c) (list_any (has_mark past b c) (warnings_of past)) (or_parts (is_place (place past c) b) (is_down past b c || list_any (has_mark past b c) (warnings_of past)) h).1).1
+    none = (or_parts (is_down_for_some past b c) (list_any (has_mark past b c) (warnings_of past)) (or_parts (is_place (place past c) b) (is_down_for_some past b c || list_any (has_mark past b c) (warnings_of past)) h).1).1
 
     in_book : is_marked past b c w.message_id s ≡ true → list_any (has_mark past b c) (warnings_of past) ≡ true
     in_book marked =

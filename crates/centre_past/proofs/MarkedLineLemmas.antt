@@ -23,10 +23,11 @@ use Rattle.serials.specs.Serials.{update_of}
 use Rattle.warning_book.specs.Book as book
 use Rattle.warning_book.specs.Book.{has_number, number_lt, warning_of}
 use Rattle.warning_book.specs.Sound.{IsCounted, are_counted, counts_updates}
+use Rattle.warning_book.specs.declared.kind.Kind.TheVariants as kind
 use Rattle.warning_book.specs.declared.version.Version.{Version}
 use Rattle.warning_book.specs.declared.warning.Warning.{Warning}
 use Rattle.centre_events.specs.Counts.{count}
-use Rattle.centre_events.specs.Down.{is_down}
+use Rattle.centre_events.specs.Down.{is_down, is_down_for_some}
 use Rattle.centre_events.specs.Facts.{key_state, version_at, version_state, line_of}
 use Rattle.centre_past.specs.Facts.{facts_of}
 use Rattle.centre_events.specs.Known.{is_marked, has_mark, is_known}
@@ -207,6 +208,7 @@ has_line_same settings past r st t told tells b c = step (has_line t b c) refl (
 -- a cell is known at a BSC by what is kept just where the past says so
 pub known_same : (settings : Settings) (past : Past) (r : State) (st : book.State) (t : Table) → Told settings past r st t → TellsLines t → (b : ℕ) (c : Cell) → kept.is_known t r b c ≡ is_known past b c
 known_same settings past r st t told tells b c =
-    ap (λ o. is_place o b || (down_at t b c || has_line t b c)) (told.registered.places c)
-    ∙ ap (λ x. is_place (place past c) b || (x || has_line t b c)) (told.downs b c)
-    ∙ ap (λ x. is_place (place past c) b || (is_down past b c || x)) (has_line_same settings past r st t told tells b c)
+    ap (λ o. is_place o b || ((down_at t kind.Cbs b c || down_at t kind.Emergency b c) || has_line t b c)) (told.registered.places c)
+    ∙ ap (λ x. is_place (place past c) b || ((x || down_at t kind.Emergency b c) || has_line t b c)) (told.downs kind.Cbs b c)
+    ∙ ap (λ x. is_place (place past c) b || ((is_down past kind.Cbs b c || x) || has_line t b c)) (told.downs kind.Emergency b c)
+    ∙ ap (λ x. is_place (place past c) b || (is_down_for_some past b c || x)) (has_line_same settings past r st t told tells b c)

@@ -20,6 +20,7 @@ use Rattle.order_maker.specs.Grouping.{kind_eq}
 use Rattle.warning_book.specs.Book.{current_of, warning_of}
 use Rattle.warning_book.specs.VersionLaws.{current_among}
 use Rattle.warning_book.specs.declared.version.Version.{Version}
+use Rattle.warning_book.specs.declared.kind.Kind.TheVariants as kind
 use Rattle.warning_book.specs.declared.warning.Warning.{Warning}
 use Rattle.centre_events.specs.Down.{is_down}
 use Rattle.cell_register.specs.Register.{is_place}
@@ -93,7 +94,7 @@ pub owned : (settings : Settings) (past : Past) → Legal settings past → (ws 
 owned settings past legal ws wide = record { owns = λ k d h. step k d (warning_of (book_of past) k.warning) refl h }
   where
     step : (k : LineKey) (d : Deed) (o : Option Warning) → warning_of (book_of past) k.warning ≡ o → is_deed d (deeds_of (facts_of past k.bsc k.cell o)) ≡ true → owner_of ws d.message_id d.serial ≡ Some k.warning
-    step k d None e h = absurd (let no : is_deed d [] ≡ true = sym (ap (is_deed d) (deeds_of_none (is_down past k.bsc k.cell) (is_place (place past k.cell) k.bsc))) ∙ h in cc)
+    step k d None e h = absurd (let no : is_deed d [] ≡ true = sym (ap (is_deed d) (deeds_of_none (is_down past kind.Cbs k.bsc k.cell) (is_place (place past k.cell) k.bsc))) ∙ h in cc)
     step k d (Some w) e h =
         let named = deeds_named (seen_of (facts_of past k.bsc k.cell (Some w))) d (wanted_among past k.bsc k.cell w) h in
         let parts = and_parts (nat_eq d.message_id w.message_id) (list_any (nat_eq d.serial) (serials w)) named in

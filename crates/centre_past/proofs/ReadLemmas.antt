@@ -6,7 +6,7 @@ use Rattle.std.proofs.lemmas.Grind.{flat_map-append}
 use Rattle.std.proofs.lemmas.List.{take_more}
 use Rattle.kept_tables.specs.ConsistentLaws.{same_tables}
 use Rattle.kept_tables.specs.Tables.{SameTables, Tables}
-use Rattle.mirror.specs.Table.{is_that_place}
+use Rattle.mirror.specs.Table.{downs_of, is_that_place}
 use Rattle.centre_past.specs.Facts.{facts}
 use Rattle.centre_past.specs.Idle.{AreKnownOf, AsBefore}
 use Rattle.centre_past.specs.IsKept.{IsKept, OnlyReadsIn}
@@ -26,7 +26,7 @@ reads_kept past s t kept reads = record {
   booked = reads.book ∙ kept.booked;
   linked = subst (λ ls. AreLinksOf past ls.items) (sym reads.links) kept.linked;
   flying = subst (λ fs. AreFlightsOf past fs.items) (sym reads.flights) kept.flying;
-  downs = λ b c. ap (list_any (is_that_place b c)) reads.tables.downs ∙ kept.downs b c;
+  downs = λ k b c. ap (λ downs. list_any (is_that_place b c) (downs_of k downs)) reads.tables.downs ∙ kept.downs k b c;
   tables = same_tables s.tables t.tables (facts past) reads.tables.same kept.tables;
 }
 

@@ -156,7 +156,7 @@ cells_there past r b sound kept = step (register.has_cells r b) refl (has_cells 
 
 -- What is refused.
 
-add_bsc_same : (past : Past) (r : State) (b : ℕ) → IsRegister r → IsRegisterOf past r → translated of_register (register.add_bsc_checks r b) ≡ add_bsc_checks past b
+pub add_bsc_same : (past : Past) (r : State) (b : ℕ) → IsRegister r → IsRegisterOf past r → translated of_register (register.add_bsc_checks r b) ≡ add_bsc_checks past b
 add_bsc_same past r b sound kept = rw (kept.bscs b, bscs_counted past r sound kept) refl
 
 pub add_bsc_taken : (past : Past) (r : State) (b : ℕ) → IsRegister r → IsRegisterOf past r → first_refusal (register.add_bsc_checks r b) ≡ None → add_bsc past b ≡ Ok answer.Done
@@ -165,7 +165,7 @@ add_bsc_taken past r b sound kept h = ap (λ cs. unless cs (Ok answer.Done)) (sy
 pub add_bsc_refused : (past : Past) (r : State) (b : ℕ) (e : register_refusal.Refusal) → IsRegister r → IsRegisterOf past r → (first_refusal (register.add_bsc_checks r b) ≡ Some e) ⊎ ((e ≡ register_refusal_is.Memory) × (first_refusal (register.add_bsc_checks r b) ≡ None)) → Gives (add_bsc past b) (Err (of_register e))
 add_bsc_refused past r b e sound kept h = subst (λ cs. Gives (unless cs (Ok answer.Done)) (Err (of_register e))) (add_bsc_same past r b sound kept) (given of_register register_refusal_is.Memory refl (register.add_bsc_checks r b) (Ok answer.Done) e (λ n. refl) h)
 
-add_cell_same : (past : Past) (r : State) (c : Cell) (b : ℕ) → IsRegister r → IsRegisterOf past r → translated of_register (register.add_cell_checks r c b) ≡ add_cell_checks past c b
+pub add_cell_same : (past : Past) (r : State) (c : Cell) (b : ℕ) → IsRegister r → IsRegisterOf past r → translated of_register (register.add_cell_checks r c b) ≡ add_cell_checks past c b
 add_cell_same past r c b sound kept = rw (kept.bscs b, kept.places c, cells_counted past r sound kept) refl
 
 pub add_cell_taken : (past : Past) (r : State) (c : Cell) (b : ℕ) → IsRegister r → IsRegisterOf past r → first_refusal (register.add_cell_checks r c b) ≡ None → add_cell past c b ≡ Ok answer.Done
@@ -178,7 +178,7 @@ same_place : (o : Option ℕ) (b : ℕ) → register.is_place o b ≡ is_place o
 same_place None b = refl
 same_place (Some d) b = refl
 
-move_cell_same : (past : Past) (r : State) (c : Cell) (b : ℕ) → IsRegisterOf past r → translated of_register (register.move_cell_checks r c b) ≡ move_cell_checks past c b
+pub move_cell_same : (past : Past) (r : State) (c : Cell) (b : ℕ) → IsRegisterOf past r → translated of_register (register.move_cell_checks r c b) ≡ move_cell_checks past c b
 move_cell_same past r c b kept = rw (kept.bscs b, kept.places c, same_place (place past c) b) refl
 
 pub move_cell_taken : (past : Past) (r : State) (c : Cell) (b : ℕ) → IsRegisterOf past r → first_refusal (register.move_cell_checks r c b) ≡ None → move_cell past c b ≡ Ok answer.Done
@@ -187,7 +187,7 @@ move_cell_taken past r c b kept h = ap (λ cs. unless cs (Ok answer.Done)) (sym 
 pub move_cell_refused : (past : Past) (r : State) (c : Cell) (b : ℕ) (e : register_refusal.Refusal) → IsRegisterOf past r → first_refusal (register.move_cell_checks r c b) ≡ Some e → move_cell past c b ≡ Err (of_register e)
 move_cell_refused past r c b e kept h = ap (λ cs. unless cs (Ok answer.Done)) (sym (move_cell_same past r c b kept)) ∙ refused of_register (register.move_cell_checks r c b) (Ok answer.Done) e h
 
-remove_cell_same : (past : Past) (r : State) (c : Cell) → IsRegisterOf past r → translated of_register (register.remove_cell_checks r c) ≡ remove_cell_checks past c
+pub remove_cell_same : (past : Past) (r : State) (c : Cell) → IsRegisterOf past r → translated of_register (register.remove_cell_checks r c) ≡ remove_cell_checks past c
 remove_cell_same past r c kept = rw (kept.places c) refl
 
 pub remove_cell_taken : (past : Past) (r : State) (c : Cell) → IsRegisterOf past r → first_refusal (register.remove_cell_checks r c) ≡ None → remove_cell past c ≡ Ok answer.Done

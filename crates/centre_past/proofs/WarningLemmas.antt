@@ -57,7 +57,7 @@ none_found n (w ∷ ws) h = step (none_found n ws) (has_number n w) h
     step rest false g = rest g
 
 -- what is issued has a serial number, since a code is free
-issue_ok : (past : Past) (notice : Notice) (areas : List (List ℕ)) → first_refusal (book.issue_checks (book_of past) notice areas) ≡ None → IsOk (issue_answer ((book_of past).issued + 1) (new_serial (book_of past) notice))
+pub issue_ok : (past : Past) (notice : Notice) (areas : List (List ℕ)) → first_refusal (book.issue_checks (book_of past) notice areas) ≡ None → IsOk (issue_answer ((book_of past).issued + 1) (new_serial (book_of past) notice))
 issue_ok past notice areas h = step (new_serial (book_of past) notice) refl
   where
     none : NoneHolds (book.issue_checks (book_of past) notice areas)
@@ -80,7 +80,7 @@ found_not n f (v ∷ ws) w h g = step (found_not n f ws w) (has_number n v) h g
     step rest false e k = rest e k
 
 -- what is updated has a next serial number
-update_ok : (past : Past) (n : ℕ) (content : Content) → first_refusal (book.update_checks (book_of past) n content) ≡ None → IsOk (update_answer (next_serial (book_of past) n))
+pub update_ok : (past : Past) (n : ℕ) (content : Content) → first_refusal (book.update_checks (book_of past) n content) ≡ None → IsOk (update_answer (next_serial (book_of past) n))
 update_ok past n content h = step (warning_of (book_of past) n) refl
   where
     none : NoneHolds (book.update_checks (book_of past) n content)
@@ -95,7 +95,7 @@ update_ok past n content h = step (warning_of (book_of past) n) refl
 
     step : (o : Option Warning) → warning_of (book_of past) n ≡ o → IsOk (update_answer (option_map next_of (option_and_then current_of o)))
     step None e = absurd (let no : true ≡ false = sym there ∙ none_found n (book_of past).warnings e in cc)
-    step (Some w) e = next (current_of w) (found_not n is_exhausted (book_of past).warnings w e none.1.1.1.1.0)
+    step (Some w) e = next (current_of w) (found_not n is_exhausted (book_of past).warnings w e none.1.1.1.1.1.0)
 
 -- an area that is not there
 pub issue_elsewhere : (past : Past) (notice : Notice) (areas : List (List ℕ)) → list_any (λ a. not (is_area past a)) areas ≡ true → issue past notice areas ≡ Err refusal.NoSuchArea
@@ -248,7 +248,7 @@ sound_then network past other a h sound = sound
 -- the empty book is sound
 counted_empty : IsCounted empty
 counted_empty = record {
-  sound = record { ordered = refl; given = refl; few = omega arith; areas = refl; contents = refl; versions = refl; serials = refl; codes = refl; own_codes = refl };
+  sound = record { ordered = refl; given = refl; few = omega arith; areas = refl; contents = refl; versions = refl; serials = refl; codes = refl; own_codes = refl; kinds = refl };
   counted = refl;
 }
 

@@ -6,7 +6,8 @@ use Rattle.common.specs.declared.cell.Cell.{Cell}
 use Rattle.kept_tables.specs.Facts.{no_facts}
 use Rattle.kept_tables.specs.View.{View}
 use Rattle.kept_tables.specs.declared.line_facts.LineFacts.{LineFacts}
-use Rattle.warning_book.specs.Book.{warning_of}
+use Rattle.warning_book.specs.Book.{kind_of, warning_of}
+use Rattle.warning_book.specs.declared.kind.Kind.TheVariants as kind
 use Rattle.warning_book.specs.declared.warning.Warning.{Warning}
 use Rattle.centre_events.specs.Cover.{covers}
 use Rattle.centre_events.specs.Down.{is_down}
@@ -18,13 +19,13 @@ use Rattle.centre_events.specs.Warnings.{book_of, serials}
 
 -- what it says of the line of a warning, if the book has it
 abbrev pub facts_of : Past → ℕ → Cell → Option Warning → LineFacts
-facts_of past b c None = no_facts (is_down past b c) (is_place (place past c) b)
+facts_of past b c None = no_facts (is_down past kind.Cbs b c) (is_place (place past c) b)
 facts_of past b c (Some w) = record {
   line = line_of past b c w;
   message_id = w.message_id;
   versions = serials w;
   wanted = wanted past b w c;
-  down = is_down past b c;
+  down = is_down past (kind_of w) b c;
   areas = filter (λ a. covers past a c) w.areas;
   here = is_place (place past c) b;
   active = w.active;

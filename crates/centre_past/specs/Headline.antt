@@ -9,7 +9,7 @@ use Rattle.centre_events.specs.Past.{Past}
 use Rattle.centre_events.specs.Pending.{pending}
 use Rattle.centre_events.specs.Plan.{planned}
 use Rattle.centre_events.specs.Presence.{presence, is_held}
-use Rattle.centre_events.specs.Warnings.{is_key}
+use Rattle.centre_events.specs.Warnings.{is_key, key_kind}
 use Rattle.mirror.specs.declared.presence.Presence.{Presence}
 use Rattle.mirror.specs.declared.presence.Presence.TheVariants.{Absent, OnAir}
 use Rattle.order_maker.specs.declared.order.Order.{Order}
@@ -49,6 +49,6 @@ Agrees p true = p ≡ OnAir
 Agrees p false = p ≡ Absent
 
 -- the pending orders of each BSC, applied to what it has reported, give its part of the plan at each key of the book whose
--- cell is up there and that nothing holds back
+-- cell is up there for the kind of the key's warning, and that nothing holds back
 pub record PendingGivesPlan (past : Past) : Type 0 where
-  pub each : (b : ℕ) (c : Cell) (m s : ℕ) → is_key past m s ≡ true → is_down past b c ≡ false → is_held past b c m s ≡ false → Agrees (applied (pending past b) c m s (presence past b c m s)) (planned past b c m s)
+  pub each : (b : ℕ) (c : Cell) (m s : ℕ) → is_key past m s ≡ true → is_down past (key_kind past m s) b c ≡ false → is_held past b c m s ≡ false → Agrees (applied (pending past b) c m s (presence past b c m s)) (planned past b c m s)

@@ -11,16 +11,17 @@ use Rattle.centre_events.specs.Past.{Past}
 use Rattle.centre_past.specs.State.{AreLinksOf}
 use Rattle.centre_events.specs.Warnings.{book_of}
 use Rattle.centre_past.specs.declared.kept.Kept.{Kept}
+use Rattle.warning_book.specs.declared.kind.Kind.{Kind}
 
 -- What is kept is what the past says: of each BSC, cell and area the register, the areas, the links, what is in flight and
--- which cells are down, the book as a whole, and the tables line by line.
+-- which cells are down for warnings of each kind, the book as a whole, and the tables line by line.
 pub record IsKept (past : Past) (s : Kept) : Type 0 where
   pub registered : IsRegisterOf past s.register
   pub selected : AreAreasOf past s.areas
   pub booked : s.book ≡ book_of past
   pub linked : AreLinksOf past s.links.items
   pub flying : AreFlightsOf past s.flights.items
-  pub downs : (b : ℕ) (c : Cell) → down_at s.tables.lines b c ≡ is_down past b c
+  pub downs : (k : Kind) (b : ℕ) (c : Cell) → down_at s.tables.lines k b c ≡ is_down past k b c
   pub tables : Consistent s.tables (facts past)
 
 -- Nothing changes but how often lines were read.

@@ -15,6 +15,7 @@ use Rattle.mirror.specs.Line.{blank_line}
 use Rattle.mirror.specs.Table.{Table, line_at, has_line, down_at}
 use Rattle.mirror.specs.declared.line_key.LineKey.{LineKey}
 use Rattle.warning_book.specs.Book as book
+use Rattle.warning_book.specs.declared.kind.Kind.{Kind}
 use Rattle.centre_events.specs.Down.{is_down}
 use Rattle.centre_past.specs.Facts.{facts}
 use Rattle.centre_events.specs.InFlight.{in_flight}
@@ -55,7 +56,7 @@ pub record Told (settings : Settings) (past : Past) (r : register.State) (st : b
   pub legal : Legal settings past
   pub registered : IsRegisterOf past r
   pub booked : st ≡ book_of past
-  pub downs : (b : ℕ) (c : Cell) → down_at t b c ≡ is_down past b c
+  pub downs : (k : Kind) (b : ℕ) (c : Cell) → down_at t k b c ≡ is_down past k b c
   pub lines : (k : LineKey) → line_at t k.bsc k.cell k.warning ≡ (facts past k).line
 
 -- what holds of the lines of every table: a BSC has a line of a cell just where one of them isn't blank

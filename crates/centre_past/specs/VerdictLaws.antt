@@ -3,7 +3,7 @@ use Rattle.std.proofs.Common.{◌≡◌, ℕ, ◌+◌, Bool, true, false, ◌&&�
 use Rattle.cbsp_messages.specs.declared.message.Message.{Message}
 use Rattle.cbsp_messages.specs.declared.message.Message.TheVariants as message
 use Rattle.common.specs.declared.cell.Cell.{Cell}
-use Rattle.centre_events.specs.Asking.{asked_cells, query_of, version_query, warning_query}
+use Rattle.centre_events.specs.Asking.{asked_cells, query_of, query_of_kind, version_query, warning_query}
 use Rattle.centre_events.specs.InFlight.{in_flight}
 use Rattle.centre_events.specs.Past.{Past, entry_count, position}
 use Rattle.centre_events.specs.Pending.{pending}
@@ -21,7 +21,9 @@ use Rattle.centre_events.specs.declared.refusal.Refusal.{Refusal}
 use Rattle.centre_events.specs.declared.refusal.Refusal.TheVariants as refusal
 use Rattle.order_maker.specs.Grouping.{first}
 use Rattle.order_maker.specs.declared.order.Order.{Order}
-use Rattle.warning_book.specs.Book.{current_of, new_serial, next_serial, warning_of}
+use Rattle.warning_book.specs.Book.{current_of, kind_of, new_serial, next_serial, warning_of}
+use Rattle.warning_book.specs.declared.kind.Kind.{Kind}
+use Rattle.warning_book.specs.declared.kind.Kind.TheVariants as kind
 use Rattle.warning_book.specs.declared.warning.Warning.{Warning}
 
 -- the refusal is one of what is asked, and not of the centre's own state or of a desk's
@@ -76,7 +78,11 @@ version_given past b m (Some s) after = query_given m s (asked_cells past b m s 
 
 warning_given : (past : Past) (b : ℕ) (w : Option Warning) (after : Option Cell) → is_given (warning_query past b w after) ≡ true
 warning_given past b None after = refl
-warning_given past b (Some w) after = version_given past b w.message_id (current_of w) after
+warning_given past b (Some w) after = by_kind (kind_of w)
+  where
+    by_kind : (k : Kind) → is_given (query_of_kind k (version_query past b w.message_id (current_of w) after)) ≡ true
+    by_kind kind.Cbs = version_given past b w.message_id (current_of w) after
+    by_kind kind.Emergency = refl
 
 reply_given : (network : List ℕ) (m : Message) (f : Option InFlight) → is_given (reply_answer network m f) ≡ true
 reply_given network m None = refl
@@ -121,7 +127,11 @@ verdict_given settings past e =
       | false ↦ event_given settings.network past e
     ]
 
--- so it is never that memory ran out
+-- so it is never that the centre is stale
+pub verdict_is_no_stale : (settings : Settings) (past : Past) (e : Event) → verdict settings past e ≡ Err refusal.Stale → ⊥
+verdict_is_no_stale settings past e is = cc (sym (verdict_given settings past e) ∙ ap is_given is)
+
+-- nor is it that memory ran out
 pub verdict_is_no_want : (settings : Settings) (past : Past) (e : Event) → verdict settings past e ≡ Err refusal.Memory → ⊥
 verdict_is_no_want settings past e is = cc (sym (verdict_given settings past e) ∙ ap is_given is)
 

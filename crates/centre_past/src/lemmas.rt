@@ -18,7 +18,7 @@ ghost use Rattle.centre_events.specs.Kept.{IsRegisterOf, AreAreasOf};
 ghost use Rattle.centre_events.specs.Past.{Past, After, position};
 ghost use Rattle.centre_events.specs.Presence.{effect_at};
 ghost use Rattle.centre_events.specs.Settings.{Settings};
-ghost use Rattle.centre_events.specs.Warnings.{book_of, is_version};
+ghost use Rattle.centre_events.specs.Warnings.{book_of, is_version, kind_in};
 ghost use Rattle.centre_events.specs.Stepping.{stepped, updates_once, WasLine};
 ghost use Rattle.centre_past.specs.State.{AreLinksOf, links_after, facts_from};
 ghost use Rattle.centre_events.specs.declared.entry.Entry.{Entry};
@@ -31,7 +31,7 @@ fn links_with()
 
 #[tactic(auto, using(crate::proofs::FactsLemmas::facts_same))]
 fn facts_same()
-    ensures { (past : Past) (r : State) (l : List Area) (down : Bool) (b : ℕ) (c : Cell) (line : Line) (o : Option Warning) → IsRegisterOf past r → AreAreasOf past l → down ≡ is_down past b c → IsLineOf past b c line o → facts_from r l down b c line o ≡ facts_of past b c o }
+    ensures { (past : Past) (r : State) (l : List Area) (down : Bool) (b : ℕ) (c : Cell) (line : Line) (o : Option Warning) → IsRegisterOf past r → AreAreasOf past l → down ≡ is_down past (kind_in o) b c → IsLineOf past b c line o → facts_from r l down b c line o ≡ facts_of past b c o }
 {}
 
 #[tactic(auto, using(crate::proofs::StepLemmas::line_after))]

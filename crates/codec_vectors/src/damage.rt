@@ -1,109 +1,190 @@
-//! Damaged bodies: each has the fault that its damage makes.
+//! Damaged bodies: each has the fault that its damage makes, by the parts that the layout gives the whole body.
 
+use crate::faults::Named;
+use crate::layout::{
+    demanded, discriminators_of, elements_of, identification_size, places_of, value_size,
+};
 use anyhow::{Context, Result};
-use cbsp_ie::IeFault;
-use cbsp_messages::{MessageFault, read};
+use cbsp_messages::read;
 use std::alloc::Global;
 
-/// The octets of an element's value; a list says in its first two how many follow.
-fn value_size(id: u8, value: &[u8]) -> Option<usize> {
-    match (id, value) {
-        (0x01, _) => Some(83),
-        (0x02 | 0x03 | 0x06 | 0x07 | 0x0e | 0x10, _) => Some(2),
-        (0x05 | 0x0b | 0x0c | 0x0d | 0x0f | 0x12 | 0x13 | 0x16 | 0x17, _) => Some(1),
-        (0x11, _) => Some(50),
-        (0x04 | 0x08 | 0x09, [high, low, ..]) => {
-            Some(usize::from(u16::from_be_bytes([*high, *low])).saturating_add(2))
-        }
-        _ => None,
-    }
-}
-
-/// The elements of the body, each as its octets.
-fn elements_of(alloc: Global, body: &[u8]) -> Result<Vec<&[u8]>> {
-    let mut elements = Vec::new(alloc);
-    let mut rest = body;
-    for _ in 0..body.len() {
-        let [id, value @ ..] = rest else {
-            break;
-        };
-        let size = value_size(*id, value).context("an unknown element")?;
-        let (element, after) = rest
-            .split_at_checked(size.saturating_add(1))
-            .context("an element is cut")?;
-        elements.push(element)?;
-        rest = after;
-    }
-    Ok(elements)
-}
-
 /// The fault of the body, if it is no message.
-pub fn fault_of(alloc: Global, kind: u8, body: &[u8]) -> Option<MessageFault> {
+pub fn fault_of(alloc: Global, kind: u8, body: &[u8]) -> Option<Named> {
     match read(alloc, kind, body) {
         Ok(message) => {
             drop(message);
             None
         }
-        Err(fault) => Some(fault),
+        Err(fault) => Some(Named::of(fault)),
     }
 }
 
-/// The fault of the body with these octets after it.
-fn fault_with(alloc: Global, kind: u8, body: &[u8], more: &[u8]) -> Result<Option<MessageFault>> {
-    let mut octets = Vec::from_slice(alloc, body)?;
+/// The body with these octets put in at that place.
+fn with_more(alloc: Global, body: &[u8], place: usize, more: &[u8]) -> Result<Vec<u8>> {
+    let (front, back) = body.split_at_checked(place).context("no such place")?;
+    let mut octets = Vec::from_slice(alloc, front)?;
     octets.extend_from_slice(more)?;
-    Ok(fault_of(alloc, kind, octets.as_slice()))
+    octets.extend_from_slice(back)?;
+    Ok(octets)
 }
 
-/// Where the elements end, and the front.
-fn ends_of(alloc: Global, elements: &[&[u8]]) -> Result<Vec<usize>> {
-    let mut ends = Vec::new(alloc);
-    let mut end = 0usize;
-    ends.push(end)?;
-    for element in elements {
-        end = end.saturating_add(element.len());
-        ends.push(end)?;
+/// Puts another octet at that place.
+fn put(octets: &mut [u8], place: usize, octet: u8) {
+    if let Some(other) = octets.get_mut(place) {
+        *other = octet;
     }
-    Ok(ends)
 }
 
-/// A body cut inside an element is Cut, and one cut between two elements is not.
-fn is_cut_everywhere(alloc: Global, kind: u8, body: &[u8], elements: &[&[u8]]) -> Result<bool> {
-    let ends = ends_of(alloc, elements)?;
-    let mut part = Vec::from_slice(alloc, body)?;
-    for _ in 0..body.len() {
-        part.pop();
-        let is_cut = matches!(
-            fault_of(alloc, kind, part.as_slice()),
-            Some(MessageFault::Element(IeFault::Cut))
-        );
-        if is_cut == ends.contains(&part.len()) {
+/// A body that ends inside an element is Cut. So many octets stand before the element, and it has so many.
+fn is_cut_inside(alloc: Global, kind: u8, body: &[u8], before: usize, size: usize) -> bool {
+    for octets in 1..size {
+        let (front, _) = body.split_at(before.saturating_add(octets).min(body.len()));
+        if fault_of(alloc, kind, front) != Some(Named::CUT) {
+            return false;
+        }
+    }
+    true
+}
+
+/// How many of the elements have that identifier.
+fn count_of(elements: &[&[u8]], id: u8) -> usize {
+    let mut count = 0usize;
+    for element in elements {
+        if element.first() == Some(&id) {
+            count = count.saturating_add(1);
+        }
+    }
+    count
+}
+
+/// A WRITE-REPLACE of these elements is of the emergency form: one of them is an Emergency Indicator.
+fn is_emergency(elements: &[&[u8]]) -> bool {
+    count_of(elements, 0x0f) > 0
+}
+
+/// The first element that a message of the type demands and that isn't among these.
+fn first_missing(kind: u8, elements: &[&[u8]]) -> Option<u8> {
+    for id in demanded(kind, is_emergency(elements)) {
+        if count_of(elements, *id) == 0 {
+            return Some(*id);
+        }
+    }
+    None
+}
+
+/// A message of the type and of these elements has pages: it is a WRITE-REPLACE and not of the emergency form.
+fn has_pages(kind: u8, elements: &[&[u8]]) -> bool {
+    kind == 0x01 && !is_emergency(elements)
+}
+
+/// The pages are as many as the Number of Pages says.
+fn has_all_pages(elements: &[&[u8]]) -> bool {
+    let pages = count_of(elements, 0x01);
+    for element in elements {
+        if let [0x13, number] = element {
+            return pages == usize::from(*number);
+        }
+    }
+    false
+}
+
+/// The fault of a body of these elements, each of which is without fault and none of which stands twice.
+fn fault_of_elements(kind: u8, elements: &[&[u8]]) -> Option<Named> {
+    match first_missing(kind, elements) {
+        Some(id) => Some(Named::missing(id)),
+        None if has_pages(kind, elements) && !has_all_pages(elements) => Some(Named::BAD_PAGES),
+        None => None,
+    }
+}
+
+/// A body that ends inside an element is Cut, and one that ends between two has the fault of those that are left.
+fn is_cut_everywhere(alloc: Global, kind: u8, body: &[u8], elements: &[&[u8]]) -> bool {
+    let mut end = 0usize;
+    for (number, element) in elements.iter().enumerate() {
+        let (front, _) = body.split_at(end.min(body.len()));
+        let (before, _) = elements.split_at(number);
+        if fault_of(alloc, kind, front) != fault_of_elements(kind, before)
+            || !is_cut_inside(alloc, kind, body, end, element.len())
+        {
+            return false;
+        }
+        end = end.saturating_add(element.len());
+    }
+    true
+}
+
+/// The fault of a body in which an element of that identifier stands a second time. A page too many is passed over but in
+/// a WRITE-REPLACE that has pages.
+fn fault_of_second(has_pages: bool, id: u8) -> Option<Named> {
+    match (id, has_pages) {
+        (0x01, true) => Some(Named::BAD_PAGES),
+        (0x01, false) => None,
+        _ => Some(Named::repeated(id)),
+    }
+}
+
+/// The element that is put in at each of these places, and so stands twice, is named. The message may have pages.
+fn is_named_twice(
+    alloc: Global,
+    kind: u8,
+    body: &[u8],
+    places: &[usize],
+    element: &[u8],
+    has_pages: bool,
+) -> Result<bool> {
+    let id = element.first().copied().unwrap_or(0);
+    for place in places {
+        let octets = with_more(alloc, body, *place, element)?;
+        let found = fault_of(alloc, kind, octets.as_slice());
+        drop(octets);
+        if found != fault_of_second(has_pages, id) {
             return Ok(false);
         }
     }
     Ok(true)
 }
 
-/// Whether the body has pages of its own: it is a WRITE-REPLACE without an Emergency Indicator.
-fn has_pages(kind: u8, elements: &[&[u8]]) -> bool {
-    kind == 0x01
-        && !elements
-            .iter()
-            .any(|element| element.first() == Some(&0x0f))
-}
-
-/// An element that stands a second time is Repeated. A page too many is BadPages in a WRITE-REPLACE with pages, and passed over in
-/// every other message.
-fn repeats_are_named(alloc: Global, kind: u8, body: &[u8], elements: &[&[u8]]) -> Result<bool> {
+/// Each element is named that stands a second time, in front of the others, between two of them or behind them.
+fn repeats_are_named(
+    alloc: Global,
+    kind: u8,
+    body: &[u8],
+    places: &[usize],
+    elements: &[&[u8]],
+) -> Result<bool> {
     let has_pages = has_pages(kind, elements);
     for element in elements {
-        let first = element.first().copied().unwrap_or(0);
-        let is_named = match fault_with(alloc, kind, body, element)? {
-            Some(MessageFault::Repeated { id }) => id.code() == first && first != 0x01,
-            Some(MessageFault::BadPages) => first == 0x01 && has_pages,
-            None => first == 0x01 && !has_pages,
-            _ => false,
-        };
+        if !is_named_twice(alloc, kind, body, places, element, has_pages)? {
+            return Ok(false);
+        }
+    }
+    Ok(true)
+}
+
+/// Each octet at that place that is no identifier is an UnknownElement.
+fn identifiers_are_named(alloc: Global, kind: u8, octets: &mut [u8], place: usize) -> bool {
+    for id in 0..=255u8 {
+        if value_size(id, &[0, 0]).is_none() {
+            put(octets, place, id);
+            if fault_of(alloc, kind, octets) != Some(Named::unknown_element(id)) {
+                return false;
+            }
+        }
+    }
+    true
+}
+
+/// The same in front of the elements, between each two of them and behind them.
+fn unknown_elements_are_named(
+    alloc: Global,
+    kind: u8,
+    body: &[u8],
+    places: &[usize],
+) -> Result<bool> {
+    for place in places {
+        let mut octets = with_more(alloc, body, *place, &[0])?;
+        let is_named = identifiers_are_named(alloc, kind, octets.as_mut_slice(), *place);
+        drop(octets);
         if !is_named {
             return Ok(false);
         }
@@ -111,54 +192,33 @@ fn repeats_are_named(alloc: Global, kind: u8, body: &[u8], elements: &[&[u8]]) -
     Ok(true)
 }
 
-/// Each octet that names no element is an UnknownElement.
-fn unknown_elements_are_named(alloc: Global, kind: u8, body: &[u8]) -> Result<bool> {
-    for id in 0..=255u8 {
-        if value_size(id, &[0, 0]).is_none() {
-            match fault_with(alloc, kind, body, &[id])? {
-                Some(MessageFault::Element(IeFault::UnknownElement { id: named })) if named == id =>
-                    {}
-                _ => return Ok(false),
+/// Each octet at that place whose low half is none of the six forms is a BadDiscriminator.
+fn forms_are_named(alloc: Global, kind: u8, octets: &mut [u8], place: usize) -> bool {
+    for octet in 0..=255u8 {
+        if identification_size(octet).is_none() {
+            put(octets, place, octet);
+            if fault_of(alloc, kind, octets) != Some(Named::bad_discriminator(octet % 16)) {
+                return false;
             }
         }
     }
-    Ok(true)
+    true
 }
 
-/// The fault of the body with another octet at that place.
-fn fault_at(
-    alloc: Global,
-    kind: u8,
-    body: &[u8],
-    place: usize,
-    octet: u8,
-) -> Result<Option<MessageFault>> {
-    let mut octets = Vec::from_slice(alloc, body)?;
-    if let Some(other) = octets.get_mut(place) {
-        *other = octet;
-    }
-    Ok(fault_of(alloc, kind, octets.as_slice()))
-}
-
-/// Each discriminator that is none of the six forms is a BadDiscriminator, in the first place of every list.
+/// The same in front of each list of cells or of broadcasts, and in each entry of a failure list.
 fn discriminators_are_named(
     alloc: Global,
     kind: u8,
     body: &[u8],
-    elements: &[&[u8]],
+    discriminators: &[usize],
 ) -> Result<bool> {
-    let mut start = 0usize;
-    for element in elements {
-        if let [0x04 | 0x08 | 0x09, _, _, _, ..] = element {
-            for form in [3u8, 7, 8, 9, 10, 11, 12, 13, 14, 15] {
-                match fault_at(alloc, kind, body, start.saturating_add(3), form)? {
-                    Some(MessageFault::Element(IeFault::BadDiscriminator { discriminator }))
-                        if discriminator == form => {}
-                    _ => return Ok(false),
-                }
-            }
+    for place in discriminators {
+        let mut octets = Vec::from_slice(alloc, body)?;
+        let is_named = forms_are_named(alloc, kind, octets.as_mut_slice(), *place);
+        drop(octets);
+        if !is_named {
+            return Ok(false);
         }
-        start = start.saturating_add(element.len());
     }
     Ok(true)
 }
@@ -166,16 +226,19 @@ fn discriminators_are_named(
 /// The damage to the body of a message whose fault isn't named as the formats name it.
 pub fn unnamed_damage(alloc: Global, kind: u8, body: &[u8]) -> Result<Option<&'static str>> {
     let elements = elements_of(alloc, body)?;
-    if !is_cut_everywhere(alloc, kind, body, elements.as_slice())? {
+    let elements = elements.as_slice();
+    let places = places_of(alloc, elements)?;
+    if !is_cut_everywhere(alloc, kind, body, elements) {
         return Ok(Some("cut"));
     }
-    if !repeats_are_named(alloc, kind, body, elements.as_slice())? {
+    if !repeats_are_named(alloc, kind, body, places.as_slice(), elements)? {
         return Ok(Some("an element repeated"));
     }
-    if !unknown_elements_are_named(alloc, kind, body)? {
+    if !unknown_elements_are_named(alloc, kind, body, places.as_slice())? {
         return Ok(Some("an unknown element"));
     }
-    if !discriminators_are_named(alloc, kind, body, elements.as_slice())? {
+    let discriminators = discriminators_of(alloc, elements)?;
+    if !discriminators_are_named(alloc, kind, body, discriminators.as_slice())? {
         return Ok(Some("an unknown discriminator"));
     }
     Ok(None)

@@ -1,9 +1,64 @@
-//! Faults as the file has them.
+//! Faults as the file has them, and as the formats number them.
 
 use anyhow::{Context, Result};
 use cbsp_ie::IeFault;
 use cbsp_messages::MessageFault;
 use std::alloc::Global;
+
+/// A fault by its number and the octet that it names, if it names one.
+#[derive(Clone, Copy, PartialEq)]
+pub struct Named {
+    number: u8,
+    octet: Option<u8>,
+}
+
+impl Named {
+    pub const CUT: Named = Named {
+        number: 1,
+        octet: None,
+    };
+
+    pub const BAD_PAGES: Named = Named {
+        number: 8,
+        octet: None,
+    };
+
+    /// The number is 0 where memory ran out.
+    pub fn of(fault: MessageFault) -> Named {
+        Named {
+            number: fault.number().unwrap_or(0),
+            octet: octet_of(fault),
+        }
+    }
+
+    pub fn unknown_element(id: u8) -> Named {
+        Named {
+            number: 2,
+            octet: Some(id),
+        }
+    }
+
+    pub fn bad_discriminator(form: u8) -> Named {
+        Named {
+            number: 3,
+            octet: Some(form),
+        }
+    }
+
+    pub fn repeated(id: u8) -> Named {
+        Named {
+            number: 6,
+            octet: Some(id),
+        }
+    }
+
+    pub fn missing(id: u8) -> Named {
+        Named {
+            number: 7,
+            octet: Some(id),
+        }
+    }
+}
 
 /// The line of the fault: its number, its name and the octet that it names.
 pub fn fault_line(alloc: Global, fault: MessageFault) -> Result<String> {

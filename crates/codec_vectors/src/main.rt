@@ -9,6 +9,7 @@
 mod damage;
 mod faults;
 mod fields;
+mod layout;
 mod names;
 mod outcome;
 mod value;

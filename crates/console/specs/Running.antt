@@ -1,9 +1,9 @@
 -- How a run of the program ends.
-use Rattle.std.specs.Prelude.{◌≡◌, ◌⊎◌, ℕ, Bool, true, ◌==◌, List, ◌++◌, Option, Some, None, codes}
+use Rattle.std.specs.Prelude.{◌≡◌, ◌⊎◌, ℕ, ◌==◌, List, ◌++◌, Option, Some, None, codes}
 use Rattle.std.specs.Bool.{MatchBool}
 use Rattle.std.specs.Io.KnownBytes.{Appends}
 use Rattle.framing.specs.Sink.{AppendsFront}
-use Rattle.framing.specs.Source.{counted}
+use Rattle.framing.specs.Source.{FailsToRead, counted}
 use Rattle.clap.specs.Words.{Text}
 use Rattle.console_text.specs.CommandLine.{AreTaken, Asks, AsksBadJournal, AsksBadPlmn, AsksHelp, AsksServe, IsMistaken}
 use Rattle.console.specs.Replays.{new_session, Replays, BreaksOff}
@@ -21,41 +21,42 @@ bad_plmn = codes "cbc: bad plmn" ++ newline
 abbrev pub bad_journal : List ℕ
 bad_journal = codes "cbc: bad journal" ++ newline
 
--- what a run has yet to read, how often it has read, what it has written and what it has said; and whether reading,
+-- what a run has yet to read, how often it has read, what it has written and what it has said; and how often reading,
 -- writing and saying have failed
 pub record Streams : Type 0 where
   pub input : Option (List ℕ)
   pub reads : ℕ
-  pub read_failed : Bool
+  pub failed_reads : ℕ
   pub output : Option (List ℕ)
-  pub write_failed : Bool
+  pub failed_writes : ℕ
   pub errors : Option (List ℕ)
-  pub is_mute : Bool
+  pub unsaid : ℕ
 
 -- the text is said, or a prefix of it where that fails
-abbrev pub IsTold : Option (List ℕ) → Option (List ℕ) → Bool → List ℕ → Type 0
-IsTold before after has_failed text = Appends before after text ⊎ (AppendsFront before after text × (has_failed ≡ true))
+abbrev pub IsTold : Option (List ℕ) → Option (List ℕ) → ℕ → ℕ → List ℕ → Type 0
+IsTold before after failures failures' text = (Appends before after text × (failures' ≡ failures)) ⊎ (AppendsFront before after text × (failures' ≡ counted failures 1))
 
 -- the text is said on standard error
 abbrev pub Tells : Streams → Streams → List ℕ → Type 0
-Tells old new text = IsTold old.errors new.errors new.is_mute text
+Tells old new text = IsTold old.errors new.errors old.unsaid new.unsaid text
 
 -- a script was run to its end
 pub record RunsWhole (start : SessionState) (old new : Streams) : Type 0 where
   pub all : Replays start old.input new.input old.output new.output
   pub silent : new.errors ≡ old.errors
-  pub all_read : new.read_failed ≡ old.read_failed
-  pub all_written : new.write_failed ≡ old.write_failed
+  pub all_read : new.failed_reads ≡ old.failed_reads
+  pub all_written : new.failed_writes ≡ old.failed_writes
 
--- a fault ended it, and was said: where a read failed that, or so many reads came to no end, and where a write failed that
+-- a fault ended it, and was said: where one of its reads failed that, or so many reads came to no end, and where one of its writes
+-- failed that
 pub record RunsInPart (start : SessionState) (old new : Streams) : Type 0 where
   pub fault : ReplayFault
   pub broke : BreaksOff start old.input new.input old.output new.output fault
   pub told : Tells old new (fault_words fault)
-  pub failed_read : new.read_failed ≡ true → (old.read_failed ≡ true) ⊎ (fault ≡ ReadFault)
-  pub failed_write : new.write_failed ≡ true → (old.write_failed ≡ true) ⊎ (fault ≡ WriteFault)
-  pub read_fault : fault ≡ ReadFault → (new.read_failed ≡ true) ⊎ (new.reads ≡ counted old.reads 1000000000000)
-  pub write_fault : fault ≡ WriteFault → new.write_failed ≡ true
+  pub all_read : (new.failed_reads ≡ old.failed_reads) ⊎ (fault ≡ ReadFault)
+  pub all_written : (new.failed_writes ≡ old.failed_writes) ⊎ (fault ≡ WriteFault)
+  pub read_fault : fault ≡ ReadFault → FailsToRead old.reads new.reads old.failed_reads new.failed_reads
+  pub write_fault : fault ≡ WriteFault → new.failed_writes ≡ counted old.failed_writes 1
 
 -- the status of a run of a script
 abbrev pub Runs : SessionState → Streams → Streams → ℕ → Type 0
@@ -73,7 +74,7 @@ IsCause words status said = ((status ≡ 1) × (said ≡ fault_words Memory)) �
 abbrev pub IsUnable : List Text → Streams → Streams → List ℕ → Type 0
 IsUnable words old new said =
     ((said ≡ fault_words Memory) × (new.output ≡ old.output))
-    ⊎ ((said ≡ fault_words WriteFault) × AsksHelp words × (new.write_failed ≡ true) × ((text : List ℕ) × AppendsFront old.output new.output text))
+    ⊎ ((said ≡ fault_words WriteFault) × AsksHelp words × (new.failed_writes ≡ counted old.failed_writes 1) × ((text : List ℕ) × AppendsFront old.output new.output text))
 
 -- no script was run: help is written, or the fault is said that is the cause
 pub record RunsNone (words : List Text) (old new : Streams) (status : ℕ) : Type 0 where
@@ -82,7 +83,7 @@ pub record RunsNone (words : List Text) (old new : Streams) (status : ℕ) : Typ
   pub helped : status ≡ 0 → AsksHelp words
   pub unable : status ≡ 1 → IsUnable words old new said
   pub refused : status ≡ 2 → IsBadValue words said ⊎ IsMistaken words
-  pub unread : (new.input ≡ old.input) × (new.reads ≡ old.reads) × (new.read_failed ≡ old.read_failed)
+  pub unread : (new.input ≡ old.input) × (new.reads ≡ old.reads) × (new.failed_reads ≡ old.failed_reads)
   pub answered : MatchBool (status == 0) (Appends old.output new.output said × (new.errors ≡ old.errors)) (Tells old new said)
   pub silent : status ≡ 2 → new.output ≡ old.output
   pub least : (status ≡ 0) ⊎ ((status ≡ 1) ⊎ (status ≡ 2))

@@ -28,8 +28,8 @@ use Rattle.framing.specs.declared.frame.Frame.{Frame}
 use Rattle.console_text.specs.Frames.{IsFrame, IsNoFrame}
 use Rattle.console.specs.Generations.{generation_of, with_generation}
 use Rattle.console_text.specs.Grammar.{line_of}
-use Rattle.console_text.specs.Headings.{content_of, notice_of}
-use Rattle.console_text.specs.HexText.{octets_of, pages_of}
+use Rattle.console_text.specs.Headings.{alert_of, content_of, emergency_of, notice_of}
+use Rattle.console_text.specs.HexText.{octets_of, pages_of, security_of}
 use Rattle.console_text.specs.Words.{is_comment, words_of}
 use Rattle.console.specs.declared.kept.Kept.{Kept}
 use Rattle.console_text.specs.declared.line.Line.{Line}
@@ -145,7 +145,8 @@ abbrev pub Reports : SessionState → ℕ → List ℕ → Response → SessionS
 Reports old b text r new =
     MatchOption (octets_of text) (Says old response.BadHex r new) (λ octets. ReportsOctets old b octets r new)
 
--- the event that a line stands for; `issue` and `update` stand for one where their pages are octets
+-- the event that a line stands for; `issue` and `update` stand for one where their pages are octets, `alert` and `realert`
+-- where their security information is
 abbrev pub event_of : SessionState → Line → Option Event
 event_of old (line.AddBsc b) = Some (event.Edit (edit.AddBsc b))
 event_of old (line.RemoveBsc b) = Some (event.Edit (edit.RemoveBsc b))
@@ -158,6 +159,8 @@ event_of old (line.Put a s) = Some (event.Edit (edit.Put a s))
 event_of old (line.Cut a s) = Some (event.Edit (edit.Cut a s))
 event_of old (line.Issue heading text areas) = option_map (λ pages. event.Edit (edit.Issue (notice_of heading pages) areas)) (pages_of text)
 event_of old (line.Update warning heading text) = option_map (λ pages. event.Edit (edit.Update warning (content_of heading pages))) (pages_of text)
+event_of old (line.Alert heading text areas) = option_map (λ security. event.Edit (edit.Issue (alert_of heading security) areas)) (security_of text)
+event_of old (line.Realert warning heading text) = option_map (λ security. event.Edit (edit.Update warning (emergency_of heading security))) (security_of text)
 event_of old (line.Widen warning a) = Some (event.Edit (edit.Widen warning a))
 event_of old (line.Narrow warning a) = Some (event.Edit (edit.Narrow warning a))
 event_of old (line.Stop warning) = Some (event.Edit (edit.Stop warning))
@@ -169,7 +172,7 @@ event_of old (line.Send b) = Some (event.Send b (generation_of old.kept b))
 event_of old (line.Ask b warning after) = Some (event.Ask b (generation_of old.kept b) warning after)
 event_of old other = None
 
--- the event of a line is submitted; where there is none, its pages are no octets
+-- the event of a line is submitted; where there is none, its pages are no octets, or its security information isn't fifty
 abbrev pub SubmitsLine : SessionState → Option Event → Response → SessionState → Type 0
 SubmitsLine old e r new = MatchOption e (Says old response.BadHex r new) (λ e. Submits old e r new)
 

@@ -28,7 +28,8 @@ impl Model for Console {
 }
 
 impl Console {
-    ghost use Rattle.std.specs.Prelude.{◌≡◌, ℕ, ◌≤◌, ◌||◌, List, ◌∷◌, ◌++◌, [], false, Option, OnOk, IfErr};
+    ghost use Rattle.std.specs.Prelude.{◌≡◌, ℕ, ◌≤◌, List, ◌∷◌, ◌++◌, [], false, Option, OnOk, IfErr};
+    ghost use Rattle.framing.specs.Source.{with_failure};
     ghost use Rattle.console.specs.Consoles.{EndsLine, BreaksLine, Goes, Stops, is_read_fault, is_write_fault};
     ghost use Rattle.console_text.specs.Parts.{HasNone};
     ghost use Rattle.console.specs.Replays.{new_session};
@@ -48,7 +49,7 @@ impl Console {
     pub fn end_line<W: Sink>(&mut self, writer: &mut W) -> Result<(), ReplayFault>
         ensures ok { OnOk result (EndsLine self.old self.new (W.written writer.old) (W.written writer.new)) }
         ensures err { IfErr result (BreaksLine self.old (W.written writer.old) (W.written writer.new)) }
-        ensures failed { W.has_failed writer.new ≡ (is_write_fault result || W.has_failed writer.old) }
+        ensures failed { W.failures writer.new ≡ with_failure (W.failures writer.old) (is_write_fault result) }
         ensures reads { is_read_fault result ≡ false }
     {
         let line = without_return(&self.begun);
@@ -87,7 +88,7 @@ impl Console {
         requires { HasNone 10 run.now }
         ensures ok { OnOk result (Goes self.old (run.now ++ 10 ∷ []) self.new (W.written writer.old) (W.written writer.new)) }
         ensures err { IfErr result (Stops self.old (run.now ++ 10 ∷ []) (W.written writer.old) (W.written writer.new)) }
-        ensures failed { W.has_failed writer.new ≡ (is_write_fault result || W.has_failed writer.old) }
+        ensures failed { W.failures writer.new ≡ with_failure (W.failures writer.old) (is_write_fault result) }
         ensures reads { is_read_fault result ≡ false }
     {
         self.take_run(run)?;
@@ -98,7 +99,7 @@ impl Console {
     pub fn take_piece<W: Sink>(&mut self, piece: &[u8], writer: &mut W) -> Result<(), ReplayFault>
         ensures ok { OnOk result (Goes self.old piece.now self.new (W.written writer.old) (W.written writer.new)) }
         ensures err { IfErr result (Stops self.old piece.now (W.written writer.old) (W.written writer.new)) }
-        ensures failed { W.has_failed writer.new ≡ (is_write_fault result || W.has_failed writer.old) }
+        ensures failed { W.failures writer.new ≡ with_failure (W.failures writer.old) (is_write_fault result) }
         ensures reads { is_read_fault result ≡ false }
     {
         let mut rest = piece;

@@ -1,8 +1,8 @@
 //! A run of the console over octets.
 
-ghost use Rattle.std.specs.Prelude.{◌≡◌, ◌<◌, ◌≤◌, ◌⊎◌, ◌||◌, true, false, length, IfOk, IfErr, OnOk};
+ghost use Rattle.std.specs.Prelude.{◌≡◌, ◌<◌, ◌≤◌, true, false, length, IfOk, IfErr, OnOk};
 ghost use Rattle.std.specs.Io.KnownBytes.{IsAtEnd};
-ghost use Rattle.framing.specs.Source.{counted};
+ghost use Rattle.framing.specs.Source.{FailsToRead, counted, with_failure};
 ghost use Rattle.console.specs.Consoles.{Reads, ReadsAndStops, is_read_fault, is_write_fault};
 ghost use Rattle.console.specs.Replays.{new_session, Replays, BreaksOff};
 
@@ -24,8 +24,8 @@ fn turn_over<R: Source, W: Sink>(
     ensures end { IfOk result (λ more. more ≡ false → IsAtEnd (R.remaining reader.new)) }
     ensures err { IfErr result (ReadsAndStops console.old (R.remaining reader.old) (R.remaining reader.new) (W.written writer.old) (W.written writer.new)) }
     ensures calls { R.calls reader.new ≡ counted (R.calls reader.old) 1 }
-    ensures read_failed { R.has_failed reader.new ≡ (is_read_fault result || R.has_failed reader.old) }
-    ensures write_failed { W.has_failed writer.new ≡ (is_write_fault result || W.has_failed writer.old) }
+    ensures read_failed { R.failures reader.new ≡ with_failure (R.failures reader.old) (is_read_fault result) }
+    ensures write_failed { W.failures writer.new ≡ with_failure (W.failures writer.old) (is_write_fault result) }
 {
     match reader.read(piece) {
         Ok(count) => {
@@ -46,8 +46,8 @@ fn turn<R: Source, W: Sink>(
     ensures end { IfOk result (λ more. more ≡ false → IsAtEnd (R.remaining reader.new)) }
     ensures err { IfErr result (ReadsAndStops console.old (R.remaining reader.old) (R.remaining reader.new) (W.written writer.old) (W.written writer.new)) }
     ensures calls { R.calls reader.new ≡ counted (R.calls reader.old) 1 }
-    ensures read_failed { R.has_failed reader.new ≡ (is_read_fault result || R.has_failed reader.old) }
-    ensures write_failed { W.has_failed writer.new ≡ (is_write_fault result || W.has_failed writer.old) }
+    ensures read_failed { R.failures reader.new ≡ with_failure (R.failures reader.old) (is_read_fault result) }
+    ensures write_failed { W.failures writer.new ≡ with_failure (W.failures writer.old) (is_write_fault result) }
 {
     let mut piece = [0; 4096];
     turn_over(console, reader, writer, &mut piece)
@@ -70,9 +70,9 @@ pub fn replay<R: Source, W: Sink>(
     requires { journal_limit ≤ 4000000 }
     ensures all { OnOk result (Replays (new_session plmn journal_limit) (R.remaining reader.old) (R.remaining reader.new) (W.written writer.old) (W.written writer.new)) }
     ensures part { IfErr result (BreaksOff (new_session plmn journal_limit) (R.remaining reader.old) (R.remaining reader.new) (W.written writer.old) (W.written writer.new)) }
-    ensures read_fault { is_read_fault result ≡ true → (R.has_failed reader.new ≡ true) ⊎ (R.calls reader.new ≡ counted (R.calls reader.old) 1000000000000) }
-    ensures read_failed { is_read_fault result ≡ false → R.has_failed reader.new ≡ R.has_failed reader.old }
-    ensures write_fault { W.has_failed writer.new ≡ (is_write_fault result || W.has_failed writer.old) }
+    ensures read_fault { is_read_fault result ≡ true → FailsToRead (R.calls reader.old) (R.calls reader.new) (R.failures reader.old) (R.failures reader.new) }
+    ensures read_failed { is_read_fault result ≡ false → R.failures reader.new ≡ R.failures reader.old }
+    ensures write_fault { W.failures writer.new ≡ with_failure (W.failures writer.old) (is_write_fault result) }
 {
     let mut console = Console::new(alloc, plmn, journal_limit);
     for _turn in 0..MOST_READS {

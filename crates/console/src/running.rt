@@ -27,8 +27,8 @@ pub fn run<R: Source, W: Sink, E: Sink>(
     errors: &mut E,
 ) -> Option<u8>
     ensures { Ends (map string_bytes words.now)
-        (record { input = R.remaining reader.old; reads = R.calls reader.old; read_failed = R.has_failed reader.old; output = W.written writer.old; write_failed = W.has_failed writer.old; errors = E.written errors.old; is_mute = E.has_failed errors.old })
-        (record { input = R.remaining reader.new; reads = R.calls reader.new; read_failed = R.has_failed reader.new; output = W.written writer.new; write_failed = W.has_failed writer.new; errors = E.written errors.new; is_mute = E.has_failed errors.new }) result }
+        (record { input = R.remaining reader.old; reads = R.calls reader.old; failed_reads = R.failures reader.old; output = W.written writer.old; failed_writes = W.failures writer.old; errors = E.written errors.old; unsaid = E.failures errors.old })
+        (record { input = R.remaining reader.new; reads = R.calls reader.new; failed_reads = R.failures reader.new; output = W.written writer.new; failed_writes = W.failures writer.new; errors = E.written errors.new; unsaid = E.failures errors.new }) result }
 {
     match read_options(alloc, words) {
         Ok(options) => Some(run_script(alloc, &options, reader, writer, errors)),
@@ -67,8 +67,8 @@ fn run_script<R: Source, W: Sink, E: Sink>(
     errors: &mut E,
 ) -> u8
     ensures { Runs (new_session options.now.plmn options.now.journal_limit)
-        (record { input = R.remaining reader.old; reads = R.calls reader.old; read_failed = R.has_failed reader.old; output = W.written writer.old; write_failed = W.has_failed writer.old; errors = E.written errors.old; is_mute = E.has_failed errors.old })
-        (record { input = R.remaining reader.new; reads = R.calls reader.new; read_failed = R.has_failed reader.new; output = W.written writer.new; write_failed = W.has_failed writer.new; errors = E.written errors.new; is_mute = E.has_failed errors.new }) result }
+        (record { input = R.remaining reader.old; reads = R.calls reader.old; failed_reads = R.failures reader.old; output = W.written writer.old; failed_writes = W.failures writer.old; errors = E.written errors.old; unsaid = E.failures errors.old })
+        (record { input = R.remaining reader.new; reads = R.calls reader.new; failed_reads = R.failures reader.new; output = W.written writer.new; failed_writes = W.failures writer.new; errors = E.written errors.new; unsaid = E.failures errors.new }) result }
 {
     match replay(alloc, reader, writer, options.plmn, options.journal_limit) {
         Ok(()) => 0,
@@ -81,7 +81,7 @@ fn run_script<R: Source, W: Sink, E: Sink>(
 
 /// Says the text. What can't be said is left out: there is nowhere to say that.
 fn tell<E: Sink>(errors: &mut E, text: &[u8])
-    ensures { IsTold (E.written errors.old) (E.written errors.new) (E.has_failed errors.new) text.now }
+    ensures { IsTold (E.written errors.old) (E.written errors.new) (E.failures errors.old) (E.failures errors.new) text.now }
 {
     let _ = write_all(errors, text);
 }

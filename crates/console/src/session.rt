@@ -15,11 +15,13 @@ use centre_questions::asking::ask;
 use centre_questions::question::Question;
 use centre_questions::seen_value::SeenValue;
 use common::{Cell, Name, Names};
+use console_text::alert_heading::AlertHeading;
 use console_text::content_heading::ContentHeading;
+use console_text::emergency_heading::EmergencyHeading;
 use console_text::frames::read_frame;
 use console_text::grammar::read_line;
 use console_text::heading::Heading;
-use console_text::hex_text::{read_octets, read_pages};
+use console_text::hex_text::{read_octets, read_pages, read_security};
 use console_text::line::Line;
 use console_text::response::Response;
 use console_text::words::{is_comment, split_words};
@@ -271,6 +273,41 @@ impl Session {
         Ok(self.edit(Edit::Update(warning, heading.content(pages))))
     }
 
+    fn alert(
+        &mut self,
+        heading: AlertHeading,
+        security: &[u8],
+        areas: Names,
+    ) -> Result<Response, AllocError>
+        ensures answer { IfOk result (λ r. RespondsOrStarves self.old (request.Alert heading security.now areas) r self.new) }
+        ensures fits { IfOk result ResponseFits }
+    {
+        let Some(security) = read_security(self.alloc, security)? else {
+            return Ok(Response::BadHex);
+        };
+        let notice = Notice {
+            message_id: heading.message_id,
+            scope: heading.scope,
+            content: heading.content.content(security),
+        };
+        Ok(self.edit(Edit::Issue(notice, areas)))
+    }
+
+    fn realert(
+        &mut self,
+        warning: WarningId,
+        heading: EmergencyHeading,
+        security: &[u8],
+    ) -> Result<Response, AllocError>
+        ensures answer { IfOk result (λ r. RespondsOrStarves self.old (request.Realert warning heading security.now) r self.new) }
+        ensures fits { IfOk result ResponseFits }
+    {
+        let Some(security) = read_security(self.alloc, security)? else {
+            return Ok(Response::BadHex);
+        };
+        Ok(self.edit(Edit::Update(warning, heading.content(security))))
+    }
+
     fn respond(&mut self, line: Line) -> Result<Response, AllocError>
         ensures answer { IfOk result (λ r. RespondsOrStarves self.old line r self.new) }
         ensures fits { IfOk result ResponseFits }
@@ -295,6 +332,16 @@ impl Session {
                 heading,
                 pages,
             } => self.update(warning, heading, pages.as_slice()),
+            Line::Alert {
+                heading,
+                security,
+                areas,
+            } => self.alert(heading, security.as_slice(), areas),
+            Line::Realert {
+                warning,
+                heading,
+                security,
+            } => self.realert(warning, heading, security.as_slice()),
             Line::Widen(warning, area) => Ok(self.edit(Edit::Widen(warning, area))),
             Line::Narrow(warning, area) => Ok(self.edit(Edit::Narrow(warning, area))),
             Line::Stop(warning) => Ok(self.edit(Edit::Stop(warning))),

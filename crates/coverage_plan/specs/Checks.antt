@@ -1,5 +1,5 @@
 -- Why an edit is refused: the first cause that holds, in the order of the checks.
-use Rattle.std.specs.Prelude.{◌≡◌, ◌⊎◌, ℕ, Bool, not, List, [], ◌∷◌, Some, None}
+use Rattle.std.specs.Prelude.{◌≡◌, ◌⊎◌, ℕ, Bool, true, false, not, List, [], ◌∷◌, Some, None}
 use Rattle.std.specs.List.{list_any}
 use Rattle.areas.specs.Areas.{has_area}
 use Rattle.areas.specs.Checks as areas
@@ -82,3 +82,32 @@ edit_checks st (Widen n a) = widen_checks st.areas st.book n a
 edit_checks st (Narrow n a) = narrow_checks st.areas st.book n a
 edit_checks st (Stop n) = by_book (book.stop_checks st.book n)
 edit_checks st (Forget n) = by_book (book.forget_checks st.book n)
+
+-- the edit only moves, takes out or stops what is there, so that nothing grows
+abbrev pub grows_nothing : Edit → Bool
+grows_nothing (RemoveBsc b) = true
+grows_nothing (MoveCell c b) = true
+grows_nothing (RemoveCell c) = true
+grows_nothing (DropArea a) = true
+grows_nothing (Cut a s) = true
+grows_nothing (Narrow n a) = true
+grows_nothing (Stop n) = true
+grows_nothing (Forget n) = true
+grows_nothing other = false
+
+-- besides, it changes no pair of a cell and a warning, so that the list of these is empty
+abbrev pub grows_no_list : Edit → Bool
+grows_no_list (RemoveBsc b) = true
+grows_no_list (DropArea a) = true
+grows_no_list other = false
+
+-- the edit has no name, list or content, so that a copy of it takes no memory
+abbrev pub is_plain_edit : Edit → Bool
+is_plain_edit (AddBsc b) = true
+is_plain_edit (RemoveBsc b) = true
+is_plain_edit (AddCell c b) = true
+is_plain_edit (MoveCell c b) = true
+is_plain_edit (RemoveCell c) = true
+is_plain_edit (Stop n) = true
+is_plain_edit (Forget n) = true
+is_plain_edit other = false

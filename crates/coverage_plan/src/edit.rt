@@ -1,6 +1,7 @@
 //! An edit of the register, of the areas or of the book.
 
-ghost use Rattle.std.specs.Prelude.{◌≡◌, ◌↔◌, IsTrue, IfOk};
+ghost use Rattle.std.specs.Prelude.{◌≡◌, ◌↔◌, true, IsTrue, IsOk, IfOk};
+ghost use Rattle.coverage_plan.specs.Checks.{is_plain_edit};
 
 use areas::Selector;
 use cell_register::BscId;
@@ -44,9 +45,10 @@ pub enum Edit {
 }
 
 impl Edit {
-    /// The same edit in memory of its own.
+    /// The same edit in memory of its own. It takes none where the edit has no name, list or content.
     pub fn copied(&self, alloc: Global) -> Result<Edit, AllocError>
-        ensures { IfOk result (λ copy. copy ≡ self.now) }
+        ensures copy { IfOk result (λ copy. copy ≡ self.now) }
+        ensures plain { is_plain_edit self.now ≡ true → IsOk result }
     {
         match self {
             Edit::AddBsc(bsc) => Ok(Edit::AddBsc(*bsc)),

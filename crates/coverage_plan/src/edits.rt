@@ -13,11 +13,11 @@ use areas::Areas;
 use common::Name;
 use warning_book::{Book, Notice, WarningId};
 
-/// Drops an area that no warning names.
+/// Drops an area that no warning names. It takes no memory.
 pub(crate) fn drop_area(areas: &mut Areas, book: &Book, a: &Name) -> Result<(), Refusal>
     ensures accepted { OnOk result (first_refusal (drop_area_checks areas.old book.now a.now) ≡ None) }
     ensures changed { OnOk result (areas.new ≡ without_area a.now areas.old) }
-    ensures refused { IfErr result (IsRefusal (drop_area_checks areas.old book.now a.now)) }
+    ensures refused { IfErr result (λ e. first_refusal (drop_area_checks areas.old book.now a.now) ≡ Some e) }
     ensures unchanged { OnErr result (areas.new ≡ areas.old) }
 {
     check_drop_area(areas, book, a)?;
@@ -61,7 +61,7 @@ pub(crate) fn widen(
     Ok(())
 }
 
-/// Takes an area out of those of a warning.
+/// Takes an area out of those of a warning. It takes no memory.
 #[tactic(auto, using(crate::proofs::CheckLemmas::translated_none, crate::proofs::CheckLemmas::translated_first))]
 pub(crate) fn narrow(
     areas: &Areas,
@@ -71,7 +71,7 @@ pub(crate) fn narrow(
 ) -> Result<(), Refusal>
     ensures accepted { OnOk result (first_refusal (narrow_checks areas.now book.old number a.now) ≡ None) }
     ensures changed { OnOk result (book.new ≡ after_narrow number a.now book.old) }
-    ensures refused { IfErr result (IsRefusal (narrow_checks areas.now book.old number a.now)) }
+    ensures refused { IfErr result (λ e. first_refusal (narrow_checks areas.now book.old number a.now) ≡ Some e) }
     ensures unchanged { OnErr result (book.new ≡ book.old) }
 {
     check_narrow(areas, book, number, a)?;

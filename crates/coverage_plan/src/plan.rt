@@ -37,11 +37,11 @@ impl Model for Plan {
 }
 
 impl Plan {
-    ghost use Rattle.std.specs.Prelude.{◌≡◌, ◌++◌, None, Some, IfOk, IfErr, OnOk, OnErr};
+    ghost use Rattle.std.specs.Prelude.{◌≡◌, ◌++◌, None, Some, true, IsOk, IfOk, IfErr, OnOk, OnErr};
     ghost use Rattle.common.specs.Checks.{first_refusal};
     ghost use Rattle.coverage_plan.specs.Plan.{empty, wanted_of, wanted, items_of, items_at, plan_of};
     ghost use Rattle.coverage_plan.specs.Changes.{ArePairs, Changes};
-    ghost use Rattle.coverage_plan.specs.Checks.{IsRefusal, edit_checks};
+    ghost use Rattle.coverage_plan.specs.Checks.{IsRefusal, edit_checks, grows_nothing, grows_no_list};
     ghost use Rattle.coverage_plan.specs.Reach.{is_of_cell, is_of_selector, is_of_areas};
     ghost use Rattle.coverage_plan.specs.Edited.{edited};
 
@@ -105,12 +105,14 @@ impl Plan {
 
     /// Makes the edit.
     ///
-    /// Refused as `check` says, else as `Memory` where it is out of memory; an `Err` leaves the plan as it was.
+    /// Refused as `check` says, else as `Memory` where it is out of memory; an `Err` leaves the plan as it was. An edit that
+    /// only moves, takes out or stops what is there takes no memory, and is refused only as `check` says.
     #[tactic(auto, using(crate::proofs::CheckLemmas::translated_none, crate::proofs::CheckLemmas::translated_first))]
     pub fn make(&mut self, edit: &Edit) -> Result<(), Refusal>
         ensures accepted { OnOk result (first_refusal (edit_checks self.old edit.now) ≡ None) }
         ensures changed { OnOk result (self.new ≡ edited edit.now self.old) }
         ensures refused { IfErr result (IsRefusal (edit_checks self.old edit.now)) }
+        ensures without_memory { grows_nothing edit.now ≡ true → IfErr result (λ e. first_refusal (edit_checks self.old edit.now) ≡ Some e) }
         ensures unchanged { OnErr result (self.new ≡ self.old) }
     {
         match edit {
@@ -164,7 +166,8 @@ impl Plan {
     /// The pairs that the edit will change.
     fn pairs_of(&self, edit: &Edit) -> Result<Pairs, AllocError>
         requires { first_refusal (edit_checks self.now edit.now) ≡ None }
-        ensures { IfOk result (Changes self.now (edited edit.now self.now)) }
+        ensures pairs { IfOk result (Changes self.now (edited edit.now self.now)) }
+        ensures without_memory { grows_no_list edit.now ≡ true → IsOk result }
     {
         self.book.tell_soundness();
         match edit {
@@ -193,12 +196,14 @@ impl Plan {
     /// whose warning is in the book, before or after, and of which the cell's BSC, the wanted serial number or the areas
     /// of the warning that cover the cell are not the same before and after.
     ///
-    /// Refused as `check` says, else as `Memory` where it is out of memory; an `Err` leaves the plan as it was.
+    /// Refused as `check` says, else as `Memory` where it is out of memory; an `Err` leaves the plan as it was. A RemoveBsc
+    /// and a DropArea take no memory, and are refused only as `check` says.
     pub fn edit(&mut self, edit: &Edit) -> Result<Pairs, Refusal>
         ensures accepted { OnOk result (first_refusal (edit_checks self.old edit.now) ≡ None) }
         ensures changed { OnOk result (self.new ≡ edited edit.now self.old) }
         ensures pairs { IfOk result (Changes self.old self.new) }
         ensures refused { IfErr result (IsRefusal (edit_checks self.old edit.now)) }
+        ensures without_memory { grows_no_list edit.now ≡ true → IfErr result (λ e. first_refusal (edit_checks self.old edit.now) ≡ Some e) }
         ensures unchanged { OnErr result (self.new ≡ self.old) }
     {
         self.check(edit)?;

@@ -16,12 +16,15 @@ use std::process::ExitCode;
 use std::rt::Files;
 
 /// Scripts as an operator writes them: NAME.txt, with its answers in NAME.answers.
-const SCRIPTS: [&str; 7] = [
+const SCRIPTS: [&str; 10] = [
+    "broadcasts-told",
     "day-of-failures",
     "first-warning",
     "flood-two-controllers",
     "link-lost",
     "link-up-again",
+    "replace-lost",
+    "thousand-cells",
     "warning-corrected",
     "wrong-input",
 ];
@@ -30,7 +33,7 @@ const SCRIPTS: [&str; 7] = [
 const SCRIPTS_DRAWN: u64 = 300;
 
 /// Files of rows. A row may begin with one of an earlier file.
-const ROWS: [&str; 8] = [
+const ROWS: [&str; 9] = [
     "first-warning.rows",
     "bad-lines.rows",
     "changes.rows",
@@ -39,6 +42,7 @@ const ROWS: [&str; 8] = [
     "boards.rows",
     "queries.rows",
     "warnings.rows",
+    "alerts.rows",
 ];
 
 /// Runs one script, prints whether its answers agree, and tells it.

@@ -1,8 +1,8 @@
 //! The side of a stream that is read from.
 
-ghost use Rattle.std.specs.Prelude.{◌≡◌, ℕ, ◌≤◌, ◌||◌, Bool, false, List, Option, length, IfOk, is_err};
+ghost use Rattle.std.specs.Prelude.{◌≡◌, ℕ, ◌≤◌, List, Option, length, IfOk, is_err};
 ghost use Rattle.std.specs.Io.KnownBytes.{ReadConsumes};
-ghost use Rattle.framing.specs.Source.{counted};
+ghost use Rattle.framing.specs.Source.{counted, with_failure};
 
 use crate::Failed;
 use crate::interrupted::read_again;
@@ -13,14 +13,14 @@ pub const MOST_READS: u64 = 1_000_000_000_000;
 
 /// What octets are read from: a connection, standard input, or octets in memory.
 ///
-/// It tells the octets that it has yet to give where they are known, the number of its reads, and
-/// whether one of them failed.
+/// It tells the octets that it has yet to give where they are known, the number of its reads, and how
+/// many of them failed.
 pub trait Source {
     ghost remaining: { Self → Option (List ℕ) };
 
     ghost calls: { Self → ℕ };
 
-    ghost has_failed: { Self → Bool };
+    ghost failures: { Self → ℕ };
 
     /// Fills the front of the buffer and answers how many octets that were. A buffer with room gets
     /// none only at the end of the stream.
@@ -28,7 +28,7 @@ pub trait Source {
         ensures bound { IfOk result (λ n. n ≤ length buffer.old) }
         ensures octets { ReadConsumes (remaining self.old) (remaining self.new) result buffer.new }
         ensures calls { calls self.new ≡ counted (calls self.old) 1 }
-        ensures failed { has_failed self.new ≡ (is_err result || has_failed self.old) };
+        ensures failures { failures self.new ≡ with_failure (failures self.old) (is_err result) };
 }
 
 /// A source that reads from a reader of the standard library. A read that a signal to the process
@@ -37,7 +37,7 @@ pub trait Source {
 pub struct FromRead<R: Read + Drop> {
     reader: R,
     calls: u64,
-    has_failed: bool,
+    failures: u64,
 }
 
 impl<R: Read + Drop> FromRead<R> {
@@ -45,12 +45,12 @@ impl<R: Read + Drop> FromRead<R> {
     pub fn new(reader: R) -> Self
         ensures remaining { ⟦<FromRead<R> as Source>⟧.remaining result ≡ R.remaining reader }
         ensures calls { ⟦<FromRead<R> as Source>⟧.calls result ≡ 0 }
-        ensures has_failed { ⟦<FromRead<R> as Source>⟧.has_failed result ≡ false }
+        ensures failures { ⟦<FromRead<R> as Source>⟧.failures result ≡ 0 }
     {
         FromRead {
             reader,
             calls: 0,
-            has_failed: false,
+            failures: 0,
         }
     }
 
@@ -61,7 +61,7 @@ impl<R: Read + Drop> FromRead<R> {
         let FromRead {
             reader,
             calls: _,
-            has_failed: _,
+            failures: _,
         } = self;
         reader
     }
@@ -72,14 +72,14 @@ impl<R: Read + Drop> Source for FromRead<R> {
 
     ghost calls = { λ s. s.calls };
 
-    ghost has_failed = { λ s. s.has_failed };
+    ghost failures = { λ s. s.failures };
 
     fn read(&mut self, buffer: &mut [u8]) -> Result<usize, Failed> {
         self.calls = self.calls.saturating_add(1);
         match read_again(&mut self.reader, buffer) {
             Ok(count) => Ok(count),
             Err(failed) => {
-                self.has_failed = true;
+                self.failures = self.failures.saturating_add(1);
                 Err(failed)
             }
         }

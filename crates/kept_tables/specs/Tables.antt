@@ -12,6 +12,7 @@ use Rattle.mirror.specs.declared.line_key.LineKey.{LineKey}
 use Rattle.order_maker.specs.Actions.{in_cell}
 use Rattle.order_maker.specs.Pending.{Shifts, holds, is_listed}
 use Rattle.order_maker.specs.declared.action.Action.{Action}
+use Rattle.warning_book.specs.declared.kind.Kind.{Kind}
 
 -- what a function takes
 abbrev pub domain : {A B : Type 0} → (A → B) → Type 0
@@ -30,7 +31,7 @@ pub record Tables : Type 0 where
 -- nothing is kept, pending or counted
 pub record IsEmpty (t : Tables) : Type 0 where
   pub lines : (b : ℕ) (c : Cell) (w : ℕ) → line_at t.lines b c w ≡ blank_line
-  pub downs : (b : ℕ) (c : Cell) → down_at t.lines b c ≡ false
+  pub downs : (k : Kind) (b : ℕ) (c : Cell) → down_at t.lines k b c ≡ false
   pub acts : (b : ℕ) (a : Action) → holds t.pending b a ≡ false
   pub totals : (w : ℕ) → total_of t.board w ≡ zero_numbers
   pub areas : (w : ℕ) (a : List ℕ) → area_of t.board w a ≡ zero_numbers

@@ -26,10 +26,11 @@ use order_maker::{Order, Orders, Pending};
 use serials::Serial;
 use std::alloc::{AllocError, Global};
 use std::marker::Model;
-use warning_book::WarningId;
+use warning_book::{Kind, WarningId};
 
 /// What is kept of every line, what is pending for each BSC, and the numbers of the board. All three change in step, by
-/// `make` and `take_steps` alone. Which cells are down is kept beside the lines, and changes by `set_down` alone.
+/// `make` and `take_steps` alone. Which cells are down for warnings of each kind is kept beside the lines, and
+/// changes by `set_down` alone.
 #[derive(Drop)]
 pub struct KeptTables {
     lines: LineTable,
@@ -127,7 +128,7 @@ fn shift_numbers(
 }
 
 impl KeptTables {
-    ghost use Rattle.std.specs.Prelude.{◌≡◌, ◌≤◌, ◌+◌, ◌++◌, ◌∷◌, [], ◌&&◌, ℕ, List, true, false, if◌then◌else◌, length, map, nat_eq, take, OnOk, OnErr, IfOk};
+    ghost use Rattle.std.specs.Prelude.{◌≡◌, ◌≤◌, ◌+◌, ◌++◌, ◌∷◌, [], ◌&&◌, ℕ, List, true, false, not, if◌then◌else◌, length, ltb, map, nat_eq, take, OnOk, OnErr, IfOk};
     ghost use Rattle.std.specs.List.{list_any};
     ghost use Rattle.std.specs.Option.{is_some};
     ghost use Rattle.common.specs.Cell.{cell_eq, cell_lt};
@@ -137,12 +138,18 @@ impl KeptTables {
     ghost use Rattle.kept_tables.specs.Changes.{Begins, IsNext, change_of, mixed};
     ghost use Rattle.kept_tables.specs.Consistent.{Consistent};
     ghost use Rattle.kept_tables.specs.Tables.{HasPart, IsEmpty, SameTables, Shifted};
+    ghost use Rattle.mirror.specs.Blank.{is_blank};
+    ghost use Rattle.mirror.specs.Held.{is_held_line};
+    ghost use Rattle.mirror.specs.Index.{key_before};
     ghost use Rattle.mirror.specs.Known.{is_known, is_named};
-    ghost use Rattle.mirror.specs.OnAir.{AreOnAir, line_count};
-    ghost use Rattle.mirror.specs.Table.{line_at, down_at};
+    ghost use Rattle.mirror.specs.OnAir.{AreOnAir, line_count, read_count};
+    ghost use Rattle.mirror.specs.Table.{counted_all, line_at, down_at};
+    ghost use Rattle.mirror.specs.declared.line_key.LineKey.{LineKey};
     ghost use Rattle.order_maker.specs.Grouping.{in_order, grouped, first};
     ghost use Rattle.order_maker.specs.Pending.{IsListOf};
     ghost use Rattle.order_maker.specs.declared.action.Action.{Action};
+    ghost use Rattle.warning_book.specs.Content.{is_same_kind};
+    ghost use Rattle.warning_book.specs.declared.kind.Kind.{Kind};
 
     /// Blank lines, no cell that is down, nothing pending and nothing counted.
     pub fn new(alloc: Global) -> KeptTables
@@ -162,7 +169,8 @@ impl KeptTables {
         self.lines.meter()
     }
 
-    /// What is kept of the lines, to ask which cells are down and known: no line can be read through it.
+    /// What is kept of the lines, to ask which cells are down and known: what tells of one line changes the meter, so that no
+    /// line can be read through it, nor be told of.
     pub fn lines(&self) -> &LineTable
         ensures { result.now ≡ self.now.lines }
     {
@@ -199,27 +207,80 @@ impl KeptTables {
         ensures downs { self.new.lines.downs ≡ self.old.lines.downs }
         ensures meter { self.new.lines.meter ≤ self.old.lines.meter + line_count self.old.lines b w }
         ensures least { self.old.lines.meter ≤ self.new.lines.meter }
+        ensures counted { IfOk result (λ cells. self.new.lines.meter ≡ counted_all (read_count self.old.lines b w after most cells) self.old.lines.meter) }
     {
         self.lines.cells_on_air(b, w, serial, after, most)
     }
 
-    /// Whether the cell is down at the BSC (TS 48.049, 8.1.3). It takes no memory.
-    pub fn is_down(&self, b: BscId, c: Cell) -> bool
-        ensures { result ≡ down_at self.now.lines b c }
+    /// The numbers of the warnings whose line in the cell at the BSC isn't blank, in ascending order. Each of these lines is
+    /// counted; none where memory runs out.
+    pub fn warnings_at(&mut self, b: BscId, c: Cell) -> Result<Vec<WarningId>, AllocError>
+        ensures order { IfOk result (λ ws. is_ascending ltb ws.items ≡ true) }
+        ensures which { IfOk result (λ ws. (w : ℕ) → list_any (nat_eq w) ws.items ≡ not (is_blank (line_at self.old.lines b c w))) }
+        ensures few { IfOk result (λ ws. (ns : List ℕ) → ((w : ℕ) → is_blank (line_at self.old.lines b c w) ≡ false → list_any (nat_eq w) ns ≡ true) → length ws.items ≤ length ns) }
+        ensures same { SameTables self.old self.new }
+        ensures lines { self.new.lines.lines ≡ self.old.lines.lines }
+        ensures downs { self.new.lines.downs ≡ self.old.lines.downs }
+        ensures meter { IfOk result (λ ws. self.new.lines.meter ≡ counted_all (length ws.items) self.old.lines.meter) }
+        ensures untold { OnErr result (self.new.lines.meter ≡ self.old.lines.meter) }
+        ensures most { (ns : List ℕ) → ((w : ℕ) → is_blank (line_at self.old.lines b c w) ≡ false → list_any (nat_eq w) ns ≡ true) → self.new.lines.meter ≤ self.old.lines.meter + length ns }
+        ensures least { self.old.lines.meter ≤ self.new.lines.meter }
     {
-        self.lines.is_down(b, c)
+        self.lines.warnings_at(b, c)
     }
 
-    /// Sets whether the cell is down at the BSC. Memory is taken only for a cell that is down and wasn't.
-    pub fn set_down(&mut self, b: BscId, c: Cell, down: bool) -> Result<(), AllocError>
-        ensures set { OnOk result ((d : ℕ) (e : Cell) → down_at self.new.lines d e ≡ (if nat_eq b d && cell_eq c e then down else down_at self.old.lines d e)) }
+    /// The numbers of the warnings whose line in the cell at the BSC is held, in ascending order: a version of it has a hold.
+    /// Each of these lines is counted; none where memory runs out.
+    pub fn held_at(&mut self, b: BscId, c: Cell) -> Result<Vec<WarningId>, AllocError>
+        ensures order { IfOk result (λ ws. is_ascending ltb ws.items ≡ true) }
+        ensures which { IfOk result (λ ws. (w : ℕ) → list_any (nat_eq w) ws.items ≡ is_held_line (line_at self.old.lines b c w)) }
+        ensures few { IfOk result (λ ws. (ns : List ℕ) → ((w : ℕ) → is_blank (line_at self.old.lines b c w) ≡ false → list_any (nat_eq w) ns ≡ true) → length ws.items ≤ length ns) }
+        ensures same { SameTables self.old self.new }
+        ensures lines { self.new.lines.lines ≡ self.old.lines.lines }
+        ensures downs { self.new.lines.downs ≡ self.old.lines.downs }
+        ensures meter { IfOk result (λ ws. self.new.lines.meter ≡ counted_all (length ws.items) self.old.lines.meter) }
+        ensures untold { OnErr result (self.new.lines.meter ≡ self.old.lines.meter) }
+        ensures most { (ns : List ℕ) → ((w : ℕ) → is_blank (line_at self.old.lines b c w) ≡ false → list_any (nat_eq w) ns ≡ true) → self.new.lines.meter ≤ self.old.lines.meter + length ns }
+        ensures least { self.old.lines.meter ≤ self.new.lines.meter }
+    {
+        self.lines.held_at(b, c)
+    }
+
+    /// The lines of the warning that aren't blank, by BSC and cell, in ascending order. Each is counted; none where memory
+    /// runs out.
+    pub fn places_of(&mut self, w: WarningId) -> Result<Vec<LineKey>, AllocError>
+        ensures which { IfOk result (λ keys. (b : ℕ) (c : Cell) (v : ℕ) → list_any (λ k. is_key k b c v) keys.items ≡ (nat_eq w v && not (is_blank (line_at self.old.lines b c v)))) }
+        ensures order { IfOk result (λ keys. is_ascending key_before keys.items ≡ true) }
+        ensures few { IfOk result (λ keys. (ks : List LineKey) → ((b : ℕ) (c : Cell) → is_blank (line_at self.old.lines b c w) ≡ false → list_any (λ k. is_key k b c w) ks ≡ true) → length keys.items ≤ length ks) }
+        ensures same { SameTables self.old self.new }
+        ensures lines { self.new.lines.lines ≡ self.old.lines.lines }
+        ensures downs { self.new.lines.downs ≡ self.old.lines.downs }
+        ensures meter { IfOk result (λ keys. self.new.lines.meter ≡ counted_all (length keys.items) self.old.lines.meter) }
+        ensures untold { OnErr result (self.new.lines.meter ≡ self.old.lines.meter) }
+        ensures most { IfOk result (λ keys. self.new.lines.meter ≤ self.old.lines.meter + length keys.items) }
+        ensures least { self.old.lines.meter ≤ self.new.lines.meter }
+    {
+        self.lines.places_of(w)
+    }
+
+    /// Whether the cell is down at the BSC for warnings of the kind (TS 48.049, 8.1.3). It takes no memory.
+    pub fn is_down(&self, kind: Kind, b: BscId, c: Cell) -> bool
+        ensures { result ≡ down_at self.now.lines kind b c }
+    {
+        self.lines.is_down(kind, b, c)
+    }
+
+    /// Sets whether the cell is down at the BSC for warnings of the kind. Memory is taken only for a cell that is down and
+    /// wasn't.
+    pub fn set_down(&mut self, kind: Kind, b: BscId, c: Cell, down: bool) -> Result<(), AllocError>
+        ensures set { OnOk result ((k : Kind) (d : ℕ) (e : Cell) → down_at self.new.lines k d e ≡ (if is_same_kind kind k && (nat_eq b d && cell_eq c e) then down else down_at self.old.lines k d e)) }
         ensures unchanged { OnErr result (self.new.lines.downs ≡ self.old.lines.downs) }
-        ensures grows { OnErr result ((down ≡ true) × (down_at self.old.lines b c ≡ false)) }
+        ensures grows { OnErr result ((down ≡ true) × (down_at self.old.lines kind b c ≡ false)) }
         ensures same { SameTables self.old self.new }
         ensures lines { self.new.lines.lines ≡ self.old.lines.lines }
         ensures meter { self.new.lines.meter ≡ self.old.lines.meter }
     {
-        self.lines.set_down(b, c, down)
+        self.lines.set_down(kind, b, c, down)
     }
 
     /// The cells that are known at the BSC, in ascending order: those registered there, those that are down there, and
@@ -365,7 +426,7 @@ impl KeptTables {
     pub fn take_steps(&mut self, steps: &[Step]) -> Result<(), AllocError>
         requires { Begins self.old (map change_of steps.now) }
         ensures settled { OnOk result ((b : Begins self.old (map change_of steps.now)) → Consistent self.new (mixed b.from b.to (map change_of steps.now))) }
-        ensures downs { (b : ℕ) (c : Cell) → down_at self.new.lines b c ≡ down_at self.old.lines b c }
+        ensures downs { (k : Kind) (b : ℕ) (c : Cell) → down_at self.new.lines k b c ≡ down_at self.old.lines k b c }
         ensures meter { self.new.lines.meter ≤ self.old.lines.meter + length steps.now }
         ensures least { self.old.lines.meter ≤ self.new.lines.meter }
     {

@@ -11,7 +11,7 @@ use Rattle.link_worker.specs.declared.end.End.{End}
 use Rattle.link_worker.specs.declared.end.End.TheVariants as end
 use Rattle.centre_events.specs.declared.refusal.Refusal.{Refusal}
 use Rattle.centre_events.specs.declared.refusal.Refusal.TheVariants as refusal
-use Rattle.link_worker.specs.Ends.{IsRefusedEnd, order_end}
+use Rattle.link_worker.specs.Ends.{IfShut, IsRefusedEnd, order_end}
 use Rattle.link_worker.specs.Orders.{EndsAsUnsent, EndsWriting, Gets, IsCutAt, IsOrder, IsWaitEnd, StopsAtLast, StopsInFrame, Writes, receipt_frame}
 use Rattle.link_worker.proofs.ListLemmas.{AllByRecursion-append, last_put}
 use Rattle.office.specs.Desks.{DeskState}
@@ -78,15 +78,15 @@ Ends-more b generation c d e p q r end.ReadFault one two = absurd two
 Ends-more b generation c d e p q r end.WriteFault one two = Stops-more b generation c d e p q r end.WriteFault one two
 Ends-more b generation c d e p q r (end.BadMessage f) one two = absurd two
 Ends-more b generation c d e p q r end.TooLong one two = absurd two
-Ends-more b generation c d e p q r end.Superseded one two = Writes-more b generation c d e p q r one two
+Ends-more b generation c d e p q r end.Superseded one two = (Writes-more b generation c d e p q r one two.0, two.1)
 Ends-more b generation c d e p q r (end.Refused x) one (inl two) = inl (Writes-more b generation c d e p q r one two.0, two.1)
 Ends-more b generation c d e p q r (end.Refused x) one (inr two) = inr (two.0, Stops-more b generation c d e p q r (end.Refused x) one two.1)
 Ends-more b generation c d e p q r end.GateShut one two = Stops-more b generation c d e p q r end.GateShut one two
 
 -- an end at which nothing was due
-pub Ends-waited : (b generation : ℕ) (c d : DeskState) (p q : Option (List ℕ)) (x : End) → Writes b generation c d p q → IsWaitEnd x → EndsWriting b generation c d p q x
-Ends-waited b generation c d p q x one (inl over) = subst (EndsWriting b generation c d p q) (sym over) one
-Ends-waited b generation c d p q x one (inr stale) = subst (EndsWriting b generation c d p q) (sym stale) (inl (one, (refusal.Stale, refl, inl refl)))
+pub Ends-waited : (b generation : ℕ) (c d : DeskState) (p q : Option (List ℕ)) (x : End) → Writes b generation c d p q → IsWaitEnd b generation x → EndsWriting b generation c d p q x
+Ends-waited b generation c d p q x one (inl over) = subst (EndsWriting b generation c d p q) (sym over.0) (one, inr over.1)
+Ends-waited b generation c d p q x one (inr stale) = subst (EndsWriting b generation c d p q) (sym stale.0) (inl (one, (refusal.Stale, refl, inl (refl, stale.1))))
 
 -- room for receipts bears on no refusal
 refused_in_room : (d e : DeskState) (event : Event) (r : Refusal) → e ≡ record d { spare = e.spare } → IsRefusedIn d event r → IsRefusedIn e event r
@@ -111,9 +111,26 @@ ends_unsent b generation c d p q end.ReadFault one refused why = absurd refused
 ends_unsent b generation c d p q end.WriteFault one refused why = absurd refused
 ends_unsent b generation c d p q (end.BadMessage f) one refused why = absurd refused
 ends_unsent b generation c d p q end.TooLong one refused why = absurd refused
-ends_unsent b generation c d p q end.Superseded one refused why = one
+ends_unsent b generation c d p q end.Superseded one refused why = (one, inl why)
 ends_unsent b generation c d p q (end.Refused x) one refused why = inl (one, why)
 ends_unsent b generation c d p q end.GateShut one refused why = absurd refused
+
+-- a refusal shuts no gate
+pub refused_open : (P : Type 0) (x : End) → IsRefusedEnd x → IfShut P x
+refused_open P end.PeerEnded p = tt
+refused_open P end.CutFrame p = tt
+refused_open P end.ReadFault p = tt
+refused_open P end.WriteFault p = tt
+refused_open P (end.BadMessage f) p = tt
+refused_open P end.TooLong p = tt
+refused_open P end.Superseded p = tt
+refused_open P (end.Refused r) p = tt
+refused_open P end.GateShut p = absurd p
+
+-- nor does an end at which nothing was due
+pub waited_open : (P : Type 0) (b generation : ℕ) (x : End) → IsWaitEnd b generation x → IfShut P x
+waited_open P b generation x (inl over) = subst (IfShut P) (sym over.0) tt
+waited_open P b generation x (inr stale) = subst (IfShut P) (sym stale.0) tt
 
 -- an order or a query was refused
 pub Ends-refused : (b generation : ℕ) (d e : DeskState) (p : Option (List ℕ)) (event : Event) (r : Refusal) (x : End) → IsOrder b generation event → IsRefusedSomewhere d event r

@@ -13,6 +13,7 @@ use Rattle.cbsp_messages.specs.Spelling.{Spells}
 use Rattle.cbsp_messages.specs.declared.fault.MessageFault.{MessageFault}
 use Rattle.cbsp_messages.specs.declared.fault.MessageFault.TheVariants as bad
 use Rattle.cbsp_messages.specs.declared.message_type.MessageType.{MessageType}
+use Rattle.centre_events.specs.declared.event.Event.{Event}
 use Rattle.centre_events.specs.declared.event.Event.TheVariants as event
 use Rattle.centre_events.specs.declared.refusal.Refusal.{Refusal}
 use Rattle.centre_events.specs.declared.refusal.Refusal.TheVariants as refusal
@@ -25,11 +26,11 @@ use Rattle.framing.specs.declared.fault.FrameFault.TheVariants as fault
 use Rattle.framing.proofs.StreamLemmas.{no_frame-nil, pieces_join}
 use Rattle.link_worker.specs.declared.end.End.{End}
 use Rattle.link_worker.specs.declared.end.End.TheVariants as end
-use Rattle.link_worker.specs.Ends.{IsRefusedEnd, fault_end, report_end}
-use Rattle.link_worker.specs.Reports.{AreReceiptsFor, EndsAsRefused, EndsAt, EndsBefore, EndsReading, EndsWithin, IsPartial, IsReport, IsSubmitEnd, IsTaken, MayGet, Reads, StopsAmong, StopsInPiece, TakesPiece, TakesReports, stream_end}
+use Rattle.link_worker.specs.Ends.{IfShut, IsRefusedEnd, fault_end, report_end}
+use Rattle.link_worker.specs.Reports.{AreReceiptsFor, BeginsWithRefused, EndsAt, EndsBefore, EndsReading, EndsWithin, IsFirstRefused, IsLastReport, IsPartial, IsRefusedReport, IsReport, IsSubmitEnd, IsTaken, MayGet, Reads, StopsAmong, StopsInPiece, TakesPiece, TakesReports, stream_end}
 use Rattle.link_worker.proofs.ListLemmas.{AllByRecursion-append, AllByRecursion-back, AllByRecursion-front}
 use Rattle.cbsp_messages.specs.declared.message.Message.{Message}
-use Rattle.link_worker.proofs.OrderLemmas.{refused_room}
+use Rattle.link_worker.proofs.OrderLemmas.{refused_open, refused_room}
 use Rattle.office.specs.Desks.{DeskState}
 use Rattle.office.specs.Offices.{IsRefusedSomewhere}
 use Rattle.office.specs.declared.receipt.Receipt.{Receipt}
@@ -66,7 +67,16 @@ report_unread b generation d frame t body bad.BadPages is same (inl none) = cc
 report_unread b generation d frame t body bad.BadPages is same (inr fault) = record { type = t; is_type = is; fault = subst (λ xs. IsFaultAs t xs bad.BadPages) same fault }
 report_unread b generation d frame t body bad.NotInProfile is same (inl none) = cc
 report_unread b generation d frame t body bad.NotInProfile is same (inr fault) = record { type = t; is_type = is; fault = subst (λ xs. IsFaultAs t xs bad.NotInProfile) same fault }
-report_unread b generation d frame t body bad.Memory is same p = (refusal.Memory, refl, inl refl)
+report_unread b generation d frame t body bad.Memory is same p = inl refl
+
+-- a report that was not read shuts no gate
+pub fault_open : (P : Type 0) (f : MessageFault) → IfShut P (fault_end f)
+fault_open P (bad.Element x) = tt
+fault_open P (bad.Repeated x) = tt
+fault_open P (bad.Missing x) = tt
+fault_open P bad.BadPages = tt
+fault_open P bad.NotInProfile = tt
+fault_open P bad.Memory = tt
 
 -- receipts for some of the frames, and receipts for some of those behind them
 AreReceiptsFor-append : (b generation : ℕ) (rs ss : List Receipt) (xs ys : List Frame) → AreReceiptsFor b generation rs xs → AreReceiptsFor b generation ss ys
@@ -109,35 +119,59 @@ Takes-report b generation frame m d e is (number, inr (r, event_is, receipts)) =
   readable = (inr (m, is), tt);
 }
 
--- an end that a refusal makes
-EndsBefore-refused : (b generation : ℕ) (d : DeskState) (x : End) (frames : List Frame) → IsRefusedEnd x → EndsAsRefused b generation d x → EndsBefore b generation d x frames
-EndsBefore-refused b generation d end.PeerEnded frames p why = absurd p
-EndsBefore-refused b generation d end.CutFrame frames p why = absurd p
-EndsBefore-refused b generation d end.ReadFault frames p why = absurd p
-EndsBefore-refused b generation d end.WriteFault frames p why = absurd p
-EndsBefore-refused b generation d (end.BadMessage f) frames p why = absurd p
-EndsBefore-refused b generation d end.TooLong frames p why = absurd p
-EndsBefore-refused b generation d end.Superseded frames p why = why
-EndsBefore-refused b generation d (end.Refused r) frames p why = why
-EndsBefore-refused b generation d end.GateShut frames p why = absurd p
+-- an end that the refusal of the first frame's report makes
+EndsBefore-refused : (b generation : ℕ) (d : DeskState) (x : End) (frame : Frame) → IsRefusedEnd x → IsRefusedReport b generation d x frame → EndsBefore b generation d x (frame ∷ [])
+EndsBefore-refused b generation d end.PeerEnded frame p why = absurd p
+EndsBefore-refused b generation d end.CutFrame frame p why = absurd p
+EndsBefore-refused b generation d end.ReadFault frame p why = absurd p
+EndsBefore-refused b generation d end.WriteFault frame p why = absurd p
+EndsBefore-refused b generation d (end.BadMessage f) frame p why = absurd p
+EndsBefore-refused b generation d end.TooLong frame p why = absurd p
+EndsBefore-refused b generation d end.Superseded frame p why = why
+EndsBefore-refused b generation d (end.Refused r) frame p why = inr why
+EndsBefore-refused b generation d end.GateShut frame p why = absurd p
 
--- an end at a report that was read
-EndsBefore-submit : (b generation : ℕ) (d : DeskState) (x : End) (frames : List Frame) → IsSubmitEnd b generation d x → EndsBefore b generation d x frames
-EndsBefore-submit b generation d x frames (inl p) = EndsBefore-refused b generation d x frames p.0 p.1
-EndsBefore-submit b generation d x frames (inr shut) = subst (λ e. EndsBefore b generation d e frames) (sym shut) tt
+-- the end of the stream shuts no gate
+pub stream_open : (P : Type 0) (rest : List ℕ) → IfShut P (stream_end rest)
+stream_open P [] = tt
+stream_open P (x ∷ xs) = tt
 
 -- a report was refused
-pub Ends-refused_report : (b generation : ℕ) (d e : DeskState) (m : Message) (r : Refusal) (x : End) → IsRefusedSomewhere d (event.Report b generation m) r → e ≡ record d { spare = e.spare }
-    → report_end r ≡ Some x → IsRefusedEnd x → IsSubmitEnd b generation e x
-Ends-refused_report b generation d e m r x why same makes refused = inl (refused, (r, makes, inr (m, refused_room d e (event.Report b generation m) r same why)))
+pub Ends-refused_report : (d e : DeskState) (event : Event) (r : Refusal) (x : End) → IsRefusedSomewhere d event r → e ≡ record d { spare = e.spare } → report_end r ≡ Some x → IsRefusedEnd x
+    → IsSubmitEnd event d e x
+Ends-refused_report d e event r x why same makes refused = inl (record {
+  cause = r;
+  makes = makes;
+  refused = refused_room d e event r same why;
+  is_refused = refused;
+  receipts = ap (λ (s : DeskState). s.receipts) same;
+  number = ap (λ (s : DeskState). s.number) same;
+})
 
--- the side ends after a frame
-pub Stops-after : (b generation : ℕ) (frame : Frame) (d e : DeskState) (x : End) → TakesReports b generation (frame ∷ []) d e → IsSubmitEnd b generation e x → StopsAmong b generation (frame ∷ []) d e x
-Stops-after b generation frame d e x takes p = record { taken = frame ∷ []; left = []; parts = refl; takes = takes; ends = EndsBefore-submit b generation e x [] p }
+-- the side ends before a frame whose report was refused, or behind one at which the gate is shut
+pub Stops-submit : (b generation : ℕ) (frame : Frame) (m : Message) (d e : DeskState) (x : End) → IsReport frame m → MayGet (event.Report b generation m) d e
+    → IsSubmitEnd (event.Report b generation m) d e x → StopsAmong b generation (frame ∷ []) d e x
+Stops-submit b generation frame m d e x is got (inl p) = record {
+  taken = [];
+  left = frame ∷ [];
+  parts = refl;
+  takes = record { more = []; receipts = p.receipts ∙ sym (append-nil d.receipts); number = p.number; reports = tt; readable = tt };
+  ends = EndsBefore-refused b generation e x frame p.is_refused (record { message = m; report = is; cause = p.cause; makes = p.makes; refused = p.refused });
+  shut = refused_open (IsLastReport []) x p.is_refused;
+}
+Stops-submit b generation frame m d e x is got (inr shut) = subst (StopsAmong b generation (frame ∷ []) d e) (sym shut) (record {
+  taken = frame ∷ [];
+  left = [];
+  parts = refl;
+  takes = Takes-report b generation frame m d e is got;
+  ends = tt;
+  shut = record { before = []; frame = frame; message = m; parts = refl; report = is };
+})
 
--- and before one
-pub Stops-before : (b generation : ℕ) (frames : List Frame) (d : DeskState) (x : End) → EndsBefore b generation d x frames → StopsAmong b generation frames d d x
-Stops-before b generation frames d x p = record { taken = []; left = frames; parts = refl; takes = Takes-none b generation d; ends = p }
+-- the side ends before a frame that can't be read
+pub Stops-unread : (b generation : ℕ) (frames : List Frame) (d : DeskState) (f : MessageFault) → EndsBefore b generation d (fault_end f) frames → StopsAmong b generation frames d d (fault_end f)
+Stops-unread b generation frames d f p =
+    record { taken = []; left = frames; parts = refl; takes = Takes-none b generation d; ends = p; shut = fault_open (IsLastReport []) f }
 
 -- a report was read and submitted: the side goes on, or ends
 pub taken_if : (result : Result Unit End) (b generation : ℕ) (frame : Frame) (m : Message) (d e : DeskState) → IsReport frame m → MayGet (event.Report b generation m) d e
@@ -146,9 +180,9 @@ taken_if (Ok done) b generation frame m d e is got = Takes-report b generation f
 taken_if (Err x) b generation frame m d e is got = tt
 
 pub ended_if : (result : Result Unit End) (b generation : ℕ) (frame : Frame) (m : Message) (d e : DeskState) → IsReport frame m → MayGet (event.Report b generation m) d e
-    → IfErr result (IsSubmitEnd b generation e) → IfErr result (StopsAmong b generation (frame ∷ []) d e)
+    → IfErr result (IsSubmitEnd (event.Report b generation m) d e) → IfErr result (StopsAmong b generation (frame ∷ []) d e)
 ended_if (Ok done) b generation frame m d e is got p = p
-ended_if (Err x) b generation frame m d e is got p = Stops-after b generation frame d e x (Takes-report b generation frame m d e is got) p
+ended_if (Err x) b generation frame m d e is got p = Stops-submit b generation frame m d e x is got p
 
 -- some of the frames were taken, and these are left
 pub record TakenSoFar (b generation : ℕ) (frames left : List Frame) (old new : DeskState) : Type 0 where
@@ -180,9 +214,30 @@ EndsBefore-more b generation d end.WriteFault frames more p = absurd p
 EndsBefore-more b generation d (end.BadMessage f) [] more p = absurd p
 EndsBefore-more b generation d (end.BadMessage f) (frame ∷ frames) more p = p
 EndsBefore-more b generation d end.TooLong frames more p = absurd p
-EndsBefore-more b generation d end.Superseded frames more p = p
-EndsBefore-more b generation d (end.Refused r) frames more p = p
+EndsBefore-more b generation d end.Superseded [] more p = absurd p
+EndsBefore-more b generation d end.Superseded (frame ∷ frames) more p = p
+EndsBefore-more b generation d (end.Refused r) frames more (inl memory) = inl memory
+EndsBefore-more b generation d (end.Refused r) [] more (inr p) = absurd p
+EndsBefore-more b generation d (end.Refused r) (frame ∷ frames) more (inr p) = inr p
 EndsBefore-more b generation d end.GateShut frames more p = tt
+
+-- a gate that was shut behind a report was so behind the frames before it
+shut_behind : (xs ys : List Frame) (x : End) → IfShut (IsLastReport ys) x → IfShut (IsLastReport (xs ++ ys)) x
+shut_behind xs ys end.PeerEnded p = tt
+shut_behind xs ys end.CutFrame p = tt
+shut_behind xs ys end.ReadFault p = tt
+shut_behind xs ys end.WriteFault p = tt
+shut_behind xs ys (end.BadMessage f) p = tt
+shut_behind xs ys end.TooLong p = tt
+shut_behind xs ys end.Superseded p = tt
+shut_behind xs ys (end.Refused r) p = tt
+shut_behind xs ys end.GateShut p = record {
+  before = xs ++ p.before;
+  frame = p.frame;
+  message = p.message;
+  parts = ap (λ fs. xs ++ fs) p.parts ∙ sym (append_assoc xs p.before (p.frame ∷ []));
+  report = p.report;
+}
 
 pub TakenSoFar-stops : (b generation : ℕ) (frames left rest : List Frame) (frame : Frame) (c d e : DeskState) (x : End) → TakenSoFar b generation frames left c d → left ≡ frame ∷ rest
     → StopsAmong b generation (frame ∷ []) d e x → StopsAmong b generation frames c e x
@@ -192,6 +247,7 @@ TakenSoFar-stops b generation frames left rest frame c d e x p is q = record {
   parts = p.parts ∙ ap (λ fs. p.taken ++ fs) (is ∙ ap (λ fs. fs ++ rest) q.parts ∙ append_assoc q.taken q.left rest) ∙ sym (append_assoc p.taken q.taken (q.left ++ rest));
   takes = Takes-more b generation p.taken q.taken c d e p.takes q.takes;
   ends = EndsBefore-more b generation e x q.left rest q.ends;
+  shut = shut_behind p.taken q.taken x q.shut;
 }
 
 -- what a framer has of a piece, whatever it answered: the octets are these frames, and a tail
@@ -211,6 +267,18 @@ fed_parts (Err (fault.TooLong n)) old new piece none takes refuses =
 fed_parts (Err fault.Memory) old new piece none takes refuses =
     subst (Fed old.rest piece) (sym (ap (λ (f : Framing). f.frames) refuses ∙ none)) (record { tail = old.rest ++ piece; parts = refl; short = tt })
 
+-- the octets of frames of which the first is that of a refused report
+refused_front : (b generation : ℕ) (d : DeskState) (x : End) (left : List Frame) (tail : List ℕ) → AllByRecursion IsReadable left → IsFirstRefused b generation d x left
+    → BeginsWithRefused b generation d x (flat_map frame_octets left ++ tail)
+refused_front b generation d x [] tail short p = absurd p
+refused_front b generation d x (frame ∷ left) tail short p = record {
+  frame = frame;
+  after = flat_map frame_octets left ++ tail;
+  parts = append_assoc (frame_octets frame) (flat_map frame_octets left) tail;
+  short = short.0;
+  refused = p;
+}
+
 -- what an end at some frames says of the octets that were not taken
 EndsWithin-before : (b generation : ℕ) (d : DeskState) (x : End) (left : List Frame) (tail : List ℕ) → AllByRecursion IsReadable left → EndsBefore b generation d x left
     → EndsWithin b generation d x (flat_map frame_octets left ++ tail)
@@ -227,8 +295,9 @@ EndsWithin-before b generation d (end.BadMessage f) (frame ∷ left) tail short 
   bad = p;
 }
 EndsWithin-before b generation d end.TooLong left tail short p = absurd p
-EndsWithin-before b generation d end.Superseded left tail short p = p
-EndsWithin-before b generation d (end.Refused r) left tail short p = p
+EndsWithin-before b generation d end.Superseded left tail short p = refused_front b generation d end.Superseded left tail short p
+EndsWithin-before b generation d (end.Refused r) left tail short (inl memory) = inl memory
+EndsWithin-before b generation d (end.Refused r) left tail short (inr p) = inr (refused_front b generation d (end.Refused r) left tail short p)
 EndsWithin-before b generation d end.GateShut left tail short p = tt
 
 -- the side ends at one of the frames of a piece
@@ -244,6 +313,7 @@ Stops-within b generation begun piece frames d e x fed stops =
       short = AllByRecursion-front IsReadable stops.taken stops.left short;
       takes = stops.takes;
       ends = EndsWithin-before b generation e x stops.left fed.tail (AllByRecursion-back IsReadable stops.taken stops.left short) stops.ends;
+      shut = stops.shut;
     }
 
 -- all frames of a piece were taken, and no further one has begun that is too long
@@ -265,6 +335,7 @@ Stops-long b generation old new piece n d e none fed takes =
       short = fed.cuts.each;
       takes = subst (λ fs. TakesReports b generation fs d e) is takes;
       ends = fed.too_long;
+      shut = tt;
     }
 
 pub Stops-starved : (b generation : ℕ) (begun piece : List ℕ) (frames : List Frame) (d e : DeskState) → Fed begun piece frames → TakesReports b generation frames d e
@@ -275,7 +346,8 @@ Stops-starved b generation begun piece frames d e fed takes = record {
   parts = fed.parts;
   short = fed.short;
   takes = takes;
-  ends = (refusal.Memory, refl, inl refl);
+  ends = inl refl;
+  shut = tt;
 }
 
 -- nothing was read
@@ -318,11 +390,13 @@ Ends-piece b generation begun piece d e p q x consumed stops = record {
   short = stops.short;
   takes = stops.takes;
   ends = EndsAt-within b generation e x stops.tail q stops.ends;
+  shut = stops.shut;
 }
 
 -- the side ends with no octet more
-pub Ends-none : (b generation : ℕ) (begun : List ℕ) (d : DeskState) (p q : Option (List ℕ)) (x : End) → Consumes p q [] → EndsAt b generation d x begun q → EndsReading b generation begun d d p q x
-Ends-none b generation begun d p q x consumed ends = record {
+pub Ends-none : (b generation : ℕ) (begun : List ℕ) (d : DeskState) (p q : Option (List ℕ)) (x : End) → Consumes p q [] → EndsAt b generation d x begun q → IfShut (IsLastReport []) x
+    → EndsReading b generation begun d d p q x
+Ends-none b generation begun d p q x consumed ends shut = record {
   octets = [];
   frames = [];
   tail = begun;
@@ -331,6 +405,7 @@ Ends-none b generation begun d p q x consumed ends = record {
   short = tt;
   takes = Takes-none b generation d;
   ends = ends;
+  shut = shut;
 }
 
 -- some reads, and then others
@@ -361,6 +436,7 @@ Reads-end b generation begun rest c d e p q r x one two = record {
   short = AllByRecursion-append IsReadable one.frames two.frames one.cuts.each two.short;
   takes = Takes-more b generation one.frames two.frames c d e one.takes two.takes;
   ends = two.ends;
+  shut = shut_behind one.frames two.frames x two.shut;
 }
 
 -- what is left of a frame after some reads
@@ -370,7 +446,7 @@ Reads-partial b generation begun rest c d p q one = record { partial = one.cuts.
 -- some reads, which came to no end
 pub Reads-unended : (b generation : ℕ) (begun rest : List ℕ) (c d : DeskState) (p q : Option (List ℕ)) → Reads b generation begun c d p q rest → EndsReading b generation begun c d p q end.ReadFault
 Reads-unended b generation begun rest c d p q one =
-    Reads-end b generation begun rest c d d p q q end.ReadFault one (Ends-none b generation rest d q q end.ReadFault (Consumes-nil q) (Reads-partial b generation begun rest c d p q one))
+    Reads-end b generation begun rest c d d p q q end.ReadFault one (Ends-none b generation rest d q q end.ReadFault (Consumes-nil q) (Reads-partial b generation begun rest c d p q one) tt)
 
 -- the stream ends
 pub EndsAt-stream : (b generation : ℕ) (d : DeskState) (rest : List ℕ) (left : Option (List ℕ)) → IsPartial rest → IsAtEnd left → EndsAt b generation d (stream_end rest) rest left

@@ -50,6 +50,11 @@ abbrev pub report_end : Refusal → Option End
 report_end refusal.NoOrder = None
 report_end other = Some (ending other)
 
+-- what holds where a gate was shut
+abbrev pub IfShut : Type 0 → End → Type 0
+IfShut holds end.GateShut = holds
+IfShut holds other = Unit {0}
+
 -- a fault of writing
 abbrev pub is_write_fault : End → Bool
 is_write_fault end.WriteFault = true

@@ -15,7 +15,9 @@ use Rattle.link_worker.specs.declared.end.End.{End}
 use Rattle.link_worker.specs.declared.end.End.TheVariants as end
 use Rattle.office.specs.Desks.{DeskState}
 use Rattle.office.specs.Offices.{IsRefusedSomewhere}
+use Rattle.office.specs.Wakes.{IsDueSomewhere}
 use Rattle.office.specs.declared.receipt.Receipt.{Receipt}
+use Rattle.office.specs.declared.wake.Wake.TheVariants as wake
 
 -- the frame of the message in an answer; no octets where it has none
 abbrev pub answer_frame : Answer → List ℕ
@@ -59,26 +61,30 @@ pub record StopsAtLast (b generation : ℕ) (old new : DeskState) (before after 
   pub cut : IsCutAt e count (length (receipt_frame last))
   pub written : Appends before after (flat_map receipt_frame more ++ take count (receipt_frame last))
 
--- why nothing more is ordered: the centre was stale, or an order or a query over the link was refused for that cause
+-- why nothing more is ordered: some centre was stale, or an order or a query over the link was refused for that cause
 abbrev pub IsRefusedOrder : ℕ → ℕ → DeskState → Refusal → Type 0
-IsRefusedOrder b generation d r = (r ≡ refusal.Stale) ⊎ ((e : Event) × IsOrder b generation e × IsRefusedSomewhere d e r)
+IsRefusedOrder b generation d r = ((r ≡ refusal.Stale) × IsDueSomewhere b generation wake.StaleCentre) ⊎ ((e : Event) × IsOrder b generation e × IsRefusedSomewhere d e r)
 
 -- the end is the one that such a cause makes
 abbrev pub EndsAsUnsent : ℕ → ℕ → DeskState → End → Type 0
 EndsAsUnsent b generation d e = (r : Refusal) × (order_end r ≡ Some e) × IsRefusedOrder b generation d r
 
+-- the link is over: an order or a query over it was refused for that, or it was so in some centre
+abbrev pub EndsAsOver : ℕ → ℕ → DeskState → Type 0
+EndsAsOver b generation d = EndsAsUnsent b generation d end.Superseded ⊎ IsDueSomewhere b generation wake.Ended
+
 -- what was written at each end of the side. Where there was no memory for the last receipt's frame, none of it is written.
 abbrev pub EndsWriting : ℕ → ℕ → DeskState → DeskState → Option (List ℕ) → Option (List ℕ) → End → Type 0
 EndsWriting b generation old new before after end.WriteFault = StopsAtLast b generation old new before after end.WriteFault
 EndsWriting b generation old new before after end.GateShut = StopsAtLast b generation old new before after end.GateShut
-EndsWriting b generation old new before after end.Superseded = Writes b generation old new before after
+EndsWriting b generation old new before after end.Superseded = Writes b generation old new before after × EndsAsOver b generation new
 EndsWriting b generation old new before after (end.Refused r) =
     (Writes b generation old new before after × EndsAsUnsent b generation new (end.Refused r)) ⊎ ((r ≡ refusal.Memory) × StopsAtLast b generation old new before after (end.Refused r))
 EndsWriting b generation old new before after other = ⊥
 
--- an end at which nothing was due
-abbrev pub IsWaitEnd : End → Type 0
-IsWaitEnd e = (e ≡ end.Superseded) ⊎ (e ≡ end.Refused refusal.Stale)
+-- an end at which nothing was due: the link is over, or the centre stale, in some centre
+abbrev pub IsWaitEnd : ℕ → ℕ → End → Type 0
+IsWaitEnd b generation e = ((e ≡ end.Superseded) × IsDueSomewhere b generation wake.Ended) ⊎ ((e ≡ end.Refused refusal.Stale) × IsDueSomewhere b generation wake.StaleCentre)
 
 -- what was written of a frame at each end
 abbrev pub StopsInFrame : Option (List ℕ) → Option (List ℕ) → List ℕ → End → Type 0

@@ -15,7 +15,7 @@ use Rattle.framing.specs.Streams.{BeginsWithNoFrame, Cuts, IsReadable, IsTooLong
 use Rattle.framing.specs.declared.frame.Frame.{Frame}
 use Rattle.centre_events.specs.declared.refusal.Refusal.{Refusal}
 use Rattle.centre_events.specs.declared.refusal.Refusal.TheVariants as refusal
-use Rattle.link_worker.specs.Ends.{IsRefusedEnd, report_end}
+use Rattle.link_worker.specs.Ends.{IfShut, IsRefusedEnd, report_end}
 use Rattle.link_worker.specs.declared.end.End.{End}
 use Rattle.link_worker.specs.declared.end.End.TheVariants as end
 use Rattle.office.specs.Desks.{DeskState}
@@ -72,13 +72,34 @@ pub record IsPartial (octets : List ℕ) : Type 0 where
   pub partial : BeginsWithNoFrame octets
   pub fits : ¬ IsTooLong octets
 
--- why reports are no longer taken: there was no memory, or a report over the link was refused for that cause
-abbrev pub IsRefusedReport : ℕ → ℕ → DeskState → Refusal → Type 0
-IsRefusedReport b generation d r = (r ≡ refusal.Memory) ⊎ ((m : Message) × IsRefusedSomewhere d (event.Report b generation m) r)
+-- the report in the frame was refused over the link, and the end is the one that this refusal makes
+pub record IsRefusedReport (b generation : ℕ) (d : DeskState) (e : End) (frame : Frame) : Type 0 where
+  pub message : Message
+  pub report : IsReport frame message
+  pub cause : Refusal
+  pub makes : report_end cause ≡ Some e
+  pub refused : IsRefusedSomewhere d (event.Report b generation message) cause
 
--- the end is the one that such a cause makes
-abbrev pub EndsAsRefused : ℕ → ℕ → DeskState → End → Type 0
-EndsAsRefused b generation d e = (r : Refusal) × (report_end r ≡ Some e) × IsRefusedReport b generation d r
+-- the octets begin with the frame of such a report
+pub record BeginsWithRefused (b generation : ℕ) (d : DeskState) (e : End) (octets : List ℕ) : Type 0 where
+  pub frame : Frame
+  pub after : List ℕ
+  pub parts : octets ≡ frame_octets frame ++ after
+  pub short : IsReadable frame
+  pub refused : IsRefusedReport b generation d e frame
+
+-- the first of the frames is that of such a report
+abbrev pub IsFirstRefused : ℕ → ℕ → DeskState → End → List Frame → Type 0
+IsFirstRefused b generation d e [] = ⊥
+IsFirstRefused b generation d e (frame ∷ frames) = IsRefusedReport b generation d e frame
+
+-- the last of the frames is that of a report
+pub record IsLastReport (frames : List Frame) : Type 0 where
+  pub before : List Frame
+  pub frame : Frame
+  pub message : Message
+  pub parts : frames ≡ before ++ frame ∷ []
+  pub report : IsReport frame message
 
 -- what each end says of the octets that were read and not taken, of those that the reader has left, and of the cause
 abbrev pub EndsAt : ℕ → ℕ → DeskState → End → List ℕ → Option (List ℕ) → Type 0
@@ -88,11 +109,12 @@ EndsAt b generation d end.ReadFault tail left = IsPartial tail
 EndsAt b generation d end.WriteFault tail left = ⊥
 EndsAt b generation d (end.BadMessage f) tail left = BeginsWithBadReport tail f
 EndsAt b generation d end.TooLong tail left = IsTooLong tail
-EndsAt b generation d end.Superseded tail left = EndsAsRefused b generation d end.Superseded
-EndsAt b generation d (end.Refused r) tail left = EndsAsRefused b generation d (end.Refused r)
+EndsAt b generation d end.Superseded tail left = BeginsWithRefused b generation d end.Superseded tail
+EndsAt b generation d (end.Refused r) tail left = (r ≡ refusal.Memory) ⊎ BeginsWithRefused b generation d (end.Refused r) tail
 EndsAt b generation d end.GateShut tail left = Unit {0}
 
--- octets were read, behind those of a frame that has begun: they are frames, which were taken, and a tail
+-- octets were read, behind those of a frame that has begun: they are frames, which were taken, and a tail. A gate that was shut
+-- comes behind a report.
 pub record EndsReading (b generation : ℕ) (begun : List ℕ) (old new : DeskState) (before after : Option (List ℕ)) (e : End) : Type 0 where
   pub octets : List ℕ
   pub frames : List Frame
@@ -102,6 +124,7 @@ pub record EndsReading (b generation : ℕ) (begun : List ℕ) (old new : DeskSt
   pub short : AllByRecursion IsReadable frames
   pub takes : TakesReports b generation frames old new
   pub ends : EndsAt b generation new e tail after
+  pub shut : IfShut (IsLastReport frames) e
 
 -- octets were read, behind those of a frame that has begun, and may be followed by others: all whole frames were taken
 pub record Reads (b generation : ℕ) (begun : List ℕ) (old new : DeskState) (before after : Option (List ℕ)) (rest : List ℕ) : Type 0 where
@@ -123,8 +146,8 @@ pub record TakesPiece (b generation : ℕ) (begun piece rest : List ℕ) (old ne
 abbrev pub EndsWithin : ℕ → ℕ → DeskState → End → List ℕ → Type 0
 EndsWithin b generation d (end.BadMessage f) tail = BeginsWithBadReport tail f
 EndsWithin b generation d end.TooLong tail = IsTooLong tail
-EndsWithin b generation d end.Superseded tail = EndsAsRefused b generation d end.Superseded
-EndsWithin b generation d (end.Refused r) tail = EndsAsRefused b generation d (end.Refused r)
+EndsWithin b generation d end.Superseded tail = BeginsWithRefused b generation d end.Superseded tail
+EndsWithin b generation d (end.Refused r) tail = (r ≡ refusal.Memory) ⊎ BeginsWithRefused b generation d (end.Refused r) tail
 EndsWithin b generation d end.GateShut tail = Unit {0}
 EndsWithin b generation d other tail = ⊥
 
@@ -136,12 +159,13 @@ pub record StopsInPiece (b generation : ℕ) (begun piece : List ℕ) (old new :
   pub short : AllByRecursion IsReadable frames
   pub takes : TakesReports b generation frames old new
   pub ends : EndsWithin b generation new e tail
+  pub shut : IfShut (IsLastReport frames) e
 
 -- what an end at some frames says of those that were not taken, and of the cause
 abbrev pub EndsBefore : ℕ → ℕ → DeskState → End → List Frame → Type 0
 EndsBefore b generation d (end.BadMessage f) (frame ∷ frames) = IsBadReport frame f
-EndsBefore b generation d end.Superseded frames = EndsAsRefused b generation d end.Superseded
-EndsBefore b generation d (end.Refused r) frames = EndsAsRefused b generation d (end.Refused r)
+EndsBefore b generation d end.Superseded frames = IsFirstRefused b generation d end.Superseded frames
+EndsBefore b generation d (end.Refused r) frames = (r ≡ refusal.Memory) ⊎ IsFirstRefused b generation d (end.Refused r) frames
 EndsBefore b generation d end.GateShut frames = Unit {0}
 EndsBefore b generation d other frames = ⊥
 
@@ -152,15 +176,25 @@ pub record StopsAmong (b generation : ℕ) (frames : List Frame) (old new : Desk
   pub parts : frames ≡ taken ++ left
   pub takes : TakesReports b generation taken old new
   pub ends : EndsBefore b generation new e left
+  pub shut : IfShut (IsLastReport taken) e
 
 -- the event may have been accepted: then its receipt came behind the desk's earlier ones
 abbrev pub MayGet : Event → DeskState → DeskState → Type 0
 MayGet e old new =
     (new.number ≡ old.number) × ((new.receipts ≡ old.receipts) ⊎ ((r : Receipt) × (r.event ≡ e) × (new.receipts ≡ old.receipts ++ r ∷ [])))
 
+-- the event was refused, and the end is the one that this refusal makes
+pub record IsRefusal (event : Event) (old new : DeskState) (e : End) : Type 0 where
+  pub cause : Refusal
+  pub makes : report_end cause ≡ Some e
+  pub refused : IsRefusedSomewhere new event cause
+  pub is_refused : IsRefusedEnd e
+  pub receipts : new.receipts ≡ old.receipts
+  pub number : new.number ≡ old.number
+
 -- an end at a report that was read
-abbrev pub IsSubmitEnd : ℕ → ℕ → DeskState → End → Type 0
-IsSubmitEnd b generation d e = (IsRefusedEnd e × EndsAsRefused b generation d e) ⊎ (e ≡ end.GateShut)
+abbrev pub IsSubmitEnd : Event → DeskState → DeskState → End → Type 0
+IsSubmitEnd event old new e = IsRefusal event old new e ⊎ (e ≡ end.GateShut)
 
 -- what the end of the stream is, by the octets of a frame that has begun
 abbrev pub stream_end : List ℕ → End

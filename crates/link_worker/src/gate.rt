@@ -13,9 +13,17 @@ pub enum Step {
 }
 
 /// What both sides of a link ask at each step. It may wait before it answers, which holds the link.
+///
+/// It may tell at which steps it cuts the link of which BSC. A gate that tells nothing may do so at each.
 pub trait Gate {
+    ghost use Rattle.std.specs.Prelude.{◌≡◌, ℕ, false};
+    ghost use Rattle.link_worker.specs.declared.gate.Step.{Step};
+
+    ghost may_cut: { Self → ℕ → Step → Type 0 } = { λ _ _ _. Unit {0} };
+
     /// Whether the link of the BSC goes on. Where it doesn't, the side that asks ends.
-    fn pass<R: Wait>(&self, rt: &R, b: BscId, step: Step) -> bool;
+    fn pass<R: Wait>(&self, rt: &R, b: BscId, step: Step) -> bool
+        ensures cut { result ≡ false → may_cut self.now b step };
 }
 
 /// A gate that lets everything pass.
@@ -24,6 +32,8 @@ pub struct OpenGate;
 
 impl Gate for OpenGate {
     ghost use Rattle.std.specs.Prelude.{◌≡◌, true};
+
+    ghost may_cut = { λ _ _ _. ⊥ };
 
     fn pass<R: Wait>(&self, _rt: &R, _b: BscId, _step: Step) -> bool
         ensures { result ≡ true }

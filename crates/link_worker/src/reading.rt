@@ -1,8 +1,9 @@
 //! The side of a link that reads.
 
-ghost use Rattle.std.specs.Prelude.{◌≡◌, ◌⊎◌, [], true, false, IfSome};
-ghost use Rattle.framing.specs.Source.{counted};
-ghost use Rattle.link_worker.specs.Ends.{IsRefusedEnd, is_read_fault, report_end};
+ghost use Rattle.std.specs.Prelude.{◌≡◌, [], true, false, IfSome};
+ghost use Rattle.framing.specs.Source.{FailsToRead};
+ghost use Rattle.link_worker.specs.Ends.{IfShut, IsRefusedEnd, is_read_fault, report_end};
+ghost use Rattle.link_worker.specs.declared.gate.Step.TheVariants as step;
 ghost use Rattle.link_worker.specs.Reports.{EndsReading, stream_end};
 
 use crate::end::End;
@@ -28,7 +29,8 @@ const PIECE: usize = 4096;
 ///
 /// It goes on where a report answers no order in flight (`NoOrder`). It ends by any of the ends but `WriteFault`. The frames before
 /// one that is too long, or that can't be read, are taken first. `Superseded` and `Refused` come of the refusal of a report over
-/// this link, which `Refused` has; `Refused(Memory)` also where there was no memory for a frame or its message.
+/// this link, which `Refused` has; `Refused(Memory)` also where there was no memory for a frame or its message. `GateShut` comes
+/// after a report at which the gate may cut the link.
 pub fn read_side<L: Ledger, S: Source, G: Gate, R: Wait>(
     rt: &R,
     alloc: Global,
@@ -40,8 +42,9 @@ pub fn read_side<L: Ledger, S: Source, G: Gate, R: Wait>(
     gate: &G,
 ) -> End
     ensures read { EndsReading b generation [] desk.old desk.new (S.remaining reader.old) (S.remaining reader.new) result }
-    ensures fault { is_read_fault result ≡ true → (S.has_failed reader.new ≡ true) ⊎ (S.calls reader.new ≡ counted (S.calls reader.old) 1000000000000) }
-    ensures failed { is_read_fault result ≡ false → S.has_failed reader.new ≡ S.has_failed reader.old }
+    ensures fault { is_read_fault result ≡ true → FailsToRead (S.calls reader.old) (S.calls reader.new) (S.failures reader.old) (S.failures reader.new) }
+    ensures failed { is_read_fault result ≡ false → S.failures reader.new ≡ S.failures reader.old }
+    ensures cut { IfShut (G.may_cut gate.now b step.AfterReport) result }
 {
     let link = Link {
         alloc,
@@ -60,9 +63,9 @@ pub fn read_side<L: Ledger, S: Source, G: Gate, R: Wait>(
 }
 
 impl<'o, 'g, L: Ledger, G: Gate> Link<'o, 'g, L, G> {
-    ghost use Rattle.std.specs.Prelude.{◌≡◌, ◌||◌, [], ◌∷◌, IfErr, OnOk};
+    ghost use Rattle.std.specs.Prelude.{◌≡◌, [], ◌∷◌, IfErr, OnOk};
     ghost use Rattle.centre_events.specs.declared.event.Event.TheVariants as event;
-    ghost use Rattle.framing.specs.Source.{counted};
+    ghost use Rattle.framing.specs.Source.{counted, with_failure};
     ghost use Rattle.link_worker.specs.Ends.{fails_to_read};
     ghost use Rattle.link_worker.specs.Reports.{EndsReading, IsPartial, IsSubmitEnd, MayGet, Reads, StopsAmong, StopsInPiece, TakesPiece, TakesReports};
 
@@ -80,7 +83,8 @@ impl<'o, 'g, L: Ledger, G: Gate> Link<'o, 'g, L, G> {
         ensures reads { OnOk result (Reads self.now.bsc self.now.generation framer.old.rest desk.old desk.new (S.remaining reader.old) (S.remaining reader.new) framer.new.rest) }
         ensures ended { IfErr result (EndsReading self.now.bsc self.now.generation framer.old.rest desk.old desk.new (S.remaining reader.old) (S.remaining reader.new)) }
         ensures calls { S.calls reader.new ≡ counted (S.calls reader.old) 1 }
-        ensures failed { S.has_failed reader.new ≡ (fails_to_read result || S.has_failed reader.old) }
+        ensures failed { S.failures reader.new ≡ with_failure (S.failures reader.old) (fails_to_read result) }
+        ensures cut { IfErr result (IfShut (G.may_cut self.now.gate.now self.now.bsc step.AfterReport)) }
     {
         let mut piece = [0; PIECE];
         match reader.read(&mut piece) {
@@ -102,6 +106,7 @@ impl<'o, 'g, L: Ledger, G: Gate> Link<'o, 'g, L, G> {
         ensures none { OnOk result (framer.new.frames ≡ []) }
         ensures taken { OnOk result (TakesPiece self.now.bsc self.now.generation framer.old.rest piece.now framer.new.rest desk.old desk.new) }
         ensures ended { IfErr result (StopsInPiece self.now.bsc self.now.generation framer.old.rest piece.now desk.old desk.new) }
+        ensures cut { IfErr result (IfShut (G.may_cut self.now.gate.now self.now.bsc step.AfterReport)) }
     {
         let fed = framer.feed(piece);
         if let Err(end) = self.take_frames(rt, desk, framer) {
@@ -125,6 +130,7 @@ impl<'o, 'g, L: Ledger, G: Gate> Link<'o, 'g, L, G> {
         ensures none { OnOk result (framer.new.frames ≡ []) }
         ensures taken { OnOk result (TakesReports self.now.bsc self.now.generation framer.old.frames desk.old desk.new) }
         ensures ended { IfErr result (StopsAmong self.now.bsc self.now.generation framer.old.frames desk.old desk.new) }
+        ensures cut { IfErr result (IfShut (G.may_cut self.now.gate.now self.now.bsc step.AfterReport)) }
     {
         while let Some(frame) = framer.next() {
             if let Err(end) = self.take_frame(rt, desk, &frame) {
@@ -138,6 +144,7 @@ impl<'o, 'g, L: Ledger, G: Gate> Link<'o, 'g, L, G> {
     fn take_frame<R: Wait>(&self, rt: &R, desk: &mut Desk<L>, frame: &Frame) -> Result<(), End>
         ensures taken { OnOk result (TakesReports self.now.bsc self.now.generation (frame.now ∷ []) desk.old desk.new) }
         ensures ended { IfErr result (StopsAmong self.now.bsc self.now.generation (frame.now ∷ []) desk.old desk.new) }
+        ensures cut { IfErr result (IfShut (G.may_cut self.now.gate.now self.now.bsc step.AfterReport)) }
     {
         let Some(kind) = MessageType::of_report(frame.kind) else {
             return Ok(());
@@ -156,7 +163,8 @@ impl<'o, 'g, L: Ledger, G: Gate> Link<'o, 'g, L, G> {
         message: Message,
     ) -> Result<(), End>
         ensures got { MayGet (event.Report self.now.bsc self.now.generation message) desk.old desk.new }
-        ensures ended { IfErr result (IsSubmitEnd self.now.bsc self.now.generation desk.new) }
+        ensures ended { IfErr result (IsSubmitEnd (event.Report self.now.bsc self.now.generation message) desk.old desk.new) }
+        ensures cut { IfErr result (IfShut (G.may_cut self.now.gate.now self.now.bsc step.AfterReport)) }
     {
         let event = Event::Report(self.bsc, self.generation, message);
         if let Err(refusal) = self.office.submit(rt, desk, event) {

@@ -1,9 +1,11 @@
 //! The side of a link that writes.
 
-ghost use Rattle.std.specs.Prelude.{◌≡◌, ◌||◌, IfOk, IfSome};
+ghost use Rattle.std.specs.Prelude.{◌≡◌, IfOk, IfSome};
 ghost use Rattle.centre_past.specs.Fits.{AnswerFits};
-ghost use Rattle.link_worker.specs.Ends.{IsRefusedEnd, is_write_fault, order_end};
+ghost use Rattle.framing.specs.Source.{with_failure};
+ghost use Rattle.link_worker.specs.Ends.{IfShut, IsRefusedEnd, is_write_fault, order_end};
 ghost use Rattle.link_worker.specs.Orders.{EndsWriting, answer_frame};
+ghost use Rattle.link_worker.specs.declared.gate.Step.TheVariants as step;
 
 use crate::end::End;
 use crate::gate::{Gate, Step};
@@ -26,7 +28,7 @@ use std::sync::ledger::Ledger;
 /// the side ends. The gate is asked before each write (`Step::BeforeWrite`), when the entry is in the journal already.
 ///
 /// It goes on where by then nothing is to be sent or asked (`InFlight`, `NothingPending`, `NothingToAsk`, `NoSuchWarning`). It ends
-/// by `WriteFault`, `Superseded`, `Refused` or `GateShut`. `Refused` has `Stale`, the refusal of an order or a query over this link,
+/// by `WriteFault`, `Superseded`, `Refused` or `GateShut`, the last only where the gate may cut the link. `Refused` has `Stale`, the refusal of an order or a query over this link,
 /// or `Memory` where there was none for a frame. After `WriteFault`, `GateShut` and `Refused(Memory)` the order of the last
 /// receipt may be in flight though its frame was not written, or not all of it; it is so until the loss of the link is submitted.
 pub fn write_side<L: Ledger, W: Sink, G: Gate, R: Wait>(
@@ -40,7 +42,8 @@ pub fn write_side<L: Ledger, W: Sink, G: Gate, R: Wait>(
     gate: &G,
 ) -> End
     ensures written { EndsWriting b generation desk.old desk.new (W.written writer.old) (W.written writer.new) result }
-    ensures failed { W.has_failed writer.new ≡ (is_write_fault result || W.has_failed writer.old) }
+    ensures failed { W.failures writer.new ≡ with_failure (W.failures writer.old) (is_write_fault result) }
+    ensures cut { IfShut (G.may_cut gate.now b step.BeforeWrite) result }
 {
     let link = Link {
         alloc,
@@ -63,7 +66,7 @@ pub fn write_side<L: Ledger, W: Sink, G: Gate, R: Wait>(
 }
 
 impl<'o, 'g, L: Ledger, G: Gate> Link<'o, 'g, L, G> {
-    ghost use Rattle.std.specs.Prelude.{◌≡◌, ◌||◌, IfOk, IfErr, OnOk};
+    ghost use Rattle.std.specs.Prelude.{◌≡◌, IfOk, IfErr, OnOk};
     ghost use Rattle.std.specs.Io.KnownBytes.{Appends};
     ghost use Rattle.centre_past.specs.Fits.{AnswerFits};
     ghost use Rattle.link_worker.specs.Ends.{fails_to_write};
@@ -72,7 +75,7 @@ impl<'o, 'g, L: Ledger, G: Gate> Link<'o, 'g, L, G> {
     /// Waits for the next order or query.
     fn due<R: Wait>(&self, rt: &R) -> Result<Event, End>
         ensures order { IfOk result (IsOrder self.now.bsc self.now.generation) }
-        ensures end { IfErr result IsWaitEnd }
+        ensures end { IfErr result (IsWaitEnd self.now.bsc self.now.generation) }
     {
         match self.office.wait_pending(rt, self.bsc, self.generation) {
             Wake::Order => Ok(Event::Send(self.bsc, self.generation)),
@@ -95,7 +98,8 @@ impl<'o, 'g, L: Ledger, G: Gate> Link<'o, 'g, L, G> {
         requires { IsOrder self.now.bsc self.now.generation event }
         ensures sent { OnOk result (Writes self.now.bsc self.now.generation desk.old desk.new (W.written writer.old) (W.written writer.new)) }
         ensures ended { IfErr result (EndsWriting self.now.bsc self.now.generation desk.old desk.new (W.written writer.old) (W.written writer.new)) }
-        ensures failed { W.has_failed writer.new ≡ (fails_to_write result || W.has_failed writer.old) }
+        ensures failed { W.failures writer.new ≡ with_failure (W.failures writer.old) (fails_to_write result) }
+        ensures cut { IfErr result (IfShut (G.may_cut self.now.gate.now self.now.bsc step.BeforeWrite)) }
     {
         match self.office.submit(rt, desk, event) {
             Ok(()) => self.write_receipt(rt, desk.latest(), writer),
@@ -116,7 +120,8 @@ impl<'o, 'g, L: Ledger, G: Gate> Link<'o, 'g, L, G> {
         requires { AnswerFits receipt.now.answer }
         ensures all { OnOk result (Appends (W.written writer.old) (W.written writer.new) (receipt_frame receipt.now)) }
         ensures part { IfErr result (StopsInFrame (W.written writer.old) (W.written writer.new) (receipt_frame receipt.now)) }
-        ensures failed { W.has_failed writer.new ≡ (fails_to_write result || W.has_failed writer.old) }
+        ensures failed { W.failures writer.new ≡ with_failure (W.failures writer.old) (fails_to_write result) }
+        ensures cut { IfErr result (IfShut (G.may_cut self.now.gate.now self.now.bsc step.BeforeWrite)) }
     {
         let Ok(frame) = frame_of(self.alloc, &receipt.answer) else {
             return Err(End::Refused(Refusal::Memory));

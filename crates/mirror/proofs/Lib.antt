@@ -11,4 +11,5 @@ mod CellLineLemmas
 mod IndexLemmas
 mod TableLemmas
 mod OnAirCellLemmas
+mod UntilLemmas
 mod DownLemmas

@@ -25,7 +25,7 @@ filter_twice {A} p q r e (x ∷ xs) = step (p x) (filter_twice p q r e xs) ∙ a
     step false rest = rest
 
 -- one line more of the BSC and the warning
-line_more : (b w : ℕ) (e : Slot × Line) (rest : List (Slot × Line)) → is_slot_for b w e.0 ≡ true → lines_for b w (e ∷ rest) ≡ e ∷ lines_for b w rest
+pub line_more : (b w : ℕ) (e : Slot × Line) (rest : List (Slot × Line)) → is_slot_for b w e.0 ≡ true → lines_for b w (e ∷ rest) ≡ e ∷ lines_for b w rest
 line_more b w e rest own = take_while-cons (λ x. is_slot_for b w x.0) e rest ∙ ap (λ t. cond t (e ∷ lines_for b w rest) []) own
 
 -- one of another ends them

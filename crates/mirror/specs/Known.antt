@@ -9,11 +9,11 @@ use Rattle.cbsp_ie.specs.declared.cell_id.CellId.TheVariants as id
 use Rattle.cell_register.specs.Register.{State, place_in, is_place}
 use Rattle.common.specs.Cell.{cell_eq}
 use Rattle.common.specs.declared.cell.Cell.{Cell}
-use Rattle.mirror.specs.Table.{Table, down_at, has_line, is_slot_in}
+use Rattle.mirror.specs.Table.{Table, down_for_some, has_line, is_slot_in}
 
--- the cell is registered at the BSC, or it is down there, or something is kept of a warning in it there
+-- the cell is registered at the BSC, or it is down there for warnings of some kind, or something is kept of a warning in it there
 abbrev pub is_known : Table → State → ℕ → Cell → Bool
-is_known t r b c = is_place (place_in r c) b || (down_at t b c || has_line t b c)
+is_known t r b c = is_place (place_in r c) b || (down_for_some t b c || has_line t b c)
 
 -- the numbers of the warnings of which a line is kept in the cell at the BSC
 abbrev pub warnings_at : Table → ℕ → Cell → List ℕ

@@ -8,6 +8,7 @@
 #![tactic(auto)]
 
 mod cell_index;
+mod cells_down;
 mod downs;
 mod gathering;
 mod key_state;

@@ -1,6 +1,6 @@
 //! The lines of all BSCs, cells and warnings, and which cells are down.
 
-ghost use Rattle.std.specs.Prelude.{◌≡◌, ◌≤◌, ◌<◌, ◌+◌, ◌-◌, ◌^◌, ◌&&◌, ◌||◌, ℕ, true, false, not, filter, if◌then◌else◌, nat_eq, ltb, List, length, take, OnOk, OnErr, IfOk};
+ghost use Rattle.std.specs.Prelude.{◌≡◌, ◌≤◌, ◌<◌, ◌+◌, ◌&&◌, ◌||◌, ℕ, true, false, not, filter, if◌then◌else◌, nat_eq, ltb, List, length, take, OnOk, OnErr, IfOk};
 ghost use Rattle.std.specs.List.{list_any};
 ghost use Rattle.common.specs.Cell.{cell_eq, cell_lt};
 ghost use Rattle.common.specs.Order.{is_ascending};
@@ -9,14 +9,16 @@ ghost use Rattle.mirror.specs.Blank.{is_blank};
 ghost use Rattle.mirror.specs.Held.{is_held_line};
 ghost use Rattle.mirror.specs.Index.{key_before};
 ghost use Rattle.mirror.specs.Line.{blank_line};
-ghost use Rattle.mirror.specs.Table.{line_at, has_line, down_at, counted, is_key};
+ghost use Rattle.mirror.specs.Table.{line_at, has_line, down_at, counted, counted_all, is_key};
 ghost use Rattle.mirror.specs.Known.{are_of_cells, is_known, is_named, warnings_at};
-ghost use Rattle.mirror.specs.OnAir.{AreOnAir, line_count};
+ghost use Rattle.mirror.specs.OnAir.{AreOnAir, line_count, read_count};
 ghost use Rattle.mirror.specs.declared.line_key.LineKey.{LineKey};
+ghost use Rattle.warning_book.specs.Content.{is_same_kind};
+ghost use Rattle.warning_book.specs.declared.kind.Kind.{Kind};
 
 use crate::cell_index::CellIndex;
-use crate::downs::Downs;
-use crate::gathering::{add_downs, add_line_cells, cells_in_order};
+use crate::cells_down::CellsDown;
+use crate::gathering::{add_cells_down, add_line_cells, cells_in_order};
 use crate::known::{add_warnings, has_line, is_registered};
 use crate::line::Line;
 use crate::line_key::LineKey;
@@ -33,13 +35,16 @@ use serials::Serial;
 use std::alloc::{AllocError, Global};
 use std::collections::BTreeSet;
 use std::marker::Model;
-use warning_book::WarningId;
+use warning_book::{Kind, WarningId};
 
 /// Room for as many warnings as most cells have.
 const FEW: usize = 16;
 
-/// A line for each BSC, cell and warning, and whether each cell is down at each BSC. Lines are read and set by
-/// `read_line`, `cells_on_air` and `set_line` alone, and each line that is read or set is counted.
+/// A line for each BSC, cell and warning, and whether each cell is down at each BSC for warnings of each kind. Each line
+/// that is read or set is counted; to be told that something is kept of a line is to read it. So the calls that read or set
+/// lines take `&mut self`: `read_line`, `set_line`, `cells_on_air`, `warnings_at`, `held_at` and `places_of`. No other call tells
+/// anything of one line: `known_cells` and `cells_named` tell of a cell whether it is known, by its registration, by a
+/// report or by its lines.
 #[derive(Drop)]
 pub struct LineTable {
     alloc: Global,
@@ -47,7 +52,7 @@ pub struct LineTable {
     lines: Lines,
     /// The same lines, by BSC and cell, and whether each is held.
     index: CellIndex,
-    downs: Downs,
+    downs: CellsDown,
     meter: u64,
 }
 
@@ -66,14 +71,14 @@ impl LineTable {
     /// Blank lines, no cell that is down, and no access counted.
     pub fn new(alloc: Global) -> LineTable
         ensures lines { (b : ℕ) (c : Cell) (w : ℕ) → line_at result b c w ≡ blank_line }
-        ensures downs { (b : ℕ) (c : Cell) → down_at result b c ≡ false }
+        ensures downs { (k : Kind) (b : ℕ) (c : Cell) → down_at result k b c ≡ false }
         ensures meter { result.meter ≡ 0 }
     {
         LineTable {
             alloc,
             lines: Lines::new(alloc),
             index: CellIndex::new(alloc),
-            downs: Downs::new(alloc),
+            downs: CellsDown::new(alloc),
             meter: 0,
         }
     }
@@ -107,6 +112,13 @@ impl LineTable {
         ensures { self.new ≡ record self.old { meter = counted self.old.meter } }
     {
         self.meter = self.meter.saturating_add(1);
+    }
+
+    /// Counts the lines of which something is told.
+    fn count_all(&mut self, told: usize)
+        ensures { self.new ≡ record self.old { meter = counted_all told self.old.meter } }
+    {
+        self.meter = self.meter.saturating_add(told as u64);
     }
 
     /// The line of that BSC, cell and warning. It takes no memory, and is counted.
@@ -176,20 +188,28 @@ impl LineTable {
         }
     }
 
-    /// The lines of the warning that aren't blank, by BSC and cell, in ascending order. No line is read, and none is
-    /// counted.
-    pub fn places_of(&self, w: WarningId) -> Result<Vec<LineKey>, AllocError>
-        ensures which { IfOk result (λ keys. (b : ℕ) (c : Cell) (v : ℕ) → list_any (λ k. is_key k b c v) keys.items ≡ (nat_eq w v && not (is_blank (line_at self.now b c v)))) }
+    /// The lines of the warning that aren't blank, by BSC and cell, in ascending order. Each is counted; none where memory
+    /// runs out.
+    pub fn places_of(&mut self, w: WarningId) -> Result<Vec<LineKey>, AllocError>
+        ensures which { IfOk result (λ keys. (b : ℕ) (c : Cell) (v : ℕ) → list_any (λ k. is_key k b c v) keys.items ≡ (nat_eq w v && not (is_blank (line_at self.old b c v)))) }
         ensures order { IfOk result (λ keys. is_ascending key_before keys.items ≡ true) }
-        ensures few { IfOk result (λ keys. (ks : List LineKey) → ((b : ℕ) (c : Cell) → is_blank (line_at self.now b c w) ≡ false → list_any (λ k. is_key k b c w) ks ≡ true) → length keys.items ≤ length ks) }
+        ensures few { IfOk result (λ keys. (ks : List LineKey) → ((b : ℕ) (c : Cell) → is_blank (line_at self.old b c w) ≡ false → list_any (λ k. is_key k b c w) ks ≡ true) → length keys.items ≤ length ks) }
+        ensures lines { self.new.lines ≡ self.old.lines }
+        ensures downs { self.new.downs ≡ self.old.downs }
+        ensures meter { IfOk result (λ keys. self.new.meter ≡ counted_all (length keys.items) self.old.meter) }
+        ensures untold { OnErr result (self.new.meter ≡ self.old.meter) }
+        ensures most { IfOk result (λ keys. self.new.meter ≤ self.old.meter + length keys.items) }
+        ensures least { self.old.meter ≤ self.new.meter }
     {
         let keys = keys_of(self.alloc, &self.lines, w)?;
+        self.count_all(keys.len());
         Ok(keys)
     }
 
     /// The first `most` cells at the BSC, in ascending order and after the given one, in which the version of that serial
-    /// number of the warning is on air. Each line of the warning at the BSC that is read is counted. Memory is taken only
-    /// for a cell that is found.
+    /// number of the warning is on air. Each line of the warning at the BSC that is read is counted: those of all cells after
+    /// the given one, or, once `most` cells are found, those up to the last of these. Memory is taken only for a cell that is
+    /// found.
     pub fn cells_on_air(
         &mut self,
         b: BscId,
@@ -204,7 +224,7 @@ impl LineTable {
         ensures downs { self.new.downs ≡ self.old.downs }
         ensures meter { self.new.meter ≤ self.old.meter + line_count self.old b w }
         ensures least { self.old.meter ≤ self.new.meter }
-        ensures counted { IfOk result (λ cells. self.new.meter < 2 ^ 64 - 1 → self.old.meter + length cells ≤ self.new.meter) }
+        ensures counted { IfOk result (λ cells. self.new.meter ≡ counted_all (read_count self.old b w after most cells) self.old.meter) }
     {
         let slots = later(&self.lines, b, w, after);
         let version = VersionAt {
@@ -223,66 +243,80 @@ impl LineTable {
         Ok(cells)
     }
 
-    /// Whether the cell is down at the BSC: the BSC's last indication of type 0 that named it was a FAILURE
-    /// (TS 48.049, 8.1.3). It takes no memory.
-    pub fn is_down(&self, b: BscId, c: Cell) -> bool
-        ensures { result ≡ down_at self.now b c }
+    /// Whether the cell is down at the BSC for warnings of the kind: the BSC's last indication of their type that named it
+    /// was a FAILURE (TS 48.049, 8.1.3). It takes no memory.
+    pub fn is_down(&self, kind: Kind, b: BscId, c: Cell) -> bool
+        ensures { result ≡ down_at self.now kind b c }
     {
-        self.downs.is_down(b, c)
+        self.downs.is_down(kind, b, c)
     }
 
-    /// The numbers of the warnings whose line in the cell at the BSC isn't blank, in ascending order. No line is read, and
-    /// none is counted.
-    pub fn warnings_at(&self, b: BscId, c: Cell) -> Result<Vec<WarningId>, AllocError>
-        ensures warnings { IfOk result (λ ws. ws.items ≡ warnings_at self.now b c) }
+    /// The numbers of the warnings whose line in the cell at the BSC isn't blank, in ascending order. Each of these lines is
+    /// counted; none where memory runs out.
+    pub fn warnings_at(&mut self, b: BscId, c: Cell) -> Result<Vec<WarningId>, AllocError>
+        ensures warnings { IfOk result (λ ws. ws.items ≡ warnings_at self.old b c) }
         ensures order { IfOk result (λ ws. is_ascending ltb ws.items ≡ true) }
-        ensures which { IfOk result (λ ws. (w : ℕ) → list_any (nat_eq w) ws.items ≡ not (is_blank (line_at self.now b c w))) }
-        ensures few { IfOk result (λ ws. (ns : List ℕ) → ((w : ℕ) → is_blank (line_at self.now b c w) ≡ false → list_any (nat_eq w) ns ≡ true) → length ws.items ≤ length ns) }
+        ensures which { IfOk result (λ ws. (w : ℕ) → list_any (nat_eq w) ws.items ≡ not (is_blank (line_at self.old b c w))) }
+        ensures few { IfOk result (λ ws. (ns : List ℕ) → ((w : ℕ) → is_blank (line_at self.old b c w) ≡ false → list_any (nat_eq w) ns ≡ true) → length ws.items ≤ length ns) }
+        ensures lines { self.new.lines ≡ self.old.lines }
+        ensures downs { self.new.downs ≡ self.old.downs }
+        ensures meter { IfOk result (λ ws. self.new.meter ≡ counted_all (length ws.items) self.old.meter) }
+        ensures untold { OnErr result (self.new.meter ≡ self.old.meter) }
+        ensures most { (ns : List ℕ) → ((w : ℕ) → is_blank (line_at self.old b c w) ≡ false → list_any (nat_eq w) ns ≡ true) → self.new.meter ≤ self.old.meter + length ns }
+        ensures least { self.old.meter ≤ self.new.meter }
     {
         self.lines.tell_order();
         let mut warnings = Vec::with_capacity(self.alloc, FEW)?;
         add_warnings(self.index.slots(), b, c, false, &mut warnings)?;
+        self.count_all(warnings.len());
         Ok(warnings)
     }
 
     /// The numbers of the warnings whose line in the cell at the BSC is held, in ascending order: a version of it has a hold.
-    /// No line is read and none is counted.
-    pub fn held_at(&self, b: BscId, c: Cell) -> Result<Vec<WarningId>, AllocError>
-        ensures held { IfOk result (λ ws. ws.items ≡ filter (λ w. is_held_line (line_at self.now b c w)) (warnings_at self.now b c)) }
+    /// Each of these lines is counted; none where memory runs out.
+    pub fn held_at(&mut self, b: BscId, c: Cell) -> Result<Vec<WarningId>, AllocError>
+        ensures held { IfOk result (λ ws. ws.items ≡ filter (λ w. is_held_line (line_at self.old b c w)) (warnings_at self.old b c)) }
         ensures order { IfOk result (λ ws. is_ascending ltb ws.items ≡ true) }
-        ensures which { IfOk result (λ ws. (w : ℕ) → list_any (nat_eq w) ws.items ≡ is_held_line (line_at self.now b c w)) }
-        ensures few { IfOk result (λ ws. (ns : List ℕ) → ((w : ℕ) → is_blank (line_at self.now b c w) ≡ false → list_any (nat_eq w) ns ≡ true) → length ws.items ≤ length ns) }
+        ensures which { IfOk result (λ ws. (w : ℕ) → list_any (nat_eq w) ws.items ≡ is_held_line (line_at self.old b c w)) }
+        ensures few { IfOk result (λ ws. (ns : List ℕ) → ((w : ℕ) → is_blank (line_at self.old b c w) ≡ false → list_any (nat_eq w) ns ≡ true) → length ws.items ≤ length ns) }
+        ensures lines { self.new.lines ≡ self.old.lines }
+        ensures downs { self.new.downs ≡ self.old.downs }
+        ensures meter { IfOk result (λ ws. self.new.meter ≡ counted_all (length ws.items) self.old.meter) }
+        ensures untold { OnErr result (self.new.meter ≡ self.old.meter) }
+        ensures most { (ns : List ℕ) → ((w : ℕ) → is_blank (line_at self.old b c w) ≡ false → list_any (nat_eq w) ns ≡ true) → self.new.meter ≤ self.old.meter + length ns }
+        ensures least { self.old.meter ≤ self.new.meter }
     {
         self.lines.tell_order();
-        let mut warnings = Vec::new(self.alloc);
-        add_warnings(self.index.slots(), b, c, true, &mut warnings)?;
-        Ok(warnings)
+        let mut held = Vec::new(self.alloc);
+        add_warnings(self.index.slots(), b, c, true, &mut held)?;
+        self.count_all(held.len());
+        Ok(held)
     }
 
-    /// Sets whether the cell is down at the BSC. Where memory runs out nothing changes. Memory is taken only for a
-    /// cell that is down and wasn't.
-    pub fn set_down(&mut self, b: BscId, c: Cell, down: bool) -> Result<(), AllocError>
-        ensures set { OnOk result ((d : ℕ) (e : Cell) → down_at self.new d e ≡ (if nat_eq b d && cell_eq c e then down else down_at self.old d e)) }
+    /// Sets whether the cell is down at the BSC for warnings of the kind. Where memory runs out nothing changes. Memory is
+    /// taken only for a cell that is down and wasn't.
+    pub fn set_down(&mut self, kind: Kind, b: BscId, c: Cell, down: bool) -> Result<(), AllocError>
+        ensures set { OnOk result ((k : Kind) (d : ℕ) (e : Cell) → down_at self.new k d e ≡ (if is_same_kind kind k && (nat_eq b d && cell_eq c e) then down else down_at self.old k d e)) }
         ensures unchanged { OnErr result (self.new.downs ≡ self.old.downs) }
-        ensures grows { OnErr result ((down ≡ true) × (down_at self.old b c ≡ false)) }
+        ensures grows { OnErr result ((down ≡ true) × (down_at self.old kind b c ≡ false)) }
         ensures lines { self.new.lines ≡ self.old.lines }
         ensures meter { self.new.meter ≡ self.old.meter }
     {
         if !down {
-            self.downs.remove(b, c);
+            self.downs.remove(kind, b, c);
             return Ok(());
         }
-        self.downs.insert(b, c)
+        self.downs.insert(kind, b, c)
     }
 
-    /// The cells that are known at the BSC, in ascending order: those registered there, those that are down there, and
-    /// those of which a line isn't blank.
+    /// The cells that are known at the BSC, in ascending order: those registered there, those that are down there for
+    /// warnings of some kind, and those of which a line isn't blank.
     pub fn known_cells(&self, register: &Register, b: BscId) -> Result<Cells, AllocError>
         ensures order { IfOk result (λ cells. is_ascending cell_lt cells ≡ true) }
         ensures known { IfOk result (λ cells. (c : Cell) → list_any (cell_eq c) cells ≡ is_known self.now register.now b c) }
     {
         let mut gathered = register.cells_of(b)?.into_vec();
-        add_downs(b, self.downs.places(), &mut gathered)?;
+        add_cells_down(b, &self.downs, &mut gathered)?;
         add_line_cells(b, self.index.slots(), &mut gathered)?;
         register.tell_soundness();
         let cells = Cells::in_order(gathered)?;
@@ -346,7 +380,9 @@ impl LineTable {
     fn is_known(&self, register: &Register, b: BscId, c: Cell) -> bool
         ensures { result ≡ is_known self.now register.now b c }
     {
-        is_registered(register, b, c) || self.is_down(b, c) || has_line(self.index.slots(), b, c)
+        is_registered(register, b, c)
+            || self.downs.is_down_for_some(b, c)
+            || has_line(self.index.slots(), b, c)
     }
 
     /// Puts those known cells that the identifications name among those gathered.

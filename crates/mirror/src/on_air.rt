@@ -1,8 +1,9 @@
 //! In which cells of a BSC a version of a warning is on air.
 
-ghost use Rattle.std.specs.Prelude.{◌≡◌, ◌≤◌, ◌<◌, ◌+◌, ◌-◌, ◌^◌, length, take, IfOk, OnErr};
+ghost use Rattle.std.specs.Prelude.{◌≡◌, ◌≤◌, ◌+◌, length, take, IfOk, OnErr};
 ghost use Rattle.mirror.specs.Lines.{lines_at};
-ghost use Rattle.mirror.specs.OnAir.{is_on_air_in, lines_for, on_air_cells};
+ghost use Rattle.mirror.specs.OnAir.{is_on_air_in, lines_for, on_air_cells, until_found};
+ghost use Rattle.mirror.specs.Table.{counted_all};
 
 use crate::line::Line;
 use crate::lines::Lines;
@@ -35,8 +36,10 @@ pub(crate) fn first_on_air(
     ensures some { OnErr result (1 ≤ length (take most (on_air_cells v.now.serial (lines_for v.now.bsc v.now.warning (lines_at slots.entry lines.now))))) }
     ensures meter { meter.new ≤ meter.old + length (lines_for v.now.bsc v.now.warning (lines_at slots.entry lines.now)) }
     ensures least { meter.old ≤ meter.new }
-    ensures counted { IfOk result (λ cells. meter.new < 2 ^ 64 - 1 → meter.old + length cells ≤ meter.new) }
+    ensures counted { IfOk result (λ cells. meter.new ≡ counted_all (length (until_found v.now.serial most (lines_for v.now.bsc v.now.warning (lines_at slots.entry lines.now)))) meter.old) }
 {
+    // A lemma: the meter fits 64 bits.
+    let _before = *meter;
     let mut cells = Vec::new(alloc);
     for slot in slots {
         if cells.len() >= most || !slot.is_for(v.bsc, v.warning) {

@@ -2,5 +2,9 @@ pub mod ReceiptLemmas
 pub mod DeskLemmas
 pub mod HeldLemmas
 pub mod ShuffleLemmas
+pub mod CountLemmas
+pub mod KeptLemmas
 pub mod OfficeLemmas
 pub mod WishLemmas
+pub mod PendingLemmas
+pub mod DueLemmas

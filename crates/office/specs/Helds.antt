@@ -1,5 +1,5 @@
 -- What stands under the lock, what always holds of it, and when a desk is as the office knows it.
-use Rattle.std.specs.Prelude.{◌≡◌, ◌≤◌, ◌<◌, ◌+◌, ◌++◌, ◌==◌, ◌&&◌, ℕ, Bool, false, List, [], ◌∷◌, Ok, length, All, nat_lt, nat_le, get_or}
+use Rattle.std.specs.Prelude.{◌≡◌, ◌≤◌, ◌<◌, ◌+◌, ◌++◌, ◌==◌, ◌&&◌, ℕ, Bool, true, false, List, [], ◌∷◌, Ok, length, All, nat_lt, nat_le, get_or}
 use Rattle.centre_past.specs.Fits.{AnswerFits}
 use Rattle.centre_past.specs.Legal.{Known, past}
 use Rattle.centre_events.specs.Verdict.{verdict}
@@ -10,12 +10,19 @@ use Rattle.office.specs.Desks.{DeskState}
 use Rattle.office.specs.Receipts.{receipts_of, last_place}
 use Rattle.office.specs.declared.receipt.Receipt.{Receipt}
 use Rattle.office.specs.declared.row.Row.{Row}
+use Rattle.office.specs.declared.wish.Wish.{Wish}
+use Rattle.office.specs.Wishes.{is_same_bsc}
+use Rattle.common.specs.Order.{each_once}
 
--- what stands under the lock: the centre, how many desks were opened, and how many receipts they have, all together
+-- what stands under the lock: the centre, a row for each desk that was opened, how many receipts the desks have, all together, the parts
+-- and the amount of the share that is kept for desks not yet opened, and the wishes for queries
 pub record HeldState : Type 0 where
   pub centre : Known
-  pub opened : ℕ
+  pub rows : List Row
   pub total : ℕ
+  pub rest_parts : ℕ
+  pub rest_amount : ℕ
+  pub wishes : List Wish
 
 -- a row without entries
 abbrev pub no_row : Row
@@ -33,8 +40,10 @@ RowsFit rows journal = (k : ℕ) → k < length rows → get_or rows k no_row �
 abbrev pub IsByOpened : ℕ → Entry → Type 0
 IsByOpened opened e = (0 < e.desk) × (e.desk ≤ opened)
 
--- the rows are the journal's, every entry is of a desk that was opened, the book has the number of all entries, and the share
--- kept for desks not yet opened has a part for each of 1,024 desks and one more, and no amount
+-- The journal has exactly as many entries as all desks have receipts: each row is the journal's, every entry is of a desk that was
+-- opened, the book, whose total is the sum of the amounts of all shares, has the number of all entries, and the share kept for desks
+-- not yet opened has no amount. It has a part for each of 1,024 desks that isn't opened, and one more. So the amounts of the desks'
+-- shares, which are the numbers of their receipts, come to the number of entries.
 pub record IsHeld (rows : List Row) (journal : List Entry) (total parts amount : ℕ) : Type 0 where
   pub rows_fit : RowsFit rows journal
   pub opened : All (IsByOpened (length rows)) journal
@@ -42,6 +51,10 @@ pub record IsHeld (rows : List Row) (journal : List Entry) (total parts amount :
   pub parts_left : parts + length rows ≡ 1025
   pub few : length rows ≤ 1024
   pub nothing : amount ≡ 0
+
+-- no two wishes are for one BSC
+abbrev pub HasEachOnce : List Wish → Type 0
+HasEachOnce wishes = each_once is_same_bsc wishes ≡ true
 
 -- the desk was opened, and has as many receipts as the journal has entries of it, the last at the last one's place
 abbrev pub fits : ℕ → List Entry → DeskState → Bool

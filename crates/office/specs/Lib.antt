@@ -5,3 +5,4 @@ pub mod Offices
 pub mod Shuffles
 pub mod Wishes
 pub mod Wakes
+pub mod Affecting

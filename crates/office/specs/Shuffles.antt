@@ -1,5 +1,6 @@
 -- When a journal is a shuffle of what the desks have as receipts, and why an office can't be settled.
-use Rattle.std.specs.Prelude.{◌≡◌, ◌≢◌, ◌<◌, ◌≤◌, ◌-◌, ℕ, List, [], ◌∷◌, Some, slice_get, All, Any}
+use Rattle.std.specs.Prelude.{◌≡◌, ◌≢◌, ◌<◌, ◌≤◌, ◌-◌, ℕ, List, [], ◌∷◌, Some, slice_get, length, All, Any}
+use Rattle.common.specs.Sums.{sum_of}
 use Rattle.centre_events.specs.declared.entry.Entry.{Entry}
 use Rattle.office.specs.Desks.{DeskState}
 use Rattle.office.specs.Helds.{IsByOpened, entry_of}
@@ -21,11 +22,17 @@ AreEntriesOf desk journal before (r ∷ rs) = ((before < r.place) × IsEntryOf d
 abbrev pub HasItsEntries : List Entry → DeskState → Type 0
 HasItsEntries journal d = receipts_of d.number journal ≡ d.receipts
 
--- each entry is of a desk that was opened, the receipts of each desk are its entries, and no desk is missing
+-- how many receipts the desks have, all together
+abbrev pub receipt_count : List DeskState → ℕ
+receipt_count desks = sum_of (λ (d : DeskState). length d.receipts) desks
+
+-- each entry is of a desk that was opened, the receipts of each desk are its entries, no desk is missing, and there are exactly as many
+-- entries as receipts, so that none has its receipt twice
 pub record IsShuffle (opened : ℕ) (journal : List Entry) (desks : List DeskState) : Type 0 where
   pub entries : All (IsByOpened opened) journal
   pub lists : All (HasItsEntries journal) desks
   pub every : (n : ℕ) → 0 < n → n ≤ opened → Any (λ (d : DeskState). d.number ≡ n) desks
+  pub counted : length journal ≡ receipt_count desks
 
 -- the receipts of a desk of that number aren't its entries
 abbrev pub IsMismatch : List Entry → List DeskState → ℕ → Type 0

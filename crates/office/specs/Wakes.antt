@@ -1,41 +1,52 @@
 -- What there is to do for the link of a BSC.
-use Rattle.std.specs.Prelude.{◌≡◌, ◌≢◌, ◌≤◌, ◌⊎◌, ℕ, Bool, true, false, None, length}
+use Rattle.std.specs.Prelude.{◌≡◌, ℕ, Bool, ◌&&◌, List, length, Option, Some, None, is_some, nat_eq, nat_le, if◌then◌else◌}
 use Rattle.centre_past.specs.Headline.{PendingGivesPlan}
 use Rattle.centre_past.specs.Legal.{Known, Legal, past}
 use Rattle.centre_past.specs.LinkStates.{link_state}
 use Rattle.centre_events.specs.InFlight.{in_flight}
 use Rattle.centre_events.specs.Links.{is_bsc, is_up, last_link}
+use Rattle.office.specs.Wishes.{wish_for, without_wish}
 use Rattle.office.specs.declared.wake.Wake.{Wake}
 use Rattle.office.specs.declared.wake.Wake.TheVariants as wake
+use Rattle.office.specs.declared.wish.Wish.{Wish}
 
--- the link of that generation is up
-abbrev pub IsLinked : Known → ℕ → ℕ → Type 0
-IsLinked centre b generation = (is_bsc (past centre) b ≡ true) × (last_link (past centre) b ≡ generation) × (is_up (past centre) b ≡ true)
-
--- why it isn't: the BSC isn't there, its latest link is another, or that is down
-abbrev pub IsOver : Known → ℕ → ℕ → Type 0
-IsOver centre b generation = (is_bsc (past centre) b ≡ false) ⊎ ((last_link (past centre) b ≢ generation) ⊎ (is_up (past centre) b ≡ false))
-
--- the centre is whole, the link is up and nothing is in flight; and an order is pending or none is
-abbrev pub IsIdle : Known → ℕ → ℕ → Bool → Type 0
-IsIdle centre b generation has_order =
-    (centre.stale ≡ false) × IsLinked centre b generation × (in_flight (past centre) b ≡ None) × ((link_state (past centre) b).has_pending ≡ has_order)
+-- the link of that generation is the BSC's latest, and up
+abbrev pub is_linked : Known → ℕ → ℕ → Bool
+is_linked centre b generation = is_bsc (past centre) b && (nat_eq (last_link (past centre) b) generation && is_up (past centre) b)
 
 -- the journal takes no more entries
-abbrev pub IsFull : Known → Type 0
-IsFull centre = centre.settings.limit ≤ length centre.journal
+abbrev pub is_full : Known → Bool
+is_full centre = nat_le centre.settings.limit (length centre.journal)
 
--- what is told of the link is so: the centre is stale; the link is over; it is up, nothing is in flight, and an order is pending
--- or, before a query, none is. An order is told where the journal is full, too
-abbrev pub IsDue : Known → ℕ → ℕ → Wake → Type 0
-IsDue centre b generation wake.Order = IsFull centre ⊎ IsIdle centre b generation true
-IsDue centre b generation (wake.Query w after) = IsIdle centre b generation false
-IsDue centre b generation wake.Ended = (centre.stale ≡ false) × IsOver centre b generation
-IsDue centre b generation wake.StaleCentre = centre.stale ≡ true
+-- to ask what is wished for, if something is
+abbrev pub query_of : Option Wish → Option Wake
+query_of None = None
+query_of (Some w) = Some (wake.Query w.warning w.after)
 
--- in some centre with a legal journal, after which the pending orders give the plan, it is so
+-- what there is to do over the BSC's link, which is up. Where the journal is full, a Send says so. Else nothing while something is in
+-- flight; then a pending order comes before the query that is wished for
+abbrev pub due_over : Known → List Wish → ℕ → Option Wake
+due_over centre wishes b =
+    if is_full centre then Some wake.Order
+    else (if is_some (in_flight (past centre) b) then None
+    else (if (link_state (past centre) b).has_pending then Some wake.Order else query_of (wish_for wishes b)))
+
+-- what there is to do for the link of that generation, the first of these: to end where the centre is stale, or the link isn't up,
+-- and else what there is to do over it
+abbrev pub due : Known → List Wish → ℕ → ℕ → Option Wake
+due centre wishes b generation =
+    if centre.stale then Some wake.StaleCentre
+    else (if is_linked centre b generation then due_over centre wishes b else Some wake.Ended)
+
+-- the wishes that are left where that is answered: a query takes out the BSC's wish, and nothing else does
+abbrev pub left_by : Option Wake → ℕ → List Wish → List Wish
+left_by (Some (wake.Query w after)) b wishes = without_wish b wishes
+left_by other b wishes = wishes
+
+-- in some centre with a legal journal, after which the pending orders give the plan, and beside some wishes, that is to do
 pub record IsDueSomewhere (b generation : ℕ) (w : Wake) : Type 0 where
   pub centre : Known
+  pub wishes : List Wish
   pub legal : Legal centre.settings (past centre)
   pub headline : PendingGivesPlan (past centre)
-  pub due : IsDue centre b generation w
+  pub is_due : due centre wishes b generation ≡ Some w

@@ -30,7 +30,7 @@ impl<L: Ledger> Model for Desk<L> {
 }
 
 impl<L: Ledger> Desk<L> {
-    ghost use Rattle.std.specs.Prelude.{◌≡◌, ◌≤◌, ◌+◌, ◌-◌, ◌++◌, ◌∷◌, [], length, slice_get, All, OnOk};
+    ghost use Rattle.std.specs.Prelude.{◌≡◌, ◌≤◌, ◌+◌, ◌-◌, ◌++◌, ◌∷◌, [], length, slice_get, All, OnOk, OnErr};
     ghost use Rattle.office.specs.Receipts.{last_place};
 
     /// A desk without receipts.
@@ -93,10 +93,18 @@ impl<L: Ledger> Desk<L> {
         let _ = &self.last;
     }
 
-    /// Makes room for one more receipt.
+    /// The desk's share. Its receipts are dropped.
+    pub(crate) fn into_share(self) -> Share<L>
+        ensures { result.amount ≡ length self.receipts }
+    {
+        self.share
+    }
+
+    /// Makes room for one more receipt. It takes no memory where there is room.
     pub fn reserve(&mut self) -> Result<(), AllocError>
         ensures room { OnOk result (1 ≤ self.new.spare) }
         ensures same { self.new ≡ record self.old { spare = self.new.spare } }
+        ensures full { OnErr result (self.old.spare ≡ 0) }
     {
         self.receipts.try_reserve(1)
     }

@@ -1,6 +1,8 @@
 //! What stands under the lock of an office.
 
-use crate::affected::{Affected, affected_by};
+use crate::affected::Affected;
+use crate::affecting::affected_by;
+use crate::auditing::audit;
 use crate::desk::Desk;
 use crate::entering::enter;
 use crate::fault::{Fault, Unsettled};
@@ -9,7 +11,8 @@ use crate::seen::Seen;
 use crate::settling::{mismatch, missing};
 use crate::wake::Wake;
 use crate::waking::{has_work, wake_of};
-use crate::wish::{Wish, keep, take_out};
+use crate::wish::Wish;
+use crate::wishes::{keep, take_out};
 use cell_register::BscId;
 use centre_core::centre::Centre;
 use centre_events::event::Event;
@@ -24,8 +27,9 @@ use std::sync::ledger::{Book, Ledger, Share};
 /// The most desks that an office opens.
 const DESKS: usize = 1024;
 
-/// A centre, and what is known of each desk. Contracts see what is known of the centre, how many desks were opened, and how
-/// many receipts they have, all together.
+/// A centre, and what is known of each desk. Contracts see what is known of the centre, a row for each desk that was opened,
+/// how many receipts the desks have, all together, the parts and the amount of the share that is kept for desks not yet opened,
+/// and the wishes.
 #[derive(Drop)]
 pub struct Held<L: Ledger> {
     alloc: Global,
@@ -38,27 +42,31 @@ pub struct Held<L: Ledger> {
 }
 
 impl<L: Ledger> Model for Held<L> {
-    ghost use Rattle.std.specs.Prelude.{◌≡◌, length};
-    ghost use Rattle.office.specs.Helds.{HeldState, IsHeld};
+    ghost use Rattle.std.specs.Prelude.{◌≡◌};
+    ghost use Rattle.office.specs.Helds.{HasEachOnce, HeldState, IsHeld};
 
     ghost Value = { HeldState };
 
-    ghost view = { λ s. record { centre = s.centre.known; opened = length s.rows.items; total = s.book.total } };
+    ghost view = { λ s. record { centre = s.centre.known; rows = s.rows.items; total = s.book.total; rest_parts = s.rest.parts; rest_amount = s.rest.amount; wishes = s.wishes.items } };
 
     ghost invariant = { λ s. IsHeld s.rows.items s.centre.known.journal s.book.total s.rest.parts s.rest.amount
-        × (s.journal_limit ≡ s.centre.known.settings.limit) };
+        × (s.journal_limit ≡ s.centre.known.settings.limit)
+        × HasEachOnce s.wishes.items };
 }
 
 impl<L: Ledger> Held<L> {
-    ghost use Rattle.std.specs.Prelude.{◌≡◌, ◌≤◌, ◌<◌, ◌+◌, [], length, true, false, All, Ok, Err, IfOk, IfErr, IfSome, OnOk, OnErr, MatchBool, nat_lt};
+    ghost use Rattle.std.specs.Prelude.{◌≡◌, ◌≤◌, ◌<◌, ◌+◌, ◌-◌, ◌++◌, ◌∷◌, ℕ, [], length, set, true, false, Ok, Err, None, IfOk, IfErr, OnOk, OnErr, MatchBool, nat_lt};
     ghost use Rattle.centre_core.specs.Centre.{Leaves, Refuses};
     ghost use Rattle.centre_past.specs.Headline.{PendingGivesPlan};
     ghost use Rattle.centre_past.specs.Legal.{Legal, new_centre, past};
-    ghost use Rattle.office.specs.Helds.{IsByOpened, IsEntered, fits};
+    ghost use Rattle.centre_events.specs.Links.{last_link};
+    ghost use Rattle.cell_register.specs.Register.{is_place};
+    ghost use Rattle.office.specs.Affecting.{affects, includes};
+    ghost use Rattle.office.specs.Helds.{HasEachOnce, IsEntered, IsHeld, fits, no_row, row_at};
     ghost use Rattle.centre_questions.specs.Questions.{RefusesQuestion, Shows};
     ghost use Rattle.office.specs.Shuffles.{IsFault, IsShuffle};
-    ghost use Rattle.office.specs.Wakes.{IsDue};
-    ghost use Rattle.office.specs.Wishes.{CanWish, RefusesWish};
+    ghost use Rattle.office.specs.Wakes.{due, is_full, left_by};
+    ghost use Rattle.office.specs.Wishes.{CanWish, RefusesWish, with_wish};
 
     /// What stands under the lock of a new office: a centre of the network without entries, and no desk.
     pub(crate) fn new(
@@ -72,7 +80,7 @@ impl<L: Ledger> Held<L> {
         requires total { book.total ≡ 0 }
         requires parts { rest.parts ≡ 1025 }
         requires nothing { rest.amount ≡ 0 }
-        ensures { result ≡ record { centre = new_centre plmn journal_limit; opened = 0; total = 0 } }
+        ensures { result ≡ record { centre = new_centre plmn journal_limit; rows = []; total = 0; rest_parts = 1025; rest_amount = 0; wishes = [] } }
     {
         Held {
             alloc,
@@ -85,12 +93,13 @@ impl<L: Ledger> Held<L> {
         }
     }
 
-    /// Tells what always holds under the lock.
+    /// Tells what always holds under the lock: the journal is legal, and has exactly as many entries as the desks that were opened
+    /// have receipts, all together.
     pub fn tell_soundness(&self)
         ensures legal { Legal self.now.centre.settings (past self.now.centre) }
         ensures headline { PendingGivesPlan (past self.now.centre) }
-        ensures counted { self.now.total ≡ length self.now.centre.journal }
-        ensures opened { All (IsByOpened self.now.opened) self.now.centre.journal }
+        ensures held { IsHeld self.now.rows self.now.centre.journal self.now.total self.now.rest_parts self.now.rest_amount }
+        ensures wishes { HasEachOnce self.now.wishes }
     {
         self.centre.tell_soundness();
         pending_gives_plan();
@@ -99,7 +108,7 @@ impl<L: Ledger> Held<L> {
 
     /// Whether the desk is as this office knows it.
     fn knows(&self, desk: &Desk<L>) -> bool
-        ensures { result ≡ fits self.now.opened self.now.centre.journal desk.now }
+        ensures { result ≡ fits (length self.now.rows) self.now.centre.journal desk.now }
     {
         let number = desk.number() as usize;
         if number == 0 || number > self.rows.len() {
@@ -111,11 +120,11 @@ impl<L: Ledger> Held<L> {
 
     /// Opens one more desk: the first is 1. `Limit` after 1,024 desks, then `Memory`.
     pub fn open(&mut self) -> Result<Desk<L>, Refusal>
-        ensures number { IfOk result (λ d. d.number ≡ self.old.opened + 1) }
-        ensures few { self.new.opened ≤ 1024 }
+        ensures number { IfOk result (λ d. d.number ≡ length self.old.rows + 1) }
+        ensures few { length self.new.rows ≤ 1024 }
         ensures receipts { IfOk result (λ d. d.receipts ≡ []) }
-        ensures opened { OnOk result (self.new ≡ record self.old { opened = self.old.opened + 1 }) }
-        ensures refused { IfErr result (λ r. MatchBool (nat_lt self.old.opened 1024) (r ≡ Refusal.Memory) (r ≡ Refusal.Limit Limit.Desks)) }
+        ensures opened { OnOk result (self.new ≡ record self.old { rows = self.old.rows ++ no_row ∷ []; rest_parts = self.new.rest_parts }) }
+        ensures refused { IfErr result (λ r. MatchBool (nat_lt (length self.old.rows) 1024) (r ≡ Refusal.Memory) (r ≡ Refusal.Limit Limit.Desks)) }
         ensures unchanged { OnErr result (self.new ≡ self.old) }
     {
         if self.rows.len() >= DESKS {
@@ -136,13 +145,14 @@ impl<L: Ledger> Held<L> {
     pub fn submit(&mut self, desk: &mut Desk<L>, event: Event, copy: Event) -> Result<(), Refusal>
         requires same { copy ≡ event }
         requires room { 1 ≤ desk.old.spare }
-        ensures wrong { fits self.old.opened self.old.centre.journal desk.old ≡ false → result ≡ Err (Refusal.WrongDesk (length self.old.centre.journal)) }
-        ensures fitted { OnOk result (fits self.old.opened self.old.centre.journal desk.old ≡ true) }
+        ensures wrong { fits (length self.old.rows) self.old.centre.journal desk.old ≡ false → result ≡ Err (Refusal.WrongDesk (length self.old.centre.journal)) }
+        ensures fitted { OnOk result (fits (length self.old.rows) self.old.centre.journal desk.old ≡ true) }
         ensures entered { OnOk result (IsEntered self.old.centre desk.old event self.new.centre desk.new) }
-        ensures refused { IfErr result (λ r. fits self.old.opened self.old.centre.journal desk.old ≡ true → Refuses self.old.centre event r) }
+        ensures refused { IfErr result (λ r. fits (length self.old.rows) self.old.centre.journal desk.old ≡ true → Refuses self.old.centre event r) }
         ensures left { IfErr result (λ r. Leaves self.old.centre r self.new.centre) }
         ensures unchanged { OnErr result (desk.new ≡ desk.old) }
-        ensures opened { self.new.opened ≡ self.old.opened }
+        ensures counted { OnOk result (self.new ≡ record self.old { centre = self.new.centre; rows = set self.old.rows (desk.old.number - 1) (row_at (length desk.old.receipts + 1) (length self.old.centre.journal + 1)); total = self.old.total + 1 }) }
+        ensures others { OnErr result (self.new ≡ record self.old { centre = self.new.centre }) }
     {
         if !self.knows(desk) {
             drop(event);
@@ -160,11 +170,11 @@ impl<L: Ledger> Held<L> {
     /// Puts a question, whose answer is copied. `WrongDesk` where the desk isn't as this office knows it; else what the centre
     /// refuses, or `Memory`.
     pub fn look(&mut self, desk: &Desk<L>, question: Question) -> Result<Seen, Refusal>
-        ensures wrong { fits self.old.opened self.old.centre.journal desk.now ≡ false → result ≡ Err (Refusal.WrongDesk (length self.old.centre.journal)) }
-        ensures fitted { OnOk result (fits self.old.opened self.old.centre.journal desk.now ≡ true) }
+        ensures wrong { fits (length self.old.rows) self.old.centre.journal desk.now ≡ false → result ≡ Err (Refusal.WrongDesk (length self.old.centre.journal)) }
+        ensures fitted { OnOk result (fits (length self.old.rows) self.old.centre.journal desk.now ≡ true) }
         ensures position { IfOk result (λ s. s.position ≡ length self.old.centre.journal) }
         ensures seen { IfOk result (λ s. Shows self.old.centre question s.value) }
-        ensures refused { IfErr result (λ r. fits self.old.opened self.old.centre.journal desk.now ≡ true → RefusesQuestion self.old.centre question r) }
+        ensures refused { IfErr result (λ r. fits (length self.old.rows) self.old.centre.journal desk.now ≡ true → RefusesQuestion self.old.centre question r) }
         ensures unchanged { self.new ≡ self.old }
     {
         let position = self.centre.position();
@@ -182,32 +192,37 @@ impl<L: Ledger> Held<L> {
         self.centre.is_stale()
     }
 
-    /// The BSCs that the event affects where it is accepted.
-    pub(crate) fn affected_by(&self, event: &Event) -> Affected {
+    /// The BSCs for which the event may make something to do where it is accepted.
+    pub(crate) fn affected_by(&self, event: &Event) -> Affected
+        ensures { self.now.centre.stale ≡ false → (b : ℕ) → includes result b ≡ affects (past self.now.centre) event.now b }
+    {
         affected_by(&self.centre, event)
     }
 
     /// What there is to do for the link of that generation, if there is something.
-    pub(crate) fn wake_of(&self, b: BscId, generation: u64) -> Option<Wake>
-        ensures { IfSome result (IsDue self.now.centre b generation) }
+    pub fn wake_of(&self, b: BscId, generation: u64) -> Option<Wake>
+        ensures { result ≡ due self.now.centre self.now.wishes b generation }
     {
-        if self.is_full() {
-            return Some(Wake::Order);
-        }
-        wake_of(&self.centre, self.wishes.as_slice(), b, generation)
+        wake_of(
+            &self.centre,
+            self.wishes.as_slice(),
+            self.is_full(),
+            b,
+            generation,
+        )
     }
 
     /// Whether the journal takes no more entries, so that nobody has anything to wait for.
     fn is_full(&self) -> bool
-        ensures { result ≡ true → self.now.centre.settings.limit ≤ length self.now.centre.journal }
+        ensures { result ≡ is_full self.now.centre }
     {
         self.centre.position() >= u64::from(self.journal_limit)
     }
 
     /// What there is to do for the link of that generation, if there is something. A wish is taken out.
-    pub(crate) fn take_wake(&mut self, b: BscId, generation: u64) -> Option<Wake>
-        ensures due { IfSome result (IsDue self.old.centre b generation) }
-        ensures unchanged { self.new ≡ self.old }
+    pub fn take_wake(&mut self, b: BscId, generation: u64) -> Option<Wake>
+        ensures wake { result ≡ due self.old.centre self.old.wishes b generation }
+        ensures left { self.new ≡ record self.old { wishes = left_by result b self.old.wishes } }
     {
         let wake = self.wake_of(b, generation);
         if let Some(Wake::Query(_, _)) = wake {
@@ -217,31 +232,40 @@ impl<L: Ledger> Held<L> {
     }
 
     /// Keeps a wish for a query, in the place of an earlier one for its BSC. `Stale`, then `NoSuchBsc`, then `NoSuchWarning`,
-    /// then `Memory`.
-    pub(crate) fn wish(&mut self, wish: Wish) -> Result<(), Refusal>
+    /// then `Memory`, which doesn't come where it takes an earlier one's place.
+    pub fn wish(&mut self, wish: Wish) -> Result<(), Refusal>
         ensures wished { OnOk result (CanWish self.old.centre wish.bsc wish.warning) }
-        ensures refused { IfErr result (RefusesWish self.old.centre wish.bsc wish.warning) }
-        ensures unchanged { self.new ≡ self.old }
+        ensures kept { OnOk result (self.new ≡ record self.old { wishes = with_wish wish self.old.wishes }) }
+        ensures refused { IfErr result (RefusesWish self.old.centre self.old.wishes wish.bsc wish.warning) }
+        ensures unchanged { OnErr result (self.new ≡ self.old) }
     {
         self.centre.link_of(wish.bsc)?;
         self.centre.board_total(wish.warning)?;
         Ok(keep(&mut self.wishes, wish)?)
     }
 
-    /// Whether there is something to do for one of the BSCs.
-    pub(crate) fn has_work(&self, affected: Affected) -> bool {
+    /// Whether there is something to do for one of the BSCs, or for whoever waits, since the centre is stale or its journal full.
+    pub(crate) fn has_work(&self, affected: Affected) -> bool
+        ensures whole { result ≡ false → self.now.centre.stale ≡ false }
+        ensures room { result ≡ false → is_full self.now.centre ≡ false }
+        ensures none { result ≡ false → (b : ℕ) → includes affected b ≡ true → due self.now.centre self.now.wishes b (last_link (past self.now.centre) b) ≡ None }
+    {
+        if self.is_stale() || self.is_full() {
+            return true;
+        }
         match affected {
-            Affected::None => self.centre.is_stale() || self.is_full(),
-            Affected::These(one, other) => {
-                self.is_full() || self.has_work_for(one) || self.has_work_for(other)
-            }
+            Affected::None => false,
+            Affected::These(one, other) => self.has_work_for(one) || self.has_work_for(other),
             Affected::All => true,
         }
     }
 
-    fn has_work_for(&self, b: Option<BscId>) -> bool {
+    /// Whether there is something to do for the latest link of the BSC.
+    fn has_work_for(&self, b: Option<BscId>) -> bool
+        ensures { result ≡ false → (n : ℕ) → is_place b n ≡ true → due self.now.centre self.now.wishes n (last_link (past self.now.centre) n) ≡ None }
+    {
         match b {
-            Some(b) => has_work(&self.centre, self.wishes.as_slice(), b),
+            Some(b) => has_work(&self.centre, self.wishes.as_slice(), self.is_full(), b),
             None => false,
         }
     }
@@ -257,14 +281,16 @@ impl<L: Ledger> Held<L> {
     /// Compares the receipts of the desks with the journal, and hands out the centre where the journal is a shuffle of them.
     /// `Mismatch` comes before `MissingDesk`. This takes no memory.
     pub fn settle(self, desks: Vec<Desk<L>>) -> Result<Centre, Unsettled<L>>
-        ensures settled { IfOk result (λ c. IsShuffle self.opened self.centre.journal desks.items) }
+        ensures settled { IfOk result (λ c. IsShuffle (length self.rows) self.centre.journal desks.items) }
         ensures centre { IfOk result (λ c. c.known ≡ self.centre) }
-        ensures fault { IfErr result (λ u. IsFault self.opened u.centre.known.journal desks.items u.fault) }
+        ensures fault { IfErr result (λ u. IsFault (length self.rows) u.centre.known.journal desks.items u.fault) }
         ensures kept { IfErr result (λ u. u.centre.known ≡ self.centre) }
         ensures desks { IfErr result (λ u. u.desks ≡ desks) }
     {
         let opened = self.rows.len() as u32;
         let rows = self.rows;
+        let book = self.book;
+        let rest = self.rest;
         let mut centre = self.centre;
         if let Some(desk) = mismatch(&mut centre, rows.as_slice(), desks.as_slice()) {
             return Err(Unsettled {
@@ -279,7 +305,10 @@ impl<L: Ledger> Held<L> {
                 centre,
                 desks,
             }),
-            None => Ok(centre),
+            None => {
+                audit(book, rest, desks);
+                Ok(centre)
+            }
         }
     }
 }

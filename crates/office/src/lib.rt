@@ -7,10 +7,13 @@
 #![tactic(auto)]
 
 mod affected;
+mod affecting;
+mod auditing;
 pub mod desk;
 mod entering;
 pub mod fault;
 pub mod held;
+pub mod laws;
 pub mod office;
 pub mod receipt;
 mod row;
@@ -19,6 +22,7 @@ mod settling;
 mod submitting;
 pub mod wake;
 mod waking;
-mod wish;
+pub mod wish;
+mod wishes;
 
 pub use centre_questions::question;

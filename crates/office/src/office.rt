@@ -104,7 +104,7 @@ impl<L: Ledger> Office<L> {
     }
 
     /// Keeps a wish to ask the BSC about a warning, in the cells after that one. A BSC has one wish, the latest. `Stale`, then
-    /// `NoSuchBsc`, then `NoSuchWarning`, then `Memory`.
+    /// `NoSuchBsc`, then `NoSuchWarning`, then `Memory`, which doesn't come where it takes an earlier one's place.
     pub fn wish<R: Wait>(
         &self,
         rt: &R,
@@ -128,9 +128,9 @@ impl<L: Ledger> Office<L> {
         result
     }
 
-    /// Waits until there is something to do for the link of that generation: an order is pending and nothing is in flight, or
-    /// nothing of either and a query is wished for, which takes the wish out, or the link isn't up, or the centre is stale. Where
-    /// the journal is full it answers `Order`, whose event is then refused.
+    /// Waits until there is something to do for the link of that generation: the centre is stale, or the link isn't up, or an order
+    /// is pending and nothing is in flight, or nothing of either and a query is wished for, which takes the wish out. Where the
+    /// link is up and the journal is full it answers `Order`, whose event is then refused.
     #[tactic(auto, using(crate::proofs::WishLemmas::due_if))]
     pub fn wait_pending<R: Wait>(&self, rt: &R, b: BscId, generation: u64) -> Wake
         ensures { IsDueSomewhere b generation result }

@@ -1,6 +1,6 @@
 //! The edits that lines ask for.
 
-use console_text::hex_text::read_pages;
+use console_text::hex_text::{read_pages, read_security};
 use console_text::line::Line;
 use coverage_plan::Edit;
 use std::alloc::{AllocError, Global};
@@ -10,13 +10,13 @@ use warning_book::Notice;
 #[derive(Drop)]
 pub(crate) enum Asked {
     Edit(Edit),
-    /// Its pages aren't pairs of hexadecimal digits.
+    /// Its pages, or its security information, aren't pairs of hexadecimal digits, or aren't as many as they have to be.
     BadHex,
     /// No edit.
     Other(Line),
 }
 
-/// The edit of an `issue` or an `update`.
+/// The edit of an `issue` or an `update`, or of a line with security information.
 fn with_pages(alloc: Global, line: Line) -> Result<Asked, AllocError> {
     match line {
         Line::Issue {
@@ -40,6 +40,36 @@ fn with_pages(alloc: Global, line: Line) -> Result<Asked, AllocError> {
             pages,
         } => match read_pages(alloc, pages.as_slice())? {
             Some(pages) => Ok(Asked::Edit(Edit::Update(warning, heading.content(pages)))),
+            None => Ok(Asked::BadHex),
+        },
+        other => with_security(alloc, other),
+    }
+}
+
+/// The edit of an `alert` or a `realert`.
+fn with_security(alloc: Global, line: Line) -> Result<Asked, AllocError> {
+    match line {
+        Line::Alert {
+            heading,
+            security,
+            areas,
+        } => {
+            let Some(security) = read_security(alloc, security.as_slice())? else {
+                return Ok(Asked::BadHex);
+            };
+            let notice = Notice {
+                message_id: heading.message_id,
+                scope: heading.scope,
+                content: heading.content.content(security),
+            };
+            Ok(Asked::Edit(Edit::Issue(notice, areas)))
+        }
+        Line::Realert {
+            warning,
+            heading,
+            security,
+        } => match read_security(alloc, security.as_slice())? {
+            Some(security) => Ok(Asked::Edit(Edit::Update(warning, heading.content(security)))),
             None => Ok(Asked::BadHex),
         },
         other => Ok(Asked::Other(other)),

@@ -11,6 +11,8 @@ mod checks;
 #[cfg(test)]
 mod day;
 #[cfg(test)]
+mod meter_tests;
+#[cfg(test)]
 mod stale_tests;
 #[cfg(test)]
 mod steps;

@@ -13,6 +13,8 @@ mod given_link;
 #[cfg(test)]
 mod office_tests;
 #[cfg(test)]
+mod orders_in_turn_tests;
+#[cfg(test)]
 mod read_side_tests;
 #[cfg(test)]
 mod two_links_tests;

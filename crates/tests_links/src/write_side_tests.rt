@@ -13,7 +13,7 @@ use centre_events::answer::Answer;
 use centre_events::event::Event;
 use centre_events::refusal::Refusal;
 use framing::FromWrite;
-use framing::faulty::FailsAfter;
+use framing::faulty::{FailsAfter, InPieces};
 use link_worker::{End, OpenGate, Step, write_side};
 use mirror::Presence;
 use office::desk::Desk;
@@ -25,16 +25,17 @@ use std::alloc::Global;
 use std::marker::Brand;
 use std::process::Abort;
 use std::rt::Clock;
-use std::sync::Wait;
 use std::sync::ledger::{Blank, Ledger};
+use std::sync::{Mutex, Wait};
 use std::thread;
 use std::thread::Threads;
 use std::time::Duration;
 
-type Memory = FromWrite<Vec<u8>>;
+/// Takes so many octets at each write.
+type Memory = InPieces<FromWrite<Vec<u8>>>;
 
-fn memory(alloc: Global) -> Memory {
-    FromWrite::new(Vec::new(alloc))
+fn memory(alloc: Global, size: usize) -> Memory {
+    InPieces::new(FromWrite::new(Vec::new(alloc)), size.max(1))
 }
 
 /// Whether it is the order of the first version in its one cell.
@@ -100,11 +101,13 @@ fn is_in_flight<L: Ledger, R: Wait + Abort>(rt: &R, office: &Office<L>, desk: &m
     answers_first(rt, office, desk, Question::Pending(b), "it is not pending");
 }
 
-/// How the side ends over a writer that takes so many octets, and those that it took. The order is in flight then.
+/// How the side ends over a writer that takes so many octets, of which so many at each write, and those that it took. The order is in
+/// flight then.
 fn breaks<L: Ledger, R: Wait + Abort>(
     rt: &R,
     alloc: Global,
     blank: Blank,
+    size: usize,
     room: usize,
     gate: &ShutAt,
 ) -> (End, Vec<u8>)
@@ -115,24 +118,30 @@ fn breaks<L: Ledger, R: Wait + Abort>(
     let b = first_bsc(rt);
     let (office, mut desk) = linked::<L, R>(rt, alloc, blank, 1000);
     let mut writing = opens(rt, &office);
-    let mut sink = FailsAfter::new(memory(alloc), room);
+    let mut sink = FailsAfter::new(memory(alloc, size), room);
     let end = write_side(rt, alloc, &office, &mut writing, b, LINK, &mut sink, gate);
     yes(rt, has_sent(&writing), "it has sent another order");
     is_in_flight(rt, &office, &mut desk);
-    (end, sink.into_inner().into_inner())
+    (end, sink.into_inner().into_inner().into_inner())
 }
 
 #[test]
 fn each_octet_of_an_order_may_be_the_last_that_is_written(rt: HostRuntime) {
+    for room in 0..116 {
+        breaks_after(&rt, rt.alloc(), 116, room);
+        breaks_after(&rt, rt.alloc(), 1, room);
+    }
+}
+
+/// A write fails after so many octets of the order, of which so many are taken at each write.
+fn breaks_after<R: Wait + Abort>(rt: &R, alloc: Global, size: usize, room: usize) {
     let gate = ShutAt {
         step: Step::AfterReport,
     };
-    for room in 0..116 {
-        let (end, octets) = breaks::<Brand, _>(&rt, rt.alloc(), Blank::new(1025), room, &gate);
-        same(&rt, end, End::WriteFault, "another end");
-        let is_prefix = ORDER.as_slice().get(..room) == Some(octets.as_slice());
-        yes(&rt, is_prefix, "other octets");
-    }
+    let (end, octets) = breaks::<Brand, _>(rt, alloc, Blank::new(1025), size, room, &gate);
+    same(rt, end, End::WriteFault, "another end");
+    let is_prefix = ORDER.as_slice().get(..room) == Some(octets.as_slice());
+    yes(rt, is_prefix, "other octets");
 }
 
 #[test]
@@ -140,7 +149,7 @@ fn a_gate_may_cut_the_link_before_a_write(rt: HostRuntime) {
     let gate = ShutAt {
         step: Step::BeforeWrite,
     };
-    let (end, octets) = breaks::<Brand, _>(&rt, rt.alloc(), Blank::new(1025), 116, &gate);
+    let (end, octets) = breaks::<Brand, _>(&rt, rt.alloc(), Blank::new(1025), 116, 116, &gate);
     same(&rt, end, End::GateShut, "another end");
     yes(&rt, octets.is_empty(), "something was written");
 }
@@ -159,7 +168,7 @@ fn refused<L: Ledger, R: Wait + Abort>(
 {
     let b = first_bsc(rt);
     let (office, mut desk) = linked::<L, R>(rt, alloc, blank, journal_limit);
-    let mut sink = memory(alloc);
+    let mut sink = memory(alloc, 116);
     write_side(
         rt, alloc, &office, &mut desk, b, generation, &mut sink, &OpenGate,
     )
@@ -233,7 +242,7 @@ fn writes<L: Ledger, R: Wait>(
     mut desk: Desk<L>,
     b: BscId,
 ) -> (Desk<L>, Memory, End) {
-    let mut sink = memory(alloc);
+    let mut sink = memory(alloc, 1);
     let end = write_side(rt, alloc, office, &mut desk, b, LINK, &mut sink, &OpenGate);
     (desk, sink, end)
 }
@@ -246,8 +255,8 @@ fn entries<L: Ledger>(office: Office<L>, desks: Vec<Desk<L>>) -> u64 {
     }
 }
 
-/// A BSC answers what the side writes, in another thread, until the link is lost. How the side ends, what it wrote, and after how many
-/// entries.
+/// A BSC answers what the side writes, an octet at each write, in another thread, until the link is lost. How the side ends, what it
+/// wrote, and after how many entries.
 fn at_once<L: Ledger + Send + Sync, R: Threads + Wait + Clock + Abort + Sync>(
     rt: &R,
     alloc: Global,
@@ -268,7 +277,7 @@ fn at_once<L: Ledger + Send + Sync, R: Threads + Wait + Clock + Abort + Sync>(
     );
     let desks = vec![in alloc; desk, written.0].expect(rt, "memory");
     let entries = entries(office, desks);
-    (written.2, written.1.into_inner(), entries)
+    (written.2, written.1.into_inner().into_inner(), entries)
 }
 
 /// Whether the octets are the one frame and then the other.
@@ -283,6 +292,63 @@ fn an_order_and_a_query_are_written_until_the_link_is_lost(rt: HostRuntime) {
     let is_right = are_both(octets.as_slice(), &ORDER, &QUERY);
     yes(&rt, is_right, "other octets");
     same(&rt, entries, 11, "the entries");
+}
+
+/// Waits until it is noted that the side has ended.
+fn waits_for<R: Wait + Clock + Abort>(rt: &R, has_ended: &Mutex<bool>) {
+    for _turn in 0..30_000 {
+        if *has_ended.lock(rt) {
+            return;
+        }
+        thread::sleep(rt, Duration::from_millis(1));
+    }
+    yes(rt, false, "the side doesn't end");
+}
+
+/// How the side ends, which is noted, and what it wrote.
+fn writes_and_notes<L: Ledger, R: Wait>(
+    rt: &R,
+    alloc: Global,
+    office: &Office<L>,
+    desk: Desk<L>,
+    has_ended: &Mutex<bool>,
+    b: BscId,
+) -> (End, Memory) {
+    let (desk, sink, end) = writes(rt, alloc, office, desk, b);
+    drop(desk);
+    *has_ended.lock(rt) = true;
+    (end, sink)
+}
+
+/// How the side ends at a journal in which the first order takes the last entry, and what it wrote.
+fn at_the_last_entry<L: Ledger + Send + Sync, R: Threads + Wait + Clock + Abort + Sync>(
+    rt: &R,
+    alloc: Global,
+    blank: Blank,
+) -> (End, Vec<u8>)
+    requires name { blank.name ≡ L.name }
+    requires parts { blank.parts ≡ L.parts }
+    requires desks { blank.parts ≡ 1025 }
+{
+    let b = first_bsc(rt);
+    let (office, desk) = linked::<L, R>(rt, alloc, blank, 7);
+    let has_ended = Mutex::new(false);
+    let (shared, noted) = (&office, &has_ended);
+    let (written, _) = thread::join(
+        rt,
+        move || writes_and_notes(rt, alloc, shared, desk, noted, b),
+        move || waits_for(rt, noted),
+    );
+    (written.0, written.1.into_inner().into_inner())
+}
+
+/// Nobody waits for the reply to an order in a journal that can't take it.
+#[test]
+fn a_full_journal_ends_the_side_once_its_order_is_written(rt: HostRuntime) {
+    let (end, octets) = at_the_last_entry::<Brand, _>(&rt, rt.alloc(), Blank::new(1025));
+    let full = End::Refused(Refusal::JournalFull);
+    same(&rt, end, full, "another end");
+    yes(&rt, octets.as_slice() == ORDER.as_slice(), "other octets");
 }
 
 /// Ends, and what is said of them.

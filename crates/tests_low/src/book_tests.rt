@@ -5,7 +5,9 @@ use common::Name;
 use serials::{Scope, Serial};
 use std::alloc::Global;
 use std::process::Abort;
-use warning_book::{Book, Category, Content, Limit, Notice, Refusal, Version, WarningId};
+use warning_book::{
+    Book, Category, Content, EmergencyContent, Limit, Notice, Refusal, Version, WarningId,
+};
 
 /// The number of the first warning that a book issues.
 fn first_id() -> WarningId {
@@ -81,6 +83,52 @@ fn keeps_area(rt: &impl Abort, book: &mut Book, area: &Name) {
     yes(rt, book.areas_of(first_id()).is_empty(), "it has no areas");
     yes(rt, book.len() == 0, "no warning is left");
     yes(rt, book.issued() == 1, "one was issued");
+}
+
+/// What an earthquake and tsunami warning of that type has in the place of pages.
+fn emergency(warning_type: u16) -> Content {
+    Content::Emergency(EmergencyContent {
+        indicator: 1,
+        warning_type,
+        warning_period: 0,
+        security: [0; 50],
+    })
+}
+
+/// An update of the first warning with that content is refused, since the warning is of the other kind.
+fn is_of_other_kind(rt: &impl Abort, book: &mut Book, content: &Content) {
+    let found = book.update(first_id(), content).map(|_| ());
+    same(rt, &found, &Err(Refusal::WrongKind), "the other kind");
+}
+
+/// A book whose first warning is an emergency warning.
+fn emergency_issued(rt: &impl Abort, alloc: Global) -> Book {
+    let mut book = Book::new(alloc);
+    let notice = Notice {
+        message_id: 4352,
+        scope: Scope::Plmn,
+        content: emergency(0x0580),
+    };
+    let areas = names(rt, alloc, &[b"coast"]);
+    let (_, serial) = book.issue(&notice, areas.as_slice()).expect(rt, "issued");
+    yes(rt, serial.to_u16() == 0x4000, "the serial number");
+    book
+}
+
+#[test]
+fn a_warning_keeps_its_kind(rt: HostRuntime) {
+    let alloc = rt.alloc();
+    let page = content(&rt, alloc, &[0x41]);
+    let mut book = issued_for(&rt, alloc, &[b"coast"], Scope::Cell);
+    is_of_other_kind(&rt, &mut book, &emergency(0x0580));
+    let mut book = emergency_issued(&rt, alloc);
+    is_of_other_kind(&rt, &mut book, &page);
+    let serial = update(&rt, &mut book, &emergency(0x0581));
+    yes(
+        &rt,
+        serial.to_u16() == 0x4001,
+        "the serial number of an update",
+    );
 }
 
 #[test]
@@ -362,6 +410,7 @@ const TEXTS: &[(Refusal, &str)] = &[
         "a content has 1 to 15 pages of 1 to 82 octets",
     ),
     (Refusal::BadPeriod, "a repetition period is 1 to 1,024"),
+    (Refusal::WrongKind, "the warning is of the other kind"),
     (
         Refusal::UpdatesExhausted,
         "the warning was updated fifteen times",

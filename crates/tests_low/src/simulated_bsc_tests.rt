@@ -350,8 +350,27 @@ fn each_conversation_ends_by_its_cause(rt: HostRuntime) {
 /// The answer to the KILL where the message isn't on air.
 const KILL_REFUSED: &str = "060000110e111202c000 090006010064000702 1200";
 
-/// How many octets of the stream of the two frames make a whole frame.
-const FRAME_ENDS: [usize; 2] = [116, 136];
+/// Frames to a BSC of every cell, of so many octets. After how many octets each is whole, and its answer; one without an answer can't
+/// be read.
+struct Heard {
+    frames: &'static [&'static str],
+    octets: u8,
+    answers: &'static [(u8, Option<&'static str>)],
+}
+
+const HEARD: [Heard; 2] = [
+    Heard {
+        frames: &[WRITE, KILL],
+        octets: 136,
+        answers: &[(116, Some(WRITTEN)), (136, Some(KILLED))],
+    },
+    // a reply, a type that is not in use, and a RESTART, which is not read
+    Heard {
+        frames: &[WRITTEN, "08000002aabb", "130000080400010616000d01"],
+        octets: 38,
+        answers: &[(20, Some(NOT_UNDERSTOOD)), (26, None)],
+    },
+];
 
 /// The end of a conversation with a BSC of every cell.
 fn end_of(alloc: Global, reader: &mut impl Source, writer: &mut impl Sink) -> SimEnd {
@@ -361,57 +380,85 @@ fn end_of(alloc: Global, reader: &mut impl Source, writer: &mut impl Sink) -> Si
 }
 
 /// The answers to the frames that are whole after so many octets.
-fn due_after(rt: &impl Abort, alloc: Global, octets: usize) -> Vec<u8> {
-    let [first, second] = FRAME_ENDS;
-    if octets < first {
-        due(rt, alloc, &[])
-    } else if octets < second {
-        due(rt, alloc, &[WRITTEN])
+fn due_after(rt: &impl Abort, alloc: Global, heard: &Heard, octets: u8) -> Vec<u8> {
+    let mut replies = due(rt, alloc, &[]);
+    for (whole, answer) in heard.answers {
+        if let Some(answer) = answer {
+            if *whole <= octets {
+                add_octets(rt, answer, &mut replies);
+            }
+        }
+    }
+    replies
+}
+
+/// How a conversation has ended after so many octets, if it has.
+fn ended_after(heard: &Heard, octets: u8) -> Option<SimEnd> {
+    for (whole, answer) in heard.answers {
+        if answer.is_none() && *whole <= octets {
+            return Some(SimEnd::BadMessage(MessageFault::NotInProfile));
+        }
+    }
+    None
+}
+
+/// How a conversation ends where the stream does after so many octets.
+fn cut_after(heard: &Heard, octets: u8) -> SimEnd {
+    for (whole, _) in heard.answers {
+        if *whole == octets {
+            return SimEnd::PeerEnded;
+        }
+    }
+    if octets == 0 {
+        SimEnd::PeerEnded
     } else {
-        due(rt, alloc, &[WRITTEN, KILLED])
+        SimEnd::CutFrame
     }
 }
 
-/// A conversation over the reader ends so, and what it writes is the answers to the frames that are whole then.
-fn came<R: Source>(rt: &impl Abort, alloc: Global, reader: &mut R, octets: usize, end: SimEnd) {
+/// A conversation over the reader, which gives so many octets and then ends it so, writes the answers to the frames that are whole
+/// then.
+fn came<R: Source>(
+    rt: &impl Abort,
+    alloc: Global,
+    heard: &Heard,
+    reader: &mut R,
+    count: u8,
+    end: SimEnd,
+) {
     let mut writer = FromWrite::new(Vec::new(alloc));
     let ended = end_of(alloc, reader, &mut writer);
+    let end = ended_after(heard, count).unwrap_or(end);
     same(rt, &ended, &end, "the end after some octets");
-    let replies = due_after(rt, alloc, octets);
+    let replies = due_after(rt, alloc, heard, count);
     let wrote = writer.into_inner();
     yes(rt, wrote.as_slice() == replies.as_slice(), "the replies");
 }
 
-/// A read fails after so many octets, each read alone.
-fn fails_after(rt: &impl Abort, alloc: Global, octets: &[u8], count: u8) {
+/// A read fails after so many octets, each read alone; or the stream ends there.
+fn fails_or_ends_after(rt: &impl Abort, alloc: Global, heard: &Heard, octets: &[u8], count: u8) {
+    let read = u64::from(count) + 1;
     let source = InPieces::new(FromRead::new(octets), 1);
-    let mut reader = FailsAtRead::new(source, u64::from(count) + 1);
-    came(
-        rt,
-        alloc,
-        &mut reader,
-        usize::from(count),
-        SimEnd::ReadFault,
-    );
+    let mut fails = FailsAtRead::new(source, read);
+    came(rt, alloc, heard, &mut fails, count, SimEnd::ReadFault);
+    let source = InPieces::new(FromRead::new(octets), 1);
+    let mut ends = EndsAtRead::new(source, read);
+    came(rt, alloc, heard, &mut ends, count, cut_after(heard, count));
 }
 
-/// The stream ends after so many octets, each read alone.
-fn ends_after(rt: &impl Abort, alloc: Global, octets: &[u8], count: u8) {
-    let source = InPieces::new(FromRead::new(octets), 1);
-    let mut reader = EndsAtRead::new(source, u64::from(count) + 1);
-    let end = match count {
-        0 | 116 | 136 => SimEnd::PeerEnded,
-        _ => SimEnd::CutFrame,
-    };
-    came(rt, alloc, &mut reader, usize::from(count), end);
+/// The frames are heard, an octet at each read.
+fn hears(rt: &impl Abort, alloc: Global, heard: &Heard) {
+    let octets = stream(rt, alloc, heard.frames);
+    yes(rt, octets.len() == usize::from(heard.octets), "the octets");
+    for count in 0..=heard.octets {
+        fails_or_ends_after(rt, alloc, heard, &octets, count);
+    }
 }
 
 #[test]
 fn reads_that_fail_or_end_keep_the_answers_before(rt: HostRuntime) {
-    let octets = stream(&rt, rt.alloc(), &[WRITE, KILL]);
-    for count in 0..=136u8 {
-        fails_after(&rt, rt.alloc(), &octets, count);
-        ends_after(&rt, rt.alloc(), &octets, count);
+    for heard in &HEARD {
+        hears(&rt, rt.alloc(), heard);
     }
 }
 

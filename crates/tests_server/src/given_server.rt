@@ -5,7 +5,7 @@ ghost use Rattle.std.specs.Prelude.{◌≤◌};
 use crate::checks::{same, yes};
 use crate::given_texts::Wanted;
 use console_text::options::MOST_ENTRIES;
-use server::{ServeOptions, serve};
+use server::{ServeOptions, serve, serve_words};
 use std::alloc::Global;
 use std::fs::Files;
 use std::io::{BufRead, BufReader, PipeReader, PipeWriter, Read, Write, pipe};
@@ -223,6 +223,39 @@ pub(crate) fn free_port<R: Abort + Net<Stream = TcpStream, Listener = TcpListene
     0
 }
 
+/// What somebody who operates a server has, and what the server has of it: the lines that are typed, where answers go, where faults
+/// are said, and what was said there.
+#[derive(Drop)]
+struct Terminal {
+    operator: Operator,
+    typed: BufReader<PipeReader>,
+    written: PipeWriter,
+    errors: PipeWriter,
+    said: PipeReader,
+}
+
+fn opened<R: Abort + Files>(rt: &R, alloc: Global) -> Terminal {
+    let (typed, lines) = pipe(rt).expect(rt, "a pipe");
+    let (answers, written) = pipe(rt).expect(rt, "a pipe");
+    let (said, errors) = pipe(rt).expect(rt, "a pipe");
+    Terminal {
+        operator: Operator {
+            lines: Some(lines),
+            answers: BufReader::new(alloc, answers).expect(rt, "memory"),
+        },
+        typed: BufReader::new(alloc, typed).expect(rt, "memory"),
+        written,
+        errors,
+        said,
+    }
+}
+
+fn all_of(rt: &impl Abort, alloc: Global, mut said: PipeReader) -> Vec<u8> {
+    let mut text = Vec::new(alloc);
+    said.read_to_end(&mut text).expect(rt, "errors are read");
+    text
+}
+
 /// Runs the server on that port while somebody operates it. The answers are its status, what it still answered, and what it said.
 fn served<
     R: Abort
@@ -234,23 +267,51 @@ fn served<
         + Wait,
 >(rt: &R, alloc: Global, run: &Run, base: u16) -> (u8, Vec<u8>, Vec<u8>) {
     let options = options(rt, alloc, base, run.links, run.sim);
-    let (typed, lines) = pipe(rt).expect(rt, "a pipe");
-    let (answers, written) = pipe(rt).expect(rt, "a pipe");
-    let (mut said, errors) = pipe(rt).expect(rt, "a pipe");
-    let reader = BufReader::new(alloc, typed).expect(rt, "memory");
-    let operator = Operator {
-        lines: Some(lines),
-        answers: BufReader::new(alloc, answers).expect(rt, "memory"),
-    };
+    let Terminal {
+        operator,
+        typed,
+        written,
+        errors,
+        said,
+    } = opened(rt, alloc);
     let steps = run.steps;
     let (status, answers) = thread::join(
         rt,
-        move || serve(rt, alloc, &options, reader, written, errors),
+        move || serve(rt, alloc, &options, typed, written, errors),
         move || operates(rt, alloc, operator, base, steps),
     );
-    let mut errors = Vec::new(alloc);
-    said.read_to_end(&mut errors).expect(rt, "errors are read");
-    (status, answers, errors)
+    (status, answers, all_of(rt, alloc, said))
+}
+
+/// Runs the server with the words of a command line, whose port is that one, while somebody operates it. The answers are the same.
+pub(crate) fn served_by_words<
+    R: Abort
+        + Clock
+        + Files
+        + Net<Stream = TcpStream, Listener = TcpListener>
+        + Sync
+        + Threads
+        + Wait,
+>(
+    rt: &R,
+    alloc: Global,
+    words: &[String],
+    base: u16,
+    steps: &'static [Step],
+) -> (u8, Vec<u8>, Vec<u8>) {
+    let Terminal {
+        operator,
+        typed,
+        written,
+        errors,
+        said,
+    } = opened(rt, alloc);
+    let (status, answers) = thread::join(
+        rt,
+        move || serve_words(rt, alloc, words, typed, written, errors),
+        move || operates(rt, alloc, operator, base, steps),
+    );
+    (status, answers, all_of(rt, alloc, said))
 }
 
 /// A run of the server ends as it has to.

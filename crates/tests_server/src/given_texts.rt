@@ -4,6 +4,7 @@ use std::alloc::Global;
 use std::process::Abort;
 
 /// A part of a text.
+#[derive(Clone, Copy)]
 pub(crate) enum Part {
     Text(&'static str),
     /// A text so often.

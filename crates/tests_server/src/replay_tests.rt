@@ -15,6 +15,7 @@ use std::process::Abort;
 const PLMN: [u8; 3] = [0x00, 0xf1, 0x10];
 
 /// How a script is read and its answers are written.
+#[derive(Clone, Copy)]
 struct Streams {
     /// The most octets of a read, and of a write.
     read: usize,
@@ -224,6 +225,84 @@ const ROWS: &[Row] = &[
         ],
     },
 ];
+
+/// The script of three lines ends so over the streams, and is answered so.
+fn ends(
+    rt: &impl Abort,
+    alloc: Global,
+    streams: &Streams,
+    ended: Result<(), ReplayFault>,
+    answers: &[u8],
+) {
+    let script = text_of(rt, alloc, SCRIPT);
+    let (found, wrote) = replayed(alloc, script.as_bytes(), streams);
+    same(rt, found, ended, "another end");
+    yes(rt, wrote.as_slice() == answers, "other answers");
+}
+
+/// What is answered to a line of which so many octets have come when the script ends; the first 9 are all but its line feed.
+fn answer_to_part(octets: u32, line: u32) -> Part {
+    match octets {
+        0 => Text(""),
+        9 => Numbered("ok ", line, line, "\n"),
+        _ => Text("bad line\n"),
+    }
+}
+
+/// A read fails after so many octets of the script, each read alone; or the script ends there.
+fn fails_or_ends_after(rt: &impl Abort, alloc: Global, octets: u32) {
+    let lines = octets / 10;
+    let whole = Numbered("ok ", 1, lines, "\n");
+    let answers = text_of(rt, alloc, &[whole]);
+    let mut streams = Streams {
+        read: 1,
+        written: 1,
+        fatal_read: u64::from(octets) + 1,
+        last_read: 1_000_000,
+        room: 1_000_000,
+    };
+    let fault = Err(ReplayFault::ReadFault);
+    ends(rt, alloc, &streams, fault, answers.as_bytes());
+    streams.last_read = streams.fatal_read;
+    streams.fatal_read = 0;
+    let whole = Numbered("ok ", 1, lines, "\n");
+    let part = answer_to_part(octets % 10, lines + 1);
+    let answers = text_of(rt, alloc, &[whole, part]);
+    ends(rt, alloc, &streams, Ok(()), answers.as_bytes());
+}
+
+#[test]
+fn each_octet_of_a_script_may_be_the_last(rt: HostRuntime) {
+    for octets in 0..=30 {
+        fails_or_ends_after(&rt, rt.alloc(), octets);
+    }
+}
+
+/// A writer takes so many octets of the answers, one at each write.
+fn takes(rt: &impl Abort, alloc: Global, room: usize) {
+    let answers = b"ok 1\nok 2\nok 3\n".as_slice();
+    let streams = Streams {
+        read: 4096,
+        written: 1,
+        fatal_read: 0,
+        last_read: 1_000_000,
+        room,
+    };
+    let ended = if room == answers.len() {
+        Ok(())
+    } else {
+        Err(ReplayFault::WriteFault)
+    };
+    let taken = answers.get(..room).expect(rt, "so many octets");
+    ends(rt, alloc, &streams, ended, taken);
+}
+
+#[test]
+fn each_octet_of_the_answers_may_be_the_last_that_is_written(rt: HostRuntime) {
+    for room in 0..=15 {
+        takes(&rt, rt.alloc(), room);
+    }
+}
 
 #[test]
 fn scripts_have_their_answers(rt: HostRuntime) {

@@ -5,7 +5,7 @@ ghost use Rattle.std.specs.Prelude.{◌≡◌};
 
 use crate::checks::{same, yes};
 use crate::command_line_tests::owned;
-use crate::given_server::{Base, Run, Step, ends, free_port};
+use crate::given_server::{Base, Run, Step, ends, free_port, served_by_words};
 use crate::given_texts::Wanted;
 use office::office::Office;
 use server::{ServeFault, serve_words, settle};
@@ -297,5 +297,81 @@ fn words_of_a_server(rt: HostRuntime) {
             "another answer",
         );
         same(&rt, said.as_slice(), errors.as_bytes(), "another fault");
+    }
+}
+
+/// A run of the server with words of a command line beside its port, which ends with status 0.
+struct WordsRow {
+    words: [&'static str; 2],
+    steps: &'static [Step],
+    answers: &'static str,
+    errors: &'static str,
+}
+
+const WORDS_ROWS: &[WordsRow] = &[
+    // The journal is full once the link is up, so its write side ends, and not its BSC. It is said before the next connection is taken.
+    WordsRow {
+        words: ["--journal", "6"],
+        steps: &[
+            Step::Types(WARNING),
+            Step::Skips(5),
+            Step::Sends(b""),
+            Step::Sends(b""),
+            Step::Types("quit\n"),
+        ],
+        answers: "settled 6\n",
+        errors: "cbc: BSC 1: link 6 is up\n\
+cbc: BSC 1: link 6 ended: the centre refused to go on: the journal is full\n\
+cbc: BSC 1: link refused: the journal is full\n",
+    },
+    // A FAILURE names a cell by its global identification: one of another network, and then one of the network that is served.
+    WordsRow {
+        words: ["--plmn", "00f120"],
+        steps: &[
+            Step::Types(WARNING),
+            Step::Skips(5),
+            Step::SendsAll(
+                b"\x14\x00\x00\x0e\x09\x00\x09\x00\x00\xf1\x10\x00\x64\x00\x07\x0a\x16\x00",
+            ),
+            Step::Types("board 1\n"),
+            Step::Reads("awaited 1 onair 0 failed 0 left 0 broadcasts 0\n"),
+            Step::SendsAll(
+                b"\x14\x00\x00\x0e\x09\x00\x09\x00\x00\xf1\x20\x00\x64\x00\x07\x0a\x16\x00",
+            ),
+            Step::Types("board 1\n"),
+            Step::Reads("awaited 0 onair 0 failed 1 left 0 broadcasts 0\n"),
+            Step::Types("quit\n"),
+        ],
+        answers: "settled ",
+        errors: "cbc: BSC 1: link 6 is up\n",
+    },
+];
+
+/// The server ends as the row wants.
+fn serves<
+    R: Abort
+        + Clock
+        + Files
+        + Net<Stream = TcpStream, Listener = TcpListener>
+        + Sync
+        + Threads
+        + Wait,
+>(rt: &R, alloc: Global, row: &WordsRow) {
+    let port = free_port(rt);
+    let base = format!(in alloc; "{port}").expect(rt, "memory");
+    let [name, value] = row.words;
+    let words = ["cbc", "serve", "--base", base.as_str(), name, value];
+    let words = owned(rt, alloc, &words);
+    let (status, answers, errors) = served_by_words(rt, alloc, words.as_slice(), port, row.steps);
+    same(rt, status, 0, "another status");
+    yes(rt, answers.starts_with(row.answers.as_bytes()), row.answers);
+    yes(rt, errors.starts_with(row.errors.as_bytes()), row.errors);
+}
+
+/// What becomes of a link is told by the side that ended; a cell is named in the network that is served.
+#[test]
+fn links_of_a_server_with_words(rt: HostRuntime) {
+    for row in WORDS_ROWS {
+        serves(&rt, rt.alloc(), row);
     }
 }

@@ -144,7 +144,8 @@ impl Book {
     /// Gives a warning a new version, and answers its serial number.
     ///
     /// Refused as `NoSuchWarning`, `NotActive`, `BadPages`, `BadPeriod`, `WrongKind` where the warning is of the other
-    /// kind, or `UpdatesExhausted`, the first that holds, else as `Memory` where it is out of memory; an `Err` leaves the book as it was.
+    /// kind, or `UpdatesExhausted`, the first that holds, else as `Memory` where it is out of memory; an `Err` leaves
+    /// the book as it was.
     pub fn update(&mut self, number: WarningId, content: &Content) -> Result<Serial, Refusal>
         ensures accepted { OnOk result (first_refusal (update_checks self.old number content.now) ≡ None) }
         ensures serial { IfOk result (λ s. next_serial self.old number ≡ Some s) }

@@ -4,7 +4,7 @@ ghost use Rattle.std.specs.Prelude.{◌≡◌, ◌≤◌, ◌+◌, Some, length}
 ghost use Rattle.cell_register.specs.Register.{State};
 ghost use Rattle.kept_tables.specs.Consistent.{Consistent};
 ghost use Rattle.warning_book.specs.Book.{current_of, warning_of};
-ghost use Rattle.centre_events.specs.Asking.{version_query};
+ghost use Rattle.centre_events.specs.Asking.{version_query, warning_query};
 ghost use Rattle.centre_past.specs.Facts.{facts};
 ghost use Rattle.centre_past.specs.Idle.{AreKnownOf, OnlyReads};
 ghost use Rattle.centre_past.specs.IsKept.{IsKept, OnlyReadsIn};
@@ -29,7 +29,7 @@ use common::Cell;
 use kept_tables::KeptTables;
 use serials::Serial;
 use std::alloc::Global;
-use warning_book::{Warning, WarningId};
+use warning_book::{Kind, Warning, WarningId};
 
 /// The greatest number of cells that one query names.
 const MOST_CELLS: usize = 1000;
@@ -63,6 +63,42 @@ fn version_query(
     })
 }
 
+/// The query of a warning's current version.
+fn current_query(
+    alloc: Global,
+    tables: &mut KeptTables,
+    b: BscId,
+    w: &Warning,
+    after: Option<Cell>,
+) -> Verdict
+    ensures verdict { (settings : Settings) (past : Past) → Legal settings past → Consistent tables.old (facts past) → warning_of (book_of past) w.now.number ≡ Some w.now → Gives (version_query past b w.now.message_id (current_of w.now) after) result }
+    ensures reads { OnlyReads tables.old tables.new }
+    ensures meter { (settings : Settings) (past : Past) (r : State) → Legal settings past → AreKnownOf past tables.old.lines r → tables.new.lines.meter ≤ tables.old.lines.meter + length (known_at past b) }
+{
+    match w.serial() {
+        Some(serial) => version_query(alloc, tables, b, w, serial, after),
+        None => Err(Refusal::NothingToAsk),
+    }
+}
+
+/// The query of a warning: an emergency warning is asked in no cell.
+fn warning_query(
+    alloc: Global,
+    tables: &mut KeptTables,
+    b: BscId,
+    w: &Warning,
+    after: Option<Cell>,
+) -> Verdict
+    ensures verdict { (settings : Settings) (past : Past) → Legal settings past → Consistent tables.old (facts past) → warning_of (book_of past) w.now.number ≡ Some w.now → Gives (warning_query past b (Some w.now) after) result }
+    ensures reads { OnlyReads tables.old tables.new }
+    ensures meter { (settings : Settings) (past : Past) (r : State) → Legal settings past → AreKnownOf past tables.old.lines r → tables.new.lines.meter ≤ tables.old.lines.meter + length (known_at past b) }
+{
+    match w.kind() {
+        Kind::Cbs => current_query(alloc, tables, b, w, after),
+        Kind::Emergency => Err(Refusal::NothingToAsk),
+    }
+}
+
 /// Ask: a query of the warning's current version, over the link of that generation. Only the lines of the warning at the
 /// BSC are read, and no memory is taken before a cell is found.
 pub(crate) fn ask(
@@ -87,8 +123,5 @@ pub(crate) fn ask(
     if flight_in(kept.flights.as_slice(), b).is_some() {
         return Err(Refusal::InFlight);
     }
-    let Some(serial) = warning.serial() else {
-        return Err(Refusal::NothingToAsk);
-    };
-    version_query(alloc, &mut kept.tables, b, warning, serial, after)
+    warning_query(alloc, &mut kept.tables, b, warning, after)
 }

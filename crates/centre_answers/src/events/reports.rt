@@ -17,6 +17,7 @@ use cbsp_ie::CellId;
 use cbsp_messages::Message;
 use cell_register::BscId;
 use centre_events::answer::Answer;
+use centre_events::effects::is_about;
 use centre_events::in_flight::InFlight;
 use centre_events::refusal::Refusal;
 use centre_events::replying::{failed_ids, is_out_of_place, replies_to};
@@ -24,20 +25,21 @@ use centre_past::flights::flight_in;
 use centre_past::kept::Kept;
 use common::Cells;
 use std::alloc::{AllocError, Global};
+use warning_book::Kind;
 
-/// The cells known at the BSC that the identifications of an indication name, in order; none where the indication isn't
-/// about CBS messages (TS 48.049, 8.2.25). The network is the centre's, as its three octets are sent.
+/// The cells known at the BSC that the identifications of an indication name, in order; none where the indication is about
+/// warnings of neither kind (TS 48.049, 8.2.24). The network is the centre's, as its three octets are sent.
 fn listed_cells(
     alloc: Global,
     network: [u8; 3],
     kept: &Kept,
     b: BscId,
-    kind: u8,
+    number: u8,
     ids: &[CellId],
 ) -> Result<Cells, AllocError>
-    ensures { (settings : Settings) (past : Past) → Legal settings past → AreKnownOf past kept.now.tables.lines kept.now.register → IfOk result (λ cells. cells ≡ listed_cells network past b kind ids.now) }
+    ensures { (settings : Settings) (past : Past) → Legal settings past → AreKnownOf past kept.now.tables.lines kept.now.register → IfOk result (λ cells. cells ≡ listed_cells network past b number ids.now) }
 {
-    if kind != 0 {
+    if !is_about(number, Kind::Cbs) && !is_about(number, Kind::Emergency) {
         return Ok(Cells::from_vec(Vec::new(alloc)));
     }
     let cells = kept.tables.cells_named(&kept.register, network, b, ids)?;

@@ -11,7 +11,7 @@ pub struct EndsAtRead<S: Source + Drop> {
     source: S,
     last_read: u64,
     calls: u64,
-    has_failed: bool,
+    failures: u64,
 }
 
 impl<S: Source + Drop> EndsAtRead<S> {
@@ -20,7 +20,7 @@ impl<S: Source + Drop> EndsAtRead<S> {
             source,
             last_read,
             calls: 0,
-            has_failed: false,
+            failures: 0,
         }
     }
 }
@@ -30,7 +30,7 @@ impl<S: Source + Drop> Source for EndsAtRead<S> {
 
     ghost calls = { λ s. s.calls };
 
-    ghost has_failed = { λ s. s.has_failed };
+    ghost failures = { λ s. s.failures };
 
     fn read(&mut self, buffer: &mut [u8]) -> Result<usize, Failed> {
         self.calls = self.calls.saturating_add(1);
@@ -40,7 +40,7 @@ impl<S: Source + Drop> Source for EndsAtRead<S> {
         match self.source.read(buffer) {
             Ok(count) => Ok(count),
             Err(failed) => {
-                self.has_failed = true;
+                self.failures = self.failures.saturating_add(1);
                 Err(failed)
             }
         }

@@ -10,7 +10,7 @@ pub struct FailsAfter<W: Sink + Drop> {
     sink: W,
     room: usize,
     calls: u64,
-    has_failed: bool,
+    failures: u64,
 }
 
 impl<W: Sink + Drop> FailsAfter<W> {
@@ -19,7 +19,7 @@ impl<W: Sink + Drop> FailsAfter<W> {
             sink,
             room,
             calls: 0,
-            has_failed: false,
+            failures: 0,
         }
     }
 
@@ -28,7 +28,7 @@ impl<W: Sink + Drop> FailsAfter<W> {
             sink,
             room: _,
             calls: _,
-            has_failed: _,
+            failures: _,
         } = self;
         sink
     }
@@ -39,25 +39,25 @@ impl<W: Sink + Drop> Sink for FailsAfter<W> {
 
     ghost calls = { λ s. s.calls };
 
-    ghost has_failed = { λ s. s.has_failed };
+    ghost failures = { λ s. s.failures };
 
     fn write(&mut self, octets: &[u8]) -> Result<usize, Failed> {
         self.calls = self.calls.saturating_add(1);
         if self.room == 0 {
-            self.has_failed = true;
+            self.failures = self.failures.saturating_add(1);
             return Err(Failed);
         }
         let most = octets.len().min(self.room);
         match self.sink.write(&octets[..most]) {
             Ok(count) => {
                 if count == 0 && !octets.is_empty() {
-                    self.has_failed = true;
+                    self.failures = self.failures.saturating_add(1);
                 }
                 self.room -= count;
                 Ok(count)
             }
             Err(failed) => {
-                self.has_failed = true;
+                self.failures = self.failures.saturating_add(1);
                 Err(failed)
             }
         }

@@ -10,7 +10,7 @@ pub struct FailsAtRead<S: Source + Drop> {
     source: S,
     fatal_read: u64,
     calls: u64,
-    has_failed: bool,
+    failures: u64,
 }
 
 impl<S: Source + Drop> FailsAtRead<S> {
@@ -19,7 +19,7 @@ impl<S: Source + Drop> FailsAtRead<S> {
             source,
             fatal_read,
             calls: 0,
-            has_failed: false,
+            failures: 0,
         }
     }
 }
@@ -29,18 +29,18 @@ impl<S: Source + Drop> Source for FailsAtRead<S> {
 
     ghost calls = { λ s. s.calls };
 
-    ghost has_failed = { λ s. s.has_failed };
+    ghost failures = { λ s. s.failures };
 
     fn read(&mut self, buffer: &mut [u8]) -> Result<usize, Failed> {
         self.calls = self.calls.saturating_add(1);
         if self.calls == self.fatal_read {
-            self.has_failed = true;
+            self.failures = self.failures.saturating_add(1);
             return Err(Failed);
         }
         match self.source.read(buffer) {
             Ok(count) => Ok(count),
             Err(failed) => {
-                self.has_failed = true;
+                self.failures = self.failures.saturating_add(1);
                 Err(failed)
             }
         }

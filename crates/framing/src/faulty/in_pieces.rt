@@ -30,7 +30,7 @@ impl<S: Source + Drop> Source for InPieces<S> {
 
     ghost calls = { λ s. S.calls s.inner };
 
-    ghost has_failed = { λ s. S.has_failed s.inner };
+    ghost failures = { λ s. S.failures s.inner };
 
     fn read(&mut self, buffer: &mut [u8]) -> Result<usize, Failed> {
         let room = buffer.len().min(self.size);
@@ -43,7 +43,7 @@ impl<W: Sink + Drop> Sink for InPieces<W> {
 
     ghost calls = { λ s. W.calls s.inner };
 
-    ghost has_failed = { λ s. W.has_failed s.inner };
+    ghost failures = { λ s. W.failures s.inner };
 
     fn write(&mut self, octets: &[u8]) -> Result<usize, Failed> {
         let count = octets.len().min(self.size);

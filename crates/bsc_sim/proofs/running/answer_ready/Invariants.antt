@@ -7,7 +7,7 @@ abbrev pub invariant-loop-frame : goal.invariant-loop-frame
 invariant-loop-frame g l = record {
   answered : AnsweredSoFar l.choices l.initial.bsc l.bsc l.initial.framer.frames l.framer.frames (g.W.Sink.written l.initial.writer) (g.W.Sink.written l.writer);
   rest : l.framer.rest ≡ l.initial.framer.rest;
-  fine : g.W.Sink.has_failed l.writer ≡ g.W.Sink.has_failed l.initial.writer;
+  fine : g.W.Sink.failures l.writer ≡ g.W.Sink.failures l.initial.writer;
 }
 
 abbrev pub decreases-loop-frame : goal.decreases-loop-frame

@@ -1,5 +1,9 @@
 use Rattle.centre_answers.proofs.events.check_edit.Goals as goal
 
+pub returns-in-Update : goal.returns-in-Update
+returns-in-Update c =
+    λ settings past legal kept. rw c.in-Update.is (c.check_update.ensures past kept.booked)
+
 pub returns-in-Widen : goal.returns-in-Widen
 returns-in-Widen c =
     λ settings past legal kept. rw c.in-Widen.is (c.check_widen.ensures past kept.selected kept.booked)

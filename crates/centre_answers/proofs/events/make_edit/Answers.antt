@@ -1,5 +1,9 @@
 use Rattle.centre_answers.proofs.events.make_edit.Goals as goal
 
+pub returns-in-Update-clause-verdict : goal.returns-in-Update-clause-verdict
+returns-in-Update-clause-verdict c =
+    λ past registered selected booked free. rw c.in-Update.is (c.update.ensures.verdict past booked)
+
 pub returns-in-Widen-clause-verdict : goal.returns-in-Widen-clause-verdict
 returns-in-Widen-clause-verdict c =
     λ past registered selected booked free. rw c.in-Widen.is (c.widen.ensures.verdict past selected booked)

@@ -1,8 +1,9 @@
 use Rattle.std.proofs.Common.{◌++◌, [], ◌∙◌, ap, arith, sym, subst}
+use Rattle.warning_book.specs.Book.{numbers}
 use Rattle.centre_lines.specs.Following.{Happens, changing_at, happens}
 use Rattle.centre_lines.specs.Found.{AreFound}
 use Rattle.centre_past.proofs.ReadLemmas.{as_itself, added_more}
-use Rattle.centre_lines.proofs.IndicatedLemmas.{in_book_as}
+use Rattle.centre_lines.proofs.IndicatedLemmas.{lines_of_as}
 use Rattle.centre_lines.proofs.changing.hold_indicated.Goals as goal
 
 pub hold_indicated_spot-requires-clause-found : goal.hold_indicated_spot-requires-clause-found
@@ -12,7 +13,7 @@ pub returns-in_err-hold_indicated_spot-clause-meter : goal.returns-in_err-hold_i
 returns-in_err-hold_indicated_spot-clause-meter c =
     λ there.
     let before = (c.loop-spot.invariant.0 c.args.tables.now (as_itself c.args.tables.now)).0 in
-    let now = in_book_as c.args.plan.now.book.now c.args.tables.now c.loop-spot.tables before there in
+    let now = lines_of_as (numbers c.args.plan.now.book.now.warnings) c.args.tables.now c.loop-spot.tables before there in
     let passed = c.loop-spot.invariant.1.0 there in
     let more = c.hold_indicated_spot.ensures.meter now in
     grind (arith, passed, more, c.as_slice-all.ensures.value, c.in_ok-all.ensures, c.loop-spot-test.true)
@@ -30,7 +31,7 @@ loop-spot-preserved c =
       (
         λ there.
             let before = (c.loop-spot.invariant.0 c.args.tables.now (as_itself c.args.tables.now)).0 in
-            let now = in_book_as c.args.plan.now.book.now c.args.tables.now c.loop-spot.tables before there in
+            let now = lines_of_as (numbers c.args.plan.now.book.now.warnings) c.args.tables.now c.loop-spot.tables before there in
             let passed = c.loop-spot.invariant.1.0 there in
             let more = c.hold_indicated_spot.ensures.meter now in
             grind (arith, passed, more, c.as_slice-all.ensures.value, c.in_ok-all.ensures),

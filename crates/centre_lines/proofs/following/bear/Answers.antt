@@ -1,7 +1,7 @@
 use Rattle.std.proofs.Common.{◌≡◌, false, map, sym, ◌∙◌, ap, subst}
 use Rattle.std.proofs.lemmas.Result.{on_ok_weaker}
 use Rattle.std.specs.List.{list_any}
-use Rattle.mirror.specs.Table.{is_that_place}
+use Rattle.mirror.specs.Table.{downs_of, is_that_place}
 use Rattle.kept_tables.specs.Changes.{Begins, change_of as change_of_step}
 use Rattle.centre_lines.specs.Following.{AreCovered, AreSteps, Happens, change_of, happens, held_in, held_of, step_of}
 use Rattle.centre_events.specs.Kept.{is_edit}
@@ -34,7 +34,7 @@ returns-in_ok-found-in-Whole-clause-tables c =
     c.change_lines.ensures.made
 
 pub returns-in_ok-found-in-Whole-clause-downs : goal.returns-in_ok-found-in-Whole-clause-downs
-returns-in_ok-found-in-Whole-clause-downs c = on_ok_weaker c.change_lines.result (λ done x b d. ap (list_any (is_that_place b d)) c.change_lines.ensures.downs ∙ c.in_ok-mark_downs.ensures.downs b d ∙ downs_then x b d) c.change_lines.ensures.made
+returns-in_ok-found-in-Whole-clause-downs c = on_ok_weaker c.change_lines.result (λ done x k b d. ap (λ downs. list_any (is_that_place b d) (downs_of k downs)) c.change_lines.ensures.downs ∙ c.in_ok-mark_downs.ensures.downs k b d ∙ downs_then x k b d) c.change_lines.ensures.made
 
 -- of another event
 
@@ -43,7 +43,7 @@ take_steps-requires c =
     let h : Happens = happens c.args.h.now in
     let steps : (is_edit h.event ≡ false) × (c.in-Steps.steps.items ≡ map (step_of h c.args.plan.now.book.now) (map held_of c.in-Steps.steps.items)) = subst (AreSteps h c.args.plan.now.book.now) c.in-Steps.is c.requires.steps in
     subst (Begins c.mark_downs.new.tables)
-    (sym (ap (map change_of_step) c.as_slice-in-Steps.ensures.value ∙ steps_change c.in-Steps.steps.items c.requires.bears c.mark_downs.new.tables (λ b d. c.in_ok-mark_downs.ensures.downs b d ∙ downs_then c.requires.bears b d) steps.0 (steps.1 ∙ ap (map (step_of h c.args.plan.now.book.now)) (sym (ap held_in c.in-Steps.is)))))
+    (sym (ap (map change_of_step) c.as_slice-in-Steps.ensures.value ∙ steps_change c.in-Steps.steps.items c.requires.bears c.mark_downs.new.tables (λ k b d. c.in_ok-mark_downs.ensures.downs k b d ∙ downs_then c.requires.bears k b d) steps.0 (steps.1 ∙ ap (map (step_of h c.args.plan.now.book.now)) (sym (ap held_in c.in-Steps.is)))))
     (begins c.requires.bears c.mark_downs.new.tables c.in_ok-mark_downs.ensures.lines c.in_ok-mark_downs.ensures.downs)
 
 pub returns-in-Steps-clause-tables : goal.returns-in-Steps-clause-tables
@@ -53,9 +53,9 @@ returns-in-Steps-clause-tables c =
     on_ok_weaker c.take_steps.result
     (λ done x.
     settled x c.mark_downs.new.tables c.take_steps.new.self (map change_of_step c.as_slice-in-Steps.result.now)
-    (ap (map change_of_step) c.as_slice-in-Steps.ensures.value ∙ steps_change c.in-Steps.steps.items x c.mark_downs.new.tables (λ b d. c.in_ok-mark_downs.ensures.downs b d ∙ downs_then x b d) steps.0 (steps.1 ∙ ap (map (step_of h c.args.plan.now.book.now)) (sym (ap held_in c.in-Steps.is))))
+    (ap (map change_of_step) c.as_slice-in-Steps.ensures.value ∙ steps_change c.in-Steps.steps.items x c.mark_downs.new.tables (λ k b d. c.in_ok-mark_downs.ensures.downs k b d ∙ downs_then x k b d) steps.0 (steps.1 ∙ ap (map (step_of h c.args.plan.now.book.now)) (sym (ap held_in c.in-Steps.is))))
     c.in_ok-mark_downs.ensures.lines c.in_ok-mark_downs.ensures.downs done)
     c.take_steps.ensures.settled
 
 pub returns-in-Steps-clause-downs : goal.returns-in-Steps-clause-downs
-returns-in-Steps-clause-downs c = on_ok_weaker c.take_steps.result (λ done x b d. c.take_steps.ensures.downs b d ∙ c.in_ok-mark_downs.ensures.downs b d ∙ downs_then x b d) c.take_steps.ensures.settled
+returns-in-Steps-clause-downs c = on_ok_weaker c.take_steps.result (λ done x k b d. c.take_steps.ensures.downs k b d ∙ c.in_ok-mark_downs.ensures.downs k b d ∙ downs_then x k b d) c.take_steps.ensures.settled

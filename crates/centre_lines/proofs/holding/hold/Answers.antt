@@ -1,6 +1,35 @@
-use Rattle.std.proofs.Common.{sym, subst}
+use Rattle.std.proofs.Common.{[], ◌∙◌, arith, sym, subst}
+use Rattle.centre_lines.specs.Following.{held_at}
 use Rattle.centre_lines.specs.Found.{AreFound}
+use Rattle.centre_past.proofs.ReadLemmas.{as_itself, added_more}
+use Rattle.centre_lines.proofs.IndicatedLemmas.{lines_of_as}
 use Rattle.centre_lines.proofs.holding.hold.Goals as goal
 
 pub hold_there-requires : goal.hold_there-requires
 hold_there-requires c = record { found = subst (AreFound c.args.plan.now.areas.now c.args.plan.now.book.now) (sym c.loop-spot.invariant.1.1) c.requires.found }
+
+pub returns-in_err-hold_there-clause-meter : goal.returns-in_err-hold_there-clause-meter
+returns-in_err-hold_there-clause-meter c =
+    λ of.
+    let before = (c.loop-spot.invariant.0 c.args.tables.now (as_itself c.args.tables.now)).0 in
+    let passed = c.loop-spot.invariant.1.0 of in
+    let more = c.hold_there.ensures.meter (λ leaves. lines_of_as c.args.warnings.now c.args.tables.now c.loop-spot.tables before (of leaves)) in
+    grind (arith, passed, more, c.loop-spot-test.true)
+
+pub loop-spot-preserved : goal.loop-spot-preserved
+loop-spot-preserved c = (
+  λ t same.
+      let before = c.loop-spot.invariant.0 t same in (
+        c.hold_there.ensures.kept t before.0,
+        added_more (held_at c.args.edit.now c.args.plan.now.register.now c.args.plan.now.areas.now c.args.plan.now.book.now t c.args.warnings.now) c.args.spots.now c.loop-spot.spot-index c.spot-item.result c.spot-item.result [] c.loop-spot.out.items c.hold_there.new.out.items c.loop-spot-test.true c.spot-item.is before.1
+            (c.in_ok-hold_there.ensures.held t before.0),
+      ),
+  (
+    λ of.
+        let before = (c.loop-spot.invariant.0 c.args.tables.now (as_itself c.args.tables.now)).0 in
+        let passed = c.loop-spot.invariant.1.0 of in
+        let more = c.hold_there.ensures.meter (λ leaves. lines_of_as c.args.warnings.now c.args.tables.now c.loop-spot.tables before (of leaves)) in
+        grind (arith, passed, more),
+    c.hold_there.ensures.same ∙ c.loop-spot.invariant.1.1,
+  ),
+)

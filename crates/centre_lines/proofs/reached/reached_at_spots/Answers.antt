@@ -4,6 +4,7 @@ use Rattle.centre_past.specs.Reach.{edit_reach}
 use Rattle.centre_lines.specs.declared.held_lines.HeldLines.TheVariants as lines
 use Rattle.centre_past.proofs.ReadLemmas.{as_itself}
 use Rattle.centre_lines.proofs.HoldLemmas.{told_kept, edit_was_reached, reads_as, reads_within}
+use Rattle.centre_lines.proofs.IndicatedLemmas.{cover_reached}
 use Rattle.centre_lines.proofs.reached.reached_at_spots.Goals as goal
 
 pub returns-in_err-held-clause-reads : goal.returns-in_err-held-clause-reads
@@ -32,21 +33,25 @@ returns-clause-reads c =
 pub returns-in_err-held-clause-meter : goal.returns-in_err-held-clause-meter
 returns-in_err-held-clause-meter c =
     λ settings past a legal kept accepted.
-    reads_within c.args.kept.now.tables.lines.meter c.hold.new.tables.lines.meter c.as_slice.result.now c.in_ok-reach.reach.spots.items c.as_slice-2.result.now c.in_ok-reach.reach.warnings.items (edit_reach past c.args.edit.now) c.as_slice.ensures.value c.as_slice-2.ensures.value c.hold.ensures.meter
-    (c.in_ok-reach.ensures settings past (record {
+    let reach = c.in_ok-reach.ensures settings past (record {
       told = rw (c.lines.ensures) (told_kept settings past c.args.kept.now legal kept);
       selected = kept.selected;
       answer = a;
       accepted = accepted;
-    }))
+    }) in
+    reads_within c.args.kept.now.tables.lines.meter c.hold.new.tables.lines.meter c.as_slice.result.now c.in_ok-reach.reach.spots.items c.as_slice-2.result.now c.in_ok-reach.reach.warnings.items (edit_reach past c.args.edit.now) c.as_slice.ensures.value c.as_slice-2.ensures.value
+    (c.hold.ensures.meter (cover_reached past c.args.kept.now kept c.args.edit.now c.in_ok-reach.reach.spots.items c.in_ok-reach.reach.warnings.items c.as_slice-2.result.now c.as_slice-2.ensures.value reach))
+    reach
 
 pub returns-clause-meter : goal.returns-clause-meter
 returns-clause-meter c =
     λ settings past a legal kept accepted.
-    reads_within c.args.kept.now.tables.lines.meter c.hold.new.tables.lines.meter c.as_slice.result.now c.in_ok-reach.reach.spots.items c.as_slice-2.result.now c.in_ok-reach.reach.warnings.items (edit_reach past c.args.edit.now) c.as_slice.ensures.value c.as_slice-2.ensures.value c.hold.ensures.meter
-    (c.in_ok-reach.ensures settings past (record {
+    let reach = c.in_ok-reach.ensures settings past (record {
       told = rw (c.lines.ensures) (told_kept settings past c.args.kept.now legal kept);
       selected = kept.selected;
       answer = a;
       accepted = accepted;
-    }))
+    }) in
+    reads_within c.args.kept.now.tables.lines.meter c.hold.new.tables.lines.meter c.as_slice.result.now c.in_ok-reach.reach.spots.items c.as_slice-2.result.now c.in_ok-reach.reach.warnings.items (edit_reach past c.args.edit.now) c.as_slice.ensures.value c.as_slice-2.ensures.value
+    (c.hold.ensures.meter (cover_reached past c.args.kept.now kept c.args.edit.now c.in_ok-reach.reach.spots.items c.in_ok-reach.reach.warnings.items c.as_slice-2.result.now c.as_slice-2.ensures.value reach))
+    reach

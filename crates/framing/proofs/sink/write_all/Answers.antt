@@ -21,5 +21,5 @@ returns-then-count-eq0-clause-part g c =
 pub loop-rest-preserved : goal.loop-rest-preserved
 loop-rest-preserved g c = record {
   so_far = rw c.split_at.ensures.back (WrittenSoFar-more _ _ _ _ _ _ c.loop-rest.invariant.so_far c.in_ok-count.ensures.octets);
-  fine = rw (ne_eqb _ _ c.if-count-eq0.false) at c.in_ok-count.ensures.failed ∙ c.loop-rest.invariant.fine;
+  fine = rw (ne_eqb _ _ c.if-count-eq0.false) at c.in_ok-count.ensures.failures ∙ c.loop-rest.invariant.fine;
 }

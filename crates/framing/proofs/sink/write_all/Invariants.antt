@@ -6,7 +6,7 @@ use Rattle.framing.proofs.sink.write_all.Given as goal
 abbrev pub invariant-loop-rest : goal.invariant-loop-rest
 invariant-loop-rest g l = record {
   so_far : WrittenSoFar (g.W.Sink.written l.initial.writer) (g.W.Sink.written l.writer) l.octets l.rest;
-  fine : g.W.Sink.has_failed l.writer ≡ g.W.Sink.has_failed l.initial.writer;
+  fine : g.W.Sink.failures l.writer ≡ g.W.Sink.failures l.initial.writer;
 }
 
 abbrev pub decreases-loop-rest : goal.decreases-loop-rest

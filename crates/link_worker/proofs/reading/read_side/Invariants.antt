@@ -9,5 +9,5 @@ invariant-loop-turn g l = record {
   none : l.framer.frames ≡ [];
   reads : Reads l.link.bsc l.link.generation [] l.initial.desk l.desk (g.S.Source.remaining l.initial.reader) (g.S.Source.remaining l.reader) l.framer.rest;
   calls : g.S.Source.calls l.reader ≡ counted (g.S.Source.calls l.initial.reader) l._turn;
-  unfailed : g.S.Source.has_failed l.reader ≡ g.S.Source.has_failed l.initial.reader;
+  unfailed : g.S.Source.failures l.reader ≡ g.S.Source.failures l.initial.reader;
 }

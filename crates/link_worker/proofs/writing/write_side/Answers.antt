@@ -1,4 +1,4 @@
-use Rattle.link_worker.proofs.OrderLemmas.{Ends-more, Ends-waited}
+use Rattle.link_worker.proofs.OrderLemmas.{Ends-more, Ends-waited, waited_open}
 use Rattle.link_worker.proofs.writing.write_side.Goals as goal
 
 pub returns-in-Err-send_one-clause-written : goal.returns-in-Err-send_one-clause-written
@@ -6,3 +6,6 @@ returns-in-Err-send_one-clause-written g c = Ends-more _ _ _ _ _ _ _ _ _ c.loop.
 
 pub returns-in-Err-clause-written : goal.returns-in-Err-clause-written
 returns-in-Err-clause-written g c = Ends-waited _ _ _ _ _ _ c.in-Err.end c.loop.invariant.writes c.in-Err.ensures.end
+
+pub returns-in-Err-clause-cut : goal.returns-in-Err-clause-cut
+returns-in-Err-clause-cut g c = waited_open _ _ _ c.in-Err.end c.in-Err.ensures.end

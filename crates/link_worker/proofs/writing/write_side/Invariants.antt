@@ -8,5 +8,5 @@ invariant-loop g l = record {
   can : (goal.iterator-loop g).can_next l.iterator';
   finite : (goal.iterator-loop g).is_finite l.iterator';
   writes : Writes l.link.bsc l.link.generation l.initial.desk l.desk (g.W.Sink.written l.initial.writer) (g.W.Sink.written l.writer);
-  fine : g.W.Sink.has_failed l.writer ≡ g.W.Sink.has_failed l.initial.writer;
+  fine : g.W.Sink.failures l.writer ≡ g.W.Sink.failures l.initial.writer;
 }

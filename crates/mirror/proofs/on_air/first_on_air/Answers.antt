@@ -1,6 +1,7 @@
 use Rattle.std.proofs.Common.{arith, rules, ◌≡◌, ◌≤◌, ◌<◌, ◌-◌, ◌++◌, ◌∷◌, true, false, length, take, sym, ◌∙◌, ap}
 use Rattle.std.proofs.lemmas.Grind.{common_steps}
 use Rattle.mirror.proofs.OnAirLemmas.{cells_more, next_counted, next_off_air, next_on_air, one_there}
+use Rattle.mirror.proofs.UntilLemmas.{counted_off, counted_on}
 use Rattle.mirror.specs.Lines.{line_of, lines_at}
 use Rattle.mirror.specs.OnAir.{is_on_air_in, is_slot_for, lines_for, on_air_cells}
 use Rattle.mirror.specs.Order.{Slot}
@@ -26,8 +27,9 @@ loop-slot-preserved c =
           ∙ ap (λ cs. cells ++ take (c.args.most - length cells) cs) (sym more)
           ∙ c.loop-slot.invariant.0),
       grind (arith, common_steps, all, long),
-      grind (arith, common_steps, c.loop-slot.invariant.2),
+      rw (rw c.cell.ensures at c.in_ok-push.ensures.items) (counted_on v.bsc v.warning v.serial c.args.most cells entry.0.cell entry rest (lines_at c.loop-slot.slot-iterator es) came own air few c.loop-slot.meter _ _ c.saturating_add.ensures c.loop-slot.invariant.2),
       grind (arith, common_steps, c.loop-slot.invariant.3),
+      omega (arith, c.saturating_add.ensures),
     )
 
 pub loop-slot-preserved-then-not-is_on_air_in : goal.loop-slot-preserved-then-not-is_on_air_in
@@ -41,13 +43,15 @@ loop-slot-preserved-then-not-is_on_air_in c =
     let came : lines_at c.loop-slot.slot-iterator es ≡ entry ∷ rest = ap (λ ss. lines_at ss es) next in
     let own : is_slot_for v.bsc v.warning entry.0 ≡ true = search rules in
     let air : is_on_air_in v.serial entry.1 ≡ false = search rules in
+    let few : length cells < c.args.most = omega arith in
     let same = next_off_air v.bsc v.warning v.serial entry rest (lines_at c.loop-slot.slot-iterator es) came own air in
     let all = c.loop-slot.invariant.1 in
     let long = next_counted v.bsc v.warning entry rest (lines_at c.loop-slot.slot-iterator es) came own in (
       ap (λ cs. cells ++ take (c.args.most - length cells) cs) (sym same) ∙ c.loop-slot.invariant.0,
       grind (arith, common_steps, all, long),
-      grind (arith, common_steps, c.loop-slot.invariant.2),
+      counted_off v.bsc v.warning v.serial c.args.most cells entry rest (lines_at c.loop-slot.slot-iterator es) came own air few c.loop-slot.meter _ _ c.saturating_add.ensures c.loop-slot.invariant.2,
       grind (arith, common_steps, c.loop-slot.invariant.3),
+      omega (arith, c.saturating_add.ensures),
     )
 
 pub returns-in_err-push-clause-some : goal.returns-in_err-push-clause-some

@@ -9,6 +9,6 @@ invariant-loop-turn g l = record {
   turns : Turns l.choices l.initial.self [] l.self l.framer.rest (g.R.Source.remaining l.initial.reader) (g.R.Source.remaining l.reader) (g.W.Sink.written l.initial.writer) (g.W.Sink.written l.writer);
   waiting : IsWaiting l.framer;
   calls : g.R.Source.calls l.reader ≡ counted (g.R.Source.calls l.initial.reader) l._turn;
-  unfailed : g.R.Source.has_failed l.reader ≡ g.R.Source.has_failed l.initial.reader;
-  fine : g.W.Sink.has_failed l.writer ≡ g.W.Sink.has_failed l.initial.writer;
+  unfailed : g.R.Source.failures l.reader ≡ g.R.Source.failures l.initial.reader;
+  fine : g.W.Sink.failures l.writer ≡ g.W.Sink.failures l.initial.writer;
 }

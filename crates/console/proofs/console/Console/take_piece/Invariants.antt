@@ -8,7 +8,7 @@ abbrev pub invariant-loop-run : goal.invariant-loop-run
 invariant-loop-run g l = record {
   goes : (new : ConsoleState) (after : Option (List ℕ)) → Goes l.self l.rest new (g.W.Sink.written l.writer) after → Goes l.initial.self l.piece new (g.W.Sink.written l.initial.writer) after;
   stops : (after : Option (List ℕ)) (fault : ReplayFault) → Stops l.self l.rest (g.W.Sink.written l.writer) after fault → Stops l.initial.self l.piece (g.W.Sink.written l.initial.writer) after fault;
-  fine : g.W.Sink.has_failed l.writer ≡ g.W.Sink.has_failed l.initial.writer;
+  fine : g.W.Sink.failures l.writer ≡ g.W.Sink.failures l.initial.writer;
 }
 
 abbrev pub decreases-loop-run : goal.decreases-loop-run

@@ -1,5 +1,5 @@
 use Rattle.std.proofs.Common.{sym, ◌∙◌}
-use Rattle.link_worker.proofs.OrderLemmas.{Ends-refused, Writes-room, ended_one, written_one}
+use Rattle.link_worker.proofs.OrderLemmas.{Ends-refused, Writes-room, ended_one, refused_open, written_one}
 use Rattle.link_worker.proofs.link.Link.send_one.Goals as goal
 
 pub returns-in-Ok-clause-sent : goal.returns-in-Ok-clause-sent
@@ -19,3 +19,6 @@ returns-in-Some-clause-ended g c =
 
 pub returns-in-None-clause-sent : goal.returns-in-None-clause-sent
 returns-in-None-clause-sent g c = Writes-room _ _ _ _ _ c.in-Err.ensures.unchanged
+
+pub returns-in-Some-clause-cut : goal.returns-in-Some-clause-cut
+returns-in-Some-clause-cut g c = refused_open _ c.in-Some.end c.in-Some.ensures.refused

@@ -1,5 +1,5 @@
 use Rattle.std.proofs.Common.{sym, ◌∙◌}
-use Rattle.link_worker.proofs.ReportLemmas.{Stops-before, ended_if, report_read, report_unread, taken_if}
+use Rattle.link_worker.proofs.ReportLemmas.{Stops-unread, ended_if, fault_open, report_read, report_unread, taken_if}
 use Rattle.link_worker.proofs.link.Link.take_frame.Goals as goal
 
 pub returns-in-Ok-clause-taken : goal.returns-in-Ok-clause-taken
@@ -15,4 +15,7 @@ returns-in-Ok-clause-ended g c =
 pub returns-in-Err-clause-ended : goal.returns-in-Err-clause-ended
 returns-in-Err-clause-ended g c =
     rw c.of_fault.ensures
-    (Stops-before _ _ _ _ _ (report_unread _ _ _ c.args.frame.now c.in-Some.kind c.as_slice.result.now c.in-Err.fault (sym c.of_report.ensures ∙ c.in-Some.is) c.as_slice.ensures c.in-Err.ensures.fault))
+    (Stops-unread _ _ _ _ c.in-Err.fault (report_unread _ _ _ c.args.frame.now c.in-Some.kind c.as_slice.result.now c.in-Err.fault (sym c.of_report.ensures ∙ c.in-Some.is) c.as_slice.ensures c.in-Err.ensures.fault))
+
+pub returns-in-Err-clause-cut : goal.returns-in-Err-clause-cut
+returns-in-Err-clause-cut g c = rw c.of_fault.ensures (fault_open _ c.in-Err.fault)

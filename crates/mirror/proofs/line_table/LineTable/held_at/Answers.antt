@@ -1,34 +1,41 @@
-use Rattle.std.proofs.Common.{◌≡◌, ◌∙◌}
+use Rattle.std.proofs.Common.{◌≡◌, ◌∙◌, length, rules}
 use Rattle.std.specs.List.Sorted.{IsStrictlySortedBy}
 use Rattle.std.specs.Map.{keys_of}
 use Rattle.mirror.proofs.CellLineLemmas.{held_few, held_have, held_warnings, kept_ascend}
+use Rattle.mirror.proofs.UntilLemmas.{told_few}
 use Rattle.mirror.specs.Index.{kept_warnings}
 use Rattle.mirror.specs.Order.{slot_cmp}
+use Rattle.mirror.specs.Table.{counted_all}
 use Rattle.mirror.proofs.line_table.LineTable.held_at.Goals as goal
 
 pub returns-clause-held : goal.returns-clause-held
 returns-clause-held c =
     let es = c.self.inside.lines in
-    let found : c.add_warnings.new.warnings.items ≡ kept_warnings c.args.b c.args.c (λ h. h) c.self.inside.index = rw (c.slots.ensures, c.new-warnings.ensures.items) at c.in_ok-add_warnings.ensures.warnings in
+    let found : c.add_warnings.new.warnings.items ≡ kept_warnings c.args.b c.args.c (λ h. h) c.self.inside.index = rw (c.slots.ensures, c.new-held.ensures.items) at c.in_ok-add_warnings.ensures.warnings in
     let order : IsStrictlySortedBy slot_cmp (keys_of c.self.inside.index) = rw c.slots.ensures at c.in_ok-add_warnings.ensures.ordered in
     rw (← c.self.view_is) (found ∙ held_warnings c.args.b c.args.c c.self.inside.index es c.self.invariant.indexed c.self.invariant.none_blank order c.tell_order.ensures)
 
 pub returns-clause-order : goal.returns-clause-order
 returns-clause-order c =
-    let found : c.add_warnings.new.warnings.items ≡ kept_warnings c.args.b c.args.c (λ h. h) c.self.inside.index = rw (c.slots.ensures, c.new-warnings.ensures.items) at c.in_ok-add_warnings.ensures.warnings in
+    let found : c.add_warnings.new.warnings.items ≡ kept_warnings c.args.b c.args.c (λ h. h) c.self.inside.index = rw (c.slots.ensures, c.new-held.ensures.items) at c.in_ok-add_warnings.ensures.warnings in
     let order : IsStrictlySortedBy slot_cmp (keys_of c.self.inside.index) = rw c.slots.ensures at c.in_ok-add_warnings.ensures.ordered in
     rw found (kept_ascend c.args.b c.args.c (λ h. h) c.self.inside.index order)
 
 pub returns-clause-which : goal.returns-clause-which
 returns-clause-which c =
     let es = c.self.inside.lines in
-    let found : c.add_warnings.new.warnings.items ≡ kept_warnings c.args.b c.args.c (λ h. h) c.self.inside.index = rw (c.slots.ensures, c.new-warnings.ensures.items) at c.in_ok-add_warnings.ensures.warnings in
+    let found : c.add_warnings.new.warnings.items ≡ kept_warnings c.args.b c.args.c (λ h. h) c.self.inside.index = rw (c.slots.ensures, c.new-held.ensures.items) at c.in_ok-add_warnings.ensures.warnings in
     let order : IsStrictlySortedBy slot_cmp (keys_of c.self.inside.index) = rw c.slots.ensures at c.in_ok-add_warnings.ensures.ordered in
     rw (← c.self.view_is) (rw found (held_have c.args.b c.args.c c.self.inside.index es c.self.invariant.indexed order))
 
 pub returns-clause-few : goal.returns-clause-few
 returns-clause-few c =
     let es = c.self.inside.lines in
-    let found : c.add_warnings.new.warnings.items ≡ kept_warnings c.args.b c.args.c (λ h. h) c.self.inside.index = rw (c.slots.ensures, c.new-warnings.ensures.items) at c.in_ok-add_warnings.ensures.warnings in
+    let found : c.add_warnings.new.warnings.items ≡ kept_warnings c.args.b c.args.c (λ h. h) c.self.inside.index = rw (c.slots.ensures, c.new-held.ensures.items) at c.in_ok-add_warnings.ensures.warnings in
     let order : IsStrictlySortedBy slot_cmp (keys_of c.self.inside.index) = rw c.slots.ensures at c.in_ok-add_warnings.ensures.ordered in
     rw (← c.self.view_is) (rw (found ∙ held_warnings c.args.b c.args.c c.self.inside.index es c.self.invariant.indexed c.self.invariant.none_blank order c.tell_order.ensures) (held_few c.args.b c.args.c es c.self.invariant.none_blank c.tell_order.ensures))
+
+pub returns-clause-most : goal.returns-clause-most
+returns-clause-most c = λ ns all.
+    let told : c.count_all.new.self.meter ≡ counted_all (length c.add_warnings.new.warnings.items) c.args.self.now.meter = search rules in
+    told_few (length c.add_warnings.new.warnings.items) c.args.self.now.meter c.count_all.new.self.meter (length ns) told (returns-clause-few c ns all)

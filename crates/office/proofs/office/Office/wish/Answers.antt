@@ -6,4 +6,4 @@ pub returns-clause-wished : goal.returns-clause-wished
 returns-clause-wished g c = wished_if c.wish-result.result c.deref_mut.result.now.centre c.args.b c.args.warning (search rules) (search rules) c.wish-result.ensures.wished
 
 pub returns-clause-refused : goal.returns-clause-refused
-returns-clause-refused g c = unwished_if c.wish-result.result c.deref_mut.result.now.centre c.args.b c.args.warning (search rules) (search rules) c.wish-result.ensures.refused
+returns-clause-refused g c = unwished_if c.wish-result.result c.deref_mut.result.now.centre c.deref_mut.result.now.wishes c.args.b c.args.warning (search rules) (search rules) c.wish-result.ensures.refused

@@ -1,0 +1,6 @@
+use Rattle.centre_laws.proofs.PlanCauseLemmas.{refuses_as_plan}
+use Rattle.centre_laws.proofs.refusals.plan_refuses_the_same.Goals as goal
+
+pub returns : goal.returns
+returns c = λ past tied.
+    refuses_as_plan past c.args.plan.now c.register.result.now c.areas.result.now c.register.ensures c.areas.ensures c.tell_soundness.ensures c.tell_soundness-2.ensures.ascending c.tell_soundness-2.ensures.once tied

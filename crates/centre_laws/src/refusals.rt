@@ -1,0 +1,40 @@
+//! Which refusal an event is answered, as the contracts of calls that do nothing.
+
+ghost use Rattle.std.specs.Prelude.{◌≡◌, true, Err};
+ghost use Rattle.centre_laws.specs.Causes.{CausesAscend, IsLeastCause, IsPlanOf, RefusesAsPlan};
+ghost use Rattle.centre_events.specs.Past.{Past};
+ghost use Rattle.centre_past.specs.VerdictLaws.{is_of_event};
+ghost use Rattle.centre_events.specs.Settings.{Settings};
+ghost use Rattle.centre_events.specs.Verdict.{verdict};
+ghost use Rattle.centre_events.specs.declared.event.Event.{Event};
+ghost use Rattle.centre_events.specs.declared.refusal.Refusal.{Refusal};
+
+use coverage_plan::Plan;
+
+/// The causes for which an event is refused stand in the ascending order of the numbers of their refusals, of limits in the
+/// order of the limits: of every event, after every past.
+#[tactic(auto, using(crate::proofs::CauseLemmas::causes_ascend))]
+pub fn causes_ascend()
+    ensures { CausesAscend }
+{}
+
+/// An event is refused for a cause that holds, and no cause that holds has a refusal of a smaller number. It is accepted
+/// where no cause holds.
+pub fn least_cause_refuses()
+    ensures { (settings : Settings) (past : Past) (e : Event) → IsLeastCause settings past e }
+{}
+
+/// What refuses an edit in the plan refuses it in the centre. The centre has three causes more, which come after those of
+/// the plan: a RemoveBsc of a BSC whose link is up, and a Forget of a warning of which something is on air or in flight.
+pub fn plan_refuses_the_same(plan: &Plan)
+    ensures { (past : Past) → IsPlanOf past plan.now → RefusesAsPlan past plan.now }
+{
+    plan.register().tell_soundness();
+    plan.areas().tell_soundness();
+}
+
+/// A verdict is never that the centre is stale, that memory ran out, or that a desk is not as it is known.
+#[tactic(auto, using(crate::proofs::CauseLemmas::of_the_event))]
+pub fn verdict_is_of_the_event()
+    ensures { (settings : Settings) (past : Past) (e : Event) (r : Refusal) → verdict settings past e ≡ Err r → is_of_event r ≡ true }
+{}
