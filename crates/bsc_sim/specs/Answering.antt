@@ -186,6 +186,7 @@ carried b chosen r cells =
 -- what the message asks is carried out, cell by cell
 abbrev pub is_understood : Message → Bool
 is_understood (message.WriteReplace m) = is_taken m.cells
+is_understood (message.WriteEmergency m) = is_taken m.cells
 is_understood (message.Kill m) = is_taken m.cells
 is_understood (message.StatusQuery m) = is_taken m.cells
 is_understood other = false
