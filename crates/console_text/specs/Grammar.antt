@@ -11,10 +11,12 @@ use Rattle.warning_book.specs.declared.category.Category.{Category}
 use Rattle.warning_book.specs.declared.category.Category.TheVariants as category
 use Rattle.console_text.specs.Numbers.{number_in}
 use Rattle.console_text.specs.Parts.{parts_of}
+use Rattle.console_text.specs.declared.alert_heading.AlertHeading.{AlertHeading}
 use Rattle.console_text.specs.declared.content_heading.ContentHeading.{ContentHeading}
+use Rattle.console_text.specs.declared.emergency_heading.EmergencyHeading.{EmergencyHeading}
 use Rattle.console_text.specs.declared.heading.Heading.{Heading}
 use Rattle.console_text.specs.declared.line.Line.{Line}
-use Rattle.console_text.specs.declared.line.Line.TheVariants.{AddBsc, RemoveBsc, AddCell, MoveCell, RemoveCell, AddArea, DropArea, Put, Cut, Issue, Update, Widen, Narrow, Stop, Forget, Retry, Up, Down, Keep, Send, Ask, Report, Board, AreaBoard, Pending, Table, Rebuild}
+use Rattle.console_text.specs.declared.line.Line.TheVariants.{AddBsc, RemoveBsc, AddCell, MoveCell, RemoveCell, AddArea, DropArea, Put, Cut, Issue, Update, Alert, Realert, Widen, Narrow, Stop, Forget, Retry, Up, Down, Keep, Send, Ask, Report, Board, AreaBoard, Pending, Table, Rebuild}
 
 -- f of what is there
 abbrev pub if_some : {A B : Type 0} → Option A → (A → Option B) → Option B
@@ -97,6 +99,34 @@ heading_of message_id scope dcs category period =
 abbrev pub update : List ℕ → List ℕ → List ℕ → List ℕ → List ℕ → Option Line
 update warning dcs category period pages = if_some (warning_of warning) (λ number. if_some (content_heading_of dcs category period) (λ h. Some (Update number h pages)))
 
+-- I T P of `alert` and `realert`
+abbrev pub emergency_heading_of : List ℕ → List ℕ → List ℕ → Option EmergencyHeading
+emergency_heading_of indicator warning_type warning_period =
+    if_some (number_in 0 255 indicator) (λ i.
+    if_some (two_octets_of warning_type) (λ t.
+    if_some (number_in 0 255 warning_period) (λ p.
+    Some (record { indicator = i; warning_type = t; warning_period = p }))))
+
+-- M SCOPE I T P of `alert`
+abbrev pub alert_heading_of : List ℕ → List ℕ → List ℕ → List ℕ → List ℕ → Option AlertHeading
+alert_heading_of message_id scope indicator warning_type warning_period =
+    if_some (two_octets_of message_id) (λ m.
+    if_some (scope_of scope) (λ s.
+    if_some (emergency_heading_of indicator warning_type warning_period) (λ h.
+    Some (record { message_id = m; scope = s; content = h }))))
+
+-- M SCOPE DCS CAT PERIOD PAGES AREAS of `issue`
+abbrev pub issue : List ℕ → List ℕ → List ℕ → List ℕ → List ℕ → List ℕ → List ℕ → Option Line
+issue message_id scope dcs category period pages areas = option_map (λ h. Issue h pages (names_of areas)) (heading_of message_id scope dcs category period)
+
+-- M SCOPE I T P SEC AREAS of `alert`
+abbrev pub alert : List ℕ → List ℕ → List ℕ → List ℕ → List ℕ → List ℕ → List ℕ → Option Line
+alert message_id scope indicator warning_type warning_period security areas = option_map (λ h. Alert h security (names_of areas)) (alert_heading_of message_id scope indicator warning_type warning_period)
+
+-- W I T P SEC of `realert`
+abbrev pub realert : List ℕ → List ℕ → List ℕ → List ℕ → List ℕ → Option Line
+realert warning indicator warning_type warning_period security = if_some (warning_of warning) (λ number. if_some (emergency_heading_of indicator warning_type warning_period) (λ h. Some (Realert number h security)))
+
 -- the line of the words, by how many they are; there is no other line
 abbrev pub line_of : List (List ℕ) → Option Line
 line_of (verb ∷ []) =
@@ -137,10 +167,12 @@ line_of (verb ∷ x ∷ y ∷ z ∷ t ∷ []) =
     else if bytes_eq verb (codes "area") && bytes_eq x (codes "cut") then option_map (λ c. Cut y (selector.Cell c)) (cell_of z t)
     else if bytes_eq verb (codes "ask") then ask_after x y z t
     else None
-line_of (verb ∷ warning ∷ dcs ∷ category ∷ period ∷ pages ∷ []) =
-    if bytes_eq verb (codes "update") then update warning dcs category period pages
+line_of (verb ∷ warning ∷ x ∷ y ∷ z ∷ text ∷ []) =
+    if bytes_eq verb (codes "update") then update warning x y z text
+    else if bytes_eq verb (codes "realert") then realert warning x y z text
     else None
-line_of (verb ∷ message_id ∷ scope ∷ dcs ∷ category ∷ period ∷ pages ∷ areas ∷ []) =
-    if bytes_eq verb (codes "issue") then option_map (λ h. Issue h pages (names_of areas)) (heading_of message_id scope dcs category period)
+line_of (verb ∷ message_id ∷ scope ∷ x ∷ y ∷ z ∷ text ∷ areas ∷ []) =
+    if bytes_eq verb (codes "issue") then issue message_id scope x y z text areas
+    else if bytes_eq verb (codes "alert") then alert message_id scope x y z text areas
     else None
 line_of words = None

@@ -1,9 +1,11 @@
 //! The lines that an operator may write.
 
 ghost use Rattle.std.specs.Prelude.{◌≡◌, [], ◌∷◌, IfOk};
-ghost use Rattle.console_text.specs.Grammar.{bsc_of, two_octets_of, warning_of, link_generation_of, cell_of, scope_of, category_of, names_of, add_cell, move_cell, keep, ask, ask_after, content_heading_of, heading_of, line_of};
+ghost use Rattle.console_text.specs.Grammar.{bsc_of, two_octets_of, warning_of, link_generation_of, cell_of, scope_of, category_of, names_of, add_cell, move_cell, keep, ask, ask_after, content_heading_of, heading_of, emergency_heading_of, alert_heading_of, issue, update, alert, realert, line_of};
 
+use crate::alert_heading::AlertHeading;
 use crate::content_heading::ContentHeading;
+use crate::emergency_heading::EmergencyHeading;
 use crate::heading::Heading;
 use crate::line::Line;
 use crate::numbers::read_number_in;
@@ -39,13 +41,9 @@ pub fn read_line(alloc: Global, words: &[Octets]) -> Result<Option<Line>, AllocE
             z.as_slice(),
             t.as_slice(),
         ),
-        [verb, warning, dcs, category, period, pages] => {
-            read_six(alloc, verb, warning, dcs, category, period, pages)
-        }
-        [verb, message_id, scope, dcs, category, period, pages, areas] => {
-            read_eight(
-                alloc, verb, message_id, scope, dcs, category, period, pages, areas,
-            )
+        [verb, warning, x, y, z, text] => read_six(alloc, verb, warning, x, y, z, text),
+        [verb, message_id, scope, x, y, z, text, areas] => {
+            read_eight(alloc, verb, message_id, scope, x, y, z, text, areas)
         }
         _ => Ok(None),
     }
@@ -330,20 +328,16 @@ fn read_heading(
 }
 
 /// `update W DCS CAT PERIOD PAGES`
-fn read_six(
+fn read_update(
     alloc: Global,
-    verb: &Octets,
     warning: &Octets,
     dcs: &Octets,
     category: &Octets,
     period: &Octets,
     pages: &Octets,
 ) -> Result<Option<Line>, AllocError>
-    ensures { IfOk result (λ line. line ≡ line_of (verb.now ∷ warning.now ∷ dcs.now ∷ category.now ∷ period.now ∷ pages.now ∷ [])) }
+    ensures { IfOk result (λ line. line ≡ update warning.now dcs.now category.now period.now pages.now) }
 {
-    if !is_word(verb.as_slice(), b"update") {
-        return Ok(None);
-    }
     let Some(warning) = read_warning(warning.as_slice()) else {
         return Ok(None);
     };
@@ -357,10 +351,68 @@ fn read_six(
     }))
 }
 
-/// `issue M SCOPE DCS CAT PERIOD PAGES AREAS`
-fn read_eight(
+fn read_emergency_heading(
+    indicator: &Octets,
+    warning_type: &Octets,
+    warning_period: &Octets,
+) -> Option<EmergencyHeading>
+    ensures { result ≡ emergency_heading_of indicator.now warning_type.now warning_period.now }
+{
+    Some(EmergencyHeading {
+        indicator: read_number_in(indicator.as_slice(), 0, 255)? as u8,
+        warning_type: read_two_octets(warning_type.as_slice())?,
+        warning_period: read_number_in(warning_period.as_slice(), 0, 255)? as u8,
+    })
+}
+
+/// `realert W I T P SEC`
+fn read_realert(
+    alloc: Global,
+    warning: &Octets,
+    indicator: &Octets,
+    warning_type: &Octets,
+    warning_period: &Octets,
+    security: &Octets,
+) -> Result<Option<Line>, AllocError>
+    ensures { IfOk result (λ line. line ≡ realert warning.now indicator.now warning_type.now warning_period.now security.now) }
+{
+    let Some(warning) = read_warning(warning.as_slice()) else {
+        return Ok(None);
+    };
+    let Some(heading) = read_emergency_heading(indicator, warning_type, warning_period) else {
+        return Ok(None);
+    };
+    Ok(Some(Line::Realert {
+        warning,
+        heading,
+        security: security.copied(alloc)?,
+    }))
+}
+
+/// `update W DCS CAT PERIOD PAGES`, `realert W I T P SEC`
+fn read_six(
     alloc: Global,
     verb: &Octets,
+    warning: &Octets,
+    x: &Octets,
+    y: &Octets,
+    z: &Octets,
+    text: &Octets,
+) -> Result<Option<Line>, AllocError>
+    ensures { IfOk result (λ line. line ≡ line_of (verb.now ∷ warning.now ∷ x.now ∷ y.now ∷ z.now ∷ text.now ∷ [])) }
+{
+    if is_word(verb.as_slice(), b"update") {
+        read_update(alloc, warning, x, y, z, text)
+    } else if is_word(verb.as_slice(), b"realert") {
+        read_realert(alloc, warning, x, y, z, text)
+    } else {
+        Ok(None)
+    }
+}
+
+/// `issue M SCOPE DCS CAT PERIOD PAGES AREAS`
+fn read_issue(
+    alloc: Global,
     message_id: &Octets,
     scope: &Octets,
     dcs: &Octets,
@@ -369,11 +421,8 @@ fn read_eight(
     pages: &Octets,
     areas: &Octets,
 ) -> Result<Option<Line>, AllocError>
-    ensures { IfOk result (λ line. line ≡ line_of (verb.now ∷ message_id.now ∷ scope.now ∷ dcs.now ∷ category.now ∷ period.now ∷ pages.now ∷ areas.now ∷ [])) }
+    ensures { IfOk result (λ line. line ≡ issue message_id.now scope.now dcs.now category.now period.now pages.now areas.now) }
 {
-    if !is_word(verb.as_slice(), b"issue") {
-        return Ok(None);
-    }
     let Some(heading) = read_heading(message_id, scope, dcs, category, period) else {
         return Ok(None);
     };
@@ -382,4 +431,67 @@ fn read_eight(
         pages: pages.copied(alloc)?,
         areas: read_names(alloc, areas.as_slice())?,
     }))
+}
+
+fn read_alert_heading(
+    message_id: &Octets,
+    scope: &Octets,
+    indicator: &Octets,
+    warning_type: &Octets,
+    warning_period: &Octets,
+) -> Option<AlertHeading>
+    ensures { result ≡ alert_heading_of message_id.now scope.now indicator.now warning_type.now warning_period.now }
+{
+    Some(AlertHeading {
+        message_id: read_two_octets(message_id.as_slice())?,
+        scope: read_scope(scope.as_slice())?,
+        content: read_emergency_heading(indicator, warning_type, warning_period)?,
+    })
+}
+
+/// `alert M SCOPE I T P SEC AREAS`
+fn read_alert(
+    alloc: Global,
+    message_id: &Octets,
+    scope: &Octets,
+    indicator: &Octets,
+    warning_type: &Octets,
+    warning_period: &Octets,
+    security: &Octets,
+    areas: &Octets,
+) -> Result<Option<Line>, AllocError>
+    ensures { IfOk result (λ line. line ≡ alert message_id.now scope.now indicator.now warning_type.now warning_period.now security.now areas.now) }
+{
+    let heading = read_alert_heading(message_id, scope, indicator, warning_type, warning_period);
+    let Some(heading) = heading else {
+        return Ok(None);
+    };
+    Ok(Some(Line::Alert {
+        heading,
+        security: security.copied(alloc)?,
+        areas: read_names(alloc, areas.as_slice())?,
+    }))
+}
+
+/// `issue M SCOPE DCS CAT PERIOD PAGES AREAS`, `alert M SCOPE I T P SEC AREAS`
+fn read_eight(
+    alloc: Global,
+    verb: &Octets,
+    message_id: &Octets,
+    scope: &Octets,
+    x: &Octets,
+    y: &Octets,
+    z: &Octets,
+    text: &Octets,
+    areas: &Octets,
+) -> Result<Option<Line>, AllocError>
+    ensures { IfOk result (λ line. line ≡ line_of (verb.now ∷ message_id.now ∷ scope.now ∷ x.now ∷ y.now ∷ z.now ∷ text.now ∷ areas.now ∷ [])) }
+{
+    if is_word(verb.as_slice(), b"issue") {
+        read_issue(alloc, message_id, scope, x, y, z, text, areas)
+    } else if is_word(verb.as_slice(), b"alert") {
+        read_alert(alloc, message_id, scope, x, y, z, text, areas)
+    } else {
+        Ok(None)
+    }
 }

@@ -5,9 +5,11 @@
 //! line asks for is read by `options`.
 #![tactic(auto)]
 
+pub mod alert_heading;
 pub mod answer_text;
 pub mod content_heading;
 mod digits;
+pub mod emergency_heading;
 mod fault;
 pub mod frames;
 pub mod grammar;

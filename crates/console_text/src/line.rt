@@ -1,6 +1,8 @@
 //! What an operator may ask for in a line.
 
+use crate::alert_heading::AlertHeading;
 use crate::content_heading::ContentHeading;
+use crate::emergency_heading::EmergencyHeading;
 use crate::heading::Heading;
 use areas::Selector;
 use cell_register::BscId;
@@ -40,6 +42,18 @@ pub enum Line {
         warning: WarningId,
         heading: ContentHeading,
         pages: Octets,
+    },
+    /// `alert M SCOPE I T P SEC AREAS`
+    Alert {
+        heading: AlertHeading,
+        security: Octets,
+        areas: Names,
+    },
+    /// `realert W I T P SEC`
+    Realert {
+        warning: WarningId,
+        heading: EmergencyHeading,
+        security: Octets,
     },
     /// `widen W N`
     Widen(WarningId, Name),
