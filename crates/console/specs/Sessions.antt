@@ -28,7 +28,7 @@ use Rattle.framing.specs.declared.frame.Frame.{Frame}
 use Rattle.console_text.specs.Frames.{IsFrame, IsNoFrame}
 use Rattle.console.specs.Generations.{generation_of, with_generation}
 use Rattle.console_text.specs.Grammar.{line_of}
-use Rattle.console_text.specs.Headings.{alert_of, content_of, emergency_of, notice_of}
+use Rattle.console_text.specs.Headings.{alert_of, content_of, emergency_content_of, notice_of}
 use Rattle.console_text.specs.HexText.{octets_of, pages_of, security_of}
 use Rattle.console_text.specs.Words.{is_comment, words_of}
 use Rattle.console.specs.declared.kept.Kept.{Kept}
@@ -160,7 +160,7 @@ event_of old (line.Cut a s) = Some (event.Edit (edit.Cut a s))
 event_of old (line.Issue heading text areas) = option_map (λ pages. event.Edit (edit.Issue (notice_of heading pages) areas)) (pages_of text)
 event_of old (line.Update warning heading text) = option_map (λ pages. event.Edit (edit.Update warning (content_of heading pages))) (pages_of text)
 event_of old (line.Alert heading text areas) = option_map (λ security. event.Edit (edit.Issue (alert_of heading security) areas)) (security_of text)
-event_of old (line.Realert warning heading text) = option_map (λ security. event.Edit (edit.Update warning (emergency_of heading security))) (security_of text)
+event_of old (line.Realert warning heading text) = option_map (λ security. event.Edit (edit.Update warning (emergency_content_of heading security))) (security_of text)
 event_of old (line.Widen warning a) = Some (event.Edit (edit.Widen warning a))
 event_of old (line.Narrow warning a) = Some (event.Edit (edit.Narrow warning a))
 event_of old (line.Stop warning) = Some (event.Edit (edit.Stop warning))

@@ -101,23 +101,31 @@ update warning dcs category period pages = if_some (warning_of warning) (λ numb
 
 -- I T P of `alert` and `realert`
 abbrev pub emergency_heading_of : List ℕ → List ℕ → List ℕ → Option EmergencyHeading
-emergency_heading_of indicator warning_type period =
+emergency_heading_of indicator warning_type warning_period =
     if_some (number_in 0 255 indicator) (λ i.
     if_some (two_octets_of warning_type) (λ t.
-    if_some (number_in 0 255 period) (λ p.
+    if_some (number_in 0 255 warning_period) (λ p.
     Some (record { indicator = i; warning_type = t; warning_period = p }))))
 
 -- M SCOPE I T P of `alert`
 abbrev pub alert_heading_of : List ℕ → List ℕ → List ℕ → List ℕ → List ℕ → Option AlertHeading
-alert_heading_of message_id scope indicator warning_type period =
+alert_heading_of message_id scope indicator warning_type warning_period =
     if_some (two_octets_of message_id) (λ m.
     if_some (scope_of scope) (λ s.
-    if_some (emergency_heading_of indicator warning_type period) (λ h.
+    if_some (emergency_heading_of indicator warning_type warning_period) (λ h.
     Some (record { message_id = m; scope = s; content = h }))))
+
+-- M SCOPE DCS CAT PERIOD PAGES AREAS of `issue`
+abbrev pub issue : List ℕ → List ℕ → List ℕ → List ℕ → List ℕ → List ℕ → List ℕ → Option Line
+issue message_id scope dcs category period pages areas = option_map (λ h. Issue h pages (names_of areas)) (heading_of message_id scope dcs category period)
+
+-- M SCOPE I T P SEC AREAS of `alert`
+abbrev pub alert : List ℕ → List ℕ → List ℕ → List ℕ → List ℕ → List ℕ → List ℕ → Option Line
+alert message_id scope indicator warning_type warning_period security areas = option_map (λ h. Alert h security (names_of areas)) (alert_heading_of message_id scope indicator warning_type warning_period)
 
 -- W I T P SEC of `realert`
 abbrev pub realert : List ℕ → List ℕ → List ℕ → List ℕ → List ℕ → Option Line
-realert warning indicator warning_type period security = if_some (warning_of warning) (λ number. if_some (emergency_heading_of indicator warning_type period) (λ h. Some (Realert number h security)))
+realert warning indicator warning_type warning_period security = if_some (warning_of warning) (λ number. if_some (emergency_heading_of indicator warning_type warning_period) (λ h. Some (Realert number h security)))
 
 -- the line of the words, by how many they are; there is no other line
 abbrev pub line_of : List (List ℕ) → Option Line
@@ -164,7 +172,7 @@ line_of (verb ∷ warning ∷ x ∷ y ∷ z ∷ text ∷ []) =
     else if bytes_eq verb (codes "realert") then realert warning x y z text
     else None
 line_of (verb ∷ message_id ∷ scope ∷ x ∷ y ∷ z ∷ text ∷ areas ∷ []) =
-    if bytes_eq verb (codes "issue") then option_map (λ h. Issue h text (names_of areas)) (heading_of message_id scope x y z)
-    else if bytes_eq verb (codes "alert") then option_map (λ h. Alert h text (names_of areas)) (alert_heading_of message_id scope x y z)
+    if bytes_eq verb (codes "issue") then issue message_id scope x y z text areas
+    else if bytes_eq verb (codes "alert") then alert message_id scope x y z text areas
     else None
 line_of words = None

@@ -17,9 +17,9 @@ abbrev pub notice_of : Heading → List (List ℕ) → Notice
 notice_of h pages = record { message_id = h.message_id; scope = h.scope; content = content_of h.content pages }
 
 -- what an operator writes of a version of an emergency warning
-abbrev pub emergency_of : EmergencyHeading → List ℕ → Content
-emergency_of h security = content.Emergency (record { indicator = h.indicator; warning_type = h.warning_type; warning_period = h.warning_period; security = security })
+abbrev pub emergency_content_of : EmergencyHeading → List ℕ → Content
+emergency_content_of h security = content.Emergency (record { indicator = h.indicator; warning_type = h.warning_type; warning_period = h.warning_period; security = security })
 
 -- what an operator writes of an emergency warning that is issued
 abbrev pub alert_of : AlertHeading → List ℕ → Notice
-alert_of h security = record { message_id = h.message_id; scope = h.scope; content = emergency_of h.content security }
+alert_of h security = record { message_id = h.message_id; scope = h.scope; content = emergency_content_of h.content security }

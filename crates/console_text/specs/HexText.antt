@@ -1,5 +1,6 @@
 -- Octets as pairs of hexadecimal digits of either case.
-use Rattle.std.specs.Prelude.{ℕ, ◌==◌, List, [], ◌∷◌, length, replicate, Option, Some, None, bytes_eq, codes, option_and_then, if◌then◌else◌}
+use Rattle.std.specs.Prelude.{ℕ, List, [], ◌∷◌, Option, Some, None, bytes_eq, codes, length, nat_eq, replicate, if◌then◌else◌}
+use Rattle.std.specs.Option.{option_and_then}
 use Rattle.std.specs.Result.{result_ok}
 use Rattle.hex.specs.Hex.{decode_of}
 use Rattle.console_text.specs.Parts.{parts_of}
@@ -23,10 +24,10 @@ all_octets_of (text ∷ texts) = and_page (octets_of text) (all_octets_of texts)
 abbrev pub pages_of : List ℕ → Option (List (List ℕ))
 pages_of word = if bytes_eq word (codes "-") then Some [] else all_octets_of (parts_of 47 word)
 
--- fifty octets, and no others
-abbrev pub as_security : List ℕ → Option (List ℕ)
-as_security octets = if length octets == 50 then Some octets else None
+-- the octets, if there are fifty
+abbrev pub fifty : List ℕ → Option (List ℕ)
+fifty octets = if nat_eq (length octets) 50 then Some octets else None
 
--- security information has 50 octets (TS 48.049, 8.2.19); `-` alone is 50 zeros
+-- the fifty octets of security information that the text spells; `-` alone is zeros
 abbrev pub security_of : List ℕ → Option (List ℕ)
-security_of word = if bytes_eq word (codes "-") then Some (replicate 50 0) else option_and_then as_security (octets_of word)
+security_of word = if bytes_eq word (codes "-") then Some (replicate 50 0) else option_and_then fifty (octets_of word)

@@ -1,25 +1,23 @@
-//! What stands in front of the security information of a version of an emergency warning.
+//! What stands in front of the security information of an emergency warning.
 
 use warning_book::{Content, EmergencyContent};
 
-/// The numbers of a version of an emergency warning, which are carried as they are.
+/// The numbers of a version of an emergency warning.
 #[derive(Clone, Copy, Debug)]
 pub struct EmergencyHeading {
-    /// The Emergency Indicator (TS 48.049, 8.2.17).
+    /// The Emergency Indicator (TS 48.049, 8.2.15).
     pub indicator: u8,
-    /// The Warning Type (TS 48.049, 8.2.18, and TS 23.041, 9.3.24).
     pub warning_type: u16,
-    /// The Warning Period (TS 48.049, 8.2.25).
     pub warning_period: u8,
 }
 
 impl EmergencyHeading {
     ghost use Rattle.std.specs.Prelude.{◌≡◌};
-    ghost use Rattle.console_text.specs.Headings.{emergency_of};
+    ghost use Rattle.console_text.specs.Headings.{emergency_content_of};
 
     /// The content that has these numbers and this security information.
     pub fn content(self, security: [u8; 50]) -> Content
-        ensures { result ≡ emergency_of self security }
+        ensures { result ≡ emergency_content_of self security }
     {
         Content::Emergency(EmergencyContent {
             indicator: self.indicator,

@@ -1,9 +1,7 @@
 //! The lines that an operator may write.
 
 ghost use Rattle.std.specs.Prelude.{◌≡◌, [], ◌∷◌, IfOk};
-ghost use Rattle.console_text.specs.Grammar.{bsc_of, two_octets_of, warning_of, link_generation_of, cell_of, scope_of, category_of, names_of, add_cell, move_cell, keep, ask, ask_after, content_heading_of, heading_of, emergency_heading_of, alert_heading_of, update, realert, line_of};
-ghost use Rattle.std.specs.Option.{option_map};
-ghost use Rattle.console_text.specs.declared.line.Line.TheVariants as request;
+ghost use Rattle.console_text.specs.Grammar.{bsc_of, two_octets_of, warning_of, link_generation_of, cell_of, scope_of, category_of, names_of, add_cell, move_cell, keep, ask, ask_after, content_heading_of, heading_of, emergency_heading_of, alert_heading_of, issue, update, alert, realert, line_of};
 
 use crate::alert_heading::AlertHeading;
 use crate::content_heading::ContentHeading;
@@ -329,37 +327,7 @@ fn read_heading(
     })
 }
 
-fn read_emergency_heading(
-    indicator: &Octets,
-    warning_type: &Octets,
-    period: &Octets,
-) -> Option<EmergencyHeading>
-    ensures { result ≡ emergency_heading_of indicator.now warning_type.now period.now }
-{
-    Some(EmergencyHeading {
-        indicator: read_number_in(indicator.as_slice(), 0, 255)? as u8,
-        warning_type: read_two_octets(warning_type.as_slice())?,
-        warning_period: read_number_in(period.as_slice(), 0, 255)? as u8,
-    })
-}
-
-fn read_alert_heading(
-    message_id: &Octets,
-    scope: &Octets,
-    indicator: &Octets,
-    warning_type: &Octets,
-    period: &Octets,
-) -> Option<AlertHeading>
-    ensures { result ≡ alert_heading_of message_id.now scope.now indicator.now warning_type.now period.now }
-{
-    Some(AlertHeading {
-        message_id: read_two_octets(message_id.as_slice())?,
-        scope: read_scope(scope.as_slice())?,
-        content: read_emergency_heading(indicator, warning_type, period)?,
-    })
-}
-
-/// W DCS CAT PERIOD PAGES of `update`
+/// `update W DCS CAT PERIOD PAGES`
 fn read_update(
     alloc: Global,
     warning: &Octets,
@@ -383,21 +351,35 @@ fn read_update(
     }))
 }
 
-/// W I T P SEC of `realert`
+fn read_emergency_heading(
+    indicator: &Octets,
+    warning_type: &Octets,
+    warning_period: &Octets,
+) -> Option<EmergencyHeading>
+    ensures { result ≡ emergency_heading_of indicator.now warning_type.now warning_period.now }
+{
+    Some(EmergencyHeading {
+        indicator: read_number_in(indicator.as_slice(), 0, 255)? as u8,
+        warning_type: read_two_octets(warning_type.as_slice())?,
+        warning_period: read_number_in(warning_period.as_slice(), 0, 255)? as u8,
+    })
+}
+
+/// `realert W I T P SEC`
 fn read_realert(
     alloc: Global,
     warning: &Octets,
     indicator: &Octets,
     warning_type: &Octets,
-    period: &Octets,
+    warning_period: &Octets,
     security: &Octets,
 ) -> Result<Option<Line>, AllocError>
-    ensures { IfOk result (λ line. line ≡ realert warning.now indicator.now warning_type.now period.now security.now) }
+    ensures { IfOk result (λ line. line ≡ realert warning.now indicator.now warning_type.now warning_period.now security.now) }
 {
     let Some(warning) = read_warning(warning.as_slice()) else {
         return Ok(None);
     };
-    let Some(heading) = read_emergency_heading(indicator, warning_type, period) else {
+    let Some(heading) = read_emergency_heading(indicator, warning_type, warning_period) else {
         return Ok(None);
     };
     Ok(Some(Line::Realert {
@@ -420,15 +402,15 @@ fn read_six(
     ensures { IfOk result (λ line. line ≡ line_of (verb.now ∷ warning.now ∷ x.now ∷ y.now ∷ z.now ∷ text.now ∷ [])) }
 {
     if is_word(verb.as_slice(), b"update") {
-        return read_update(alloc, warning, x, y, z, text);
+        read_update(alloc, warning, x, y, z, text)
+    } else if is_word(verb.as_slice(), b"realert") {
+        read_realert(alloc, warning, x, y, z, text)
+    } else {
+        Ok(None)
     }
-    if is_word(verb.as_slice(), b"realert") {
-        return read_realert(alloc, warning, x, y, z, text);
-    }
-    Ok(None)
 }
 
-/// M SCOPE DCS CAT PERIOD PAGES AREAS of `issue`
+/// `issue M SCOPE DCS CAT PERIOD PAGES AREAS`
 fn read_issue(
     alloc: Global,
     message_id: &Octets,
@@ -439,7 +421,7 @@ fn read_issue(
     pages: &Octets,
     areas: &Octets,
 ) -> Result<Option<Line>, AllocError>
-    ensures { IfOk result (λ line. line ≡ option_map (λ h. request.Issue h pages.now (names_of areas.now)) (heading_of message_id.now scope.now dcs.now category.now period.now)) }
+    ensures { IfOk result (λ line. line ≡ issue message_id.now scope.now dcs.now category.now period.now pages.now areas.now) }
 {
     let Some(heading) = read_heading(message_id, scope, dcs, category, period) else {
         return Ok(None);
@@ -451,21 +433,37 @@ fn read_issue(
     }))
 }
 
-/// M SCOPE I T P SEC AREAS of `alert`
+fn read_alert_heading(
+    message_id: &Octets,
+    scope: &Octets,
+    indicator: &Octets,
+    warning_type: &Octets,
+    warning_period: &Octets,
+) -> Option<AlertHeading>
+    ensures { result ≡ alert_heading_of message_id.now scope.now indicator.now warning_type.now warning_period.now }
+{
+    Some(AlertHeading {
+        message_id: read_two_octets(message_id.as_slice())?,
+        scope: read_scope(scope.as_slice())?,
+        content: read_emergency_heading(indicator, warning_type, warning_period)?,
+    })
+}
+
+/// `alert M SCOPE I T P SEC AREAS`
 fn read_alert(
     alloc: Global,
     message_id: &Octets,
     scope: &Octets,
     indicator: &Octets,
     warning_type: &Octets,
-    period: &Octets,
+    warning_period: &Octets,
     security: &Octets,
     areas: &Octets,
 ) -> Result<Option<Line>, AllocError>
-    ensures { IfOk result (λ line. line ≡ option_map (λ h. request.Alert h security.now (names_of areas.now)) (alert_heading_of message_id.now scope.now indicator.now warning_type.now period.now)) }
+    ensures { IfOk result (λ line. line ≡ alert message_id.now scope.now indicator.now warning_type.now warning_period.now security.now areas.now) }
 {
-    let Some(heading) = read_alert_heading(message_id, scope, indicator, warning_type, period)
-    else {
+    let heading = read_alert_heading(message_id, scope, indicator, warning_type, warning_period);
+    let Some(heading) = heading else {
         return Ok(None);
     };
     Ok(Some(Line::Alert {
@@ -490,10 +488,10 @@ fn read_eight(
     ensures { IfOk result (λ line. line ≡ line_of (verb.now ∷ message_id.now ∷ scope.now ∷ x.now ∷ y.now ∷ z.now ∷ text.now ∷ areas.now ∷ [])) }
 {
     if is_word(verb.as_slice(), b"issue") {
-        return read_issue(alloc, message_id, scope, x, y, z, text, areas);
+        read_issue(alloc, message_id, scope, x, y, z, text, areas)
+    } else if is_word(verb.as_slice(), b"alert") {
+        read_alert(alloc, message_id, scope, x, y, z, text, areas)
+    } else {
+        Ok(None)
     }
-    if is_word(verb.as_slice(), b"alert") {
-        return read_alert(alloc, message_id, scope, x, y, z, text, areas);
-    }
-    Ok(None)
 }

@@ -1,7 +1,7 @@
 //! Octets as pairs of hexadecimal digits.
 
 ghost use Rattle.std.specs.Prelude.{◌≡◌, ◌++◌, IfOk, Some, bytes_eq};
-ghost use Rattle.console_text.specs.HexText.{octets_of, pages_of, all_octets_of, as_security, security_of};
+ghost use Rattle.console_text.specs.HexText.{octets_of, pages_of, all_octets_of, fifty, security_of};
 
 use crate::parts::split_parts;
 use crate::words::is_word;
@@ -32,31 +32,6 @@ pub fn read_pages(alloc: Global, word: &[u8]) -> Result<Option<ContentPages>, Al
     read_each(alloc, &texts)
 }
 
-/// The octets, if they are fifty.
-fn as_security(octets: &[u8]) -> Option<[u8; 50]>
-    ensures { result ≡ as_security octets.now }
-{
-    if octets.len() != 50 {
-        return None;
-    }
-    let mut security = [0; 50];
-    security.copy_from_slice(octets);
-    Some(security)
-}
-
-/// The security information of an emergency warning as an operator writes it, 50 octets, or `-` for 50 zeros.
-pub fn read_security(alloc: Global, word: &[u8]) -> Result<Option<[u8; 50]>, AllocError>
-    ensures { IfOk result (λ security. security ≡ security_of word.now) }
-{
-    if is_word(word, b"-") {
-        return Ok(Some([0; 50]));
-    }
-    match read_octets(alloc, word)? {
-        Some(octets) => Ok(as_security(octets.as_slice())),
-        None => Ok(None),
-    }
-}
-
 fn read_each(alloc: Global, texts: &[Octets]) -> Result<Option<ContentPages>, AllocError>
     ensures { IfOk result (λ pages. pages ≡ all_octets_of texts.now) }
 {
@@ -68,4 +43,29 @@ fn read_each(alloc: Global, texts: &[Octets]) -> Result<Option<ContentPages>, Al
         }
     }
     Ok(Some(ContentPages::from_vec(pages)))
+}
+
+/// The octets, if there are fifty.
+fn fifty(octets: &[u8]) -> Option<[u8; 50]>
+    ensures { result ≡ fifty octets.now }
+{
+    if octets.len() != 50 {
+        return None;
+    }
+    let mut security = [0; 50];
+    security.copy_from_slice(octets);
+    Some(security)
+}
+
+/// Security information as an operator writes it: fifty octets, or `-` for zeros.
+pub fn read_security(alloc: Global, word: &[u8]) -> Result<Option<[u8; 50]>, AllocError>
+    ensures { IfOk result (λ security. security ≡ security_of word.now) }
+{
+    if is_word(word, b"-") {
+        return Ok(Some([0; 50]));
+    }
+    match read_octets(alloc, word)? {
+        Some(octets) => Ok(fifty(octets.as_slice())),
+        None => Ok(None),
+    }
 }
