@@ -5,9 +5,11 @@ use warning_book::{Content, EmergencyContent};
 /// The numbers of a version of an emergency warning.
 #[derive(Clone, Copy, Debug)]
 pub struct EmergencyHeading {
-    /// The Emergency Indicator (TS 48.049, 8.2.15).
+    /// The Emergency Indicator (TS 48.049, 8.2.17).
     pub indicator: u8,
+    /// The Warning Type (TS 48.049, 8.2.18, and TS 23.041, 9.3.24).
     pub warning_type: u16,
+    /// The Warning Period (TS 48.049, 8.2.25).
     pub warning_period: u8,
 }
 
