@@ -1,6 +1,6 @@
 -- What is pending in the tables is what the past says is to be ordered.
-use Rattle.std.proofs.Common.{◌≡◌, ℕ, Bool, true, false, ◌&&◌, ◌||◌, nat_eq, List, [], ◌∷◌, Option, Some, None, map, refl, sym, ◌∙◌, ap}
-use Rattle.std.specs.Prelude.{find}
+use Rattle.std.proofs.Common.{◌≡◌, ℕ, Bool, true, false, ◌&&◌, ◌||◌, nat_eq, List, [], ◌∷◌, Option, Some, None, Result, Ok, Err, map, refl, sym, ◌∙◌, ap}
+use Rattle.std.specs.Prelude.{find, OnErr}
 use Rattle.std.specs.Cmp.{both_ways}
 use Rattle.std.specs.List.{list_any}
 use Rattle.std.specs.Option.{is_some}
@@ -21,6 +21,7 @@ use Rattle.order_maker.specs.OrderingLaws.{action_decides}
 use Rattle.order_maker.specs.Pending.{action_eq, is_listed, IsListOf}
 use Rattle.order_maker.specs.declared.action.Action.{Action}
 use Rattle.order_maker.specs.declared.deed.Deed.{Deed}
+use Rattle.order_maker.specs.declared.order.Order.{Order}
 use Rattle.warning_book.specs.Book.{has_number, numbers, warning_of}
 use Rattle.warning_book.specs.declared.kind.Kind.TheVariants as kind
 use Rattle.warning_book.specs.declared.warning.Warning.{Warning}
@@ -143,3 +144,13 @@ pending_list settings past legal t is b = record {
 -- what is told of a link is its state
 pub link_told : (past : Past) (b : ℕ) {last : ℕ} {up has : Bool} → last ≡ last_link past b → up ≡ is_up past b → has ≡ is_some (first (pending past b)) → (let s : LinkState = record { last = last; is_up = up; has_pending = has } in s) ≡ link_state past b
 link_told past b l u h = cc
+
+-- nothing is pending where there is no first order
+pub none_pending : (orders : List Order) → is_some (first orders) ≡ false → orders ≡ []
+none_pending [] none = refl
+none_pending (order ∷ orders) none = cc
+
+-- what holds where memory runs out
+pub where_starved : {A E : Type 0} (o : Result A E) (P : Type 0) → P → OnErr o P
+where_starved (Ok a) P p = tt
+where_starved (Err e) P p = p

@@ -1,6 +1,6 @@
 //! What is asked of a centre, from what it keeps.
 
-ghost use Rattle.std.specs.Prelude.{◌≡◌, ◌++◌, Some, Ok, Err, IfOk, OnOk, if◌then◌else◌};
+ghost use Rattle.std.specs.Prelude.{◌≡◌, ◌++◌, Some, Ok, Err, true, IfOk, OnOk, OnErr, if◌then◌else◌};
 ghost use Rattle.std.specs.List.{flat_map};
 ghost use Rattle.coverage_board.specs.Board.{area_of};
 ghost use Rattle.kept_tables.specs.Consistent.{Consistent};
@@ -12,7 +12,7 @@ ghost use Rattle.centre_past.specs.Facts.{facts};
 ghost use Rattle.centre_past.specs.Idle.{AsBefore, AreKnownOf};
 ghost use Rattle.centre_past.specs.IsKept.{IsKept};
 ghost use Rattle.centre_past.specs.Legal.{Legal};
-ghost use Rattle.centre_past.specs.LinkStates.{link_state};
+ghost use Rattle.centre_past.specs.LinkStates.{has_pending, link_state};
 ghost use Rattle.centre_events.specs.Kept.{AreAreasOf};
 ghost use Rattle.centre_past.specs.Numbers.{board, area_board};
 ghost use Rattle.centre_events.specs.Past.{Past};
@@ -38,12 +38,15 @@ use serials::Serial;
 use std::alloc::{AllocError, Global};
 use warning_book::{Book, Version, Warning, WarningId};
 
-/// The pending orders of the BSC, in the order in which they are sent.
-pub fn pending(tables: &KeptTables, b: BscId) -> Result<Orders, AllocError>
-    ensures { (settings : Settings) (past : Past) → Legal settings past → Consistent tables.now (facts past) → IfOk result (λ orders. orders ≡ pending past b) }
+/// The pending orders of the BSC, in the order in which they are sent. It takes no memory where there are none.
+pub fn pending(alloc: Global, tables: &KeptTables, b: BscId) -> Result<Orders, AllocError>
+    ensures orders { (settings : Settings) (past : Past) → Legal settings past → Consistent tables.now (facts past) → IfOk result (λ orders. orders ≡ pending past b) }
+    ensures memory { (settings : Settings) (past : Past) → Legal settings past → Consistent tables.now (facts past) → OnErr result (has_pending past b ≡ true) }
 {
-    let orders = tables.groups(b)?;
-    Ok(orders)
+    if !tables.has(b) {
+        return Ok(Orders::from_vec(Vec::new(alloc)));
+    }
+    tables.groups(b)
 }
 
 /// What is told of the link of the BSC.

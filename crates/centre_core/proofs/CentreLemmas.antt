@@ -9,14 +9,14 @@ use Rattle.kept_tables.specs.Consistent.{Consistent}
 use Rattle.kept_tables.specs.declared.spot.Spot.{Spot}
 use Rattle.mirror.specs.Table.{down_at}
 use Rattle.warning_book.specs.Book as book
-use Rattle.centre_core.specs.Centre.{IsCentre, IsRefused, Leaves, Refuses}
+use Rattle.centre_core.specs.Centre.{ComesFrom, IsCentre, IsRefused, Leaves, Refuses}
 use Rattle.centre_past.specs.Flights.{up_before}
 use Rattle.centre_lines.specs.Following.{Finishes, WasReached, held_in, held_past}
 use Rattle.centre_past.specs.IsKept.{IsKept, OnlyReadsIn}
 use Rattle.centre_past.specs.Facts.{facts}
 use Rattle.centre_events.specs.Kept.{Gives, IsChecked, is_edit, register_then, areas_then}
 use Rattle.coverage_plan.specs.Edited.{register_after, areas_after, book_after}
-use Rattle.centre_past.specs.Legal.{Known, Legal}
+use Rattle.centre_past.specs.Legal.{Known, Legal, past}
 use Rattle.centre_events.specs.Past.{Past, After, past_of, entry_count, position}
 use Rattle.centre_past.specs.Reach.{edit_reach, looked_at, size, reach, reach_of}
 use Rattle.centre_events.specs.Settings.{Settings}
@@ -31,7 +31,8 @@ use Rattle.centre_events.specs.declared.event.Event.TheVariants as event
 use Rattle.centre_lines.specs.declared.held_lines.HeldLines.{HeldLines}
 use Rattle.centre_past.specs.declared.kept.Kept.{Kept}
 use Rattle.centre_events.specs.declared.refusal.Refusal.{Refusal}
-use Rattle.centre_events.specs.declared.refusal.Refusal.TheVariants.{JournalFull, Memory}
+use Rattle.centre_events.specs.declared.refusal.Refusal.TheVariants.{Stale, JournalFull, Memory, WrongDesk}
+use Rattle.centre_past.specs.VerdictLaws.{verdict_is_no_stale, verdict_is_no_want, verdict_is_no_wrong_desk}
 use Rattle.centre_past.proofs.AreaLemmas.{areas_with}
 use Rattle.centre_events.proofs.PastLemmas.{count_journal, position_journal}
 use Rattle.centre_past.proofs.ReadLemmas.{reads_kept}
@@ -248,3 +249,23 @@ kept_entered t new e past place up spots held x f =
 
 pub entry_accepted : (settings : Settings) (past : Past) (desk : ℕ) (e : Event) (a : Answer) (entry : Entry) → verdict settings past e ≡ Ok a → entry ≡ record { desk = desk; event = e; answer = a } → verdict settings past entry.event ≡ Ok entry.answer
 entry_accepted settings past desk e a entry accepted is = subst (λ (x : Entry). verdict settings past x.event ≡ Ok x.answer) (sym is) accepted
+
+-- Where a refusal comes from.
+
+comes_from : (centre : Known) (e : Event) (r : Refusal) → Refuses centre e r → ComesFrom centre e r
+comes_from centre e Stale (inl (is, stale)) = stale
+comes_from centre e Stale (inr (whole, inl (is, may))) = absurd (let no : Stale ≡ Memory = is in cc)
+comes_from centre e Stale (inr (whole, inr given)) = absurd (verdict_is_no_stale centre.settings (past centre) e given)
+comes_from centre e Memory (inl (is, stale)) = absurd (let no : Memory ≡ Stale = is in cc)
+comes_from centre e Memory (inr (whole, inl (is, may))) = (whole, may)
+comes_from centre e Memory (inr (whole, inr given)) = absurd (verdict_is_no_want centre.settings (past centre) e given)
+comes_from centre e (WrongDesk position) (inl (is, stale)) = let no : WrongDesk position ≡ Stale = is in cc
+comes_from centre e (WrongDesk position) (inr (whole, inl (is, may))) = let no : WrongDesk position ≡ Memory = is in cc
+comes_from centre e (WrongDesk position) (inr (whole, inr given)) = verdict_is_no_wrong_desk centre.settings (past centre) e position given
+comes_from centre e r (inl (is, stale)) = absurd (let no : r ≡ Stale = is in cc)
+comes_from centre e r (inr (whole, inl (is, may))) = absurd (let no : r ≡ Memory = is in cc)
+comes_from centre e r (inr (whole, inr given)) = (whole, given)
+
+pub comes_if : (centre : Known) (e : Event) (o : Result Answer Refusal) → IfErr o (Refuses centre e) → IfErr o (ComesFrom centre e)
+comes_if centre e (Ok a) h = tt
+comes_if centre e (Err r) h = comes_from centre e r h

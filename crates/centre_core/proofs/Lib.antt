@@ -2,3 +2,4 @@ pub mod FitsLemmas
 pub mod CentreLemmas
 pub mod JournalLemmas
 pub mod RebuildLemmas
+pub mod MeterLemmas

@@ -126,11 +126,18 @@ read_at journal place e first is = get_or_from_slice_get journal (place - 1) e e
 pub something_read : {A : Type 0} (journal : List Entry) (place : ℕ) → 1 ≤ place → place ≤ length journal → None ≡ (if place == 0 then None else slice_get journal (place - 1)) → A
 something_read journal place first last is = something_at journal (place - 1) (omega (arith, first, last)) (is ∙ numbered journal place first)
 
-record Here (s : Kept) (e : Entry) (past : Past) (place : ℕ) : Type 0 where
-  follows : Follows s e place
-  is_past : follows.past ≡ past
+-- the past with it
+pub past_here : (journal : List Entry) (place : ℕ) (e : Entry) → 1 ≤ place → place ≤ length journal → Some e ≡ (if place == 0 then None else slice_get journal (place - 1)) → past_of (take place journal) ≡ After e (past_of (take (place - 1) journal))
+past_here journal place e first last is =
+    let next : place - 1 + 1 ≡ place = omega (arith, first) in
+    subst (λ n. past_of (take n journal) ≡ After e (past_of (take (place - 1) journal))) next
+    (past_at journal (place - 1) e (omega (arith, first, last)) ∙ ap (λ d. After d (past_of (take (place - 1) journal))) (read_at journal place e first is))
 
-here : (journal : List Entry) (x : IsLegal journal) (place : ℕ) (e : Entry) (s : Kept) → 1 ≤ place → place ≤ length journal → Some e ≡ (if place == 0 then None else slice_get journal (place - 1)) → IsKept (past_of (take (place - 1) journal)) s → Here s e (past_of (take (place - 1) journal)) place
+pub record Here (s : Kept) (e : Entry) (past : Past) (place : ℕ) : Type 0 where
+  pub follows : Follows s e place
+  pub is_past : follows.past ≡ past
+
+pub here : (journal : List Entry) (x : IsLegal journal) (place : ℕ) (e : Entry) (s : Kept) → 1 ≤ place → place ≤ length journal → Some e ≡ (if place == 0 then None else slice_get journal (place - 1)) → IsKept (past_of (take (place - 1) journal)) s → Here s e (past_of (take (place - 1) journal)) place
 here journal x place e s first last is kept =
     let next : place ≡ place - 1 + 1 = omega (arith, first) in
     subst (λ d. Here s d (past_of (take (place - 1) journal)) place) (read_at journal place e first is) (record {

@@ -1,16 +1,17 @@
 -- What always holds of a centre, and what comes of an event that it is given.
-use Rattle.std.specs.Prelude.{◌≡◌, ◌⊎◌, ◌≤◌, Bool, true, false, List, length, Err}
+use Rattle.std.specs.Prelude.{◌≡◌, ◌⊎◌, ◌≤◌, ℕ, ◌+◌, Bool, true, false, List, length, Err}
 use Rattle.centre_past.specs.IsKept.{IsKept}
 use Rattle.centre_events.specs.Kept.{MayStarve}
-use Rattle.centre_past.specs.Legal.{Legal, Known}
-use Rattle.centre_events.specs.Past.{past_of}
+use Rattle.centre_past.specs.Legal.{Legal, Known, past}
+use Rattle.centre_past.specs.Reach.{reach_of, size}
+use Rattle.centre_events.specs.Past.{Past, From, After, past_of}
 use Rattle.centre_events.specs.Settings.{Settings}
 use Rattle.centre_events.specs.Verdict.{verdict}
 use Rattle.centre_events.specs.declared.entry.Entry.{Entry}
 use Rattle.centre_events.specs.declared.event.Event.{Event}
 use Rattle.centre_past.specs.declared.kept.Kept.{Kept}
 use Rattle.centre_events.specs.declared.refusal.Refusal.{Refusal}
-use Rattle.centre_events.specs.declared.refusal.Refusal.TheVariants.{Stale, Memory}
+use Rattle.centre_events.specs.declared.refusal.Refusal.TheVariants.{Stale, Memory, WrongDesk}
 
 -- the journal has no more entries than it may, it is legal, and what is kept beside it is what it says, unless the centre
 -- is stale
@@ -31,3 +32,16 @@ Refuses centre e r = ((r ≡ Stale) × (centre.stale ≡ true)) ⊎ ((centre.sta
 -- what a refusal leaves of a centre: it is as it was, or memory ran out and it is stale
 abbrev pub Leaves : Known → Refusal → Known → Type 0
 Leaves old r new = (new ≡ old) ⊎ ((r ≡ Memory) × (new ≡ record old { stale = true }))
+
+-- where a refusal comes from: `Stale` from a stale centre alone, `Memory` from a whole one alone where the verdict is no
+-- refusal, and any other from a whole one, whose verdict it is; a centre knows no desks
+abbrev pub ComesFrom : Known → Event → Refusal → Type 0
+ComesFrom centre e Stale = centre.stale ≡ true
+ComesFrom centre e Memory = (centre.stale ≡ false) × MayStarve centre.settings (past centre) e
+ComesFrom centre e (WrongDesk position) = ⊥
+ComesFrom centre e other = (centre.stale ≡ false) × (verdict centre.settings (past centre) e ≡ Err other)
+
+-- on how many lines the events of the entries bear, each with its answer and after the entries before it
+abbrev pub all_reach : Past → ℕ
+all_reach (From base) = 0
+all_reach (After e before) = all_reach before + size (reach_of before e.event e.answer)

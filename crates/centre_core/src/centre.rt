@@ -60,14 +60,14 @@ impl Centre {
     ghost use Rattle.std.specs.Option.{option_copied};
     ghost use mathlib.Core.Option.{none};
     ghost use Rattle.mirror.specs.Table.{counted};
-    ghost use Rattle.centre_core.specs.Centre.{Leaves, Refuses};
+    ghost use Rattle.centre_core.specs.Centre.{ComesFrom, Leaves, Refuses, all_reach};
     ghost use Rattle.centre_core.specs.contracts.centre.Centre.{the_row};
     ghost use Rattle.centre_past.specs.Fits.{AnswerFits, IsCarried};
     ghost use Rattle.centre_events.specs.InFlight.{in_flight};
     ghost use Rattle.centre_core.specs.Journal.{counted_by};
     ghost use Rattle.centre_events.specs.Kept.{is_edit};
     ghost use Rattle.centre_past.specs.Legal.{Legal, new_centre, past};
-    ghost use Rattle.centre_past.specs.LinkStates.{link_state};
+    ghost use Rattle.centre_past.specs.LinkStates.{has_pending, link_state};
     ghost use Rattle.centre_events.specs.Links.{is_bsc};
     ghost use Rattle.centre_past.specs.Numbers.{board, area_board};
     ghost use Rattle.centre_events.specs.Pending.{pending};
@@ -175,13 +175,14 @@ impl Centre {
     /// Takes an event that the desk submits. An accepted event becomes one entry of the journal; a refused one becomes none.
     /// The refusal is the first, in the order of their numbers, whose cause holds. `Memory` is the last of them: nothing
     /// that decides a refusal takes memory, so `Memory` comes only where no other refusal holds. After it the centre may be
-    /// stale; after any other refusal it is as it was.
+    /// stale; after any other refusal it is as it was. `Stale` comes from a stale centre alone, and from it nothing else.
     pub fn accept(&mut self, desk: u32, event: Event) -> Result<Answer, Refusal>
         ensures settings { self.new.known.settings ≡ self.old.known.settings }
         ensures answer { IfOk result (λ a. verdict self.old.known.settings (past self.old.known) event ≡ Ok a) }
         ensures whole { OnOk result (self.old.known.stale ≡ false) }
         ensures entry { IfOk result (λ a. self.new.known ≡ record self.old.known { journal = self.old.known.journal ++ record { desk = desk; event = event; answer = a } ∷ [] }) }
         ensures refusal { IfErr result (Refuses self.old.known event) }
+        ensures source { IfErr result (ComesFrom self.old.known event) }
         ensures left { IfErr result (λ r. Leaves self.old.known r self.new.known) }
         ensures legal { Legal self.new.known.settings (past self.new.known) }
         ensures fits { IfOk result AnswerFits }
@@ -209,12 +210,15 @@ impl Centre {
     }
 
     /// Makes what is kept beside the journal anew from its entries, each of which is read once, which makes a stale centre
-    /// whole. Where memory runs out the centre is as it was, but for the entries that were read.
+    /// whole. The count of lines begins at 0 again: it is that of the lines that were read or set to make them anew, at most
+    /// four times those on which the entries bear. The count of entries goes on. Where memory runs out the centre is as it
+    /// was, but for the entries that were read.
     pub fn rebuild(&mut self) -> Result<(), AllocError>
         ensures rebuilt { OnOk result (self.new.known ≡ record self.old.known { stale = false }) }
         ensures unchanged { OnErr result (self.new ≡ record self.old { entries = self.new.entries }) }
         ensures entries { OnOk result (self.new.entries ≡ counted_by (length self.old.known.journal) self.old.entries) }
         ensures most { OnErr result (self.new.entries ≤ counted_by (length self.old.known.journal) self.old.entries) }
+        ensures lines { OnOk result (self.new.lines ≤ 4 * all_reach (past self.old.known)) }
     {
         let kept = kept_of(self.alloc, &mut self.journal)?;
         self.kept = kept;
@@ -230,16 +234,17 @@ impl Centre {
     {
         Meter {
             lines: self.kept.tables.meter(),
-            entries: self.journal.reads(),
+            entries: self.journal.entries(),
         }
     }
 
     /// The pending orders of the BSC: writes and replaces before kills, then by message identifier, serial number and
-    /// the serial number that is replaced, none first. `Stale`, then `NoSuchBsc`, then `Memory`.
+    /// the serial number that is replaced, none first. `Stale`, then `NoSuchBsc`, then `Memory`, which comes only where an
+    /// order is pending.
     pub fn pending_of(&self, b: BscId) -> Result<Orders, Refusal>
         ensures orders { IfOk result (λ orders. (orders ≡ pending (past self.now.known) b) × (is_bsc (past self.now.known) b ≡ true)) }
         ensures whole { OnOk result (self.now.known.stale ≡ false) }
-        ensures refusal { IfErr result (λ r. ((r ≡ Refusal.Stale) × (self.now.known.stale ≡ true)) ⊎ ((self.now.known.stale ≡ false) × (((r ≡ Refusal.Memory) × (is_bsc (past self.now.known) b ≡ true)) ⊎ ((r ≡ Refusal.NoSuchBsc) × (is_bsc (past self.now.known) b ≡ false))))) }
+        ensures refusal { IfErr result (λ r. ((r ≡ Refusal.Stale) × (self.now.known.stale ≡ true)) ⊎ ((self.now.known.stale ≡ false) × (((r ≡ Refusal.Memory) × (is_bsc (past self.now.known) b ≡ true) × (has_pending (past self.now.known) b ≡ true)) ⊎ ((r ≡ Refusal.NoSuchBsc) × (is_bsc (past self.now.known) b ≡ false))))) }
     {
         if self.stale {
             return Err(Refusal::Stale);
@@ -247,7 +252,7 @@ impl Centre {
         if !self.kept.register.has_bsc(b) {
             return Err(Refusal::NoSuchBsc);
         }
-        Ok(questions::pending(&self.kept.tables, b)?)
+        Ok(questions::pending(self.alloc, &self.kept.tables, b)?)
     }
 
     /// What is in flight to the BSC: sent, and neither answered nor lost with its link. `Stale`, then `NoSuchBsc`.

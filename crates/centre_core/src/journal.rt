@@ -47,7 +47,7 @@ impl Journal {
     }
 
     /// How often entries were read, up to the greatest value, which stays.
-    pub(crate) fn reads(&self) -> u64
+    pub(crate) fn entries(&self) -> u64
         ensures { result ≡ self.now.reads }
     {
         self.reads

@@ -1,12 +1,14 @@
 //! How what is kept beside the journal is made anew from its entries.
 
-ghost use Rattle.std.specs.Prelude.{◌≡◌, ◌≤◌, ◌-◌, length, take, false, IfOk, OnOk, OnErr};
+ghost use Rattle.std.specs.Prelude.{◌≡◌, ◌≤◌, ◌-◌, ◌+◌, ◌*◌, length, take, false, IfOk, OnOk, OnErr};
 ghost use Rattle.mirror.specs.Table.{counted};
 ghost use Rattle.centre_lines.specs.Following.{Follows, IsLegal};
 ghost use Rattle.centre_past.specs.IsKept.{IsKept};
+ghost use Rattle.centre_core.specs.Centre.{all_reach};
 ghost use Rattle.centre_core.specs.Journal.{counted_by};
 ghost use Rattle.centre_events.specs.Kept.{is_edit};
 ghost use Rattle.centre_events.specs.Past.{After, past_of};
+ghost use Rattle.centre_past.specs.Reach.{reach_of, size};
 ghost use Rattle.centre_events.specs.declared.event.Event.TheVariants as event;
 
 use crate::entering::make_again;
@@ -31,7 +33,8 @@ fn follow_edit(
 ) -> Result<(), AllocError>
     requires edit { entry.now.event ≡ event.Edit edit.now }
     requires follows { Follows kept.old entry.now place }
-    ensures { OnOk result ((x : Follows kept.old entry.now place) → IsKept (After entry.now x.past) kept.new) }
+    ensures kept { OnOk result ((x : Follows kept.old entry.now place) → IsKept (After entry.now x.past) kept.new) }
+    ensures meter { OnOk result ((x : Follows kept.old entry.now place) → kept.new.tables.lines.meter ≤ kept.old.tables.lines.meter + 4 * size (reach_of x.past entry.now.event entry.now.answer)) }
 {
     tell_reads();
     let reached = reached_by_edit(alloc, kept, edit)?;
@@ -51,7 +54,8 @@ fn follow_edit(
 fn follow_other(alloc: Global, kept: &mut Kept, entry: &Entry, place: u64) -> Result<(), AllocError>
     requires other { is_edit entry.now.event ≡ false }
     requires follows { Follows kept.old entry.now place }
-    ensures { OnOk result ((x : Follows kept.old entry.now place) → IsKept (After entry.now x.past) kept.new) }
+    ensures kept { OnOk result ((x : Follows kept.old entry.now place) → IsKept (After entry.now x.past) kept.new) }
+    ensures meter { OnOk result ((x : Follows kept.old entry.now place) → kept.new.tables.lines.meter ≤ kept.old.tables.lines.meter + 4 * size (reach_of x.past entry.now.event entry.now.answer)) }
 {
     tell_reads();
     let up = up_before(kept.links.as_slice(), &entry.event);
@@ -62,7 +66,8 @@ fn follow_other(alloc: Global, kept: &mut Kept, entry: &Entry, place: u64) -> Re
 /// Follows an entry of the journal, which has that number, from what the entries before it come to.
 fn follow(alloc: Global, kept: &mut Kept, entry: &Entry, place: u64) -> Result<(), AllocError>
     requires { Follows kept.old entry.now place }
-    ensures { OnOk result ((x : Follows kept.old entry.now place) → IsKept (After entry.now x.past) kept.new) }
+    ensures kept { OnOk result ((x : Follows kept.old entry.now place) → IsKept (After entry.now x.past) kept.new) }
+    ensures meter { OnOk result ((x : Follows kept.old entry.now place) → kept.new.tables.lines.meter ≤ kept.old.tables.lines.meter + 4 * size (reach_of x.past entry.now.event entry.now.answer)) }
 {
     match &entry.event {
         Event::Edit(edit) => follow_edit(alloc, kept, entry, edit, place),
@@ -82,6 +87,7 @@ fn follow_next(
     requires legal { IsLegal journal.old.entries }
     requires kept { IsKept (past_of (take (place - 1) journal.old.entries)) kept.old }
     ensures kept { OnOk result (IsKept (past_of (take place journal.old.entries)) kept.new) }
+    ensures meter { OnOk result (kept.old.tables.lines.meter ≤ 4 * all_reach (past_of (take (place - 1) journal.old.entries)) → kept.new.tables.lines.meter ≤ 4 * all_reach (past_of (take place journal.old.entries))) }
     ensures read { journal.new ≡ record journal.old { reads = counted journal.old.reads } }
 {
     match journal.read(place) {
@@ -90,10 +96,12 @@ fn follow_next(
     }
 }
 
-/// What the entries of a legal journal come to. Each is read once, or at most once where memory runs out.
+/// What the entries of a legal journal come to, with a meter that begins at 0. Each is read once, or at most once where
+/// memory runs out.
 pub(crate) fn kept_of(alloc: Global, journal: &mut Journal) -> Result<Kept, AllocError>
     requires { IsLegal journal.old.entries }
     ensures kept { IfOk result (IsKept (past_of journal.old.entries)) }
+    ensures meter { IfOk result (λ kept. kept.tables.lines.meter ≤ 4 * all_reach (past_of journal.old.entries)) }
     ensures entries { journal.new.entries ≡ journal.old.entries }
     ensures reads { OnOk result (journal.new.reads ≡ counted_by (length journal.old.entries) journal.old.reads) }
     ensures most { OnErr result (journal.new.reads ≤ counted_by (length journal.old.entries) journal.old.reads) }

@@ -1,7 +1,9 @@
 -- What a question is answered.
 use Rattle.std.specs.Prelude.{◌≡◌, ◌⊎◌, Bool, true, false, Option, Some, None, Result, Ok, Err, IsOk}
+use Rattle.std.specs.Option.{is_some}
 use Rattle.centre_events.specs.InFlight.{in_flight}
 use Rattle.centre_past.specs.Legal.{Known, past}
+use Rattle.centre_past.specs.LinkStates.{has_pending}
 use Rattle.centre_events.specs.Links.{is_bsc}
 use Rattle.centre_past.specs.Numbers.{board, area_board}
 use Rattle.centre_events.specs.Past.{Past}
@@ -40,12 +42,14 @@ value_of past (question.Pending b) = of_bsc (is_bsc past b) (value.Pending (pend
 value_of past (question.Table b) = of_bsc (is_bsc past b) (value.Table (table past b))
 value_of past (question.InFlight b) = of_bsc (is_bsc past b) (value.InFlight (in_flight past b))
 
--- the answer takes memory
-abbrev pub takes_memory : Question → Bool
-takes_memory (question.Total w) = false
-takes_memory (question.Area w a) = false
-takes_memory (question.Place c) = false
-takes_memory other = true
+-- the answer takes memory: that of a table does, and where something is pending or in flight, that of a question for it
+abbrev pub takes_memory : Past → Question → Bool
+takes_memory past (question.Total w) = false
+takes_memory past (question.Area w a) = false
+takes_memory past (question.Place c) = false
+takes_memory past (question.Pending b) = has_pending past b
+takes_memory past (question.Table b) = true
+takes_memory past (question.InFlight b) = is_some (in_flight past b)
 
 -- lines are read for the answer, which the centre's meter counts
 abbrev pub reads_lines : Question → Bool
@@ -55,7 +59,7 @@ reads_lines other = false
 -- why a centre refuses a question: it is stale, memory runs out for the answer, or the answer is that refusal
 abbrev pub RefusesQuestion : Known → Question → Refusal → Type 0
 RefusesQuestion centre q r = ((r ≡ refusal.Stale) × (centre.stale ≡ true))
-    ⊎ ((centre.stale ≡ false) × (((r ≡ refusal.Memory) × (takes_memory q ≡ true) × IsOk (value_of (past centre) q)) ⊎ (value_of (past centre) q ≡ Err r)))
+    ⊎ ((centre.stale ≡ false) × (((r ≡ refusal.Memory) × (takes_memory (past centre) q ≡ true) × IsOk (value_of (past centre) q)) ⊎ (value_of (past centre) q ≡ Err r)))
 
 -- the centre is whole, and that is the answer
 abbrev pub Shows : Known → Question → SeenValue → Type 0

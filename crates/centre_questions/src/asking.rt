@@ -1,7 +1,6 @@
 //! A question is put to a centre, and what that answers is copied.
 
 ghost use Rattle.std.specs.Prelude.{◌≡◌, false, IfOk, IfErr};
-ghost use Rattle.std.specs.Option.{option_copied};
 ghost use Rattle.centre_questions.specs.Questions.{RefusesQuestion, Shows, reads_lines};
 ghost use Rattle.centre_questions.specs.declared.question.Question.TheVariants as question_spec;
 
@@ -9,10 +8,9 @@ use crate::question::Question;
 use crate::seen_value::SeenValue;
 use cell_register::BscId;
 use centre_core::centre::Centre;
-use centre_events::in_flight::InFlight;
 use centre_events::refusal::Refusal;
 use common::{Cell, Name};
-use std::alloc::{AllocError, Global};
+use std::alloc::Global;
 use warning_book::WarningId;
 
 fn total(centre: &Centre, w: WarningId) -> Result<SeenValue, Refusal>
@@ -52,26 +50,19 @@ fn table(centre: &mut Centre, b: BscId) -> Result<SeenValue, Refusal>
     Ok(SeenValue::Table(centre.table_of(b)?))
 }
 
-/// The same in memory of its own.
-fn copied(alloc: Global, flight: Option<&InFlight>) -> Result<Option<InFlight>, AllocError>
-    ensures { IfOk result (λ copy. copy ≡ option_copied flight.entry) }
-{
-    match flight {
-        Some(flight) => Ok(Some(flight.copied(alloc)?)),
-        None => Ok(None),
-    }
-}
-
 fn in_flight(alloc: Global, centre: &Centre, b: BscId) -> Result<SeenValue, Refusal>
     ensures seen { IfOk result (Shows centre.now.known (question_spec.InFlight b)) }
     ensures refused { IfErr result (RefusesQuestion centre.now.known (question_spec.InFlight b)) }
 {
-    let flight = centre.in_flight_of(b)?;
-    Ok(SeenValue::InFlight(copied(alloc, flight)?))
+    match centre.in_flight_of(b)? {
+        Some(flight) => Ok(SeenValue::InFlight(Some(flight.copied(alloc)?))),
+        None => Ok(SeenValue::InFlight(None)),
+    }
 }
 
 /// Puts the question to the centre. What it is answered has memory of its own. `Stale`, then what the answer over the journal
-/// refuses, then `Memory`. Nothing changes but the meter of lines, and that only where the question is for a table.
+/// refuses, then `Memory`, which comes only where the answer takes memory. Nothing changes but the meter of lines, and that
+/// only where the question is for a table.
 pub fn ask(alloc: Global, centre: &mut Centre, question: &Question) -> Result<SeenValue, Refusal>
     ensures seen { IfOk result (Shows centre.old.known question.now) }
     ensures refused { IfErr result (RefusesQuestion centre.old.known question.now) }

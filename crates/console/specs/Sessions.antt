@@ -224,7 +224,7 @@ OctetsStarve old b octets r new = (frame : Frame) × IsFrame octets frame × Fra
 
 -- memory ran out for the answer that a whole centre has to a question
 abbrev pub QuestionStarves : SessionState → Question → Response → SessionState → Type 0
-QuestionStarves old q r new = (old.centre.stale ≡ false) × (takes_memory q ≡ true) × IsOk (value_of (past old.centre) q) × IsStarved old r new
+QuestionStarves old q r new = (old.centre.stale ≡ false) × (takes_memory (past old.centre) q ≡ true) × IsOk (value_of (past old.centre) q) × IsStarved old r new
 
 -- the centre is asked, or memory ran out for the answer
 abbrev pub AsksOrStarves : SessionState → Question → Response → SessionState → Type 0

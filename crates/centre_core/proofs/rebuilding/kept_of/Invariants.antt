@@ -1,5 +1,6 @@
-use Rattle.std.proofs.Common.{◌≡◌, take}
+use Rattle.std.proofs.Common.{◌≡◌, ◌≤◌, ◌*◌, take}
 use Rattle.centre_past.specs.IsKept.{IsKept}
+use Rattle.centre_core.specs.Centre.{all_reach}
 use Rattle.centre_core.specs.Journal.{counted_by}
 use Rattle.centre_events.specs.Past.{past_of}
 use Rattle.centre_core.proofs.rebuilding.kept_of.Given as goal
@@ -10,4 +11,5 @@ invariant-loop-done l = record {
   same : l.journal.entries ≡ l.initial.journal.entries;
   counted : l.journal.reads ≡ counted_by l.done l.initial.journal.reads;
   kept : IsKept (past_of (take l.done l.initial.journal.entries)) l.kept;
+  metered : l.kept.tables.lines.meter ≤ 4 * all_reach (past_of (take l.done l.initial.journal.entries));
 }

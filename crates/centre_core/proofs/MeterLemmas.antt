@@ -1,0 +1,62 @@
+-- The lines that are read or set where what is kept is made anew.
+use Rattle.std.specs.Prelude.{OnOk, Some, None, slice_get, ◌==◌, if◌then◌else◌}
+use Rattle.std.proofs.Common.{◌≡◌, ℕ, ◌+◌, ◌-◌, ◌*◌, ◌≤◌, List, Result, Ok, Err, sym, ap, subst, length, take, arith}
+use Rattle.kept_tables.specs.declared.spot.Spot.{Spot}
+use Rattle.coverage_plan.specs.declared.edit.Edit.{Edit}
+use Rattle.coverage_plan.specs.Edited.{register_after, areas_after, book_after}
+use Rattle.centre_events.specs.Past.{Past, After, past_of}
+use Rattle.centre_events.specs.Settings.{Settings}
+use Rattle.centre_events.specs.Verdict.{answered, edit_answered, verdict}
+use Rattle.centre_events.specs.declared.answer.Answer.{Answer}
+use Rattle.centre_events.specs.declared.entry.Entry.{Entry}
+use Rattle.centre_events.specs.declared.event.Event.TheVariants as event
+use Rattle.centre_past.specs.IsKept.{IsKept}
+use Rattle.centre_past.specs.Legal.{Legal}
+use Rattle.centre_past.specs.Reach.{edit_reach, reach_of, size}
+use Rattle.centre_past.specs.declared.kept.Kept.{Kept}
+use Rattle.centre_past.proofs.UniqueLemmas.{verdict_answered}
+use Rattle.centre_lines.specs.Following.{Follows, IsLegal, WasReached, held_in}
+use Rattle.centre_lines.specs.declared.held_lines.HeldLines.{HeldLines}
+use Rattle.centre_core.specs.Centre.{all_reach}
+use Rattle.centre_core.proofs.CentreLemmas.{held_counted}
+use Rattle.centre_core.proofs.RebuildLemmas.{Here, here, past_here}
+
+-- how often lines were read or set
+abbrev meter_of : Kept → ℕ
+meter_of s = s.tables.lines.meter
+
+pub edit_metered : {E : Type 0} (r s t new : Kept) (e : Entry) (edit : Edit) (place : ℕ) (spots : List Spot) (held : HeldLines) (o : Result Unit E) → e.event ≡ event.Edit edit → t ≡ record s { register = register_after edit s.register; areas = areas_after edit s.areas; book = book_after edit s.book } → ((settings : Settings) (past : Past) (a : Answer) → Legal settings past → IsKept past r → edit_answered past edit ≡ Ok a → WasReached past (event.Edit edit) a spots held) → ((settings : Settings) (past : Past) (a : Answer) → Legal settings past → IsKept past r → edit_answered past edit ≡ Ok a → meter_of s ≤ meter_of r + size (edit_reach past edit)) → meter_of new ≤ meter_of t + length (held_in held) → OnOk o ((x : Follows r e place) → meter_of new ≤ meter_of r + 4 * size (reach_of x.past e.event e.answer))
+edit_metered r s t new e edit place spots held (Err u) is made reached read now = tt
+edit_metered r s t new e edit place spots held (Ok u) is made reached read now = λ x.
+    let accepted : edit_answered x.past edit ≡ Ok e.answer = verdict_answered x.settings x.past (event.Edit edit) e.answer (subst (λ v. verdict x.settings x.past v ≡ Ok e.answer) is x.accepted) in
+    let before : meter_of s ≤ meter_of r + size (edit_reach x.past edit) = read x.settings x.past e.answer x.legal x.kept accepted in
+    let few : length (held_in held) ≤ size (edit_reach x.past edit) = held_counted x.past (event.Edit edit) e.answer spots held (reached x.settings x.past e.answer x.legal x.kept accepted) in
+    let same : meter_of t ≡ meter_of s = ap meter_of made in
+    let so : size (reach_of x.past e.event e.answer) ≡ size (edit_reach x.past edit) = ap (λ v. size (reach_of x.past v e.answer)) is in
+    omega (arith, before, few, same, so, now)
+
+pub other_metered : {E : Type 0} (r s new : Kept) (e : Entry) (place : ℕ) (spots : List Spot) (held : HeldLines) (o : Result Unit E) → ((settings : Settings) (past : Past) → Legal settings past → IsKept past r → answered settings.network past e.event ≡ Ok e.answer → WasReached past e.event e.answer spots held) → ((settings : Settings) (past : Past) → Legal settings past → IsKept past r → answered settings.network past e.event ≡ Ok e.answer → meter_of s ≤ meter_of r + size (reach_of past e.event e.answer)) → meter_of new ≤ meter_of s + length (held_in held) → OnOk o ((x : Follows r e place) → meter_of new ≤ meter_of r + 4 * size (reach_of x.past e.event e.answer))
+other_metered r s new e place spots held (Err u) reached read now = tt
+other_metered r s new e place spots held (Ok u) reached read now = λ x.
+    let accepted : answered x.settings.network x.past e.event ≡ Ok e.answer = verdict_answered x.settings x.past e.event e.answer x.accepted in
+    let before : meter_of s ≤ meter_of r + size (reach_of x.past e.event e.answer) = read x.settings x.past x.legal x.kept accepted in
+    let few : length (held_in held) ≤ size (reach_of x.past e.event e.answer) = held_counted x.past e.event e.answer spots held (reached x.settings x.past x.legal x.kept accepted) in
+    omega (arith, before, few, now)
+
+-- The walk over the journal, one entry further.
+
+further : (past : Past) (e : Entry) (old new : ℕ) → new ≤ old + 4 * size (reach_of past e.event e.answer) → old ≤ 4 * all_reach past → new ≤ 4 * all_reach (After e past)
+further past e old new step before = omega (arith, step, before)
+
+pub metered_more : {E : Type 0} (journal : List Entry) (x : IsLegal journal) (place : ℕ) (e : Entry) (s new : Kept) (o : Result Unit E) → 1 ≤ place → place ≤ length journal → Some e ≡ (if place == 0 then None else slice_get journal (place - 1)) → IsKept (past_of (take (place - 1) journal)) s → OnOk o ((y : Follows s e place) → meter_of new ≤ meter_of s + 4 * size (reach_of y.past e.event e.answer)) → OnOk o (meter_of s ≤ 4 * all_reach (past_of (take (place - 1) journal)) → meter_of new ≤ 4 * all_reach (past_of (take place journal)))
+metered_more journal x place e s new (Err u) first last is kept f = tt
+metered_more journal x place e s new (Ok u) first last is kept f = λ before.
+    let found : Here s e (past_of (take (place - 1) journal)) place = here journal x place e s first last is kept in
+    subst (λ p. meter_of new ≤ 4 * all_reach p) (sym (past_here journal place e first last is))
+    (further (past_of (take (place - 1) journal)) e (meter_of s) (meter_of new) (subst (λ p. meter_of new ≤ meter_of s + 4 * size (reach_of p e.event e.answer)) found.is_past (f found.follows)) before)
+
+-- the meter, where the journal is the same
+pub metered_before : (xs ys : List Entry) (done : ℕ) (s : Kept) → ys ≡ xs → meter_of s ≤ 4 * all_reach (past_of (take done xs)) → meter_of s ≤ 4 * all_reach (past_of (take (done + 1 - 1) ys))
+metered_before xs ys done s same metered =
+    let back : done + 1 - 1 ≡ done = omega arith in
+    subst (λ n. meter_of s ≤ 4 * all_reach (past_of (take n ys))) (sym back) (subst (λ zs. meter_of s ≤ 4 * all_reach (past_of (take done zs))) (sym same) metered)
