@@ -90,7 +90,7 @@ end_bsc() {
 
 finish() {
     [ -n "$BSC" ] && end_bsc
-    [ -n "${CBC_PID:-}" ] && kill "$CBC_PID" 2> /dev/null
+    [ -n "${CENTRE:-}" ] && kill "$CENTRE" 2> /dev/null
     rm -rf "$WORK"
 }
 trap finish EXIT
@@ -175,6 +175,7 @@ board() { echo "awaited $1 onair $2 failed $3 left $4 broadcasts 0"; }
 
 config > "$WORK/osmo-bsc.cfg"
 coproc CBC { exec "$PROGRAM" serve --links 1 2> "$WORK/errors"; }
+CENTRE=$CBC_PID
 
 echo "link up"
 type_line "bsc add 1"
@@ -216,18 +217,44 @@ start_bsc
 expect "board 2" "$(board 0 2 1 0)"
 same_tables
 
+echo "an emergency warning is on air in all three cells"
+type_line "alert 4352 1 1 1408 0 - Coast"
+expect "board 3" "$(board 0 3 0 0)"
+
+echo "another one is refused: a cell has one emergency message"
+type_line "alert 4353 1 1 896 0 - Coast"
+expect "board 4" "$(board 0 0 3 0)"
+type_line "stop 4"
+expect "board 4" "$(board 0 0 0 0)"
+
+echo "the emergency warning is updated"
+type_line "realert 3 1 384 0 -"
+expect "pending 1" "groups 0"
+expect "board 3" "$(board 0 3 0 0)"
+
+echo "the BSC is restarted, and says so of messages of text alone"
+end_bsc
+start_bsc
+expect "board 2" "$(board 0 2 1 0)"
+expect "board 3" "$(board 0 3 0 0)"
+
+echo "the emergency warning is stopped, which the BSC has no more"
+type_line "stop 3"
+expect "board 3" "$(board 0 0 0 0)"
+expect "pending 1" "groups 0"
+
 echo "1,000 cells in one order, of which the BSC knows three"
 for ci in $(seq 1000 1996); do printf 'cell add 100 %d 1\n' "$ci"; done >&"${CBC[1]}"
 for ci in $(seq 1000 1996); do IFS= read -r -t 10 ANSWER <&"${CBC[0]}"; done
 expect "board 2" "$(board 0 2 998 0)"
 type_line "issue 4372 3 15 0 30 d4f29c0e Coast"
-expect "board 3" "$(board 0 2 998 0)"
+expect "board 5" "$(board 0 2 998 0)"
 same_tables
 
 printf 'quit\n' >&"${CBC[1]}"
 IFS= read -r -t 10 ANSWER <&"${CBC[0]}"
 echo "$ANSWER"
-wait "$CBC_PID" 2> /dev/null
+wait "$CENTRE" 2> /dev/null
 echo "standard error of the centre:"
 cat "$WORK/errors"
 echo "faults: $FAULTS"
