@@ -121,7 +121,7 @@ stays_flying network past desk (event.LinkDown d generation) a v b other flying 
 stays_flying network past desk (event.Send d generation) a v b other flying =
     not_sent past d b (sent_flight a) (no_check (send_checks past d generation) (send_answer past (first (pending past d))) a v).1.1.1.0 flying
 stays_flying network past desk (event.Ask d generation n after) a v b other flying =
-    not_sent past d b (asked_flight a) (no_check (ask_checks past d generation n) _ a v).1.1.1.1.1.0 flying
+    not_sent past d b (asked_flight a) (no_check (ask_checks past d generation n) _ a v).1.1.1.1.0 flying
 stays_flying network past desk (event.Report d generation m) a v b other flying =
     ap (λ t. is_some (unwrap_or (if t && is_replied a then Some None else None) (in_flight past b))) other ∙ flying
 
