@@ -191,7 +191,7 @@ fn seventh(bsc: BscId, cell: Cell) -> LineKey {
 }
 
 /// Compares the warnings whose line in the cell at BSC 1 is held.
-fn holds(rt: &impl Abort, table: &LineTable, cell: Cell, want: &[u32]) {
+fn holds(rt: &impl Abort, table: &mut LineTable, cell: Cell, want: &[u32]) {
     let found = table.held_at(bsc(rt, 1), cell).expect(rt, "memory");
     yes(rt, found.len() == want.len(), "how many are held");
     for (warning, number) in found.iter().zip(want) {
@@ -218,6 +218,31 @@ fn come_to_be_held(rt: &impl Abort, table: &mut LineTable, b: BscId) {
 fn held_lines_are_found_by_their_cell(rt: HostRuntime) {
     let mut table = reported(&rt, rt.alloc());
     come_to_be_held(&rt, &mut table, bsc(&rt, 1));
+}
+
+/// Each call counts the lines of which it tells that something is kept, and no other.
+fn tells_and_counts(rt: &impl Abort, table: &mut LineTable, b: BscId) {
+    let told = table.warnings_at(b, MOVED).expect(rt, "memory");
+    yes(rt, told.len() == 2, "the warnings of a cell");
+    yes(rt, table.meter() == 5, "the two lines of a cell");
+    holds(rt, table, MOVED, &[7]);
+    yes(rt, table.meter() == 6, "the line that is held");
+    let places = table.places_of(WarningId::new(1)).expect(rt, "memory");
+    yes(rt, places.len() == 2, "the places of a warning");
+    yes(rt, table.meter() == 8, "the two lines of a warning");
+    let none = table.warnings_at(b, REGISTERED).expect(rt, "memory");
+    yes(rt, none.is_empty(), "a cell without lines");
+    yes(rt, table.meter() == 8, "no line");
+}
+
+/// Three lines are set, two of them in one cell and two of one warning.
+#[test]
+fn lines_that_are_told_of_are_counted(rt: HostRuntime) {
+    let b = bsc(&rt, 1);
+    let mut table = reported(&rt, rt.alloc());
+    sets_line(&rt, &mut table, seventh(b, MOVED), held());
+    sets_line(&rt, &mut table, key(b, DOWN), on_air());
+    tells_and_counts(&rt, &mut table, b);
 }
 
 #[test]
