@@ -8,7 +8,7 @@ use mirror::{KeyState, Line, LineKey, LineTable, Presence};
 use serials::Serial;
 use std::alloc::Global;
 use std::process::Abort;
-use warning_book::WarningId;
+use warning_book::{Kind, WarningId};
 
 const NETWORK: [u8; 3] = [0x00, 0xf1, 0x10];
 
@@ -48,7 +48,7 @@ fn registered(rt: &impl Abort, alloc: Global) -> Register {
     register
 }
 
-/// A line in a cell that is not registered, and a cell that is down, both at BSC 1.
+/// A line in a cell that is not registered, and a cell that is down for emergency warnings, both at BSC 1.
 fn reported(rt: &impl Abort, alloc: Global) -> LineTable {
     let mut table = LineTable::new(alloc);
     sets_line(rt, &mut table, key(bsc(rt, 1), MOVED), on_air());
@@ -61,7 +61,9 @@ fn sets_line(rt: &impl Abort, table: &mut LineTable, key: LineKey, line: Line) {
 }
 
 fn sets_down(rt: &impl Abort, table: &mut LineTable, b: BscId, is_down: bool) {
-    table.set_down(b, DOWN, is_down).expect(rt, "memory");
+    table
+        .set_down(Kind::Emergency, b, DOWN, is_down)
+        .expect(rt, "memory");
 }
 
 fn names(
@@ -135,14 +137,20 @@ fn a_report_names_the_known_cells(rt: HostRuntime) {
     table.tell_line_count();
 }
 
-/// The table has a line and a cell that is down at BSC 1.
+/// The table has a line and a cell that is down for emergency warnings at BSC 1.
 fn are_reported(rt: &impl Abort, table: &mut LineTable, b: BscId) {
     let line = table.read_line(key(b, MOVED));
     yes(rt, line == on_air(), "a line that was set");
     let other = table.read_line(key(b, REGISTERED));
     yes(rt, other.is_blank(), "a line that was not");
-    yes(rt, table.is_down(b, DOWN), "the cell that is down");
-    yes(rt, !table.is_down(bsc(rt, 2), DOWN), "another BSC's cell");
+    let kind = Kind::Emergency;
+    yes(rt, table.is_down(kind, b, DOWN), "the cell that is down");
+    yes(rt, !table.is_down(Kind::Cbs, b, DOWN), "for CBS warnings");
+    yes(
+        rt,
+        !table.is_down(kind, bsc(rt, 2), DOWN),
+        "another BSC's cell",
+    );
 }
 
 /// The line is blank again, and the cell is up.
