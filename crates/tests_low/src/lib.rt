@@ -1,5 +1,5 @@
-//! Tests of the libraries of octets, of the register, the areas, the book and the serial numbers, and of the simulated
-//! BSC: what their contracts don't say.
+//! Tests of the libraries of octets and of texts, of the register, the areas, the book and the serial numbers, and of
+//! the simulated BSC: what their contracts don't say.
 //!
 //! A test demands an answer by `expect` and not by `?`, and lets a value of a large enum go by `drop`. Either is a call to
 //! the prover; an early return, or the end of such a value's block, is a case for each value that may be dropped there.
@@ -21,5 +21,7 @@ mod register_tests;
 mod serial_tests;
 #[cfg(test)]
 mod simulated_bsc_tests;
+#[cfg(test)]
+mod text_tests;
 #[cfg(test)]
 mod values;
