@@ -19,4 +19,6 @@ mod two_links_tests;
 #[cfg(test)]
 mod waiting_tests;
 #[cfg(test)]
+mod waking_tests;
+#[cfg(test)]
 mod write_side_tests;
