@@ -277,6 +277,10 @@ fn pages_of_others_are_read(rt: HostRuntime) {
         let pages = given(&rt, rt.alloc(), digits);
         has_text(&rt, rt.alloc(), *dcs, pages.as_slice(), *want, digits);
     }
+}
+
+#[test]
+fn no_pages_have_an_empty_text(rt: HostRuntime) {
     has_text(&rt, rt.alloc(), 0x0F, &[], Some(""), "no pages");
 }
 
