@@ -3,7 +3,7 @@
 //! The rows of `PAGES` come from other programs: the codes of the letters from Perl's Encode::GSM0338 2.10 and
 //! the letters of UCS2 from its UTF-16BE, the octets of the septets from `gsm_septet_pack` of libosmocore 1.7.0.
 //! Between the two the codes were cut into pages of at most 93 septets, between letters, and a carriage return
-//! was put where seven bits are left, as TS 23.038, 6.1.2.3.1 says. `READ` has pages as other centres may send
+//! was put where seven bits are left, as TS 23.038, 6.1.2.3.1 says. `READ` and `UNREAD` have pages as other centres may send
 //! them, and what the standard says of them.
 
 use crate::values::{same, yes};
@@ -151,7 +151,7 @@ const PAGES: [(&str, u8, &str); 39] = [
     ),
 ];
 
-/// Pages under a data coding scheme, and their text where they have one.
+/// Pages with their data coding scheme and their text.
 const READ: [(u8, &str, &str); 32] = [
     (0x00, "41", "A"),
     (0x0F, "41", "A"),
