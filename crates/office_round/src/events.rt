@@ -8,7 +8,7 @@ use common::{Cell, Name, Names, Octets};
 use coverage_plan::Edit;
 use serials::Scope;
 use std::alloc::{AllocError, Global};
-use warning_book::{Category, Content, ContentPages, Notice, WarningId};
+use warning_book::{Category, CbsContent, Content, ContentPages, Notice, WarningId};
 
 /// The network code 001-01.
 pub(crate) const PLMN: [u8; 3] = [0x00, 0xf1, 0x10];
@@ -73,12 +73,12 @@ fn content(alloc: Global) -> Result<Content, AllocError> {
     let page = Octets::from_vec(Vec::from_slice(alloc, &[0xd4, 0xf2, 0x9c, 0x0e])?);
     let mut pages = Vec::new(alloc);
     pages.push(page)?;
-    Ok(Content {
+    Ok(Content::Cbs(CbsContent {
         dcs: 15,
         category: Category::HighPriority,
         period: 30,
         pages: ContentPages::from_vec(pages),
-    })
+    }))
 }
 
 fn issue(alloc: Global) -> Result<Edit, AllocError> {

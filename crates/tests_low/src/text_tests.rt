@@ -3,7 +3,7 @@
 //! The rows of `PAGES` come from other programs: the codes of the letters from Perl's Encode::GSM0338 2.10 and
 //! the letters of UCS2 from its UTF-16BE, the octets of the septets from `gsm_septet_pack` of libosmocore 1.7.0.
 //! Between the two the codes were cut into pages of at most 93 septets, between letters, and a carriage return
-//! was put where seven bits are left, as TS 23.038, 6.1.2.3.1 says. `READ` has pages as other centres may send
+//! was put where seven bits are left, as TS 23.038, 6.1.2.3.1 says. `READ` and `UNREAD` have pages as other centres may send
 //! them, and what the standard says of them.
 
 use crate::values::{same, yes};
@@ -151,62 +151,64 @@ const PAGES: [(&str, u8, &str); 39] = [
     ),
 ];
 
-/// Pages under a data coding scheme, and their text where they have one.
-const READ: [(u8, &str, Option<&str>); 48] = [
-    (0x00, "41", Some("A")),
-    (0x0F, "41", Some("A")),
-    (0x20, "41", Some("A")),
-    (0x2F, "41", Some("A")),
-    (0x30, "41", Some("A")),
-    (0x3F, "41", Some("A")),
-    (0x40, "41", Some("A")),
-    (0x43, "41", Some("A")),
-    (0x50, "41", Some("A")),
-    (0x53, "41", Some("A")),
-    (0xF0, "41", Some("A")),
-    (0xF3, "41", Some("A")),
-    (0x10, "0041", None),
-    (0x11, "0041", None),
-    (0x44, "0041", None),
-    (0x4C, "0041", None),
-    (0x60, "0041", None),
-    (0x70, "0041", None),
-    (0x80, "0041", None),
-    (0x90, "0041", None),
-    (0xE0, "0041", None),
-    (0xF4, "0041", None),
-    (0xF8, "0041", None),
-    (0xFF, "0041", None),
-    (0x48, "0041", Some("A")),
-    (0x4B, "0041", Some("A")),
-    (0x58, "0041", Some("A")),
-    (0x5B, "0041", Some("A")),
-    (0x48, "004100", None),
-    (0x48, "0041/42", None),
-    (0x48, "D83DDE00", None),
-    (0x48, "DFFF", None),
-    (0x48, "E000FFFF", Some("\u{ffff}")),
-    (0x48, "000D", Some("\r")),
-    (0x0F, "D7B0DC9D769F01", Some("Warning@")),
-    (0x0F, "D7B0DC9D769F1B", Some("Warning")),
-    (0x0F, "D7B0DC9D769F1B0D", Some("Warning\r\r")),
-    (0x0F, "D7B0DC9D763700", Some("Warnin\r@")),
-    (0x0F, "D7B0DC9D76371A", Some("Warnin\r")),
-    (0x0F, "C10D/65", Some("A e")),
-    (0x0F, "1B05", Some("\u{c}")),
-    (0x0F, "9B4D10", Some(" A")),
-    (0x0F, "9B20", Some("A")),
-    (0x0F, "0D", Some("\r")),
-    (0x0F, "", Some("")),
-    (0x0F, "41//42", Some("AB")),
-    (0x48, "", Some("")),
+/// Pages with their data coding scheme and their text.
+const READ: [(u8, &str, &str); 32] = [
+    (0x00, "41", "A"),
+    (0x0F, "41", "A"),
+    (0x20, "41", "A"),
+    (0x2F, "41", "A"),
+    (0x30, "41", "A"),
+    (0x3F, "41", "A"),
+    (0x40, "41", "A"),
+    (0x43, "41", "A"),
+    (0x50, "41", "A"),
+    (0x53, "41", "A"),
+    (0xF0, "41", "A"),
+    (0xF3, "41", "A"),
+    (0x48, "0041", "A"),
+    (0x4B, "0041", "A"),
+    (0x58, "0041", "A"),
+    (0x5B, "0041", "A"),
+    (0x48, "E000FFFF", "\u{ffff}"),
+    (0x48, "000D", "\r"),
+    (0x0F, "D7B0DC9D769F01", "Warning@"),
+    (0x0F, "D7B0DC9D769F1B", "Warning"),
+    (0x0F, "D7B0DC9D769F1B0D", "Warning\r\r"),
+    (0x0F, "D7B0DC9D763700", "Warnin\r@"),
+    (0x0F, "D7B0DC9D76371A", "Warnin\r"),
+    (0x0F, "C10D/65", "A e"),
+    (0x0F, "1B05", "\u{c}"),
+    (0x0F, "9B4D10", " A"),
+    (0x0F, "9B20", "A"),
+    (0x0F, "0D", "\r"),
+    (0x0F, "", ""),
+    (0x0F, "41//42", "AB"),
+    (0x48, "", ""),
     (
         0x0F,
         "C146A3D168341A8D46A3D168341A8D46A3D168341A8D46A3D168341A8D46A3D168341A8D46A3D168341A8D46A3D168341A8D46A3D168341A8D46A3D168341A8D46A3D168341A8D46A3D168341A8D46A3D100",
-        Some(
-            "A\r\r\r\r\r\r\r\r\r\r\r\r\r\r\r\r\r\r\r\r\r\r\r\r\r\r\r\r\r\r\r\r\r\r\r\r\r\r\r\r\r\r\r\r\r\r\r\r\r\r\r\r\r\r\r\r\r\r\r\r\r\r\r\r\r\r\r\r\r\r\r\r\r\r\r\r\r\r\r\r\r\r\r\r\r\r\r\r\r\r\r\r",
-        ),
+        "A\r\r\r\r\r\r\r\r\r\r\r\r\r\r\r\r\r\r\r\r\r\r\r\r\r\r\r\r\r\r\r\r\r\r\r\r\r\r\r\r\r\r\r\r\r\r\r\r\r\r\r\r\r\r\r\r\r\r\r\r\r\r\r\r\r\r\r\r\r\r\r\r\r\r\r\r\r\r\r\r\r\r\r\r\r\r\r\r\r\r\r\r",
     ),
+];
+
+/// Pages without a text, with their data coding scheme.
+const UNREAD: [(u8, &str); 16] = [
+    (0x10, "0041"),
+    (0x11, "0041"),
+    (0x44, "0041"),
+    (0x4C, "0041"),
+    (0x60, "0041"),
+    (0x70, "0041"),
+    (0x80, "0041"),
+    (0x90, "0041"),
+    (0xE0, "0041"),
+    (0xF4, "0041"),
+    (0xF8, "0041"),
+    (0xFF, "0041"),
+    (0x48, "004100"),
+    (0x48, "0041/42"),
+    (0x48, "D83DDE00"),
+    (0x48, "DFFF"),
 ];
 
 /// The pages as hexadecimal digits, with a stroke between two pages.
@@ -275,8 +277,20 @@ fn pages_have_their_texts(rt: HostRuntime) {
 fn pages_of_others_are_read(rt: HostRuntime) {
     for (dcs, digits, want) in &READ {
         let pages = given(&rt, rt.alloc(), digits);
-        has_text(&rt, rt.alloc(), *dcs, pages.as_slice(), *want, digits);
+        has_text(&rt, rt.alloc(), *dcs, pages.as_slice(), Some(*want), digits);
     }
+}
+
+#[test]
+fn pages_of_others_have_no_text(rt: HostRuntime) {
+    for (dcs, digits) in &UNREAD {
+        let pages = given(&rt, rt.alloc(), digits);
+        has_text(&rt, rt.alloc(), *dcs, pages.as_slice(), None, digits);
+    }
+}
+
+#[test]
+fn no_pages_have_an_empty_text(rt: HostRuntime) {
     has_text(&rt, rt.alloc(), 0x0F, &[], Some(""), "no pages");
 }
 
