@@ -24,6 +24,7 @@ pub struct Kept {
 impl Kept {
     ghost use Rattle.std.specs.Prelude.{◌≡◌, IfOk};
     ghost use Rattle.centre_events.specs.Base.{empty_base};
+    ghost use Rattle.centre_past.specs.Copying.{IsCopy};
     ghost use Rattle.centre_past.specs.IsKept.{IsKept};
     ghost use Rattle.centre_events.specs.Past.{From, Past};
 
@@ -44,7 +45,7 @@ impl Kept {
 
     /// The same, in memory of its own, with no access counted. It is what the past says wherever this is.
     pub fn copied(&self, alloc: Global) -> Result<Kept, AllocError>
-        ensures copy { IfOk result (λ copy. copy ≡ record self.now { tables = record self.now.tables { lines = record self.now.tables.lines { meter = 0 } } }) }
+        ensures copy { IfOk result (λ copy. IsCopy self.now copy) }
         ensures kept { (past : Past) → IsKept past self.now → IfOk result (IsKept past) }
     {
         Ok(Kept {
