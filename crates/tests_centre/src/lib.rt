@@ -9,6 +9,8 @@ mod centre_tests;
 #[cfg(test)]
 mod checks;
 #[cfg(test)]
+mod copying_tests;
+#[cfg(test)]
 mod day;
 #[cfg(test)]
 mod meter_tests;

@@ -218,6 +218,53 @@ fn the_newest_sixteen_versions_are_kept(rt: HostRuntime) {
     }
 }
 
+/// A copy; where memory runs out once, the book is as it was.
+fn copied(rt: &impl Abort, book: &Book, area: &Name) -> Book {
+    match book.copied() {
+        Ok(copy) => copy,
+        Err(_) => {
+            is_found(rt, book, area);
+            book.copied().expect(rt, "memory")
+        }
+    }
+}
+
+/// A book whose first warning has two versions.
+fn updated_once(rt: &impl Abort, alloc: Global) -> Book {
+    let mut book = issued_for(rt, alloc, &[b"coast"], Scope::Cell);
+    updates(rt, alloc, &mut book, 1);
+    book
+}
+
+#[test]
+fn a_copy_of_a_book_stands_alone(rt: HostRuntime) {
+    let alloc = rt.alloc();
+    let coast = name(&rt, alloc, b"coast");
+    let mut book = updated_once(&rt, alloc);
+    let copy = copied(&rt, &book, &coast);
+    keeps_area(&rt, &mut book, &coast);
+    is_found(&rt, &copy, &coast);
+    keeps(&rt, alloc, &copy, 0);
+    keeps(&rt, alloc, &copy, 1);
+}
+
+/// Whether the content of the book's emergency warning is the one that it was issued with.
+fn has_emergency(book: &Book) -> bool {
+    match book.content_of(4352, Serial::from_u16(0x4000)) {
+        Some(found) => found.same(&emergency(0x0580)),
+        None => false,
+    }
+}
+
+#[test]
+fn a_copy_of_a_book_has_its_emergency_warnings(rt: HostRuntime) {
+    let mut book = emergency_issued(&rt, rt.alloc());
+    let copy = copied(&rt, &book, &name(&rt, rt.alloc(), b"hills"));
+    made(&rt, book.stop(first_id()), "the warning is stopped");
+    yes(&rt, has_emergency(&copy), "the content of the copy");
+    yes(&rt, copy.is_active(first_id()), "it is active in the copy");
+}
+
 fn version(rt: &impl Abort, alloc: Global, serial: u16, octet: u8) -> Version {
     Version {
         serial: Serial::from_u16(serial),

@@ -24,6 +24,18 @@ impl Model for Versions {
     ghost view = { λ s. s.versions.items };
 }
 
+impl Clone for Versions {
+    ghost use Rattle.std.specs.Prelude.{◌≡◌};
+
+    ghost is_clone = { λ s t. t ≡ s };
+
+    fn clone(&self) -> Result<Versions, AllocError> {
+        Ok(Versions {
+            versions: self.versions.clone()?,
+        })
+    }
+}
+
 /// Puts a version last, for which there is room.
 fn put_last(versions: &mut Vec<Version>, version: Version)
     requires { vec_len versions.old < vec_capacity versions.old }
