@@ -12,13 +12,13 @@ use Rattle.mirror.proofs.line_table.LineTable.is_present_anywhere.Goals as goal
 pub returns-clause-some : goal.returns-clause-some
 returns-clause-some c =
     let es = c.self.inside.lines in
-    let all : c.result ≡ list_any (λ e. nat_eq c.args.w e.0.warning && is_present_in c.args.serial e.1) es = c.is_present_among.ensures.which ∙ ap (list_any (λ (e : Slot × Line). is_present_in c.args.serial e.1)) c.slots_of-slots.ensures.of ∙ any_of (λ e. nat_eq c.args.w e.0.warning) (λ e. is_present_in c.args.serial e.1) es in
+    let all : c.is_present_among.result ≡ list_any (λ e. nat_eq c.args.w e.0.warning && is_present_in c.args.serial e.1) es = c.is_present_among.ensures.which ∙ ap (list_any (λ (e : Slot × Line). is_present_in c.args.serial e.1)) c.slots_of-slots.ensures.of ∙ any_of (λ e. nat_eq c.args.w e.0.warning) (λ e. is_present_in c.args.serial e.1) es in
     rw (← c.self.view_is) (λ h. present_found c.args.w c.args.serial es c.slots_of-slots.ensures.ordered (sym all ∙ h))
 
 pub returns-clause-none : goal.returns-clause-none
 returns-clause-none c =
     let es = c.self.inside.lines in
-    let all : c.result ≡ list_any (λ e. nat_eq c.args.w e.0.warning && is_present_in c.args.serial e.1) es = c.is_present_among.ensures.which ∙ ap (list_any (λ (e : Slot × Line). is_present_in c.args.serial e.1)) c.slots_of-slots.ensures.of ∙ any_of (λ e. nat_eq c.args.w e.0.warning) (λ e. is_present_in c.args.serial e.1) es in
+    let all : c.is_present_among.result ≡ list_any (λ e. nat_eq c.args.w e.0.warning && is_present_in c.args.serial e.1) es = c.is_present_among.ensures.which ∙ ap (list_any (λ (e : Slot × Line). is_present_in c.args.serial e.1)) c.slots_of-slots.ensures.of ∙ any_of (λ e. nat_eq c.args.w e.0.warning) (λ e. is_present_in c.args.serial e.1) es in
     rw (← c.self.view_is) (λ h. none_present c.args.w c.args.serial es (sym all ∙ h))
 
 pub returns-clause-most : goal.returns-clause-most
