@@ -112,6 +112,3 @@ next_update s = omega arith
 
 pub same_serial : (s t : ℕ) → scope_part s ≡ scope_part t → code_of s ≡ code_of t → update_of s ≡ update_of t → s ≡ t
 same_serial s t h g e = omega arith
-
-pub next_fits : (s : ℕ) → s < 65536 → next_of s < 65536
-next_fits s h = omega arith

@@ -8,7 +8,6 @@ use Rattle.warning_book.specs.Book.{State, has_number, number_lt, names, is_full
 use Rattle.warning_book.specs.Checks.{there_checks, widen_checks, narrow_checks, forget_checks, warning_there_checks, warning_widen_checks, warning_narrow_checks, warning_forget_checks}
 use Rattle.warning_book.specs.Laws.{found_so}
 use Rattle.warning_book.proofs.FoundLemmas.{absent_in}
-use Rattle.warning_book.specs.declared.content.Content.{Content}
 use Rattle.warning_book.specs.declared.warning.Warning.{Warning}
 
 there_in : (n : ℕ) (l : List Warning) (w : Warning) → find (has_number n) l ≡ Some w → list_any (has_number n) l ≡ true

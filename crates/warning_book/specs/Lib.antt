@@ -1,7 +1,6 @@
 pub mod Content
 pub mod Book
 pub mod Checks
-pub mod CheckLaws
 pub mod Sound
 pub mod Laws
 pub mod SerialLaws

@@ -1,7 +1,7 @@
 -- What holds of every book.
-use Rattle.std.specs.Prelude.{◌≡◌, ◌≤◌, ℕ, ◌+◌, Bool, true, false, ◌&&◌, List, [], ◌∷◌, Option, Some, None, map, bytes_eq, nat_eq, nat_le, length}
+use Rattle.std.specs.Prelude.{◌≡◌, ◌≤◌, ℕ, Bool, true, false, ◌&&◌, List, Option, Some, None, map, bytes_eq, nat_eq, nat_le, length}
 use Rattle.std.specs.List.{list_all}
-use Rattle.serials.specs.Serials.{scope_part, code_of, update_of}
+use Rattle.serials.specs.Serials.{scope_part, code_of}
 use Rattle.common.specs.Order.{is_ascending, each_once}
 use Rattle.warning_book.specs.Book.{State, number_lt, last_serial, code_in, first_kind}
 use Rattle.warning_book.specs.Content.{content_kind, is_same_kind, have_pages, has_period}

@@ -12,13 +12,13 @@ use Rattle.std.proofs.lemmas.Slice.Eq.{bytes_eq-Decides}
 use Rattle.common.specs.OnceLaws.{once_last, once_filter, once_key, kept_whole, length_without_same}
 use Rattle.common.specs.Order.{each_once}
 use Rattle.common.specs.OrderLaws.{all_same, all_filter, ascending_filter, ascending_last, ascending_map, length_filter}
-use Rattle.serials.specs.Serials.{scope_part, code_of, update_of}
+use Rattle.serials.specs.Serials.{scope_part, code_of}
 use Rattle.warning_book.specs.Book.{State, has_number, number_lt, names, is_full, has_one_area, is_of_other_kind, is_so, code_in, kind_of, codes_of, new_serial, new_warning, updated, widened, narrowed, stopped, changed_if, edited, without, after_issue, after_update, after_widen, after_narrow, after_stop, after_forget}
 use Rattle.common.specs.CheckLaws.{none_holds}
 use Rattle.common.specs.Checks.{first_refusal}
 use Rattle.warning_book.specs.Checks.{is_empty, issue_checks, update_checks, widen_checks, narrow_checks}
 use Rattle.warning_book.specs.Content.{kind_number, content_kind, is_same_kind, have_pages, has_period}
-use Rattle.warning_book.specs.SerialLaws.{new_serial_parts}
+use Rattle.warning_book.specs.SerialLaws.{new_code_free}
 use Rattle.warning_book.specs.Laws.{KeepsNumber, number-edited}
 use Rattle.warning_book.specs.Sound.{was_issued, has_areas, is_good, has_contents, has_versions, has_serials, has_one_code, has_one_kind, key_of, is_same_code, is_same_key, IsSound}
 use Rattle.warning_book.specs.VersionLaws.{all-last, has_own_code, few_next, once_next, code_next, kind_next, all_next, code_kept}
@@ -305,7 +305,6 @@ sound-issue i l notice areas serial new s =
 pub sound_after_issue : (st : State) (notice : Notice) (areas : List (List ℕ)) (serial : ℕ) → first_refusal (issue_checks st notice areas) ≡ None → new_serial st notice ≡ Some serial → IsSound st → IsSound (after_issue notice areas serial st)
 sound_after_issue st notice areas serial checked given sound =
     let none = none_holds (issue_checks st notice areas) checked in
-    let parts = new_serial_parts st.issued st.warnings notice serial given in
     sound-issue st.issued st.warnings notice areas serial
     (record {
       some = none.0;
@@ -314,7 +313,7 @@ sound_after_issue st notice areas serial checked given sound =
       pages = not-false (have_pages notice.content) none.1.1.0;
       period = not-false (has_period notice.content) none.1.1.1.0;
       room = room (length st.warnings) none.1.1.1.1.0;
-      free = parts.1;
+      free = new_code_free st.issued st.warnings notice serial given;
     })
     sound
   where
