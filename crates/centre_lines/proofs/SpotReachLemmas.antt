@@ -38,7 +38,7 @@ use Rattle.centre_past.specs.Legal.{Legal}
 use Rattle.centre_events.specs.Outcomes.{listed_cells, failed_ids}
 use Rattle.centre_events.specs.Past.{Past}
 use Rattle.centre_events.specs.Places.{place, cells}
-use Rattle.centre_past.specs.Reach.{Reach, IsReach, spot, at_bsc, placed_where, known_at, numbers_where, flight_reach, edit_reach, report_reach, reach_of, update_spots, wraps}
+use Rattle.centre_past.specs.Reach.{Reach, IsReach, spot, at_bsc, placed_where, known_at, numbers_where, flight_reach, edit_reach, report_reach, reach_of, wraps}
 use Rattle.coverage_plan.specs.Reach.{is_named_by}
 use Rattle.centre_past.specs.Reaching.{AreSpots, AreThose, Told, TellsLines, EditTold, IsFlightOf, bsc_of, is_placed, is_known_among, is_known_at}
 use Rattle.centre_events.specs.Reported.{names_warning}
@@ -179,11 +179,11 @@ wrapped_reached settings past r st t spots told tells are =
     at_bscs true b h = ap (λ x. x && true) (h refl)
     at_bscs false b h = and_none b
 
-pub spots_where : (past : Past) (n : ℕ) (t : Bool) (spots : List Spot) → wraps past n ≡ t → AreThose spots (if t then flat_map (known_at past) (bscs past) else placed_where past (is_covered past (areas_of n (warnings_of past)))) → AreThose spots (update_spots past n)
+pub spots_where : (past : Past) (n : ℕ) (t : Bool) (spots : List Spot) → wraps past n ≡ t → AreThose spots (if t then flat_map (known_at past) (bscs past) else placed_where past (is_covered past (areas_of n (warnings_of past)))) → AreThose spots (if wraps past n then flat_map (known_at past) (bscs past) else placed_where past (is_covered past (areas_of n (warnings_of past))))
 spots_where past n t spots e are =
     subst (λ x. AreThose spots (if x then flat_map (known_at past) (bscs past) else placed_where past (is_covered past (areas_of n (warnings_of past))))) (sym e) are
 
-pub update_edit : (past : Past) (e : Edit) (n : ℕ) (spots : List Spot) → ((content : Content) × (e ≡ edit.Update n content)) → AreThose spots (update_spots past n) → IsReached past spots e
+pub update_edit : (past : Past) (e : Edit) (n : ℕ) (spots : List Spot) → ((content : Content) × (e ≡ edit.Update n content)) → AreThose spots (if wraps past n then flat_map (known_at past) (bscs past) else placed_where past (is_covered past (areas_of n (warnings_of past)))) → IsReached past spots e
 update_edit past e n spots (content, is) are = subst (IsReached past spots) (sym is) are
 
 -- The numbers of warnings.

@@ -1,6 +1,6 @@
 //! On which lines an event bears.
 
-ghost use Rattle.std.specs.Prelude.{◌≡◌, ◌&&◌, true, false, IfOk};
+ghost use Rattle.std.specs.Prelude.{◌≡◌, ◌&&◌, true, false, if◌then◌else◌, IfOk};
 ghost use Rattle.std.specs.List.{list_any};
 ghost use Rattle.std.specs.Option.{option_copied, option_map, option_to_list};
 ghost use Rattle.serials.specs.Serials.{next_of};
@@ -8,7 +8,7 @@ ghost use Rattle.warning_book.specs.Book.{current_of, is_reused};
 ghost use Rattle.centre_events.specs.InFlight.{in_flight};
 ghost use Rattle.centre_events.specs.Past.{Past};
 ghost use Rattle.centre_past.specs.Reaching.{is_forget, AreThose, EditTold, EventTold};
-ghost use Rattle.centre_past.specs.Reach.{IsReach, flight_reach, edit_reach, report_reach, reach_of, update_spots, wraps};
+ghost use Rattle.centre_past.specs.Reach.{IsReach, flight_reach, edit_reach, report_reach, reach_of, covered_by, known_anywhere, wraps};
 ghost use Rattle.centre_events.specs.Settings.{Settings};
 ghost use Rattle.centre_events.specs.Warnings.{book_of, is_version};
 
@@ -71,7 +71,7 @@ fn updated(
     edit: &Edit,
     n: WarningId,
 ) -> Result<Vec<Spot>, AllocError>
-    ensures { (settings : Settings) (past : Past) → EditTold settings past plan.now.register.now plan.now.areas.now plan.now.book.now tables.now edit.now → IfOk result (λ spots. AreThose spots.items (update_spots past n)) }
+    ensures { (settings : Settings) (past : Past) → EditTold settings past plan.now.register.now plan.now.areas.now plan.now.book.now tables.now edit.now → IfOk result (λ spots. AreThose spots.items (if wraps past n then known_anywhere past else covered_by past n)) }
 {
     tell_lines(tables);
     if wraps(plan.book, n) {
