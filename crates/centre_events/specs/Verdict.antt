@@ -154,9 +154,9 @@ reuses past n test = is_so n (λ w. list_any (λ s. is_reused w s && test w.mess
 abbrev pub update_checks : Past → ℕ → Content → List (Bool × Refusal)
 update_checks past n content = by_book (book.there_checks (book_of past) n) ++ (reuses past n (is_key_reported past), refusal.StillReported) ∷ (reuses past n (is_key_in_flight past), refusal.StillInFlight) ∷ by_book (book.content_checks (book_of past) n content)
 
--- the serial number of the next version
+-- the serial number of the next version; a warning without a version, which no legal past has, gets none
 abbrev pub update_answer : Option ℕ → Result Answer Refusal
-update_answer None = Err refusal.NoSuchWarning
+update_answer None = Ok answer.Done
 update_answer (Some s) = Ok (answer.Updated s)
 
 -- what an Update is answered

@@ -35,3 +35,5 @@ pub mod VersionLemmas
 pub mod AskLemmas
 pub mod ReadLemmas
 pub mod EmptyLemmas
+pub mod NextLemmas
+pub mod UpdateLemmas
