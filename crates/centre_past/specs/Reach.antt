@@ -79,12 +79,12 @@ abbrev pub wraps : Past → ℕ → Bool
 wraps past n = reuses past n (λ m s. true)
 
 -- what is known anywhere
-abbrev pub known_everywhere : Past → List Spot
-known_everywhere past = flat_map (known_at past) (bscs past)
+abbrev pub known_anywhere : Past → List Spot
+known_anywhere past = flat_map (known_at past) (bscs past)
 
 -- the registered cells that the areas of the warning of that number cover
-abbrev pub covered_spots : Past → ℕ → List Spot
-covered_spots past n = placed_where past (is_covered past (areas_of n (warnings_of past)))
+abbrev pub covered_by : Past → ℕ → List Spot
+covered_by past n = placed_where past (is_covered past (areas_of n (warnings_of past)))
 
 -- a cell that is registered, moved or taken out: the BSC where it was, and that where it comes to be; a selector: the
 -- registered cells that it names, and the warnings that name its area; an edit of a warning: the registered cells that
@@ -98,11 +98,11 @@ edit_reach past (edit.RemoveCell c) = record { spots = at_bsc c (place past c); 
 edit_reach past (edit.Put a s) = record { spots = placed_where past (is_named_by s); warnings = numbers_where past (names a) }
 edit_reach past (edit.Cut a s) = record { spots = placed_where past (is_named_by s); warnings = numbers_where past (names a) }
 edit_reach past (edit.Issue notice areas) = record { spots = placed_where past (is_covered past areas); warnings = ((book_of past).issued + 1) ∷ [] }
-edit_reach past (edit.Update n content) = record { spots = if wraps past n then known_everywhere past else covered_spots past n; warnings = n ∷ [] }
+edit_reach past (edit.Update n content) = record { spots = if wraps past n then known_anywhere past else covered_by past n; warnings = n ∷ [] }
 edit_reach past (edit.Widen n a) = record { spots = placed_where past (covers past a); warnings = n ∷ [] }
 edit_reach past (edit.Narrow n a) = record { spots = placed_where past (covers past a); warnings = n ∷ [] }
-edit_reach past (edit.Stop n) = record { spots = covered_spots past n; warnings = n ∷ [] }
-edit_reach past (edit.Forget n) = record { spots = known_everywhere past; warnings = n ∷ [] }
+edit_reach past (edit.Stop n) = record { spots = covered_by past n; warnings = n ∷ [] }
+edit_reach past (edit.Forget n) = record { spots = known_anywhere past; warnings = n ∷ [] }
 edit_reach past other = no_reach
 
 -- a matched reply bears on what was in flight, an indication on the cells that it lists
