@@ -1,9 +1,8 @@
-use Rattle.std.proofs.Common.{◌≡◌, ◌≤◌, Bool, ◌&&◌, nat_eq, filter, length, sym, ◌∙◌, ap, arith}
-use Rattle.std.proofs.lemmas.Grind.{common_steps}
+use Rattle.std.proofs.Common.{◌≡◌, ◌&&◌, nat_eq, filter, length, sym, ◌∙◌, ap, arith}
 use Rattle.std.proofs.lemmas.List.{length-map}
 use Rattle.std.specs.List.{list_any}
 use Rattle.mirror.proofs.PresentLemmas.{any_of, none_present, own_few, present_found}
-use Rattle.mirror.specs.Lines.{line_of, lines_at}
+use Rattle.mirror.specs.Lines.{line_of}
 use Rattle.mirror.specs.Order.{Slot}
 use Rattle.mirror.specs.Present.{is_present_in}
 use Rattle.mirror.specs.declared.line.Line.{Line}
