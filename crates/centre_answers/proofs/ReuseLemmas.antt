@@ -106,7 +106,7 @@ present_anywhere settings past legal m s b c h =
     at = any_at cell_eq cell_decides (is_key_present past m s b) c (cells past) h (known_presence settings past legal b c m s present)
 
 -- what is found in the lines is what the past says
-pub reported_is : (settings : Settings) (past : Past) → Legal settings past → (t : Tables) (w : Warning) (s : ℕ) → Consistent t (facts past) → warning_of (book_of past) w.number ≡ Some w → list_any (has_serial s) w.versions ≡ true → (found : Bool) → (found ≡ true → (b : ℕ) × ((c : Cell) × (is_present_at t.lines b c w.number s ≡ true))) → (found ≡ false → (b : ℕ) (c : Cell) → is_present_at t.lines b c w.number s ≡ false) → found ≡ is_key_reported past w.message_id s
+reported_is : (settings : Settings) (past : Past) → Legal settings past → (t : Tables) (w : Warning) (s : ℕ) → Consistent t (facts past) → warning_of (book_of past) w.number ≡ Some w → list_any (has_serial s) w.versions ≡ true → (found : Bool) → (found ≡ true → (b : ℕ) × ((c : Cell) × (is_present_at t.lines b c w.number s ≡ true))) → (found ≡ false → (b : ℕ) (c : Cell) → is_present_at t.lines b c w.number s ≡ false) → found ≡ is_key_reported past w.message_id s
 reported_is settings past legal t w s tables is there true some none =
     let (b, (c, h)) = some refl in
     sym (present_anywhere settings past legal w.message_id s b c (sym (present_same settings past legal t w s tables is there b c) ∙ h))
@@ -116,6 +116,13 @@ reported_is settings past legal t w s tables is there false some none =
     at : (b : ℕ) → is_key_reported_at past w.message_id s b ≡ false
     at b =
         any_same (is_key_present past w.message_id s b) (λ c. false) (λ c. sym (present_same settings past legal t w s tables is there b c) ∙ none refl b c) (cells past) ∙ any_never (cells past)
+
+-- the same, where the warning is looked for by its number
+pub reported_by : (settings : Settings) (past : Past) → Legal settings past → (t : Tables) (w : Warning) (s n : ℕ) → n ≡ w.number → Consistent t (facts past) → warning_of (book_of past) w.number ≡ Some w → list_any (has_serial s) w.versions ≡ true → (found : Bool) → (found ≡ true → (b : ℕ) × ((c : Cell) × (is_present_at t.lines b c n s ≡ true))) → (found ≡ false → (b : ℕ) (c : Cell) → is_present_at t.lines b c n s ≡ false) → found ≡ is_key_reported past w.message_id s
+reported_by settings past legal t w s n own tables is there found some none =
+    reported_is settings past legal t w s tables is there found
+    (subst (λ k. found ≡ true → (b : ℕ) × ((c : Cell) × (is_present_at t.lines b c k s ≡ true))) own some)
+    (subst (λ k. found ≡ false → (b : ℕ) (c : Cell) → is_present_at t.lines b c k s ≡ false) own none)
 
 -- How many lines are read.
 

@@ -16,6 +16,8 @@ use Rattle.centre_events.specs.declared.flight.Flight.{Flight}
 use Rattle.centre_events.specs.declared.refusal.Refusal.{Refusal}
 use Rattle.centre_events.specs.declared.refusal.Refusal.TheVariants.{StillReported, StillInFlight}
 use Rattle.centre_past.specs.Reach.{known_anywhere}
+use Rattle.coverage_plan.specs.declared.edit.Edit.{Edit}
+use Rattle.coverage_plan.specs.declared.edit.Edit.TheVariants as edit
 
 -- the serial number, where one of the versions has it
 abbrev pub had_by : List Version → Option ℕ → Option ℕ
@@ -48,3 +50,8 @@ IsFirst checks (Err refusal) = first_refusal checks ≡ Some refusal
 abbrev pub most_read : Past → Bool → ℕ
 most_read past true = length (known_anywhere past)
 most_read past false = 0
+
+-- the edit is an Update
+abbrev pub is_update : Edit → Bool
+is_update (edit.Update n content) = true
+is_update other = false
