@@ -36,3 +36,5 @@ pub mod AskLemmas
 pub mod ReadLemmas
 pub mod CopyLemmas
 pub mod EmptyLemmas
+pub mod NextLemmas
+pub mod UpdateLemmas

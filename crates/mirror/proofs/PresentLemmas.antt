@@ -1,5 +1,5 @@
 -- Whether a version may be on air, found by the lines of its warning.
-use Rattle.std.proofs.Common.{◌≡◌, ℕ, ◌≤◌, ◌<◌, ◌%◌, Bool, true, false, cond, ◌&&◌, ◌||◌, not, nat_eq, ltb, List, [], ◌∷◌, Option, Some, None, length, filter, map, if◌then◌else◌, refl, sym, ◌∙◌, ap, subst, arith, Less}
+use Rattle.std.proofs.Common.{◌≡◌, ℕ, ◌+◌, ◌≤◌, ◌<◌, ◌%◌, Bool, true, false, cond, ◌&&◌, ◌||◌, not, nat_eq, ltb, List, [], ◌∷◌, Some, None, length, filter, map, if◌then◌else◌, refl, sym, ◌∙◌, ap, arith, Less}
 use Rattle.std.proofs.lemmas.Bool.{and_from, and_parts, or_parts}
 use Rattle.std.proofs.lemmas.Bool.Decides.{nat_tests}
 use Rattle.std.proofs.lemmas.Grind.{common_steps}
@@ -19,7 +19,7 @@ use Rattle.mirror.proofs.IndexLemmas.{is_numbered, key_in, keys_few, own_ascend,
 use Rattle.mirror.proofs.TableLemmas.{Indexed, not_entered, own_full, own_kept}
 use Rattle.mirror.specs.Blank.{is_blank}
 use Rattle.mirror.specs.Index.{line_in}
-use Rattle.mirror.specs.Line.{blank, blank_line, state_of}
+use Rattle.mirror.specs.Line.{blank, blank_line}
 use Rattle.mirror.specs.Order.{Slot, first_of, warning_slot_cmp}
 use Rattle.mirror.specs.Present.{is_present_in}
 use Rattle.mirror.specs.Seen.{is_absent}
@@ -47,7 +47,7 @@ any_of {A} p q (x ∷ xs) = step (p x) (any_of p q xs)
 pub blank_absent : (s : ℕ) → is_present_in s blank_line ≡ false
 blank_absent s =
     let below : s % 16 < 16 = omega arith in
-    ap (λ k. not (is_absent k.presence)) (get_or-replicate 16 (s % 16) blank below)
+    ap (λ k. not (is_absent k.presence)) (get_or-replicate 16 (s % 16) blank blank below)
 
 own_slot : (s : Slot) (w : ℕ) → nat_eq w s.warning ≡ true → is_slot s.bsc s.cell w s ≡ true
 own_slot s w h =

@@ -1,4 +1,4 @@
-use Rattle.std.proofs.Common.{◌≡◌, ◌+◌, filter, ◌∙◌, ap}
+use Rattle.std.proofs.Common.{◌≡◌, ◌+◌, Bool, filter, ◌∙◌, ap}
 use Rattle.std.specs.BTreeMap.Range.{range_contains}
 use Rattle.std.specs.Map.{keys_of}
 use Rattle.std.specs.declared.ops.Bound.TheVariants.{Included, Excluded}

@@ -1,9 +1,8 @@
-use Rattle.std.proofs.Common.{◌≡◌, ◌≤◌, Bool, ◌&&◌, nat_eq, filter, length, sym, ◌∙◌, ap, arith}
-use Rattle.std.proofs.lemmas.Grind.{common_steps}
+use Rattle.std.proofs.Common.{◌≡◌, ◌&&◌, nat_eq, filter, length, sym, ◌∙◌, ap, arith}
 use Rattle.std.proofs.lemmas.List.{length-map}
 use Rattle.std.specs.List.{list_any}
 use Rattle.mirror.proofs.PresentLemmas.{any_of, none_present, own_few, present_found}
-use Rattle.mirror.specs.Lines.{line_of, lines_at}
+use Rattle.mirror.specs.Lines.{line_of}
 use Rattle.mirror.specs.Order.{Slot}
 use Rattle.mirror.specs.Present.{is_present_in}
 use Rattle.mirror.specs.declared.line.Line.{Line}
@@ -12,13 +11,13 @@ use Rattle.mirror.proofs.line_table.LineTable.is_present_anywhere.Goals as goal
 pub returns-clause-some : goal.returns-clause-some
 returns-clause-some c =
     let es = c.self.inside.lines in
-    let all : c.result ≡ list_any (λ e. nat_eq c.args.w e.0.warning && is_present_in c.args.serial e.1) es = c.is_present_among.ensures.which ∙ ap (list_any (λ (e : Slot × Line). is_present_in c.args.serial e.1)) c.slots_of-slots.ensures.of ∙ any_of (λ e. nat_eq c.args.w e.0.warning) (λ e. is_present_in c.args.serial e.1) es in
+    let all : c.is_present_among.result ≡ list_any (λ e. nat_eq c.args.w e.0.warning && is_present_in c.args.serial e.1) es = c.is_present_among.ensures.which ∙ ap (list_any (λ (e : Slot × Line). is_present_in c.args.serial e.1)) c.slots_of-slots.ensures.of ∙ any_of (λ e. nat_eq c.args.w e.0.warning) (λ e. is_present_in c.args.serial e.1) es in
     rw (← c.self.view_is) (λ h. present_found c.args.w c.args.serial es c.slots_of-slots.ensures.ordered (sym all ∙ h))
 
 pub returns-clause-none : goal.returns-clause-none
 returns-clause-none c =
     let es = c.self.inside.lines in
-    let all : c.result ≡ list_any (λ e. nat_eq c.args.w e.0.warning && is_present_in c.args.serial e.1) es = c.is_present_among.ensures.which ∙ ap (list_any (λ (e : Slot × Line). is_present_in c.args.serial e.1)) c.slots_of-slots.ensures.of ∙ any_of (λ e. nat_eq c.args.w e.0.warning) (λ e. is_present_in c.args.serial e.1) es in
+    let all : c.is_present_among.result ≡ list_any (λ e. nat_eq c.args.w e.0.warning && is_present_in c.args.serial e.1) es = c.is_present_among.ensures.which ∙ ap (list_any (λ (e : Slot × Line). is_present_in c.args.serial e.1)) c.slots_of-slots.ensures.of ∙ any_of (λ e. nat_eq c.args.w e.0.warning) (λ e. is_present_in c.args.serial e.1) es in
     rw (← c.self.view_is) (λ h. none_present c.args.w c.args.serial es (sym all ∙ h))
 
 pub returns-clause-most : goal.returns-clause-most
