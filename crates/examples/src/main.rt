@@ -33,7 +33,7 @@ const SCRIPTS: [&str; 10] = [
 const SCRIPTS_DRAWN: u64 = 300;
 
 /// Files of rows. A row may begin with one of an earlier file.
-const ROWS: [&str; 9] = [
+const ROWS: [&str; 10] = [
     "first-warning.rows",
     "bad-lines.rows",
     "changes.rows",
@@ -42,6 +42,7 @@ const ROWS: [&str; 9] = [
     "boards.rows",
     "queries.rows",
     "warnings.rows",
+    "wrapped-updates.rows",
     "alerts.rows",
 ];
 
