@@ -139,11 +139,17 @@ answer_in : (v : Result Answer Refusal) → IsOk v → (a : Answer) × (v ≡ Ok
 answer_in (Ok a) h = (a, refl)
 answer_in (Err x) h = cc
 
--- the lines of an edit that is accepted are told of and read within its reach
-pub reached_within : (settings : Settings) (journal : List Entry) (s : Kept) (e : Edit) (old new : ℕ) → IsOk (verdict settings (past_of journal) (event.Edit e)) → ((settings : Settings) (past : Past) (a : Answer) → Legal settings past → IsKept past s → edit_answered past e ≡ Ok a → new ≤ old + 2 * size (edit_reach past e)) → IsCentre settings journal false s → new ≤ old + 2 * size (edit_reach (past_of journal) e)
-reached_within settings journal s e old new given now centre =
+-- the lines of an edit that is looked at are read within its reach
+pub looked_within : (settings : Settings) (journal : List Entry) (e : Edit) (old new : ℕ) → new ≤ old + size (edit_reach (past_of journal) e) → new ≤ old + 3 * size (edit_reach (past_of journal) e)
+looked_within settings journal e old new looks = omega (arith, looks)
+
+-- where it is accepted they are told of and read, and after that those that it may change
+pub reached_within : (settings : Settings) (journal : List Entry) (s t : Kept) (e : Edit) (old mid new : ℕ) → IsOk (verdict settings (past_of journal) (event.Edit e)) → ((settings : Settings) (past : Past) (a : Answer) → Legal settings past → IsKept past t → edit_answered past e ≡ Ok a → new ≤ mid + 2 * size (edit_reach past e)) → IsCentre settings journal false s → OnlyReadsIn s t → mid ≤ old + size (edit_reach (past_of journal) e) → new ≤ old + 3 * size (edit_reach (past_of journal) e)
+reached_within settings journal s t e old mid new given now centre reads looks =
     let found = answer_in (verdict settings (past_of journal) (event.Edit e)) given in
-    now settings (past_of journal) found.0 centre.legal (centre.whole refl) (verdict_answered settings (past_of journal) (event.Edit e) found.0 found.1)
+    let kept : IsKept (past_of journal) t = reads_kept (past_of journal) s t (centre.whole refl) reads in
+    let bears : new ≤ mid + 2 * size (edit_reach (past_of journal) e) = now settings (past_of journal) found.0 centre.legal kept (verdict_answered settings (past_of journal) (event.Edit e) found.0 found.1) in
+    omega (arith, bears, looks)
 
 -- the lines of another event that is accepted: those that it looks at, and those on which it bears
 pub other_within : (settings : Settings) (journal : List Entry) (e : Event) (a : Answer) (old mid new : ℕ) → verdict settings (past_of journal) e ≡ Ok a → mid ≤ old + looked_at (past_of journal) e → new ≤ mid + 2 * size (reach_of (past_of journal) e a) → new ≤ old + 2 * reach (past_of journal) e (verdict settings (past_of journal) e)
@@ -194,10 +200,10 @@ held_counted past e a spots held was =
 pub within_four : (settings : Settings) (journal : List Entry) (e : Event) (old new : ℕ) → new ≤ old + 2 * reach (past_of journal) e (verdict settings (past_of journal) e) → new ≤ old + 4 * reach (past_of journal) e (verdict settings (past_of journal) e)
 within_four settings journal e old new h = omega (arith, h)
 
-pub edit_lines : (settings : Settings) (journal : List Entry) (e : Edit) (old new : ℕ) → new ≤ old + 2 * size (edit_reach (past_of journal) e) → new ≤ old + 4 * reach (past_of journal) (event.Edit e) (verdict settings (past_of journal) (event.Edit e))
+pub edit_lines : (settings : Settings) (journal : List Entry) (e : Edit) (old new : ℕ) → new ≤ old + 3 * size (edit_reach (past_of journal) e) → new ≤ old + 4 * reach (past_of journal) (event.Edit e) (verdict settings (past_of journal) (event.Edit e))
 edit_lines settings journal e old new h = omega (arith, h, edit_reach_is (past_of journal) e (verdict settings (past_of journal) (event.Edit e)))
 
-pub edit_lines_then : (settings : Settings) (journal : List Entry) (e : Edit) (a : Answer) (old mid new : ℕ) (spots : List Spot) (held : HeldLines) → mid ≤ old + 2 * size (edit_reach (past_of journal) e) → new ≤ mid + length (held_in held) → WasReached (past_of journal) (event.Edit e) a spots held → new ≤ old + 4 * reach (past_of journal) (event.Edit e) (verdict settings (past_of journal) (event.Edit e))
+pub edit_lines_then : (settings : Settings) (journal : List Entry) (e : Edit) (a : Answer) (old mid new : ℕ) (spots : List Spot) (held : HeldLines) → mid ≤ old + 3 * size (edit_reach (past_of journal) e) → new ≤ mid + length (held_in held) → WasReached (past_of journal) (event.Edit e) a spots held → new ≤ old + 4 * reach (past_of journal) (event.Edit e) (verdict settings (past_of journal) (event.Edit e))
 edit_lines_then settings journal e a old mid new spots held before now was =
     omega (arith, before, now, held_counted (past_of journal) (event.Edit e) a spots held was, edit_reach_is (past_of journal) e (verdict settings (past_of journal) (event.Edit e)))
 

@@ -36,10 +36,19 @@ fn make_room(journal: &mut Journal) -> Result<(), Refusal>
     Ok(())
 }
 
-/// Whether the edit is accepted after the entries of the journal, which holds so many at most.
-fn look_at_edit(limit: u32, journal: &Journal, kept: &Kept, edit: &Edit) -> Result<(), Refusal>
+/// Whether the edit is accepted after the entries of the journal, which holds so many at most. Lines are read for an Update
+/// alone.
+#[tactic(auto, using(centre_past::proofs::ReadLemmas::reads_none))]
+fn look_at_edit(
+    limit: u32,
+    journal: &Journal,
+    kept: &mut Kept,
+    edit: &Edit,
+) -> Result<(), Refusal>
     ensures few { OnOk result (length journal.now.entries < limit) }
-    ensures verdict { (network : List ℕ) → IsCentre (record { network = network; limit = limit }) journal.now.entries false kept.now → IsChecked (verdict (record { network = network; limit = limit }) (past_of journal.now.entries) (event.Edit edit.now)) result }
+    ensures verdict { (network : List ℕ) → IsCentre (record { network = network; limit = limit }) journal.now.entries false kept.old → IsChecked (verdict (record { network = network; limit = limit }) (past_of journal.now.entries) (event.Edit edit.now)) result }
+    ensures reads { OnlyReadsIn kept.old kept.new }
+    ensures meter { (network : List ℕ) → IsCentre (record { network = network; limit = limit }) journal.now.entries false kept.old → kept.new.tables.lines.meter ≤ kept.old.tables.lines.meter + size (edit_reach (past_of journal.now.entries) edit.now) }
 {
     if journal.len() >= u64::from(limit) {
         return Err(Refusal::JournalFull);
@@ -64,7 +73,7 @@ pub(crate) fn prepare_edit(
     ensures accepted { (network : List ℕ) → IsCentre (record { network = network; limit = limit }) journal.old.entries false kept.old → OnOk result (IsOk (verdict (record { network = network; limit = limit }) (past_of journal.old.entries) (event.Edit edit.now))) }
     ensures refusal { (network : List ℕ) → IsCentre (record { network = network; limit = limit }) journal.old.entries false kept.old → IfErr result (IsRefused (record { network = network; limit = limit }) journal.old.entries (event.Edit edit.now)) }
     ensures reached { (network : List ℕ) → IsCentre (record { network = network; limit = limit }) journal.old.entries false kept.old → (a : answer_spec.Answer) → verdict (record { network = network; limit = limit }) (past_of journal.old.entries) (event.Edit edit.now) ≡ Ok a → IfOk result (λ x. WasReached (past_of journal.old.entries) (event.Edit edit.now) a x.spots.items x.lines) }
-    ensures meter { (network : List ℕ) → IsCentre (record { network = network; limit = limit }) journal.old.entries false kept.old → kept.new.tables.lines.meter ≤ kept.old.tables.lines.meter + 2 * size (edit_reach (past_of journal.old.entries) edit.now) }
+    ensures meter { (network : List ℕ) → IsCentre (record { network = network; limit = limit }) journal.old.entries false kept.old → kept.new.tables.lines.meter ≤ kept.old.tables.lines.meter + 3 * size (edit_reach (past_of journal.old.entries) edit.now) }
 {
     look_at_edit(limit, journal, kept, edit)?;
     make_room(journal)?;

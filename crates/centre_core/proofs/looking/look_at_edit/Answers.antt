@@ -16,4 +16,9 @@ returns-clause-verdict c =
     λ network centre.
     let settings : Settings = record { network = network; limit = c.args.limit } in
     checked_there settings c.args.journal.now.entries (event.Edit c.args.edit.now) c.check_edit.result room
-    (c.check_edit.ensures settings (past_of c.args.journal.now.entries) centre.legal (centre.whole refl))
+    (c.check_edit.ensures.checked settings (past_of c.args.journal.now.entries) centre.legal (centre.whole refl))
+
+pub returns-clause-meter : goal.returns-clause-meter
+returns-clause-meter c =
+    λ network centre.
+    c.check_edit.ensures.meter (record { network = network; limit = c.args.limit }) (past_of c.args.journal.now.entries) centre.legal (centre.whole refl)
