@@ -1,6 +1,6 @@
 -- What a centre answers, and what always holds of it one entry further.
 use Rattle.std.proofs.Common.{◌≡◌, inl, inr, ℕ, ◌+◌, ◌-◌, ◌*◌, ◌^◌, ◌<◌, ◌≤◌, Bool, true, false, List, [], ◌∷◌, ◌++◌, Result, Ok, Err, length, refl, sym, ◌∙◌, ap, subst, arith, length-append}
-use Rattle.std.proofs.lemmas.List.{append_assoc, reverse-append, length-map}
+use Rattle.std.proofs.lemmas.List.{append_assoc, append-nil, reverse-append, length-map}
 use Rattle.std.specs.Prelude.{IsErrAnd, IfErr, IsOk, if◌then◌else◌}
 use Rattle.areas.specs.declared.area.Area.{Area}
 use Rattle.cell_register.specs.Register as register
@@ -17,6 +17,8 @@ use Rattle.centre_events.specs.Kept.{Gives, IsChecked, is_edit, register_then, a
 use Rattle.coverage_plan.specs.Edited.{register_after, areas_after, book_after}
 use Rattle.centre_past.specs.Legal.{Known, Legal, lasting, past}
 use Rattle.centre_events.specs.Base.{empty_base}
+use Rattle.centre_events.specs.Folding.{base_of}
+use Rattle.centre_events.proofs.FoldingLemmas.{past_whole}
 use Rattle.centre_events.specs.Past.{Past, After, past_of, position, since}
 use Rattle.centre_past.specs.Reach.{edit_reach, looked_at, size, reach, reach_of}
 use Rattle.centre_events.specs.Settings.{Settings}
@@ -274,6 +276,25 @@ kept_entered t new e past place up spots held x f =
 
 pub entry_accepted : (settings : Settings) (past : Past) (desk : ℕ) (e : Event) (a : Answer) (entry : Entry) → verdict settings past e ≡ Ok a → entry ≡ record { desk = desk; event = e; answer = a } → verdict settings past entry.event ≡ Ok entry.answer
 entry_accepted settings past desk e a entry accepted is = subst (λ (x : Entry). verdict settings past x.event ≡ Ok x.answer) (sym is) accepted
+
+-- Where entries are folded.
+
+-- what is kept of all entries becomes the base
+pub centre_folded : (settings : Settings) (xs ys folded now : List Entry) (stale : Bool) (b base s : Kept) → IsCentre settings xs ys stale b s → folded ≡ xs ++ ys → now ≡ [] → IsKept (past_of (xs ++ ys)) base → IsCentre settings folded now stale base s
+centre_folded settings xs ys folded now stale b base s sound all none kept =
+    subst (λ fs. IsCentre settings fs now stale base s) (sym all)
+    (subst (λ js. IsCentre settings (xs ++ ys) js stale base s) (sym none) (record {
+      few = sound.few;
+      long = omega arith;
+      legal = subst (λ zs. Legal (lasting settings.network) (past_of zs)) (sym (append-nil (xs ++ ys))) sound.legal;
+      base = kept;
+      whole = λ h. subst (λ zs. IsKept (past_of zs) s) (sym (append-nil (xs ++ ys))) (sound.whole h);
+    }))
+
+-- the past comes to the same base
+pub folded_same : (xs ys folded now : List Entry) → folded ≡ xs ++ ys → now ≡ [] → base_of (past_over folded now) ≡ base_of (past_over xs ys)
+folded_same xs ys folded now all none =
+    ap (λ fs. base_of (past_over fs now)) all ∙ ap (λ js. base_of (past_over (xs ++ ys) js)) none ∙ sym (past_whole xs ys)
 
 -- Where a refusal comes from.
 
