@@ -36,7 +36,7 @@ use Rattle.centre_events.specs.declared.refusal.Refusal.{Refusal}
 use Rattle.centre_events.specs.declared.refusal.Refusal.TheVariants.{Stale, Memory, WrongDesk}
 use Rattle.centre_past.specs.VerdictLaws.{verdict_is_no_stale, verdict_is_no_want, verdict_is_no_wrong_desk}
 use Rattle.centre_past.proofs.AreaLemmas.{areas_with}
-use Rattle.centre_core.proofs.FoldedLemmas.{answered_over, edit_reach_over, lasting_is, looked_over, reach_over, room_is}
+use Rattle.centre_core.proofs.FoldedLemmas.{answered_over, edit_size_over, lasting_is, reach_over, room_is}
 use Rattle.centre_events.proofs.PastLemmas.{position_journal}
 use Rattle.centre_past.proofs.ReadLemmas.{reads_kept}
 use Rattle.centre_past.proofs.RegisterLemmas.{register_with}
@@ -154,17 +154,14 @@ answer_in (Err x) h = cc
 pub reached_within : (settings : Settings) (xs ys : List Entry) (s : Kept) (e : Edit) (old new : ℕ) → IsOk (verdict settings (past_over xs ys) (event.Edit e)) → ((settings : Settings) (past : Past) (a : Answer) → Legal settings past → IsKept past s → edit_answered past e ≡ Ok a → new ≤ old + 2 * size (edit_reach past e)) → IsWhole settings.network xs ys s → new ≤ old + 2 * size (edit_reach (past_over xs ys) e)
 reached_within settings xs ys s e old new given now centre =
     let found = answer_in (verdict settings (past_over xs ys) (event.Edit e)) given in
-    subst (λ r. new ≤ old + 2 * size r) (sym (edit_reach_over xs ys e))
-    (now (lasting settings.network) (past_of (xs ++ ys)) found.0 centre.legal centre.kept (answered_all settings xs ys (event.Edit e) found.0 found.1))
-
--- those that an event looks at
-pub looked_within : (xs ys : List Entry) (e : Event) (old new : ℕ) → new ≤ old + looked_at (past_of (xs ++ ys)) e → new ≤ old + looked_at (past_over xs ys) e
-looked_within xs ys e old new h = subst (λ n. new ≤ old + n) (sym (looked_over xs ys e)) h
+    let read : new ≤ old + 2 * size (edit_reach (past_of (xs ++ ys)) e) = now (lasting settings.network) (past_of (xs ++ ys)) found.0 centre.legal centre.kept (answered_all settings xs ys (event.Edit e) found.0 found.1) in
+    omega (arith, read, edit_size_over xs ys e)
 
 -- the lines of another event that is accepted: those that it looks at, and those on which it bears
-pub other_within : (settings : Settings) (xs ys : List Entry) (e : Event) (a : Answer) (old mid new : ℕ) → verdict settings (past_over xs ys) e ≡ Ok a → mid ≤ old + looked_at (past_over xs ys) e → new ≤ mid + 2 * size (reach_of (past_of (xs ++ ys)) e a) → new ≤ old + 2 * reach (past_over xs ys) e (verdict settings (past_over xs ys) e)
+pub other_within : (settings : Settings) (xs ys : List Entry) (e : Event) (a : Answer) (old mid new : ℕ) → verdict settings (past_over xs ys) e ≡ Ok a → mid ≤ old + looked_at (past_of (xs ++ ys)) e → new ≤ mid + 2 * size (reach_of (past_of (xs ++ ys)) e a) → new ≤ old + 2 * reach (past_over xs ys) e (verdict settings (past_over xs ys) e)
 other_within settings xs ys e a old mid new is looks bears =
-    omega (arith, looks, bears, ap size (reach_over xs ys e a), ap (reach (past_over xs ys) e) is)
+    let all : reach (past_over xs ys) e (verdict settings (past_over xs ys) e) ≡ size (reach_of (past_of (xs ++ ys)) e a) + looked_at (past_of (xs ++ ys)) e = ap (reach (past_over xs ys) e) is ∙ reach_over xs ys e (Ok a) in
+    omega (arith, looks, bears, all)
 
 -- What a centre is, one event further.
 
@@ -226,11 +223,12 @@ edit_lines settings xs ys e old new h = omega (arith, h, edit_reach_is (past_ove
 
 pub edit_lines_then : (settings : Settings) (xs ys : List Entry) (e : Edit) (a : Answer) (old mid new : ℕ) (spots : List Spot) (held : HeldLines) → mid ≤ old + 2 * size (edit_reach (past_over xs ys) e) → new ≤ mid + length (held_in held) → WasReached (past_of (xs ++ ys)) (event.Edit e) a spots held → new ≤ old + 4 * reach (past_over xs ys) (event.Edit e) (verdict settings (past_over xs ys) (event.Edit e))
 edit_lines_then settings xs ys e a old mid new spots held before now was =
-    omega (arith, before, now, held_counted (past_of (xs ++ ys)) (event.Edit e) a spots held was, ap size (edit_reach_over xs ys e), edit_reach_is (past_over xs ys) e (verdict settings (past_over xs ys) (event.Edit e)))
+    omega (arith, before, now, held_counted (past_of (xs ++ ys)) (event.Edit e) a spots held was, edit_size_over xs ys e, edit_reach_is (past_over xs ys) e (verdict settings (past_over xs ys) (event.Edit e)))
 
 pub lines_then : (settings : Settings) (xs ys : List Entry) (e : Event) (a : Answer) (old mid new : ℕ) (spots : List Spot) (held : HeldLines) → verdict settings (past_over xs ys) e ≡ Ok a → mid ≤ old + 2 * reach (past_over xs ys) e (verdict settings (past_over xs ys) e) → new ≤ mid + length (held_in held) → WasReached (past_of (xs ++ ys)) e a spots held → new ≤ old + 4 * reach (past_over xs ys) e (verdict settings (past_over xs ys) e)
 lines_then settings xs ys e a old mid new spots held is before now was =
-    omega (arith, before, now, held_counted (past_of (xs ++ ys)) e a spots held was, ap size (reach_over xs ys e a), ap (reach (past_over xs ys) e) is)
+    let all : reach (past_over xs ys) e (verdict settings (past_over xs ys) e) ≡ size (reach_of (past_of (xs ++ ys)) e a) + looked_at (past_of (xs ++ ys)) e = ap (reach (past_over xs ys) e) is ∙ reach_over xs ys e (Ok a) in
+    omega (arith, before, now, held_counted (past_of (xs ++ ys)) e a spots held was, all)
 
 -- What is known where an event is entered.
 

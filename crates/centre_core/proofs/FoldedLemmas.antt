@@ -11,14 +11,16 @@ use Rattle.centre_events.specs.Settings.{Settings}
 use Rattle.centre_events.specs.Verdict.{answered, is_full, last_position, verdict}
 use Rattle.centre_events.specs.declared.answer.Answer.{Answer}
 use Rattle.centre_events.specs.declared.entry.Entry.{Entry}
+use Rattle.centre_events.specs.declared.answer.Answer.TheVariants.{Done}
 use Rattle.centre_events.specs.declared.event.Event.{Event}
+use Rattle.centre_events.specs.declared.event.Event.TheVariants as event
 use Rattle.centre_events.specs.declared.refusal.Refusal.{Refusal}
 use Rattle.centre_events.specs.declared.refusal.Refusal.TheVariants.{JournalFull}
 use Rattle.centre_events.proofs.FoldingLemmas.{alike, folded_then, past_joined, past_whole, since_onto}
 use Rattle.centre_events.proofs.PastLemmas.{count_journal, position_journal}
-use Rattle.centre_past.proofs.AlikeLemmas.{edit_reach_same, looked_at_same, reach_of_same, through}
+use Rattle.centre_past.proofs.AlikeLemmas.{says_the_same}
 use Rattle.centre_past.specs.Legal.{lasting}
-use Rattle.centre_past.specs.Reach.{edit_reach, looked_at, reach_of, size}
+use Rattle.centre_past.specs.Reach.{edit_reach, looked_at, reach, reach_of, size}
 use Rattle.centre_core.specs.Centre.{all_reach, past_over}
 
 -- How many entries there are.
@@ -84,20 +86,31 @@ lasting_is network xs ys e low =
 
 -- On how many lines an event bears.
 
-pub edit_reach_over : (xs ys : List Entry) (e : Edit) → edit_reach (past_over xs ys) e ≡ edit_reach (past_of (xs ++ ys)) e
-edit_reach_over xs ys e = through (λ past. edit_reach past e) (λ past. edit_reach_same past e) (past_over xs ys) (past_of (xs ++ ys)) (past_whole xs ys)
+reach_alike : (p q : Past) → base_of p ≡ base_of q → (e : Event) (r : Result Answer Refusal) → reach p e r ≡ reach q e r
+reach_alike p q same e r = (says_the_same p q same).reach e r
 
-pub reach_over : (xs ys : List Entry) (e : Event) (a : Answer) → reach_of (past_over xs ys) e a ≡ reach_of (past_of (xs ++ ys)) e a
-reach_over xs ys e a = through (λ past. reach_of past e a) (λ past. reach_of_same past e a) (past_over xs ys) (past_of (xs ++ ys)) (past_whole xs ys)
+pub reach_over : (xs ys : List Entry) (e : Event) (r : Result Answer Refusal) → reach (past_over xs ys) e r ≡ reach (past_of (xs ++ ys)) e r
+reach_over xs ys e r = reach_alike (past_over xs ys) (past_of (xs ++ ys)) (past_whole xs ys) e r
 
-pub looked_over : (xs ys : List Entry) (e : Event) → looked_at (past_over xs ys) e ≡ looked_at (past_of (xs ++ ys)) e
-looked_over xs ys e = through (λ past. looked_at past e) (λ past. looked_at_same past e) (past_over xs ys) (past_of (xs ++ ys)) (past_whole xs ys)
+looked_alike : (p q : Past) → base_of p ≡ base_of q → (e : Event) → looked_at p e ≡ looked_at q e
+looked_alike p q same (event.Ask b generation n after) =
+    let alike : reach p (event.Ask b generation n after) (Ok Done) ≡ reach q (event.Ask b generation n after) (Ok Done) = reach_alike p q same (event.Ask b generation n after) (Ok Done) in
+    omega (arith, alike)
+looked_alike p q same other = refl
+
+size_alike : (p q : Past) → base_of p ≡ base_of q → (e : Event) (a : Answer) → size (reach_of p e a) ≡ size (reach_of q e a)
+size_alike p q same e a =
+    let alike : size (reach_of p e a) + looked_at p e ≡ size (reach_of q e a) + looked_at q e = reach_alike p q same e (Ok a) in
+    omega (arith, alike, looked_alike p q same e)
+
+pub edit_size_over : (xs ys : List Entry) (e : Edit) → size (edit_reach (past_over xs ys) e) ≡ size (edit_reach (past_of (xs ++ ys)) e)
+edit_size_over xs ys e = size_alike (past_over xs ys) (past_of (xs ++ ys)) (past_whole xs ys) (event.Edit e) Done
 
 -- those of the journal and those of the folded entries are all
 reach_onto : (es : List Entry) (past : Past) → all_reach (onto es (folded past)) + all_reach past ≡ all_reach (onto es past)
 reach_onto [] past = omega arith
 reach_onto (e ∷ es) past =
-    let here : size (reach_of (onto es (folded past)) e.event e.answer) ≡ size (reach_of (onto es past) e.event e.answer) = ap size (through (λ p. reach_of p e.event e.answer) (λ p. reach_of_same p e.event e.answer) (onto es (folded past)) (onto es past) (folded_then es past)) in
+    let here : size (reach_of (onto es (folded past)) e.event e.answer) ≡ size (reach_of (onto es past) e.event e.answer) = size_alike (onto es (folded past)) (onto es past) (folded_then es past) e.event e.answer in
     omega (arith, here, reach_onto es past)
 
 pub all_reach_over : (xs ys : List Entry) → all_reach (past_over xs ys) + all_reach (past_of xs) ≡ all_reach (past_of (xs ++ ys))

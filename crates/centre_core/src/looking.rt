@@ -92,7 +92,7 @@ fn look_at_other(
     ensures number { OnOk result (length journal.now.folded + length journal.now.entries < 2 ^ 64 - 1) }
     ensures verdict { IsWhole network journal.now.folded journal.now.entries kept.old → Gives (verdict (record { network = network; limit = limit }) (past_over journal.now.folded journal.now.entries) event.now) result }
     ensures reads { OnlyReadsIn kept.old kept.new }
-    ensures meter { IsWhole network journal.now.folded journal.now.entries kept.old → kept.new.tables.lines.meter ≤ kept.old.tables.lines.meter + looked_at (past_over journal.now.folded journal.now.entries) event.now }
+    ensures meter { IsWhole network journal.now.folded journal.now.entries kept.old → kept.new.tables.lines.meter ≤ kept.old.tables.lines.meter + looked_at (past_of (journal.now.folded ++ journal.now.entries)) event.now }
 {
     tell_lines(kept.tables.lines());
     tell_known();

@@ -49,7 +49,7 @@ flight_reach_same : (past : Past) (b : ℕ) (f : Option InFlight) → flight_rea
 flight_reach_same past b None = refl
 flight_reach_same past b (Some f) = refl
 
-pub edit_reach_same : (past : Past) (e : Edit) → edit_reach (folded past) e ≡ edit_reach past e
+edit_reach_same : (past : Past) (e : Edit) → edit_reach (folded past) e ≡ edit_reach past e
 edit_reach_same past (edit.RemoveBsc b) = refl
 edit_reach_same past (edit.AddCell c b) = refl
 edit_reach_same past (edit.MoveCell c b) = refl
@@ -69,7 +69,7 @@ report_reach_same past b (answer.Replied replies) = flight_reach_same past b (in
 report_reach_same past b (answer.Listed listed) = refl
 report_reach_same past b other = refl
 
-pub reach_of_same : (past : Past) (e : Event) (a : Answer) → reach_of (folded past) e a ≡ reach_of past e a
+reach_of_same : (past : Past) (e : Event) (a : Answer) → reach_of (folded past) e a ≡ reach_of past e a
 reach_of_same past (event.Edit e) a = edit_reach_same past e
 reach_of_same past (event.Retry b) a = refl
 reach_of_same past (event.LinkUp b) a = flight_reach_same past b (in_flight past b)
@@ -78,7 +78,7 @@ reach_of_same past (event.Send b generation) a = refl
 reach_of_same past (event.Ask b generation n after) a = refl
 reach_of_same past (event.Report b generation m) a = report_reach_same past b a
 
-pub looked_at_same : (past : Past) (e : Event) → looked_at (folded past) e ≡ looked_at past e
+looked_at_same : (past : Past) (e : Event) → looked_at (folded past) e ≡ looked_at past e
 looked_at_same past (event.Ask b generation n after) = refl
 looked_at_same past other = refl
 
@@ -87,7 +87,7 @@ reach_same past e (Ok a) = ap (λ x. size x + looked_at (folded past) e) (reach_
 reach_same past e (Err refusal) = ap (λ x. size x + looked_at (folded past) e) (reach_of_same past e answer.Done) ∙ ap (λ n. size (reach_of past e answer.Done) + n) (looked_at_same past e)
 
 -- what is the same after the base of every past is the same after two pasts of one base
-pub through : {A : Type 0} (f : Past → A) → ((past : Past) → f (folded past) ≡ f past) → (p q : Past) → base_of p ≡ base_of q → f p ≡ f q
+through : {A : Type 0} (f : Past → A) → ((past : Past) → f (folded past) ≡ f past) → (p q : Past) → base_of p ≡ base_of q → f p ≡ f q
 through f each p q same = sym (each p) ∙ ap (λ (x : Base). f (From x)) same ∙ each q
 
 pub says_the_same : (p q : Past) → base_of p ≡ base_of q → SaysTheSame p q

@@ -1,5 +1,5 @@
 use Rattle.std.proofs.Common.{◌≡◌, ◌+◌, ◌∙◌, ◌++◌, ap, false, inr, length, refl, rules, subst, sym, true}
-use Rattle.centre_core.proofs.CentreLemmas.{given_there, looked_within, next_place}
+use Rattle.centre_core.proofs.CentreLemmas.{given_there, next_place}
 use Rattle.centre_core.proofs.FoldedLemmas.{anyway, few_of, full, number_of}
 use Rattle.centre_answers.proofs.QuestionLemmas.{pending_list}
 use Rattle.centre_events.specs.Past.{past_of}
@@ -35,6 +35,5 @@ returns-clause-verdict c =
 
 pub returns-clause-meter : goal.returns-clause-meter
 returns-clause-meter c =
-    λ centre. looked_within c.args.journal.now.folded c.args.journal.now.entries c.args.event.now c.args.kept.now.tables.lines.meter c.answer.new.kept.tables.lines.meter
-    (c.answer.ensures.meter (lasting c.args.network) (past_of (c.args.journal.now.folded ++ c.args.journal.now.entries)) centre.legal
-    (c.tell_known.ensures (lasting c.args.network) (past_of (c.args.journal.now.folded ++ c.args.journal.now.entries)) c.args.kept.now centre.legal centre.kept (subst TellsLines c.lines.ensures c.tell_lines.ensures)))
+    λ centre. c.answer.ensures.meter (lasting c.args.network) (past_of (c.args.journal.now.folded ++ c.args.journal.now.entries)) centre.legal
+    (c.tell_known.ensures (lasting c.args.network) (past_of (c.args.journal.now.folded ++ c.args.journal.now.entries)) c.args.kept.now centre.legal centre.kept (subst TellsLines c.lines.ensures c.tell_lines.ensures))
