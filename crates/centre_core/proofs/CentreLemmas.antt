@@ -150,12 +150,17 @@ answer_in : (v : Result Answer Refusal) → IsOk v → (a : Answer) × (v ≡ Ok
 answer_in (Ok a) h = (a, refl)
 answer_in (Err x) h = cc
 
--- the lines of an edit that is accepted are told of and read within its reach
-pub reached_within : (settings : Settings) (xs ys : List Entry) (s : Kept) (e : Edit) (old new : ℕ) → IsOk (verdict settings (past_over xs ys) (event.Edit e)) → ((settings : Settings) (past : Past) (a : Answer) → Legal settings past → IsKept past s → edit_answered past e ≡ Ok a → new ≤ old + 2 * size (edit_reach past e)) → IsWhole settings.network xs ys s → new ≤ old + 2 * size (edit_reach (past_over xs ys) e)
-reached_within settings xs ys s e old new given now centre =
+-- the lines of an edit that is looked at are read within its reach
+pub looked_within : (xs ys : List Entry) (e : Edit) (old new : ℕ) → new ≤ old + size (edit_reach (past_of (xs ++ ys)) e) → new ≤ old + 3 * size (edit_reach (past_over xs ys) e)
+looked_within xs ys e old new looks = omega (arith, looks, edit_size_over xs ys e)
+
+-- where it is accepted they are told of and read, and after that those that it may change
+pub reached_within : (settings : Settings) (xs ys : List Entry) (s t : Kept) (e : Edit) (old mid new : ℕ) → IsOk (verdict settings (past_over xs ys) (event.Edit e)) → ((settings : Settings) (past : Past) (a : Answer) → Legal settings past → IsKept past t → edit_answered past e ≡ Ok a → new ≤ mid + 2 * size (edit_reach past e)) → IsWhole settings.network xs ys s → OnlyReadsIn s t → mid ≤ old + size (edit_reach (past_of (xs ++ ys)) e) → new ≤ old + 3 * size (edit_reach (past_over xs ys) e)
+reached_within settings xs ys s t e old mid new given now centre reads looks =
     let found = answer_in (verdict settings (past_over xs ys) (event.Edit e)) given in
-    let read : new ≤ old + 2 * size (edit_reach (past_of (xs ++ ys)) e) = now (lasting settings.network) (past_of (xs ++ ys)) found.0 centre.legal centre.kept (answered_all settings xs ys (event.Edit e) found.0 found.1) in
-    omega (arith, read, edit_size_over xs ys e)
+    let kept : IsKept (past_of (xs ++ ys)) t = reads_kept (past_of (xs ++ ys)) s t centre.kept reads in
+    let bears : new ≤ mid + 2 * size (edit_reach (past_of (xs ++ ys)) e) = now (lasting settings.network) (past_of (xs ++ ys)) found.0 centre.legal kept (answered_all settings xs ys (event.Edit e) found.0 found.1) in
+    omega (arith, bears, looks, edit_size_over xs ys e)
 
 -- the lines of another event that is accepted: those that it looks at, and those on which it bears
 pub other_within : (settings : Settings) (xs ys : List Entry) (e : Event) (a : Answer) (old mid new : ℕ) → verdict settings (past_over xs ys) e ≡ Ok a → mid ≤ old + looked_at (past_of (xs ++ ys)) e → new ≤ mid + 2 * size (reach_of (past_of (xs ++ ys)) e a) → new ≤ old + 2 * reach (past_over xs ys) e (verdict settings (past_over xs ys) e)
@@ -218,10 +223,10 @@ held_counted past e a spots held was =
 pub within_four : (settings : Settings) (xs ys : List Entry) (e : Event) (old new : ℕ) → new ≤ old + 2 * reach (past_over xs ys) e (verdict settings (past_over xs ys) e) → new ≤ old + 4 * reach (past_over xs ys) e (verdict settings (past_over xs ys) e)
 within_four settings xs ys e old new h = omega (arith, h)
 
-pub edit_lines : (settings : Settings) (xs ys : List Entry) (e : Edit) (old new : ℕ) → new ≤ old + 2 * size (edit_reach (past_over xs ys) e) → new ≤ old + 4 * reach (past_over xs ys) (event.Edit e) (verdict settings (past_over xs ys) (event.Edit e))
+pub edit_lines : (settings : Settings) (xs ys : List Entry) (e : Edit) (old new : ℕ) → new ≤ old + 3 * size (edit_reach (past_over xs ys) e) → new ≤ old + 4 * reach (past_over xs ys) (event.Edit e) (verdict settings (past_over xs ys) (event.Edit e))
 edit_lines settings xs ys e old new h = omega (arith, h, edit_reach_is (past_over xs ys) e (verdict settings (past_over xs ys) (event.Edit e)))
 
-pub edit_lines_then : (settings : Settings) (xs ys : List Entry) (e : Edit) (a : Answer) (old mid new : ℕ) (spots : List Spot) (held : HeldLines) → mid ≤ old + 2 * size (edit_reach (past_over xs ys) e) → new ≤ mid + length (held_in held) → WasReached (past_of (xs ++ ys)) (event.Edit e) a spots held → new ≤ old + 4 * reach (past_over xs ys) (event.Edit e) (verdict settings (past_over xs ys) (event.Edit e))
+pub edit_lines_then : (settings : Settings) (xs ys : List Entry) (e : Edit) (a : Answer) (old mid new : ℕ) (spots : List Spot) (held : HeldLines) → mid ≤ old + 3 * size (edit_reach (past_over xs ys) e) → new ≤ mid + length (held_in held) → WasReached (past_of (xs ++ ys)) (event.Edit e) a spots held → new ≤ old + 4 * reach (past_over xs ys) (event.Edit e) (verdict settings (past_over xs ys) (event.Edit e))
 edit_lines_then settings xs ys e a old mid new spots held before now was =
     omega (arith, before, now, held_counted (past_of (xs ++ ys)) (event.Edit e) a spots held was, edit_size_over xs ys e, edit_reach_is (past_over xs ys) e (verdict settings (past_over xs ys) (event.Edit e)))
 

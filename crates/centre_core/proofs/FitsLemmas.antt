@@ -146,7 +146,7 @@ of_issue P plain n None = tt
 of_issue P plain n (Some s) = plain.issued n s
 
 of_update : (P : Answer → Type 0) → OfPlain P → (o : Option ℕ) → IfOk (update_answer o) P
-of_update P plain None = tt
+of_update P plain None = plain.done
 of_update P plain (Some s) = plain.updated s
 
 of_reply : (P : Answer → Type 0) → OfPlain P → (network : List ℕ) (reply : Message) (o : Option InFlight) → IfOk (reply_answer network reply o) P

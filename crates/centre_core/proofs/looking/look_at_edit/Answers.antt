@@ -28,4 +28,9 @@ returns-clause-verdict c =
     λ network centre.
     checked_there (record { network = network; limit = c.args.limit }) c.args.journal.now.folded c.args.journal.now.entries (event.Edit c.args.edit.now) c.check_edit.result
     (few_of c.args.limit (length c.args.journal.now.entries) (length c.args.journal.now.folded + length c.args.journal.now.entries) is) (number_of c.args.limit (length c.args.journal.now.entries) (length c.args.journal.now.folded + length c.args.journal.now.entries) is)
-    (c.check_edit.ensures (lasting network) (past_of (c.args.journal.now.folded ++ c.args.journal.now.entries)) centre.legal centre.kept)
+    (c.check_edit.ensures.checked (lasting network) (past_of (c.args.journal.now.folded ++ c.args.journal.now.entries)) centre.legal centre.kept)
+
+pub returns-clause-meter : goal.returns-clause-meter
+returns-clause-meter c =
+    λ network centre.
+    c.check_edit.ensures.meter (lasting network) (past_of (c.args.journal.now.folded ++ c.args.journal.now.entries)) centre.legal centre.kept

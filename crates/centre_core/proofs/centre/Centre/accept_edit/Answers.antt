@@ -40,7 +40,7 @@ pub returns-in_err-answer-clause-lines : goal.returns-in_err-answer-clause-lines
 returns-in_err-answer-clause-lines c =
     let whole : c.self.inside.stale ≡ false = ap (λ (v : CentreState). v.known.stale) c.self.view_is ∙ c.requires.whole in
     let centre : IsWhole c.self.inside.plmn c.self.inside.journal.folded c.self.inside.journal.entries c.self.inside.kept = whole_centre (record { network = c.self.inside.plmn; limit = c.self.inside.limit }) c.self.inside.journal.folded c.self.inside.journal.entries c.self.inside.stale c.self.inside.base c.self.inside.kept whole c.self.invariant in
-    rw (← c.self.view_is) (edit_lines (record { network = c.self.inside.plmn; limit = c.self.inside.limit }) c.self.inside.journal.folded c.self.inside.journal.entries c.args.edit c.self.inside.kept.tables.lines.meter c.make.new.kept.tables.lines.meter (subst (λ (k : Kept). k.tables.lines.meter ≤ c.self.inside.kept.tables.lines.meter + 2 * size (edit_reach (past_over c.self.inside.journal.folded c.self.inside.journal.entries) c.args.edit)) (sym c.in_err-answer.ensures.unchanged) (c.prepare_edit.ensures.meter c.self.inside.plmn centre)))
+    rw (← c.self.view_is) (edit_lines (record { network = c.self.inside.plmn; limit = c.self.inside.limit }) c.self.inside.journal.folded c.self.inside.journal.entries c.args.edit c.self.inside.kept.tables.lines.meter c.make.new.kept.tables.lines.meter (subst (λ (k : Kept). k.tables.lines.meter ≤ c.self.inside.kept.tables.lines.meter + 3 * size (edit_reach (past_over c.self.inside.journal.folded c.self.inside.journal.entries) c.args.edit)) (sym c.in_err-answer.ensures.unchanged) (c.prepare_edit.ensures.meter c.self.inside.plmn centre)))
 
 pub enter-requires-clause-finishes : goal.enter-requires-clause-finishes
 enter-requires-clause-finishes c =
@@ -60,7 +60,7 @@ returns-in_err-enter-clause-lines c =
     let whole : c.self.inside.stale ≡ false = ap (λ (v : CentreState). v.known.stale) c.self.view_is ∙ c.requires.whole in
     let centre : IsWhole c.self.inside.plmn c.self.inside.journal.folded c.self.inside.journal.entries c.self.inside.kept = whole_centre (record { network = c.self.inside.plmn; limit = c.self.inside.limit }) c.self.inside.journal.folded c.self.inside.journal.entries c.self.inside.stale c.self.inside.base c.self.inside.kept whole c.self.invariant in
     rw (← c.self.view_is) (edit_lines_then (record { network = c.self.inside.plmn; limit = c.self.inside.limit }) c.self.inside.journal.folded c.self.inside.journal.entries c.args.edit c.in_ok-answer.answer c.self.inside.kept.tables.lines.meter c.make.new.kept.tables.lines.meter c.enter.new.kept.tables.lines.meter c.in_ok-reached.reached.spots.items c.in_ok-reached.reached.lines
-    (subst (λ n. n ≤ c.self.inside.kept.tables.lines.meter + 2 * size (edit_reach (past_over c.self.inside.journal.folded c.self.inside.journal.entries) c.args.edit)) (sym (ap (λ (k : Kept). k.tables.lines.meter) c.in_ok-answer.ensures.made)) (c.prepare_edit.ensures.meter c.self.inside.plmn centre))
+    (subst (λ n. n ≤ c.self.inside.kept.tables.lines.meter + 3 * size (edit_reach (past_over c.self.inside.journal.folded c.self.inside.journal.entries) c.args.edit)) (sym (ap (λ (k : Kept). k.tables.lines.meter) c.in_ok-answer.ensures.made)) (c.prepare_edit.ensures.meter c.self.inside.plmn centre))
     c.enter.ensures.meter (c.in_ok-reached.ensures.reached c.self.inside.plmn centre c.in_ok-answer.answer (made_is (record { network = c.self.inside.plmn; limit = c.self.inside.limit }) c.self.inside.journal.folded c.self.inside.journal.entries c.args.edit c.in_ok-answer.answer c.in_ok-reached.ensures.few c.in_ok-reached.ensures.number (c.in_ok-answer.ensures.verdict (past_of (c.self.inside.journal.folded ++ c.self.inside.journal.entries)) (reads_kept (past_of (c.self.inside.journal.folded ++ c.self.inside.journal.entries)) c.self.inside.kept c.prepare_edit.new.kept (c.self.invariant.whole whole) c.prepare_edit.ensures.reads) (may_be_made (record { network = c.self.inside.plmn; limit = c.self.inside.limit }) c.self.inside.journal.folded c.self.inside.journal.entries c.args.edit c.in_ok-reached.ensures.few c.in_ok-reached.ensures.number (c.in_ok-reached.ensures.accepted c.self.inside.plmn centre))))))
 
 pub invariant_of-self-in_err-enter : goal.invariant_of-self-in_err-enter
@@ -93,5 +93,5 @@ returns-clause-lines c =
     let whole : c.self.inside.stale ≡ false = ap (λ (v : CentreState). v.known.stale) c.self.view_is ∙ c.requires.whole in
     let centre : IsWhole c.self.inside.plmn c.self.inside.journal.folded c.self.inside.journal.entries c.self.inside.kept = whole_centre (record { network = c.self.inside.plmn; limit = c.self.inside.limit }) c.self.inside.journal.folded c.self.inside.journal.entries c.self.inside.stale c.self.inside.base c.self.inside.kept whole c.self.invariant in
     rw (← c.self.view_is) (edit_lines_then (record { network = c.self.inside.plmn; limit = c.self.inside.limit }) c.self.inside.journal.folded c.self.inside.journal.entries c.args.edit c.in_ok-answer.answer c.self.inside.kept.tables.lines.meter c.make.new.kept.tables.lines.meter c.enter.new.kept.tables.lines.meter c.in_ok-reached.reached.spots.items c.in_ok-reached.reached.lines
-    (subst (λ n. n ≤ c.self.inside.kept.tables.lines.meter + 2 * size (edit_reach (past_over c.self.inside.journal.folded c.self.inside.journal.entries) c.args.edit)) (sym (ap (λ (k : Kept). k.tables.lines.meter) c.in_ok-answer.ensures.made)) (c.prepare_edit.ensures.meter c.self.inside.plmn centre))
+    (subst (λ n. n ≤ c.self.inside.kept.tables.lines.meter + 3 * size (edit_reach (past_over c.self.inside.journal.folded c.self.inside.journal.entries) c.args.edit)) (sym (ap (λ (k : Kept). k.tables.lines.meter) c.in_ok-answer.ensures.made)) (c.prepare_edit.ensures.meter c.self.inside.plmn centre))
     c.enter.ensures.meter (c.in_ok-reached.ensures.reached c.self.inside.plmn centre c.in_ok-answer.answer (made_is (record { network = c.self.inside.plmn; limit = c.self.inside.limit }) c.self.inside.journal.folded c.self.inside.journal.entries c.args.edit c.in_ok-answer.answer c.in_ok-reached.ensures.few c.in_ok-reached.ensures.number (c.in_ok-answer.ensures.verdict (past_of (c.self.inside.journal.folded ++ c.self.inside.journal.entries)) (reads_kept (past_of (c.self.inside.journal.folded ++ c.self.inside.journal.entries)) c.self.inside.kept c.prepare_edit.new.kept (c.self.invariant.whole whole) c.prepare_edit.ensures.reads) (may_be_made (record { network = c.self.inside.plmn; limit = c.self.inside.limit }) c.self.inside.journal.folded c.self.inside.journal.entries c.args.edit c.in_ok-reached.ensures.few c.in_ok-reached.ensures.number (c.in_ok-reached.ensures.accepted c.self.inside.plmn centre))))))
