@@ -40,12 +40,7 @@ fn make_room(journal: &mut Journal) -> Result<(), Refusal>
 /// Whether the edit is accepted after the entries of the journal, which holds so many at most. Lines are read for an Update
 /// alone.
 #[tactic(auto, using(centre_past::proofs::ReadLemmas::reads_none))]
-fn look_at_edit(
-    limit: u32,
-    journal: &Journal,
-    kept: &mut Kept,
-    edit: &Edit,
-) -> Result<(), Refusal>
+fn look_at_edit(limit: u32, journal: &Journal, kept: &mut Kept, edit: &Edit) -> Result<(), Refusal>
     ensures few { OnOk result (length journal.now.entries < limit) }
     ensures number { OnOk result (length journal.now.folded + length journal.now.entries < 2 ^ 64 - 1) }
     ensures verdict { (network : List ℕ) → IsWhole network journal.now.folded journal.now.entries kept.old → IsChecked (verdict (record { network = network; limit = limit }) (past_over journal.now.folded journal.now.entries) (event.Edit edit.now)) result }
