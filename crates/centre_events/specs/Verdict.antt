@@ -298,6 +298,14 @@ answered network past (event.Send b generation) = send past b generation
 answered network past (event.Ask b generation n after) = ask past b generation n after
 answered network past (event.Report b generation message) = report network past b generation message
 
+-- the last position that an entry may have: 2 ^ 64 - 1
+abbrev pub last_position : ℕ
+last_position = 18446744073709551615
+
+-- the journal has as many entries as it may, or an entry has the last position
+abbrev pub is_full : Settings → Past → Bool
+is_full settings past = nat_le settings.limit (entry_count past) || nat_le last_position (position past)
+
 -- what an event is answered after that past
 abbrev pub verdict : Settings → Past → Event → Result Answer Refusal
-verdict settings past e = if nat_le settings.limit (entry_count past) then Err refusal.JournalFull else answered settings.network past e
+verdict settings past e = if is_full settings past then Err refusal.JournalFull else answered settings.network past e
