@@ -1,5 +1,5 @@
 -- A past comes to the same base however many of its entries were folded, and answers the same.
-use Rattle.std.proofs.Common.{◌≡◌, ℕ, Bool, List, [], ◌∷◌, ◌++◌, Option, Some, None, reverse, refl, ap, sym, ◌∙◌, subst}
+use Rattle.std.proofs.Common.{◌≡◌, ℕ, List, [], ◌∷◌, ◌++◌, Option, Some, None, reverse, refl, ap, sym, ◌∙◌}
 use Rattle.std.proofs.lemmas.List.{reverse-append}
 use Rattle.common.specs.declared.cell.Cell.{Cell}
 use Rattle.cbsp_messages.specs.declared.message.Message.{Message}
@@ -9,8 +9,6 @@ use Rattle.coverage_plan.specs.declared.edit.Edit.TheVariants as edit
 use Rattle.order_maker.specs.Grouping.{first}
 use Rattle.order_maker.specs.declared.order.Order.{Order}
 use Rattle.warning_book.specs.Book.{current_of, kind_of, warning_of}
-use Rattle.warning_book.specs.declared.kind.Kind.{Kind}
-use Rattle.warning_book.specs.declared.kind.Kind.TheVariants as kind
 use Rattle.warning_book.specs.declared.warning.Warning.{Warning}
 use Rattle.centre_events.specs.Asking.{query_of_kind, version_query, warning_query}
 use Rattle.centre_events.specs.Base.{Base, empty_base}

@@ -1,11 +1,9 @@
 -- Entries that are folded away: what they come to is a base, and the past goes on from there. A past comes to the same
 -- base however many of its entries were folded, and says the same.
-use Rattle.std.specs.Prelude.{◌≡◌, ℕ, Bool, List, [], ◌∷◌, Option}
+use Rattle.std.specs.Prelude.{◌≡◌, ℕ, List, [], ◌∷◌}
 use Rattle.areas.specs.declared.selector.Selector.{Selector}
-use Rattle.cbsp_ie.specs.declared.cause.Cause.{Cause}
 use Rattle.common.specs.declared.cell.Cell.{Cell}
 use Rattle.warning_book.specs.declared.kind.Kind.{Kind}
-use Rattle.mirror.specs.declared.presence.Presence.{Presence}
 use Rattle.centre_events.specs.Base.{Base}
 use Rattle.centre_events.specs.Counts.{count}
 use Rattle.centre_events.specs.Cover.{areas, has_selector, is_area, selectors}

@@ -1,6 +1,6 @@
 -- Why an event is refused: every cause that it is refused for, each with its refusal, in the order of their numbers. Of the
 -- causes that hold, the refusal of the least number is the verdict. What the plan refuses the centre refuses so too.
-use Rattle.std.specs.Prelude.{◌≡◌, ◌↔◌, ℕ, Bool, true, false, ◌&&◌, ◌||◌, not, List, [], ◌∷◌, ◌++◌, Option, Some, None, Err, IsOk, nat_eq, nat_le, ltb}
+use Rattle.std.specs.Prelude.{◌≡◌, ◌↔◌, ℕ, Bool, true, false, ◌&&◌, ◌||◌, not, List, [], ◌∷◌, ◌++◌, Option, Some, None, Err, IsOk, nat_eq, ltb}
 use Rattle.std.specs.List.{list_all}
 use Rattle.common.specs.Checks.{first_refusal}
 use Rattle.common.specs.Order.{is_ascending}
@@ -19,12 +19,12 @@ use Rattle.warning_book.specs.declared.warning.Warning.{Warning}
 use Rattle.centre_events.specs.Asking.{asked_cells}
 use Rattle.centre_events.specs.Kept.{IsRegisterOf, AreAreasOf}
 use Rattle.centre_events.specs.Links.{is_up}
-use Rattle.centre_events.specs.Past.{Past, entry_count}
+use Rattle.centre_events.specs.Past.{Past}
 use Rattle.centre_events.specs.Pending.{pending}
 use Rattle.centre_events.specs.Refusals.{refusal_number}
 use Rattle.centre_events.specs.Reported.{is_reported, is_in_flight}
 use Rattle.centre_events.specs.Settings.{Settings}
-use Rattle.centre_events.specs.Verdict.{verdict, add_bsc_checks, remove_bsc_checks, add_cell_checks, move_cell_checks, remove_cell_checks, add_area_checks, drop_area_checks, put_checks, cut_checks, issue_checks, update_checks, widen_checks, narrow_checks, stop_checks, forget_checks, retry_checks, link_up_checks, link_checks, send_checks, ask_checks, report_checks}
+use Rattle.centre_events.specs.Verdict.{verdict, is_full, add_bsc_checks, remove_bsc_checks, add_cell_checks, move_cell_checks, remove_cell_checks, add_area_checks, drop_area_checks, put_checks, cut_checks, issue_checks, update_checks, widen_checks, narrow_checks, stop_checks, forget_checks, retry_checks, link_up_checks, link_checks, send_checks, ask_checks, report_checks}
 use Rattle.centre_events.specs.Warnings.{book_of}
 use Rattle.centre_events.specs.declared.event.Event.{Event}
 use Rattle.centre_events.specs.declared.event.Event.TheVariants as event
@@ -111,7 +111,7 @@ event_causes past (event.Report b generation message) = report_checks past b gen
 
 -- why an event is refused: the journal is full, or one of these
 abbrev pub causes_of : Settings → Past → Event → List (Bool × Refusal)
-causes_of settings past e = (nat_le settings.limit (entry_count past), refusal.JournalFull) ∷ event_causes past e
+causes_of settings past e = (is_full settings past, refusal.JournalFull) ∷ event_causes past e
 
 -- What holds of them.
 
@@ -182,4 +182,4 @@ pub record IsPlanOf (past : Past) (st : State) : Type 0 where
 -- a centre whose journal has room
 pub record RefusesAsPlan (past : Past) (st : State) : Type 0 where
   pub causes : (e : Edit) → edit_causes past e ≡ translated of_plan (edit_checks st e) ++ own_causes past e
-  pub refused : (settings : Settings) (e : Edit) (r : plan.Refusal) → nat_le settings.limit (entry_count past) ≡ false → first_refusal (edit_checks st e) ≡ Some r → verdict settings past (event.Edit e) ≡ Err (of_plan r)
+  pub refused : (settings : Settings) (e : Edit) (r : plan.Refusal) → is_full settings past ≡ false → first_refusal (edit_checks st e) ≡ Some r → verdict settings past (event.Edit e) ≡ Err (of_plan r)

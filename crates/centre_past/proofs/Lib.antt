@@ -11,6 +11,8 @@ pub mod UniqueLemmas
 pub mod CountLemmas
 pub mod KindLemmas
 pub mod KnownLemmas
+pub mod LawfulLemmas
+pub mod AlikeLemmas
 pub mod HeadlineLemmas
 pub mod RegisterLemmas
 pub mod AreaLemmas

@@ -58,7 +58,11 @@ past centre = since (base_of (past_of centre.folded)) (reverse centre.journal)
 abbrev pub all_entries : Known → List Entry
 all_entries centre = centre.folded ++ centre.journal
 
--- what a centre is called for: an event that a desk submits, or a checkpoint, which folds every entry
+-- what is known after a checkpoint, which folds every entry
+abbrev pub checkpointed : Known → Known
+checkpointed centre = record centre { folded = all_entries centre; journal = [] }
+
+-- what a centre is called for: an event that a desk submits, or a checkpoint
 pub data Call : Type 0 where
   Submit : ℕ → Event → Call
   Checkpoint : Call
