@@ -7,10 +7,10 @@ use Rattle.std.specs.Option.{is_some}
 use Rattle.coverage_plan.specs.declared.edit.Edit.{Edit}
 use Rattle.coverage_plan.specs.declared.edit.Edit.TheVariants as edit
 use Rattle.order_maker.specs.Grouping.{first}
-use Rattle.centre_events.specs.Base.{empty_base}
+use Rattle.centre_events.specs.Folding.{base_of}
 use Rattle.centre_events.specs.InFlight.{asked_flight, in_flight, is_replied, sent_flight}
 use Rattle.centre_events.specs.Links.{is_bsc, is_up, last_link}
-use Rattle.centre_events.specs.Past.{Past, After, since}
+use Rattle.centre_events.specs.Past.{Past, After, past_of, since}
 use Rattle.centre_events.specs.Pending.{pending}
 use Rattle.centre_events.specs.Verdict.{add_bsc_checks, answered, ask_checks, edit_answered, remove_bsc_checks, send_answer, send_checks, verdict}
 use Rattle.centre_events.specs.declared.answer.Answer.{Answer}

@@ -2,13 +2,13 @@
 use Rattle.std.proofs.Common.{◌≡◌, ℕ, Bool, true, false, Result, Ok, Err, OnOk, IfOk, IfErr, inl, inr, length, refl, ap, subst}
 use Rattle.centre_core.specs.Centre.{Refuses}
 use Rattle.centre_past.specs.Headline.{PendingGivesPlan}
-use Rattle.centre_past.specs.Legal.{Known, Lawful, all_entries, past}
+use Rattle.centre_past.specs.Legal.{Known, Lawful, all_entries, checkpointed, past}
 use Rattle.centre_events.specs.Folding.{base_of}
 use Rattle.centre_events.specs.declared.event.Event.{Event}
 use Rattle.centre_events.specs.declared.refusal.Refusal.{Refusal}
 use Rattle.centre_events.specs.declared.refusal.Refusal.TheVariants as refusal
 use Rattle.office.specs.Desks.{DeskState}
-use Rattle.office.specs.Helds.{IsEntered, fits, with_all_folded}
+use Rattle.office.specs.Helds.{IsEntered, fits}
 use Rattle.office.specs.Offices.{IsFoldedSomewhere, IsRefusedSomewhere, IsSeenSomewhere, IsSubmitted, IsUnseenSomewhere, Meets}
 use Rattle.centre_questions.specs.Questions.{RefusesQuestion, Shows}
 use Rattle.centre_questions.specs.declared.question.Question.{Question}
@@ -69,6 +69,6 @@ pub unseen_if : (result : Result Seen Refusal) (centre : Known) (opened : ℕ) (
 unseen_if (Ok s) centre opened d q lawful headline wrong refuses = refuses
 unseen_if (Err r) centre opened d q lawful headline wrong refuses = unseen_by (fits opened (all_entries centre) d) r centre opened d q refl lawful headline wrong refuses
 
-pub folded_if : (result : Result ℕ Refusal) (centre new : Known) → Lawful centre.settings (past centre) → PendingGivesPlan (past centre) → IfOk result (λ n. n ≡ length centre.journal) → OnOk result (new ≡ with_all_folded centre) → OnOk result (base_of (past new) ≡ base_of (past centre)) → OnOk result (centre.stale ≡ false) → IfOk result IsFoldedSomewhere
+pub folded_if : (result : Result ℕ Refusal) (centre new : Known) → Lawful centre.settings (past centre) → PendingGivesPlan (past centre) → IfOk result (λ n. n ≡ length centre.journal) → OnOk result (new ≡ checkpointed centre) → OnOk result (base_of (past new) ≡ base_of (past centre)) → OnOk result (centre.stale ≡ false) → IfOk result IsFoldedSomewhere
 folded_if (Ok n) centre new lawful headline counted is same whole = record { centre = centre; lawful = lawful; headline = headline; whole = whole; counted = counted; same = subst (λ (k : Known). base_of (past k) ≡ base_of (past centre)) is same }
 folded_if (Err r) centre new lawful headline counted is same whole = counted

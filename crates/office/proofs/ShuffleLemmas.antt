@@ -10,7 +10,7 @@ use Rattle.centre_events.specs.declared.entry.Entry.{Entry}
 use Rattle.office.specs.Desks.{DeskState}
 use Rattle.office.specs.Helds.{AreRowsOf, IsByOpened, entry_of, no_row}
 use Rattle.office.specs.Receipts.{receipt_of, receipts_from, receipts_of}
-use Rattle.office.specs.Shuffles.{AreEntriesOf, HasItsEntries, IsEntryOf, IsFault, IsUnsettled}
+use Rattle.office.specs.Shuffles.{AreEntriesOf, AreSplit, HasItsEntries, IsEntryOf, IsFault, IsUnsettled}
 use Rattle.office.specs.declared.fault.Fault.{Fault}
 use Rattle.office.specs.declared.receipt.Receipt.{Receipt}
 use Rattle.office.specs.declared.row.Row.{Row}
@@ -124,10 +124,6 @@ pub folded_within : (desk : ℕ) (folded journal : List Entry) → length (recei
 folded_within desk folded journal =
     let all : length (receipts_of desk (folded ++ journal)) ≡ length (receipts_of desk folded) + length (receipts_from desk (length folded) journal) = ap length (receipts_over desk folded journal) ∙ length-append (receipts_of desk folded) (receipts_from desk (length folded) journal) in
     omega (arith, all)
-
--- what is looked at: the first receipts of a desk, so many, are of folded entries, and the others are its entries in the journal
-abbrev pub AreSplit : ℕ → ℕ → List Entry → ℕ → List Receipt → Type 0
-AreSplit desk n journal count rs = All (λ (r : Receipt). r.place ≤ n) (take count rs) × AreEntriesOf desk n journal 0 (drop count rs)
 
 has_if : (folded journal : List Entry) (d : DeskState) (count : ℕ) → count ≡ length (receipts_of d.number folded) → length d.receipts ≡ length (receipts_of d.number (folded ++ journal)) → AreSplit d.number (length folded) journal count d.receipts → HasItsEntries folded journal d
 has_if folded journal d count folded_is same are =

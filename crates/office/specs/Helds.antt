@@ -92,10 +92,6 @@ pub record IsEntered (old : Known) (before : DeskState) (event : Event) (new : K
   pub receipts : after.receipts ≡ before.receipts ++ receipt_at (length (all_entries old) + 1) event answer ∷ []
   pub number : after.number ≡ before.number
 
--- the centre with every entry folded
-abbrev pub with_all_folded : Known → Known
-with_all_folded centre = record centre { folded = all_entries centre; journal = [] }
-
 -- why no entry is folded: the centre is stale, or it is whole and memory runs out
 abbrev pub RefusesFold : Known → Refusal → Type 0
 RefusesFold centre r = ((r ≡ refusal.Stale) × (centre.stale ≡ true)) ⊎ ((r ≡ refusal.Memory) × (centre.stale ≡ false))

@@ -4,7 +4,7 @@ use Rattle.std.specs.Borrow.{Bor}
 use Rattle.centre_core.specs.Centre.{Refuses}
 use Rattle.centre_past.specs.Fits.{AnswerFits}
 use Rattle.centre_past.specs.Headline.{PendingGivesPlan}
-use Rattle.centre_past.specs.Legal.{Known, Lawful, all_entries, past}
+use Rattle.centre_past.specs.Legal.{Known, Lawful, all_entries, checkpointed, past}
 use Rattle.centre_events.specs.Folding.{base_of}
 use Rattle.centre_events.specs.Verdict.{verdict}
 use Rattle.centre_events.specs.declared.answer.Answer.{Answer}
@@ -12,7 +12,7 @@ use Rattle.centre_events.specs.declared.event.Event.{Event}
 use Rattle.centre_events.specs.declared.refusal.Refusal.{Refusal}
 use Rattle.centre_events.specs.declared.refusal.Refusal.TheVariants as refusal
 use Rattle.office.specs.Desks.{DeskState}
-use Rattle.office.specs.Helds.{receipt_at, with_all_folded}
+use Rattle.office.specs.Helds.{receipt_at}
 use Rattle.centre_questions.specs.Questions.{RefusesQuestion, Shows}
 use Rattle.office.specs.Receipts.{receipts_of, last_place}
 use Rattle.centre_questions.specs.declared.question.Question.{Question}
@@ -74,7 +74,7 @@ pub record IsFoldedSomewhere (count : ℕ) : Type 0 where
   pub headline : PendingGivesPlan (past centre)
   pub whole : centre.stale ≡ false
   pub counted : count ≡ length centre.journal
-  pub same : base_of (past (with_all_folded centre)) ≡ base_of (past centre)
+  pub same : base_of (past (checkpointed centre)) ≡ base_of (past centre)
 
 -- where the event was accepted the desk has one more receipt, and the one that is lent is the last; where it was refused the desk is
 -- as it was, but for its room

@@ -59,12 +59,12 @@ impl<L: Ledger> Held<L> {
     ghost use Rattle.std.specs.Prelude.{◌≡◌, ◌≤◌, ◌<◌, ◌+◌, ◌-◌, ◌++◌, ◌∷◌, ℕ, [], length, set, true, false, Ok, Err, None, IfOk, IfErr, OnOk, OnErr, MatchBool, nat_lt};
     ghost use Rattle.centre_core.specs.Centre.{Leaves, Refuses};
     ghost use Rattle.centre_past.specs.Headline.{PendingGivesPlan};
-    ghost use Rattle.centre_past.specs.Legal.{Lawful, all_entries, new_centre, past};
+    ghost use Rattle.centre_past.specs.Legal.{Lawful, all_entries, checkpointed, new_centre, past};
     ghost use Rattle.centre_events.specs.Folding.{base_of};
     ghost use Rattle.centre_events.specs.Links.{last_link};
     ghost use Rattle.cell_register.specs.Register.{is_place};
     ghost use Rattle.office.specs.Affecting.{affects, includes};
-    ghost use Rattle.office.specs.Helds.{HasEachOnce, IsEntered, IsHeld, RefusesFold, fits, no_row, row_at, with_all_folded};
+    ghost use Rattle.office.specs.Helds.{HasEachOnce, IsEntered, IsHeld, RefusesFold, fits, no_row, row_at};
     ghost use Rattle.centre_questions.specs.Questions.{RefusesQuestion, Shows};
     ghost use Rattle.office.specs.Shuffles.{IsFault, IsShuffle};
     ghost use Rattle.office.specs.Wakes.{due, is_full, left_by};
@@ -286,7 +286,7 @@ impl<L: Ledger> Held<L> {
     /// its journal has room again.
     pub fn checkpoint(&mut self) -> Result<u64, Refusal>
         ensures counted { IfOk result (λ n. n ≡ length self.old.centre.journal) }
-        ensures folded { OnOk result (self.new ≡ record self.old { centre = with_all_folded self.old.centre; base_rows = self.old.rows }) }
+        ensures folded { OnOk result (self.new ≡ record self.old { centre = checkpointed self.old.centre; base_rows = self.old.rows }) }
         ensures same { OnOk result (base_of (past self.new.centre) ≡ base_of (past self.old.centre)) }
         ensures whole { OnOk result (self.old.centre.stale ≡ false) }
         ensures refused { IfErr result (RefusesFold self.old.centre) }
