@@ -295,7 +295,7 @@ impl<L: Ledger> Held<L> {
         if self.centre.is_stale() {
             return Err(Refusal::Stale);
         }
-        let rows = self.rows.clone()?;
+        let rows = Vec::from_slice(self.alloc, self.rows.as_slice())?;
         let count = self.centre.checkpoint()?;
         self.base_rows = rows;
         self.folded = self.centre.position();
