@@ -16,6 +16,9 @@ use std::alloc::{AllocError, Global};
 /// The most entries that a journal may hold, and the number where none is given.
 pub const MOST_ENTRIES: u32 = 4_000_000;
 
+/// After how many entries a server folds its journal, where no number is given.
+pub const FOLD: u32 = 100_000;
+
 /// What a script is run with.
 #[derive(Clone, Copy, Debug)]
 pub struct Options {
