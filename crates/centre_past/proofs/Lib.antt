@@ -34,4 +34,5 @@ pub mod BeginningLemmas
 pub mod VersionLemmas
 pub mod AskLemmas
 pub mod ReadLemmas
+pub mod CopyLemmas
 pub mod EmptyLemmas

@@ -162,6 +162,17 @@ impl KeptTables {
         }
     }
 
+    /// The same tables, in memory of their own, with no access counted.
+    pub fn copied(&self) -> Result<KeptTables, AllocError>
+        ensures { IfOk result (λ copy. copy ≡ record self.now { lines = record self.now.lines { meter = 0 } }) }
+    {
+        Ok(KeptTables {
+            lines: self.lines.copied()?,
+            pending: self.pending.copied()?,
+            board: self.board.copied()?,
+        })
+    }
+
     /// How often lines were read or set, up to the greatest value, which stays.
     pub fn meter(&self) -> u64
         ensures { result ≡ self.now.lines.meter }

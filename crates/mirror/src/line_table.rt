@@ -83,6 +83,19 @@ impl LineTable {
         }
     }
 
+    /// The same lines, in memory of their own, with the same cells down and no access counted.
+    pub fn copied(&self) -> Result<LineTable, AllocError>
+        ensures { IfOk result (λ copy. copy ≡ record self.now { meter = 0 }) }
+    {
+        Ok(LineTable {
+            alloc: self.alloc,
+            lines: self.lines.copied()?,
+            index: self.index.copied()?,
+            downs: self.downs.copied()?,
+            meter: 0,
+        })
+    }
+
     /// A lemma, not a test: it returns nothing, and its clauses say that a BSC has a line of a cell exactly where one
     /// of them isn't blank.
     pub fn tell_soundness(&self)

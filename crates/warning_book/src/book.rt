@@ -54,6 +54,17 @@ impl Book {
         }
     }
 
+    /// The same book, in memory of its own.
+    pub fn copied(&self) -> Result<Book, AllocError>
+        ensures { IfOk result (λ copy. copy ≡ self.now) }
+    {
+        Ok(Book {
+            alloc: self.alloc,
+            issued: self.issued,
+            warnings: self.warnings.clone()?,
+        })
+    }
+
     /// The serial number of a new warning; `None` where no code is free.
     fn new_serial(&self, notice: &Notice) -> Result<Option<Serial>, AllocError>
         ensures { IfOk result (λ serial. serial ≡ new_serial self.now notice.now) }

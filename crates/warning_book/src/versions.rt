@@ -21,6 +21,18 @@ impl Model for Versions {
     ghost view = { λ s. s.versions.items };
 }
 
+impl Clone for Versions {
+    ghost use Rattle.std.specs.Prelude.{◌≡◌};
+
+    ghost is_clone = { λ s t. t ≡ s };
+
+    fn clone(&self) -> Result<Versions, AllocError> {
+        Ok(Versions {
+            versions: self.versions.clone()?,
+        })
+    }
+}
+
 impl Versions {
     /// No versions. What they will need is taken from the allocator.
     pub(crate) fn new(alloc: Global) -> Versions

@@ -7,6 +7,7 @@ use crate::warning_areas::WarningAreas;
 use crate::warning_id::WarningId;
 use common::Name;
 use serials::Serial;
+use std::alloc::AllocError;
 
 /// A warning: its versions and its areas. It is active until it is stopped.
 #[derive(Drop)]
@@ -16,6 +17,22 @@ pub struct Warning {
     pub(crate) versions: Versions,
     pub(crate) areas: WarningAreas,
     pub(crate) active: bool,
+}
+
+impl Clone for Warning {
+    ghost use Rattle.std.specs.Prelude.{◌≡◌};
+
+    ghost is_clone = { λ s t. t ≡ s };
+
+    fn clone(&self) -> Result<Warning, AllocError> {
+        Ok(Warning {
+            number: self.number,
+            message_id: self.message_id,
+            versions: self.versions.clone()?,
+            areas: self.areas.clone()?,
+            active: self.active,
+        })
+    }
 }
 
 impl Warning {
