@@ -16,14 +16,14 @@ impl<L: Ledger, E: Write + Drop> Shared<L, E> {
     /// centre isn't folded.
     pub fn submitted<R: Wait>(&self, rt: &R) {
         let mut pace = self.folds.lock(rt);
-        if pace.count() && pace.is_due(self.office.position(rt)) {
+        if pace.count() && pace.is_due(self.office.unfolded(rt)) {
             self.fold(rt, &mut pace);
         }
     }
 
     fn fold<R: Wait>(&self, rt: &R, pace: &mut FoldPace) {
         match self.office.checkpoint(rt) {
-            Ok(count) => pace.fold(count),
+            Ok(_) => pace.fold(),
             Err(Refusal::Memory) => {
                 if pace.put_off() {
                     say_of_centre(rt, self.alloc, &self.errors, NO_MEMORY);
@@ -37,7 +37,7 @@ impl<L: Ledger, E: Write + Drop> Shared<L, E> {
     pub fn checkpoint<R: Wait>(&self, rt: &R) -> Result<u64, Refusal> {
         let mut pace = self.folds.lock(rt);
         let count = self.office.checkpoint(rt)?;
-        pace.fold(count);
+        pace.fold();
         Ok(count)
     }
 }
