@@ -188,6 +188,13 @@ impl<L: Ledger> Held<L> {
         Ok(Seen { position, value })
     }
 
+    /// How many entries there are that aren't folded.
+    pub fn unfolded(&self) -> u64
+        ensures { result ≡ length self.now.centre.journal }
+    {
+        self.centre.position() - self.folded
+    }
+
     /// Whether the centre is stale.
     pub fn is_stale(&self) -> bool
         ensures { result ≡ self.now.centre.stale }

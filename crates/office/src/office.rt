@@ -103,6 +103,11 @@ impl<L: Ledger> Office<L> {
         guard.look(desk, question)
     }
 
+    /// How many entries there are that aren't folded.
+    pub fn unfolded<R: Wait>(&self, rt: &R) -> u64 {
+        self.held.lock(rt).unfolded()
+    }
+
     /// Keeps a wish to ask the BSC about a warning, in the cells after that one. A BSC has one wish, the latest. `Stale`, then
     /// `NoSuchBsc`, then `NoSuchWarning`, then `Memory`, which doesn't come where it takes an earlier one's place.
     pub fn wish<R: Wait>(
