@@ -16,10 +16,11 @@ use std::process::ExitCode;
 use std::rt::Files;
 
 /// Scripts as an operator writes them: NAME.txt, with its answers in NAME.answers.
-const SCRIPTS: [&str; 10] = [
+const SCRIPTS: [&str; 11] = [
     "broadcasts-told",
     "day-of-failures",
     "first-warning",
+    "flood-for-days",
     "flood-two-controllers",
     "link-lost",
     "link-up-again",
@@ -33,7 +34,7 @@ const SCRIPTS: [&str; 10] = [
 const SCRIPTS_DRAWN: u64 = 300;
 
 /// Files of rows. A row may begin with one of an earlier file.
-const ROWS: [&str; 9] = [
+const ROWS: [&str; 10] = [
     "first-warning.rows",
     "bad-lines.rows",
     "changes.rows",
@@ -43,6 +44,7 @@ const ROWS: [&str; 9] = [
     "queries.rows",
     "warnings.rows",
     "alerts.rows",
+    "updates.rows",
 ];
 
 /// Runs one script, prints whether its answers agree, and tells it.
