@@ -35,7 +35,7 @@ const SCRIPTS: [&str; 12] = [
 const SCRIPTS_DRAWN: u64 = 300;
 
 /// Files of rows. A row may begin with one of an earlier file.
-const ROWS: [&str; 12] = [
+const ROWS: [&str; 11] = [
     "first-warning.rows",
     "bad-lines.rows",
     "changes.rows",
@@ -44,7 +44,6 @@ const ROWS: [&str; 12] = [
     "boards.rows",
     "queries.rows",
     "warnings.rows",
-    "wrapped-updates.rows",
     "alerts.rows",
     "updates.rows",
     "checkpoints.rows",
