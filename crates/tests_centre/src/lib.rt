@@ -7,6 +7,8 @@
 #[cfg(test)]
 mod centre_tests;
 #[cfg(test)]
+mod checkpoint_tests;
+#[cfg(test)]
 mod checks;
 #[cfg(test)]
 mod copying_tests;

@@ -143,12 +143,12 @@ fn a_stopped_warning_keeps_its_areas_until_it_is_forgotten(rt: HostRuntime) {
 
 /// The serial number of the first warning after so many updates.
 fn updated(updates: u16) -> Serial {
-    Serial::from_u16(0xc000u16.saturating_add(updates))
+    Serial::from_u16(0xc000u16.saturating_add(updates % 16))
 }
 
-/// The content after so many updates, of which there are fifteen at most: it has one octet more after each.
+/// The content after so many updates, 39 at most: it has one octet more after each.
 fn longer(rt: &impl Abort, alloc: Global, updates: u16) -> Content {
-    let octets = [0x41; 16];
+    let octets = [0x41; 40];
     let length = usize::from(updates).saturating_add(1);
     content(rt, alloc, octets.get(..length).unwrap_or(&octets))
 }
@@ -192,6 +192,30 @@ fn updates_and_keeps(rt: &impl Abort, alloc: Global, book: &mut Book) {
 fn fifteen_updates_count_in_the_serial_number(rt: HostRuntime) {
     let mut book = issued_for(&rt, rt.alloc(), &[b"coast"], Scope::Cell);
     updates_and_keeps(&rt, rt.alloc(), &mut book);
+}
+
+/// The versions of the first warning are those of the updates from `first` on, in their order, and no other.
+fn are_newest(rt: &impl Abort, alloc: Global, book: &Book, first: u16) {
+    let versions = book.versions(first_id());
+    yes(rt, versions.len() == 16, "sixteen versions");
+    for (version, n) in versions.iter().zip(first..40u16) {
+        yes(rt, version.serial == updated(n), "a version's place");
+        keeps(rt, alloc, book, n);
+    }
+}
+
+#[test]
+fn the_newest_sixteen_versions_are_kept(rt: HostRuntime) {
+    let alloc = rt.alloc();
+    let mut book = issued_for(&rt, alloc, &[b"coast"], Scope::Cell);
+    for n in 1..16u16 {
+        updates(&rt, alloc, &mut book, n);
+    }
+    are_newest(&rt, alloc, &book, 0);
+    for n in 16..40u16 {
+        updates(&rt, alloc, &mut book, n);
+        are_newest(&rt, alloc, &book, n.saturating_sub(15));
+    }
 }
 
 /// A copy; where memory runs out once, the book is as it was.
@@ -304,6 +328,9 @@ fn checks_edits(rt: &impl Abort, book: &Book, hills: &Name, long: &Content) {
     made(rt, book.check_widen(id, hills), "it may be widened");
     let narrow = book.check_narrow(id, hills);
     same(rt, &narrow, &Err(Refusal::AreaNotThere), "no such area");
+    made(rt, book.check_active(id), "it is active");
+    let content = book.check_content(id, long);
+    same(rt, &content, &Err(Refusal::BadPages), "a page is too long");
     let update = book.check_update(id, long);
     same(rt, &update, &Err(Refusal::BadPages), "a page is too long");
 }
@@ -315,6 +342,8 @@ fn checks_ends(rt: &impl Abort, book: &mut Book) {
     same(rt, &forget, &Err(Refusal::StillActive), "it is active");
     made(rt, book.check_stop(id), "it may be stopped");
     made(rt, book.stop(id), "it is stopped");
+    let active = book.check_active(id);
+    same(rt, &active, &Err(Refusal::NotActive), "it is not active");
     let stop = book.check_stop(id);
     same(rt, &stop, &Err(Refusal::NotActive), "it is stopped");
     made(rt, book.check_forget(id), "it may be forgotten");
@@ -469,10 +498,6 @@ const TEXTS: &[(Refusal, &str)] = &[
     ),
     (Refusal::BadPeriod, "a repetition period is 1 to 1,024"),
     (Refusal::WrongKind, "the warning is of the other kind"),
-    (
-        Refusal::UpdatesExhausted,
-        "the warning was updated fifteen times",
-    ),
     (FULL, "a limit would be passed: Ids"),
     (Refusal::Memory, "out of memory"),
 ];
