@@ -42,6 +42,17 @@ impl Areas {
     ghost use Rattle.areas.specs.Checks.{add_area_checks, drop_area_checks, put_checks, cut_checks};
     ghost use Rattle.areas.specs.declared.refusal.Refusal.TheVariants as refusal;
 
+    /// The same, in memory of its own.
+    pub fn copied(&self) -> Result<Areas, AllocError>
+        ensures { IfOk result (λ copy. copy ≡ self.now) }
+    {
+        Ok(Areas {
+            alloc: self.alloc,
+            list: self.list.clone()?,
+            holders: self.holders.copied()?,
+        })
+    }
+
     /// No areas. What they will need is taken from the allocator.
     pub fn new(alloc: Global) -> Areas
         ensures { result ≡ [] }

@@ -50,6 +50,18 @@ fn stands_at(names: &[Name], place: usize, a: &Name) -> bool
     }
 }
 
+impl Clone for AscendingNames {
+    ghost use Rattle.std.specs.Prelude.{◌≡◌};
+
+    ghost is_clone = { λ s t. t ≡ s };
+
+    fn clone(&self) -> Result<AscendingNames, AllocError> {
+        Ok(AscendingNames {
+            names: self.names.clone()?,
+        })
+    }
+}
+
 impl AscendingNames {
     pub(crate) fn new(alloc: Global) -> AscendingNames
         ensures { result ≡ [] }

@@ -41,6 +41,15 @@ fn add_all(alloc: Global, names: &[Name], found: &mut AscendingNames) -> Result<
 }
 
 impl Holders {
+    /// The same, in memory of its own.
+    pub(crate) fn copied(&self) -> Result<Holders, AllocError>
+        ensures { IfOk result (λ copy. copy ≡ self.now) }
+    {
+        Ok(Holders {
+            names: self.names.clone()?,
+        })
+    }
+
     pub(crate) fn new(alloc: Global) -> Holders
         ensures { result ≡ [] }
     {

@@ -122,6 +122,16 @@ fn cells_alone(alloc: Global, places: &[Placed]) -> Result<Cells, AllocError>
 }
 
 impl Places {
+    /// The same, in memory of its own.
+    pub(crate) fn copied(&self) -> Result<Places, AllocError>
+        ensures { IfOk result (λ copy. copy ≡ self.now) }
+    {
+        Ok(Places {
+            places: self.places.clone()?,
+            seats: None,
+        })
+    }
+
     pub(crate) fn new(alloc: Global) -> Places
         ensures { result ≡ [] }
     {

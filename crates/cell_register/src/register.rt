@@ -33,6 +33,17 @@ impl Model for Register {
 }
 
 impl Register {
+    /// The same, in memory of its own.
+    pub fn copied(&self) -> Result<Register, AllocError>
+        ensures { IfOk result (λ copy. copy ≡ self.now) }
+    {
+        Ok(Register {
+            alloc: self.alloc,
+            bscs: self.bscs.clone()?,
+            places: self.places.copied()?,
+        })
+    }
+
     /// A register without BSCs and cells.
     pub fn new(alloc: Global) -> Register
         ensures { result ≡ empty }

@@ -1,10 +1,11 @@
 -- What always holds of a centre, and what comes of an event that it is given.
-use Rattle.std.specs.Prelude.{◌≡◌, ◌⊎◌, ◌≤◌, ℕ, ◌+◌, Bool, true, false, List, length, Err}
+use Rattle.std.specs.Prelude.{◌≡◌, ◌⊎◌, ◌≤◌, ℕ, ◌+◌, ◌++◌, Bool, true, false, List, length, reverse, Err}
 use Rattle.centre_past.specs.IsKept.{IsKept}
 use Rattle.centre_events.specs.Kept.{MayStarve}
-use Rattle.centre_past.specs.Legal.{Legal, Known, past}
+use Rattle.centre_past.specs.Legal.{Legal, Known, lasting, past}
 use Rattle.centre_past.specs.Reach.{reach_of, size}
-use Rattle.centre_events.specs.Past.{Past, From, After, past_of}
+use Rattle.centre_events.specs.Folding.{base_of}
+use Rattle.centre_events.specs.Past.{Past, From, After, past_of, since}
 use Rattle.centre_events.specs.Settings.{Settings}
 use Rattle.centre_events.specs.Verdict.{verdict}
 use Rattle.centre_events.specs.declared.entry.Entry.{Entry}
@@ -13,21 +14,33 @@ use Rattle.centre_past.specs.declared.kept.Kept.{Kept}
 use Rattle.centre_events.specs.declared.refusal.Refusal.{Refusal}
 use Rattle.centre_events.specs.declared.refusal.Refusal.TheVariants.{Stale, Memory, WrongDesk}
 
--- the journal has no more entries than it may, it is legal, and what is kept beside it is what it says, unless the centre
--- is stale
-pub record IsCentre (settings : Settings) (journal : List Entry) (stale : Bool) (kept : Kept) : Type 0 where
+-- the past of entries after others that were folded, both the oldest first
+abbrev pub past_over : List Entry → List Entry → Past
+past_over folded journal = since (base_of (past_of folded)) (reverse journal)
+
+-- The entries that were folded and then those of the journal are legal over the empty base, and what is kept is what they
+-- come to.
+pub record IsWhole (network : List ℕ) (folded journal : List Entry) (kept : Kept) : Type 0 where
+  pub legal : Legal (lasting network) (past_of (folded ++ journal))
+  pub kept : IsKept (past_of (folded ++ journal)) kept
+
+-- The journal has no more entries than it may; the entries that were folded and then its own are legal over the empty base;
+-- the base is what the folded ones come to, and what is kept beside the journal is what all come to, unless the centre is
+-- stale.
+pub record IsCentre (settings : Settings) (folded journal : List Entry) (stale : Bool) (base kept : Kept) : Type 0 where
   pub few : settings.limit ≤ 4000000
   pub long : length journal ≤ settings.limit
-  pub legal : Legal settings (past_of journal)
-  pub whole : stale ≡ false → IsKept (past_of journal) kept
+  pub legal : Legal (lasting settings.network) (past_of (folded ++ journal))
+  pub base : IsKept (past_of folded) base
+  pub whole : stale ≡ false → IsKept (past_of (folded ++ journal)) kept
 
 -- why an event is refused in a whole centre: memory runs out where it may be, or the verdict is that refusal
-abbrev pub IsRefused : Settings → List Entry → Event → Refusal → Type 0
-IsRefused settings journal e r = ((r ≡ Memory) × MayStarve settings (past_of journal) e) ⊎ (verdict settings (past_of journal) e ≡ Err r)
+abbrev pub IsRefused : Settings → Past → Event → Refusal → Type 0
+IsRefused settings before e r = ((r ≡ Memory) × MayStarve settings before e) ⊎ (verdict settings before e ≡ Err r)
 
 -- why a centre refuses an event: it is stale, or it is whole and the event is refused
 abbrev pub Refuses : Known → Event → Refusal → Type 0
-Refuses centre e r = ((r ≡ Stale) × (centre.stale ≡ true)) ⊎ ((centre.stale ≡ false) × IsRefused centre.settings centre.journal e r)
+Refuses centre e r = ((r ≡ Stale) × (centre.stale ≡ true)) ⊎ ((centre.stale ≡ false) × IsRefused centre.settings (past centre) e r)
 
 -- what a refusal leaves of a centre: it is as it was, or memory ran out and it is stale
 abbrev pub Leaves : Known → Refusal → Known → Type 0

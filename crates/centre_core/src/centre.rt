@@ -27,17 +27,20 @@ use std::marker::Model;
 use warning_book::WarningId;
 
 /// A cell broadcast centre. Contracts see its settings, which are its network and the greatest number of entries of its
-/// journal, its journal, the oldest entry first, whether it is stale, how often its lines were read or set, and how often
-/// entries of its journal were read.
+/// journal, the entries that were folded away and its journal, the oldest entry first in both, whether it is stale, how
+/// often its lines were read or set, and how often entries of its journal were read.
 ///
-/// A centre is stale after memory ran out while an event was entered: its journal is as it was, and what is kept beside it
-/// is of no use until `rebuild` made it anew. While it is stale, every call but `position`, `entry`, `is_stale`, `meter`
-/// and `rebuild` answers `Stale`.
+/// `checkpoint` folds the entries of the journal into a base: what they come to is kept a second time, and they are let go.
+///
+/// A centre is stale after memory ran out while an event was entered: its base and its journal are as they were, and what
+/// is kept beside them is of no use until `rebuild` made it anew. While it is stale, every call but `position`, `entry`,
+/// `is_full`, `is_stale`, `meter` and `rebuild` answers `Stale`.
 #[derive(Drop)]
 pub struct Centre {
     alloc: Global,
     plmn: [u8; 3],
     limit: u32,
+    base: Kept,
     journal: Journal,
     stale: bool,
     kept: Kept,
@@ -49,24 +52,26 @@ impl Model for Centre {
 
     ghost Value = { CentreState };
 
-    ghost view = { λ c. record { known = record { settings = record { network = c.plmn; limit = c.limit }; journal = c.journal.entries; stale = c.stale }; lines = c.kept.tables.lines.meter; entries = c.journal.reads } };
+    ghost view = { λ c. record { known = record { settings = record { network = c.plmn; limit = c.limit }; folded = c.journal.folded; journal = c.journal.entries; stale = c.stale }; lines = c.kept.tables.lines.meter; entries = c.journal.reads } };
 
-    ghost invariant = { λ c. IsCentre (record { network = c.plmn; limit = c.limit }) c.journal.entries c.stale c.kept };
+    ghost invariant = { λ c. IsCentre (record { network = c.plmn; limit = c.limit }) c.journal.folded c.journal.entries c.stale c.base c.kept };
 }
 
 impl Centre {
-    ghost use Rattle.std.specs.Prelude.{◌≡◌, ◌<◌, ◌≤◌, ◌-◌, ◌+◌, ◌*◌, ◌++◌, ◌∷◌, [], ◌⊎◌, ◌==◌, ⊤, length, reverse, slice_get, true, false, Ok, Err, IfOk, IfErr, OnOk, OnErr, if◌then◌else◌};
+    ghost use Rattle.std.specs.Prelude.{◌≡◌, ◌<◌, ◌≤◌, ◌-◌, ◌+◌, ◌*◌, ◌++◌, ◌∷◌, [], ◌⊎◌, ⊤, length, nat_le, reverse, slice_get, true, false, Ok, Err, IfOk, IfErr, OnOk, OnErr, if◌then◌else◌};
     ghost use Rattle.std.specs.Borrow.{sem, follows_so};
     ghost use Rattle.std.specs.Option.{option_copied};
     ghost use mathlib.Core.Option.{none};
     ghost use Rattle.mirror.specs.Table.{counted};
     ghost use Rattle.centre_core.specs.Centre.{ComesFrom, Leaves, Refuses, all_reach};
     ghost use Rattle.centre_core.specs.contracts.centre.Centre.{the_row};
+    ghost use Rattle.centre_past.specs.Alike.{SaysTheSame};
     ghost use Rattle.centre_past.specs.Fits.{AnswerFits, IsCarried};
+    ghost use Rattle.centre_events.specs.Folding.{base_of};
     ghost use Rattle.centre_events.specs.InFlight.{in_flight};
     ghost use Rattle.centre_core.specs.Journal.{counted_by};
     ghost use Rattle.centre_events.specs.Kept.{is_edit};
-    ghost use Rattle.centre_past.specs.Legal.{Legal, new_centre, past};
+    ghost use Rattle.centre_past.specs.Legal.{Lawful, all_entries, new_centre, past};
     ghost use Rattle.centre_past.specs.LinkStates.{has_pending, link_state};
     ghost use Rattle.centre_events.specs.Links.{is_bsc};
     ghost use Rattle.centre_past.specs.Numbers.{board, area_board};
@@ -74,7 +79,7 @@ impl Centre {
     ghost use Rattle.centre_events.specs.Places.{place};
     ghost use Rattle.centre_past.specs.Reach.{reach};
     ghost use Rattle.centre_past.specs.Table.{table};
-    ghost use Rattle.centre_events.specs.Verdict.{verdict};
+    ghost use Rattle.centre_events.specs.Verdict.{is_full, verdict};
     ghost use Rattle.centre_events.specs.declared.event.Event.TheVariants as event;
 
     /// A centre of the network, without entries, whose journal holds so many at most.
@@ -86,6 +91,7 @@ impl Centre {
             alloc,
             plmn,
             limit: journal_limit,
+            base: Kept::new(alloc),
             journal: Journal::new(alloc),
             stale: false,
             kept: Kept::new(alloc),
@@ -114,7 +120,7 @@ impl Centre {
         let answer = make(&mut self.kept, &edit)?;
         self.stale = true;
         let (entry, answer) = with_entry(self.alloc, desk, Event::Edit(edit), answer)?;
-        let place = self.journal.len() + 1;
+        let place = self.journal.position() + 1;
         enter(
             self.alloc,
             &mut self.journal,
@@ -157,7 +163,7 @@ impl Centre {
         };
         let (entry, given) = with_entry(self.alloc, desk, event, found.answer)?;
         let up = up_before(self.kept.links.as_slice(), &entry.event);
-        let place = self.journal.len() + 1;
+        let place = self.journal.position() + 1;
         self.stale = true;
         enter(
             self.alloc,
@@ -184,7 +190,7 @@ impl Centre {
         ensures refusal { IfErr result (Refuses self.old.known event) }
         ensures source { IfErr result (ComesFrom self.old.known event) }
         ensures left { IfErr result (λ r. Leaves self.old.known r self.new.known) }
-        ensures legal { Legal self.new.known.settings (past self.new.known) }
+        ensures legal { Lawful self.new.known.settings (past self.new.known) }
         ensures fits { IfOk result AnswerFits }
         ensures carried { IfOk result IsCarried }
         ensures lines { self.new.lines ≤ self.old.lines + 4 * reach (past self.old.known) event (verdict self.old.known.settings (past self.old.known) event) }
@@ -209,8 +215,8 @@ impl Centre {
         self.stale
     }
 
-    /// Makes what is kept beside the journal anew from its entries, each of which is read once, which makes a stale centre
-    /// whole. The count of lines begins at 0 again: it is that of the lines that were read or set to make them anew, at most
+    /// Makes what is kept beside the journal anew from the base and its entries, each of which is read once, which makes a
+    /// stale centre whole. The count of lines begins at 0 again: it is that of the lines that were read or set to make them anew, at most
     /// four times those on which the entries bear. The count of entries goes on. Where memory runs out the centre is as it
     /// was, but for the entries that were read.
     pub fn rebuild(&mut self) -> Result<(), AllocError>
@@ -220,10 +226,33 @@ impl Centre {
         ensures most { OnErr result (self.new.entries ≤ counted_by (length self.old.known.journal) self.old.entries) }
         ensures lines { OnOk result (self.new.lines ≤ 4 * all_reach (past self.old.known)) }
     {
-        let kept = kept_of(self.alloc, &mut self.journal)?;
+        let kept = kept_of(self.alloc, &self.base, &mut self.journal)?;
         self.kept = kept;
         self.stale = false;
         Ok(())
+    }
+
+    /// Folds the entries of the journal, and answers how many there were. What they come to becomes the base, in memory of
+    /// its own, and their memory is given back. Every question is answered as before, and so is every event but where the
+    /// journal was full. Places go on. `Stale`, then `Memory`; after these the centre is as it was.
+    pub fn checkpoint(&mut self) -> Result<u64, Refusal>
+        ensures folded { IfOk result (λ n. (n ≡ length self.old.known.journal) × (self.new.known ≡ record self.old.known { folded = all_entries self.old.known; journal = [] })) }
+        ensures same { OnOk result (base_of (past self.new.known) ≡ base_of (past self.old.known)) }
+        ensures says { OnOk result (SaysTheSame (past self.new.known) (past self.old.known)) }
+        ensures whole { OnOk result (self.old.known.stale ≡ false) }
+        ensures refusal { IfErr result (λ r. ((r ≡ Refusal.Stale) × (self.old.known.stale ≡ true)) ⊎ ((r ≡ Refusal.Memory) × (self.old.known.stale ≡ false))) }
+        ensures unchanged { OnErr result (self.new ≡ self.old) }
+        ensures lines { self.new.lines ≡ self.old.lines }
+        ensures entries { self.new.entries ≡ self.old.entries }
+    {
+        if self.stale {
+            return Err(Refusal::Stale);
+        }
+        let base = self.kept.copied(self.alloc)?;
+        let count = self.journal.len();
+        self.base = base;
+        self.journal.clear(self.alloc);
+        Ok(count)
     }
 
     /// How often lines were read or set since the centre was made or rebuilt, and how often entries were read since it was
@@ -356,24 +385,32 @@ impl Centre {
         )
     }
 
-    /// The number of entries.
+    /// The number of entries, those that were folded away counted.
     pub fn position(&self) -> u64
-        ensures { result ≡ length self.now.known.journal }
+        ensures { result ≡ length (all_entries self.now.known) }
     {
-        self.journal.len()
+        self.journal.position()
     }
 
-    /// The entry of that number, from 1; `None` past the last. Each call is counted.
+    /// Whether the journal has as many entries as it may, or the last position is reached: every event is refused then, by
+    /// `JournalFull` where the centre is whole.
+    pub fn is_full(&self) -> bool
+        ensures { result ≡ is_full self.now.known.settings (past self.now.known) }
+    {
+        self.journal.is_full(self.limit)
+    }
+
+    /// The entry of that number, from 1; `None` where it was folded away, and past the last. Each call is counted.
     pub fn entry(&mut self, n: u64) -> Option<&Entry>
         ensures* after { sem 𝓛 (follows_so the_row the_row self.entry.ghost_name none (λ _ _. ⊤) (λ c. c ≡ record self.old { entries = counted self.old.entries })) }
-        ensures value { option_copied result ≡ (if n == 0 then None else slice_get self.old.known.journal (n - 1)) }
+        ensures value { option_copied result ≡ (if nat_le n (length self.old.known.folded) then None else slice_get self.old.known.journal (n - length self.old.known.folded - 1)) }
     {
         self.journal.read(n)
     }
 
     /// Tells what always holds of a centre.
     pub fn tell_soundness(&self)
-        ensures legal { Legal self.now.known.settings (past self.now.known) }
+        ensures legal { Lawful self.now.known.settings (past self.now.known) }
         ensures long { length self.now.known.journal ≤ self.now.known.settings.limit }
         ensures few { self.now.known.settings.limit ≤ 4000000 }
     {

@@ -1,6 +1,6 @@
 //! How an accepted event is entered: what is kept follows it, and its entry becomes the last of the journal.
 
-ghost use Rattle.std.specs.Prelude.{◌≡◌, ◌≤◌, ◌+◌, ◌++◌, ◌∷◌, [], length, true, IfOk, IsOk, OnOk, OnErr};
+ghost use Rattle.std.specs.Prelude.{◌≡◌, ◌<◌, ◌≤◌, ◌+◌, ◌-◌, ◌^◌, ◌++◌, ◌∷◌, [], length, true, IfOk, IsOk, OnOk, OnErr};
 ghost use Rattle.centre_lines.specs.Following.{Finishes, held_in};
 ghost use Rattle.centre_past.specs.IsKept.{IsKept};
 ghost use Rattle.centre_events.specs.Kept.{Gives, is_plain};
@@ -75,7 +75,9 @@ pub(crate) fn enter(
     entry: Entry,
 ) -> Result<(), AllocError>
     requires room { 1 ≤ journal.old.room }
+    requires number { length journal.old.folded + length journal.old.entries < 2 ^ 64 - 1 }
     requires finishes { Finishes kept.old entry.event entry.answer place up reached.spots.items reached.lines }
+    ensures folded { journal.new.folded ≡ journal.old.folded }
     ensures entry { OnOk result (journal.new.entries ≡ journal.old.entries ++ entry ∷ []) }
     ensures entries_stay { OnErr result (journal.new.entries ≡ journal.old.entries) }
     ensures unread { journal.new.reads ≡ journal.old.reads }

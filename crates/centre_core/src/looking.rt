@@ -1,8 +1,8 @@
 //! What is looked at before an event is entered. Nothing is changed but room in the journal, and how often lines were
 //! read.
 
-ghost use Rattle.std.specs.Prelude.{◌≡◌, ◌<◌, ◌≤◌, ◌+◌, ◌*◌, List, ℕ, length, false, Ok, IfOk, IfErr, IsOk, OnOk};
-ghost use Rattle.centre_core.specs.Centre.{IsCentre, IsRefused};
+ghost use Rattle.std.specs.Prelude.{◌≡◌, ◌<◌, ◌≤◌, ◌+◌, ◌-◌, ◌*◌, ◌^◌, ◌++◌, List, ℕ, length, false, Ok, IfOk, IfErr, IsOk, OnOk};
+ghost use Rattle.centre_core.specs.Centre.{IsRefused, IsWhole, past_over};
 ghost use Rattle.centre_lines.specs.Following.{WasReached};
 ghost use Rattle.centre_past.specs.IsKept.{IsKept, OnlyReadsIn};
 ghost use Rattle.centre_past.specs.Legal.{Legal};
@@ -27,6 +27,7 @@ use std::alloc::Global;
 
 /// Makes room for one more entry in the journal.
 fn make_room(journal: &mut Journal) -> Result<(), Refusal>
+    ensures folded { journal.new.folded ≡ journal.old.folded }
     ensures entries { journal.new.entries ≡ journal.old.entries }
     ensures unread { journal.new.reads ≡ journal.old.reads }
     ensures room { OnOk result (1 ≤ journal.new.room) }
@@ -36,12 +37,17 @@ fn make_room(journal: &mut Journal) -> Result<(), Refusal>
     Ok(())
 }
 
-/// Whether the edit is accepted after the entries of the journal, which holds so many at most.
-fn look_at_edit(limit: u32, journal: &Journal, kept: &Kept, edit: &Edit) -> Result<(), Refusal>
+/// Whether the edit is accepted after the entries of the journal, which holds so many at most. Lines are read for an Update
+/// alone.
+#[tactic(auto, using(centre_past::proofs::ReadLemmas::reads_none))]
+fn look_at_edit(limit: u32, journal: &Journal, kept: &mut Kept, edit: &Edit) -> Result<(), Refusal>
     ensures few { OnOk result (length journal.now.entries < limit) }
-    ensures verdict { (network : List ℕ) → IsCentre (record { network = network; limit = limit }) journal.now.entries false kept.now → IsChecked (verdict (record { network = network; limit = limit }) (past_of journal.now.entries) (event.Edit edit.now)) result }
+    ensures number { OnOk result (length journal.now.folded + length journal.now.entries < 2 ^ 64 - 1) }
+    ensures verdict { (network : List ℕ) → IsWhole network journal.now.folded journal.now.entries kept.old → IsChecked (verdict (record { network = network; limit = limit }) (past_over journal.now.folded journal.now.entries) (event.Edit edit.now)) result }
+    ensures reads { OnlyReadsIn kept.old kept.new }
+    ensures meter { (network : List ℕ) → IsWhole network journal.now.folded journal.now.entries kept.old → kept.new.tables.lines.meter ≤ kept.old.tables.lines.meter + size (edit_reach (past_of (journal.now.folded ++ journal.now.entries)) edit.now) }
 {
-    if journal.len() >= u64::from(limit) {
+    if journal.is_full(limit) {
         return Err(Refusal::JournalFull);
     }
     check_edit(kept, edit)
@@ -56,15 +62,17 @@ pub(crate) fn prepare_edit(
     kept: &mut Kept,
     edit: &Edit,
 ) -> Result<Reached, Refusal>
+    ensures folded { journal.new.folded ≡ journal.old.folded }
     ensures entries { journal.new.entries ≡ journal.old.entries }
     ensures unread { journal.new.reads ≡ journal.old.reads }
     ensures room { OnOk result (1 ≤ journal.new.room) }
     ensures few { OnOk result (length journal.old.entries < limit) }
+    ensures number { OnOk result (length journal.old.folded + length journal.old.entries < 2 ^ 64 - 1) }
     ensures reads { OnlyReadsIn kept.old kept.new }
-    ensures accepted { (network : List ℕ) → IsCentre (record { network = network; limit = limit }) journal.old.entries false kept.old → OnOk result (IsOk (verdict (record { network = network; limit = limit }) (past_of journal.old.entries) (event.Edit edit.now))) }
-    ensures refusal { (network : List ℕ) → IsCentre (record { network = network; limit = limit }) journal.old.entries false kept.old → IfErr result (IsRefused (record { network = network; limit = limit }) journal.old.entries (event.Edit edit.now)) }
-    ensures reached { (network : List ℕ) → IsCentre (record { network = network; limit = limit }) journal.old.entries false kept.old → (a : answer_spec.Answer) → verdict (record { network = network; limit = limit }) (past_of journal.old.entries) (event.Edit edit.now) ≡ Ok a → IfOk result (λ x. WasReached (past_of journal.old.entries) (event.Edit edit.now) a x.spots.items x.lines) }
-    ensures meter { (network : List ℕ) → IsCentre (record { network = network; limit = limit }) journal.old.entries false kept.old → kept.new.tables.lines.meter ≤ kept.old.tables.lines.meter + 2 * size (edit_reach (past_of journal.old.entries) edit.now) }
+    ensures accepted { (network : List ℕ) → IsWhole network journal.old.folded journal.old.entries kept.old → OnOk result (IsOk (verdict (record { network = network; limit = limit }) (past_over journal.old.folded journal.old.entries) (event.Edit edit.now))) }
+    ensures refusal { (network : List ℕ) → IsWhole network journal.old.folded journal.old.entries kept.old → IfErr result (IsRefused (record { network = network; limit = limit }) (past_over journal.old.folded journal.old.entries) (event.Edit edit.now)) }
+    ensures reached { (network : List ℕ) → IsWhole network journal.old.folded journal.old.entries kept.old → (a : answer_spec.Answer) → verdict (record { network = network; limit = limit }) (past_over journal.old.folded journal.old.entries) (event.Edit edit.now) ≡ Ok a → IfOk result (λ x. WasReached (past_of (journal.old.folded ++ journal.old.entries)) (event.Edit edit.now) a x.spots.items x.lines) }
+    ensures meter { (network : List ℕ) → IsWhole network journal.old.folded journal.old.entries kept.old → kept.new.tables.lines.meter ≤ kept.old.tables.lines.meter + 3 * size (edit_reach (past_over journal.old.folded journal.old.entries) edit.now) }
 {
     look_at_edit(limit, journal, kept, edit)?;
     make_room(journal)?;
@@ -85,16 +93,17 @@ fn look_at_other(
 ) -> Verdict
     requires other { is_edit event.now ≡ false }
     ensures few { OnOk result (length journal.now.entries < limit) }
-    ensures verdict { IsCentre (record { network = network; limit = limit }) journal.now.entries false kept.old → Gives (verdict (record { network = network; limit = limit }) (past_of journal.now.entries) event.now) result }
+    ensures number { OnOk result (length journal.now.folded + length journal.now.entries < 2 ^ 64 - 1) }
+    ensures verdict { IsWhole network journal.now.folded journal.now.entries kept.old → Gives (verdict (record { network = network; limit = limit }) (past_over journal.now.folded journal.now.entries) event.now) result }
     ensures reads { OnlyReadsIn kept.old kept.new }
-    ensures meter { IsCentre (record { network = network; limit = limit }) journal.now.entries false kept.old → kept.new.tables.lines.meter ≤ kept.old.tables.lines.meter + looked_at (past_of journal.now.entries) event.now }
+    ensures meter { IsWhole network journal.now.folded journal.now.entries kept.old → kept.new.tables.lines.meter ≤ kept.old.tables.lines.meter + looked_at (past_of (journal.now.folded ++ journal.now.entries)) event.now }
 {
     tell_lines(kept.tables.lines());
     tell_known();
-    if journal.len() >= u64::from(limit) {
+    if journal.is_full(limit) {
         return Err(Refusal::JournalFull);
     }
-    let place = journal.len() + 1;
+    let place = journal.position() + 1;
     events::answer(alloc, network, kept, place, event)
 }
 
@@ -114,6 +123,7 @@ fn reach_with_room(
     answer: &Answer,
 ) -> Result<Reached, Refusal>
     requires other { is_edit event.now ≡ false }
+    ensures folded { journal.new.folded ≡ journal.old.folded }
     ensures entries { journal.new.entries ≡ journal.old.entries }
     ensures unread { journal.new.reads ≡ journal.old.reads }
     ensures room { OnOk result (1 ≤ journal.new.room) }
@@ -138,15 +148,17 @@ pub(crate) fn prepare_other(
     event: &Event,
 ) -> Result<Found, Refusal>
     requires other { is_edit event.now ≡ false }
+    ensures folded { journal.new.folded ≡ journal.old.folded }
     ensures entries { journal.new.entries ≡ journal.old.entries }
     ensures unread { journal.new.reads ≡ journal.old.reads }
     ensures room { OnOk result (1 ≤ journal.new.room) }
     ensures few { OnOk result (length journal.old.entries < limit) }
+    ensures number { OnOk result (length journal.old.folded + length journal.old.entries < 2 ^ 64 - 1) }
     ensures reads { OnlyReadsIn kept.old kept.new }
-    ensures verdict { IsCentre (record { network = network; limit = limit }) journal.old.entries false kept.old → IfOk result (λ x. verdict (record { network = network; limit = limit }) (past_of journal.old.entries) event.now ≡ Ok x.answer) }
-    ensures refusal { IsCentre (record { network = network; limit = limit }) journal.old.entries false kept.old → IfErr result (IsRefused (record { network = network; limit = limit }) journal.old.entries event.now) }
-    ensures reached { IsCentre (record { network = network; limit = limit }) journal.old.entries false kept.old → IfOk result (λ x. WasReached (past_of journal.old.entries) event.now x.answer x.reached.spots.items x.reached.lines) }
-    ensures meter { IsCentre (record { network = network; limit = limit }) journal.old.entries false kept.old → kept.new.tables.lines.meter ≤ kept.old.tables.lines.meter + 2 * reach (past_of journal.old.entries) event.now (verdict (record { network = network; limit = limit }) (past_of journal.old.entries) event.now) }
+    ensures verdict { IsWhole network journal.old.folded journal.old.entries kept.old → IfOk result (λ x. verdict (record { network = network; limit = limit }) (past_over journal.old.folded journal.old.entries) event.now ≡ Ok x.answer) }
+    ensures refusal { IsWhole network journal.old.folded journal.old.entries kept.old → IfErr result (IsRefused (record { network = network; limit = limit }) (past_over journal.old.folded journal.old.entries) event.now) }
+    ensures reached { IsWhole network journal.old.folded journal.old.entries kept.old → IfOk result (λ x. WasReached (past_of (journal.old.folded ++ journal.old.entries)) event.now x.answer x.reached.spots.items x.reached.lines) }
+    ensures meter { IsWhole network journal.old.folded journal.old.entries kept.old → kept.new.tables.lines.meter ≤ kept.old.tables.lines.meter + 2 * reach (past_over journal.old.folded journal.old.entries) event.now (verdict (record { network = network; limit = limit }) (past_over journal.old.folded journal.old.entries) event.now) }
 {
     let answer = look_at_other(alloc, network, limit, journal, kept, event)?;
     let reached = reach_with_room(alloc, journal, kept, event, &answer);

@@ -1,10 +1,10 @@
 //! How what is kept beside the journal is made anew from its entries.
 
-ghost use Rattle.std.specs.Prelude.{◌≡◌, ◌≤◌, ◌-◌, ◌+◌, ◌*◌, length, take, false, IfOk, OnOk, OnErr};
+ghost use Rattle.std.specs.Prelude.{◌≡◌, ◌<◌, ◌≤◌, ◌-◌, ◌+◌, ◌*◌, ◌++◌, length, take, false, IfOk, OnOk, OnErr};
 ghost use Rattle.mirror.specs.Table.{counted};
 ghost use Rattle.centre_lines.specs.Following.{Follows, IsLegal};
 ghost use Rattle.centre_past.specs.IsKept.{IsKept};
-ghost use Rattle.centre_core.specs.Centre.{all_reach};
+ghost use Rattle.centre_core.specs.Centre.{all_reach, past_over};
 ghost use Rattle.centre_core.specs.Journal.{counted_by};
 ghost use Rattle.centre_events.specs.Kept.{is_edit};
 ghost use Rattle.centre_events.specs.Past.{After, past_of};
@@ -75,19 +75,20 @@ fn follow(alloc: Global, kept: &mut Kept, entry: &Entry, place: u64) -> Result<(
     }
 }
 
-/// Reads the entry of that number of a legal journal, and follows it from what the entries before it come to.
+/// Reads the entry of that number of a legal journal, and follows it from what the entries before it come to, those that
+/// were folded away among them.
 fn follow_next(
     alloc: Global,
     kept: &mut Kept,
     journal: &mut Journal,
     place: u64,
 ) -> Result<(), AllocError>
-    requires first { 1 ≤ place }
-    requires last { place ≤ length journal.old.entries }
-    requires legal { IsLegal journal.old.entries }
-    requires kept { IsKept (past_of (take (place - 1) journal.old.entries)) kept.old }
-    ensures kept { OnOk result (IsKept (past_of (take place journal.old.entries)) kept.new) }
-    ensures meter { OnOk result (kept.old.tables.lines.meter ≤ 4 * all_reach (past_of (take (place - 1) journal.old.entries)) → kept.new.tables.lines.meter ≤ 4 * all_reach (past_of (take place journal.old.entries))) }
+    requires first { length journal.old.folded < place }
+    requires last { place ≤ length journal.old.folded + length journal.old.entries }
+    requires legal { IsLegal (journal.old.folded ++ journal.old.entries) }
+    requires kept { IsKept (past_of (take (place - 1) (journal.old.folded ++ journal.old.entries))) kept.old }
+    ensures kept { OnOk result (IsKept (past_of (take place (journal.old.folded ++ journal.old.entries))) kept.new) }
+    ensures meter { OnOk result (kept.old.tables.lines.meter + 4 * all_reach (past_of journal.old.folded) ≤ 4 * all_reach (past_of (take (place - 1) (journal.old.folded ++ journal.old.entries))) → kept.new.tables.lines.meter + 4 * all_reach (past_of journal.old.folded) ≤ 4 * all_reach (past_of (take place (journal.old.folded ++ journal.old.entries)))) }
     ensures read { journal.new ≡ record journal.old { reads = counted journal.old.reads } }
 {
     match journal.read(place) {
@@ -96,18 +97,20 @@ fn follow_next(
     }
 }
 
-/// What the entries of a legal journal come to, with a meter that begins at 0. Each is read once, or at most once where
-/// memory runs out.
-pub(crate) fn kept_of(alloc: Global, journal: &mut Journal) -> Result<Kept, AllocError>
-    requires { IsLegal journal.old.entries }
-    ensures kept { IfOk result (IsKept (past_of journal.old.entries)) }
-    ensures meter { IfOk result (λ kept. kept.tables.lines.meter ≤ 4 * all_reach (past_of journal.old.entries)) }
+/// What the entries of a legal journal come to, with a meter that begins at 0. It begins with a copy of the base, which is
+/// what those come to that were folded away. Each of the others is read once, or at most once where memory runs out.
+pub(crate) fn kept_of(alloc: Global, base: &Kept, journal: &mut Journal) -> Result<Kept, AllocError>
+    requires legal { IsLegal (journal.old.folded ++ journal.old.entries) }
+    requires base { IsKept (past_of journal.old.folded) base.now }
+    ensures kept { IfOk result (IsKept (past_of (journal.old.folded ++ journal.old.entries))) }
+    ensures meter { IfOk result (λ kept. kept.tables.lines.meter ≤ 4 * all_reach (past_over journal.old.folded journal.old.entries)) }
+    ensures folded { journal.new.folded ≡ journal.old.folded }
     ensures entries { journal.new.entries ≡ journal.old.entries }
     ensures reads { OnOk result (journal.new.reads ≡ counted_by (length journal.old.entries) journal.old.reads) }
     ensures most { OnErr result (journal.new.reads ≤ counted_by (length journal.old.entries) journal.old.reads) }
 {
-    let mut kept = Kept::new(alloc);
-    for done in 0..journal.len() {
+    let mut kept = base.copied(alloc)?;
+    for done in journal.folded()..journal.position() {
         follow_next(alloc, &mut kept, journal, done + 1)?;
     }
     Ok(kept)

@@ -36,4 +36,7 @@ pub mod BeginningLemmas
 pub mod VersionLemmas
 pub mod AskLemmas
 pub mod ReadLemmas
+pub mod CopyLemmas
 pub mod EmptyLemmas
+pub mod NextLemmas
+pub mod UpdateLemmas

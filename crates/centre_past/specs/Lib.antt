@@ -14,4 +14,5 @@ pub mod Reaching
 pub mod State
 pub mod Idle
 pub mod IsKept
+pub mod Copying
 pub mod VerdictLaws

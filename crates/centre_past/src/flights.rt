@@ -1,6 +1,6 @@
 //! What is in flight to each BSC, kept beside the journal.
 
-ghost use Rattle.std.specs.Prelude.{◌≡◌, ◌≤◌, Some, true, OnOk, OnErr, IsOk};
+ghost use Rattle.std.specs.Prelude.{◌≡◌, ◌≤◌, Some, true, IfOk, OnOk, OnErr, IsOk};
 ghost use Rattle.std.specs.Vec.{vec_len, vec_capacity};
 ghost use Rattle.std.specs.Option.{option_copied, option_map};
 ghost use Rattle.centre_past.specs.Flights.{with_flight, flights_after, flight_kept};
@@ -143,4 +143,18 @@ pub fn follow(
         }
         _ => Ok(()),
     }
+}
+
+/// The same flights, in memory of their own.
+pub fn copied(alloc: Global, flights: &[Flight]) -> Result<Vec<Flight>, AllocError>
+    ensures { IfOk result (λ copy. copy.items ≡ flights.now) }
+{
+    let mut copy = Vec::with_capacity(alloc, flights.len())?;
+    for flight in flights {
+        copy.push(Flight {
+            bsc: flight.bsc,
+            in_flight: flight.in_flight.copied(alloc)?,
+        })?;
+    }
+    Ok(copy)
 }

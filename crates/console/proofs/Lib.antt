@@ -5,4 +5,5 @@ pub mod StopLemmas
 pub mod ReplayLemmas
 pub mod UniqueLemmas
 pub mod SessionLemmas
+pub mod CheckpointLemmas
 pub mod WholeLemmas

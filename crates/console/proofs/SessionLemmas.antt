@@ -1,11 +1,12 @@
 -- Events and reports in a whole centre and in a stale one.
-use Rattle.std.proofs.Common.{◌≡◌, ◌⊎◌, inl, inr, ℕ, true, false, Some, Ok, Err, List, [], ◌∷◌, ◌++◌, length, length-append, refl, sym, ap, ◌∙◌}
+use Rattle.std.proofs.Common.{◌≡◌, ◌⊎◌, inl, inr, ℕ, ◌+◌, true, false, Some, Ok, Err, List, [], ◌∷◌, ◌++◌, length, length-append, refl, sym, ap, arith, ◌∙◌}
 use Rattle.cbsp_messages.specs.declared.message_type.MessageType.{MessageType}
 use Rattle.centre_core.specs.Centre.{Leaves, Refuses}
-use Rattle.centre_past.specs.Legal.{Known, past}
+use Rattle.centre_past.specs.Legal.{Known, all_entries, past}
 use Rattle.centre_events.specs.Verdict.{verdict}
 use Rattle.centre_past.specs.VerdictLaws.{verdict_is_no_want}
 use Rattle.centre_events.specs.declared.answer.Answer.{Answer}
+use Rattle.centre_events.specs.declared.entry.Entry.{Entry}
 use Rattle.centre_events.specs.declared.event.Event.{Event}
 use Rattle.centre_events.specs.declared.refusal.Refusal.{Refusal}
 use Rattle.centre_events.specs.declared.refusal.Refusal.TheVariants as refusal
@@ -27,7 +28,7 @@ verdict_stale old e stale = rw stale refl
 abbrev session_of : Known → List Kept → SessionState
 session_of centre kept = record { centre = centre; kept = kept }
 
-same_session : (old : SessionState) (new : SessionState) (centre : Known) → new.kept ≡ old.kept → new.centre ≡ centre → new ≡ record old { centre = centre }
+pub same_session : (old : SessionState) (new : SessionState) (centre : Known) → new.kept ≡ old.kept → new.centre ≡ centre → new ≡ record old { centre = centre }
 same_session old new centre kept same = ap (λ k. session_of new.centre k) kept ∙ ap (λ c. session_of c old.kept) same
 
 -- an event that is refused: nothing changed, or memory ran out and the centre is stale now
@@ -43,13 +44,18 @@ refused old new e r kept (inr (whole, inr given)) (inl same) = inl (verdict_whol
 refused old new e r kept (inr (whole, inr given)) (inr left) =
     absurd (verdict_is_no_want old.centre.settings (past old.centre) e (given ∙ ap Err left.0))
 
+-- one entry more, of those that were folded and those since
+one_more : (folded journal : List Entry) (e : Entry) → length (folded ++ (journal ++ e ∷ [])) ≡ length (folded ++ journal) + 1
+one_more folded journal e =
+    omega (arith, length-append folded (journal ++ e ∷ []), length-append journal (e ∷ []), length-append folded journal)
+
 -- an event that is accepted
 pub accepted : (old new : SessionState) (e : Event) (a : Answer) (number : ℕ) → new.kept ≡ old.kept → verdict old.centre.settings (past old.centre) e ≡ Ok a
-    → old.centre.stale ≡ false → new.centre ≡ record old.centre { journal = old.centre.journal ++ entry_of e a ∷ [] } → number ≡ length new.centre.journal
+    → old.centre.stale ≡ false → new.centre ≡ record old.centre { journal = old.centre.journal ++ entry_of e a ∷ [] } → number ≡ length (all_entries new.centre)
     → SubmitsOrStarves old e (response.Accepted number a) new
 accepted old new e a number kept is whole entry count =
     inl (
-      (verdict_whole old e whole ∙ is, count ∙ ap (λ c. length c.journal) entry ∙ length-append old.centre.journal (entry_of e a ∷ [])),
+      (verdict_whole old e whole ∙ is, count ∙ ap (λ c. length (all_entries c)) entry ∙ one_more old.centre.folded old.centre.journal (entry_of e a)),
       same_session old new (record old.centre { journal = old.centre.journal ++ entry_of e a ∷ [] }) kept entry,
     )
 

@@ -11,7 +11,7 @@ use Rattle.cbsp_messages.specs.declared.message.Message.{Message}
 use Rattle.cbsp_messages.specs.declared.message_type.MessageType.{MessageType}
 use Rattle.cbsp_messages.specs.declared.message_type.MessageType.TheVariants as type
 use Rattle.cbsp_messages.proofs.UniqueLemmas.{no_fault_if_spelled, not_whole, one_cut_fault, one_message_at_most, one_whole_fault}
-use Rattle.centre_past.specs.Legal.{past}
+use Rattle.centre_past.specs.Legal.{all_entries, past}
 use Rattle.centre_events.specs.declared.answer.Answer.{Answer}
 use Rattle.centre_events.specs.declared.event.Event.{Event}
 use Rattle.centre_events.specs.declared.event.Event.TheVariants as event
@@ -45,7 +45,7 @@ says_one old said r s new last h k = (h.0 ∙ sym k.0, h.1 ∙ sym k.1)
 
 -- the answer of a verdict, and the session after it
 abbrev answer_of : SessionState → Result Answer Refusal → Response
-answer_of old (Ok a) = response.Accepted (length old.centre.journal + 1) a
+answer_of old (Ok a) = response.Accepted (length (all_entries old.centre) + 1) a
 answer_of old (Err r) = response.Refused r
 
 abbrev session_of : SessionState → (Answer → SessionState) → Result Answer Refusal → SessionState
@@ -167,6 +167,7 @@ responds_one old (line.AreaBoard number a) r s new last h k = asks_one old (ques
 responds_one old (line.Pending b) r s new last h k = asks_one old (question.Pending b) r s new last h k
 responds_one old (line.Table b) r s new last h k = asks_one old (question.Table b) r s new last h k
 responds_one old line.Rebuild r s new last h k = (h.0 ∙ sym k.0, h.1 ∙ sym k.1)
+responds_one old line.Checkpoint r s new last h k = whole_one old _ _ r s new last (λ x y. (x.0 ∙ sym y.0, x.1 ∙ sym y.1)) h k
 responds_one old l r s new last h k = event_one old (event_of old l) r s new last h k
 
 line_one : (old : SessionState) (l : Option Line) (r s : Response) (new last : SessionState) → AnswersLine Responds old l r new → AnswersLine Responds old l s last → Same r s new last

@@ -159,6 +159,9 @@ responds_whole old (line.AreaBoard n a) r new whole h = asks_whole old (question
 responds_whole old (line.Pending b) r new whole h = asks_whole old (question.Pending b) r new whole h
 responds_whole old (line.Table b) r new whole h = asks_whole old (question.Table b) r new whole h
 responds_whole old line.Rebuild r new whole h = (ap (λ s. s.centre.stale) h.1, λ is. cc (sym h.0 ∙ is))
+responds_whole old line.Checkpoint r new whole h =
+    let folds = asked_whole old r new _ whole h in
+    (ap (λ s. s.centre.stale) folds.1 ∙ whole, λ is. cc (sym folds.0 ∙ is))
 responds_whole old l r new whole h = event_whole old (event_of old l) r new whole h
 
 line_whole : (old : SessionState) (l : Option Line) (r : Response) (new : SessionState) → old.centre.stale ≡ false → AnswersLine Responds old l r new → KeepsWhole r new

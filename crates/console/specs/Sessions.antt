@@ -8,7 +8,7 @@ use Rattle.cbsp_messages.specs.declared.fault.MessageFault.{MessageFault}
 use Rattle.cbsp_messages.specs.declared.message.Message.{Message}
 use Rattle.cbsp_messages.specs.declared.message_type.MessageType.{MessageType}
 use Rattle.centre_events.specs.Kept.{MayStarve}
-use Rattle.centre_past.specs.Legal.{Known, past}
+use Rattle.centre_past.specs.Legal.{Known, all_entries, past}
 use Rattle.centre_events.specs.Links.{is_bsc}
 use Rattle.centre_events.specs.Verdict.{verdict}
 use Rattle.centre_events.specs.declared.answer.Answer.{Answer}
@@ -65,7 +65,7 @@ verdict_in s e = if s.centre.stale then Err refusal.Stale else verdict s.centre.
 
 -- the event is accepted with this answer, as the entry of this number
 abbrev pub Accepts : SessionState → Event → ℕ → Answer → Type 0
-Accepts old e number a = (verdict_in old e ≡ Ok a) × (number ≡ length old.centre.journal + 1)
+Accepts old e number a = (verdict_in old e ≡ Ok a) × (number ≡ length (all_entries old.centre) + 1)
 
 -- the event is submitted: accepted, or refused with nothing changed
 abbrev pub Submits : SessionState → Event → Response → SessionState → Type 0
@@ -79,7 +79,7 @@ BringsUp old b (response.Accepted number a) new = Accepts old (event.LinkUp b) n
 BringsUp old b (response.Refused r) new = (verdict_in old (event.LinkUp b) ≡ Err r) × (new ≡ old)
 BringsUp old b other new = ⊥
 
--- a stale centre refuses every question
+-- a stale centre refuses what a whole one is asked
 abbrev pub AsksWhole : SessionState → Response → SessionState → Type 0 → Type 0
 AsksWhole old r new asked = MatchBool old.centre.stale (Says old (response.Refused refusal.Stale) r new) asked
 
@@ -118,6 +118,18 @@ with_stale is_stale s = record s { centre = record s.centre { stale = is_stale }
 -- the centre is made whole from its journal
 abbrev pub Rebuilds : SessionState → Response → SessionState → Type 0
 Rebuilds old r new = (r ≡ response.Rebuilt) × (new ≡ with_stale false old)
+
+-- the entries of the journal are folded
+abbrev pub with_all_folded : SessionState → SessionState
+with_all_folded s = record s { centre = record s.centre { folded = all_entries s.centre; journal = [] } }
+
+-- they are folded, and the answer is how many they are
+abbrev pub Folds : SessionState → Response → SessionState → Type 0
+Folds old r new = (r ≡ response.Folded (length old.centre.journal)) × (new ≡ with_all_folded old)
+
+-- a stale centre folds none
+abbrev pub Checkpoints : SessionState → Response → SessionState → Type 0
+Checkpoints old r new = AsksWhole old r new (Folds old r new)
 
 -- the generation is kept for the BSC, which need not be there
 abbrev pub Keeps : SessionState → ℕ → ℕ → Response → SessionState → Type 0
@@ -186,6 +198,7 @@ Responds old (line.AreaBoard warning a) r new = Asks old (question.Area warning 
 Responds old (line.Pending b) r new = Asks old (question.Pending b) r new
 Responds old (line.Table b) r new = Asks old (question.Table b) r new
 Responds old line.Rebuild r new = Rebuilds old r new
+Responds old line.Checkpoint r new = Checkpoints old r new
 Responds old l r new = SubmitsLine old (event_of old l) r new
 
 -- memory may run out for an event: the centre is whole, and may answer so
@@ -235,12 +248,14 @@ abbrev pub ListStarves : SessionState → ℕ → Response → SessionState → 
 ListStarves old b r new = (old.centre.stale ≡ false) × (is_bsc (past old.centre) b ≡ true) × IsStarved old r new
 
 -- memory ran out for a line where it may be: for the message of an `rx`, for a list of a BSC, while the centre was
--- made whole, and at the event that the line stands for; at an event alone is the centre left stale
+-- made whole or a whole one folded its journal, and at the event that the line stands for; at an event alone is the centre
+-- left stale
 abbrev pub Starves : SessionState → Line → Response → SessionState → Type 0
 Starves old (line.Report b text) r new = IsSomeAnd (octets_of text) (λ octets. OctetsStarve old b octets r new)
 Starves old (line.Pending b) r new = ListStarves old b r new
 Starves old (line.Table b) r new = ListStarves old b r new
 Starves old line.Rebuild r new = IsStarved old r new
+Starves old line.Checkpoint r new = (old.centre.stale ≡ false) × IsStarved old r new
 Starves old l r new = IsSomeAnd (event_of old l) (λ e. StarvesAt old e r new)
 
 -- the line has its answer, or memory ran out where it may be

@@ -185,6 +185,18 @@ impl Session {
         }
     }
 
+    /// Folds the entries of the journal.
+    #[tactic(auto, using(crate::proofs::CheckpointLemmas::folded, crate::proofs::CheckpointLemmas::unfolded))]
+    fn checkpoint(&mut self) -> Response
+        ensures answer { RespondsOrStarves self.old request.Checkpoint result self.new }
+        ensures fits { ResponseFits result }
+    {
+        match self.centre.checkpoint() {
+            Ok(count) => Response::Folded(count),
+            Err(refusal) => Response::Refused(refusal),
+        }
+    }
+
     fn send(&mut self, bsc: BscId) -> Response
         ensures answer { RespondsOrStarves self.old (request.Send bsc) result self.new }
         ensures fits { ResponseFits result }
@@ -358,6 +370,7 @@ impl Session {
             Line::Pending(bsc) => Ok(self.pending(bsc)),
             Line::Table(bsc) => Ok(self.table(bsc)),
             Line::Rebuild => Ok(self.rebuild()),
+            Line::Checkpoint => Ok(self.checkpoint()),
         }
     }
 

@@ -57,9 +57,13 @@ sim_option = record (new_rule (codes "sim")) { long = Some (codes "sim"); action
 abbrev pub with_ports : App → App
 with_ports a = with_rule (with_rule (with_rule a host_option) base_option) links_option
 
--- `serve`, with its six options
+-- after how many entries since the last checkpoint there is another, 1 or more
+abbrev pub fold_option : Rule
+fold_option = record (new_rule (codes "fold")) { long = Some (codes "fold"); value_names = 1; defaults = codes "100000" ∷ []; parser = Some (Unsigned 1 4294967295) }
+
+-- `serve`, with its seven options
 abbrev pub serve_command : App
-serve_command = with_rule (with_ports (with_common (new_app (codes "serve")))) sim_option
+serve_command = with_rule (with_rule (with_ports (with_common (new_app (codes "serve")))) fold_option) sim_option
 
 -- a program that is nothing without a command
 abbrev pub program : App

@@ -16,7 +16,7 @@ use Rattle.console_text.specs.declared.content_heading.ContentHeading.{ContentHe
 use Rattle.console_text.specs.declared.emergency_heading.EmergencyHeading.{EmergencyHeading}
 use Rattle.console_text.specs.declared.heading.Heading.{Heading}
 use Rattle.console_text.specs.declared.line.Line.{Line}
-use Rattle.console_text.specs.declared.line.Line.TheVariants.{AddBsc, RemoveBsc, AddCell, MoveCell, RemoveCell, AddArea, DropArea, Put, Cut, Issue, Update, Alert, Realert, Widen, Narrow, Stop, Forget, Retry, Up, Down, Keep, Send, Ask, Report, Board, AreaBoard, Pending, Table, Rebuild}
+use Rattle.console_text.specs.declared.line.Line.TheVariants.{AddBsc, RemoveBsc, AddCell, MoveCell, RemoveCell, AddArea, DropArea, Put, Cut, Issue, Update, Alert, Realert, Widen, Narrow, Stop, Forget, Retry, Up, Down, Keep, Send, Ask, Report, Board, AreaBoard, Pending, Table, Rebuild, Checkpoint}
 
 -- f of what is there
 abbrev pub if_some : {A B : Type 0} → Option A → (A → Option B) → Option B
@@ -131,6 +131,7 @@ realert warning indicator warning_type warning_period security = if_some (warnin
 abbrev pub line_of : List (List ℕ) → Option Line
 line_of (verb ∷ []) =
     if bytes_eq verb (codes "rebuild") then Some Rebuild
+    else if bytes_eq verb (codes "checkpoint") then Some Checkpoint
     else None
 line_of (verb ∷ x ∷ []) =
     if bytes_eq verb (codes "retry") then option_map Retry (bsc_of x)

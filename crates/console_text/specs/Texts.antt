@@ -26,7 +26,7 @@ use Rattle.order_maker.specs.declared.order.Order.{Order}
 use Rattle.order_maker.specs.declared.order_kind.OrderKind.{OrderKind}
 use Rattle.order_maker.specs.declared.order_kind.OrderKind.TheVariants.{Write, Replace, Kill}
 use Rattle.console_text.specs.declared.response.Response.{Response}
-use Rattle.console_text.specs.declared.response.Response.TheVariants.{Silence, BadLine, BadHex, BadFrame, Skipped, BadMessage, Accepted, Refused, Board, Set, Pending, Table, Rebuilt}
+use Rattle.console_text.specs.declared.response.Response.TheVariants.{Silence, BadLine, BadHex, BadFrame, Skipped, BadMessage, Accepted, Refused, Board, Set, Pending, Table, Rebuilt, Folded}
 
 -- the end of a line
 abbrev pub newline : List ℕ
@@ -72,7 +72,6 @@ refusal_name refusal.LastArea = codes "LastArea"
 refusal_name refusal.BadPages = codes "BadPages"
 refusal_name refusal.BadPeriod = codes "BadPeriod"
 refusal_name refusal.WrongKind = codes "WrongKind"
-refusal_name refusal.UpdatesExhausted = codes "UpdatesExhausted"
 refusal_name (refusal.StaleLink now) = codes "StaleLink"
 refusal_name refusal.LinkNotUp = codes "LinkNotUp"
 refusal_name refusal.InFlight = codes "InFlight"
@@ -195,6 +194,10 @@ key_text k = decimal k.cell.lac ++ (codes " " ++ (decimal k.cell.ci ++ (codes " 
 abbrev pub table_text : List ReportedKey → List ℕ
 table_text keys = flat_map key_text keys ++ (codes "keys " ++ (decimal (length keys) ++ newline))
 
+-- how many entries were folded
+abbrev pub folded_text : ℕ → List ℕ
+folded_text count = codes "folded " ++ (decimal count ++ newline)
+
 -- the answer's lines
 abbrev pub response_text : Response → List ℕ
 response_text Silence = []
@@ -210,6 +213,7 @@ response_text Set = codes "set" ++ newline
 response_text (Pending orders) = pending_text orders
 response_text (Table keys) = table_text keys
 response_text Rebuilt = codes "rebuilt" ++ newline
+response_text (Folded count) = folded_text count
 
 -- the message of an order that is answered can be written
 abbrev pub ResponseFits : Response → Type 0

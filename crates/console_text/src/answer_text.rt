@@ -3,7 +3,7 @@
 ghost use Rattle.std.specs.Prelude.{◌≡◌, IfOk, string_bytes};
 ghost use Rattle.cbsp_messages.specs.Written.{Fits};
 ghost use Rattle.centre_past.specs.Fits.{AnswerFits};
-ghost use Rattle.console_text.specs.Texts.{limit_name, refusal_name, refused_text, sent_text, accepted_text, fault_name, fault_value, fault_text, number_text, value_text, board_text, response_text, ResponseFits};
+ghost use Rattle.console_text.specs.Texts.{limit_name, refusal_name, refused_text, sent_text, accepted_text, fault_name, fault_value, fault_text, number_text, value_text, board_text, folded_text, response_text, ResponseFits};
 
 use crate::digits::serial_text;
 use crate::list_text::{pending_text, table_text};
@@ -43,6 +43,7 @@ fn text_of(alloc: Global, response: &Response) -> Result<String, AllocError>
         Response::Pending(orders) => pending_text(alloc, orders.as_slice()),
         Response::Table(keys) => table_text(alloc, keys.as_slice()),
         Response::Rebuilt => String::from_str(alloc, "rebuilt\n"),
+        Response::Folded(count) => folded_text(alloc, *count),
     }
 }
 
@@ -152,7 +153,6 @@ fn refusal_name(refusal: Refusal) -> &'static str
         Refusal::BadPages => "BadPages",
         Refusal::BadPeriod => "BadPeriod",
         Refusal::WrongKind => "WrongKind",
-        Refusal::UpdatesExhausted => "UpdatesExhausted",
         Refusal::StaleLink { .. } => "StaleLink",
         Refusal::LinkNotUp => "LinkNotUp",
         Refusal::InFlight => "InFlight",
@@ -221,6 +221,12 @@ fn fault_name(fault: MessageFault) -> &'static str
         MessageFault::NotInProfile => "NotInProfile",
         MessageFault::Memory => "Memory",
     }
+}
+
+fn folded_text(alloc: Global, count: u64) -> Result<String, AllocError>
+    ensures { IfOk result (λ text. string_bytes text ≡ folded_text count) }
+{
+    format!(in alloc; "folded {count}\n")
 }
 
 fn board_text(alloc: Global, numbers: Numbers) -> Result<String, AllocError>

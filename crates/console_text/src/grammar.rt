@@ -127,12 +127,14 @@ fn read_name(alloc: Global, word: &[u8]) -> Result<Name, AllocError>
     Ok(Name::from_vec(Vec::from_slice(alloc, word)?))
 }
 
-/// `rebuild`
+/// `rebuild`, `checkpoint`
 fn read_one(verb: &[u8]) -> Option<Line>
     ensures { result ≡ line_of (verb.now ∷ []) }
 {
     if is_word(verb, b"rebuild") {
         Some(Line::Rebuild)
+    } else if is_word(verb, b"checkpoint") {
+        Some(Line::Checkpoint)
     } else {
         None
     }

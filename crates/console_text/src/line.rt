@@ -87,4 +87,6 @@ pub enum Line {
     Table(BscId),
     /// `rebuild`
     Rebuild,
+    /// `checkpoint`
+    Checkpoint,
 }

@@ -3,7 +3,7 @@
 ghost use Rattle.std.specs.Prelude.{◌≡◌, ◌≤◌, false, map, string_bytes, IfOk, IfErr, IfSome};
 ghost use Rattle.clap.specs.Words.{app_of, kind_of, rule_of, subcommand_rows_of};
 ghost use Rattle.clap.specs.declared.builder.command.Command.TheViews.{out-Command as fields_of};
-ghost use Rattle.console_text.specs.CommandLine.{plmn_option, journal_option, host_option, base_option, links_option, sim_option, with_common, with_ports, replay_command, serve_command, command_line, most_entries};
+ghost use Rattle.console_text.specs.CommandLine.{plmn_option, journal_option, host_option, base_option, links_option, fold_option, sim_option, with_common, with_ports, replay_command, serve_command, command_line, most_entries};
 ghost use Rattle.console_text.specs.CommandLine.{meets_serve, replay_rows, network_in, limit_in, Asks, ComesTo, Refuses};
 
 use crate::no_run::NoRun;
@@ -15,6 +15,9 @@ use std::alloc::{AllocError, Global};
 
 /// The most entries that a journal may hold, and the number where none is given.
 pub const MOST_ENTRIES: u32 = 4_000_000;
+
+/// After how many entries a server folds its journal, where no number is given.
+pub const FOLD: u32 = 100_000;
 
 /// What a script is run with.
 #[derive(Clone, Copy, Debug)]
@@ -100,6 +103,20 @@ fn links_option<'a>(alloc: Global) -> Arg<'a>
         .help("How many BSCs may connect, from BSC 1 on")
 }
 
+fn fold_option<'a>(alloc: Global) -> Arg<'a>
+    ensures rule { rule_of result ≡ fold_option }
+    ensures own { result.global ≡ false }
+{
+    Arg::new(alloc, "fold")
+        .long("fold")
+        .value_name("N")
+        .default_value("100000")
+        .value_parser(ValueParser::unsigned(1, 4294967295))
+        .help(
+            "After how many entries there is a checkpoint, at the latest at nine tenths of the journal",
+        )
+}
+
 fn sim_option<'a>(alloc: Global) -> Arg<'a>
     ensures rule { rule_of result ≡ sim_option }
     ensures own { result.global ≡ false }
@@ -126,7 +143,7 @@ fn serve_command<'a>(alloc: Global) -> Result<Command<'a>, AllocError>
 {
     let command = Command::new(alloc, "serve").about("Keeps warnings on air over TCP");
     let command = with_ports(alloc, with_common(alloc, command)?)?;
-    command.arg(sim_option(alloc))
+    command.arg(fold_option(alloc))?.arg(sim_option(alloc))
 }
 
 /// The command line that is taken.

@@ -28,4 +28,6 @@ pub enum Response {
     Table(ReportedKeys),
     /// The centre is whole.
     Rebuilt,
+    /// So many entries of the journal were folded.
+    Folded(u64),
 }

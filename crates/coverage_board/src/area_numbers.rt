@@ -68,6 +68,20 @@ impl Model for AreaNumbers {
     ghost view = { λ n. n.map.entries };
 }
 
+impl Clone for AreaNumbers {
+    ghost use Rattle.std.specs.Prelude.{◌≡◌};
+
+    ghost is_clone = { λ s t. t ≡ s };
+
+    fn clone(&self) -> Result<AreaNumbers, AllocError> {
+        Ok(AreaNumbers {
+            alloc: self.alloc,
+            map: self.map.clone()?,
+            places: [0; REMEMBERED],
+        })
+    }
+}
+
 impl AreaNumbers {
     ghost use Rattle.std.specs.Prelude.{◌≡◌, ℕ, true, false, List, [], ◌&&◌, not, ◌⊎◌, bytes_eq, if◌then◌else◌, slice_get, OnOk, IfSome, IfNone};
     ghost use Rattle.std.specs.Map.{keys_of, lookup};

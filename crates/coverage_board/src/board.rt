@@ -48,11 +48,22 @@ fn place_of(rows: &IndexMap<u32, Row>, last: usize, number: u32) -> Option<usize
 }
 
 impl Board {
-    ghost use Rattle.std.specs.Prelude.{◌≡◌, ℕ, List, nat_eq, if◌then◌else◌, OnOk};
+    ghost use Rattle.std.specs.Prelude.{◌≡◌, ℕ, List, nat_eq, if◌then◌else◌, IfOk, OnOk};
     ghost use Rattle.coverage_board.specs.Board.{total_of, area_of};
     ghost use Rattle.coverage_board.specs.Numbers.{zero_numbers, moved, Holds, HasRoom};
     ghost use Rattle.coverage_board.specs.Parts.{total_part, area_part};
     ghost use Rattle.coverage_board.specs.Reading.{stand_of};
+
+    /// The same, in memory of its own.
+    pub fn copied(&self) -> Result<Board, AllocError>
+        ensures { IfOk result (λ copy. copy ≡ self.now) }
+    {
+        Ok(Board {
+            alloc: self.alloc,
+            rows: self.rows.clone()?,
+            last: 0,
+        })
+    }
 
     /// A board on which nothing is counted. What it will need is taken from the allocator.
     pub fn new(alloc: Global) -> Board

@@ -23,6 +23,19 @@ impl Model for Row {
     ghost view = { λ r. record { total = r.total; areas = r.areas } };
 }
 
+impl Clone for Row {
+    ghost use Rattle.std.specs.Prelude.{◌≡◌};
+
+    ghost is_clone = { λ s t. t ≡ s };
+
+    fn clone(&self) -> Result<Row, AllocError> {
+        Ok(Row {
+            total: self.total,
+            areas: self.areas.clone()?,
+        })
+    }
+}
+
 impl Row {
     ghost use Rattle.std.specs.Prelude.{◌≡◌, ℕ, List, OnOk};
     ghost use Rattle.coverage_board.specs.Board.{nothing, area_in};

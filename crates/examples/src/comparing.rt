@@ -26,16 +26,21 @@ fn is_as_wanted(given: &str, wanted: &str) -> bool {
 }
 
 /// The number of the first answer that is not the wanted one, if any.
-pub fn difference(alloc: Global, script: &str, wanted: &str, journal: u32) -> Result<Option<u64>> {
-    let answers = answers_to(alloc, script, journal)?;
+pub fn first_unlike(answers: &str, wanted: &str) -> Option<u64> {
     let mut wanted = wanted.lines();
     let mut number = 0u64;
-    for given in answers.as_str().lines() {
+    for given in answers.lines() {
         number = number.saturating_add(1);
         match wanted.next() {
             Some(line) if is_as_wanted(given, line) => {}
-            _ => return Ok(Some(number)),
+            _ => return Some(number),
         }
     }
-    Ok(wanted.next().map(|_| number.saturating_add(1)))
+    wanted.next().map(|_| number.saturating_add(1))
+}
+
+/// The number of the first answer to the script that is not the wanted one, if any.
+pub fn difference(alloc: Global, script: &str, wanted: &str, journal: u32) -> Result<Option<u64>> {
+    let answers = answers_to(alloc, script, journal)?;
+    Ok(first_unlike(answers.as_str(), wanted))
 }

@@ -9,18 +9,20 @@ mod rows;
 
 use anyhow::Result;
 use comparing::difference;
-use rebuilding::first_changed;
+use rebuilding::{first_changed, first_changed_row};
 use rows::{Row, read_rows};
 use std::fs;
 use std::process::ExitCode;
 use std::rt::Files;
 
 /// Scripts as an operator writes them: NAME.txt, with its answers in NAME.answers.
-const SCRIPTS: [&str; 10] = [
+const SCRIPTS: [&str; 12] = [
     "broadcasts-told",
     "day-of-failures",
     "first-warning",
+    "flood-for-days",
     "flood-two-controllers",
+    "journal-folded",
     "link-lost",
     "link-up-again",
     "replace-lost",
@@ -33,7 +35,7 @@ const SCRIPTS: [&str; 10] = [
 const SCRIPTS_DRAWN: u64 = 300;
 
 /// Files of rows. A row may begin with one of an earlier file.
-const ROWS: [&str; 9] = [
+const ROWS: [&str; 11] = [
     "first-warning.rows",
     "bad-lines.rows",
     "changes.rows",
@@ -43,6 +45,8 @@ const ROWS: [&str; 9] = [
     "queries.rows",
     "warnings.rows",
     "alerts.rows",
+    "updates.rows",
+    "checkpoints.rows",
 ];
 
 /// Runs one script, prints whether its answers agree, and tells it.
@@ -76,15 +80,30 @@ fn rows_agree<R: Print + AllocGlobal>(rt: &R, file: &str, rows: &[Row]) -> Resul
     Ok(true)
 }
 
-/// Runs drawn scripts with and without rebuilds, prints whether their answers agree, and tells it.
-fn rebuilt_agrees<R: Print + AllocGlobal>(rt: &R) -> Result<bool> {
+/// Runs the rows with rebuilds and checkpoints between their lines, prints whether their answers agree, and tells it.
+fn rows_agree_so<R: Print + AllocGlobal>(rt: &R, rows: &[Row]) -> Result<bool> {
+    match first_changed_row(rt.alloc(), rows)? {
+        None => {
+            println!(rt; "the rows agree with rebuilds and checkpoints")?;
+            Ok(true)
+        }
+        Some(row) => {
+            let name = row.name.as_str();
+            println!(rt; "'{name}' differs with rebuilds or checkpoints")?;
+            Ok(false)
+        }
+    }
+}
+
+/// Runs drawn scripts so, prints whether their answers agree, and tells it.
+fn drawn_agree<R: Print + AllocGlobal>(rt: &R) -> Result<bool> {
     match first_changed(rt.alloc(), SCRIPTS_DRAWN)? {
         None => {
-            println!(rt; "{SCRIPTS_DRAWN} drawn scripts agree with rebuilds")?;
+            println!(rt; "{SCRIPTS_DRAWN} drawn scripts agree with rebuilds and checkpoints")?;
             Ok(true)
         }
         Some(number) => {
-            println!(rt; "drawn script {number} differs with rebuilds")?;
+            println!(rt; "drawn script {number} differs with rebuilds or checkpoints")?;
             Ok(false)
         }
     }
@@ -107,7 +126,7 @@ fn main(rt: HostRuntime) -> Result<ExitCode> {
             before.push(row)?;
         }
     }
-    if !rebuilt_agrees(&rt)? {
+    if !rows_agree_so(&rt, before.as_slice())? || !drawn_agree(&rt)? {
         return Ok(ExitCode::FAILURE);
     }
     Ok(ExitCode::SUCCESS)

@@ -1,49 +1,80 @@
-//! Scripts run twice: once as they are, and once with the centre rebuilt after each line.
+//! Scripts run a second time, with a rebuild of the centre or a checkpoint after each line: neither changes another answer.
 
-use crate::comparing::answers_to;
+use crate::comparing::{answers_to, first_unlike};
 use crate::random_scripts::{Draws, random_script};
+use crate::rows::Row;
 use anyhow::Result;
 use std::alloc::Global;
 
 /// How many lines of each script are drawn.
 const LINES: usize = 60;
 
-/// The script with a `rebuild` after each line.
-fn rebuilt_script(alloc: Global, script: &str) -> Result<String> {
-    let mut rebuilt = String::new(alloc);
+/// More entries than any script here has.
+const ROOM: u32 = 4_000_000;
+
+/// What stands after each line.
+const BETWEEN: [&str; 3] = ["rebuild\n", "checkpoint\n", "checkpoint\nrebuild\n"];
+
+/// The script with these lines after each of its own.
+fn script_with(alloc: Global, script: &str, between: &str) -> Result<String> {
+    let mut longer = String::new(alloc);
     for line in script.lines() {
-        rebuilt.push_str(line)?;
-        rebuilt.push_str("\nrebuild\n")?;
+        longer.push_str(line)?;
+        longer.push('\n')?;
+        longer.push_str(between)?;
     }
-    Ok(rebuilt)
+    Ok(longer)
 }
 
-/// The answers but those to `rebuild`.
+/// The answers but those to `rebuild` and `checkpoint`.
 fn other_answers(alloc: Global, answers: &str) -> Result<String> {
     let mut others = String::new(alloc);
-    for line in answers.lines().filter(|line| *line != "rebuilt") {
-        others.push_str(line)?;
-        others.push('\n')?;
+    for line in answers.lines() {
+        if line != "rebuilt" && !line.starts_with("folded ") {
+            others.push_str(line)?;
+            others.push('\n')?;
+        }
     }
     Ok(others)
 }
 
-/// Whether the script has the same answers where the centre is rebuilt after each line.
-fn is_same_rebuilt(alloc: Global, script: &str) -> Result<bool> {
-    let plain = answers_to(alloc, script, 4_000_000)?;
-    let rebuilt = rebuilt_script(alloc, script)?;
-    let answers = answers_to(alloc, rebuilt.as_str(), 4_000_000)?;
+/// Whether the script has these answers with those lines after each of its own.
+fn is_same_with(alloc: Global, script: &str, wanted: &str, between: &str) -> Result<bool> {
+    let longer = script_with(alloc, script, between)?;
+    let answers = answers_to(alloc, longer.as_str(), ROOM)?;
     let others = other_answers(alloc, answers.as_str())?;
-    Ok(plain.as_str() == others.as_str())
+    let wanted = other_answers(alloc, wanted)?;
+    Ok(first_unlike(others.as_str(), wanted.as_str()).is_none())
 }
 
-/// The number of the first of so many drawn scripts that has other answers where the centre is rebuilt after each line, if
-/// one has.
+/// Whether the script has these answers with each of the lines after each of its own.
+fn is_same(alloc: Global, script: &str, wanted: &str) -> Result<bool> {
+    for between in BETWEEN {
+        if !is_same_with(alloc, script, wanted, between)? {
+            return Ok(false);
+        }
+    }
+    Ok(true)
+}
+
+/// The first row that has other answers so, if one has. A row whose journal is to be full has them.
+pub fn first_changed_row<'r>(alloc: Global, rows: &'r [Row]) -> Result<Option<&'r Row>> {
+    for row in rows {
+        let (script, answers) = (row.script.as_str(), row.answers.as_str());
+        if row.journal >= ROOM && !is_same(alloc, script, answers)? {
+            return Ok(Some(row));
+        }
+    }
+    Ok(None)
+}
+
+/// The number of the first of so many drawn scripts that has other answers so, if one has.
 pub fn first_changed(alloc: Global, scripts: u64) -> Result<Option<u64>> {
     for number in 0..scripts {
         let mut draws = Draws::new(number);
         let script = random_script(alloc, &mut draws, LINES)?;
-        if !is_same_rebuilt(alloc, script.as_str())? {
+        let answers = answers_to(alloc, script.as_str(), ROOM)?;
+        if !is_same(alloc, script.as_str(), answers.as_str())? {
             return Ok(Some(number));
         }
     }

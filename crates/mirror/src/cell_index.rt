@@ -1,6 +1,6 @@
 //! The lines that aren't blank, by BSC and cell.
 
-ghost use Rattle.std.specs.Prelude.{◌≡◌, ◌<◌, None, Some, [], OnOk, OnErr};
+ghost use Rattle.std.specs.Prelude.{◌≡◌, ◌<◌, None, Some, [], IfOk, OnOk, OnErr};
 ghost use Rattle.std.specs.Map.{lookup};
 ghost use Rattle.mirror.specs.Index.{IsEntered};
 ghost use Rattle.mirror.specs.Table.{is_slot};
@@ -34,6 +34,15 @@ impl CellIndex {
         CellIndex {
             slots: BTreeMap::new(alloc),
         }
+    }
+
+    /// The same slots, in memory of their own.
+    pub(crate) fn copied(&self) -> Result<CellIndex, AllocError>
+        ensures { IfOk result (λ copy. copy ≡ self.now) }
+    {
+        Ok(CellIndex {
+            slots: self.slots.clone()?,
+        })
     }
 
     /// The slots, in ascending order, and whether the line of each is held.

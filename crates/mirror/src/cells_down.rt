@@ -1,6 +1,6 @@
 //! The cells that are down for warnings of each kind.
 
-ghost use Rattle.std.specs.Prelude.{◌≡◌, ◌&&◌, ◌||◌, ℕ, true, false, [], if◌then◌else◌, nat_eq, OnOk, OnErr};
+ghost use Rattle.std.specs.Prelude.{◌≡◌, ◌&&◌, ◌||◌, ℕ, true, false, [], if◌then◌else◌, nat_eq, IfOk, OnOk, OnErr};
 ghost use Rattle.std.specs.List.{list_any};
 ghost use Rattle.common.specs.Cell.{cell_eq};
 ghost use Rattle.common.specs.declared.cell.Cell.{Cell};
@@ -29,6 +29,16 @@ impl CellsDown {
             cbs: Downs::new(alloc),
             emergency: Downs::new(alloc),
         }
+    }
+
+    /// The same cells, in memory of their own.
+    pub(crate) fn copied(&self) -> Result<CellsDown, AllocError>
+        ensures { IfOk result (λ copy. copy ≡ self.now) }
+    {
+        Ok(CellsDown {
+            cbs: self.cbs.copied()?,
+            emergency: self.emergency.copied()?,
+        })
     }
 
     /// Whether the cell is down at the BSC for warnings of the kind.

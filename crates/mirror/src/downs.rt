@@ -1,6 +1,6 @@
 //! The cells that are down.
 
-ghost use Rattle.std.specs.Prelude.{◌≡◌, ◌<◌, ◌&&◌, ℕ, true, false, [], replicate, if◌then◌else◌, nat_eq, OnOk, OnErr};
+ghost use Rattle.std.specs.Prelude.{◌≡◌, ◌<◌, ◌&&◌, ℕ, true, false, [], replicate, if◌then◌else◌, nat_eq, IfOk, OnOk, OnErr};
 ghost use Rattle.std.specs.List.{list_any};
 ghost use Rattle.common.specs.Cell.{cell_eq};
 ghost use Rattle.common.specs.declared.cell.Cell.{Cell};
@@ -58,6 +58,16 @@ impl Downs {
             places: BTreeSet::new(alloc),
             counts: no_counts(),
         }
+    }
+
+    /// The same places, in memory of their own.
+    pub(crate) fn copied(&self) -> Result<Downs, AllocError>
+        ensures { IfOk result (λ copy. copy ≡ self.now) }
+    {
+        Ok(Downs {
+            places: self.places.clone()?,
+            counts: self.counts,
+        })
     }
 
     /// The places, in ascending order.

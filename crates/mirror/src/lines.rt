@@ -50,6 +50,16 @@ impl Lines {
         }
     }
 
+    /// The same lines, in memory of their own.
+    pub(crate) fn copied(&self) -> Result<Lines, AllocError>
+        ensures { IfOk result (λ copy. copy ≡ self.now) }
+    {
+        Ok(Lines {
+            order: self.order.clone()?,
+            kept: self.kept.clone()?,
+        })
+    }
+
     /// A lemma, not a test: it returns nothing, and its clause says that the lines stand in order.
     pub(crate) fn tell_order(&self)
         ensures { IsStrictlySortedBy warning_slot_cmp (keys_of self.now) }

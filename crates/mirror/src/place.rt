@@ -5,6 +5,7 @@ ghost use Rattle.mirror.specs.Order.{place_in, place_of, least_place};
 
 use cell_register::BscId;
 use common::Cell;
+use std::alloc::AllocError;
 use std::cmp::Ordering;
 use std::marker::Model;
 
@@ -27,6 +28,18 @@ impl Model for Place {
     ghost Value = { Place };
 
     ghost view = { λ p. place_in p.number };
+}
+
+impl Clone for Place {
+    ghost use Rattle.std.specs.Prelude.{◌≡◌};
+
+    ghost is_clone = { λ s t. t ≡ s };
+
+    fn clone(&self) -> Result<Place, AllocError> {
+        Ok(Place {
+            number: self.number,
+        })
+    }
 }
 
 impl Place {

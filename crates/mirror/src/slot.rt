@@ -8,6 +8,7 @@ use crate::line_key::LineKey;
 use crate::place::Place;
 use cell_register::BscId;
 use common::Cell;
+use std::alloc::AllocError;
 use std::cmp::Ordering;
 use std::marker::Model;
 
@@ -25,6 +26,19 @@ impl Model for Slot {
     ghost Value = { Slot };
 
     ghost view = { λ s. slot_of s.place.bsc s.place.cell s.warning };
+}
+
+impl Clone for Slot {
+    ghost use Rattle.std.specs.Prelude.{◌≡◌};
+
+    ghost is_clone = { λ s t. t ≡ s };
+
+    fn clone(&self) -> Result<Slot, AllocError> {
+        Ok(Slot {
+            place: self.place.clone()?,
+            warning: self.warning,
+        })
+    }
 }
 
 impl Slot {

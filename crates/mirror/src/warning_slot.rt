@@ -7,6 +7,7 @@ ghost use Rattle.mirror.specs.Order.{first_of, slot_in, slot_of};
 use crate::line_key::LineKey;
 use cell_register::BscId;
 use common::Cell;
+use std::alloc::AllocError;
 use std::cmp::Ordering;
 use std::hash::{Hash, Hasher};
 use std::marker::Model;
@@ -33,6 +34,19 @@ impl Model for WarningSlot {
     ghost Value = { Slot };
 
     ghost view = { λ s. slot_in s.front s.cell };
+}
+
+impl Clone for WarningSlot {
+    ghost use Rattle.std.specs.Prelude.{◌≡◌};
+
+    ghost is_clone = { λ s t. t ≡ s };
+
+    fn clone(&self) -> Result<WarningSlot, AllocError> {
+        Ok(WarningSlot {
+            front: self.front,
+            cell: self.cell,
+        })
+    }
 }
 
 impl WarningSlot {

@@ -1,11 +1,13 @@
 -- What stands under the lock, what always holds of it, and when a desk is as the office knows it.
-use Rattle.std.specs.Prelude.{◌≡◌, ◌≤◌, ◌<◌, ◌+◌, ◌++◌, ◌==◌, ◌&&◌, ℕ, Bool, true, false, List, [], ◌∷◌, Ok, length, All, nat_lt, nat_le, get_or}
+use Rattle.std.specs.Prelude.{◌≡◌, ◌≤◌, ◌<◌, ◌⊎◌, ◌+◌, ◌++◌, ◌==◌, ◌&&◌, ℕ, Bool, true, false, List, [], ◌∷◌, Ok, length, All, nat_lt, nat_le, get_or}
 use Rattle.centre_past.specs.Fits.{AnswerFits}
-use Rattle.centre_past.specs.Legal.{Known, past}
+use Rattle.centre_past.specs.Legal.{Known, all_entries, past}
 use Rattle.centre_events.specs.Verdict.{verdict}
 use Rattle.centre_events.specs.declared.answer.Answer.{Answer}
 use Rattle.centre_events.specs.declared.entry.Entry.{Entry}
 use Rattle.centre_events.specs.declared.event.Event.{Event}
+use Rattle.centre_events.specs.declared.refusal.Refusal.{Refusal}
+use Rattle.centre_events.specs.declared.refusal.Refusal.TheVariants as refusal
 use Rattle.office.specs.Desks.{DeskState}
 use Rattle.office.specs.Receipts.{receipts_of, last_place}
 use Rattle.office.specs.declared.receipt.Receipt.{Receipt}
@@ -14,11 +16,13 @@ use Rattle.office.specs.declared.wish.Wish.{Wish}
 use Rattle.office.specs.Wishes.{is_same_bsc}
 use Rattle.common.specs.Order.{each_once}
 
--- what stands under the lock: the centre, a row for each desk that was opened, how many receipts the desks have, all together, the parts
--- and the amount of the share that is kept for desks not yet opened, and the wishes for queries
+-- what stands under the lock: the centre, a row for each desk that was opened, those rows as they were when entries were last folded,
+-- how many receipts the desks have, all together, the parts and the amount of the share that is kept for desks not yet opened, and the
+-- wishes for queries
 pub record HeldState : Type 0 where
   pub centre : Known
   pub rows : List Row
+  pub base_rows : List Row
   pub total : ℕ
   pub rest_parts : ℕ
   pub rest_amount : ℕ
@@ -28,26 +32,31 @@ pub record HeldState : Type 0 where
 abbrev pub no_row : Row
 no_row = record { entries = 0; last = 0 }
 
--- what the journal says of the desk
+-- what the entries say of the desk
 abbrev pub row_of : ℕ → List Entry → Row
-row_of desk journal = record { entries = length (receipts_of desk journal); last = last_place (receipts_of desk journal) }
+row_of desk entries = record { entries = length (receipts_of desk entries); last = last_place (receipts_of desk entries) }
 
--- each row says what the journal does of its desk; the first is that of desk 1
+-- each row says what the entries do of its desk; the first is that of desk 1
 abbrev pub RowsFit : List Row → List Entry → Type 0
-RowsFit rows journal = (k : ℕ) → k < length rows → get_or rows k no_row ≡ row_of (k + 1) journal
+RowsFit rows entries = (k : ℕ) → k < length rows → get_or rows k no_row ≡ row_of (k + 1) entries
 
 -- the entry's desk is one of those opened
 abbrev pub IsByOpened : ℕ → Entry → Type 0
 IsByOpened opened e = (0 < e.desk) × (e.desk ≤ opened)
 
--- The journal has exactly as many entries as all desks have receipts: each row is the journal's, every entry is of a desk that was
--- opened, the book, whose total is the sum of the amounts of all shares, has the number of all entries, and the share kept for desks
--- not yet opened has no amount. It has a part for each of 1,024 desks that isn't opened, and one more. So the amounts of the desks'
--- shares, which are the numbers of their receipts, come to the number of entries.
-pub record IsHeld (rows : List Row) (journal : List Entry) (total parts amount : ℕ) : Type 0 where
-  pub rows_fit : RowsFit rows journal
-  pub opened : All (IsByOpened (length rows)) journal
-  pub counted : total ≡ length journal
+-- the rows are those of the entries, every one of which is of a desk that has a row
+pub record AreRowsOf (rows : List Row) (entries : List Entry) : Type 0 where
+  pub fit : RowsFit rows entries
+  pub opened : All (IsByOpened (length rows)) entries
+
+-- There are exactly as many entries as all desks have receipts, those counted that were folded: the rows are those of all entries, and
+-- the earlier rows those of the folded ones; the book, whose total is the sum of the amounts of all shares, has the number of all
+-- entries, and the share kept for desks not yet opened has no amount. It has a part for each of 1,024 desks that isn't opened, and one
+-- more. So the amounts of the desks' shares, which are the numbers of their receipts, come to the number of entries.
+pub record IsHeld (rows base_rows : List Row) (folded journal : List Entry) (total parts amount : ℕ) : Type 0 where
+  pub all_rows : AreRowsOf rows (folded ++ journal)
+  pub folded_rows : AreRowsOf base_rows folded
+  pub counted : total ≡ length (folded ++ journal)
   pub parts_left : parts + length rows ≡ 1025
   pub few : length rows ≤ 1024
   pub nothing : amount ≡ 0
@@ -56,10 +65,10 @@ pub record IsHeld (rows : List Row) (journal : List Entry) (total parts amount :
 abbrev pub HasEachOnce : List Wish → Type 0
 HasEachOnce wishes = each_once is_same_bsc wishes ≡ true
 
--- the desk was opened, and has as many receipts as the journal has entries of it, the last at the last one's place
+-- the desk was opened, and has as many receipts as there are entries of it, the last at the last one's place
 abbrev pub fits : ℕ → List Entry → DeskState → Bool
-fits opened journal d = ((nat_lt 0 d.number && nat_le d.number opened) && (length (receipts_of d.number journal) == length d.receipts))
-    && (last_place (receipts_of d.number journal) == last_place d.receipts)
+fits opened entries d = ((nat_lt 0 d.number && nat_le d.number opened) && (length (receipts_of d.number entries) == length d.receipts))
+    && (last_place (receipts_of d.number entries) == last_place d.receipts)
 
 -- the entry of an event that a desk submitted
 abbrev pub entry_of : ℕ → Event → Answer → Entry
@@ -80,5 +89,9 @@ pub record IsEntered (old : Known) (before : DeskState) (event : Event) (new : K
   pub whole : old.stale ≡ false
   pub message_fits : AnswerFits answer
   pub entry : new ≡ record old { journal = old.journal ++ entry_of before.number event answer ∷ [] }
-  pub receipts : after.receipts ≡ before.receipts ++ receipt_at (length old.journal + 1) event answer ∷ []
+  pub receipts : after.receipts ≡ before.receipts ++ receipt_at (length (all_entries old) + 1) event answer ∷ []
   pub number : after.number ≡ before.number
+
+-- why no entry is folded: the centre is stale, or it is whole and memory runs out
+abbrev pub RefusesFold : Known → Refusal → Type 0
+RefusesFold centre r = ((r ≡ refusal.Stale) × (centre.stale ≡ true)) ⊎ ((r ≡ refusal.Memory) × (centre.stale ≡ false))

@@ -1,4 +1,4 @@
--- The receipts of a desk: its entries in the journal, in their order, with their places.
+-- The receipts of a desk: its entries, in their order, with their places.
 use Rattle.std.specs.Prelude.{ℕ, ◌+◌, ◌==◌, List, [], ◌∷◌, if◌then◌else◌}
 use Rattle.centre_events.specs.declared.entry.Entry.{Entry}
 use Rattle.office.specs.declared.receipt.Receipt.{Receipt}
@@ -12,9 +12,9 @@ abbrev pub receipts_from : ℕ → ℕ → List Entry → List Receipt
 receipts_from desk n [] = []
 receipts_from desk n (e ∷ es) = if e.desk == desk then receipt_of (n + 1) e ∷ receipts_from desk (n + 1) es else receipts_from desk (n + 1) es
 
--- the receipts of the desk
+-- the receipts of the desk for its entries among all
 abbrev pub receipts_of : ℕ → List Entry → List Receipt
-receipts_of desk journal = receipts_from desk 0 journal
+receipts_of desk entries = receipts_from desk 0 entries
 
 -- the place of the last receipt, or that number where there is none
 abbrev pub last_place_or : ℕ → List Receipt → ℕ

@@ -1,10 +1,11 @@
 -- What there is to do for the link of a BSC.
 use Rattle.std.specs.Prelude.{◌≡◌, ℕ, Bool, ◌&&◌, List, length, Option, Some, None, is_some, nat_eq, nat_le, if◌then◌else◌}
 use Rattle.centre_past.specs.Headline.{PendingGivesPlan}
-use Rattle.centre_past.specs.Legal.{Known, Legal, past}
+use Rattle.centre_past.specs.Legal.{Known, Lawful, past}
 use Rattle.centre_past.specs.LinkStates.{link_state}
 use Rattle.centre_events.specs.InFlight.{in_flight}
 use Rattle.centre_events.specs.Links.{is_bsc, is_up, last_link}
+use Rattle.centre_events.specs.Verdict.{is_full as has_no_room}
 use Rattle.office.specs.Wishes.{wish_for, without_wish}
 use Rattle.office.specs.declared.wake.Wake.{Wake}
 use Rattle.office.specs.declared.wake.Wake.TheVariants as wake
@@ -14,9 +15,9 @@ use Rattle.office.specs.declared.wish.Wish.{Wish}
 abbrev pub is_linked : Known → ℕ → ℕ → Bool
 is_linked centre b generation = is_bsc (past centre) b && (nat_eq (last_link (past centre) b) generation && is_up (past centre) b)
 
--- the journal takes no more entries
+-- the journal takes no more entries: it has as many as it may since entries were last folded, or the last position is reached
 abbrev pub is_full : Known → Bool
-is_full centre = nat_le centre.settings.limit (length centre.journal)
+is_full centre = has_no_room centre.settings (past centre)
 
 -- to ask what is wished for, if something is
 abbrev pub query_of : Option Wish → Option Wake
@@ -43,10 +44,10 @@ abbrev pub left_by : Option Wake → ℕ → List Wish → List Wish
 left_by (Some (wake.Query w after)) b wishes = without_wish b wishes
 left_by other b wishes = wishes
 
--- in some centre with a legal journal, after which the pending orders give the plan, and beside some wishes, that is to do
+-- in some centre whose entries are lawful, after which the pending orders give the plan, and beside some wishes, that is to do
 pub record IsDueSomewhere (b generation : ℕ) (w : Wake) : Type 0 where
   pub centre : Known
   pub wishes : List Wish
-  pub legal : Legal centre.settings (past centre)
+  pub lawful : Lawful centre.settings (past centre)
   pub headline : PendingGivesPlan (past centre)
   pub is_due : due centre wishes b generation ≡ Some w

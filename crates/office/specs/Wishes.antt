@@ -2,7 +2,7 @@
 use Rattle.std.specs.Prelude.{◌≡◌, ◌⊎◌, ℕ, Bool, true, false, not, List, [], ◌∷◌, ◌++◌, Option, None, IsSome, nat_eq, find}
 use Rattle.std.specs.List.{filter}
 use Rattle.centre_past.specs.Headline.{PendingGivesPlan}
-use Rattle.centre_past.specs.Legal.{Known, Legal, past}
+use Rattle.centre_past.specs.Legal.{Known, Lawful, past}
 use Rattle.centre_past.specs.Numbers.{board}
 use Rattle.centre_events.specs.Links.{is_bsc}
 use Rattle.centre_events.specs.declared.refusal.Refusal.{Refusal}
@@ -41,10 +41,10 @@ RefusesWish centre wishes b w r = ((r ≡ refusal.Stale) × (centre.stale ≡ tr
     ⊎ (((r ≡ refusal.NoSuchWarning) × (centre.stale ≡ false) × (is_bsc (past centre) b ≡ true) × (board (past centre) w ≡ None))
     ⊎ ((r ≡ refusal.Memory) × CanWish centre b w × (wish_for wishes b ≡ None))))
 
--- in some centre with a legal journal, after which the pending orders give the plan, the wish can be kept
+-- in some centre whose entries are lawful, after which the pending orders give the plan, the wish can be kept
 pub record IsWishedSomewhere (b w : ℕ) : Type 0 where
   pub centre : Known
-  pub legal : Legal centre.settings (past centre)
+  pub lawful : Lawful centre.settings (past centre)
   pub headline : PendingGivesPlan (past centre)
   pub can : CanWish centre b w
 
@@ -52,6 +52,6 @@ pub record IsWishedSomewhere (b w : ℕ) : Type 0 where
 pub record IsUnwishedSomewhere (b w : ℕ) (r : Refusal) : Type 0 where
   pub centre : Known
   pub wishes : List Wish
-  pub legal : Legal centre.settings (past centre)
+  pub lawful : Lawful centre.settings (past centre)
   pub headline : PendingGivesPlan (past centre)
   pub refuses : RefusesWish centre wishes b w r

@@ -2,6 +2,7 @@
 
 ghost use Rattle.std.specs.Prelude.{◌≡◌, ◌≤◌, ◌+◌, length, IfOk, IfErr, OnOk, OnErr};
 ghost use Rattle.centre_core.specs.Centre.{Leaves, Refuses};
+ghost use Rattle.centre_past.specs.Legal.{all_entries};
 ghost use Rattle.office.specs.Helds.{IsEntered, row_at};
 ghost use Rattle.office.specs.Receipts.{last_place};
 
@@ -23,10 +24,10 @@ pub(crate) fn enter<L: Ledger>(
 ) -> Result<Row, Refusal>
     requires same { copy ≡ event }
     requires room { 1 ≤ desk.old.spare }
-    requires later { last_place desk.old.receipts ≤ length centre.old.known.journal }
+    requires later { last_place desk.old.receipts ≤ length (all_entries centre.old.known) }
     ensures entered { OnOk result (IsEntered centre.old.known desk.old event centre.new.known desk.new) }
     ensures total { OnOk result (book.new.total ≡ book.old.total + 1) }
-    ensures row { IfOk result (λ r. r ≡ row_at (length desk.old.receipts + 1) (length centre.old.known.journal + 1)) }
+    ensures row { IfOk result (λ r. r ≡ row_at (length desk.old.receipts + 1) (length (all_entries centre.old.known) + 1)) }
     ensures refused { IfErr result (Refuses centre.old.known event) }
     ensures left { IfErr result (λ r. Leaves centre.old.known r centre.new.known) }
     ensures unchanged { OnErr result (desk.new ≡ desk.old) }

@@ -28,29 +28,30 @@ use std::sync::ledger::{Book, Ledger, Share};
 const DESKS: usize = 1024;
 
 /// A centre, and what is known of each desk. Contracts see what is known of the centre, a row for each desk that was opened,
-/// how many receipts the desks have, all together, the parts and the amount of the share that is kept for desks not yet opened,
-/// and the wishes.
+/// those rows as they were when entries were last folded, how many receipts the desks have, all together, the parts and the
+/// amount of the share that is kept for desks not yet opened, and the wishes.
 #[derive(Drop)]
 pub struct Held<L: Ledger> {
     alloc: Global,
     centre: Centre,
     rows: Vec<Row>,
+    base_rows: Vec<Row>,
+    folded: u64,
     book: Book<L>,
     rest: Share<L>,
     wishes: Vec<Wish>,
-    journal_limit: u32,
 }
 
 impl<L: Ledger> Model for Held<L> {
-    ghost use Rattle.std.specs.Prelude.{◌≡◌};
+    ghost use Rattle.std.specs.Prelude.{◌≡◌, length};
     ghost use Rattle.office.specs.Helds.{HasEachOnce, HeldState, IsHeld};
 
     ghost Value = { HeldState };
 
-    ghost view = { λ s. record { centre = s.centre.known; rows = s.rows.items; total = s.book.total; rest_parts = s.rest.parts; rest_amount = s.rest.amount; wishes = s.wishes.items } };
+    ghost view = { λ s. record { centre = s.centre.known; rows = s.rows.items; base_rows = s.base_rows.items; total = s.book.total; rest_parts = s.rest.parts; rest_amount = s.rest.amount; wishes = s.wishes.items } };
 
-    ghost invariant = { λ s. IsHeld s.rows.items s.centre.known.journal s.book.total s.rest.parts s.rest.amount
-        × (s.journal_limit ≡ s.centre.known.settings.limit)
+    ghost invariant = { λ s. IsHeld s.rows.items s.base_rows.items s.centre.known.folded s.centre.known.journal s.book.total s.rest.parts s.rest.amount
+        × (s.folded ≡ length s.centre.known.folded)
         × HasEachOnce s.wishes.items };
 }
 
@@ -58,11 +59,12 @@ impl<L: Ledger> Held<L> {
     ghost use Rattle.std.specs.Prelude.{◌≡◌, ◌≤◌, ◌<◌, ◌+◌, ◌-◌, ◌++◌, ◌∷◌, ℕ, [], length, set, true, false, Ok, Err, None, IfOk, IfErr, OnOk, OnErr, MatchBool, nat_lt};
     ghost use Rattle.centre_core.specs.Centre.{Leaves, Refuses};
     ghost use Rattle.centre_past.specs.Headline.{PendingGivesPlan};
-    ghost use Rattle.centre_past.specs.Legal.{Legal, new_centre, past};
+    ghost use Rattle.centre_past.specs.Legal.{Lawful, all_entries, checkpointed, new_centre, past};
+    ghost use Rattle.centre_events.specs.Folding.{base_of};
     ghost use Rattle.centre_events.specs.Links.{last_link};
     ghost use Rattle.cell_register.specs.Register.{is_place};
     ghost use Rattle.office.specs.Affecting.{affects, includes};
-    ghost use Rattle.office.specs.Helds.{HasEachOnce, IsEntered, IsHeld, fits, no_row, row_at};
+    ghost use Rattle.office.specs.Helds.{HasEachOnce, IsEntered, IsHeld, RefusesFold, fits, no_row, row_at};
     ghost use Rattle.centre_questions.specs.Questions.{RefusesQuestion, Shows};
     ghost use Rattle.office.specs.Shuffles.{IsFault, IsShuffle};
     ghost use Rattle.office.specs.Wakes.{due, is_full, left_by};
@@ -80,25 +82,26 @@ impl<L: Ledger> Held<L> {
         requires total { book.total ≡ 0 }
         requires parts { rest.parts ≡ 1025 }
         requires nothing { rest.amount ≡ 0 }
-        ensures { result ≡ record { centre = new_centre plmn journal_limit; rows = []; total = 0; rest_parts = 1025; rest_amount = 0; wishes = [] } }
+        ensures { result ≡ record { centre = new_centre plmn journal_limit; rows = []; base_rows = []; total = 0; rest_parts = 1025; rest_amount = 0; wishes = [] } }
     {
         Held {
             alloc,
             centre: Centre::new(alloc, plmn, journal_limit),
             rows: Vec::new(alloc),
+            base_rows: Vec::new(alloc),
+            folded: 0,
             book,
             rest,
             wishes: Vec::new(alloc),
-            journal_limit,
         }
     }
 
-    /// Tells what always holds under the lock: the journal is legal, and has exactly as many entries as the desks that were opened
-    /// have receipts, all together.
+    /// Tells what always holds under the lock: the entries are lawful, and exactly as many as the desks that were opened have
+    /// receipts, all together.
     pub fn tell_soundness(&self)
-        ensures legal { Legal self.now.centre.settings (past self.now.centre) }
+        ensures lawful { Lawful self.now.centre.settings (past self.now.centre) }
         ensures headline { PendingGivesPlan (past self.now.centre) }
-        ensures held { IsHeld self.now.rows self.now.centre.journal self.now.total self.now.rest_parts self.now.rest_amount }
+        ensures held { IsHeld self.now.rows self.now.base_rows self.now.centre.folded self.now.centre.journal self.now.total self.now.rest_parts self.now.rest_amount }
         ensures wishes { HasEachOnce self.now.wishes }
     {
         self.centre.tell_soundness();
@@ -108,7 +111,7 @@ impl<L: Ledger> Held<L> {
 
     /// Whether the desk is as this office knows it.
     fn knows(&self, desk: &Desk<L>) -> bool
-        ensures { result ≡ fits (length self.now.rows) self.now.centre.journal desk.now }
+        ensures { result ≡ fits (length self.now.rows) (all_entries self.now.centre) desk.now }
     {
         let number = desk.number() as usize;
         if number == 0 || number > self.rows.len() {
@@ -145,13 +148,13 @@ impl<L: Ledger> Held<L> {
     pub fn submit(&mut self, desk: &mut Desk<L>, event: Event, copy: Event) -> Result<(), Refusal>
         requires same { copy ≡ event }
         requires room { 1 ≤ desk.old.spare }
-        ensures wrong { fits (length self.old.rows) self.old.centre.journal desk.old ≡ false → result ≡ Err (Refusal.WrongDesk (length self.old.centre.journal)) }
-        ensures fitted { OnOk result (fits (length self.old.rows) self.old.centre.journal desk.old ≡ true) }
+        ensures wrong { fits (length self.old.rows) (all_entries self.old.centre) desk.old ≡ false → result ≡ Err (Refusal.WrongDesk (length (all_entries self.old.centre))) }
+        ensures fitted { OnOk result (fits (length self.old.rows) (all_entries self.old.centre) desk.old ≡ true) }
         ensures entered { OnOk result (IsEntered self.old.centre desk.old event self.new.centre desk.new) }
-        ensures refused { IfErr result (λ r. fits (length self.old.rows) self.old.centre.journal desk.old ≡ true → Refuses self.old.centre event r) }
+        ensures refused { IfErr result (λ r. fits (length self.old.rows) (all_entries self.old.centre) desk.old ≡ true → Refuses self.old.centre event r) }
         ensures left { IfErr result (λ r. Leaves self.old.centre r self.new.centre) }
         ensures unchanged { OnErr result (desk.new ≡ desk.old) }
-        ensures counted { OnOk result (self.new ≡ record self.old { centre = self.new.centre; rows = set self.old.rows (desk.old.number - 1) (row_at (length desk.old.receipts + 1) (length self.old.centre.journal + 1)); total = self.old.total + 1 }) }
+        ensures counted { OnOk result (self.new ≡ record self.old { centre = self.new.centre; rows = set self.old.rows (desk.old.number - 1) (row_at (length desk.old.receipts + 1) (length (all_entries self.old.centre) + 1)); total = self.old.total + 1 }) }
         ensures others { OnErr result (self.new ≡ record self.old { centre = self.new.centre }) }
     {
         if !self.knows(desk) {
@@ -170,11 +173,11 @@ impl<L: Ledger> Held<L> {
     /// Puts a question, whose answer is copied. `WrongDesk` where the desk isn't as this office knows it; else what the centre
     /// refuses, or `Memory`.
     pub fn look(&mut self, desk: &Desk<L>, question: Question) -> Result<Seen, Refusal>
-        ensures wrong { fits (length self.old.rows) self.old.centre.journal desk.now ≡ false → result ≡ Err (Refusal.WrongDesk (length self.old.centre.journal)) }
-        ensures fitted { OnOk result (fits (length self.old.rows) self.old.centre.journal desk.now ≡ true) }
-        ensures position { IfOk result (λ s. s.position ≡ length self.old.centre.journal) }
+        ensures wrong { fits (length self.old.rows) (all_entries self.old.centre) desk.now ≡ false → result ≡ Err (Refusal.WrongDesk (length (all_entries self.old.centre))) }
+        ensures fitted { OnOk result (fits (length self.old.rows) (all_entries self.old.centre) desk.now ≡ true) }
+        ensures position { IfOk result (λ s. s.position ≡ length (all_entries self.old.centre)) }
         ensures seen { IfOk result (λ s. Shows self.old.centre question s.value) }
-        ensures refused { IfErr result (λ r. fits (length self.old.rows) self.old.centre.journal desk.now ≡ true → RefusesQuestion self.old.centre question r) }
+        ensures refused { IfErr result (λ r. fits (length self.old.rows) (all_entries self.old.centre) desk.now ≡ true → RefusesQuestion self.old.centre question r) }
         ensures unchanged { self.new ≡ self.old }
     {
         let position = self.centre.position();
@@ -183,6 +186,13 @@ impl<L: Ledger> Held<L> {
         }
         let value = ask(self.alloc, &mut self.centre, &question)?;
         Ok(Seen { position, value })
+    }
+
+    /// How many entries there are that aren't folded.
+    pub fn unfolded(&self) -> u64
+        ensures { result ≡ length self.now.centre.journal }
+    {
+        self.centre.position() - self.folded
     }
 
     /// Whether the centre is stale.
@@ -213,10 +223,10 @@ impl<L: Ledger> Held<L> {
     }
 
     /// Whether the journal takes no more entries, so that nobody has anything to wait for.
-    fn is_full(&self) -> bool
+    pub(crate) fn is_full(&self) -> bool
         ensures { result ≡ is_full self.now.centre }
     {
-        self.centre.position() >= u64::from(self.journal_limit)
+        self.centre.is_full()
     }
 
     /// What there is to do for the link of that generation, if there is something. A wish is taken out.
@@ -278,21 +288,50 @@ impl<L: Ledger> Held<L> {
         self.centre.rebuild()
     }
 
-    /// Compares the receipts of the desks with the journal, and hands out the centre where the journal is a shuffle of them.
+    /// Folds the entries of the journal, and answers how many there were. `Stale`, then `Memory`; then nothing changed. Places go
+    /// on, and what the past says is as before: the centre is asked and takes events as if nothing had been folded, but that
+    /// its journal has room again.
+    pub fn checkpoint(&mut self) -> Result<u64, Refusal>
+        ensures counted { IfOk result (λ n. n ≡ length self.old.centre.journal) }
+        ensures folded { OnOk result (self.new ≡ record self.old { centre = checkpointed self.old.centre; base_rows = self.old.rows }) }
+        ensures same { OnOk result (base_of (past self.new.centre) ≡ base_of (past self.old.centre)) }
+        ensures whole { OnOk result (self.old.centre.stale ≡ false) }
+        ensures refused { IfErr result (RefusesFold self.old.centre) }
+        ensures unchanged { OnErr result (self.new ≡ self.old) }
+    {
+        if self.centre.is_stale() {
+            return Err(Refusal::Stale);
+        }
+        let rows = Vec::from_slice(self.alloc, self.rows.as_slice())?;
+        let count = self.centre.checkpoint()?;
+        self.base_rows = rows;
+        self.folded = self.centre.position();
+        Ok(count)
+    }
+
+    /// Compares the receipts of the desks with the entries, and hands out the centre where these are a shuffle of them.
     /// `Mismatch` comes before `MissingDesk`. This takes no memory.
     pub fn settle(self, desks: Vec<Desk<L>>) -> Result<Centre, Unsettled<L>>
-        ensures settled { IfOk result (λ c. IsShuffle (length self.rows) self.centre.journal desks.items) }
+        ensures settled { IfOk result (λ c. IsShuffle (length self.rows) self.centre.folded self.centre.journal desks.items) }
         ensures centre { IfOk result (λ c. c.known ≡ self.centre) }
-        ensures fault { IfErr result (λ u. IsFault (length self.rows) u.centre.known.journal desks.items u.fault) }
+        ensures fault { IfErr result (λ u. IsFault (length self.rows) u.centre.known.folded u.centre.known.journal desks.items u.fault) }
         ensures kept { IfErr result (λ u. u.centre.known ≡ self.centre) }
         ensures desks { IfErr result (λ u. u.desks ≡ desks) }
     {
         let opened = self.rows.len() as u32;
         let rows = self.rows;
+        let base_rows = self.base_rows;
+        let folded = self.folded;
         let book = self.book;
         let rest = self.rest;
         let mut centre = self.centre;
-        if let Some(desk) = mismatch(&mut centre, rows.as_slice(), desks.as_slice()) {
+        if let Some(desk) = mismatch(
+            &mut centre,
+            rows.as_slice(),
+            base_rows.as_slice(),
+            folded,
+            desks.as_slice(),
+        ) {
             return Err(Unsettled {
                 fault: Fault::Mismatch { desk },
                 centre,

@@ -5,18 +5,18 @@ ghost use Rattle.centre_events.specs.Past.{Past};
 ghost use Rattle.centre_events.specs.Settings.{Settings};
 ghost use Rattle.centre_events.specs.Verdict.{verdict};
 ghost use Rattle.centre_events.specs.declared.entry.Entry.{Entry};
-ghost use Rattle.centre_past.specs.Legal.{Known, Legal, past};
+ghost use Rattle.centre_past.specs.Legal.{Known, Lawful, past};
 ghost use Rattle.office.specs.Affecting.{LeavesIdle, LeavesOrders};
 
-/// Lemma: after every legal history, an event that is accepted makes no order pending for a BSC that it doesn't affect.
-#[tactic(auto, using(crate::proofs::PendingLemmas::orders_left))]
+/// Lemma: after every lawful history, an event that is accepted makes no order pending for a BSC that it doesn't affect.
+#[tactic(auto, using(crate::proofs::LawfulLemmas::orders_left_lawful))]
 pub fn orders_come_where_an_event_affects()
-    ensures { (settings : Settings) (past : Past) (e : Entry) → Legal settings past → verdict settings past e.event ≡ Ok e.answer → LeavesOrders past e }
+    ensures { (settings : Settings) (past : Past) (e : Entry) → Lawful settings past → verdict settings past e.event ≡ Ok e.answer → LeavesOrders past e }
 {}
 
 /// Lemma: after an event that is accepted, nothing is due for a BSC that it doesn't affect and for which nothing was due, unless it
 /// fills the journal.
 #[tactic(auto, using(crate::proofs::DueLemmas::idle_left))]
 pub fn what_is_due_comes_where_an_event_affects()
-    ensures { (centre : Known) (e : Entry) → Legal centre.settings (past centre) → verdict centre.settings (past centre) e.event ≡ Ok e.answer → LeavesIdle centre e }
+    ensures { (centre : Known) (e : Entry) → Lawful centre.settings (past centre) → verdict centre.settings (past centre) e.event ≡ Ok e.answer → LeavesIdle centre e }
 {}

@@ -1,8 +1,8 @@
 //! An office: one centre under one lock, for many callers.
 
 ghost use Rattle.std.specs.Prelude.{◌≡◌, ◌≤◌, ◌<◌, ◌⊎◌, [], IfOk, IfErr, OnOk, OnErr};
-ghost use Rattle.centre_past.specs.Legal.{Legal, past};
-ghost use Rattle.office.specs.Offices.{IsRefusedSomewhere, IsSeenSomewhere, IsSubmitted, IsUnseenSomewhere};
+ghost use Rattle.centre_past.specs.Legal.{Lawful, past};
+ghost use Rattle.office.specs.Offices.{IsFoldedSomewhere, IsRefusedSomewhere, IsSeenSomewhere, IsSubmitted, IsUnseenSomewhere};
 ghost use Rattle.office.specs.Shuffles.{IsSettled, IsUnsettled};
 ghost use Rattle.office.specs.Wakes.{IsDueSomewhere};
 ghost use Rattle.office.specs.Wishes.{IsUnwishedSomewhere, IsWishedSomewhere};
@@ -103,6 +103,11 @@ impl<L: Ledger> Office<L> {
         guard.look(desk, question)
     }
 
+    /// How many entries there are that aren't folded.
+    pub fn unfolded<R: Wait>(&self, rt: &R) -> u64 {
+        self.held.lock(rt).unfolded()
+    }
+
     /// Keeps a wish to ask the BSC about a warning, in the cells after that one. A BSC has one wish, the latest. `Stale`, then
     /// `NoSuchBsc`, then `NoSuchWarning`, then `Memory`, which doesn't come where it takes an earlier one's place.
     pub fn wish<R: Wait>(
@@ -152,13 +157,29 @@ impl<L: Ledger> Office<L> {
         self.held.lock(rt).rebuild()
     }
 
-    /// Ends the office, once all desks are handed in: the journal of its centre is a shuffle of their receipts. Else the centre
+    /// Folds the entries of the journal, and answers how many there were: `Stale`, then `Memory`, or else the journal is empty, and
+    /// all that the past says is as before. It isn't an event. Those who wait are woken only where the journal had been full.
+    pub fn checkpoint<R: Wait>(&self, rt: &R) -> Result<u64, Refusal>
+        ensures folded { IfOk result IsFoldedSomewhere }
+        ensures refused { IfErr result (λ r. (r ≡ Refusal.Stale) ⊎ (r ≡ Refusal.Memory)) }
+    {
+        let mut guard = self.held.lock(rt);
+        guard.tell_soundness();
+        let was_full = guard.is_full();
+        let result = guard.checkpoint();
+        if was_full && result.is_ok() {
+            self.moved.notify_all();
+        }
+        result
+    }
+
+    /// Ends the office, once all desks are handed in: the entries of its centre are a shuffle of their receipts. Else the centre
     /// and the desks are handed back, with what is wrong. This takes no memory and no lock.
     pub fn settle(self, desks: Vec<Desk<L>>) -> Result<Centre, Unsettled<L>>
-        ensures settled { IfOk result (λ c. IsSettled c.known.journal desks.items) }
-        ensures legal { IfOk result (λ c. Legal c.known.settings (past c.known)) }
-        ensures fault { IfErr result (λ u. IsUnsettled u.centre.known.journal desks.items u.fault) }
-        ensures legal_fault { IfErr result (λ u. Legal u.centre.known.settings (past u.centre.known)) }
+        ensures settled { IfOk result (λ c. IsSettled c.known desks.items) }
+        ensures lawful { IfOk result (λ c. Lawful c.known.settings (past c.known)) }
+        ensures fault { IfErr result (λ u. IsUnsettled u.centre.known desks.items u.fault) }
+        ensures lawful_fault { IfErr result (λ u. Lawful u.centre.known.settings (past u.centre.known)) }
         ensures desks { IfErr result (λ u. u.desks ≡ desks) }
     {
         let held = self.held.into_inner();

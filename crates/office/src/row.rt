@@ -1,6 +1,6 @@
 //! What an office knows of a desk.
 
-/// How many entries of the desk the journal has, and the number of the last, 0 where there is none.
+/// How many entries of the desk there are, and the number of the last, 0 where there is none.
 #[derive(Clone, Copy, Debug)]
 pub struct Row {
     pub entries: u64,

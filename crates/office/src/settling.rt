@@ -1,11 +1,13 @@
 //! The receipts of desks are compared with a journal.
 
-ghost use Rattle.std.specs.Prelude.{◌≡◌, ◌↔◌, ◌<◌, ◌≤◌, ℕ, List, length, All, Any, IsTrue, IfSome, IsNone};
+ghost use Rattle.std.specs.Prelude.{◌≡◌, ◌↔◌, ◌<◌, ◌≤◌, ◌++◌, ℕ, List, length, All, Any, IsTrue, IfSome, IsNone};
 ghost use Rattle.centre_events.specs.declared.entry.Entry.{Entry};
+ghost use Rattle.centre_past.specs.Legal.{all_entries};
 ghost use Rattle.office.specs.Desks.{DeskState};
-ghost use Rattle.office.specs.Helds.{IsByOpened, RowsFit};
+ghost use Rattle.office.specs.Helds.{AreRowsOf};
 ghost use Rattle.office.specs.Receipts.{receipts_of};
-ghost use Rattle.office.specs.Shuffles.{AreEntriesOf, HasItsEntries, IsEntryOf, IsMismatch, IsMissing};
+ghost use Rattle.office.specs.Shuffles.{AreEntriesOf, AreSplit, HasItsEntries, IsEntryOf, IsMismatch, IsMissing};
+ghost use Rattle.office.specs.declared.receipt.Receipt.{Receipt};
 
 use crate::desk::Desk;
 use crate::receipt::Receipt;
@@ -13,9 +15,9 @@ use crate::row::Row;
 use centre_core::centre::Centre;
 use std::sync::ledger::Ledger;
 
-/// Whether the receipt's entry stands at its place, and is of the desk.
+/// Whether the receipt's entry stands at its place in the journal, and is of the desk.
 fn is_entry(centre: &mut Centre, desk: u32, receipt: &Receipt) -> bool
-    ensures is { IsTrue result ↔ IsEntryOf desk centre.old.known.journal receipt.now }
+    ensures is { IsTrue result ↔ IsEntryOf desk (length centre.old.known.folded) centre.old.known.journal receipt.now }
     ensures unchanged { centre.new.known ≡ centre.old.known }
 {
     match centre.entry(receipt.place) {
@@ -28,9 +30,9 @@ fn is_entry(centre: &mut Centre, desk: u32, receipt: &Receipt) -> bool
     }
 }
 
-/// Whether each receipt's entry stands at its place, and each place is above the one before it.
+/// Whether each receipt's entry stands at its place in the journal, and each place is above the one before it.
 fn are_entries(centre: &mut Centre, desk: u32, receipts: &[Receipt]) -> bool
-    ensures are { IsTrue result ↔ AreEntriesOf desk centre.old.known.journal 0 receipts.now }
+    ensures are { IsTrue result ↔ AreEntriesOf desk (length centre.old.known.folded) centre.old.known.journal 0 receipts.now }
     ensures unchanged { centre.new.known ≡ centre.old.known }
 {
     let mut before = 0;
@@ -43,9 +45,16 @@ fn are_entries(centre: &mut Centre, desk: u32, receipts: &[Receipt]) -> bool
     true
 }
 
-/// How many entries the desk has in each journal that the rows fit.
+/// Whether the place of each receipt is one of so many entries that were folded.
+fn are_folded(folded: u64, receipts: &[Receipt]) -> bool
+    ensures { IsTrue result ↔ All (λ (r : Receipt). r.place ≤ folded) receipts.now }
+{
+    receipts.iter().all(|receipt| receipt.place <= folded)
+}
+
+/// How many entries the desk has among those of which the rows are.
 fn entries_of(rows: &[Row], desk: u32) -> u64
-    ensures { (journal : List Entry) → RowsFit rows.now journal → All (IsByOpened (length rows.now)) journal → result ≡ length (receipts_of desk journal) }
+    ensures { (entries : List Entry) → AreRowsOf rows.now entries → result ≡ length (receipts_of desk entries) }
 {
     let number = desk as usize;
     if number == 0 || number > rows.len() {
@@ -54,34 +63,62 @@ fn entries_of(rows: &[Row], desk: u32) -> u64
     rows[number - 1].entries
 }
 
-/// Whether the desk's receipts are its entries. As many receipts as entries, each at the place of another entry of the desk,
-/// are all of its entries.
-fn has_its_entries<L: Ledger>(centre: &mut Centre, rows: &[Row], desk: &Desk<L>) -> bool
-    requires rows { RowsFit rows.now centre.old.known.journal }
-    requires opened { All (IsByOpened (length rows.now)) centre.old.known.journal }
-    ensures has { IsTrue result ↔ HasItsEntries centre.old.known.journal desk.now }
+/// Whether so many receipts have places among the folded entries, and each one after them has its entry in the journal.
+fn are_split(
+    centre: &mut Centre,
+    desk: u32,
+    folded: u64,
+    count: usize,
+    receipts: &[Receipt],
+) -> bool
+    requires within { count ≤ length receipts.now }
+    requires folded { folded ≡ length centre.old.known.folded }
+    ensures are { IsTrue result ↔ AreSplit desk folded centre.old.known.journal count receipts.now }
+    ensures unchanged { centre.new.known ≡ centre.old.known }
+{
+    let (earlier, later) = receipts.split_at(count);
+    are_folded(folded, earlier) && are_entries(centre, desk, later)
+}
+
+/// Whether the desk's receipts are its entries. There are as many as entries. The first of them, as many as entries of it were
+/// folded, have places among the folded ones; each other one is at the place of another entry of the desk.
+fn has_its_entries<L: Ledger>(
+    centre: &mut Centre,
+    rows: &[Row],
+    base_rows: &[Row],
+    folded: u64,
+    desk: &Desk<L>,
+) -> bool
+    requires all { AreRowsOf rows.now (all_entries centre.old.known) }
+    requires base { AreRowsOf base_rows.now centre.old.known.folded }
+    requires folded { folded ≡ length centre.old.known.folded }
+    ensures has { IsTrue result ↔ HasItsEntries centre.old.known.folded centre.old.known.journal desk.now }
     ensures unchanged { centre.new.known ≡ centre.old.known }
 {
     if desk.len() != entries_of(rows, desk.number()) {
         return false;
     }
-    are_entries(centre, desk.number(), desk.receipts())
+    let count = entries_of(base_rows, desk.number()) as usize;
+    are_split(centre, desk.number(), folded, count, desk.receipts())
 }
 
 /// The number of the first desk whose receipts aren't its entries.
 pub(crate) fn mismatch<L: Ledger>(
     centre: &mut Centre,
     rows: &[Row],
+    base_rows: &[Row],
+    folded: u64,
     desks: &[Desk<L>],
 ) -> Option<u32>
-    requires rows { RowsFit rows.now centre.old.known.journal }
-    requires opened { All (IsByOpened (length rows.now)) centre.old.known.journal }
-    ensures none { IsNone result → All (HasItsEntries centre.old.known.journal) desks.now }
-    ensures some { IfSome result (IsMismatch centre.old.known.journal desks.now) }
+    requires all { AreRowsOf rows.now (all_entries centre.old.known) }
+    requires base { AreRowsOf base_rows.now centre.old.known.folded }
+    requires folded { folded ≡ length centre.old.known.folded }
+    ensures none { IsNone result → All (HasItsEntries centre.old.known.folded centre.old.known.journal) desks.now }
+    ensures some { IfSome result (IsMismatch centre.old.known.folded centre.old.known.journal desks.now) }
     ensures unchanged { centre.new.known ≡ centre.old.known }
 {
     for desk in desks {
-        if !has_its_entries(centre, rows, desk) {
+        if !has_its_entries(centre, rows, base_rows, folded, desk) {
             return Some(desk.number());
         }
     }

@@ -11,6 +11,7 @@ use crate::order_kind::OrderKind;
 use cell_register::BscId;
 use common::Cells;
 use serials::Serial;
+use std::alloc::AllocError;
 use std::cmp::Ordering;
 use std::marker::Model;
 
@@ -87,6 +88,19 @@ fn old_in(rank: u32) -> Option<u16>
         return None;
     }
     Some((rank - 1) as u16)
+}
+
+impl Clone for OrderKey {
+    ghost use Rattle.std.specs.Prelude.{◌≡◌};
+
+    ghost is_clone = { λ s t. t ≡ s };
+
+    fn clone(&self) -> Result<OrderKey, AllocError> {
+        Ok(OrderKey {
+            number: self.number,
+            old: self.old,
+        })
+    }
 }
 
 impl OrderKey {

@@ -68,6 +68,16 @@ fn take_cell(orders: &mut BTreeMap<OrderKey, OrderCells>, key: &OrderKey, c: Cel
 }
 
 impl Pending {
+    /// The same, in memory of its own.
+    pub fn copied(&self) -> Result<Pending, AllocError>
+        ensures { IfOk result (λ copy. copy ≡ self.now) }
+    {
+        Ok(Pending {
+            alloc: self.alloc,
+            orders: self.orders.clone()?,
+        })
+    }
+
     /// Nothing is to be ordered.
     pub fn new(alloc: Global) -> Pending
         ensures { (b : ℕ) (a : Action) → holds result b a ≡ false }

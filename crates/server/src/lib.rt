@@ -7,8 +7,8 @@
 mod fault;
 mod options;
 mod ports;
+mod running_server;
 mod serving;
-mod simulated_ports;
 
 pub use fault::ServeFault;
 pub use options::ServeOptions;

@@ -3,7 +3,7 @@
 ghost use Rattle.std.specs.Prelude.{◌≤◌, IfSome};
 
 use clap::ArgMatches;
-use console_text::options::{MOST_ENTRIES, command_line};
+use console_text::options::{FOLD, MOST_ENTRIES, command_line};
 use hex::FromHex;
 use std::alloc::{AllocError, Global};
 
@@ -13,6 +13,8 @@ pub struct ServeOptions {
     /// The network code, as TS 24.008 writes it in three octets.
     pub plmn: [u8; 3],
     pub journal_limit: u32,
+    /// After how many entries the journal is folded, or at nine tenths of it, whichever is less.
+    pub fold: u32,
     /// The address that is listened on.
     pub host: String,
     pub base: u16,
@@ -54,6 +56,16 @@ fn asked_journal(matches: &ArgMatches<'_>) -> u32
     }
 }
 
+/// After how many entries the journal is folded.
+fn asked_fold(matches: &ArgMatches<'_>) -> u32
+    ensures { 1 ≤ result }
+{
+    match matches.get_one::<u32>("fold") {
+        Some(count @ 1..) => count,
+        _ => FOLD,
+    }
+}
+
 /// The most BSCs that may connect.
 const MOST_LINKS: u16 = 256;
 
@@ -82,6 +94,7 @@ fn options_of(alloc: Global, matches: &ArgMatches<'_>) -> Result<ServeOptions, O
     Ok(ServeOptions {
         plmn,
         journal_limit: asked_journal(matches),
+        fold: asked_fold(matches),
         host,
         base,
         links,

@@ -5,12 +5,13 @@ ghost use Rattle.std.specs.Prelude.{◌≡◌};
 use crate::fault::ServeFault;
 use crate::options::{OptionsFault, ServeOptions, read_options};
 use crate::ports::{bind_all, hand_in, open_desk, open_desks, push};
-use crate::simulated_ports::SimulatedPorts;
+use crate::running_server::RunningServer;
 use console_text::{ReplayFault, fault_words};
 use office::desk::Desk;
 use office::office::Office;
 use server_links::{
-    Bucket, Errors, Port, Shared, close_all, close_port, read_links, simulate, write_links,
+    Bucket, Errors, FoldPace, Port, Shared, close_all, close_port, read_links, simulate,
+    write_links,
 };
 use server_operator::{Operator, Terminal, operate};
 use std::alloc::Global;
@@ -46,7 +47,7 @@ fn run_simulators<
         let operator = Operator {
             alloc: shared.alloc,
             office: &shared.office,
-            ports: &SimulatedPorts { shared },
+            server: &RunningServer { shared },
         };
         let result = operate(rt, &operator, terminal);
         close_all(rt, ports);
@@ -209,6 +210,7 @@ fn run<
         ports,
         errors,
         orders: Mutex::new(Bucket::for_all()),
+        folds: Mutex::new(FoldPace::new(options.fold, options.journal_limit)),
         with_simulator: options.with_simulator,
     };
     let terminal: Mutex<Terminal<L, I, W>> = Mutex::new(Terminal {
@@ -223,6 +225,7 @@ fn run<
         ports,
         errors,
         orders: _,
+        folds: _,
         with_simulator: _,
     } = shared;
     drop(ports);

@@ -1,3 +1,4 @@
 pub mod Allowances
+pub mod FoldPaces
 pub mod Paces
 pub mod Rate

@@ -1,4 +1,4 @@
-//! What is said on standard error of links and ports: one line an occurrence.
+//! What is said on standard error of links, of ports and of the centre: one line an occurrence.
 
 use cell_register::BscId;
 use std::alloc::Global;
@@ -110,6 +110,18 @@ impl<E: Write + Drop> Errors<E> {
                 None => break,
             }
         }
+    }
+}
+
+/// Has a line of the centre said.
+pub(crate) fn say_of_centre<E: Write + Drop, R: Wait>(
+    rt: &R,
+    alloc: Global,
+    errors: &Errors<E>,
+    what: &str,
+) {
+    if let Ok(line) = format!(in alloc; "cbc: {what}\n") {
+        errors.push(rt, line);
     }
 }
 

@@ -1,15 +1,14 @@
-//! The gate by which orders go out no faster than they may.
+//! The gate by which orders go out no faster than they may, and at which the journal is folded.
 
 use crate::allowance::Allowance;
-use crate::bucket::Bucket;
-use crate::errors::{Errors, tell};
+use crate::errors::tell;
 use crate::port::Port;
+use crate::shared::Shared;
 use cell_register::BscId;
 use link_worker::{Gate, Step};
-use std::alloc::Global;
 use std::io::Write;
+use std::sync::Wait;
 use std::sync::ledger::Ledger;
-use std::sync::{Mutex, Wait};
 use std::thread;
 use std::time::{Clock, Duration};
 
@@ -21,15 +20,13 @@ const UNSETTLED: &str = "orders are held back: the BSC doesn't settle";
 const TOO_MANY: &str = "orders are held back: all BSCs together had too many";
 
 /// Lets orders out to the BSC of a port no faster than it and all BSCs may have them. A BSC that never settles has the same order
-/// sent again and again: so it doesn't fill the journal.
+/// sent again and again: so it doesn't fill the journal. At each step an event may have been entered, so the journal is folded
+/// where that is due.
 #[derive(Drop)]
 pub(crate) struct RateGate<'a, L: Ledger, E: Drop, C> {
-    pub(crate) alloc: Global,
     pub(crate) clock: &'a C,
+    pub(crate) shared: &'a Shared<L, E>,
     pub(crate) port: &'a Port<L>,
-    /// What all BSCs share.
-    pub(crate) all: &'a Mutex<Bucket>,
-    pub(crate) errors: &'a Errors<E>,
 }
 
 /// Why an order has to wait.
@@ -49,7 +46,7 @@ impl<'a, L: Ledger, E: Write + Drop, C: Clock> RateGate<'a, L, E, C> {
             Err(_) => 0,
         };
         let mut allowance = self.port.allowance.lock(rt);
-        let mut all = self.all.lock(rt);
+        let mut all = self.shared.orders.lock(rt);
         allowance.take(&mut all, now)
     }
 
@@ -65,13 +62,14 @@ impl<'a, L: Ledger, E: Write + Drop, C: Clock> RateGate<'a, L, E, C> {
 
     fn tell_once<R: Wait>(&self, rt: &R, b: BscId) {
         if let Some(cause) = self.cause(rt) {
-            tell(rt, self.alloc, self.errors, b, cause);
+            tell(rt, self.shared.alloc, &self.shared.errors, b, cause);
         }
     }
 }
 
 impl<'a, L: Ledger, E: Write + Drop, C: Clock> Gate for RateGate<'a, L, E, C> {
     fn pass<R: Wait>(&self, rt: &R, b: BscId, step: Step) -> bool {
+        self.shared.submitted(rt);
         if step == Step::AfterReport {
             return true;
         }

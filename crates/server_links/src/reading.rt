@@ -43,10 +43,10 @@ fn end_link<L: Ledger, E: Write + Drop, R: Wait + Clock>(
     generation: u64,
 ) {
     for _ in 0..MOST_TRIES {
-        match shared
-            .office
-            .submit(rt, desk, Event::LinkDown(port.bsc, generation))
-        {
+        let event = Event::LinkDown(port.bsc, generation);
+        let result = shared.office.submit(rt, desk, event);
+        shared.submitted(rt);
+        match result {
             Err(Refusal::Memory) => thread::sleep(rt, Duration::from_millis(PAUSE)),
             _ => return,
         }
@@ -92,11 +92,9 @@ fn read_link<L: Ledger, E: Write + Drop, R: Wait + Clock>(
     stream: TcpStream,
 ) {
     let gate = RateGate {
-        alloc: shared.alloc,
         clock: rt,
+        shared,
         port,
-        all: &shared.orders,
-        errors: &shared.errors,
     };
     let mut source = FromRead::new(stream);
     let read = read_side(
@@ -177,7 +175,9 @@ fn take_stream<L: Ledger, E: Write + Drop, R: Wait + Clock>(
     desk: &mut Desk<L>,
     stream: TcpStream,
 ) {
-    match shared.office.submit(rt, desk, Event::LinkUp(port.bsc)) {
+    let result = shared.office.submit(rt, desk, Event::LinkUp(port.bsc));
+    shared.submitted(rt);
+    match result {
         Ok(()) => {
             if let Some(generation) = generation_of(desk) {
                 if let Ok(text) = format!(in shared.alloc; "link {generation} is up") {

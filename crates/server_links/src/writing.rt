@@ -22,11 +22,9 @@ fn write_link<L: Ledger, E: Write + Drop, R: Wait + Clock>(
 ) -> End {
     let Job { generation, stream } = job;
     let gate = RateGate {
-        alloc: shared.alloc,
         clock: rt,
+        shared,
         port,
-        all: &shared.orders,
-        errors: &shared.errors,
     };
     let mut sink = FromWrite::new(stream);
     let end = write_side(

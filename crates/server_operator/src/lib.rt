@@ -8,5 +8,5 @@ mod edits;
 mod operator;
 mod terminal;
 
-pub use operator::{Operator, Ports, operate};
+pub use operator::{Operator, Server, operate};
 pub use terminal::Terminal;

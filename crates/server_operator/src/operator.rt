@@ -27,18 +27,24 @@ use std::sync::ledger::Ledger;
 use std::sync::{Mutex, Wait};
 use warning_book::WarningId;
 
-/// The ports to which BSCs connect.
-pub trait Ports {
+/// The server, as its operator knows it.
+pub trait Server {
     /// The BSC was registered.
     fn added<R: Wait>(&self, rt: &R, b: BscId);
+
+    /// A line was answered, for which an event may have been entered.
+    fn answered<R: Wait>(&self, rt: &R);
+
+    /// Folds the journal. The answer is how many entries it had.
+    fn checkpoint<R: Wait>(&self, rt: &R) -> Result<u64, Refusal>;
 }
 
 /// What the lines of an operator bear on.
 #[derive(Drop)]
-pub struct Operator<'a, L: Ledger, P> {
+pub struct Operator<'a, L: Ledger, S> {
     pub alloc: Global,
     pub office: &'a Office<L>,
-    pub ports: &'a P,
+    pub server: &'a S,
 }
 
 /// What comes of a line.
@@ -66,9 +72,9 @@ fn accepted<L: Ledger>(desk: &Desk<L>) -> Response
     }
 }
 
-fn submit<L: Ledger, P: Ports, R: Wait>(
+fn submit<L: Ledger, S: Server, R: Wait>(
     rt: &R,
-    operator: &Operator<'_, L, P>,
+    operator: &Operator<'_, L, S>,
     desk: &mut Desk<L>,
     event: Event,
 ) -> Response
@@ -80,9 +86,9 @@ fn submit<L: Ledger, P: Ports, R: Wait>(
     }
 }
 
-fn edit<L: Ledger, P: Ports, R: Wait>(
+fn edit<L: Ledger, S: Server, R: Wait>(
     rt: &R,
-    operator: &Operator<'_, L, P>,
+    operator: &Operator<'_, L, S>,
     desk: &mut Desk<L>,
     edit: Edit,
 ) -> Response
@@ -95,7 +101,7 @@ fn edit<L: Ledger, P: Ports, R: Wait>(
     match operator.office.submit(rt, desk, Event::Edit(edit)) {
         Ok(()) => {
             if let Some(b) = added {
-                operator.ports.added(rt, b);
+                operator.server.added(rt, b);
             }
             accepted(desk)
         }
@@ -118,9 +124,9 @@ fn told(value: SeenValue) -> Response
     }
 }
 
-fn ask<L: Ledger, P: Ports, R: Wait>(
+fn ask<L: Ledger, S: Server, R: Wait>(
     rt: &R,
-    operator: &Operator<'_, L, P>,
+    operator: &Operator<'_, L, S>,
     desk: &Desk<L>,
     question: Question,
 ) -> Response
@@ -132,7 +138,7 @@ fn ask<L: Ledger, P: Ports, R: Wait>(
     }
 }
 
-fn rebuild<L: Ledger, P: Ports, R: Wait>(rt: &R, operator: &Operator<'_, L, P>) -> Response
+fn rebuild<L: Ledger, S: Server, R: Wait>(rt: &R, operator: &Operator<'_, L, S>) -> Response
     ensures { ResponseFits result }
 {
     match operator.office.rebuild(rt) {
@@ -141,11 +147,20 @@ fn rebuild<L: Ledger, P: Ports, R: Wait>(rt: &R, operator: &Operator<'_, L, P>) 
     }
 }
 
+fn checkpoint<L: Ledger, S: Server, R: Wait>(rt: &R, operator: &Operator<'_, L, S>) -> Response
+    ensures { ResponseFits result }
+{
+    match operator.server.checkpoint(rt) {
+        Ok(count) => Response::Folded(count),
+        Err(refusal) => Response::Refused(refusal),
+    }
+}
+
 /// What a line that is no edit is answered. The lines by which a script plays the part of a link are bad lines here: the links
 /// are those of the ports.
-fn respond_other<L: Ledger, P: Ports, R: Wait>(
+fn respond_other<L: Ledger, S: Server, R: Wait>(
     rt: &R,
-    operator: &Operator<'_, L, P>,
+    operator: &Operator<'_, L, S>,
     desk: &mut Desk<L>,
     line: Line,
 ) -> Response
@@ -158,6 +173,7 @@ fn respond_other<L: Ledger, P: Ports, R: Wait>(
         Line::Pending(b) => ask(rt, operator, desk, Question::Pending(b)),
         Line::Table(b) => ask(rt, operator, desk, Question::Table(b)),
         Line::Rebuild => rebuild(rt, operator),
+        Line::Checkpoint => checkpoint(rt, operator),
         other => {
             drop(other);
             Response::BadLine
@@ -165,9 +181,9 @@ fn respond_other<L: Ledger, P: Ports, R: Wait>(
     }
 }
 
-fn respond<L: Ledger, P: Ports, R: Wait>(
+fn respond<L: Ledger, S: Server, R: Wait>(
     rt: &R,
-    operator: &Operator<'_, L, P>,
+    operator: &Operator<'_, L, S>,
     desk: &mut Desk<L>,
     words: &[Octets],
 ) -> Result<Response, AllocError>
@@ -184,9 +200,9 @@ fn respond<L: Ledger, P: Ports, R: Wait>(
 }
 
 /// Keeps a wish for a query.
-fn keep_wish<L: Ledger, P: Ports, R: Wait>(
+fn keep_wish<L: Ledger, S: Server, R: Wait>(
     rt: &R,
-    operator: &Operator<'_, L, P>,
+    operator: &Operator<'_, L, S>,
     b: BscId,
     warning: WarningId,
     after: Option<Cell>,
@@ -218,9 +234,9 @@ fn wish_of(line: &Line) -> Option<(BscId, WarningId, Option<Cell>)> {
 }
 
 /// Answers `wish B W` and `wish B W L C`, whose words after the first are those of `ask`.
-fn wish<L: Ledger, P: Ports, R: Wait>(
+fn wish<L: Ledger, S: Server, R: Wait>(
     rt: &R,
-    operator: &Operator<'_, L, P>,
+    operator: &Operator<'_, L, S>,
     words: &[Octets],
 ) -> Result<String, AllocError> {
     let asked = as_ask(operator.alloc, words)?;
@@ -234,9 +250,9 @@ fn wish<L: Ledger, P: Ports, R: Wait>(
 }
 
 /// Answers the words of a line.
-fn hear_words<L: Ledger, P: Ports, R: Wait>(
+fn hear_words<L: Ledger, S: Server, R: Wait>(
     rt: &R,
-    operator: &Operator<'_, L, P>,
+    operator: &Operator<'_, L, S>,
     desk: &mut Desk<L>,
     words: &[Octets],
 ) -> Result<Heard, AllocError> {
@@ -257,9 +273,9 @@ fn hear_words<L: Ledger, P: Ports, R: Wait>(
 }
 
 /// Answers a line.
-fn hear<L: Ledger, P: Ports, R: Wait>(
+fn hear<L: Ledger, S: Server, R: Wait>(
     rt: &R,
-    operator: &Operator<'_, L, P>,
+    operator: &Operator<'_, L, S>,
     desk: &mut Desk<L>,
     line: &[u8],
 ) -> Result<Heard, AllocError> {
@@ -270,9 +286,9 @@ fn hear<L: Ledger, P: Ports, R: Wait>(
 }
 
 /// Reads one line and answers it. The answer is whether more lines are read.
-fn turn<L: Ledger, P: Ports, R: Wait, I: BufRead + Drop, W: Write + Drop>(
+fn turn<L: Ledger, S: Server, R: Wait, I: BufRead + Drop, W: Write + Drop>(
     rt: &R,
-    operator: &Operator<'_, L, P>,
+    operator: &Operator<'_, L, S>,
     terminal: &mut Terminal<L, I, W>,
     desk: &mut Desk<L>,
 ) -> Result<bool, ReplayFault> {
@@ -283,14 +299,15 @@ fn turn<L: Ledger, P: Ports, R: Wait, I: BufRead + Drop, W: Write + Drop>(
         Heard::Quit => Ok(false),
         Heard::Answered(text) => {
             terminal.write(text.as_bytes())?;
+            operator.server.answered(rt);
             Ok(true)
         }
     }
 }
 
-fn answer_lines<L: Ledger, P: Ports, R: Wait, I: BufRead + Drop, W: Write + Drop>(
+fn answer_lines<L: Ledger, S: Server, R: Wait, I: BufRead + Drop, W: Write + Drop>(
     rt: &R,
-    operator: &Operator<'_, L, P>,
+    operator: &Operator<'_, L, S>,
     terminal: &mut Terminal<L, I, W>,
     desk: &mut Desk<L>,
 ) -> Result<(), ReplayFault> {
@@ -303,9 +320,9 @@ fn answer_lines<L: Ledger, P: Ports, R: Wait, I: BufRead + Drop, W: Write + Drop
 }
 
 /// Answers the lines of the operator, each before the next is read, until `quit` or the end of the input.
-pub fn operate<L: Ledger, P: Ports, R: Wait, I: BufRead + Drop, W: Write + Drop>(
+pub fn operate<L: Ledger, S: Server, R: Wait, I: BufRead + Drop, W: Write + Drop>(
     rt: &R,
-    operator: &Operator<'_, L, P>,
+    operator: &Operator<'_, L, S>,
     terminal: &Mutex<Terminal<L, I, W>>,
 ) -> Result<(), ReplayFault> {
     let mut terminal = terminal.lock(rt);

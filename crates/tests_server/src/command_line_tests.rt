@@ -111,6 +111,8 @@ const REFUSED: &[&[&str]] = &[
     &["cbc", "serve", "--base", "0"],
     &["cbc", "serve", "--links", "0"],
     &["cbc", "serve", "--links", "257"],
+    &["cbc", "serve", "--fold", "0"],
+    &["cbc", "replay", "--fold", "1"],
     &["cbc", "replay", "script"],
     &["cbc", "replay", "--journal", "0"],
     &["cbc", "replay", "--journal", "4000001"],

@@ -4,7 +4,7 @@ ghost use Rattle.std.specs.Prelude.{◌≤◌};
 
 use crate::checks::{same, yes};
 use crate::given_texts::Wanted;
-use console_text::options::MOST_ENTRIES;
+use console_text::options::{FOLD, MOST_ENTRIES};
 use server::{ServeOptions, serve, serve_words};
 use std::alloc::Global;
 use std::fs::Files;
@@ -195,6 +195,7 @@ fn options(
     ServeOptions {
         plmn: [0x00, 0xf1, 0x10],
         journal_limit: MOST_ENTRIES,
+        fold: FOLD,
         host: String::from_str(alloc, "127.0.0.1").expect(rt, "memory"),
         base,
         links: links.min(256),

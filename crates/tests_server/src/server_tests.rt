@@ -77,10 +77,10 @@ fn two_bscs_on_air(rt: HostRuntime) {
 }
 
 const LINES: &str =
-    "# a comment\n\nup 1\ndown 1\nsend 1\nask 1 1\nrx 1 00\ngen 1 1\nfly\nwish 1\nwish 1 1\nbsc add 7\nwish 7 1\narea add Coast\nissue 4370 3 15 0 30 d4 Coast\nissue 4370 3 15 0 30 4 Coast\nwish 7 1\nwish 7 1 100 7\nwish 7 1 100 70000\npending 7\ntable 7\nboard 1\nboard 1 Coast\nboard 2\nupdate 1 15 0 30 d4\nretry 7\nrebuild\nquit\nbsc add 8\n";
+    "# a comment\n\nup 1\ndown 1\nsend 1\nask 1 1\nrx 1 00\ngen 1 1\nfly\nwish 1\nwish 1 1\nbsc add 7\nwish 7 1\narea add Coast\nissue 4370 3 15 0 30 d4 Coast\nissue 4370 3 15 0 30 4 Coast\nwish 7 1\nwish 7 1 100 7\nwish 7 1 100 70000\npending 7\ntable 7\nboard 1\nboard 1 Coast\nboard 2\nupdate 1 15 0 30 d4\nretry 7\nrebuild\ncheckpoint\ncheckpoint 1\ncheckpoint\nquit\nbsc add 8\n";
 
 const ANSWERS: &str =
-    "bad line\nbad line\nbad line\nbad line\nbad line\nbad line\nbad line\nbad line\nno 3 NoSuchBsc\nok 1\nno 16 NoSuchWarning\nok 2\nok 3 warning 1 serial C000\nbad hex\nwished\nwished\nbad line\ngroups 0\nkeys 0\nawaited 0 onair 0 failed 0 left 0 broadcasts 0\nawaited 0 onair 0 failed 0 left 0 broadcasts 0\nno 16 NoSuchWarning\nok 4 serial C001\nok 5\nrebuilt\nsettled 5\n";
+    "bad line\nbad line\nbad line\nbad line\nbad line\nbad line\nbad line\nbad line\nno 3 NoSuchBsc\nok 1\nno 16 NoSuchWarning\nok 2\nok 3 warning 1 serial C000\nbad hex\nwished\nwished\nbad line\ngroups 0\nkeys 0\nawaited 0 onair 0 failed 0 left 0 broadcasts 0\nawaited 0 onair 0 failed 0 left 0 broadcasts 0\nno 16 NoSuchWarning\nok 4 serial C001\nok 5\nrebuilt\nfolded 5\nbad line\nfolded 0\nsettled 5\n";
 
 /// The lines by which a script plays the part of a link are bad lines; a wish is refused by the rules of the register and the book.
 #[test]
@@ -254,7 +254,7 @@ fn run_words<
 }
 
 /// Words whose network or ports are bad, and what is said of them; and words of which the port and the greatest number of entries
-/// are those of the server.
+/// are those of the server. A journal of one entry is folded after each.
 #[test]
 fn words_of_a_server(rt: HostRuntime) {
     let port = free_port(&rt);
@@ -283,7 +283,7 @@ fn words_of_a_server(rt: HostRuntime) {
         (
             &["cbc", "serve", "--journal", "1", "--base", base.as_str()],
             0,
-            "ok 1\nno 2 JournalFull\nsettled 1\n",
+            "ok 1\nok 2\nsettled 2\n",
             "",
         ),
     ];
@@ -309,20 +309,34 @@ struct WordsRow {
 }
 
 const WORDS_ROWS: &[WordsRow] = &[
-    // The journal is full once the link is up, so its write side ends, and not its BSC. It is said before the next connection is taken.
+    // The journal is folded whenever it has 5 entries. Each link is 2 at least, so it would be full at the second.
     WordsRow {
         words: ["--journal", "6"],
         steps: &[
             Step::Types(WARNING),
             Step::Skips(5),
-            Step::Sends(b""),
-            Step::Sends(b""),
+            Step::SendsAll(b""),
+            Step::SendsAll(b""),
+            Step::SendsAll(b""),
+            Step::SendsAll(b""),
+            Step::Types("board 1\n"),
+            Step::Reads("awaited 1 onair 0 failed 0 left 0 broadcasts 0\n"),
             Step::Types("quit\n"),
         ],
-        answers: "settled 6\n",
+        answers: "settled ",
         errors: "cbc: BSC 1: link 6 is up\n\
-cbc: BSC 1: link 6 ended: the centre refused to go on: the journal is full\n\
-cbc: BSC 1: link refused: the journal is full\n",
+cbc: BSC 1: link 6 ended: the BSC closed the connection\n",
+    },
+    // The journal is folded whenever it has two entries, and when that is asked for.
+    WordsRow {
+        words: ["--fold", "2"],
+        steps: &[
+            Step::Types("bsc add 1\nbsc add 2\nbsc add 3\ncheckpoint\nbsc add 4\nfly\nboard 1\n"),
+            Step::Skips(7),
+            Step::Types("checkpoint\nbsc add 5\nbsc add 6\ncheckpoint\nbsc add 6\nquit\n"),
+        ],
+        answers: "folded 1\nok 5\nok 6\nfolded 0\nno 4 BscExists\nsettled 6\n",
+        errors: "",
     },
     // A FAILURE names a cell by its global identification: one of another network, and then one of the network that is served.
     WordsRow {

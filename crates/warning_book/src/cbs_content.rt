@@ -18,6 +18,21 @@ pub struct CbsContent {
     pub pages: ContentPages,
 }
 
+impl Clone for CbsContent {
+    ghost use Rattle.std.specs.Prelude.{◌≡◌};
+
+    ghost is_clone = { λ s t. t ≡ s };
+
+    fn clone(&self) -> Result<CbsContent, AllocError> {
+        Ok(CbsContent {
+            dcs: self.dcs,
+            category: self.category,
+            period: self.period,
+            pages: self.pages.clone()?,
+        })
+    }
+}
+
 impl CbsContent {
     /// The same content in memory of its own.
     pub fn copied(&self, alloc: Global) -> Result<CbsContent, AllocError>

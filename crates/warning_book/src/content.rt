@@ -16,6 +16,19 @@ pub enum Content {
     Emergency(EmergencyContent),
 }
 
+impl Clone for Content {
+    ghost use Rattle.std.specs.Prelude.{◌≡◌};
+
+    ghost is_clone = { λ s t. t ≡ s };
+
+    fn clone(&self) -> Result<Content, AllocError> {
+        Ok(match self {
+            Content::Cbs(content) => Content::Cbs(content.clone()?),
+            Content::Emergency(content) => Content::Emergency(*content),
+        })
+    }
+}
+
 impl Content {
     /// The kind of warning that it is for.
     pub fn kind(&self) -> Kind

@@ -23,6 +23,18 @@ impl Model for ContentPages {
     ghost view = { λ s. s.pages.items };
 }
 
+impl Clone for ContentPages {
+    ghost use Rattle.std.specs.Prelude.{◌≡◌};
+
+    ghost is_clone = { λ s t. t ≡ s };
+
+    fn clone(&self) -> Result<ContentPages, AllocError> {
+        Ok(ContentPages {
+            pages: self.pages.clone()?,
+        })
+    }
+}
+
 impl ContentPages {
     /// The pages of the vector, which is moved.
     pub fn from_vec(pages: Vec<Octets>) -> ContentPages

@@ -7,6 +7,7 @@ use crate::warning_areas::WarningAreas;
 use crate::warning_id::WarningId;
 use common::Name;
 use serials::Serial;
+use std::alloc::AllocError;
 
 /// A warning: its versions and its areas. It is active until it is stopped.
 #[derive(Drop)]
@@ -18,11 +19,27 @@ pub struct Warning {
     pub(crate) active: bool,
 }
 
+impl Clone for Warning {
+    ghost use Rattle.std.specs.Prelude.{◌≡◌};
+
+    ghost is_clone = { λ s t. t ≡ s };
+
+    fn clone(&self) -> Result<Warning, AllocError> {
+        Ok(Warning {
+            number: self.number,
+            message_id: self.message_id,
+            versions: self.versions.clone()?,
+            areas: self.areas.clone()?,
+            active: self.active,
+        })
+    }
+}
+
 impl Warning {
-    ghost use Rattle.std.specs.Prelude.{◌≡◌, Some, true, false, IfSome, IfNone};
+    ghost use Rattle.std.specs.Prelude.{◌≡◌};
     ghost use Rattle.std.specs.Option.{option_map};
     ghost use Rattle.serials.specs.Serials.{next_of};
-    ghost use Rattle.warning_book.specs.Book.{current_of, is_exhausted, kind_of};
+    ghost use Rattle.warning_book.specs.Book.{current_of, kind_of};
 
     pub fn number(&self) -> WarningId
         ensures { result ≡ self.now.number }
@@ -65,23 +82,14 @@ impl Warning {
             .map(|version| version.serial)
     }
 
-    /// The serial number of the next version; `None` where no update number is left.
+    /// The serial number of the next version; `None` where there is no version.
     pub(crate) fn next_serial(&self) -> Option<Serial>
-        ensures next { IfSome result (λ s. option_map next_of (current_of self.now) ≡ Some s) }
-        ensures left { IfSome result (λ s. is_exhausted self.now ≡ false) }
-        ensures none { IfNone result (is_exhausted self.now ≡ true) }
+        ensures { result ≡ option_map next_of (current_of self.now) }
     {
         match self.serial() {
-            Some(serial) => serial.next(),
+            Some(serial) => Some(serial.next()),
             None => None,
         }
-    }
-
-    /// Whether no update number is left for a next version.
-    pub(crate) fn is_exhausted(&self) -> bool
-        ensures { result ≡ is_exhausted self.now }
-    {
-        self.next_serial().is_none()
     }
 
     /// The areas, in the order in which they were named.

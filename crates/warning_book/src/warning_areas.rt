@@ -23,6 +23,18 @@ impl Model for WarningAreas {
     ghost view = { λ s. s.names.keys };
 }
 
+impl Clone for WarningAreas {
+    ghost use Rattle.std.specs.Prelude.{◌≡◌};
+
+    ghost is_clone = { λ s t. t ≡ s };
+
+    fn clone(&self) -> Result<WarningAreas, AllocError> {
+        Ok(WarningAreas {
+            names: self.names.clone()?,
+        })
+    }
+}
+
 impl WarningAreas {
     /// The areas named, in memory of their own.
     pub(crate) fn copied(alloc: Global, names: &[Name]) -> Result<WarningAreas, AllocError>
