@@ -40,8 +40,9 @@ impl<L: Ledger> Model for Desk<L> {
 }
 
 impl<L: Ledger> Desk<L> {
-    ghost use Rattle.std.specs.Prelude.{◌≡◌, ◌≤◌, ◌<◌, ◌+◌, ◌-◌, ◌++◌, ◌∷◌, [], length, take, drop, slice_get, All, OnOk, OnErr};
+    ghost use Rattle.std.specs.Prelude.{◌≡◌, ◌↔◌, ◌≤◌, ◌<◌, ◌+◌, ◌-◌, ◌++◌, ◌∷◌, [], length, take, drop, slice_get, All, IsTrue, OnOk, OnErr};
     ghost use Rattle.office.specs.Desks.{IsReleased};
+    ghost use Rattle.office.specs.declared.receipt.Receipt.{Receipt};
     ghost use Rattle.office.specs.Receipts.{last_place};
 
     /// A desk without receipts.
@@ -100,11 +101,11 @@ impl<L: Ledger> Desk<L> {
         self.released_count
     }
 
-    /// The place of the last receipt of which the desk let go, 0 where there is none.
-    pub(crate) fn released_last(&self) -> u64
-        ensures { result ≡ last_place (take self.now.released self.now.receipts) }
+    /// Whether the places of the receipts of which the desk let go are all up to that one.
+    pub(crate) fn is_released_within(&self, place: u64) -> bool
+        ensures { IsTrue result ↔ All (λ (r : Receipt). r.place ≤ place) (take self.now.released self.now.receipts) }
     {
-        self.released_last
+        self.released_last <= place
     }
 
     /// The place of the last receipt, 0 where there is none.
