@@ -38,3 +38,5 @@ pub mod AskLemmas
 pub mod ReadLemmas
 pub mod CopyLemmas
 pub mod EmptyLemmas
+pub mod NextLemmas
+pub mod UpdateLemmas

@@ -11,6 +11,8 @@ mod checkpoint_tests;
 #[cfg(test)]
 mod checks;
 #[cfg(test)]
+mod copying_tests;
+#[cfg(test)]
 mod day;
 #[cfg(test)]
 mod meter_tests;
