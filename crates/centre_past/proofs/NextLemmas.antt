@@ -113,7 +113,7 @@ find_gone s u (x ∷ vs) v once h g = step (nat_eq (update_of x.serial) u) refl 
     step true e f =
         let same : x ≡ v = cc in
         ap (λ t. version_at (cond (not t) (x ∷ but_serial s vs) (but_serial s vs)) u) (ap (λ (y : Version). nat_eq y.serial s) same ∙ g)
-        ∙ find_none (λ y. nat_eq (update_of y.serial) u) (λ y. not (has_serial s y)) vs (none_later x vs u (not-true (list_any (same_update x) vs) parts.0) e)
+        ∙ find_none (λ (y : Version). nat_eq (update_of y.serial) u) (λ (y : Version). not (has_serial s y)) vs (none_later x vs u (not-true (list_any (same_update x) vs) parts.0) e)
     step false e f = kept (nat_eq x.serial s)
       where
         rest : version_at (but_serial s vs) u ≡ None
@@ -135,7 +135,7 @@ next_at content vs once u v h = step (last_serial vs)
         new = version_after content t
 
         given : nat_eq v.serial (next_of t) ≡ true → nat_eq (update_of new.serial) u ≡ true
-        given e = ap (λ k. nat_eq (update_of k) u) (sym (eqb-true v.serial (next_of t) e)) ∙ find_passes (λ y. nat_eq (update_of y.serial) u) vs v h
+        given e = ap (λ k. nat_eq (update_of k) u) (sym (eqb-true v.serial (next_of t) e)) ∙ find_passes (λ (y : Version). nat_eq (update_of y.serial) u) vs v h
 
         at : (c : Bool) → nat_eq v.serial (next_of t) ≡ c → (x : Version) × ((version_at (but_serial (next_of t) vs ++ new ∷ []) u ≡ Some x) × (x.serial ≡ v.serial))
         at true e =
@@ -146,6 +146,6 @@ next_at content vs once u v h = step (last_serial vs)
                 sym (eqb-true v.serial (next_of t) e)))
         at false e =
             (v,
-              (find_more (λ y. nat_eq (update_of y.serial) u) (but_serial (next_of t) vs) (new ∷ []) v
-                (find_kept (λ y. nat_eq (update_of y.serial) u) (λ y. not (has_serial (next_of t) y)) vs v h (ap not e)),
+              (find_more (λ (y : Version). nat_eq (update_of y.serial) u) (but_serial (next_of t) vs) (new ∷ []) v
+                (find_kept (λ (y : Version). nat_eq (update_of y.serial) u) (λ (y : Version). not (has_serial (next_of t) y)) vs v h (ap not e)),
                 refl))
