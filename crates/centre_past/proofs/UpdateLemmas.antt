@@ -89,7 +89,10 @@ reuses_of past n p w s ordered found current =
 -- where no version of one scope and code has the next serial number, none has its update number
 none_shares : (s : ℕ) (vs : List Version) → list_all (shares_code (Some s)) vs ≡ true → list_any (is_version (next_of s)) vs ≡ false → version_at vs (update_of (next_of s)) ≡ None
 none_shares s [] shared h = refl
-none_shares s (v ∷ vs) shared h = step (nat_eq (update_of v.serial) (update_of (next_of s))) refl
+none_shares s (v ∷ vs) shared h =
+    step
+    (none_shares s vs (and_parts (shares_code (Some s) v) (list_all (shares_code (Some s)) vs) shared).1 (or_parts (nat_eq v.serial (next_of s)) (list_any (is_version (next_of s)) vs) h).1)
+    (nat_eq (update_of v.serial) (update_of (next_of s))) refl
   where
     parts : (shares_code (Some s) v ≡ true) × (list_all (shares_code (Some s)) vs ≡ true)
     parts = and_parts (shares_code (Some s) v) (list_all (shares_code (Some s)) vs) shared
@@ -102,10 +105,10 @@ none_shares s (v ∷ vs) shared h = step (nat_eq (update_of v.serial) (update_of
         let codes = and_parts (nat_eq (scope_part v.serial) (scope_part s)) (nat_eq (code_of v.serial) (code_of s)) parts.0 in
         same_serial v.serial (next_of s) (eqb-true (scope_part v.serial) (scope_part s) codes.0 ∙ sym (next_scope s)) (eqb-true (code_of v.serial) (code_of s) codes.1 ∙ sym (next_code s)) e
 
-    step : (t : Bool) → nat_eq (update_of v.serial) (update_of (next_of s)) ≡ t → cond t (Some v) (version_at vs (update_of (next_of s))) ≡ None
-    step true e =
+    step : version_at vs (update_of (next_of s)) ≡ None → (t : Bool) → nat_eq (update_of v.serial) (update_of (next_of s)) ≡ t → cond t (Some v) (version_at vs (update_of (next_of s))) ≡ None
+    step rest true e =
         absurd (let no : true ≡ false = sym (eq-eqb v.serial (next_of s) (same (eqb-true (update_of v.serial) (update_of (next_of s)) e))) ∙ other.0 in cc)
-    step false e = none_shares s vs parts.1 other.1
+    step rest false e = rest
 
 -- so it is in a sound book
 pub next_free : (past : Past) (n : ℕ) (w : Warning) (s : ℕ) → IsSound (book_of past) → warning_of (book_of past) n ≡ Some w → last_serial w.versions ≡ Some s → list_any (is_version (next_of s)) w.versions ≡ false → version_at w.versions (update_of (next_of s)) ≡ None
