@@ -53,7 +53,7 @@ one_way false true f g = g refl
 one_way false false f g = refl
 
 -- what passes is in both of two lists, so one of them passes where one of the other does
-any_both : {X : Type 0} (same : X → X → Bool) → DecidesAll same → (p : X → Bool) (xs ys : List X) → ((x : X) → p x ≡ true → list_any (same x) xs ≡ true) → ((x : X) → p x ≡ true → list_any (same x) ys ≡ true) → list_any p xs ≡ list_any p ys
+pub any_both : {X : Type 0} (same : X → X → Bool) → DecidesAll same → (p : X → Bool) (xs ys : List X) → ((x : X) → p x ≡ true → list_any (same x) xs ≡ true) → ((x : X) → p x ≡ true → list_any (same x) ys ≡ true) → list_any p xs ≡ list_any p ys
 any_both same d p xs ys first second =
     one_way (list_any p xs) (list_any p ys)
     (any_gives (list_any p ys) p (λ x e. any_at same d p x ys e (second x e)) xs)

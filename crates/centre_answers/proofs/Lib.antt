@@ -7,3 +7,4 @@ pub mod SeenLemmas
 pub mod QuestionLemmas
 pub mod BoardLemmas
 pub mod TableLemmas
+pub mod ReuseLemmas

@@ -87,7 +87,7 @@ asked_on_air settings past legal t b w s after tables found current = record {
 -- The lines that are read.
 
 -- a cell in which something of a warning is kept is known
-line_known : (past : Past) (t : Table) (r : State) (b n : ℕ) (c : Cell) → AreKnownOf past t r → TellsLines t → is_blank (line_at t b c n) ≡ false → is_known past b c ≡ true
+pub line_known : (past : Past) (t : Table) (r : State) (b n : ℕ) (c : Cell) → AreKnownOf past t r → TellsLines t → is_blank (line_at t b c n) ≡ false → is_known past b c ≡ true
 line_known past t r b n c knows tells h = step (has_line t b c) refl
   where
     step : (x : Bool) → has_line t b c ≡ x → is_known past b c ≡ true

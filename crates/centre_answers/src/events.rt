@@ -8,10 +8,12 @@ mod links;
 mod named_areas;
 mod queries;
 mod reports;
+mod reusing;
 mod sends;
 mod warnings;
 
 ghost use Rattle.std.specs.Prelude.{◌≡◌, ◌≤◌, ◌+◌, ℕ, true, false, IfOk, IsOk, OnOk, OnErr};
+ghost use Rattle.centre_answers.specs.Reused.{is_update};
 ghost use Rattle.order_maker.specs.Pending.{IsListOf};
 ghost use Rattle.centre_past.specs.Idle.{AreKnownOf};
 ghost use Rattle.centre_past.specs.IsKept.{IsKept, OnlyReadsIn};
@@ -20,7 +22,7 @@ ghost use Rattle.coverage_plan.specs.Edited.{register_after, areas_after, book_a
 ghost use Rattle.centre_past.specs.Legal.{Legal};
 ghost use Rattle.centre_events.specs.Past.{Past, position};
 ghost use Rattle.centre_events.specs.Pending.{all_actions};
-ghost use Rattle.centre_past.specs.Reach.{looked_at};
+ghost use Rattle.centre_past.specs.Reach.{edit_reach, looked_at, size};
 ghost use Rattle.centre_events.specs.Settings.{Settings};
 ghost use Rattle.centre_events.specs.Verdict.{answered, edit_answered};
 ghost use Rattle.centre_events.specs.Warnings.{book_of};
@@ -32,6 +34,7 @@ use centre_events::answer::Answer;
 use centre_events::event::Event;
 use centre_events::refusal::Refusal;
 use centre_past::kept::Kept;
+use centre_past::telling::tell_lines;
 use coverage_plan::Edit;
 use std::alloc::Global;
 use warning_book::Book;
@@ -39,8 +42,9 @@ use warning_book::Book;
 /// What an event is answered.
 pub type Verdict = Result<Answer, Refusal>;
 
-/// Whether the edit is accepted. No line is read, and no memory is taken.
-pub fn check_edit(kept: &Kept, edit: &Edit) -> Result<(), Refusal>
+/// Whether an edit that is no Update is accepted. No line is read, and no memory is taken.
+fn check_other(kept: &Kept, edit: &Edit) -> Result<(), Refusal>
+    requires other { is_update edit.now ≡ false }
     ensures { (settings : Settings) (past : Past) → Legal settings past → IsKept past kept.now → IsChecked (edit_answered past edit.now) result }
 {
     match edit {
@@ -56,7 +60,7 @@ pub fn check_edit(kept: &Kept, edit: &Edit) -> Result<(), Refusal>
         Edit::Issue(notice, names) => {
             warnings::check_issue(&kept.areas, &kept.book, notice, names.as_slice())
         }
-        Edit::Update(number, content) => warnings::check_update(&kept.book, *number, content),
+        Edit::Update(..) => unreachable!(),
         Edit::Widen(number, a) => warnings::check_widen(&kept.areas, &kept.book, *number, a),
         Edit::Narrow(number, a) => warnings::check_narrow(&kept.areas, &kept.book, *number, a),
         Edit::Stop(number) => warnings::check_stop(&kept.book, *number),
@@ -67,6 +71,28 @@ pub fn check_edit(kept: &Kept, edit: &Edit) -> Result<(), Refusal>
             &kept.tables,
             *number,
         ),
+    }
+}
+
+/// Whether the edit is accepted. Lines are read for an Update alone, and only where it takes a serial number that a version
+/// of its warning has. No memory is taken.
+#[tactic(auto, using(centre_past::proofs::ReadLemmas::reads_none))]
+pub fn check_edit(kept: &mut Kept, edit: &Edit) -> Result<(), Refusal>
+    ensures checked { (settings : Settings) (past : Past) → Legal settings past → IsKept past kept.old → IsChecked (edit_answered past edit.now) result }
+    ensures reads { OnlyReadsIn kept.old kept.new }
+    ensures meter { (settings : Settings) (past : Past) → Legal settings past → IsKept past kept.old → kept.new.tables.lines.meter ≤ kept.old.tables.lines.meter + size (edit_reach past edit.now) }
+{
+    tell_lines(kept.tables.lines());
+    match edit {
+        Edit::Update(number, content) => warnings::check_update(
+            &kept.register,
+            &kept.book,
+            kept.flights.as_slice(),
+            &mut kept.tables,
+            *number,
+            content,
+        ),
+        _ => check_other(kept, edit),
     }
 }
 

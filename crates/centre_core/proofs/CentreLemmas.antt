@@ -1,7 +1,6 @@
 -- What a centre answers, and what always holds of it one entry further.
-use Rattle.std.proofs.Common.{◌≡◌, inl, inr, ℕ, ◌+◌, ◌*◌, ◌<◌, ◌≤◌, Bool, true, false, List, [], ◌∷◌, ◌++◌, Result, Ok, Err, length, refl, sym, ◌∙◌, ap, subst, arith, length-append}
-use Rattle.std.proofs.lemmas.Bool.{lt-leb, le-leb}
-use Rattle.std.proofs.lemmas.List.{reverse-append, length-map}
+use Rattle.std.proofs.Common.{◌≡◌, inl, inr, ℕ, ◌+◌, ◌-◌, ◌*◌, ◌^◌, ◌<◌, ◌≤◌, Bool, true, false, List, [], ◌∷◌, ◌++◌, Result, Ok, Err, length, refl, sym, ◌∙◌, ap, subst, arith, length-append}
+use Rattle.std.proofs.lemmas.List.{append_assoc, append-nil, reverse-append, length-map}
 use Rattle.std.specs.Prelude.{IsErrAnd, IfErr, IsOk, if◌then◌else◌}
 use Rattle.areas.specs.declared.area.Area.{Area}
 use Rattle.cell_register.specs.Register as register
@@ -9,15 +8,18 @@ use Rattle.kept_tables.specs.Consistent.{Consistent}
 use Rattle.kept_tables.specs.declared.spot.Spot.{Spot}
 use Rattle.mirror.specs.Table.{down_at}
 use Rattle.warning_book.specs.Book as book
-use Rattle.centre_core.specs.Centre.{ComesFrom, IsCentre, IsRefused, Leaves, Refuses}
+use Rattle.centre_core.specs.Centre.{ComesFrom, IsCentre, IsRefused, IsWhole, Leaves, Refuses, past_over}
 use Rattle.centre_past.specs.Flights.{up_before}
 use Rattle.centre_lines.specs.Following.{Finishes, WasReached, held_in, held_past}
 use Rattle.centre_past.specs.IsKept.{IsKept, OnlyReadsIn}
 use Rattle.centre_past.specs.Facts.{facts}
 use Rattle.centre_events.specs.Kept.{Gives, IsChecked, is_edit, register_then, areas_then}
 use Rattle.coverage_plan.specs.Edited.{register_after, areas_after, book_after}
-use Rattle.centre_past.specs.Legal.{Known, Legal, past}
-use Rattle.centre_events.specs.Past.{Past, After, past_of, entry_count, position}
+use Rattle.centre_past.specs.Legal.{Known, Legal, lasting, past}
+use Rattle.centre_events.specs.Base.{empty_base}
+use Rattle.centre_events.specs.Folding.{base_of}
+use Rattle.centre_events.proofs.FoldingLemmas.{past_whole}
+use Rattle.centre_events.specs.Past.{Past, After, past_of, position, since}
 use Rattle.centre_past.specs.Reach.{edit_reach, looked_at, size, reach, reach_of}
 use Rattle.centre_events.specs.Settings.{Settings}
 use Rattle.centre_past.specs.State.{AreLinksOf}
@@ -31,10 +33,11 @@ use Rattle.centre_events.specs.declared.event.Event.TheVariants as event
 use Rattle.centre_lines.specs.declared.held_lines.HeldLines.{HeldLines}
 use Rattle.centre_past.specs.declared.kept.Kept.{Kept}
 use Rattle.centre_events.specs.declared.refusal.Refusal.{Refusal}
-use Rattle.centre_events.specs.declared.refusal.Refusal.TheVariants.{Stale, JournalFull, Memory, WrongDesk}
+use Rattle.centre_events.specs.declared.refusal.Refusal.TheVariants.{Stale, Memory, WrongDesk}
 use Rattle.centre_past.specs.VerdictLaws.{verdict_is_no_stale, verdict_is_no_want, verdict_is_no_wrong_desk}
 use Rattle.centre_past.proofs.AreaLemmas.{areas_with}
-use Rattle.centre_events.proofs.PastLemmas.{count_journal, position_journal}
+use Rattle.centre_core.proofs.FoldedLemmas.{answered_over, edit_size_over, lasting_is, reach_over, room_is}
+use Rattle.centre_events.proofs.PastLemmas.{position_journal}
 use Rattle.centre_past.proofs.ReadLemmas.{reads_kept}
 use Rattle.centre_past.proofs.RegisterLemmas.{register_with}
 use Rattle.centre_past.proofs.UniqueLemmas.{verdict_answered}
@@ -52,22 +55,21 @@ pub book_stays : (e : Event) (st : book.State) → is_edit e ≡ false → book_
 book_stays (event.Edit x) st h = cc
 book_stays other st h = refl
 
--- where the journal has room the verdict is what the event is answered
-pub room_is : (settings : Settings) (journal : List Entry) (e : Event) → length journal < settings.limit → verdict settings (past_of journal) e ≡ answered settings.network (past_of journal) e
-room_is settings journal e room =
-    ap (λ t. if t then Err JournalFull else answered settings.network (past_of journal) e) (lt-leb settings.limit (entry_count (past_of journal)) (omega (arith, count_journal journal)))
-
 -- what is given where the journal has room
-pub given_there : (settings : Settings) (journal : List Entry) (e : Event) (r : Result Answer Refusal) → length journal < settings.limit → Gives (answered settings.network (past_of journal) e) r → Gives (verdict settings (past_of journal) e) r
-given_there settings journal e r room given = subst (λ v. Gives v r) (sym (room_is settings journal e room)) given
+pub given_there : (settings : Settings) (xs ys : List Entry) (e : Event) (r : Result Answer Refusal) → length ys < settings.limit → length xs + length ys < 2 ^ 64 - 1 → Gives (answered settings.network (past_of (xs ++ ys)) e) r → Gives (verdict settings (past_over xs ys) e) r
+given_there settings xs ys e r few low given = subst (λ v. Gives v r) (sym (room_is settings xs ys e few low)) given
 
 -- what is found of an edit where the journal has room
-pub checked_there : {A : Type 0} (settings : Settings) (journal : List Entry) (e : Event) (r : Result A Refusal) → length journal < settings.limit → IsChecked (answered settings.network (past_of journal) e) r → IsChecked (verdict settings (past_of journal) e) r
-checked_there settings journal e r room given = subst (λ v. IsChecked v r) (sym (room_is settings journal e room)) given
+pub checked_there : {A : Type 0} (settings : Settings) (xs ys : List Entry) (e : Event) (r : Result A Refusal) → length ys < settings.limit → length xs + length ys < 2 ^ 64 - 1 → IsChecked (answered settings.network (past_of (xs ++ ys)) e) r → IsChecked (verdict settings (past_over xs ys) e) r
+checked_there settings xs ys e r few low given = subst (λ v. IsChecked v r) (sym (room_is settings xs ys e few low)) given
 
--- a full journal
-pub full : (settings : Settings) (journal : List Entry) (e : Event) → settings.limit ≤ length journal → verdict settings (past_of journal) e ≡ Err JournalFull
-full settings journal e h = ap (λ t. if t then Err JournalFull else answered settings.network (past_of journal) e) (le-leb settings.limit (entry_count (past_of journal)) (omega (arith, count_journal journal)))
+-- an event that is accepted is answered so after all entries
+pub answered_all : (settings : Settings) (xs ys : List Entry) (e : Event) (a : Answer) → verdict settings (past_over xs ys) e ≡ Ok a → answered settings.network (past_of (xs ++ ys)) e ≡ Ok a
+answered_all settings xs ys e a h = sym (answered_over settings.network xs ys e) ∙ verdict_answered settings (past_over xs ys) e a h
+
+-- and accepted after them over the empty base, where there is a number for its entry
+pub accepted_all : (settings : Settings) (xs ys : List Entry) (e : Event) (a : Answer) → length xs + length ys < 2 ^ 64 - 1 → verdict settings (past_over xs ys) e ≡ Ok a → verdict (lasting settings.network) (past_of (xs ++ ys)) e ≡ Ok a
+accepted_all settings xs ys e a low h = lasting_is settings.network xs ys e low ∙ answered_all settings xs ys e a h
 
 -- Before an event is entered.
 
@@ -106,83 +108,110 @@ finishes_other settings past desk e a s place up spots held legal accepted kept 
     finishes settings past desk e a s s place up spots held legal accepted kept (sym (register_stays e s.register other)) (sym (areas_stay e s.areas other)) (sym (book_stays e s.book other)) refl refl refl is_up is_place reached
 
 -- the number of the next entry
-pub next_place : (journal : List Entry) → length journal + 1 ≡ position (past_of journal) + 1
-next_place journal = ap (λ n. n + 1) (sym (position_journal journal))
+pub next_place : (xs ys : List Entry) → length xs + length ys + 1 ≡ position (past_of (xs ++ ys)) + 1
+next_place xs ys = omega (arith, position_journal (xs ++ ys), length-append xs ys)
+
+place_then : (xs ys folded now : List Entry) (last : ℕ) → folded ≡ xs → now ≡ ys → last ≡ length folded + length now → last + 1 ≡ position (past_of (xs ++ ys)) + 1
+place_then xs ys folded now last same_folded same is =
+    omega (arith, is, ap length same_folded, ap length same, next_place xs ys)
 
 -- reading lines keeps what always holds
-pub centre_reads : (settings : Settings) (journal : List Entry) (stale : Bool) (s t : Kept) → IsCentre settings journal stale s → OnlyReadsIn s t → IsCentre settings journal stale t
-centre_reads settings journal stale s t sound reads = record {
+pub centre_reads : (settings : Settings) (xs ys : List Entry) (stale : Bool) (b s t : Kept) → IsCentre settings xs ys stale b s → OnlyReadsIn s t → IsCentre settings xs ys stale b t
+centre_reads settings xs ys stale b s t sound reads = record {
   few = sound.few;
   long = sound.long;
   legal = sound.legal;
-  whole = λ h. reads_kept (past_of journal) s t (sound.whole h) reads;
+  base = sound.base;
+  whole = λ h. reads_kept (past_of (xs ++ ys)) s t (sound.whole h) reads;
 }
+
+-- a centre that isn't stale is whole
+pub whole_centre : (settings : Settings) (xs ys : List Entry) (stale : Bool) (b s : Kept) → stale ≡ false → IsCentre settings xs ys stale b s → IsWhole settings.network xs ys s
+whole_centre settings xs ys stale b s h sound = record { legal = sound.legal; kept = sound.whole h }
 
 -- What is found before an edit is made.
 
 -- what the verdict refuses is refused
-pub refused_as : {A : Type 0} (settings : Settings) (journal : List Entry) (e : Event) (r : Result A Refusal) (x : Refusal) → IsErrAnd r (λ y. y ≡ x) → verdict settings (past_of journal) e ≡ Err x → IfErr r (IsRefused settings journal e)
-refused_as settings journal e (Ok free) x h is = tt
-refused_as settings journal e (Err y) x h is = inr (is ∙ ap Err (sym h))
+pub refused_as : {A : Type 0} (settings : Settings) (before : Past) (e : Event) (r : Result A Refusal) (x : Refusal) → IsErrAnd r (λ y. y ≡ x) → verdict settings before e ≡ Err x → IfErr r (IsRefused settings before e)
+refused_as settings before e (Ok free) x h is = tt
+refused_as settings before e (Err y) x h is = inr (is ∙ ap Err (sym h))
 
 -- where memory runs out, an event whose verdict is no refusal is refused by `Memory`
-pub starved : {A : Type 0} (settings : Settings) (journal : List Entry) (e : Event) (r : Result A Refusal) → IsErrAnd r (λ y. y ≡ Memory) → IsOk (verdict settings (past_of journal) e) → IfErr r (IsRefused settings journal e)
-starved settings journal e (Ok free) h given = tt
-starved settings journal e (Err y) h given = inl (h, given)
+pub starved : {A : Type 0} (settings : Settings) (before : Past) (e : Event) (r : Result A Refusal) → IsErrAnd r (λ y. y ≡ Memory) → IsOk (verdict settings before e) → IfErr r (IsRefused settings before e)
+starved settings before e (Ok free) h given = tt
+starved settings before e (Err y) h given = inl (h, given)
 
 -- the same where the refusal is `Memory`
-pub starved_as : {A : Type 0} (settings : Settings) (journal : List Entry) (e : Event) (r : Result A Refusal) (x : Refusal) → IsErrAnd r (λ y. y ≡ x) → x ≡ Memory → IsOk (verdict settings (past_of journal) e) → IfErr r (IsRefused settings journal e)
-starved_as settings journal e (Ok free) x h is given = tt
-starved_as settings journal e (Err y) x h is given = inl (h ∙ is, given)
+pub starved_as : {A : Type 0} (settings : Settings) (before : Past) (e : Event) (r : Result A Refusal) (x : Refusal) → IsErrAnd r (λ y. y ≡ x) → x ≡ Memory → IsOk (verdict settings before e) → IfErr r (IsRefused settings before e)
+starved_as settings before e (Ok free) x h is given = tt
+starved_as settings before e (Err y) x h is given = inl (h ∙ is, given)
 
 answer_in : (v : Result Answer Refusal) → IsOk v → (a : Answer) × (v ≡ Ok a)
 answer_in (Ok a) h = (a, refl)
 answer_in (Err x) h = cc
 
--- the lines of an edit that is accepted are told of and read within its reach
-pub reached_within : (settings : Settings) (journal : List Entry) (s : Kept) (e : Edit) (old new : ℕ) → IsOk (verdict settings (past_of journal) (event.Edit e)) → ((settings : Settings) (past : Past) (a : Answer) → Legal settings past → IsKept past s → edit_answered past e ≡ Ok a → new ≤ old + 2 * size (edit_reach past e)) → IsCentre settings journal false s → new ≤ old + 2 * size (edit_reach (past_of journal) e)
-reached_within settings journal s e old new given now centre =
-    let found = answer_in (verdict settings (past_of journal) (event.Edit e)) given in
-    now settings (past_of journal) found.0 centre.legal (centre.whole refl) (verdict_answered settings (past_of journal) (event.Edit e) found.0 found.1)
+-- the lines of an edit that is looked at are read within its reach
+pub looked_within : (xs ys : List Entry) (e : Edit) (old new : ℕ) → new ≤ old + size (edit_reach (past_of (xs ++ ys)) e) → new ≤ old + 3 * size (edit_reach (past_over xs ys) e)
+looked_within xs ys e old new looks = omega (arith, looks, edit_size_over xs ys e)
+
+-- where it is accepted they are told of and read, and after that those that it may change
+pub reached_within : (settings : Settings) (xs ys : List Entry) (s t : Kept) (e : Edit) (old mid new : ℕ) → IsOk (verdict settings (past_over xs ys) (event.Edit e)) → ((settings : Settings) (past : Past) (a : Answer) → Legal settings past → IsKept past t → edit_answered past e ≡ Ok a → new ≤ mid + 2 * size (edit_reach past e)) → IsWhole settings.network xs ys s → OnlyReadsIn s t → mid ≤ old + size (edit_reach (past_of (xs ++ ys)) e) → new ≤ old + 3 * size (edit_reach (past_over xs ys) e)
+reached_within settings xs ys s t e old mid new given now centre reads looks =
+    let found = answer_in (verdict settings (past_over xs ys) (event.Edit e)) given in
+    let kept : IsKept (past_of (xs ++ ys)) t = reads_kept (past_of (xs ++ ys)) s t centre.kept reads in
+    let bears : new ≤ mid + 2 * size (edit_reach (past_of (xs ++ ys)) e) = now (lasting settings.network) (past_of (xs ++ ys)) found.0 centre.legal kept (answered_all settings xs ys (event.Edit e) found.0 found.1) in
+    omega (arith, bears, looks, edit_size_over xs ys e)
 
 -- the lines of another event that is accepted: those that it looks at, and those on which it bears
-pub other_within : (settings : Settings) (journal : List Entry) (e : Event) (a : Answer) (old mid new : ℕ) → verdict settings (past_of journal) e ≡ Ok a → mid ≤ old + looked_at (past_of journal) e → new ≤ mid + 2 * size (reach_of (past_of journal) e a) → new ≤ old + 2 * reach (past_of journal) e (verdict settings (past_of journal) e)
-other_within settings journal e a old mid new is looks bears = omega (arith, looks, bears, ap (reach (past_of journal) e) is)
+pub other_within : (settings : Settings) (xs ys : List Entry) (e : Event) (a : Answer) (old mid new : ℕ) → verdict settings (past_over xs ys) e ≡ Ok a → mid ≤ old + looked_at (past_of (xs ++ ys)) e → new ≤ mid + 2 * size (reach_of (past_of (xs ++ ys)) e a) → new ≤ old + 2 * reach (past_over xs ys) e (verdict settings (past_over xs ys) e)
+other_within settings xs ys e a old mid new is looks bears =
+    let all : reach (past_over xs ys) e (verdict settings (past_over xs ys) e) ≡ size (reach_of (past_of (xs ++ ys)) e a) + looked_at (past_of (xs ++ ys)) e = ap (reach (past_over xs ys) e) is ∙ reach_over xs ys e (Ok a) in
+    omega (arith, looks, bears, all)
 
 -- What a centre is, one event further.
 
-pub centre_after : (settings : Settings) (journal now : List Entry) (stale : Bool) (s t : Kept) → IsCentre settings journal stale s → now ≡ journal → OnlyReadsIn s t → IsCentre settings now stale t
-centre_after settings journal now stale s t sound same reads = subst (λ js. IsCentre settings js stale t) (sym same) (centre_reads settings journal stale s t sound reads)
+pub centre_after : (settings : Settings) (xs ys folded now : List Entry) (stale : Bool) (b s t : Kept) → IsCentre settings xs ys stale b s → folded ≡ xs → now ≡ ys → OnlyReadsIn s t → IsCentre settings folded now stale b t
+centre_after settings xs ys folded now stale b s t sound same_folded same reads =
+    subst (λ fs. IsCentre settings fs now stale b t) (sym same_folded)
+    (subst (λ js. IsCentre settings xs js stale b t) (sym same) (centre_reads settings xs ys stale b s t sound reads))
 
 -- where memory runs out while an event is entered
-pub centre_stale : (settings : Settings) (journal base now : List Entry) (stale : Bool) (s t : Kept) → IsCentre settings journal stale s → base ≡ journal → now ≡ base → IsCentre settings now true t
-centre_stale settings journal base now stale s t sound same entries =
-    subst (λ js. IsCentre settings js true t) (sym (entries ∙ same)) (record { few = sound.few; long = sound.long; legal = sound.legal; whole = λ h. cc })
+pub centre_stale : (settings : Settings) (xs ys folded now : List Entry) (stale : Bool) (b s t : Kept) → IsCentre settings xs ys stale b s → folded ≡ xs → now ≡ ys → IsCentre settings folded now true b t
+centre_stale settings xs ys folded now stale b s t sound same_folded same =
+    subst (λ fs. IsCentre settings fs now true b t) (sym same_folded)
+    (subst (λ js. IsCentre settings xs js true b t) (sym same) (record { few = sound.few; long = sound.long; legal = sound.legal; base = sound.base; whole = λ h. cc }))
 
-pub leaves_stale : (settings : Settings) (journal base now : List Entry) (stale : Bool) (r : Result Answer Refusal) → IsErrAnd r (λ y. y ≡ Memory) → base ≡ journal → now ≡ base → IfErr r (λ x. Leaves (record { settings = settings; journal = journal; stale = stale }) x (record { settings = settings; journal = now; stale = true }))
-leaves_stale settings journal base now stale (Ok a) h same entries = tt
-leaves_stale settings journal base now stale (Err y) h same entries =
-    inr (h, ap (λ js. let known : Known = record { settings = settings; journal = js; stale = true } in known) (entries ∙ same))
+pub leaves_stale : (settings : Settings) (xs ys folded now : List Entry) (stale : Bool) (r : Result Answer Refusal) → IsErrAnd r (λ y. y ≡ Memory) → folded ≡ xs → now ≡ ys → IfErr r (λ x. Leaves (record { settings = settings; folded = xs; journal = ys; stale = stale }) x (record { settings = settings; folded = folded; journal = now; stale = true }))
+leaves_stale settings xs ys folded now stale (Ok a) h same_folded same = tt
+leaves_stale settings xs ys folded now stale (Err y) h same_folded same =
+    inr (h, ap (λ fs. let known : Known = record { settings = settings; folded = fs; journal = now; stale = true } in known) same_folded ∙ ap (λ js. let known : Known = record { settings = settings; folded = xs; journal = js; stale = true } in known) same)
+
+-- all entries, with one more
+all_with : (xs ys : List Entry) (e : Entry) → past_of (xs ++ (ys ++ e ∷ [])) ≡ After e (past_of (xs ++ ys))
+all_with xs ys e = ap (λ zs. past_of zs) (sym (append_assoc xs ys (e ∷ []))) ∙ ap (λ zs. since empty_base zs) (reverse-append (xs ++ ys) (e ∷ []))
 
 -- an accepted event is entered
-pub centre_entered : (settings : Settings) (journal base now : List Entry) (stale : Bool) (s t : Kept) (e : Entry) → IsCentre settings journal stale s → length journal < settings.limit → base ≡ journal → now ≡ base ++ e ∷ [] → verdict settings (past_of journal) e.event ≡ Ok e.answer → IsKept (After e (past_of journal)) t → IsCentre settings now false t
-centre_entered settings journal base now stale s t e sound room same entries accepted kept = rw (entries, same) (record {
-  few = sound.few;
-  long = omega (arith, length-append journal (e ∷ []));
-  legal = rw (reverse-append journal (e ∷ [])) (accepted, sound.legal);
-  whole = λ h. rw (reverse-append journal (e ∷ [])) kept;
-})
+pub centre_entered : (settings : Settings) (xs ys folded now : List Entry) (stale : Bool) (b s t : Kept) (e : Entry) → IsCentre settings xs ys stale b s → length ys < settings.limit → length xs + length ys < 2 ^ 64 - 1 → folded ≡ xs → now ≡ ys ++ e ∷ [] → verdict settings (past_over xs ys) e.event ≡ Ok e.answer → IsKept (After e (past_of (xs ++ ys))) t → IsCentre settings folded now false b t
+centre_entered settings xs ys folded now stale b s t e sound few low same_folded same accepted kept =
+    subst (λ fs. IsCentre settings fs now false b t) (sym same_folded)
+    (subst (λ js. IsCentre settings xs js false b t) (sym same) (record {
+      few = sound.few;
+      long = omega (arith, few, length-append ys (e ∷ []));
+      legal = subst (Legal (lasting settings.network)) (sym (all_with xs ys e)) (accepted_all settings xs ys e.event e.answer low accepted, sound.legal);
+      base = sound.base;
+      whole = λ h. subst (λ p. IsKept p t) (sym (all_with xs ys e)) kept;
+    }))
 
 -- a refusal that is given
-pub refuses : (settings : Settings) (journal : List Entry) (stale : Bool) (e : Event) (r : Result Answer Refusal) (x : Refusal) → IsErrAnd r (λ y. y ≡ x) → stale ≡ false → IsRefused settings journal e x → IfErr r (Refuses (record { settings = settings; journal = journal; stale = stale }) e)
-refuses settings journal stale e (Ok a) x h whole given = tt
-refuses settings journal stale e (Err y) x h whole (inl g) = inr (whole, inl (h ∙ g.0, g.1))
-refuses settings journal stale e (Err y) x h whole (inr g) = inr (whole, inr (g ∙ ap Err (sym h)))
+pub refuses : (settings : Settings) (xs ys : List Entry) (stale : Bool) (e : Event) (r : Result Answer Refusal) (x : Refusal) → IsErrAnd r (λ y. y ≡ x) → stale ≡ false → IsRefused settings (past_over xs ys) e x → IfErr r (Refuses (record { settings = settings; folded = xs; journal = ys; stale = stale }) e)
+refuses settings xs ys stale e (Ok a) x h whole given = tt
+refuses settings xs ys stale e (Err y) x h whole (inl g) = inr (whole, inl (h ∙ g.0, g.1))
+refuses settings xs ys stale e (Err y) x h whole (inr g) = inr (whole, inr (g ∙ ap Err (sym h)))
 
 -- the same of an event that a centre is given
-pub refuses_starved : (settings : Settings) (journal : List Entry) (stale : Bool) (e : Event) (r : Result Answer Refusal) → IsErrAnd r (λ y. y ≡ Memory) → stale ≡ false → IsOk (verdict settings (past_of journal) e) → IfErr r (Refuses (record { settings = settings; journal = journal; stale = stale }) e)
-refuses_starved settings journal stale e (Ok a) h whole given = tt
-refuses_starved settings journal stale e (Err y) h whole given = inr (whole, inl (h, given))
+pub refuses_starved : (settings : Settings) (xs ys : List Entry) (stale : Bool) (e : Event) (r : Result Answer Refusal) → IsErrAnd r (λ y. y ≡ Memory) → stale ≡ false → IsOk (verdict settings (past_over xs ys) e) → IfErr r (Refuses (record { settings = settings; folded = xs; journal = ys; stale = stale }) e)
+refuses_starved settings xs ys stale e (Ok a) h whole given = tt
+refuses_starved settings xs ys stale e (Err y) h whole given = inr (whole, inl (h, given))
 
 -- The lines that were read or set.
 
@@ -191,56 +220,57 @@ pub held_counted : (past : Past) (e : Event) (a : Answer) (spots : List Spot) (h
 held_counted past e a spots held was =
     subst (λ n. n ≤ size (reach_of past e a)) (sym (ap length was.lines ∙ length-map was.keys (held_past past))) was.few
 
-pub within_four : (settings : Settings) (journal : List Entry) (e : Event) (old new : ℕ) → new ≤ old + 2 * reach (past_of journal) e (verdict settings (past_of journal) e) → new ≤ old + 4 * reach (past_of journal) e (verdict settings (past_of journal) e)
-within_four settings journal e old new h = omega (arith, h)
+pub within_four : (settings : Settings) (xs ys : List Entry) (e : Event) (old new : ℕ) → new ≤ old + 2 * reach (past_over xs ys) e (verdict settings (past_over xs ys) e) → new ≤ old + 4 * reach (past_over xs ys) e (verdict settings (past_over xs ys) e)
+within_four settings xs ys e old new h = omega (arith, h)
 
-pub edit_lines : (settings : Settings) (journal : List Entry) (e : Edit) (old new : ℕ) → new ≤ old + 2 * size (edit_reach (past_of journal) e) → new ≤ old + 4 * reach (past_of journal) (event.Edit e) (verdict settings (past_of journal) (event.Edit e))
-edit_lines settings journal e old new h = omega (arith, h, edit_reach_is (past_of journal) e (verdict settings (past_of journal) (event.Edit e)))
+pub edit_lines : (settings : Settings) (xs ys : List Entry) (e : Edit) (old new : ℕ) → new ≤ old + 3 * size (edit_reach (past_over xs ys) e) → new ≤ old + 4 * reach (past_over xs ys) (event.Edit e) (verdict settings (past_over xs ys) (event.Edit e))
+edit_lines settings xs ys e old new h = omega (arith, h, edit_reach_is (past_over xs ys) e (verdict settings (past_over xs ys) (event.Edit e)))
 
-pub edit_lines_then : (settings : Settings) (journal : List Entry) (e : Edit) (a : Answer) (old mid new : ℕ) (spots : List Spot) (held : HeldLines) → mid ≤ old + 2 * size (edit_reach (past_of journal) e) → new ≤ mid + length (held_in held) → WasReached (past_of journal) (event.Edit e) a spots held → new ≤ old + 4 * reach (past_of journal) (event.Edit e) (verdict settings (past_of journal) (event.Edit e))
-edit_lines_then settings journal e a old mid new spots held before now was =
-    omega (arith, before, now, held_counted (past_of journal) (event.Edit e) a spots held was, edit_reach_is (past_of journal) e (verdict settings (past_of journal) (event.Edit e)))
+pub edit_lines_then : (settings : Settings) (xs ys : List Entry) (e : Edit) (a : Answer) (old mid new : ℕ) (spots : List Spot) (held : HeldLines) → mid ≤ old + 3 * size (edit_reach (past_over xs ys) e) → new ≤ mid + length (held_in held) → WasReached (past_of (xs ++ ys)) (event.Edit e) a spots held → new ≤ old + 4 * reach (past_over xs ys) (event.Edit e) (verdict settings (past_over xs ys) (event.Edit e))
+edit_lines_then settings xs ys e a old mid new spots held before now was =
+    omega (arith, before, now, held_counted (past_of (xs ++ ys)) (event.Edit e) a spots held was, edit_size_over xs ys e, edit_reach_is (past_over xs ys) e (verdict settings (past_over xs ys) (event.Edit e)))
 
-pub lines_then : (settings : Settings) (journal : List Entry) (e : Event) (a : Answer) (old mid new : ℕ) (spots : List Spot) (held : HeldLines) → verdict settings (past_of journal) e ≡ Ok a → mid ≤ old + 2 * reach (past_of journal) e (verdict settings (past_of journal) e) → new ≤ mid + length (held_in held) → WasReached (past_of journal) e a spots held → new ≤ old + 4 * reach (past_of journal) e (verdict settings (past_of journal) e)
-lines_then settings journal e a old mid new spots held is before now was =
-    omega (arith, before, now, held_counted (past_of journal) e a spots held was, ap (reach (past_of journal) e) is)
+pub lines_then : (settings : Settings) (xs ys : List Entry) (e : Event) (a : Answer) (old mid new : ℕ) (spots : List Spot) (held : HeldLines) → verdict settings (past_over xs ys) e ≡ Ok a → mid ≤ old + 2 * reach (past_over xs ys) e (verdict settings (past_over xs ys) e) → new ≤ mid + length (held_in held) → WasReached (past_of (xs ++ ys)) e a spots held → new ≤ old + 4 * reach (past_over xs ys) e (verdict settings (past_over xs ys) e)
+lines_then settings xs ys e a old mid new spots held is before now was =
+    let all : reach (past_over xs ys) e (verdict settings (past_over xs ys) e) ≡ size (reach_of (past_of (xs ++ ys)) e a) + looked_at (past_of (xs ++ ys)) e = ap (reach (past_over xs ys) e) is ∙ reach_over xs ys e (Ok a) in
+    omega (arith, before, now, held_counted (past_of (xs ++ ys)) e a spots held was, all)
 
 -- What is known where an event is entered.
 
 -- an edit that is made is answered so
-pub made_is : (settings : Settings) (journal : List Entry) (e : Edit) (a : Answer) → length journal < settings.limit → edit_answered (past_of journal) e ≡ Ok a → verdict settings (past_of journal) (event.Edit e) ≡ Ok a
-made_is settings journal e a room h = room_is settings journal (event.Edit e) room ∙ h
+pub made_is : (settings : Settings) (xs ys : List Entry) (e : Edit) (a : Answer) → length ys < settings.limit → length xs + length ys < 2 ^ 64 - 1 → edit_answered (past_of (xs ++ ys)) e ≡ Ok a → verdict settings (past_over xs ys) (event.Edit e) ≡ Ok a
+made_is settings xs ys e a few low h = room_is settings xs ys (event.Edit e) few low ∙ h
 
-pub may_be_made : (settings : Settings) (journal : List Entry) (e : Edit) → length journal < settings.limit → IsOk (verdict settings (past_of journal) (event.Edit e)) → IsOk (edit_answered (past_of journal) e)
-may_be_made settings journal e room h = subst IsOk (room_is settings journal (event.Edit e) room) h
+pub may_be_made : (settings : Settings) (xs ys : List Entry) (e : Edit) → length ys < settings.limit → length xs + length ys < 2 ^ 64 - 1 → IsOk (verdict settings (past_over xs ys) (event.Edit e)) → IsOk (edit_answered (past_of (xs ++ ys)) e)
+may_be_made settings xs ys e few low h = subst IsOk (room_is settings xs ys (event.Edit e) few low) h
 
-pub made_refused : (settings : Settings) (journal : List Entry) (e : Edit) (x : Refusal) → length journal < settings.limit → IsOk (verdict settings (past_of journal) (event.Edit e)) → Gives (edit_answered (past_of journal) e) (Err x) → IsRefused settings journal (event.Edit e) x
-made_refused settings journal e x room given (inl h) = inl (h.0, given)
-made_refused settings journal e x room given (inr h) = inr (room_is settings journal (event.Edit e) room ∙ h)
+pub made_refused : (settings : Settings) (xs ys : List Entry) (e : Edit) (x : Refusal) → length ys < settings.limit → length xs + length ys < 2 ^ 64 - 1 → IsOk (verdict settings (past_over xs ys) (event.Edit e)) → Gives (edit_answered (past_of (xs ++ ys)) e) (Err x) → IsRefused settings (past_over xs ys) (event.Edit e) x
+made_refused settings xs ys e x few low given (inl h) = inl (h.0, given)
+made_refused settings xs ys e x few low given (inr h) = inr (room_is settings xs ys (event.Edit e) few low ∙ h)
 
 pub record Enters (t : Kept) (e : Entry) (past : Past) (place : ℕ) (up : Bool) (spots : List Spot) (held : HeldLines) : Type 0 where
   pub known : Finishes t e.event e.answer place up spots held
   pub desk : known.desk ≡ e.desk
   pub is_past : known.past ≡ past
 
-pub edit_enters : (settings : Settings) (journal base : List Entry) (desk : ℕ) (e : Edit) (a : Answer) (entry : Entry) (r s t : Kept) (len : ℕ) (spots : List Spot) (held : HeldLines) → IsCentre settings journal false r → length journal < settings.limit → base ≡ journal → len ≡ length base → OnlyReadsIn r s → edit_answered (past_of journal) e ≡ Ok a → t ≡ record s { register = register_after e s.register; areas = areas_after e s.areas; book = book_after e s.book } → entry ≡ record { desk = desk; event = event.Edit e; answer = a } → ((b : Answer) → verdict settings (past_of journal) (event.Edit e) ≡ Ok b → WasReached (past_of journal) (event.Edit e) b spots held) → Enters t entry (past_of journal) (len + 1) false spots held
-edit_enters settings journal base desk e a entry r s t len spots held sound room same is reads answered made entered reached =
-    subst (λ x. Enters t x (past_of journal) (len + 1) false spots held) (sym entered) (record {
-      known = finishes_edit settings (past_of journal) desk e a s t (len + 1) spots held sound.legal (made_is settings journal e a room answered) (reads_kept (past_of journal) r s (sound.whole refl) reads) made (ap (λ n. n + 1) (is ∙ ap length same) ∙ next_place journal) (reached a (made_is settings journal e a room answered));
+pub edit_enters : (settings : Settings) (xs ys folded now : List Entry) (desk : ℕ) (e : Edit) (a : Answer) (entry : Entry) (r s t : Kept) (last : ℕ) (spots : List Spot) (held : HeldLines) → IsWhole settings.network xs ys r → length ys < settings.limit → length xs + length ys < 2 ^ 64 - 1 → folded ≡ xs → now ≡ ys → last ≡ length folded + length now → OnlyReadsIn r s → edit_answered (past_of (xs ++ ys)) e ≡ Ok a → t ≡ record s { register = register_after e s.register; areas = areas_after e s.areas; book = book_after e s.book } → entry ≡ record { desk = desk; event = event.Edit e; answer = a } → ((b : Answer) → verdict settings (past_over xs ys) (event.Edit e) ≡ Ok b → WasReached (past_of (xs ++ ys)) (event.Edit e) b spots held) → Enters t entry (past_of (xs ++ ys)) (last + 1) false spots held
+edit_enters settings xs ys folded now desk e a entry r s t last spots held centre few low same_folded same is reads answered made entered reached =
+    subst (λ x. Enters t x (past_of (xs ++ ys)) (last + 1) false spots held) (sym entered) (record {
+      known = finishes_edit (lasting settings.network) (past_of (xs ++ ys)) desk e a s t (last + 1) spots held centre.legal (lasting_is settings.network xs ys (event.Edit e) low ∙ answered) (reads_kept (past_of (xs ++ ys)) r s centre.kept reads) made (place_then xs ys folded now last same_folded same is) (reached a (made_is settings xs ys e a few low answered));
       desk = refl;
       is_past = refl;
     })
 
-pub other_enters : (settings : Settings) (journal base : List Entry) (desk : ℕ) (e : Event) (a : Answer) (entry : Entry) (r s : Kept) (len : ℕ) (up : Bool) (spots : List Spot) (held : HeldLines) → IsCentre settings journal false r → base ≡ journal → len ≡ length base → OnlyReadsIn r s → verdict settings (past_of journal) e ≡ Ok a → is_edit e ≡ false → entry ≡ record { desk = desk; event = e; answer = a } → ((past : Past) → AreLinksOf past s.links.items → up ≡ up_before past entry.event) → WasReached (past_of journal) e a spots held → Enters s entry (past_of journal) (len + 1) up spots held
-other_enters settings journal base desk e a entry r s len up spots held sound same is reads accepted other entered up_is reached =
-    subst (λ x. Enters s x (past_of journal) (len + 1) up spots held) (sym entered) (record {
-      known = finishes_other settings (past_of journal) desk e a s (len + 1) up spots held sound.legal accepted kept other (up_is (past_of journal) kept.linked ∙ ap (λ (x : Entry). up_before (past_of journal) x.event) entered) (ap (λ n. n + 1) (is ∙ ap length same) ∙ next_place journal) reached;
+pub other_enters : (settings : Settings) (xs ys folded now : List Entry) (desk : ℕ) (e : Event) (a : Answer) (entry : Entry) (r s : Kept) (last : ℕ) (up : Bool) (spots : List Spot) (held : HeldLines) → IsWhole settings.network xs ys r → length xs + length ys < 2 ^ 64 - 1 → folded ≡ xs → now ≡ ys → last ≡ length folded + length now → OnlyReadsIn r s → verdict settings (past_over xs ys) e ≡ Ok a → is_edit e ≡ false → entry ≡ record { desk = desk; event = e; answer = a } → ((past : Past) → AreLinksOf past s.links.items → up ≡ up_before past entry.event) → WasReached (past_of (xs ++ ys)) e a spots held → Enters s entry (past_of (xs ++ ys)) (last + 1) up spots held
+other_enters settings xs ys folded now desk e a entry r s last up spots held centre low same_folded same is reads accepted other entered up_is reached =
+    subst (λ x. Enters s x (past_of (xs ++ ys)) (last + 1) up spots held) (sym entered) (record {
+      known = finishes_other (lasting settings.network) (past_of (xs ++ ys)) desk e a s (last + 1) up spots held centre.legal (accepted_all settings xs ys e a low accepted) kept other (up_is (past_of (xs ++ ys)) kept.linked ∙ ap (λ (x : Entry). up_before (past_of (xs ++ ys)) x.event) entered) (place_then xs ys folded now last same_folded same is) reached;
       desk = refl;
       is_past = refl;
     })
   where
-    kept : IsKept (past_of journal) s
-    kept = reads_kept (past_of journal) r s (sound.whole refl) reads
+    kept : IsKept (past_of (xs ++ ys)) s
+    kept = reads_kept (past_of (xs ++ ys)) r s centre.kept reads
 
 -- what is kept then
 pub kept_entered : (t new : Kept) (e : Entry) (past : Past) (place : ℕ) (up : Bool) (spots : List Spot) (held : HeldLines) → Enters t e past place up spots held → ((x : Finishes t e.event e.answer place up spots held) → IsKept (After (record { desk = x.desk; event = e.event; answer = e.answer }) x.past) new) → IsKept (After e past) new
@@ -249,6 +279,25 @@ kept_entered t new e past place up spots held x f =
 
 pub entry_accepted : (settings : Settings) (past : Past) (desk : ℕ) (e : Event) (a : Answer) (entry : Entry) → verdict settings past e ≡ Ok a → entry ≡ record { desk = desk; event = e; answer = a } → verdict settings past entry.event ≡ Ok entry.answer
 entry_accepted settings past desk e a entry accepted is = subst (λ (x : Entry). verdict settings past x.event ≡ Ok x.answer) (sym is) accepted
+
+-- Where entries are folded.
+
+-- what is kept of all entries becomes the base
+pub centre_folded : (settings : Settings) (xs ys folded now : List Entry) (stale : Bool) (b base s : Kept) → IsCentre settings xs ys stale b s → folded ≡ xs ++ ys → now ≡ [] → IsKept (past_of (xs ++ ys)) base → IsCentre settings folded now stale base s
+centre_folded settings xs ys folded now stale b base s sound all none kept =
+    subst (λ fs. IsCentre settings fs now stale base s) (sym all)
+    (subst (λ js. IsCentre settings (xs ++ ys) js stale base s) (sym none) (record {
+      few = sound.few;
+      long = omega arith;
+      legal = subst (λ zs. Legal (lasting settings.network) (past_of zs)) (sym (append-nil (xs ++ ys))) sound.legal;
+      base = kept;
+      whole = λ h. subst (λ zs. IsKept (past_of zs) s) (sym (append-nil (xs ++ ys))) (sound.whole h);
+    }))
+
+-- the past comes to the same base
+pub folded_same : (xs ys folded now : List Entry) → folded ≡ xs ++ ys → now ≡ [] → base_of (past_over folded now) ≡ base_of (past_over xs ys)
+folded_same xs ys folded now all none =
+    ap (λ fs. base_of (past_over fs now)) all ∙ ap (λ js. base_of (past_over (xs ++ ys) js)) none ∙ sym (past_whole xs ys)
 
 -- Where a refusal comes from.
 

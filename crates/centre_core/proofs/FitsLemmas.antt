@@ -29,7 +29,9 @@ use Rattle.centre_events.specs.Asking.{asked_cells, on_air_after}
 use Rattle.centre_past.specs.Fits.{AnswerFits, IsCarried}
 use Rattle.order_maker.specs.Grouping.{first, most_cells}
 use Rattle.centre_events.specs.InFlight.{in_flight, is_kill}
-use Rattle.centre_past.specs.Legal.{Legal}
+use Rattle.centre_past.specs.Legal.{Lawful, lasting}
+use Rattle.centre_past.proofs.LawfulLemmas.{whole}
+use Rattle.centre_events.specs.Base.{Base}
 use Rattle.centre_events.specs.OrderMessage.{IsCarriable, given_content, listed, message_by, write_message}
 use Rattle.centre_events.specs.Past.{Past, position}
 use Rattle.centre_events.specs.Pending.{pending}
@@ -144,7 +146,7 @@ of_issue P plain n None = tt
 of_issue P plain n (Some s) = plain.issued n s
 
 of_update : (P : Answer → Type 0) → OfPlain P → (o : Option ℕ) → IfOk (update_answer o) P
-of_update P plain None = tt
+of_update P plain None = plain.done
 of_update P plain (Some s) = plain.updated s
 
 of_reply : (P : Answer → Type 0) → OfPlain P → (network : List ℕ) (reply : Message) (o : Option InFlight) → IfOk (reply_answer network reply o) P
@@ -198,19 +200,25 @@ answer_carried network past e answer h =
     of_answer IsCarried (record { done = tt; link = λ n. tt; issued = λ n s. tt; updated = λ s. tt; replied = λ replies. tt; listed = λ cells. tt }) network past
     (λ b. send_carries past (first (pending past b))) (query_carries past) e answer h
 
--- what an event is answered after a legal past fits
-pub verdict_fits : (settings : Settings) (past : Past) (e : Event) (answer : Answer) → Legal settings past → verdict settings past e ≡ Ok answer → AnswerFits answer
-verdict_fits settings past e answer legal h =
-    answer_fits settings.network past e answer (legal_sound settings past legal) (verdict_answered settings past e answer h)
+-- the book of a lawful past is that of a legal one
+lawful_sound : (settings : Settings) (past : Past) → Lawful settings past → IsSound (book_of past)
+lawful_sound settings past lawful =
+    let w = whole settings past lawful in
+    subst IsSound (ap (λ (x : Base). x.book) w.same) (legal_sound (lasting settings.network) w.full w.legal)
+
+-- what an event is answered after a lawful past fits
+pub verdict_fits : (settings : Settings) (past : Past) (e : Event) (answer : Answer) → Lawful settings past → verdict settings past e ≡ Ok answer → AnswerFits answer
+verdict_fits settings past e answer lawful h =
+    answer_fits settings.network past e answer (lawful_sound settings past lawful) (verdict_answered settings past e answer h)
 
 -- and carries its order
 pub verdict_carried : (settings : Settings) (past : Past) (e : Event) (answer : Answer) → verdict settings past e ≡ Ok answer → IsCarried answer
 verdict_carried settings past e answer h = answer_carried settings.network past e answer (verdict_answered settings past e answer h)
 
 -- the same of what is answered, if the event is accepted
-pub fits_if : (settings : Settings) (past : Past) (e : Event) (r : Result Answer Refusal) → Legal settings past → IfOk r (λ a. verdict settings past e ≡ Ok a) → IfOk r AnswerFits
-fits_if settings past e (Ok a) legal h = verdict_fits settings past e a legal h
-fits_if settings past e (Err x) legal h = tt
+pub fits_if : (settings : Settings) (past : Past) (e : Event) (r : Result Answer Refusal) → Lawful settings past → IfOk r (λ a. verdict settings past e ≡ Ok a) → IfOk r AnswerFits
+fits_if settings past e (Ok a) lawful h = verdict_fits settings past e a lawful h
+fits_if settings past e (Err x) lawful h = tt
 
 pub carried_if : (settings : Settings) (past : Past) (e : Event) (r : Result Answer Refusal) → IfOk r (λ a. verdict settings past e ≡ Ok a) → IfOk r IsCarried
 carried_if settings past e (Ok a) h = verdict_carried settings past e a h

@@ -1,4 +1,5 @@
 pub mod FitsLemmas
+pub mod FoldedLemmas
 pub mod CentreLemmas
 pub mod JournalLemmas
 pub mod RebuildLemmas

@@ -1,10 +1,11 @@
 -- What is kept is made anew, entry by entry.
-use Rattle.std.specs.Prelude.{OnOk, Some, None, slice_get, ◌==◌, if◌then◌else◌}
+use Rattle.std.specs.Prelude.{OnOk, Some, None, nat_le, slice_get, if◌then◌else◌}
 use Rattle.kept_tables.specs.declared.spot.Spot.{Spot}
 use Rattle.coverage_plan.specs.declared.edit.Edit.{Edit}
-use Rattle.std.proofs.Common.{◌≡◌, ℕ, suc, zero, Bool, false, ◌+◌, ◌-◌, ◌<◌, ◌≤◌, List, [], ◌∷◌, ◌++◌, Result, Ok, Err, refl, sym, ◌∙◌, ap, subst, length, get_or, take, drop, reverse, arith}
-use Rattle.std.proofs.lemmas.Bool.{ne_eqb}
-use Rattle.std.proofs.lemmas.List.{reverse-append}
+use Rattle.std.proofs.Common.{◌≡◌, ℕ, suc, zero, Bool, false, ◌+◌, ◌-◌, ◌<◌, ◌≤◌, List, [], ◌∷◌, ◌++◌, Result, Ok, Err, refl, sym, ◌∙◌, ap, subst, length, get_or, take, drop, reverse, arith, length-append}
+use Rattle.std.proofs.Math.Seq.{take-append_seam}
+use Rattle.std.proofs.lemmas.Bool.{lt-leb}
+use Rattle.std.proofs.lemmas.List.{reverse-append, take_all}
 use Rattle.std.proofs.lemmas.Option.{get_or_from_slice_get}
 use Rattle.centre_events.specs.Base.{empty_base}
 use Rattle.centre_past.specs.Flights.{up_before}
@@ -110,55 +111,84 @@ other_followed r s new e place up spots held o other reads up_is reached g = fin
 
 -- The walk over the journal, by the numbers of its entries, from 1.
 
--- the entry of a number
-numbered : (journal : List Entry) (place : ℕ) → 1 ≤ place → (if place == 0 then None else slice_get journal (place - 1)) ≡ slice_get journal (place - 1)
-numbered journal place h = ap (λ (b : Bool). if b then None else slice_get journal (place - 1)) (ne_eqb place 0 (λ e. omega (arith, h, e)))
+-- after the entries of the first list come those of the second
+slice_get_after : {A : Type 0} (xs ys : List A) (n : ℕ) → slice_get (xs ++ ys) (length xs + n) ≡ slice_get ys n
+slice_get_after [] ys n =
+    let same : 0 + n ≡ n = omega arith in
+    ap (slice_get ys) same
+slice_get_after (x ∷ xs) ys n =
+    let next : length (x ∷ xs) + n ≡ suc (length xs + n) = omega arith in
+    ap (slice_get (x ∷ (xs ++ ys))) next ∙ slice_get_after xs ys n
+
+-- the entry of a number that wasn't folded
+pub numbered : (xs ys : List Entry) (place : ℕ) → length xs < place → (if nat_le place (length xs) then None else slice_get ys (place - length xs - 1)) ≡ slice_get (xs ++ ys) (place - 1)
+numbered xs ys place h =
+    let at : length xs + (place - length xs - 1) ≡ place - 1 = omega (arith, h) in
+    ap (λ (b : Bool). if b then None else slice_get ys (place - length xs - 1)) (lt-leb place (length xs) h)
+    ∙ sym (slice_get_after xs ys (place - length xs - 1)) ∙ ap (slice_get (xs ++ ys)) at
 
 something_at : {A : Type 0} (journal : List Entry) (i : ℕ) → i < length journal → None ≡ slice_get journal i → A
 something_at [] i h is = absurd (omega (arith, h))
 something_at (x ∷ xs) zero h is = absurd (let clash : None ≡ Some x = is in cc)
 something_at (x ∷ xs) (suc i) h is = something_at xs i (omega (arith, h)) is
 
-read_at : (journal : List Entry) (place : ℕ) (e : Entry) → 1 ≤ place → Some e ≡ (if place == 0 then None else slice_get journal (place - 1)) → get_or journal (place - 1) e ≡ e
-read_at journal place e first is = get_or_from_slice_get journal (place - 1) e e (sym (is ∙ numbered journal place first))
+read_at : (journal : List Entry) (place : ℕ) (e : Entry) → Some e ≡ slice_get journal (place - 1) → get_or journal (place - 1) e ≡ e
+read_at journal place e is = get_or_from_slice_get journal (place - 1) e e (sym is)
 
 -- something is read at each of them
-pub something_read : {A : Type 0} (journal : List Entry) (place : ℕ) → 1 ≤ place → place ≤ length journal → None ≡ (if place == 0 then None else slice_get journal (place - 1)) → A
-something_read journal place first last is = something_at journal (place - 1) (omega (arith, first, last)) (is ∙ numbered journal place first)
+pub something_read : {A : Type 0} (xs ys : List Entry) (place : ℕ) → length xs < place → place ≤ length xs + length ys → None ≡ (if nat_le place (length xs) then None else slice_get ys (place - length xs - 1)) → A
+something_read xs ys place first last is =
+    something_at (xs ++ ys) (place - 1) (omega (arith, first, last, length-append xs ys)) (is ∙ numbered xs ys place first)
+
+-- its number is one of all entries
+pub first_of : (xs : List Entry) (place : ℕ) → length xs < place → 1 ≤ place
+first_of xs place h = omega (arith, h)
+
+pub last_of : (xs ys : List Entry) (place : ℕ) → place ≤ length xs + length ys → place ≤ length (xs ++ ys)
+last_of xs ys place h = omega (arith, h, length-append xs ys)
 
 -- the past with it
-pub past_here : (journal : List Entry) (place : ℕ) (e : Entry) → 1 ≤ place → place ≤ length journal → Some e ≡ (if place == 0 then None else slice_get journal (place - 1)) → past_of (take place journal) ≡ After e (past_of (take (place - 1) journal))
+pub past_here : (journal : List Entry) (place : ℕ) (e : Entry) → 1 ≤ place → place ≤ length journal → Some e ≡ slice_get journal (place - 1) → past_of (take place journal) ≡ After e (past_of (take (place - 1) journal))
 past_here journal place e first last is =
     let next : place - 1 + 1 ≡ place = omega (arith, first) in
     subst (λ n. past_of (take n journal) ≡ After e (past_of (take (place - 1) journal))) next
-    (past_at journal (place - 1) e (omega (arith, first, last)) ∙ ap (λ d. After d (past_of (take (place - 1) journal))) (read_at journal place e first is))
+    (past_at journal (place - 1) e (omega (arith, first, last)) ∙ ap (λ d. After d (past_of (take (place - 1) journal))) (read_at journal place e is))
 
 pub record Here (s : Kept) (e : Entry) (past : Past) (place : ℕ) : Type 0 where
   pub follows : Follows s e place
   pub is_past : follows.past ≡ past
 
-pub here : (journal : List Entry) (x : IsLegal journal) (place : ℕ) (e : Entry) (s : Kept) → 1 ≤ place → place ≤ length journal → Some e ≡ (if place == 0 then None else slice_get journal (place - 1)) → IsKept (past_of (take (place - 1) journal)) s → Here s e (past_of (take (place - 1) journal)) place
+pub here : (journal : List Entry) (x : IsLegal journal) (place : ℕ) (e : Entry) (s : Kept) → 1 ≤ place → place ≤ length journal → Some e ≡ slice_get journal (place - 1) → IsKept (past_of (take (place - 1) journal)) s → Here s e (past_of (take (place - 1) journal)) place
 here journal x place e s first last is kept =
     let next : place ≡ place - 1 + 1 = omega (arith, first) in
-    subst (λ d. Here s d (past_of (take (place - 1) journal)) place) (read_at journal place e first is) (record {
+    subst (λ d. Here s d (past_of (take (place - 1) journal)) place) (read_at journal place e is) (record {
       follows = follows_at journal x (place - 1) e s place (omega (arith, first, last)) next kept;
       is_past = refl;
     })
 
-pub follows_here : (journal : List Entry) (x : IsLegal journal) (place : ℕ) (e : Entry) (s : Kept) → 1 ≤ place → place ≤ length journal → Some e ≡ (if place == 0 then None else slice_get journal (place - 1)) → IsKept (past_of (take (place - 1) journal)) s → Follows s e place
+pub follows_here : (journal : List Entry) (x : IsLegal journal) (place : ℕ) (e : Entry) (s : Kept) → 1 ≤ place → place ≤ length journal → Some e ≡ slice_get journal (place - 1) → IsKept (past_of (take (place - 1) journal)) s → Follows s e place
 follows_here journal x place e s first last is kept = (here journal x place e s first last is kept).follows
 
-pub kept_more : {E : Type 0} (journal : List Entry) (x : IsLegal journal) (place : ℕ) (e : Entry) (s new : Kept) (o : Result Unit E) → 1 ≤ place → place ≤ length journal → Some e ≡ (if place == 0 then None else slice_get journal (place - 1)) → IsKept (past_of (take (place - 1) journal)) s → OnOk o ((y : Follows s e place) → IsKept (After e y.past) new) → OnOk o (IsKept (past_of (take place journal)) new)
+pub kept_more : {E : Type 0} (journal : List Entry) (x : IsLegal journal) (place : ℕ) (e : Entry) (s new : Kept) (o : Result Unit E) → 1 ≤ place → place ≤ length journal → Some e ≡ slice_get journal (place - 1) → IsKept (past_of (take (place - 1) journal)) s → OnOk o ((y : Follows s e place) → IsKept (After e y.past) new) → OnOk o (IsKept (past_of (take place journal)) new)
 kept_more journal x place e s new (Ok u) first last is kept f =
     let next : place - 1 + 1 ≡ place = omega (arith, first) in
     subst (λ n. IsKept (past_of (take n journal)) new) next
     (kept_at journal (place - 1) e new (omega (arith, first, last))
-    (subst (λ d. IsKept (After d (past_of (take (place - 1) journal))) new) (sym (read_at journal place e first is))
+    (subst (λ d. IsKept (After d (past_of (take (place - 1) journal))) new) (sym (read_at journal place e is))
     (subst (λ past. IsKept (After e past) new) (here journal x place e s first last is kept).is_past (f (here journal x place e s first last is kept).follows))))
 kept_more journal x place e s new (Err u) first last is kept f = tt
 
 -- what was kept of the entries before one
-pub kept_before : (xs ys : List Entry) (done : ℕ) (s : Kept) → ys ≡ xs → IsKept (past_of (take done xs)) s → IsKept (past_of (take (done + 1 - 1) ys)) s
-kept_before xs ys done s same kept =
+pub kept_before : (xs ys folded now : List Entry) (done : ℕ) (s : Kept) → folded ≡ xs → now ≡ ys → IsKept (past_of (take done (xs ++ ys))) s → IsKept (past_of (take (done + 1 - 1) (folded ++ now))) s
+kept_before xs ys folded now done s same_folded same kept =
     let back : done + 1 - 1 ≡ done = omega arith in
-    subst (λ n. IsKept (past_of (take n ys)) s) (sym back) (subst (λ zs. IsKept (past_of (take done zs)) s) (sym same) kept)
+    subst (λ n. IsKept (past_of (take n (folded ++ now))) s) (sym back)
+    (subst (λ fs. IsKept (past_of (take done (fs ++ now))) s) (sym same_folded)
+    (subst (λ js. IsKept (past_of (take done (xs ++ js))) s) (sym same) kept))
+
+-- what is kept before the first of them, and after the last
+pub take_folded : (xs ys : List Entry) → past_of (take (length xs) (xs ++ ys)) ≡ past_of xs
+take_folded xs ys = ap (λ zs. past_of zs) (take-append_seam xs ys)
+
+pub take_whole : (xs ys : List Entry) → past_of (take (length xs + length ys) (xs ++ ys)) ≡ past_of (xs ++ ys)
+take_whole xs ys = ap (λ zs. past_of zs) (take_all (length xs + length ys) (xs ++ ys) (omega (arith, length-append xs ys)))

@@ -65,6 +65,7 @@ impl Centre {
     ghost use Rattle.mirror.specs.Table.{counted};
     ghost use Rattle.centre_core.specs.Centre.{ComesFrom, Leaves, Refuses, all_reach};
     ghost use Rattle.centre_core.specs.contracts.centre.Centre.{the_row};
+    ghost use Rattle.centre_past.specs.Alike.{SaysTheSame};
     ghost use Rattle.centre_past.specs.Fits.{AnswerFits, IsCarried};
     ghost use Rattle.centre_events.specs.Folding.{base_of};
     ghost use Rattle.centre_events.specs.InFlight.{in_flight};
@@ -237,6 +238,7 @@ impl Centre {
     pub fn checkpoint(&mut self) -> Result<u64, Refusal>
         ensures folded { IfOk result (λ n. (n ≡ length self.old.known.journal) × (self.new.known ≡ record self.old.known { folded = all_entries self.old.known; journal = [] })) }
         ensures same { OnOk result (base_of (past self.new.known) ≡ base_of (past self.old.known)) }
+        ensures says { OnOk result (SaysTheSame (past self.new.known) (past self.old.known)) }
         ensures whole { OnOk result (self.old.known.stale ≡ false) }
         ensures refusal { IfErr result (λ r. ((r ≡ Refusal.Stale) × (self.old.known.stale ≡ true)) ⊎ ((r ≡ Refusal.Memory) × (self.old.known.stale ≡ false))) }
         ensures unchanged { OnErr result (self.new ≡ self.old) }

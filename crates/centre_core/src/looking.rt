@@ -37,11 +37,15 @@ fn make_room(journal: &mut Journal) -> Result<(), Refusal>
     Ok(())
 }
 
-/// Whether the edit is accepted after the entries of the journal, which holds so many at most.
-fn look_at_edit(limit: u32, journal: &Journal, kept: &Kept, edit: &Edit) -> Result<(), Refusal>
+/// Whether the edit is accepted after the entries of the journal, which holds so many at most. Lines are read for an Update
+/// alone.
+#[tactic(auto, using(centre_past::proofs::ReadLemmas::reads_none))]
+fn look_at_edit(limit: u32, journal: &Journal, kept: &mut Kept, edit: &Edit) -> Result<(), Refusal>
     ensures few { OnOk result (length journal.now.entries < limit) }
     ensures number { OnOk result (length journal.now.folded + length journal.now.entries < 2 ^ 64 - 1) }
-    ensures verdict { (network : List ℕ) → IsWhole network journal.now.folded journal.now.entries kept.now → IsChecked (verdict (record { network = network; limit = limit }) (past_over journal.now.folded journal.now.entries) (event.Edit edit.now)) result }
+    ensures verdict { (network : List ℕ) → IsWhole network journal.now.folded journal.now.entries kept.old → IsChecked (verdict (record { network = network; limit = limit }) (past_over journal.now.folded journal.now.entries) (event.Edit edit.now)) result }
+    ensures reads { OnlyReadsIn kept.old kept.new }
+    ensures meter { (network : List ℕ) → IsWhole network journal.now.folded journal.now.entries kept.old → kept.new.tables.lines.meter ≤ kept.old.tables.lines.meter + size (edit_reach (past_of (journal.now.folded ++ journal.now.entries)) edit.now) }
 {
     if journal.is_full(limit) {
         return Err(Refusal::JournalFull);
@@ -68,7 +72,7 @@ pub(crate) fn prepare_edit(
     ensures accepted { (network : List ℕ) → IsWhole network journal.old.folded journal.old.entries kept.old → OnOk result (IsOk (verdict (record { network = network; limit = limit }) (past_over journal.old.folded journal.old.entries) (event.Edit edit.now))) }
     ensures refusal { (network : List ℕ) → IsWhole network journal.old.folded journal.old.entries kept.old → IfErr result (IsRefused (record { network = network; limit = limit }) (past_over journal.old.folded journal.old.entries) (event.Edit edit.now)) }
     ensures reached { (network : List ℕ) → IsWhole network journal.old.folded journal.old.entries kept.old → (a : answer_spec.Answer) → verdict (record { network = network; limit = limit }) (past_over journal.old.folded journal.old.entries) (event.Edit edit.now) ≡ Ok a → IfOk result (λ x. WasReached (past_of (journal.old.folded ++ journal.old.entries)) (event.Edit edit.now) a x.spots.items x.lines) }
-    ensures meter { (network : List ℕ) → IsWhole network journal.old.folded journal.old.entries kept.old → kept.new.tables.lines.meter ≤ kept.old.tables.lines.meter + 2 * size (edit_reach (past_over journal.old.folded journal.old.entries) edit.now) }
+    ensures meter { (network : List ℕ) → IsWhole network journal.old.folded journal.old.entries kept.old → kept.new.tables.lines.meter ≤ kept.old.tables.lines.meter + 3 * size (edit_reach (past_over journal.old.folded journal.old.entries) edit.now) }
 {
     look_at_edit(limit, journal, kept, edit)?;
     make_room(journal)?;
@@ -92,7 +96,7 @@ fn look_at_other(
     ensures number { OnOk result (length journal.now.folded + length journal.now.entries < 2 ^ 64 - 1) }
     ensures verdict { IsWhole network journal.now.folded journal.now.entries kept.old → Gives (verdict (record { network = network; limit = limit }) (past_over journal.now.folded journal.now.entries) event.now) result }
     ensures reads { OnlyReadsIn kept.old kept.new }
-    ensures meter { IsWhole network journal.now.folded journal.now.entries kept.old → kept.new.tables.lines.meter ≤ kept.old.tables.lines.meter + looked_at (past_over journal.now.folded journal.now.entries) event.now }
+    ensures meter { IsWhole network journal.now.folded journal.now.entries kept.old → kept.new.tables.lines.meter ≤ kept.old.tables.lines.meter + looked_at (past_of (journal.now.folded ++ journal.now.entries)) event.now }
 {
     tell_lines(kept.tables.lines());
     tell_known();

@@ -110,9 +110,8 @@ pub(crate) fn kept_of(alloc: Global, base: &Kept, journal: &mut Journal) -> Resu
     ensures most { OnErr result (journal.new.reads ≤ counted_by (length journal.old.entries) journal.old.reads) }
 {
     let mut kept = base.copied(alloc)?;
-    let folded = journal.folded();
-    for done in 0..journal.len() {
-        follow_next(alloc, &mut kept, journal, folded + done + 1)?;
+    for done in journal.folded()..journal.position() {
+        follow_next(alloc, &mut kept, journal, done + 1)?;
     }
     Ok(kept)
 }

@@ -4,3 +4,4 @@ pub mod ReplyLemmas
 pub mod LookupLemmas
 pub mod SteppedLemmas
 pub mod FindingLemmas
+pub mod FoldingLemmas

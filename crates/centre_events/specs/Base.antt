@@ -1,6 +1,5 @@
 -- What a past begins with: what the entries that were folded away came to. What a past says of a thing is what its last
--- entry that decides the thing says, and what the base says where none decides it. No entry is folded away so far, so
--- that the base of a legal past is the empty one.
+-- entry that decides the thing says, and what the base says where none decides it.
 use Rattle.std.specs.Prelude.{ℕ, Bool, false, List, [], Option, None}
 use Rattle.areas.specs.declared.selector.Selector.{Selector}
 use Rattle.common.specs.declared.cell.Cell.{Cell}

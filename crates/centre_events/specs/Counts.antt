@@ -12,14 +12,14 @@ use Rattle.common.specs.declared.cell.Cell.{Cell}
 use Rattle.mirror.specs.Seen.{is_the}
 use Rattle.warning_book.specs.Book.{has_number}
 use Rattle.warning_book.specs.declared.warning.Warning.{Warning}
-use Rattle.centre_events.specs.Effects.{is_among}
+use Rattle.centre_events.specs.Effects.{is_among, is_given}
 use Rattle.centre_events.specs.InFlight.{in_flight, id_of, old_of, cells_of}
 use Rattle.centre_events.specs.Past.{Past, latest}
 use Rattle.centre_events.specs.Warnings.{warnings_of, has_key}
 use Rattle.centre_events.specs.declared.answer.Answer.{Answer}
 use Rattle.centre_events.specs.declared.answer.Answer.TheVariants.{Replied}
 use Rattle.coverage_plan.specs.declared.edit.Edit.{Edit}
-use Rattle.coverage_plan.specs.declared.edit.Edit.TheVariants.{RemoveBsc, Forget}
+use Rattle.coverage_plan.specs.declared.edit.Edit.TheVariants.{RemoveBsc, Update, Forget}
 use Rattle.centre_events.specs.declared.entry.Entry.{Entry}
 use Rattle.centre_events.specs.declared.event.Event.{Event}
 use Rattle.centre_events.specs.declared.event.Event.TheVariants as event
@@ -77,15 +77,16 @@ report_count (Replied replies) f c m s = replied_count f replies c m s
 report_count other f c m s = None
 
 -- of a BSC that is taken out, and of a warning that is forgotten, nothing is reported any more
-abbrev pub edit_count : ℕ → ℕ → ℕ → Edit → List Warning → Option ℕ
-edit_count b m s (RemoveBsc other) warnings = if nat_eq other b then Some 0 else None
-edit_count b m s (Forget n) warnings = if list_any (λ w. has_number n w && has_key m s w) warnings then Some 0 else None
-edit_count b m s other warnings = None
+abbrev pub edit_count : ℕ → ℕ → ℕ → Edit → Answer → List Warning → Option ℕ
+edit_count b m s (Update n content) answer warnings = if is_given n m s answer warnings then Some 0 else None
+edit_count b m s (RemoveBsc other) answer warnings = if nat_eq other b then Some 0 else None
+edit_count b m s (Forget n) answer warnings = if list_any (λ w. has_number n w && has_key m s w) warnings then Some 0 else None
+edit_count b m s other answer warnings = None
 
 -- the number of broadcasts that the event sets of the key, by its answer, what was in flight, and the warnings in the book
 -- before it
 abbrev pub count_mark : ℕ → Cell → ℕ → ℕ → Event → Answer → Option InFlight → List Warning → Option ℕ
-count_mark b c m s (event.Edit edit) answer flight warnings = edit_count b m s edit warnings
+count_mark b c m s (event.Edit edit) answer flight warnings = edit_count b m s edit answer warnings
 count_mark b c m s (event.Report other generation message) answer flight warnings = if nat_eq other b then report_count answer flight c m s else None
 count_mark b c m s other answer flight warnings = None
 

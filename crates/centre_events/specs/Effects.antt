@@ -8,8 +8,10 @@ use Rattle.cbsp_messages.specs.declared.message.Message.{Message}
 use Rattle.cbsp_messages.specs.declared.message.Message.TheVariants.{Restart}
 use Rattle.common.specs.Cell.{cell_eq}
 use Rattle.common.specs.declared.cell.Cell.{Cell}
+use Rattle.warning_book.specs.Book.{has_number}
+use Rattle.warning_book.specs.declared.warning.Warning.{Warning}
 use Rattle.centre_events.specs.declared.answer.Answer.{Answer}
-use Rattle.centre_events.specs.declared.answer.Answer.TheVariants.{Replied, Listed}
+use Rattle.centre_events.specs.declared.answer.Answer.TheVariants.{Updated, Replied, Listed}
 use Rattle.centre_events.specs.declared.effect.Effect.{Effect}
 use Rattle.centre_events.specs.declared.effect.Effect.TheVariants.{Sets, Holds, Frees, Leaves}
 use Rattle.mirror.specs.declared.key_state.KeyState.{KeyState}
@@ -86,6 +88,11 @@ abbrev pub flight_effect : Option InFlight → Outcome → Cell → ℕ → ℕ 
 flight_effect None o c m s = Leaves
 flight_effect (Some (flight.Order order)) o c m s = order_effect order o c m s
 flight_effect (Some (flight.Query message_id serial cells)) o c m s = if (nat_eq message_id m && is_among c cells) && nat_eq serial s then query_effect o else Leaves
+
+-- the answer gives the serial number to the next version of the warning of that number, which has the message identifier
+abbrev pub is_given : ℕ → ℕ → ℕ → Answer → List Warning → Bool
+is_given n m s (Updated t) warnings = nat_eq s t && list_any (λ w. has_number n w && nat_eq w.message_id m) warnings
+is_given n m s other warnings = false
 
 -- what the replies say of the cell
 abbrev pub outcome_in : Cell → List Reply → Option Outcome

@@ -23,6 +23,7 @@ pub mod OrderMessage
 pub mod Reported
 pub mod Asking
 pub mod Verdict
+pub mod Folding
 pub mod Kept
 pub mod Facts
 pub mod Stepping

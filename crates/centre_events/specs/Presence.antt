@@ -8,14 +8,14 @@ use Rattle.common.specs.declared.cell.Cell.{Cell}
 use Rattle.warning_book.specs.Book.{has_number}
 use Rattle.warning_book.specs.declared.kind.Kind.{Kind}
 use Rattle.warning_book.specs.declared.warning.Warning.{Warning}
-use Rattle.centre_events.specs.Effects.{flight_effect, report_effect, presence_mark, hold_mark}
+use Rattle.centre_events.specs.Effects.{flight_effect, report_effect, presence_mark, hold_mark, is_given}
 use Rattle.centre_events.specs.InFlight.{in_flight}
 use Rattle.centre_events.specs.Links.{is_up}
 use Rattle.centre_events.specs.Past.{Past, latest}
 use Rattle.centre_events.specs.Warnings.{warnings_of, has_key, key_kind}
 use Rattle.centre_events.specs.declared.answer.Answer.{Answer}
 use Rattle.coverage_plan.specs.declared.edit.Edit.{Edit}
-use Rattle.coverage_plan.specs.declared.edit.Edit.TheVariants.{RemoveBsc, Forget}
+use Rattle.coverage_plan.specs.declared.edit.Edit.TheVariants.{RemoveBsc, Update, Forget}
 use Rattle.centre_events.specs.declared.effect.Effect.{Effect}
 use Rattle.centre_events.specs.declared.effect.Effect.TheVariants.{Sets, Frees, Leaves}
 use Rattle.centre_events.specs.declared.entry.Entry.{Entry}
@@ -26,17 +26,18 @@ use Rattle.mirror.specs.declared.presence.Presence.TheVariants.{Absent}
 use Rattle.centre_events.specs.declared.in_flight.InFlight.{InFlight}
 use Rattle.centre_events.specs.declared.outcome.Outcome.TheVariants.{Silent}
 
--- of a BSC that is removed nothing is on air; a warning that is forgotten holds nothing
-abbrev pub edit_effect : ℕ → ℕ → ℕ → Edit → List Warning → Effect
-edit_effect b m s (RemoveBsc other) warnings = if nat_eq other b then Sets Absent else Leaves
-edit_effect b m s (Forget n) warnings = if list_any (λ w. has_number n w && has_key m s w) warnings then Frees else Leaves
-edit_effect b m s other warnings = Leaves
+-- of a BSC that is removed nothing is on air; a warning that is forgotten holds nothing, nor does a version that is new
+abbrev pub edit_effect : ℕ → ℕ → ℕ → Edit → Answer → List Warning → Effect
+edit_effect b m s (Update n content) answer warnings = if is_given n m s answer warnings then Frees else Leaves
+edit_effect b m s (RemoveBsc other) answer warnings = if nat_eq other b then Sets Absent else Leaves
+edit_effect b m s (Forget n) answer warnings = if list_any (λ w. has_number n w && has_key m s w) warnings then Frees else Leaves
+edit_effect b m s other answer warnings = Leaves
 
 -- what the event does to the key of a warning of the kind, by its answer, whether the link was up, what was in flight, and
 -- the warnings in the book before it: a matched reply tells the outcome in each cell, the loss of the link leaves it silent
 -- in all; a Retry ends what holds the orders of its BSC back
 abbrev pub effect : Kind → ℕ → Cell → ℕ → ℕ → Event → Answer → Bool → Option InFlight → List Warning → Effect
-effect k b c m s (event.Edit edit) answer up flight warnings = edit_effect b m s edit warnings
+effect k b c m s (event.Edit edit) answer up flight warnings = edit_effect b m s edit answer warnings
 effect k b c m s (event.Report other generation message) answer up flight warnings = if nat_eq other b then report_effect k message answer flight c m s else Leaves
 effect k b c m s (event.LinkUp other) answer up flight warnings = if nat_eq other b && up then flight_effect flight Silent c m s else Leaves
 effect k b c m s (event.LinkDown other generation) answer up flight warnings = if nat_eq other b then flight_effect flight Silent c m s else Leaves

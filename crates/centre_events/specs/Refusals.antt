@@ -11,7 +11,7 @@ use Rattle.warning_book.specs.declared.refusal.Refusal as book
 use Rattle.warning_book.specs.declared.refusal.Refusal.TheVariants as book_refusal
 use Rattle.centre_events.specs.declared.refusal.Limit.TheVariants as limit
 use Rattle.centre_events.specs.declared.refusal.Refusal.{Refusal}
-use Rattle.centre_events.specs.declared.refusal.Refusal.TheVariants.{Stale, JournalFull, NoSuchBsc, BscExists, BscHasCells, LinkIsUp, CellExists, NoSuchCell, SameBsc, BadName, AreaExists, NoSuchArea, AreaInUse, SelectorThere, SelectorNotThere, NoSuchWarning, NotActive, StillActive, StillReported, StillInFlight, NoAreas, AreaThere, AreaNotThere, LastArea, BadPages, BadPeriod, WrongKind, UpdatesExhausted, StaleLink, LinkNotUp, InFlight, NothingPending, NothingToAsk, NoOrder, Limit, Memory, WrongDesk}
+use Rattle.centre_events.specs.declared.refusal.Refusal.TheVariants.{Stale, JournalFull, NoSuchBsc, BscExists, BscHasCells, LinkIsUp, CellExists, NoSuchCell, SameBsc, BadName, AreaExists, NoSuchArea, AreaInUse, SelectorThere, SelectorNotThere, NoSuchWarning, NotActive, StillActive, StillReported, StillInFlight, NoAreas, AreaThere, AreaNotThere, LastArea, BadPages, BadPeriod, WrongKind, StaleLink, LinkNotUp, InFlight, NothingPending, NothingToAsk, NoOrder, Limit, Memory, WrongDesk}
 
 -- the number that a refusal is answered with
 abbrev pub refusal_number : Refusal → ℕ
@@ -42,7 +42,6 @@ refusal_number LastArea = 24
 refusal_number BadPages = 25
 refusal_number BadPeriod = 26
 refusal_number WrongKind = 27
-refusal_number UpdatesExhausted = 28
 refusal_number (StaleLink now) = 29
 refusal_number LinkNotUp = 30
 refusal_number InFlight = 31
@@ -88,7 +87,6 @@ of_book book_refusal.LastArea = LastArea
 of_book book_refusal.BadPages = BadPages
 of_book book_refusal.BadPeriod = BadPeriod
 of_book book_refusal.WrongKind = WrongKind
-of_book book_refusal.UpdatesExhausted = UpdatesExhausted
 of_book (book_refusal.Limit book_limit.Warnings) = Limit limit.Warnings
 of_book (book_refusal.Limit book_limit.WarningAreas) = Limit limit.WarningAreas
 of_book (book_refusal.Limit book_limit.Ids) = Limit limit.Ids

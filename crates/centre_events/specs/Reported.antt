@@ -1,4 +1,5 @@
--- What keeps a stopped warning in the book: a key of it that a BSC has reported, or an order in flight.
+-- What keeps a stopped warning in the book: a key of it that a BSC has reported, or an order in flight. The same of one
+-- key keeps its serial number from being taken again.
 use Rattle.std.specs.Prelude.{ℕ, Bool, false, ◌&&◌, ◌||◌, not, Option, Some, None, nat_eq}
 use Rattle.std.specs.List.{list_any}
 use Rattle.common.specs.declared.cell.Cell.{Cell}
@@ -51,3 +52,21 @@ flight_names w (Some f) = names_warning f w
 -- what is in flight to some BSC names a version of the warning
 abbrev pub is_in_flight : Past → Warning → Bool
 is_in_flight past w = list_any (λ b. flight_names w (in_flight past b)) (bscs past)
+
+-- The same of one version.
+
+-- the version of that message identifier and serial number is on air, or may be, in the cell at the BSC
+abbrev pub is_key_present : Past → ℕ → ℕ → ℕ → Cell → Bool
+is_key_present past m s b c = not (is_absent (presence past b c m s))
+
+-- in one of the cells at the BSC
+abbrev pub is_key_reported_at : Past → ℕ → ℕ → ℕ → Bool
+is_key_reported_at past m s b = list_any (is_key_present past m s b) (cells past)
+
+-- anywhere
+abbrev pub is_key_reported : Past → ℕ → ℕ → Bool
+is_key_reported past m s = list_any (is_key_reported_at past m s) (bscs past)
+
+-- what is in flight to some BSC names it
+abbrev pub is_key_in_flight : Past → ℕ → ℕ → Bool
+is_key_in_flight past m s = list_any (λ b. names_version (in_flight past b) m s) (bscs past)

@@ -1,6 +1,6 @@
 -- What an event is answered: the first refusal whose cause holds, in the order of the refusals, or else its answer.
-use Rattle.std.specs.Prelude.{ℕ, ◌+◌, Bool, true, false, ◌||◌, not, List, [], ◌∷◌, ◌++◌, Option, Some, None, Result, Ok, Err, nat_eq, nat_le, if◌then◌else◌}
-use Rattle.std.specs.Option.{is_some}
+use Rattle.std.specs.Prelude.{ℕ, ◌+◌, Bool, true, false, ◌&&◌, ◌||◌, not, List, [], ◌∷◌, ◌++◌, Option, Some, None, Result, Ok, Err, nat_eq, nat_le, if◌then◌else◌}
+use Rattle.std.specs.Option.{is_some, option_map, option_to_list}
 use Rattle.std.specs.List.{list_any}
 use Rattle.areas.specs.Name.{is_name}
 use Rattle.areas.specs.declared.selector.Selector.{Selector}
@@ -8,7 +8,8 @@ use Rattle.cbsp_messages.specs.declared.message.Message.{Message}
 use Rattle.cbsp_messages.specs.declared.message.Message.TheVariants as message
 use Rattle.cell_register.specs.Register.{is_place}
 use Rattle.common.specs.declared.cell.Cell.{Cell}
-use Rattle.warning_book.specs.Book.{names, warning_is, new_serial, next_serial, content_of, warning_of}
+use Rattle.serials.specs.Serials.{next_of}
+use Rattle.warning_book.specs.Book.{names, current_of, is_reused, is_so, warning_is, new_serial, next_serial, content_of, warning_of}
 use Rattle.warning_book.specs.Checks as book
 use Rattle.warning_book.specs.declared.content.Content.{Content}
 use Rattle.warning_book.specs.declared.notice.Notice.{Notice}
@@ -25,7 +26,7 @@ use Rattle.centre_events.specs.Past.{Past, entry_count, position}
 use Rattle.centre_events.specs.Pending.{pending}
 use Rattle.centre_events.specs.Places.{cells, place, is_registered, cell_count}
 use Rattle.centre_events.specs.Refusals.{of_book}
-use Rattle.centre_events.specs.Reported.{is_reported, is_in_flight}
+use Rattle.centre_events.specs.Reported.{is_reported, is_in_flight, is_key_reported, is_key_in_flight}
 use Rattle.centre_events.specs.Settings.{Settings}
 use Rattle.centre_events.specs.Warnings.{book_of, warnings_of}
 use Rattle.centre_events.specs.declared.answer.Answer.{Answer}
@@ -143,13 +144,19 @@ issue_answer n (Some s) = Ok (answer.Issued n s)
 abbrev pub issue : Past → Notice → List (List ℕ) → Result Answer Refusal
 issue past notice areas = unless (issue_checks past notice areas) (issue_answer ((book_of past).issued + 1) (new_serial (book_of past) notice))
 
--- why an Update is refused
-abbrev pub update_checks : Past → ℕ → Content → List (Bool × Refusal)
-update_checks past n content = by_book (book.update_checks (book_of past) n content)
+-- the next version of the warning of that number is to have a serial number that a version of it has, and that key, its
+-- message identifier and this serial number, is as the test says
+abbrev pub reuses : Past → ℕ → (ℕ → ℕ → Bool) → Bool
+reuses past n test = is_so n (λ w. list_any (λ s. is_reused w s && test w.message_id s) (option_to_list (option_map next_of (current_of w)))) (warnings_of past)
 
--- the serial number of the next version
+-- why an Update is refused: where it would take a serial number again, nothing of the version that has it may be on air
+-- or in flight
+abbrev pub update_checks : Past → ℕ → Content → List (Bool × Refusal)
+update_checks past n content = by_book (book.there_checks (book_of past) n) ++ (reuses past n (is_key_reported past), refusal.StillReported) ∷ (reuses past n (is_key_in_flight past), refusal.StillInFlight) ∷ by_book (book.content_checks (book_of past) n content)
+
+-- the serial number of the next version; a warning without a version, which no legal past has, gets none
 abbrev pub update_answer : Option ℕ → Result Answer Refusal
-update_answer None = Err refusal.NoSuchWarning
+update_answer None = Ok answer.Done
 update_answer (Some s) = Ok (answer.Updated s)
 
 -- what an Update is answered
@@ -298,6 +305,14 @@ answered network past (event.Send b generation) = send past b generation
 answered network past (event.Ask b generation n after) = ask past b generation n after
 answered network past (event.Report b generation message) = report network past b generation message
 
+-- the last position that an entry may have: 2 ^ 64 - 1
+abbrev pub last_position : ℕ
+last_position = 18446744073709551615
+
+-- the journal has as many entries as it may, or an entry has the last position
+abbrev pub is_full : Settings → Past → Bool
+is_full settings past = nat_le settings.limit (entry_count past) || nat_le last_position (position past)
+
 -- what an event is answered after that past
 abbrev pub verdict : Settings → Past → Event → Result Answer Refusal
-verdict settings past e = if nat_le settings.limit (entry_count past) then Err refusal.JournalFull else answered settings.network past e
+verdict settings past e = if is_full settings past then Err refusal.JournalFull else answered settings.network past e

@@ -6,7 +6,8 @@ ghost use Rattle.std.specs.Option.{option_copied};
 ghost use Rattle.centre_events.specs.Counts.{number_in, number_of, edit_count};
 ghost use Rattle.centre_events.specs.Lookups.{are_counts_ordered, IsOrderOf};
 
-use crate::effects::is_of_warning;
+use crate::answer::Answer;
+use crate::effects::{is_given, is_of_warning};
 use crate::in_order::InOrder;
 use crate::lookups::{number_among, numbers_of};
 use cbsp_ie::Counts;
@@ -52,12 +53,16 @@ pub(crate) fn edit_count(
     message_id: u16,
     serial: Serial,
     edit: &Edit,
+    answer: &Answer,
     warnings: &[Warning],
 ) -> Option<u16>
-    ensures { result ≡ edit_count b message_id serial edit.now warnings.now }
+    ensures { result ≡ edit_count b message_id serial edit.now answer.now warnings.now }
 {
     match edit {
         Edit::RemoveBsc(other) if *other == b => Some(0),
+        Edit::Update(number, _) if is_given(*number, message_id, serial, answer, warnings) => {
+            Some(0)
+        }
         Edit::Forget(number) if is_of_warning(*number, message_id, serial, warnings) => Some(0),
         _ => None,
     }

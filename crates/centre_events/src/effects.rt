@@ -1,10 +1,10 @@
 //! What an event does to a key: a message in a cell of a BSC.
 
-ghost use Rattle.std.specs.Prelude.{◌≡◌, ◌&&◌, true, None};
+ghost use Rattle.std.specs.Prelude.{◌≡◌, ◌&&◌, nat_eq, true, None};
 ghost use Rattle.std.specs.List.{list_any};
 ghost use Rattle.warning_book.specs.Book.{has_number};
 ghost use Rattle.centre_events.specs.Down.{says_down, listed_down, edit_down, down_mark};
-ghost use Rattle.centre_events.specs.Effects.{is_about, is_among, write_refused, replace_refused, kill_refused, new_effect, old_refused, old_effect, query_effect, replaces, key_effect, restart_effect, indicated_effect, presence_mark, hold_mark, state_after};
+ghost use Rattle.centre_events.specs.Effects.{is_about, is_among, is_given, write_refused, replace_refused, kill_refused, new_effect, old_refused, old_effect, query_effect, replaces, key_effect, restart_effect, indicated_effect, presence_mark, hold_mark, state_after};
 ghost use Rattle.centre_events.specs.Presence.{edit_effect};
 ghost use Rattle.centre_events.specs.Warnings.{has_key, is_version};
 
@@ -147,18 +147,48 @@ pub fn is_of_warning(
         .any(|w| w.number() == number && has_key(message_id, serial, w))
 }
 
-/// What an edit does at a key of the BSC, from the warnings in the book before it.
+/// Whether the warning of that number has the message identifier.
+fn is_numbered(number: WarningId, message_id: u16, warnings: &[Warning]) -> bool
+    ensures { result ≡ list_any (λ w. has_number number w && nat_eq w.message_id message_id) warnings.now }
+{
+    warnings
+        .iter()
+        .any(|w| w.number() == number && w.message_id() == message_id)
+}
+
+/// Whether the answer gives the serial number to the next version of the warning of that number, which has the message
+/// identifier.
+pub fn is_given(
+    number: WarningId,
+    message_id: u16,
+    serial: Serial,
+    answer: &Answer,
+    warnings: &[Warning],
+) -> bool
+    ensures { result ≡ is_given number message_id serial answer.now warnings.now }
+{
+    match answer {
+        Answer::Updated(given) => { serial == *given && is_numbered(number, message_id, warnings) }
+        _ => false,
+    }
+}
+
+/// What an edit does at a key of the BSC, by its answer and the warnings in the book before it.
 pub fn edit_effect(
     b: BscId,
     message_id: u16,
     serial: Serial,
     edit: &Edit,
+    answer: &Answer,
     warnings: &[Warning],
 ) -> Effect
-    ensures { result ≡ edit_effect b message_id serial edit.now warnings.now }
+    ensures { result ≡ edit_effect b message_id serial edit.now answer.now warnings.now }
 {
     match edit {
         Edit::RemoveBsc(other) if *other == b => Effect::Sets(Presence::Absent),
+        Edit::Update(number, _) if is_given(*number, message_id, serial, answer, warnings) => {
+            Effect::Frees
+        }
         Edit::Forget(number) if is_of_warning(*number, message_id, serial, warnings) => {
             Effect::Frees
         }

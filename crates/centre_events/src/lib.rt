@@ -13,6 +13,7 @@ pub mod entry;
 pub mod event;
 mod finding;
 pub mod flight;
+pub mod folding;
 pub mod in_flight;
 pub mod in_order;
 mod lookups;

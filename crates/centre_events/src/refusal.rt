@@ -60,7 +60,6 @@ pub enum Refusal {
     BadPages,
     BadPeriod,
     WrongKind,
-    UpdatesExhausted,
     StaleLink {
         /// The generation of the latest link, 0 where there was none.
         now: u64,
@@ -113,7 +112,6 @@ impl Refusal {
             Refusal::BadPages => 25,
             Refusal::BadPeriod => 26,
             Refusal::WrongKind => 27,
-            Refusal::UpdatesExhausted => 28,
             Refusal::StaleLink { now: _ } => 29,
             Refusal::LinkNotUp => 30,
             Refusal::InFlight => 31,
@@ -157,7 +155,6 @@ impl Refusal {
             Refusal::BadPages => "a content has 1 to 15 pages of 1 to 82 octets",
             Refusal::BadPeriod => "a repetition period is 1 to 1,024",
             Refusal::WrongKind => "the warning is of the other kind",
-            Refusal::UpdatesExhausted => "the warning had its last update",
             Refusal::StaleLink { .. } => "the link has ended; the latest is ",
             Refusal::LinkNotUp => "the link is down",
             Refusal::InFlight => "an order is in flight",
@@ -276,7 +273,6 @@ impl From<warning_book::Refusal> for Refusal {
             warning_book::Refusal::BadPages => Refusal::BadPages,
             warning_book::Refusal::BadPeriod => Refusal::BadPeriod,
             warning_book::Refusal::WrongKind => Refusal::WrongKind,
-            warning_book::Refusal::UpdatesExhausted => Refusal::UpdatesExhausted,
             warning_book::Refusal::Limit {
                 which: warning_book::Limit::Warnings,
             } => Refusal::Limit {

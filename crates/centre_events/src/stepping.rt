@@ -88,15 +88,16 @@ fn step_by_edit(
     message_id: u16,
     versions: &[Version],
     edit: &Edit,
+    answer: &Answer,
     warnings: &[Warning],
 ) -> bool
-    ensures line { line.new ≡ stepped (λ s. edit_effect b message_id s edit.now warnings.now) (λ s. edit_count b message_id s edit.now warnings.now) line.old (map (λ v. v.serial) versions.now) }
+    ensures line { line.new ≡ stepped (λ s. edit_effect b message_id s edit.now answer.now warnings.now) (λ s. edit_count b message_id s edit.now answer.now warnings.now) line.old (map (λ v. v.serial) versions.now) }
     ensures same { result ≡ false → line.new ≡ line.old }
 {
     let mut is_changed = false;
     for version in versions {
-        let effect = edit_effect(b, message_id, version.serial, edit, warnings);
-        let count = edit_count(b, message_id, version.serial, edit, warnings);
+        let effect = edit_effect(b, message_id, version.serial, edit, answer, warnings);
+        let count = edit_count(b, message_id, version.serial, edit, answer, warnings);
         is_changed = step(line, version.serial, effect, count) || is_changed;
     }
     is_changed
@@ -236,7 +237,7 @@ pub fn step_line(
     ensures same { result ≡ false → line.new ≡ line.old }
 {
     match h.event {
-        Event::Edit(edit) => step_by_edit(line, b, message_id, versions, edit, warnings),
+        Event::Edit(edit) => step_by_edit(line, b, message_id, versions, edit, h.answer, warnings),
         Event::Report(other, _, message) if *other == b => {
             step_by_report(
                 line, kind, c, message_id, versions, message, h.answer, h.flight,

@@ -1,5 +1,5 @@
 -- The causes of each event stand in order, the first of them that holds refuses it, and the plan's are the centre's.
-use Rattle.std.proofs.Common.{◌≡◌, ℕ, ◌+◌, Bool, true, false, ◌&&◌, not, List, [], ◌∷◌, ◌++◌, Option, Some, None, Result, Ok, Err, nat_le, cond, arith, refl, sym, ◌∙◌, ap, subst}
+use Rattle.std.proofs.Common.{◌≡◌, ℕ, ◌+◌, Bool, true, false, ◌&&◌, not, List, [], ◌∷◌, ◌++◌, Option, Some, None, Result, Ok, Err, cond, arith, refl, sym, ◌∙◌, ap, subst}
 use Rattle.std.specs.Prelude.{IsOk}
 use Rattle.std.proofs.lemmas.Bool.{and_parts, and_from}
 use Rattle.std.proofs.lemmas.Bool.Decides.{nat_tests}
@@ -27,11 +27,11 @@ use Rattle.warning_book.specs.declared.warning.Warning.{Warning}
 use Rattle.centre_events.specs.Asking.{asked_cells, query_of, query_of_kind, version_query, warning_query}
 use Rattle.centre_events.specs.Cover.{is_area}
 use Rattle.centre_events.specs.InFlight.{in_flight, matches_flight}
-use Rattle.centre_events.specs.Past.{Past, entry_count, position}
+use Rattle.centre_events.specs.Past.{Past, position}
 use Rattle.centre_events.specs.Pending.{pending}
 use Rattle.centre_events.specs.Refusals.{of_book, refusal_number}
 use Rattle.centre_events.specs.Settings.{Settings}
-use Rattle.centre_events.specs.Verdict.{unless, verdict, answered, edit_answered, issue_answer, update_answer, send_answer, reply_answer, report_answer, is_out_of_place, by_book, add_bsc_checks, remove_bsc_checks, add_cell_checks, move_cell_checks, remove_cell_checks, add_area_checks, drop_area_checks, put_checks, cut_checks, issue_checks, update_checks, widen_checks, narrow_checks, stop_checks, forget_checks, retry_checks, link_up_checks, link_checks, send_checks, ask_checks, report_checks}
+use Rattle.centre_events.specs.Verdict.{unless, verdict, is_full, answered, edit_answered, issue_answer, update_answer, send_answer, reply_answer, report_answer, is_out_of_place, by_book, add_bsc_checks, remove_bsc_checks, add_cell_checks, move_cell_checks, remove_cell_checks, add_area_checks, drop_area_checks, put_checks, cut_checks, issue_checks, update_checks, widen_checks, narrow_checks, stop_checks, forget_checks, retry_checks, link_up_checks, link_checks, send_checks, ask_checks, report_checks}
 use Rattle.centre_events.specs.Warnings.{book_of}
 use Rattle.centre_events.specs.declared.answer.Answer.{Answer}
 use Rattle.centre_events.specs.declared.answer.Answer.TheVariants as answer
@@ -134,7 +134,7 @@ edit_decides past (edit.DropArea a) = done (drop_area_checks past a)
 edit_decides past (edit.Put a s) = done (put_checks past a s)
 edit_decides past (edit.Cut a s) = done (cut_checks past a s)
 edit_decides past (edit.Issue notice areas) = issue_decides past notice areas
-edit_decides past (edit.Update n content) = decides (update_checks past n content) (update_answer (next_serial (book_of past) n)) (λ none. update_ok past n content (untranslated of_book (book.update_checks (book_of past) n content) none))
+edit_decides past (edit.Update n content) = decides (update_checks past n content) (update_answer (next_serial (book_of past) n)) (λ none. update_ok past n)
 edit_decides past (edit.Widen n a) = done (widen_checks past n a)
 edit_decides past (edit.Narrow n a) = done (narrow_checks past n a)
 edit_decides past (edit.Stop n) = done (stop_checks past n)
@@ -193,7 +193,7 @@ event_decides network past (event.Report b generation m) =
 
 verdict_decides : (settings : Settings) (past : Past) (e : Event) → Decides (causes_of settings past e) (verdict settings past e)
 verdict_decides settings past e =
-    decides_before (nat_le settings.limit (entry_count past)) refusal.JournalFull (event_causes past e) (answered settings.network past e) (event_decides settings.network past e)
+    decides_before (is_full settings past) refusal.JournalFull (event_causes past e) (answered settings.network past e) (event_decides settings.network past e)
 
 -- No cause that holds comes earlier.
 

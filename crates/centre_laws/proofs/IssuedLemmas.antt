@@ -3,16 +3,15 @@ use Rattle.std.proofs.Common.{◌≡◌, arith, ℕ, zero, suc, ◌+◌, ◌<◌
 use Rattle.std.specs.Prelude.{find}
 use Rattle.std.specs.Cmp.{unsigned_Decides}
 use Rattle.std.specs.List.{list_any, list_all, range_with_len}
-use Rattle.std.specs.Option.{option_map, option_and_then, option_to_list}
+use Rattle.std.specs.Option.{option_map, option_to_list}
 use Rattle.std.proofs.lemmas.Bool.{and_parts, not-false}
 use Rattle.std.proofs.lemmas.Bool.Decides.{nat_tests}
 use Rattle.std.proofs.lemmas.Grind.{common_steps}
 use Rattle.std.proofs.lemmas.List.Folds.{list_any-append}
 use Rattle.serials.specs.Laws.{free_code, code_of_serial, update_of_serial, next_scope, next_code, next_update}
-use Rattle.serials.specs.Serials.{scope_number, scope_part, serial_of, code_of, update_of, next_of, is_last, every_code, least_free}
+use Rattle.serials.specs.Serials.{scope_number, scope_part, serial_of, code_of, update_of, next_of, every_code, least_free}
 use Rattle.common.specs.OnceLaws.{turned}
-use Rattle.warning_book.specs.Book.{has_number, is_exhausted, ends_updates, last_serial, current_of, codes_if, codes_of, numbers, new_serial}
-use Rattle.warning_book.specs.Laws.{found_so}
+use Rattle.warning_book.specs.Book.{has_number, last_serial, current_of, codes_if, codes_of, numbers, new_serial}
 use Rattle.warning_book.specs.Sound.{shares_code, has_one_code}
 use Rattle.warning_book.specs.declared.content.Content.{Content}
 use Rattle.warning_book.specs.declared.notice.Notice.{Notice}
@@ -23,7 +22,7 @@ use Rattle.centre_past.specs.Legal.{Legal}
 use Rattle.centre_events.specs.Past.{Past, From, After}
 use Rattle.mirror.specs.Seen.{is_the}
 use Rattle.centre_events.specs.Settings.{Settings}
-use Rattle.centre_events.specs.Verdict.{answered, edit_answered, issue, update, update_checks, update_answer}
+use Rattle.centre_events.specs.Verdict.{answered, edit_answered, issue, update}
 use Rattle.centre_events.specs.Warnings.{book_of, warnings_of}
 use Rattle.centre_events.specs.declared.answer.Answer.{Answer}
 use Rattle.centre_events.specs.declared.answer.Answer.TheVariants as answer
@@ -32,11 +31,11 @@ use Rattle.coverage_plan.specs.declared.edit.Edit.TheVariants as edit
 use Rattle.centre_events.specs.declared.event.Event.{Event}
 use Rattle.centre_events.specs.declared.event.Event.TheVariants as event
 use Rattle.centre_past.proofs.AnyLemmas.{or_none, any_same}
-use Rattle.centre_past.proofs.CheckLemmas.{no_check}
 use Rattle.centre_past.proofs.FoundLemmas.{issue_told}
 use Rattle.centre_past.proofs.NumberLemmas.{passes, each_found, any_by_number}
-use Rattle.centre_past.proofs.ToldLemmas.{active_found, active_told, areas_found, areas_told, versions_in, versions_found, update_told, versions_told, message_in, message_told, issued_told, numbers_told}
+use Rattle.centre_past.proofs.ToldLemmas.{active_found, active_told, areas_found, areas_told, versions_in, versions_found, versions_told, message_in, message_told, issued_told, numbers_told}
 use Rattle.centre_past.proofs.UniqueLemmas.{verdict_answered}
+use Rattle.centre_past.proofs.UpdateLemmas.{UpdateGiven, update_given}
 use Rattle.centre_past.proofs.WarningLemmas.{legal_sound}
 
 -- The least code that is free.
@@ -164,27 +163,17 @@ follows_last [] t s e next = absurd (cc)
 follows_last (v ∷ []) t s e next = let same : v.serial ≡ t = cc in subst (λ k. IsNext k s) (sym same) next
 follows_last (v ∷ u ∷ vs) t s e next = follows_last (u ∷ vs) t s e next
 
-next_told : (t : ℕ) → is_last t ≡ false → IsNext t (next_of t)
-next_told t h = record { scope = next_scope t h; code = next_code t h; update = next_update t h }
-
-update_follows : (a : Answer) (vs : List Version) (k : Option ℕ) → last_serial vs ≡ k → ends_updates k ≡ false → update_answer (option_map next_of k) ≡ Ok a → IsAnsweredUpdate vs a
-update_follows a vs None e left h = absurd (cc)
-update_follows a vs (Some t) e left h =
-    let same : answer.Updated (next_of t) ≡ a = cc in
-    subst (λ x. IsAnsweredUpdate vs x) same (follows_last vs t (next_of t) e (next_told t left))
+next_told : (t : ℕ) → IsNext t (next_of t)
+next_told t = record { scope = next_scope t; code = next_code t; update = next_update t }
 
 update_answered : (settings : Settings) (past : Past) → Legal settings past → (m : ℕ) (content : Content) (a : Answer) → update past m content ≡ Ok a → IsAnsweredUpdate (versions_by past m) a
 update_answered settings past legal m content a h =
-    subst (λ vs. IsAnsweredUpdate vs a) (versions_told settings past legal m) (step (find (has_number m) (warnings_of past)) refl (update_told past m content a h))
+    subst (λ x. IsAnsweredUpdate (versions_by past m) x) (sym given.answered)
+    (subst (λ vs. FollowsLast vs (next_of given.last)) (sym (ap versions_in given.found) ∙ versions_told settings past legal m)
+    (follows_last given.warning.versions given.last (next_of given.last) given.current (next_told given.last)))
   where
-    left : (w : Warning) → find (has_number m) (warnings_of past) ≡ Some w → is_exhausted w ≡ false
-    left w e =
-        let none = no_check (update_checks past m content) (update_answer (option_map next_of (option_and_then current_of (find (has_number m) (warnings_of past))))) a h in
-        sym (found_so m is_exhausted (warnings_of past) w (legal_sound settings past legal).ordered e) ∙ none.1.1.1.1.1.0
-
-    step : (o : Option Warning) → find (has_number m) (warnings_of past) ≡ o → update_answer (option_map next_of (option_and_then current_of o)) ≡ Ok a → IsAnsweredUpdate (versions_in o) a
-    step None e g = absurd (cc)
-    step (Some w) e g = update_follows a w.versions (last_serial w.versions) refl (left w e) g
+    given : UpdateGiven past m a
+    given = update_given settings past legal m content a h
 
 edit_said : (settings : Settings) (past : Past) → Legal settings past → (e : Edit) (a : Answer) → edit_answered past e ≡ Ok a → IsEditAnswered past e a
 edit_said settings past legal (edit.Issue notice areas) a h = issue_answered settings past legal notice areas a h

@@ -1,9 +1,10 @@
 -- Why an event is refused: every cause that it is refused for, each with its refusal, in the order of their numbers. Of the
 -- causes that hold, the refusal of the least number is the verdict. What the plan refuses the centre refuses so too.
-use Rattle.std.specs.Prelude.{◌≡◌, ◌↔◌, ℕ, Bool, true, false, ◌&&◌, ◌||◌, not, List, [], ◌∷◌, ◌++◌, Option, Some, None, Err, IsOk, nat_eq, nat_le, ltb}
+use Rattle.std.specs.Prelude.{◌≡◌, ◌↔◌, ◌⊎◌, ℕ, Bool, true, false, ◌&&◌, ◌||◌, not, List, [], ◌∷◌, ◌++◌, Option, Some, None, Err, IsOk, nat_eq, ltb}
 use Rattle.std.specs.List.{list_all}
 use Rattle.common.specs.Checks.{first_refusal}
 use Rattle.common.specs.Order.{is_ascending}
+use Rattle.common.specs.Sorting.{sorted_by}
 use Rattle.common.specs.declared.cell.Cell.{Cell}
 use Rattle.coverage_plan.specs.Checks.{edit_checks, translated}
 use Rattle.coverage_plan.specs.Plan.{State}
@@ -19,12 +20,12 @@ use Rattle.warning_book.specs.declared.warning.Warning.{Warning}
 use Rattle.centre_events.specs.Asking.{asked_cells}
 use Rattle.centre_events.specs.Kept.{IsRegisterOf, AreAreasOf}
 use Rattle.centre_events.specs.Links.{is_up}
-use Rattle.centre_events.specs.Past.{Past, entry_count}
+use Rattle.centre_events.specs.Past.{Past}
 use Rattle.centre_events.specs.Pending.{pending}
 use Rattle.centre_events.specs.Refusals.{refusal_number}
-use Rattle.centre_events.specs.Reported.{is_reported, is_in_flight}
+use Rattle.centre_events.specs.Reported.{is_reported, is_in_flight, is_key_reported, is_key_in_flight}
 use Rattle.centre_events.specs.Settings.{Settings}
-use Rattle.centre_events.specs.Verdict.{verdict, add_bsc_checks, remove_bsc_checks, add_cell_checks, move_cell_checks, remove_cell_checks, add_area_checks, drop_area_checks, put_checks, cut_checks, issue_checks, update_checks, widen_checks, narrow_checks, stop_checks, forget_checks, retry_checks, link_up_checks, link_checks, send_checks, ask_checks, report_checks}
+use Rattle.centre_events.specs.Verdict.{verdict, is_full, add_bsc_checks, remove_bsc_checks, add_cell_checks, move_cell_checks, remove_cell_checks, add_area_checks, drop_area_checks, put_checks, cut_checks, issue_checks, reuses, update_checks, widen_checks, narrow_checks, stop_checks, forget_checks, retry_checks, link_up_checks, link_checks, send_checks, ask_checks, report_checks}
 use Rattle.centre_events.specs.Warnings.{book_of}
 use Rattle.centre_events.specs.declared.event.Event.{Event}
 use Rattle.centre_events.specs.declared.event.Event.TheVariants as event
@@ -111,7 +112,7 @@ event_causes past (event.Report b generation message) = report_checks past b gen
 
 -- why an event is refused: the journal is full, or one of these
 abbrev pub causes_of : Settings → Past → Event → List (Bool × Refusal)
-causes_of settings past e = (nat_le settings.limit (entry_count past), refusal.JournalFull) ∷ event_causes past e
+causes_of settings past e = (is_full settings past, refusal.JournalFull) ∷ event_causes past e
 
 -- What holds of them.
 
@@ -156,7 +157,6 @@ of_plan plan_refusal.LastArea = refusal.LastArea
 of_plan plan_refusal.BadPages = refusal.BadPages
 of_plan plan_refusal.BadPeriod = refusal.BadPeriod
 of_plan plan_refusal.WrongKind = refusal.WrongKind
-of_plan plan_refusal.UpdatesExhausted = refusal.UpdatesExhausted
 of_plan (plan_refusal.Limit plan_limit.Bscs) = refusal.Limit limit.Bscs
 of_plan (plan_refusal.Limit plan_limit.Cells) = refusal.Limit limit.Cells
 of_plan (plan_refusal.Limit plan_limit.Areas) = refusal.Limit limit.Areas
@@ -166,9 +166,11 @@ of_plan (plan_refusal.Limit plan_limit.WarningAreas) = refusal.Limit limit.Warni
 of_plan (plan_refusal.Limit plan_limit.Ids) = refusal.Limit limit.Ids
 of_plan plan_refusal.Memory = refusal.Memory
 
--- the causes of an edit that the plan can't see: the link of a BSC, and what is on air or in flight of a warning
+-- the causes of an edit that the plan can't see: the link of a BSC, and what is on air or in flight of a warning, or of the
+-- serial number that an Update gives again
 abbrev pub own_causes : Past → Edit → List (Bool × Refusal)
 own_causes past (edit.RemoveBsc b) = (is_up past b, refusal.LinkIsUp) ∷ []
+own_causes past (edit.Update n content) = (reuses past n (is_key_reported past), refusal.StillReported) ∷ (reuses past n (is_key_in_flight past), refusal.StillInFlight) ∷ []
 own_causes past (edit.Forget n) = (warning_is (book_of past) n (is_reported past), refusal.StillReported) ∷ (warning_is (book_of past) n (is_in_flight past), refusal.StillInFlight) ∷ []
 own_causes past other = []
 
@@ -178,8 +180,15 @@ pub record IsPlanOf (past : Past) (st : State) : Type 0 where
   pub selected : AreAreasOf past st.areas
   pub booked : st.book ≡ book_of past
 
--- the causes of an edit are those of the plan, and after them the centre's own; so what refuses it in the plan refuses it in
--- a centre whose journal has room
+-- one of the centre's own causes is the first of them that holds, and its refusal comes before that one and is the verdict
+pub record RefusesBefore (settings : Settings) (past : Past) (e : Edit) (r : Refusal) : Type 0 where
+  pub own : Refusal
+  pub holds : first_refusal (own_causes past e) ≡ Some own
+  pub before : comes_before own r ≡ true
+  pub refused : verdict settings past (event.Edit e) ≡ Err own
+
+-- the causes of an edit are those of the plan and the centre's own, in the order of their refusals; so what refuses it in the
+-- plan refuses it in a centre whose journal has room, if not one of the centre's own causes comes before and refuses it
 pub record RefusesAsPlan (past : Past) (st : State) : Type 0 where
-  pub causes : (e : Edit) → edit_causes past e ≡ translated of_plan (edit_checks st e) ++ own_causes past e
-  pub refused : (settings : Settings) (e : Edit) (r : plan.Refusal) → nat_le settings.limit (entry_count past) ≡ false → first_refusal (edit_checks st e) ≡ Some r → verdict settings past (event.Edit e) ≡ Err (of_plan r)
+  pub causes : (e : Edit) → edit_causes past e ≡ sorted_by stands_before (translated of_plan (edit_checks st e) ++ own_causes past e)
+  pub refused : (settings : Settings) (e : Edit) (r : plan.Refusal) → is_full settings past ≡ false → first_refusal (edit_checks st e) ≡ Some r → (verdict settings past (event.Edit e) ≡ Err (of_plan r)) ⊎ RefusesBefore settings past e (of_plan r)

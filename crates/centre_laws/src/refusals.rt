@@ -24,8 +24,10 @@ pub fn least_cause_refuses()
     ensures { (settings : Settings) (past : Past) (e : Event) → IsLeastCause settings past e }
 {}
 
-/// What refuses an edit in the plan refuses it in the centre. The centre has three causes more, which come after those of
-/// the plan: a RemoveBsc of a BSC whose link is up, and a Forget of a warning of which something is on air or in flight.
+/// What refuses an edit in the plan refuses it in the centre, which has five causes more, each in its place by the number of
+/// its refusal: a RemoveBsc of a BSC whose link is up, a Forget of a warning of which something is on air or in flight, and
+/// an Update that gives a serial number again of which something is. Where one of the last two holds it refuses an Update
+/// whose content the plan refuses.
 pub fn plan_refuses_the_same(plan: &Plan)
     ensures { (past : Past) → IsPlanOf past plan.now → RefusesAsPlan past plan.now }
 {

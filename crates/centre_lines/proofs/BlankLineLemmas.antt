@@ -100,7 +100,7 @@ pub blank_left : (h : Happens) (ws : List Warning) (b : ℕ) (c : Cell) (o : Opt
 blank_left h ws b c o line e blanks =
     sym ((line_decides (line_now h ws b c o line) line).1 (sym (blank_stays h ws b c o line e blanks)))
 
--- An edit that is neither the end of a BSC nor a Forget leaves every line as it is.
+-- An edit that is neither the end of a BSC nor an Update nor a Forget leaves every line as it is.
 
 set_itself : (ks : List KeyState) (i : ℕ) → slice_set ks i (slice_index_or ks i blank) ≡ ks
 set_itself [] i = refl
@@ -117,12 +117,14 @@ stepped_itself f n leaves silent line (s ∷ ss) =
 
 leaves_effect : (kind : Kind) (b : ℕ) (c : Cell) (m s : ℕ) (e : Event) (a : Answer) (up : Bool) (f : Option InFlight) (ws : List Warning) → leaves_lines e ≡ true → effect kind b c m s e a up f ws ≡ Leaves
 leaves_effect kind b c m s (event.Edit (edit.RemoveBsc other)) a up f ws h = cc
+leaves_effect kind b c m s (event.Edit (edit.Update n content)) a up f ws h = cc
 leaves_effect kind b c m s (event.Edit (edit.Forget n)) a up f ws h = cc
 leaves_effect kind b c m s (event.Edit e) a up f ws h = refl
 leaves_effect kind b c m s other a up f ws h = cc
 
 leaves_count : (b : ℕ) (c : Cell) (m s : ℕ) (e : Event) (a : Answer) (f : Option InFlight) (ws : List Warning) → leaves_lines e ≡ true → count_mark b c m s e a f ws ≡ None
 leaves_count b c m s (event.Edit (edit.RemoveBsc other)) a f ws h = cc
+leaves_count b c m s (event.Edit (edit.Update n content)) a f ws h = cc
 leaves_count b c m s (event.Edit (edit.Forget n)) a f ws h = cc
 leaves_count b c m s (event.Edit e) a f ws h = refl
 leaves_count b c m s other a f ws h = cc

@@ -3,7 +3,7 @@ use Rattle.std.proofs.Common.{◌≡◌, ℕ, ◌+◌, Bool, true, false, ◌&&�
 use Rattle.std.specs.Prelude.{bytes_eq, find, if◌then◌else◌}
 use Rattle.std.specs.Cmp.{unsigned_Decides}
 use Rattle.std.specs.List.{list_any, flat_map}
-use Rattle.std.specs.Option.{option_map, option_or, option_to_list}
+use Rattle.std.specs.Option.{option_map, option_or}
 use Rattle.std.proofs.lemmas.Bool.{and_parts, and_from, or_left, not-false}
 use Rattle.std.proofs.lemmas.List.Elements.{filter-append}
 use Rattle.std.proofs.lemmas.Slice.Eq.{bytes_eq-Decides}
@@ -14,23 +14,26 @@ use Rattle.common.specs.declared.cell.Cell.{Cell}
 use Rattle.kept_tables.specs.Same.{SamePart}
 use Rattle.kept_tables.specs.View.{spot_eq}
 use Rattle.mirror.specs.Line.{blank}
+use Rattle.mirror.specs.declared.key_state.KeyState.{KeyState}
 use Rattle.mirror.specs.declared.line_key.LineKey.{LineKey}
+use Rattle.serials.specs.Serials.{next_of, update_of}
 use Rattle.warning_book.specs.Book.{first_kind, has_number, warning_of, areas_of, new_serial, new_warning, last_serial, version_after, updated, widened, narrowed, stopped, edited}
 use Rattle.warning_book.specs.Laws.{KeepsNumber, found_without, found_issued}
+use Rattle.warning_book.specs.Sound.{IsSound}
 use Rattle.warning_book.specs.declared.content.Content.{Content}
 use Rattle.warning_book.specs.declared.notice.Notice.{Notice}
 use Rattle.warning_book.specs.declared.version.Version.{Version}
 use Rattle.warning_book.specs.declared.warning.Warning.{Warning}
 use Rattle.centre_events.specs.Cover.{covers, is_covered}
-use Rattle.centre_events.specs.Effects.{state_after}
-use Rattle.centre_events.specs.Facts.{key_state}
+use Rattle.centre_events.specs.Effects.{is_given, state_after}
+use Rattle.centre_events.specs.Facts.{key_state, version_at}
 use Rattle.centre_past.specs.Facts.{facts_of, facts}
 use Rattle.centre_events.specs.Known.{is_known}
 use Rattle.centre_past.specs.Legal.{Legal}
 use Rattle.centre_events.specs.Links.{bscs}
 use Rattle.centre_events.specs.Past.{Past, After}
 use Rattle.centre_events.specs.Places.{place}
-use Rattle.centre_past.specs.Reach.{Reach, bears, spot, placed_where, known_at, reach_of}
+use Rattle.centre_past.specs.Reach.{Reach, bears, known_at, placed_where, spot, wraps}
 use Rattle.centre_events.specs.Settings.{Settings}
 use Rattle.centre_events.specs.Verdict.{verdict}
 use Rattle.centre_events.specs.Down.{is_down}
@@ -43,12 +46,15 @@ use Rattle.centre_events.specs.declared.event.Event.TheVariants as event
 use Rattle.centre_past.proofs.AnyLemmas.{and_none, contrary, any_same, any_at, any_flat}
 use Rattle.centre_past.proofs.FoundLemmas.{view_edited}
 use Rattle.centre_past.proofs.KeyLemmas.{unknown_key_presence, unknown_key_hold, unknown_key_count}
-use Rattle.centre_past.proofs.LineLemmas.{line_blank, same_areas, same_kept, same_idle, same_next, same_none, same_gone, same_come, idle_apart, apart_away, found_passes, not_placed, unknown_blank, entry_of, Outside}
+use Rattle.centre_past.proofs.LineLemmas.{line_blank, not_wanted, same_areas, same_kept, same_idle, same_next, same_none, same_gone, same_come, idle_apart, apart_away, found_passes, not_placed, unknown_blank, entry_of, Outside}
 use Rattle.centre_past.proofs.MarkLemmas as marks
-use Rattle.centre_lines.proofs.NewKeyLemmas.{issue_new, update_new}
+use Rattle.centre_past.proofs.NextLemmas.{next_new}
+use Rattle.centre_past.proofs.PartLemmas.{same_blank}
+use Rattle.centre_lines.proofs.NewKeyLemmas.{issue_new, next_among, other_given, update_new}
 use Rattle.centre_lines.proofs.ReachLemmas.{not_there, placed_there, known_there}
 use Rattle.centre_past.proofs.ToldLemmas.{areas_in, areas_found}
-use Rattle.centre_past.proofs.UniqueLemmas.{one_other, unique}
+use Rattle.centre_past.proofs.UniqueLemmas.{one_other, unique, verdict_answered}
+use Rattle.centre_past.proofs.UpdateLemmas.{UpdateGiven, given_parts, reuses_of, update_given}
 use Rattle.centre_past.proofs.WarningLemmas.{legal_sound}
 
 -- An edit of one warning, which bears on cells that pass a test.
@@ -65,7 +71,7 @@ apart settings past legal p n k h same =
     (not_there (reach_at past p n) k h (or_left (nat_eq k.warning n) false (turned nat_eq unsigned_Decides k.warning n ∙ same)))
 
 -- the other warnings stay, and that one is changed
-edited_kept : (past new : Past) (n : ℕ) (f : Warning → Warning) → KeepsNumber f → (k : LineKey) → warnings_of new ≡ edited n f (warnings_of past) → ((w : Warning) → SamePart (facts_of past k.bsc k.cell (Some w)) (facts_of new k.bsc k.cell (Some w))) → ((w : Warning) → warning_of (book_of past) k.warning ≡ Some w → nat_eq n k.warning ≡ true → SamePart (facts_of past k.bsc k.cell (Some w)) (facts_of new k.bsc k.cell (Some (f w)))) → SamePart (facts past k) (facts new k)
+edited_kept : (past new : Past) (n : ℕ) (f : Warning → Warning) → KeepsNumber f → (k : LineKey) → warnings_of new ≡ edited n f (warnings_of past) → ((w : Warning) → warning_of (book_of past) k.warning ≡ Some w → nat_eq n k.warning ≡ false → SamePart (facts_of past k.bsc k.cell (Some w)) (facts_of new k.bsc k.cell (Some w))) → ((w : Warning) → warning_of (book_of past) k.warning ≡ Some w → nat_eq n k.warning ≡ true → SamePart (facts_of past k.bsc k.cell (Some w)) (facts_of new k.bsc k.cell (Some (f w)))) → SamePart (facts past k) (facts new k)
 edited_kept past new n f keeps k is others it =
     subst (λ o. SamePart (facts past k) (facts_of new k.bsc k.cell o)) (sym (ap (find (has_number k.warning)) is ∙ view_edited (λ o. o) k.warning n f keeps (warnings_of past)))
     (at (warning_of (book_of past) k.warning) refl (nat_eq n k.warning) refl)
@@ -74,7 +80,7 @@ edited_kept past new n f keeps k is others it =
     at None e true same = same_none past new k.bsc k.cell
     at None e false other = same_none past new k.bsc k.cell
     at (Some w) e true same = it w e same
-    at (Some w) e false other = others w
+    at (Some w) e false other = others w e other
 
 -- the areas of a warning in the book
 areas_there : (past : Past) (n : ℕ) (k : LineKey) (w : Warning) → warning_of (book_of past) k.warning ≡ Some w → nat_eq n k.warning ≡ true → areas_of n (warnings_of past) ≡ w.areas
@@ -88,7 +94,7 @@ apart_there settings past legal n k h w e same =
 
 pub outside_stop : (settings : Settings) (past : Past) → Legal settings past → (desk n : ℕ) (a : Answer) → Outside past desk (event.Edit (edit.Stop n)) a
 outside_stop settings past legal desk n a k h =
-    edited_kept past new n stopped (λ w. refl) k refl (λ w. record { line = refl; deeds = refl; total = refl; area = λ x. refl })
+    edited_kept past new n stopped (λ w. refl) k refl (λ w e other. record { line = refl; deeds = refl; total = refl; area = λ x. refl })
     (λ w e same. same_idle past new k.bsc k.cell w (stopped w) (apart_there settings past legal n k h w e same) (apart_there settings past legal n k h w e same) refl refl refl refl)
   where
     new : Past
@@ -98,7 +104,7 @@ outside_stop settings past legal desk n a k h =
 
 pub outside_widen : (settings : Settings) (past : Past) → Legal settings past → (desk n : ℕ) (x : List ℕ) (a : Answer) → Outside past desk (event.Edit (edit.Widen n x)) a
 outside_widen settings past legal desk n x a k h =
-    edited_kept past new n (widened x) (λ w. refl) k refl (λ w. record { line = refl; deeds = refl; total = refl; area = λ y. refl })
+    edited_kept past new n (widened x) (λ w. refl) k refl (λ w e other. record { line = refl; deeds = refl; total = refl; area = λ y. refl })
     (λ w e same. at w (is_place (place past k.cell) k.bsc) refl (apart settings past legal (covers past x) n k h same))
   where
     new : Past
@@ -123,7 +129,7 @@ filter_narrow {X} p q h (x ∷ xs) = step (filter_narrow p q h xs) (q x) refl
 
 pub outside_narrow : (settings : Settings) (past : Past) → Legal settings past → (desk n : ℕ) (x : List ℕ) (a : Answer) → Outside past desk (event.Edit (edit.Narrow n x)) a
 outside_narrow settings past legal desk n x a k h =
-    edited_kept past new n (narrowed x) (λ w. refl) k refl (λ w. record { line = refl; deeds = refl; total = refl; area = λ y. refl })
+    edited_kept past new n (narrowed x) (λ w. refl) k refl (λ w e other. record { line = refl; deeds = refl; total = refl; area = λ y. refl })
     (λ w e same. at w (is_place (place past k.cell) k.bsc) refl (apart settings past legal (covers past x) n k h same))
   where
     new : Past
@@ -179,24 +185,114 @@ first_kept : (vs : List Version) (x : Version) (s : ℕ) → last_serial vs ≡ 
 first_kept [] x s h = cc
 first_kept (v ∷ vs) x s h = refl
 
+-- what is known nowhere at a BSC is none of the spots of all that are known
+not_reached : (settings : Settings) (past : Past) → Legal settings past → (n : ℕ) (k : LineKey) → bears (let r : Reach = record { spots = flat_map (known_at past) (bscs past); warnings = n ∷ [] } in r) k ≡ false → nat_eq n k.warning ≡ true → is_known past k.bsc k.cell ≡ false
+not_reached settings past legal n k h same =
+    contrary (is_known past k.bsc k.cell) (list_any (spot_eq (spot k.bsc k.cell)) (flat_map (known_at past) (bscs past))) reached
+    (not_there (let r : Reach = record { spots = flat_map (known_at past) (bscs past); warnings = n ∷ [] } in r) k h (or_left (nat_eq k.warning n) false (turned nat_eq unsigned_Decides k.warning n ∙ same)))
+  where
+    reached : is_known past k.bsc k.cell ≡ true → list_any (spot_eq (spot k.bsc k.cell)) (flat_map (known_at past) (bscs past)) ≡ true
+    reached known =
+        any_flat (spot_eq (spot k.bsc k.cell)) (known_at past) (bscs past)
+        ∙ any_at nat_eq unsigned_Decides (λ b. list_any (spot_eq (spot k.bsc k.cell)) (known_at past b)) k.bsc (bscs past)
+        (known_there settings past legal k.bsc k.bsc k.cell (eq-eqb k.bsc k.bsc refl) known) (marks.known_at settings past legal k.bsc k.cell known)
+
+-- what an Update leaves of a key that it frees, or does not touch
+abbrev freed_if : Bool → KeyState → KeyState
+freed_if t x = state_after (if t then Frees else Leaves) (if t then Some 0 else None) x
+
+freed_blank : (t : Bool) → freed_if t blank ≡ blank
+freed_blank true = refl
+freed_blank false = refl
+
+-- a key stays that the Update does not touch, or that was blank
+freed_same : (t : Bool) (x : KeyState) → (t ≡ true → x ≡ blank) → freed_if t x ≡ x
+freed_same true x h = ap (freed_if true) (h refl) ∙ sym (h refl)
+freed_same false x h = refl
+
 pub outside_update : (settings : Settings) (past : Past) → Legal settings past → (desk n : ℕ) (content : Content) (a : Answer) → verdict settings past (event.Edit (edit.Update n content)) ≡ Ok a → Outside past desk (event.Edit (edit.Update n content)) a
 outside_update settings past legal desk n content a v k h =
-    edited_kept past new n (updated content) (λ w. refl) k refl (λ w. record { line = refl; deeds = refl; total = refl; area = λ x. refl })
-    (λ w e same. at w e same (last_serial w.versions) refl)
+    edited_kept past new n (updated content) (λ w. refl) k refl (λ w e other. same_kept past new k.bsc k.cell w refl refl refl (others w e other)) (λ w e same. subst Same (its w e same) (here same (wraps past n) refl))
   where
     new : Past
     new = After (entry_of desk (event.Edit (edit.Update n content)) a) past
 
-    idle : (w : Warning) → warning_of (book_of past) k.warning ≡ Some w → nat_eq n k.warning ≡ true → (is_place (place past k.cell) k.bsc && is_covered past w.areas k.cell) ≡ false
-    idle w e same = apart_there settings past legal n k h w e same
+    given : UpdateGiven past n a
+    given = update_given settings past legal n content a (verdict_answered settings past (event.Edit (edit.Update n content)) a v)
 
-    at : (w : Warning) → warning_of (book_of past) k.warning ≡ Some w → nat_eq n k.warning ≡ true → (o : Option ℕ) → last_serial w.versions ≡ o → SamePart (facts_of past k.bsc k.cell (Some w)) (facts_of new k.bsc k.cell (Some (record w { versions = w.versions ++ option_to_list (option_map (version_after content) o) })))
-    at w e same None last =
-        subst (λ vs. SamePart (facts_of past k.bsc k.cell (Some w)) (facts_of new k.bsc k.cell (Some (record w { versions = vs })))) (sym (append-nil w.versions))
-        (record { line = refl; deeds = refl; total = refl; area = λ x. refl })
-    at w e same (Some s) last =
-        let fresh = update_new settings past legal n content a v w (ap (warning_of (book_of past)) (eqb-true n k.warning same) ∙ e) s last in
-        same_next past new k.bsc k.cell w (version_after content s) (idle w e same) (idle w e same) (ap (λ j. is_down past j k.bsc k.cell) (sym (first_kept w.versions (version_after content s) s last))) (λ t. refl) fresh.0 (key_blank settings past legal k.bsc k.cell w.message_id (version_after content s).serial fresh.1)
+    -- the warning that is updated, and its next serial number
+    it : Warning
+    it = given.warning
+
+    next : ℕ
+    next = next_of given.last
+
+    sound : IsSound (book_of past)
+    sound = legal_sound settings past legal
+
+    others : (w : Warning) → warning_of (book_of past) k.warning ≡ Some w → nat_eq n k.warning ≡ false → (s : ℕ) → list_any (is_version s) w.versions ≡ true → key_state new k.bsc k.cell w.message_id s ≡ key_state past k.bsc k.cell w.message_id s
+    others w e other s there = ap (λ t. freed_if t (key_state past k.bsc k.cell w.message_id s)) (other_given settings past legal n content a v k.warning w e other s there)
+
+    Same : Warning → Type 0
+    Same w = SamePart (facts_of past k.bsc k.cell (Some w)) (facts_of new k.bsc k.cell (Some (updated content w)))
+
+    its : (w : Warning) → warning_of (book_of past) k.warning ≡ Some w → nat_eq n k.warning ≡ true → it ≡ w
+    its w e same = let both : Some it ≡ Some w = sym given.found ∙ ap (warning_of (book_of past)) (eqb-true n k.warning same) ∙ e in cc
+
+    -- it is found by the number of the line
+    found_here : nat_eq n k.warning ≡ true → warning_of (book_of past) k.warning ≡ Some it
+    found_here same = ap (warning_of (book_of past)) (sym (eqb-true n k.warning same)) ∙ given.found
+
+    has_next : Bool → Type 0
+    has_next t = list_any (is_version next) it.versions ≡ t
+
+    reused : (t : Bool) → wraps past n ≡ t → has_next t
+    reused t e = both_true (list_any (is_version next) it.versions) ∙ sym (reuses_of past n (λ m s. true) it given.last sound.ordered given.found given.current) ∙ e
+      where
+        both_true : (x : Bool) → x ≡ (x && true)
+        both_true true = refl
+        both_true false = refl
+
+    freed : (t : Bool) → bears (let r : Reach = record { spots = if t then flat_map (known_at past) (bscs past) else placed_where past (is_covered past (areas_of n (warnings_of past))); warnings = n ∷ [] } in r) k ≡ false → nat_eq n k.warning ≡ true → has_next t → Same it
+    -- the serial number is none of a version: nothing is wanted, and the new key is blank
+    freed false out same none =
+        subst (λ vs. SamePart (facts_of past k.bsc k.cell (Some it)) (facts_of new k.bsc k.cell (Some (record it { versions = vs })))) (sym (next_new content given.last it.versions given.current none))
+        (same_next past new k.bsc k.cell it (version_after content given.last) idle idle (ap (λ j. is_down past j k.bsc k.cell) (sym (first_kept it.versions (version_after content given.last) given.last given.current))) keys fresh.0 empty)
+      where
+        idle : (is_place (place past k.cell) k.bsc && is_covered past it.areas k.cell) ≡ false
+        idle = apart_there settings past legal n k out it (found_here same) same
+
+        fresh : (version_at it.versions (update_of next) ≡ None) × (is_key past it.message_id next ≡ false)
+        fresh = update_new settings past legal n content a v it given.found given.last given.current none
+
+        empty : key_state past k.bsc k.cell it.message_id next ≡ blank
+        empty = key_blank settings past legal k.bsc k.cell it.message_id next fresh.1
+
+        keys : (s : ℕ) → key_state new k.bsc k.cell it.message_id s ≡ key_state past k.bsc k.cell it.message_id s
+        keys s =
+            freed_same (is_given n it.message_id s a (warnings_of past)) (key_state past k.bsc k.cell it.message_id s)
+            (λ t. ap (key_state past k.bsc k.cell it.message_id) (given_parts past n a sound.ordered given it.message_id s t).0 ∙ empty)
+    -- it is that of a version: nothing of the warning is known there
+    freed true out same there =
+        same_blank (facts_of past k.bsc k.cell (Some it)) (facts_of new k.bsc k.cell (Some (updated content it)))
+        (line_blank past k.bsc k.cell it blanks)
+        (line_blank new k.bsc k.cell (updated content it) (λ s among. ap (freed_if (is_given n it.message_id s a (warnings_of past))) (blanks s (next_among content given.last s it.versions given.current there among)) ∙ freed_blank (is_given n it.message_id s a (warnings_of past))))
+        (not_wanted past k.bsc k.cell it (idle_apart past k.bsc k.cell it (apart_away past k.bsc k.cell it away)))
+        (not_wanted new k.bsc k.cell (updated content it) (idle_apart new k.bsc k.cell (updated content it) (apart_away new k.bsc k.cell (updated content it) away)))
+      where
+        unknown : is_known past k.bsc k.cell ≡ false
+        unknown = not_reached settings past legal n k out same
+
+        away : is_place (place past k.cell) k.bsc ≡ false
+        away = not_placed past k.bsc k.cell unknown
+
+        blanks : (s : ℕ) → list_any (is_version s) it.versions ≡ true → key_state past k.bsc k.cell it.message_id s ≡ blank
+        blanks = unknown_blank past k.bsc k.cell k.warning it unknown (found_here same)
+
+    here : nat_eq n k.warning ≡ true → (t : Bool) → wraps past n ≡ t → Same it
+    here same t e =
+        freed t
+        (subst (λ u. bears (let r : Reach = record { spots = if u then flat_map (known_at past) (bscs past) else placed_where past (is_covered past (areas_of n (warnings_of past))); warnings = n ∷ [] } in r) k ≡ false) e h) same (reused t e)
 
 -- A Forget: what is known of its warning is known at a BSC, and other warnings have other keys.
 
@@ -228,15 +324,7 @@ outside_forget settings past legal desk n a k h =
     new = After (entry_of desk (event.Edit (edit.Forget n)) a) past
 
     unknown : nat_eq n k.warning ≡ true → is_known past k.bsc k.cell ≡ false
-    unknown same =
-        contrary (is_known past k.bsc k.cell) (list_any (spot_eq (spot k.bsc k.cell)) (flat_map (known_at past) (bscs past))) reached
-        (not_there (reach_of past (event.Edit (edit.Forget n)) a) k h (or_left (nat_eq k.warning n) false (turned nat_eq unsigned_Decides k.warning n ∙ same)))
-      where
-        reached : is_known past k.bsc k.cell ≡ true → list_any (spot_eq (spot k.bsc k.cell)) (flat_map (known_at past) (bscs past)) ≡ true
-        reached known =
-            any_flat (spot_eq (spot k.bsc k.cell)) (known_at past) (bscs past)
-            ∙ any_at nat_eq unsigned_Decides (λ b. list_any (spot_eq (spot k.bsc k.cell)) (known_at past b)) k.bsc (bscs past)
-            (known_there settings past legal k.bsc k.bsc k.cell (eq-eqb k.bsc k.bsc refl) known) (marks.known_at settings past legal k.bsc k.cell known)
+    unknown same = not_reached settings past legal n k h same
 
     stays : (w : Warning) → warning_of (book_of past) k.warning ≡ Some w → nat_eq n k.warning ≡ false → (s : ℕ) → list_any (is_version s) w.versions ≡ true → key_state new k.bsc k.cell w.message_id s ≡ key_state past k.bsc k.cell w.message_id s
     stays w e other s there =

@@ -1,7 +1,7 @@
 -- The reach of an event, from what is told of the past.
 use Rattle.std.proofs.Common.{◌≡◌, ◌⊎◌, inl, inr, ℕ, Bool, true, false, ◌&&◌, ◌||◌, not, nat_eq, ltb, List, [], ◌∷◌, Option, Some, None, Ok, filter, length, refl, sym, ◌∙◌, ap, subst}
 use Rattle.std.specs.Prelude.{if◌then◌else◌}
-use Rattle.std.specs.List.{list_any}
+use Rattle.std.specs.List.{flat_map, list_any}
 use Rattle.std.proofs.lemmas.Bool.{and_from, not_from_false}
 use Rattle.areas.specs.Areas as kept
 use Rattle.areas.specs.declared.area.Area.{Area}
@@ -22,6 +22,7 @@ use Rattle.common.specs.SortingLaws.{sorted_ascends}
 use Rattle.common.specs.declared.cell.Cell.{Cell}
 use Rattle.kept_tables.specs.View.{spot_eq}
 use Rattle.kept_tables.specs.declared.spot.Spot.{Spot}
+use Rattle.mirror.specs.Known as known
 use Rattle.mirror.specs.Table.{Table}
 use Rattle.warning_book.specs.Book as book
 use Rattle.warning_book.specs.Book.{number_lt, areas_of, names}
@@ -32,13 +33,14 @@ use Rattle.centre_events.specs.Effects.{is_about}
 use Rattle.warning_book.specs.declared.kind.Kind.TheVariants as kind
 use Rattle.centre_events.specs.InFlight.{in_flight, cells_of}
 use Rattle.centre_events.specs.Known.{is_known, is_named}
+use Rattle.centre_events.specs.Links.{bscs, is_bsc}
 use Rattle.centre_past.specs.Legal.{Legal}
 use Rattle.centre_events.specs.Outcomes.{listed_cells, failed_ids}
 use Rattle.centre_events.specs.Past.{Past}
 use Rattle.centre_events.specs.Places.{place, cells}
-use Rattle.centre_past.specs.Reach.{Reach, IsReach, spot, at_bsc, placed_where, known_at, numbers_where, flight_reach, edit_reach, report_reach, reach_of}
+use Rattle.centre_past.specs.Reach.{Reach, IsReach, spot, at_bsc, placed_where, known_at, numbers_where, flight_reach, edit_reach, report_reach, reach_of, wraps}
 use Rattle.coverage_plan.specs.Reach.{is_named_by}
-use Rattle.centre_past.specs.Reaching.{AreSpots, AreThose, Told, TellsLines, EditTold, IsFlightOf, bsc_of, is_placed, is_known_at}
+use Rattle.centre_past.specs.Reaching.{AreSpots, AreThose, Told, TellsLines, EditTold, IsFlightOf, bsc_of, is_placed, is_known_among, is_known_at}
 use Rattle.centre_events.specs.Reported.{names_warning}
 use Rattle.centre_events.specs.Settings.{Settings}
 use Rattle.centre_events.specs.Verdict.{answered, move_cell_checks, report_checks, report_answer}
@@ -56,7 +58,8 @@ use Rattle.centre_past.proofs.FactsLemmas.{covers_same}
 use Rattle.centre_past.proofs.MarkedLineLemmas.{known_same}
 use Rattle.centre_past.proofs.OnceLemmas.{flight_once}
 use Rattle.centre_past.proofs.RegisterLemmas.{nat_apart}
-use Rattle.centre_past.proofs.SpotLemmas.{those, those_same, no_spots, one_placed, at_same, once_at, spots_at, cells_once, ascending_cells, known_spots, placed_past}
+use Rattle.centre_past.proofs.MarkLemmas.{known_bsc}
+use Rattle.centre_past.proofs.SpotLemmas.{known_anywhere, those, those_same, no_spots, one_placed, at_same, once_at, spots_at, cells_once, ascending_cells, known_spots, placed_past}
 use Rattle.centre_past.proofs.WarningLemmas.{legal_sound}
 
 -- Where the lists of an edit are those of its reach.
@@ -159,15 +162,29 @@ area_edit settings past r l st t e a spots which told are = step which
     step (inl (n, is)) = subst (IsReached past spots) (sym is) placed
     step (inr (n, is)) = subst (IsReached past spots) (sym is) placed
 
-pub warning_edit : (settings : Settings) (past : Past) (r : register.State) (l : List Area) (st : book.State) (t : Table) (e : Edit) (n : ℕ) (spots : List Spot) → ((content : Content) × (e ≡ edit.Update n content)) ⊎ (e ≡ edit.Stop n) → EditTold settings past r l st t e → AreSpots spots (λ s. is_placed r s && list_any (λ a. kept.covers l a s.cell) (areas_of n st.warnings)) → IsReached past spots e
-warning_edit settings past r l st t e n spots which told are = step which
-  where
-    placed : AreThose spots (placed_where past (is_covered past (areas_of n (warnings_of past))))
-    placed = warning_reached settings past r l st t e n spots told are
+pub stop_edit : (settings : Settings) (past : Past) (r : register.State) (l : List Area) (st : book.State) (t : Table) (e : Edit) (n : ℕ) (spots : List Spot) → e ≡ edit.Stop n → EditTold settings past r l st t e → AreSpots spots (λ s. is_placed r s && list_any (λ a. kept.covers l a s.cell) (areas_of n st.warnings)) → IsReached past spots e
+stop_edit settings past r l st t e n spots which told are = subst (IsReached past spots) (sym which) (warning_reached settings past r l st t e n spots told are)
 
-    step : ((content : Content) × (e ≡ edit.Update n content)) ⊎ (e ≡ edit.Stop n) → IsReached past spots e
-    step (inl (content, is)) = subst (IsReached past spots) (sym is) placed
-    step (inr is) = subst (IsReached past spots) (sym is) placed
+-- an Update: what the areas of its warning cover, or what is known anywhere
+
+pub wrapped_reached : (settings : Settings) (past : Past) (r : register.State) (st : book.State) (t : Table) (spots : List Spot) → Told settings past r st t → TellsLines t → AreSpots spots (is_known_among t r r.bscs) → AreThose spots (flat_map (known_at past) (bscs past))
+wrapped_reached settings past r st t spots told tells are =
+    those spots (flat_map (known_at past) (bscs past)) (is_known_among t r r.bscs) (λ s. is_known past s.bsc s.cell) are (known_anywhere settings past told.legal)
+    (λ s.
+    ap (λ x. x && known.is_known t r s.bsc s.cell) (told.registered.bscs s.bsc)
+    ∙ ap (λ x. is_bsc past s.bsc && x) (known_same settings past r st t told tells s.bsc s.cell)
+    ∙ at_bscs (is_known past s.bsc s.cell) (is_bsc past s.bsc) (known_bsc settings past told.legal s.bsc s.cell))
+  where
+    at_bscs : (a b : Bool) → (a ≡ true → b ≡ true) → (b && a) ≡ a
+    at_bscs true b h = ap (λ x. x && true) (h refl)
+    at_bscs false b h = and_none b
+
+pub spots_where : (past : Past) (n : ℕ) (t : Bool) (spots : List Spot) → wraps past n ≡ t → AreThose spots (if t then flat_map (known_at past) (bscs past) else placed_where past (is_covered past (areas_of n (warnings_of past)))) → AreThose spots (if wraps past n then flat_map (known_at past) (bscs past) else placed_where past (is_covered past (areas_of n (warnings_of past))))
+spots_where past n t spots e are =
+    subst (λ x. AreThose spots (if x then flat_map (known_at past) (bscs past) else placed_where past (is_covered past (areas_of n (warnings_of past))))) (sym e) are
+
+pub update_edit : (past : Past) (e : Edit) (n : ℕ) (spots : List Spot) → ((content : Content) × (e ≡ edit.Update n content)) → AreThose spots (if wraps past n then flat_map (known_at past) (bscs past) else placed_where past (is_covered past (areas_of n (warnings_of past)))) → IsReached past spots e
+update_edit past e n spots (content, is) are = subst (IsReached past spots) (sym is) are
 
 -- The numbers of warnings.
 

@@ -45,6 +45,7 @@ use Rattle.centre_past.proofs.KindLemmas.{key_kind_is}
 use Rattle.centre_lines.proofs.OutsideWarningLemmas.{kept_key}
 use Rattle.centre_past.proofs.OwnedLemmas.{turned_any}
 use Rattle.centre_past.proofs.StepLemmas.{line_after}
+use Rattle.centre_past.proofs.UpdateLemmas.{given_after}
 use Rattle.centre_past.proofs.VersionLemmas.{legal_updates}
 use Rattle.centre_lines.proofs.WasLemmas.{was_line}
 use Rattle.warning_book.specs.declared.kind.Kind.{Kind}
@@ -115,7 +116,8 @@ effect_same settings past legal desk h up flight b c n w found s version =
     key : has_key w.message_id s w ≡ true
     key = and_from (nat_eq w.message_id w.message_id) (list_any (is_version s) w.versions) (eq-eqb w.message_id w.message_id refl) version
 
-    edits : (e : Edit) → warning_of (book_then (event.Edit e) (book_of past)) n ≡ Some w → edit_effect b w.message_id s e (book_then (event.Edit e) (book_of past)).warnings ≡ edit_effect b w.message_id s e (warnings_of past)
+    edits : (e : Edit) → warning_of (book_then (event.Edit e) (book_of past)) n ≡ Some w → edit_effect b w.message_id s e h.answer (book_then (event.Edit e) (book_of past)).warnings ≡ edit_effect b w.message_id s e h.answer (warnings_of past)
+    edits (edit.Update k content) i = ap (λ t. if t then Frees else Leaves) (given_after k content w.message_id s h.answer (warnings_of past))
     edits (edit.Forget k) i = ap (λ t. if t then Frees else Leaves) (forget_leaves settings past legal k n w i w.message_id s key)
     edits other i = refl
 
@@ -130,7 +132,8 @@ count_same settings past legal desk h flight b c n w found s version =
     ∙ count_own past b c w.message_id s h.event h.answer (book_of (After (entry_of desk h) past)).warnings
     ∙ books h.event found
   where
-    edits : (e : Edit) → warning_of (book_then (event.Edit e) (book_of past)) n ≡ Some w → edit_count b w.message_id s e (book_then (event.Edit e) (book_of past)).warnings ≡ edit_count b w.message_id s e (warnings_of past)
+    edits : (e : Edit) → warning_of (book_then (event.Edit e) (book_of past)) n ≡ Some w → edit_count b w.message_id s e h.answer (book_then (event.Edit e) (book_of past)).warnings ≡ edit_count b w.message_id s e h.answer (warnings_of past)
+    edits (edit.Update k content) i = ap (λ t. if t then Some 0 else None) (given_after k content w.message_id s h.answer (warnings_of past))
     edits (edit.Forget k) i =
         ap (λ t. if t then Some 0 else None)
         (forget_leaves settings past legal k n w i w.message_id s (and_from (nat_eq w.message_id w.message_id) (list_any (is_version s) w.versions) (eq-eqb w.message_id w.message_id refl) version))

@@ -22,7 +22,7 @@ use Rattle.centre_past.specs.Reaching.{forgets}
 use Rattle.centre_past.specs.Legal.{Legal}
 use Rattle.centre_events.specs.Past.{Past, After}
 use Rattle.centre_events.specs.Settings.{Settings}
-use Rattle.centre_events.specs.Stepping.{at_update, WasLine}
+use Rattle.centre_events.specs.Stepping.{at_update, updates_once, WasLine}
 use Rattle.centre_events.specs.Verdict.{verdict}
 use Rattle.centre_events.specs.Warnings.{book_then, book_of, warnings_of, is_version, has_key, is_key}
 use Rattle.coverage_plan.specs.Edited.{with_issue, book_after}
@@ -33,14 +33,16 @@ use Rattle.centre_events.specs.declared.event.Event.{Event}
 use Rattle.centre_events.specs.declared.event.Event.TheVariants as event
 use Rattle.centre_past.proofs.BookLemmas.{keyed, keys_stay, found_keyed, owned_by, owner_of}
 use Rattle.centre_past.proofs.KeyLemmas.{unknown_key_presence, unknown_key_hold, unknown_key_count}
+use Rattle.centre_past.proofs.NextLemmas.{next_at}
 use Rattle.centre_past.proofs.StepLemmas.{line_at_update, line_long}
 use Rattle.centre_past.proofs.UniqueLemmas.{unique}
+use Rattle.centre_past.proofs.VersionLemmas.{legal_updates}
 use Rattle.centre_past.proofs.WarningLemmas.{legal_sound}
 
--- from w0 to w versions are added alone; none where a warning is forgotten
+-- from w0 to w versions are added, and one may have another content, alone; none where a warning is forgotten
 record Grew (forgot : Bool) (w0 w : Warning) : Type 0 where
   message : w0.message_id ≡ w.message_id
-  keeps : (u : ℕ) (v : Version) → version_at w0.versions u ≡ Some v → version_at w.versions u ≡ Some v
+  keeps : (u : ℕ) (v : Version) → version_at w0.versions u ≡ Some v → (x : Version) × ((version_at w.versions u ≡ Some x) × (x.serial ≡ v.serial))
   same : forgot ≡ true → w0 ≡ w
 
 -- what the warning of a number was
@@ -49,33 +51,25 @@ Was forgot None w = forgot ≡ false
 Was forgot (Some w0) w = Grew forgot w0 w
 
 itself : (t : Bool) (w : Warning) → Grew t w w
-itself t w = record { message = refl; keeps = λ u v h. h; same = λ e. refl }
+itself t w = record { message = refl; keeps = λ u v h. (v, (h, refl)); same = λ e. refl }
 
 the_same : (t : Bool) (o : Option Warning) (w : Warning) → o ≡ Some w → Was t o w
 the_same t None w h = cc
 the_same t (Some x) w h = let same : x ≡ w = cc in subst (λ y. Grew t x y) same (itself t x)
 
-find_more : {A : Type 0} (p : A → Bool) (xs ys : List A) (x : A) → find p xs ≡ Some x → find p (xs ++ ys) ≡ Some x
-find_more p [] ys x h = cc
-find_more p (y ∷ xs) ys x h = step (find_more p xs ys x) (p y) h
+updated_grew : (content : Content) (w : Warning) → updates_once w.versions ≡ true → Grew false w (updated content w)
+updated_grew content w once = record { message = refl; keeps = λ u v h. next_at content w.versions once u v h; same = λ e. cc }
+
+edited_was : (n k : ℕ) (f : Warning → Warning) → KeepsNumber f → (ws : List Warning) → ((x : Warning) → find (has_number k) ws ≡ Some x → Grew false x (f x)) → (w : Warning) → find (has_number k) (edited n f ws) ≡ Some w → Was false (find (has_number k) ws) w
+edited_was n k f number ws grew w h = step (find (has_number k) ws) refl (sym (found_edited n k f number ws) ∙ h)
   where
-    step : (find p xs ≡ Some x → find p (xs ++ ys) ≡ Some x) → (t : Bool) → cond t (Some y) (find p xs) ≡ Some x → cond t (Some y) (find p (xs ++ ys)) ≡ Some x
-    step rest true g = g
-    step rest false g = rest g
+    changed : (x : Warning) → find (has_number k) ws ≡ Some x → (t : Bool) → Grew false x (if t then f x else x)
+    changed x e true = grew x e
+    changed x e false = itself false x
 
-updated_grew : (content : Content) (w : Warning) → Grew false w (updated content w)
-updated_grew content w = record { message = refl; keeps = λ u v h. find_more (λ (x : Version). nat_eq (update_of x.serial) u) w.versions _ v h; same = λ e. cc }
-
-edited_was : (n k : ℕ) (f : Warning → Warning) → KeepsNumber f → ((w : Warning) → Grew false w (f w)) → (ws : List Warning) (w : Warning) → find (has_number k) (edited n f ws) ≡ Some w → Was false (find (has_number k) ws) w
-edited_was n k f number grew ws w h = step (find (has_number k) ws) (sym (found_edited n k f number ws) ∙ h)
-  where
-    changed : (x : Warning) (t : Bool) → Grew false x (if t then f x else x)
-    changed x true = grew x
-    changed x false = itself false x
-
-    step : (o : Option Warning) → option_map (changed_if n f) o ≡ Some w → Was false o w
-    step None g = refl
-    step (Some x) g = let same : changed_if n f x ≡ w = cc in subst (λ y. Grew false x y) same (changed x (has_number n x))
+    step : (o : Option Warning) → find (has_number k) ws ≡ o → option_map (changed_if n f) o ≡ Some w → Was false o w
+    step None e g = refl
+    step (Some x) e g = let same : changed_if n f x ≡ w = cc in subst (λ y. Grew false x y) same (changed x e (has_number n x))
 
 issued_was : (notice : Notice) (areas : List (List ℕ)) (o : Option ℕ) (st : State) (k : ℕ) (w : Warning) → find (has_number k) (with_issue notice areas o st).warnings ≡ Some w → Was false (find (has_number k) st.warnings) w
 issued_was notice areas None st k w h = the_same false (find (has_number k) st.warnings) w h
@@ -85,25 +79,29 @@ issued_was notice areas (Some serial) st k w h = step (find (has_number k) st.wa
     step None g = refl
     step (Some x) g = the_same false (Some x) w g
 
-edit_was : (e : Edit) (st : State) (k : ℕ) (w : Warning) → find (has_number k) (book_after e st).warnings ≡ Some w → Was (forgets (event.Edit e)) (find (has_number k) st.warnings) w
-edit_was (edit.Issue notice areas) st k w h = issued_was notice areas (new_serial st notice) st k w h
-edit_was (edit.Update n content) st k w h = edited_was n k (updated content) (λ x. refl) (updated_grew content) st.warnings w h
-edit_was (edit.Widen n a) st k w h = edited_was n k (widened a) (λ x. refl) (λ x. record { message = refl; keeps = λ u v g. g; same = λ e. cc }) st.warnings w h
-edit_was (edit.Narrow n a) st k w h = edited_was n k (narrowed a) (λ x. refl) (λ x. record { message = refl; keeps = λ u v g. g; same = λ e. cc }) st.warnings w h
-edit_was (edit.Stop n) st k w h = edited_was n k stopped (λ x. refl) (λ x. record { message = refl; keeps = λ u v g. g; same = λ e. cc }) st.warnings w h
-edit_was (edit.Forget n) st k w h = step (nat_eq n k) (sym (found_without n k st.warnings) ∙ h)
+-- the update numbers of the warning of that number differ
+abbrev AreOnce : List Warning → ℕ → Type 0
+AreOnce ws k = (x : Warning) → find (has_number k) ws ≡ Some x → updates_once x.versions ≡ true
+
+edit_was : (e : Edit) (st : State) (k : ℕ) → AreOnce st.warnings k → (w : Warning) → find (has_number k) (book_after e st).warnings ≡ Some w → Was (forgets (event.Edit e)) (find (has_number k) st.warnings) w
+edit_was (edit.Issue notice areas) st k once w h = issued_was notice areas (new_serial st notice) st k w h
+edit_was (edit.Update n content) st k once w h = edited_was n k (updated content) (λ x. refl) st.warnings (λ x e. updated_grew content x (once x e)) w h
+edit_was (edit.Widen n a) st k once w h = edited_was n k (widened a) (λ x. refl) st.warnings (λ x e. record { message = refl; keeps = λ u v g. (v, (g, refl)); same = λ i. cc }) w h
+edit_was (edit.Narrow n a) st k once w h = edited_was n k (narrowed a) (λ x. refl) st.warnings (λ x e. record { message = refl; keeps = λ u v g. (v, (g, refl)); same = λ i. cc }) w h
+edit_was (edit.Stop n) st k once w h = edited_was n k stopped (λ x. refl) st.warnings (λ x e. record { message = refl; keeps = λ u v g. (v, (g, refl)); same = λ i. cc }) w h
+edit_was (edit.Forget n) st k once w h = step (nat_eq n k) (sym (found_without n k st.warnings) ∙ h)
   where
     step : (t : Bool) → cond t None (find (has_number k) st.warnings) ≡ Some w → Was true (find (has_number k) st.warnings) w
     step true g = cc
     step false g = the_same true (find (has_number k) st.warnings) w g
-edit_was other st k w h = the_same false (find (has_number k) st.warnings) w h
+edit_was other st k once w h = the_same false (find (has_number k) st.warnings) w h
 
 -- what the warning of a number was before the entry
-was_of : (e : Entry) (past : Past) (n : ℕ) (w : Warning) → warning_of (book_of (After e past)) n ≡ Some w → Was (forgets e.event) (warning_of (book_of past) n) w
-was_of e past n w h = step e.event h
+was_of : (e : Entry) (past : Past) (n : ℕ) → AreOnce (warnings_of past) n → (w : Warning) → warning_of (book_of (After e past)) n ≡ Some w → Was (forgets e.event) (warning_of (book_of past) n) w
+was_of e past n once w h = step e.event h
   where
     step : (x : Event) → find (has_number n) (book_then x (book_of past)).warnings ≡ Some w → Was (forgets x) (find (has_number n) (book_of past).warnings) w
-    step (event.Edit y) g = edit_was y (book_of past) n w g
+    step (event.Edit y) g = edit_was y (book_of past) n once w g
     step other g = the_same false (find (has_number n) (book_of past).warnings) w g
 
 -- a version that the warning did not have is of no key of the book
@@ -191,7 +189,7 @@ blank_at u small = get_or-replicate 16 u blank blank small
 
 -- what is kept of a line before an entry
 pub was_line : (settings : Settings) (past : Past) → Legal settings past → (e : Entry) → verdict settings past e.event ≡ Ok e.answer → (b : ℕ) (c : Cell) (n : ℕ) (w : Warning) → warning_of (book_of (After e past)) n ≡ Some w → WasLine past b c w (facts past (key_of b c n)).line
-was_line settings past legal e accepted b c n w found = step (warning_of (book_of past) n) refl (was_of e past n w found)
+was_line settings past legal e accepted b c n w found = step (warning_of (book_of past) n) refl (was_of e past n (legal_updates settings past legal n) w found)
   where
     -- at an update number where it had no version
     fresh : (o : Option Warning) → warning_of (book_of past) n ≡ o → forgets e.event ≡ false → (u : ℕ) → NoneAt o u → (x : Option Version) → version_at w.versions u ≡ x → blank ≡ version_state past b c w.message_id x
@@ -213,7 +211,9 @@ was_line settings past legal e accepted b c n w found = step (warning_of (book_o
     }
       where
         at : (u : ℕ) (x : Option Version) → version_at w0.versions u ≡ x → version_state past b c w0.message_id x ≡ version_state past b c w.message_id (version_at w.versions u)
-        at u (Some v) j = ap (λ m. key_state past b c m v.serial) grew.message ∙ ap (version_state past b c w.message_id) (sym (grew.keeps u v j))
+        at u (Some v) j =
+            let now = grew.keeps u v j in
+            ap (λ m. key_state past b c m v.serial) grew.message ∙ ap (key_state past b c w.message_id) (sym now.1.1) ∙ ap (version_state past b c w.message_id) (sym now.1.0)
         at u None j = forgot (forgets e.event) refl
           where
             forgot : (t : Bool) → forgets e.event ≡ t → blank ≡ version_state past b c w.message_id (version_at w.versions u)

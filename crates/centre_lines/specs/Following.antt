@@ -140,9 +140,10 @@ abbrev pub may_change : Event → Line → Bool
 may_change (event.Retry b) line = is_held_line line
 may_change other line = not (is_blank line)
 
--- an edit that leaves every line as it is: each but the end of a BSC and a Forget
+-- an edit that leaves every line as it is: each but the end of a BSC, an Update and a Forget
 abbrev pub leaves_lines : Event → Bool
 leaves_lines (event.Edit (edit.RemoveBsc b)) = false
+leaves_lines (event.Edit (edit.Update n content)) = false
 leaves_lines (event.Edit (edit.Forget n)) = false
 leaves_lines (event.Edit e) = true
 leaves_lines other = false

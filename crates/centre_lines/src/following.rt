@@ -30,12 +30,12 @@ use mirror::{Line, LineKey};
 use std::alloc::{AllocError, Global};
 use warning_book::{Warning, WarningId};
 
-/// Whether what happens is an edit that leaves every line as it is: each but the end of a BSC and a Forget.
+/// Whether what happens is an edit that leaves every line as it is: each but the end of a BSC, an Update and a Forget.
 fn leaves_lines(h: &Happening<'_, '_>) -> bool
     ensures { result ≡ leaves_lines h.now.event.now }
 {
     match h.event {
-        Event::Edit(Edit::RemoveBsc(_) | Edit::Forget(_)) => false,
+        Event::Edit(Edit::RemoveBsc(_) | Edit::Update(_, _) | Edit::Forget(_)) => false,
         Event::Edit(_) => true,
         _ => false,
     }

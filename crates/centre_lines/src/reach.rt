@@ -1,16 +1,20 @@
 //! On which lines an event bears.
 
-ghost use Rattle.std.specs.Prelude.{◌≡◌, false, IfOk};
-ghost use Rattle.std.specs.Option.{option_copied};
+ghost use Rattle.std.specs.Prelude.{◌≡◌, ◌&&◌, true, false, if◌then◌else◌, IfOk};
+ghost use Rattle.std.specs.List.{list_any};
+ghost use Rattle.std.specs.Option.{option_copied, option_map, option_to_list};
+ghost use Rattle.serials.specs.Serials.{next_of};
+ghost use Rattle.warning_book.specs.Book.{current_of, is_reused};
 ghost use Rattle.centre_events.specs.InFlight.{in_flight};
 ghost use Rattle.centre_events.specs.Past.{Past};
 ghost use Rattle.centre_past.specs.Reaching.{is_forget, AreThose, EditTold, EventTold};
-ghost use Rattle.centre_past.specs.Reach.{IsReach, flight_reach, edit_reach, report_reach, reach_of};
+ghost use Rattle.centre_past.specs.Reach.{IsReach, flight_reach, edit_reach, report_reach, reach_of, covered_by, known_anywhere, wraps};
 ghost use Rattle.centre_events.specs.Settings.{Settings};
+ghost use Rattle.centre_events.specs.Warnings.{book_of, is_version};
 
 use crate::plan_parts::PlanParts;
 use crate::reached_warnings;
-use crate::spots::{covered, known_at, moved, named, placed, spots_at};
+use crate::spots::{covered, known_anywhere, known_at, moved, named, placed, spots_at};
 use cell_register::{BscId, Register};
 use centre_events::answer::Answer;
 use centre_events::event::Event;
@@ -20,15 +24,60 @@ use centre_past::telling::tell_lines;
 use coverage_plan::Edit;
 use kept_tables::Spot;
 use mirror::LineTable;
+use serials::Serial;
 use std::alloc::{AllocError, Global};
 use std::slice;
-use warning_book::{Book, WarningId};
+use warning_book::{Book, Version, Warning, WarningId};
 
 /// Cells at BSCs, and warnings: an event bears on the line of each of these warnings in each of these cells.
 #[derive(Drop)]
 pub(crate) struct Reach {
     pub(crate) spots: Vec<Spot>,
     pub(crate) warnings: Vec<WarningId>,
+}
+
+/// Whether one of the versions has the serial number.
+fn has_serial(versions: &[Version], serial: Serial) -> bool
+    ensures { result ≡ list_any (is_version serial) versions.now }
+{
+    versions.iter().any(|version| version.serial == serial)
+}
+
+/// Whether a version of the warning has the serial number that an Update gives.
+fn is_given_again(w: &Warning) -> bool
+    ensures { result ≡ list_any (λ s. is_reused w.now s && true) (option_to_list (option_map next_of (current_of w.now))) }
+{
+    match w.serial() {
+        Some(serial) => has_serial(w.versions(), serial.next()),
+        None => false,
+    }
+}
+
+/// Whether an Update of the warning of that number takes the serial number of a version, which leaves the book then.
+fn wraps(book: &Book, n: WarningId) -> bool
+    ensures { (past : Past) → book.now ≡ book_of past → result ≡ wraps past n }
+{
+    book.as_slice()
+        .iter()
+        .any(|w| w.number() == n && is_given_again(w))
+}
+
+/// The cells at BSCs on which an Update bears: those that the areas of its warning cover, or, where it takes the serial
+/// number of a version, all that are known.
+fn updated(
+    alloc: Global,
+    plan: &PlanParts<'_>,
+    tables: &LineTable,
+    edit: &Edit,
+    n: WarningId,
+) -> Result<Vec<Spot>, AllocError>
+    ensures { (settings : Settings) (past : Past) → EditTold settings past plan.now.register.now plan.now.areas.now plan.now.book.now tables.now edit.now → IfOk result (λ spots. AreThose spots.items (if wraps past n then known_anywhere past else covered_by past n)) }
+{
+    tell_lines(tables);
+    if wraps(plan.book, n) {
+        return known_anywhere(alloc, plan.register, tables);
+    }
+    covered(alloc, plan.register, plan.areas, plan.book.areas_of(n))
 }
 
 /// The cells at BSCs on which an edit bears that is no Forget.
@@ -51,9 +100,8 @@ fn edit_spots(
         Edit::RemoveCell(c) => placed(alloc, register, *c)?,
         Edit::Put(_, s) | Edit::Cut(_, s) => named(alloc, register, *s)?,
         Edit::Issue(_, names) => covered(alloc, register, areas, names.as_slice())?,
-        Edit::Update(n, _) | Edit::Stop(n) => {
-            covered(alloc, register, areas, plan.book.areas_of(*n))?
-        }
+        Edit::Update(n, _) => updated(alloc, plan, tables, edit, *n)?,
+        Edit::Stop(n) => covered(alloc, register, areas, plan.book.areas_of(*n))?,
         Edit::Widen(_, a) | Edit::Narrow(_, a) => {
             covered(alloc, register, areas, slice::from_ref(a))?
         }

@@ -1,13 +1,13 @@
 //! Cells at base station controllers, found from what a centre keeps.
 
-ghost use Rattle.std.specs.Prelude.{◌≡◌, ◌&&◌, ◌∷◌, true, map, nat_eq, IfOk};
+ghost use Rattle.std.specs.Prelude.{◌≡◌, ◌&&◌, ◌∷◌, ◌++◌, true, map, nat_eq, IfOk, OnOk};
 ghost use Rattle.std.specs.List.{list_any, flat_map};
 ghost use Rattle.areas.specs.Areas.{covers};
 ghost use Rattle.cell_register.specs.Register.{place_in};
 ghost use Rattle.common.specs.Order.{each_once};
 ghost use Rattle.centre_past.specs.Reach.{spot, at_bsc};
 ghost use Rattle.coverage_plan.specs.Reach.{is_named_by};
-ghost use Rattle.centre_past.specs.Reaching.{AreSpots, is_placed, is_known_at};
+ghost use Rattle.centre_past.specs.Reaching.{AreSpots, is_placed, is_known_among, is_known_at};
 
 use areas::{Areas, Selector};
 use cell_register::{BscId, Register};
@@ -27,6 +27,37 @@ pub(crate) fn spots_at(alloc: Global, b: BscId, cells: &[Cell]) -> Result<Vec<Sp
             bsc: b,
             cell: *cell,
         })?;
+    }
+    Ok(spots)
+}
+
+/// Puts the cells last, each at the BSC.
+fn add_spots(spots: &mut Vec<Spot>, b: BscId, cells: &[Cell]) -> Result<(), AllocError>
+    ensures { OnOk result (spots.new.items ≡ spots.old.items ++ map (spot b) cells.now) }
+{
+    for cell in cells {
+        spots.push(Spot {
+            bsc: b,
+            cell: *cell,
+        })?;
+    }
+    Ok(())
+}
+
+/// The cells that are known at some BSC, each there.
+pub(crate) fn known_anywhere(
+    alloc: Global,
+    register: &Register,
+    tables: &LineTable,
+) -> Result<Vec<Spot>, AllocError>
+    ensures { IfOk result (λ spots. AreSpots spots.items (is_known_among tables.now register.now register.now.bscs)) }
+{
+    register.tell_soundness();
+    let bscs = register.bscs();
+    let mut spots = Vec::new(alloc);
+    for bsc in bscs {
+        let cells = tables.known_cells(register, *bsc)?;
+        add_spots(&mut spots, *bsc, cells.as_slice())?;
     }
     Ok(spots)
 }

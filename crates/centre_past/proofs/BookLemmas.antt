@@ -4,7 +4,6 @@ use Rattle.std.specs.Prelude.{find, if◌then◌else◌}
 use Rattle.std.specs.List.{list_any}
 use Rattle.std.specs.Option.{option_map}
 use Rattle.std.proofs.lemmas.Bool.{and_parts, and_from, or_left, or_right}
-use Rattle.std.proofs.lemmas.List.Folds.{list_any-append}
 use Rattle.common.specs.Order.{is_ascending}
 use Rattle.common.specs.Sums.{one, count_of}
 use Rattle.warning_book.specs.Book.{State, has_number, number_lt, is_so, warning_of, updated, widened, narrowed, stopped, changed_if, edited, with_next, new_serial}
@@ -21,6 +20,7 @@ use Rattle.coverage_plan.specs.declared.edit.Edit.TheVariants as edit
 use Rattle.centre_events.specs.declared.entry.Entry.{Entry}
 use Rattle.centre_events.specs.declared.event.Event.{Event}
 use Rattle.centre_events.specs.declared.event.Event.TheVariants as event
+use Rattle.centre_past.proofs.NextLemmas.{next_keeps}
 use Rattle.centre_past.proofs.UniqueLemmas.{any_none}
 
 -- the warning of that number has the key
@@ -52,8 +52,7 @@ edited_keeps n k m s f number keeps ws h =
 updated_keeps : (content : Content) (m s : ℕ) (w : Warning) → has_key m s w ≡ true → has_key m s (updated content w) ≡ true
 updated_keeps content m s w h =
     let parts = and_parts (nat_eq w.message_id m) (list_any (is_version s) w.versions) h in
-    and_from (nat_eq w.message_id m) (list_any (is_version s) (with_next content w.versions)) parts.0
-    (list_any-append (is_version s) w.versions _ ∙ or_left (list_any (is_version s) w.versions) _ parts.1)
+    and_from (nat_eq w.message_id m) (list_any (is_version s) (with_next content w.versions)) parts.0 (next_keeps content s w.versions parts.1)
 
 issue_keeps : (notice : Notice) (areas : List (List ℕ)) (o : Option ℕ) (st : State) (k m s : ℕ) → keyed k m s st.warnings ≡ true → keyed k m s (with_issue notice areas o st).warnings ≡ true
 issue_keeps notice areas None st k m s h = h

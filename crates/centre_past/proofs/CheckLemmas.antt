@@ -100,3 +100,13 @@ pub none_before : (checks rest : List (Bool × Refusal)) (r : Result Answer Refu
 none_before [] rest r h = refl
 none_before ((true, e) ∷ checks) rest r h = cc
 none_before ((false, e) ∷ checks) rest r h = none_before checks rest r h
+
+-- none of a lower crate's checks holds before or after some of the centre's own, where the answer stands
+pub none_around : {E : Type 0} (f : E → Refusal) (first : List (Bool × E)) (own : List (Bool × Refusal)) (rest : List (Bool × E)) (r : Result Answer Refusal) → IsOk (unless (translated f first ++ (own ++ translated f rest)) r) → first_refusal (first ++ rest) ≡ None
+none_around f [] [] [] r ok = refl
+none_around f [] [] ((true, e) ∷ rest) r ok = cc
+none_around f [] [] ((false, e) ∷ rest) r ok = none_around f [] [] rest r ok
+none_around f [] ((true, e) ∷ own) rest r ok = cc
+none_around f [] ((false, e) ∷ own) rest r ok = none_around f [] own rest r ok
+none_around f ((true, e) ∷ first) own rest r ok = cc
+none_around f ((false, e) ∷ first) own rest r ok = none_around f first own rest r ok

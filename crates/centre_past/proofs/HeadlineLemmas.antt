@@ -1,5 +1,5 @@
 -- The pending orders, applied to what was reported, give the plan.
-use Rattle.std.proofs.Common.{◌≡◌, ℕ, Bool, true, false, ◌&&◌, ◌||◌, not, nat_eq, List, [], ◌∷◌, Option, Some, None, Result, Ok, Err, refl, sym, ◌∙◌, ap, cond, eqb-true}
+use Rattle.std.proofs.Common.{◌≡◌, ℕ, Bool, true, false, ◌&&◌, ◌||◌, not, nat_eq, List, [], ◌∷◌, Option, Some, None, refl, sym, ◌∙◌, ap, subst, cond, eqb-true}
 use Rattle.std.specs.Prelude.{if◌then◌else◌}
 use Rattle.std.proofs.lemmas.Bool.{and_parts, and_from}
 use Rattle.std.specs.List.{list_any}
@@ -10,12 +10,13 @@ use Rattle.warning_book.specs.VersionLaws.{current_among}
 use Rattle.warning_book.specs.declared.kind.Kind.{Kind}
 use Rattle.warning_book.specs.declared.version.Version.{Version}
 use Rattle.warning_book.specs.declared.warning.Warning.{Warning}
-use Rattle.centre_events.specs.Base.{empty_base}
+use Rattle.centre_events.specs.Base.{Base, empty_base}
 use Rattle.centre_events.specs.Cover.{is_covered}
 use Rattle.centre_events.specs.Down.{is_down}
 use Rattle.centre_events.specs.Effects.{is_among}
+use Rattle.centre_events.specs.Folding.{base_of}
 use Rattle.centre_past.specs.Headline.{airs, clears, applied, Agrees, PendingGivesPlan}
-use Rattle.centre_past.specs.Legal.{Legal, Call, with_verdict, after_calls}
+use Rattle.centre_past.specs.Legal.{Legal, Lawful, Call, after_calls, lasting}
 use Rattle.centre_events.specs.Lines.{seen}
 use Rattle.centre_events.specs.Past.{Past, From, IsUnfolded}
 use Rattle.centre_events.specs.Pending.{pending}
@@ -24,13 +25,9 @@ use Rattle.centre_events.specs.Plan.{wants, wanted, planned}
 use Rattle.centre_events.specs.Presence.{presence, is_held}
 use Rattle.mirror.specs.Seen.{is_absent, is_on_air, is_the}
 use Rattle.centre_events.specs.Settings.{Settings}
-use Rattle.centre_events.specs.Verdict.{verdict}
 use Rattle.centre_events.specs.Warnings.{book_of, warnings_of, is_version, has_key, is_key, key_kind}
-use Rattle.centre_events.specs.declared.answer.Answer.{Answer}
-use Rattle.centre_events.specs.declared.event.Event.{Event}
 use Rattle.mirror.specs.declared.presence.Presence.{Presence}
 use Rattle.mirror.specs.declared.presence.Presence.TheVariants.{Absent, OnAir, Unknown}
-use Rattle.centre_events.specs.declared.refusal.Refusal.{Refusal}
 use Rattle.centre_past.proofs.AnyLemmas.{and_none, any_same}
 use Rattle.centre_past.proofs.ApplyingLemmas.{applied_airs, applied_clears}
 use Rattle.centre_past.proofs.ActingLemmas.{does, any_all, airing, clearing, is_surplus, does_airing, does_clearing}
@@ -38,6 +35,7 @@ use Rattle.centre_past.proofs.GroupingLemmas.{any_pending}
 use Rattle.centre_past.proofs.KindLemmas.{any_by_kind}
 use Rattle.centre_past.proofs.MarkLemmas.{known_presence}
 use Rattle.centre_past.proofs.KnownLemmas.{legal_unfolded, known_place}
+use Rattle.centre_past.proofs.LawfulLemmas.{lawful_calls, whole}
 use Rattle.centre_events.proofs.PastLemmas.{any_image}
 use Rattle.centre_past.proofs.UniqueLemmas.{unique, one_other}
 use Rattle.centre_past.proofs.WarningLemmas.{legal_sound}
@@ -180,17 +178,19 @@ pending_gives_plan settings past legal = record {
       (applied_airs (pending past b) c m s (presence past b c m s)) (applied_clears (pending past b) c m s (presence past b c m s));
 }
 
--- an accepted call keeps a past legal, and a refused one leaves it
-legal_with : (settings : Settings) (desk : ℕ) (e : Event) (before : Past) → Legal settings before → Legal settings (with_verdict desk e (verdict settings before e) before)
-legal_with settings desk e before legal = step (verdict settings before e) refl
-  where
-    step : (r : Result Answer Refusal) → verdict settings before e ≡ r → Legal settings (with_verdict desk e r before)
-    step (Ok a) h = (h, legal)
-    step (Err r) h = legal
+-- what the headline says of each key
+abbrev Gives : Past → Type 0
+Gives past = (b : ℕ) (c : Cell) (m s : ℕ) → is_key past m s ≡ true → is_down past (key_kind past m s) b c ≡ false → is_held past b c m s ≡ false → Agrees (applied (pending past b) c m s (presence past b c m s)) (planned past b c m s)
 
-pub legal_after : (settings : Settings) (calls : List Call) (before : Past) → Legal settings before → Legal settings (after_calls settings calls before)
-legal_after settings [] before legal = legal
-legal_after settings (call ∷ calls) before legal = legal_after settings calls (with_verdict call.desk call.event (verdict settings before call.event) before) (legal_with settings call.desk call.event before legal)
+-- what holds after a past holds after each past of the same base
+carried : (p q : Past) → base_of p ≡ base_of q → PendingGivesPlan p → PendingGivesPlan q
+carried p q same given = record { each = subst (λ (x : Base). Gives (From x)) same given.each }
+
+-- so after every lawful past
+pub pending_gives_plan_lawful : (settings : Settings) (past : Past) → Lawful settings past → PendingGivesPlan past
+pending_gives_plan_lawful settings past lawful =
+    let w = whole settings past lawful in
+    carried w.full past w.same (pending_gives_plan (lasting settings.network) w.full w.legal)
 
 pub plan_after_calls : (settings : Settings) (calls : List Call) → PendingGivesPlan (after_calls settings calls (From empty_base))
-plan_after_calls settings calls = pending_gives_plan settings (after_calls settings calls (From empty_base)) (legal_after settings calls (From empty_base) refl)
+plan_after_calls settings calls = pending_gives_plan_lawful settings (after_calls settings calls (From empty_base)) (lawful_calls settings calls)

@@ -3,7 +3,7 @@ use Rattle.std.proofs.Common.{◌≡◌, ℕ, ◌+◌, Bool, true, false, ◌&&�
 use Rattle.std.specs.Prelude.{if◌then◌else◌}
 use Rattle.std.specs.Cmp.{unsigned_Decides}
 use Rattle.std.specs.List.{list_any, list_all, flat_map}
-use Rattle.std.specs.Option.{is_some, option_map, option_to_list}
+use Rattle.std.specs.Option.{is_some, option_map}
 use Rattle.std.proofs.lemmas.Bool.{and_parts, and_from, or_left, or_right}
 use Rattle.std.proofs.lemmas.List.Folds.{list_any-append}
 use Rattle.common.specs.Cell.{cell_eq}
@@ -12,7 +12,7 @@ use Rattle.common.specs.declared.cell.Cell.{Cell}
 use Rattle.mirror.specs.Seen.{Seen, is_absent, is_the}
 use Rattle.mirror.specs.declared.presence.Presence.{Presence}
 use Rattle.mirror.specs.declared.presence.Presence.TheVariants.{Absent, OnAir, Unknown}
-use Rattle.warning_book.specs.Book.{State, has_number, new_serial, new_warning, updated, changed_if, edited, last_serial, version_after}
+use Rattle.warning_book.specs.Book.{State, has_number, new_serial, new_warning, updated, changed_if, edited, with_next}
 use Rattle.warning_book.specs.Book as book
 use Rattle.warning_book.specs.VersionLaws.{current_among}
 use Rattle.warning_book.specs.declared.notice.Notice.{Notice}
@@ -62,6 +62,7 @@ use Rattle.centre_past.proofs.KnownLemmas.{legal_unfolded, flight_from, flight_n
 use Rattle.centre_past.proofs.LineLemmas.{found_passes}
 use Rattle.centre_past.proofs.MarkLemmas.{marks_after, event_marks, no_mark, no_presence, no_hold, no_count, marked_bsc, present_marked, known_presence}
 use Rattle.centre_events.proofs.PastLemmas.{map_joined, any_image}
+use Rattle.centre_past.proofs.NextLemmas.{next_keeps}
 use Rattle.centre_past.proofs.ReportedLemmas.{names_it}
 use Rattle.centre_past.proofs.UniqueLemmas.{verdict_answered}
 
@@ -202,9 +203,7 @@ key_edit (edit.Update n content) st m s left h = any_edited (has_key m s) n (upd
     keeps : (w : Warning) → has_key m s w ≡ true → has_key m s (updated content w) ≡ true
     keeps w e =
         let parts = and_parts (nat_eq w.message_id m) (list_any (is_version s) w.versions) e in
-        let next : List Version = option_to_list (option_map (version_after content) (last_serial w.versions)) in
-        and_from (nat_eq w.message_id m) (list_any (is_version s) (w.versions ++ next)) parts.0
-        (list_any-append (is_version s) w.versions next ∙ or_left (list_any (is_version s) w.versions) (list_any (is_version s) next) parts.1)
+        and_from (nat_eq w.message_id m) (list_any (is_version s) (with_next content w.versions)) parts.0 (next_keeps content s w.versions parts.1)
 key_edit (edit.Widen n a) st m s left h = any_edited (has_key m s) n (book.widened a) (λ w e. e) st.warnings h
 key_edit (edit.Narrow n a) st m s left h = any_edited (has_key m s) n (book.narrowed a) (λ w e. e) st.warnings h
 key_edit (edit.Stop n) st m s left h = any_edited (has_key m s) n book.stopped (λ w e. e) st.warnings h

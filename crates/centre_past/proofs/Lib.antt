@@ -11,6 +11,8 @@ pub mod UniqueLemmas
 pub mod CountLemmas
 pub mod KindLemmas
 pub mod KnownLemmas
+pub mod LawfulLemmas
+pub mod AlikeLemmas
 pub mod HeadlineLemmas
 pub mod RegisterLemmas
 pub mod AreaLemmas
@@ -36,3 +38,5 @@ pub mod AskLemmas
 pub mod ReadLemmas
 pub mod CopyLemmas
 pub mod EmptyLemmas
+pub mod NextLemmas
+pub mod UpdateLemmas

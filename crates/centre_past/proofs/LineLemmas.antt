@@ -1,9 +1,9 @@
 -- What is read of the line of a warning in the book, at two pasts.
 use Rattle.std.proofs.Common.{◌≡◌, ℕ, zero, suc, ◌+◌, Bool, true, false, ◌&&◌, ◌||◌, not, nat_eq, List, [], ◌∷◌, ◌++◌, Option, Some, None, filter, map, replicate, cond, append-nil, arith, refl, sym, ◌∙◌, ap, eqb-true, eq-eqb}
 use Rattle.std.specs.Prelude.{find, slice_index_or, if◌then◌else◌}
-use Rattle.std.specs.List.{list_any, range_with_len}
+use Rattle.std.specs.List.{list_any, list_all, range_with_len}
 use Rattle.std.specs.Option.{is_some, option_or}
-use Rattle.std.proofs.lemmas.Bool.{or_left, or_right, or_parts}
+use Rattle.std.proofs.lemmas.Bool.{and_parts, or_left, or_right, or_parts}
 use Rattle.cbsp_ie.specs.declared.cause.Cause.{Cause}
 use Rattle.cell_register.specs.Register.{is_place}
 use Rattle.common.specs.declared.cell.Cell.{Cell}
@@ -158,7 +158,7 @@ state_none past b c w s h =
     first : 0 + update_of s ≡ update_of s
     first = omega arith
 
-version_more : (u : ℕ) (vs : List Version) (x : Version) → version_at (vs ++ x ∷ []) u ≡ option_or (version_at vs u) (cond (nat_eq (update_of x.serial) u) (Some x) None)
+pub version_more : (u : ℕ) (vs : List Version) (x : Version) → version_at (vs ++ x ∷ []) u ≡ option_or (version_at vs u) (cond (nat_eq (update_of x.serial) u) (Some x) None)
 version_more u [] x = refl
 version_more u (v ∷ vs) x = step (version_more u vs x) (nat_eq (update_of v.serial) u)
   where
@@ -205,6 +205,15 @@ found_passes p q (v ∷ ws) w h g = step (found_passes p q ws w) (p v) h
     step : (find p ws ≡ Some w → q w ≡ true → list_any q ws ≡ true) → (t : Bool) → cond t (Some v) (find p ws) ≡ Some w → (q v || list_any q ws) ≡ true
     step rest true e = let same : v ≡ w = cc in or_left (q v) (list_any q ws) (ap q same ∙ g)
     step rest false e = or_right (q v) (list_any q ws) (rest e g)
+
+-- what is so of all is so of the one that is found
+pub found_all : (p q : Warning → Bool) (ws : List Warning) (w : Warning) → find p ws ≡ Some w → list_all q ws ≡ true → q w ≡ true
+found_all p q [] w h g = cc
+found_all p q (v ∷ ws) w h g = step (found_all p q ws w) (and_parts (q v) (list_all q ws) g) (p v) h
+  where
+    step : (find p ws ≡ Some w → list_all q ws ≡ true → q w ≡ true) → (q v ≡ true) × (list_all q ws ≡ true) → (t : Bool) → cond t (Some v) (find p ws) ≡ Some w → q w ≡ true
+    step rest parts true e = let same : v ≡ w = cc in ap q (sym same) ∙ parts.0
+    step rest parts false e = rest e parts.1
 
 pub not_placed : (past : Past) (b : ℕ) (c : Cell) → is_known past b c ≡ false → is_place (place past c) b ≡ false
 not_placed past b c h = (or_parts (is_place (place past c) b) (is_down_for_some past b c || list_any (has_mark past b c) (warnings_of past)) h).0

@@ -23,7 +23,7 @@ use Rattle.warning_book.specs.declared.warning.Warning.{Warning}
 use Rattle.centre_events.specs.Base.{Base, empty_base}
 use Rattle.centre_events.specs.Counts.{count, replied_count, report_count, edit_count, count_mark}
 use Rattle.centre_events.specs.Down.{is_down, edit_down, down_mark, listed_down, says_down}
-use Rattle.centre_events.specs.Effects.{is_about, is_among, presence_mark, hold_mark, new_effect, old_effect, replaces, query_effect, flight_effect, outcome_in, said_effect, indicated_effect, report_effect}
+use Rattle.centre_events.specs.Effects.{is_about, is_among, presence_mark, hold_mark, new_effect, old_effect, replaces, query_effect, flight_effect, outcome_in, said_effect, indicated_effect, report_effect, is_given}
 use Rattle.centre_events.specs.declared.effect.Effect.{Effect}
 use Rattle.centre_events.specs.declared.effect.Effect.TheVariants.{Sets, Frees, Leaves}
 use Rattle.centre_events.specs.InFlight.{in_flight, id_of, cells_of}
@@ -125,22 +125,24 @@ report_marks q kind message (Listed cs) f p h n c m s named known g = step (is_a
     step false k = known k
 report_marks q kind message other f p h n c m s named known g = known g
 
-edit_marks : (q : Bool) (e : Edit) (ws : List Warning) (p : Presence) (h : Option Cause) (n : ℕ) (b m s : ℕ) → (marks p h n ≡ true → q ≡ true) → marks_after (edit_effect b m s e ws) (edit_count b m s e ws) p h n ≡ true → q ≡ true
-edit_marks q (edit.RemoveBsc other) ws p h n b m s known g = step (nat_eq other b) g
+-- a key that an edit frees, or leaves
+freed_marks : (q t : Bool) (p : Presence) (h : Option Cause) (n : ℕ) → (marks p h n ≡ true → q ≡ true) → marks_after (if t then Frees else Leaves) (if t then Some 0 else None) p h n ≡ true → q ≡ true
+freed_marks q true p h n known g = known (freed_whole p h n g)
+freed_marks q false p h n known g = known g
+
+edit_marks : (q : Bool) (e : Edit) (a : Answer) (ws : List Warning) (p : Presence) (h : Option Cause) (n : ℕ) (b m s : ℕ) → (marks p h n ≡ true → q ≡ true) → marks_after (edit_effect b m s e a ws) (edit_count b m s e a ws) p h n ≡ true → q ≡ true
+edit_marks q (edit.RemoveBsc other) a ws p h n b m s known g = step (nat_eq other b) g
   where
     step : (t : Bool) → marks_after (if t then Sets Absent else Leaves) (if t then Some 0 else None) p h n ≡ true → q ≡ true
     step true k = cc
     step false k = known k
-edit_marks q (edit.Forget i) ws p h n b m s known g = step (list_any (λ w. has_number i w && has_key m s w) ws) g
-  where
-    step : (t : Bool) → marks_after (if t then Frees else Leaves) (if t then Some 0 else None) p h n ≡ true → q ≡ true
-    step true k = known (freed_whole p h n k)
-    step false k = known k
-edit_marks q other ws p h n b m s known g = known g
+edit_marks q (edit.Forget i) a ws p h n b m s known g = freed_marks q (list_any (λ w. has_number i w && has_key m s w) ws) p h n known g
+edit_marks q (edit.Update i content) a ws p h n b m s known g = freed_marks q (is_given i m s a ws) p h n known g
+edit_marks q other a ws p h n b m s known g = known g
 
 -- a key that is marked after an event was so before it, or what is in flight names it
 pub event_marks : (q : Bool) (kind : Kind) (b : ℕ) (c : Cell) (m s : ℕ) (e : Event) (a : Answer) (up : Bool) (f : Option InFlight) (ws : List Warning) (p : Presence) (h : Option Cause) (n : ℕ) → (names_it f c m s ≡ true → q ≡ true) → (marks p h n ≡ true → q ≡ true) → marks_after (effect kind b c m s e a up f ws) (count_mark b c m s e a f ws) p h n ≡ true → q ≡ true
-event_marks q kind b c m s (event.Edit e) a up f ws p h n named known g = edit_marks q e ws p h n b m s known g
+event_marks q kind b c m s (event.Edit e) a up f ws p h n named known g = edit_marks q e a ws p h n b m s known g
 event_marks q kind b c m s (event.Report other generation message) a up f ws p h n named known g = step (nat_eq other b) g
   where
     step : (t : Bool) → marks_after (if t then report_effect kind message a f c m s else Leaves) (if t then report_count a f c m s else None) p h n ≡ true → q ≡ true
@@ -170,21 +172,21 @@ is_flight None c m s h = cc
 is_flight (Some f) c m s h = refl
 
 -- a BSC is registered after an event if it was before, but where it is taken out, and then none of its keys is marked
-bsc_edit : (e : Edit) (ws : List Warning) (p : Presence) (h : Option Cause) (n : ℕ) (b m s : ℕ) (before : Bool) → marks_after (edit_effect b m s e ws) (edit_count b m s e ws) p h n ≡ true → before ≡ true → unwrap_or (bsc_mark b e) before ≡ true
-bsc_edit (edit.AddBsc other) ws p h n b m s before g is = step (nat_eq other b)
+bsc_edit : (e : Edit) (a : Answer) (ws : List Warning) (p : Presence) (h : Option Cause) (n : ℕ) (b m s : ℕ) (before : Bool) → marks_after (edit_effect b m s e a ws) (edit_count b m s e a ws) p h n ≡ true → before ≡ true → unwrap_or (bsc_mark b e) before ≡ true
+bsc_edit (edit.AddBsc other) a ws p h n b m s before g is = step (nat_eq other b)
   where
     step : (t : Bool) → unwrap_or (if t then Some true else None) before ≡ true
     step true = refl
     step false = is
-bsc_edit (edit.RemoveBsc other) ws p h n b m s before g is = step (nat_eq other b) g
+bsc_edit (edit.RemoveBsc other) a ws p h n b m s before g is = step (nat_eq other b) g
   where
     step : (t : Bool) → marks_after (if t then Sets Absent else Leaves) (if t then Some 0 else None) p h n ≡ true → unwrap_or (if t then Some false else None) before ≡ true
     step true k = cc
     step false k = is
-bsc_edit other ws p h n b m s before g is = is
+bsc_edit other a ws p h n b m s before g is = is
 
 bsc_event : (kind : Kind) (b : ℕ) (c : Cell) (m s : ℕ) (e : Event) (a : Answer) (up : Bool) (f : Option InFlight) (ws : List Warning) (p : Presence) (h : Option Cause) (n : ℕ) (before : Bool) → marks_after (effect kind b c m s e a up f ws) (count_mark b c m s e a f ws) p h n ≡ true → before ≡ true → unwrap_or (by_edit (bsc_mark b) e) before ≡ true
-bsc_event kind b c m s (event.Edit e) a up f ws p h n before g is = bsc_edit e ws p h n b m s before g is
+bsc_event kind b c m s (event.Edit e) a up f ws p h n before g is = bsc_edit e a ws p h n b m s before g is
 bsc_event kind b c m s other a up f ws p h n before g is = is
 
 pub no_mark : (base : Base) (b : ℕ) (c : Cell) (m s : ℕ) (q : Bool) → base ≡ empty_base → marks (base.presence b c m s) (base.hold b c m s) (base.count b c m s) ≡ true → q ≡ true

@@ -1,9 +1,9 @@
 -- A line of a past isn't blank just where a version of its warning is on air, or may be, or is held back, or was
 -- broadcast.
-use Rattle.std.proofs.Common.{◌≡◌, arith, ℕ, ◌+◌, ◌<◌, Bool, true, false, ◌||◌, nat_eq, List, [], ◌∷◌, Option, Some, None, map, cond, refl, sym, ◌∙◌, ap, eqb-true, eq-eqb, ltb}
+use Rattle.std.proofs.Common.{◌≡◌, arith, ℕ, ◌<◌, Bool, true, false, ◌||◌, not, nat_eq, List, [], ◌∷◌, Option, Some, None, map, cond, refl, sym, ◌∙◌, ap, eqb-true, eq-eqb, ltb}
 use Rattle.std.specs.Prelude.{find}
 use Rattle.std.specs.List.{list_any, list_all, range_with_len}
-use Rattle.std.proofs.lemmas.Bool.{and_parts, or_parts, or_from}
+use Rattle.std.proofs.lemmas.Bool.{and_parts, or_parts, or_from, not-true}
 use Rattle.std.proofs.lemmas.Bool.Decides.{nat_tests}
 use Rattle.std.proofs.lemmas.Grind.{common_steps}
 use Rattle.std.proofs.lemmas.List.{get_or-replicate}
@@ -22,7 +22,7 @@ use Rattle.mirror.specs.declared.presence.Presence.TheVariants.{Absent}
 use Rattle.serials.specs.Serials.{update_of}
 use Rattle.warning_book.specs.Book as book
 use Rattle.warning_book.specs.Book.{has_number, number_lt, warning_of}
-use Rattle.warning_book.specs.Sound.{IsCounted, are_counted, counts_updates}
+use Rattle.warning_book.specs.Sound.{IsSound, has_one_code, has_serials}
 use Rattle.warning_book.specs.declared.kind.Kind.TheVariants as kind
 use Rattle.warning_book.specs.declared.version.Version.{Version}
 use Rattle.warning_book.specs.declared.warning.Warning.{Warning}
@@ -36,12 +36,13 @@ use Rattle.centre_events.specs.Places.{place}
 use Rattle.centre_events.specs.Presence.{presence, hold}
 use Rattle.centre_past.specs.Reaching.{Told, TellsLines}
 use Rattle.centre_events.specs.Settings.{Settings}
-use Rattle.centre_events.specs.Stepping.{at_update}
+use Rattle.centre_events.specs.Stepping.{at_update, same_update, updates_once}
 use Rattle.centre_events.specs.Warnings.{warnings_of, book_of}
 use Rattle.centre_past.proofs.MarkLemmas.{marks, no_presence, no_hold, no_count}
 use Rattle.centre_events.proofs.PastLemmas.{any_image}
-use Rattle.centre_past.proofs.StepLemmas.{line_at_update}
-use Rattle.centre_past.proofs.WarningLemmas.{legal_counted}
+use Rattle.centre_past.proofs.StepLemmas.{line_at_update, none_later}
+use Rattle.centre_past.proofs.VersionLemmas.{sound_updates}
+use Rattle.centre_past.proofs.WarningLemmas.{legal_sound}
 
 -- Where nothing is marked, everything is blank.
 
@@ -106,25 +107,14 @@ state_marked past b c m s e = ap (λ (k : KeyState). marks k.presence k.hold k.c
 small : (s : ℕ) → update_of s < 16
 small s = omega arith
 
--- the versions count from u on: one with a lesser update number is none of them
-none_before : (vs : List Version) (u t : ℕ) → are_counted u vs ≡ true → t < u → version_at vs t ≡ None
-none_before [] u t counted less = refl
-none_before (v ∷ vs) u t counted less =
-    let parts = and_parts (nat_eq (update_of v.serial) u) (are_counted (u + 1) vs) counted in
-    let other : nat_eq (update_of v.serial) t ≡ false = apart (update_of v.serial) u t parts.0 less in
-    rw other (none_before vs (u + 1) t parts.1 (omega (arith, less)))
-  where
-    apart : (k i j : ℕ) → nat_eq k i ≡ true → j < i → nat_eq k j ≡ false
-    apart k i j e h = grind (arith, nat_tests, common_steps)
-
 -- where each version that is found is blank, no version is marked
-none_marked : (past : Past) (b : ℕ) (c : Cell) (m : ℕ) (vs : List Version) (u : ℕ) → are_counted u vs ≡ true → ((t : ℕ) → t < 16 → version_state past b c m (version_at vs t) ≡ blank) → list_any (λ (v : Version). is_marked past b c m v.serial) vs ≡ false
-none_marked past b c m [] u counted blanks = refl
-none_marked past b c m (v ∷ vs) u counted blanks =
-    or_from (is_marked past b c m v.serial) (list_any (λ (x : Version). is_marked past b c m x.serial) vs) here (none_marked past b c m vs (u + 1) parts.1 later)
+none_marked : (past : Past) (b : ℕ) (c : Cell) (m : ℕ) (vs : List Version) → updates_once vs ≡ true → ((t : ℕ) → t < 16 → version_state past b c m (version_at vs t) ≡ blank) → list_any (λ (v : Version). is_marked past b c m v.serial) vs ≡ false
+none_marked past b c m [] once blanks = refl
+none_marked past b c m (v ∷ vs) once blanks =
+    or_from (is_marked past b c m v.serial) (list_any (λ (x : Version). is_marked past b c m x.serial) vs) here (none_marked past b c m vs parts.1 later)
   where
-    parts : (nat_eq (update_of v.serial) u ≡ true) × (are_counted (u + 1) vs ≡ true)
-    parts = and_parts (nat_eq (update_of v.serial) u) (are_counted (u + 1) vs) counted
+    parts : (not (list_any (same_update v) vs) ≡ true) × (updates_once vs ≡ true)
+    parts = and_parts (not (list_any (same_update v) vs)) (updates_once vs) once
 
     here : is_marked past b c m v.serial ≡ false
     here =
@@ -135,14 +125,12 @@ none_marked past b c m (v ∷ vs) u counted blanks =
     later t less = step (nat_eq (update_of v.serial) t) refl (blanks t less)
       where
         step : (x : Bool) → nat_eq (update_of v.serial) t ≡ x → version_state past b c m (cond x (Some v) (version_at vs t)) ≡ blank → version_state past b c m (version_at vs t) ≡ blank
-        step true e g =
-            let same : t ≡ u = sym (eqb-true (update_of v.serial) t e) ∙ eqb-true (update_of v.serial) u parts.0 in
-            ap (version_state past b c m) (none_before vs (u + 1) t parts.1 (omega (arith, same)))
+        step true e g = ap (version_state past b c m) (none_later v vs t (not-true (list_any (same_update v) vs) parts.0) e)
         step false e g = g
 
-line_marked : (past : Past) (b : ℕ) (c : Cell) (w : Warning) → counts_updates w ≡ true → line_of past b c w ≡ blank_line → has_mark past b c w ≡ false
-line_marked past b c w counted e =
-    any_image (is_marked past b c w.message_id) (λ (v : Version). v.serial) w.versions ∙ none_marked past b c w.message_id w.versions 0 counted blanks
+line_marked : (past : Past) (b : ℕ) (c : Cell) (w : Warning) → updates_once w.versions ≡ true → line_of past b c w ≡ blank_line → has_mark past b c w ≡ false
+line_marked past b c w once e =
+    any_image (is_marked past b c w.message_id) (λ (v : Version). v.serial) w.versions ∙ none_marked past b c w.message_id w.versions once blanks
   where
     blanks : (t : ℕ) → t < 16 → version_state past b c w.message_id (version_at w.versions t) ≡ blank
     blanks t less = sym (line_at_update past b c w t less) ∙ ap (λ l. at_update l t) e ∙ get_or-replicate 16 t blank blank less
@@ -159,20 +147,23 @@ none_of w n (v ∷ ws) h e =
     apart i k j h e = grind (arith, nat_tests, common_steps)
 
 -- where each line of the cell is blank, no version of a warning is marked
-lines_marked : (past : Past) (b : ℕ) (c : Cell) (ws : List Warning) → is_ascending number_lt ws ≡ true → list_all counts_updates ws ≡ true → ((n : ℕ) → (facts_of past b c (find (has_number n) ws)).line ≡ blank_line) → list_any (has_mark past b c) ws ≡ false
-lines_marked past b c [] ascending counted blanks = refl
-lines_marked past b c (w ∷ ws) ascending counted blanks =
-    or_from (has_mark past b c w) (list_any (has_mark past b c) ws) here (lines_marked past b c ws order.1 counts.1 later)
+lines_marked : (past : Past) (b : ℕ) (c : Cell) (ws : List Warning) → is_ascending number_lt ws ≡ true → list_all has_serials ws ≡ true → list_all has_one_code ws ≡ true → ((n : ℕ) → (facts_of past b c (find (has_number n) ws)).line ≡ blank_line) → list_any (has_mark past b c) ws ≡ false
+lines_marked past b c [] ascending serials coded blanks = refl
+lines_marked past b c (w ∷ ws) ascending serials coded blanks =
+    or_from (has_mark past b c w) (list_any (has_mark past b c) ws) here (lines_marked past b c ws order.1 alone.1 codes.1 later)
   where
     order : (list_all (number_lt w) ws ≡ true) × (is_ascending number_lt ws ≡ true)
     order = and_parts (list_all (number_lt w) ws) (is_ascending number_lt ws) ascending
 
-    counts : (counts_updates w ≡ true) × (list_all counts_updates ws ≡ true)
-    counts = and_parts (counts_updates w) (list_all counts_updates ws) counted
+    alone : (has_serials w ≡ true) × (list_all has_serials ws ≡ true)
+    alone = and_parts (has_serials w) (list_all has_serials ws) serials
+
+    codes : (has_one_code w ≡ true) × (list_all has_one_code ws ≡ true)
+    codes = and_parts (has_one_code w) (list_all has_one_code ws) coded
 
     here : has_mark past b c w ≡ false
     here =
-        line_marked past b c w counts.0
+        line_marked past b c w (sound_updates w alone.0 codes.0)
         (sym (ap (λ t. (facts_of past b c (cond t (Some w) (find (has_number w.number) ws))).line) (eq-eqb w.number w.number refl)) ∙ blanks w.number)
 
     later : (n : ℕ) → (facts_of past b c (find (has_number n) ws)).line ≡ blank_line
@@ -187,8 +178,8 @@ lines_marked past b c (w ∷ ws) ascending counted blanks =
 has_line_same : (settings : Settings) (past : Past) (r : State) (st : book.State) (t : Table) → Told settings past r st t → TellsLines t → (b : ℕ) (c : Cell) → has_line t b c ≡ list_any (has_mark past b c) (warnings_of past)
 has_line_same settings past r st t told tells b c = step (has_line t b c) refl (list_any (has_mark past b c) (warnings_of past)) refl
   where
-    sound : IsCounted (book_of past)
-    sound = legal_counted settings past told.legal
+    sound : IsSound (book_of past)
+    sound = legal_sound settings past told.legal
 
     line_is : (n : ℕ) → line_at t b c n ≡ (facts_of past b c (warning_of (book_of past) n)).line
     line_is n = told.lines (record { bsc = b; cell = c; warning = n })
@@ -201,7 +192,7 @@ has_line_same settings past r st t told tells b c = step (has_line t b c) refl (
         let no : true ≡ false = sym ((blank_decides (line_at t b c found.0)).1 empty) ∙ found.1 in
         absurd cc
     step false e true f =
-        let no : true ≡ false = sym f ∙ lines_marked past b c (warnings_of past) sound.sound.ordered sound.counted (λ n. sym (line_is n) ∙ tells.none b c e n) in
+        let no : true ≡ false = sym f ∙ lines_marked past b c (warnings_of past) sound.ordered sound.serials sound.codes (λ n. sym (line_is n) ∙ tells.none b c e n) in
         absurd cc
     step false e false f = refl
 

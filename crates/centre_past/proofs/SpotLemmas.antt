@@ -1,10 +1,11 @@
 -- Lists of cells at BSCs in which each stands once.
-use Rattle.std.proofs.Common.{◌≡◌, ℕ, Bool, true, false, ◌&&◌, ◌||◌, not, nat_eq, List, [], ◌∷◌, ◌++◌, Option, Some, None, map, length, refl, sym, ◌∙◌, ap, subst, arith, eqb-true, eq-eqb}
+use Rattle.std.proofs.Common.{◌≡◌, ℕ, zero, suc, ◌+◌, ◌<◌, get_or, ltb, take, Bool, true, false, ◌&&◌, ◌||◌, not, nat_eq, List, [], ◌∷◌, ◌++◌, Option, Some, None, map, length, refl, sym, ◌∙◌, ap, subst, arith, eqb-true, eq-eqb}
 use Rattle.std.specs.Prelude.{if◌then◌else◌}
 use Rattle.std.specs.Cmp.{unsigned_Decides}
-use Rattle.std.specs.List.{filter, list_any, flat_map}
+use Rattle.std.specs.List.{filter, list_all, list_any, flat_map}
 use Rattle.std.specs.Option.{is_some}
 use Rattle.std.proofs.lemmas.Bool.{and_parts, and_from, or_from, or_right, not-true, not_from_false}
+use Rattle.std.proofs.lemmas.List.{take_more}
 use Rattle.std.proofs.lemmas.List.Folds.{list_any-append}
 use Rattle.cell_register.specs.Laws.{cells_in_has, cells_in_ascend}
 use Rattle.cell_register.specs.Register.{State, place_in, is_place, cells_in}
@@ -27,14 +28,14 @@ use Rattle.centre_events.specs.Links.{bscs, added_bsc}
 use Rattle.centre_events.specs.Past.{Past}
 use Rattle.centre_events.specs.Places.{place, cells, added_cell}
 use Rattle.centre_past.specs.Reach.{spot, at_bsc, placed_where, known_at}
-use Rattle.centre_past.specs.Reaching.{AreSpots, AreThose, is_placed, is_known_at}
+use Rattle.centre_past.specs.Reaching.{AreSpots, AreThose, is_placed, is_known_among, is_known_at}
 use Rattle.centre_events.specs.Settings.{Settings}
 use Rattle.centre_past.proofs.AnyLemmas.{or_none, and_none, any_same, any_pulled, any_flat}
 use Rattle.centre_past.proofs.CountLemmas.{same_count, named_once, both_or_it}
 use Rattle.centre_past.proofs.KnownLemmas.{legal_unfolded, known_place}
 use Rattle.centre_past.proofs.MarkLemmas as mark
 use Rattle.centre_events.proofs.PastLemmas.{any_image}
-use Rattle.centre_past.proofs.RegisterLemmas.{cell_apart}
+use Rattle.centre_past.proofs.RegisterLemmas.{cell_apart, nat_apart}
 
 -- Two lists of the same things.
 
@@ -241,6 +242,59 @@ pub known_found : (t : Table) (r : State) (b : ℕ) (cs : List Cell) (spots : Li
 known_found t r b cs spots ascending known is =
     subst (λ (l : List Spot). AreSpots l (is_known_at t r b)) (sym is)
     (spots_same (map (spot b) cs) (λ s. nat_eq s.bsc b && list_any (cell_eq s.cell) cs) (is_known_at t r b) (λ s. ap (λ x. nat_eq s.bsc b && x) (known s.cell)) (spots_at b cs (ascending_cells cs ascending)))
+
+-- a number of an ascending list is none of those before it
+all_at : (p : ℕ → Bool) (xs : List ℕ) (i d : ℕ) → list_all p xs ≡ true → i < length xs → p (get_or xs i d) ≡ true
+all_at p [] i d h less = absurd (omega (arith, less))
+all_at p (x ∷ xs) zero d h less = (and_parts (p x) (list_all p xs) h).0
+all_at p (x ∷ xs) (suc i) d h less = all_at p xs i d (and_parts (p x) (list_all p xs) h).1 (omega (arith, less))
+
+none_before : (xs : List ℕ) (i d : ℕ) → is_ascending ltb xs ≡ true → i < length xs → list_any (λ x. nat_eq x (get_or xs i d)) (take i xs) ≡ false
+none_before [] zero d h less = refl
+none_before [] (suc i) d h less = absurd (omega (arith, less))
+none_before (x ∷ xs) zero d h less = refl
+none_before (x ∷ xs) (suc i) d h less =
+    let parts = and_parts (list_all (ltb x) xs) (is_ascending ltb xs) h in
+    or_from (nat_eq x (get_or xs i d)) (list_any (λ y. nat_eq y (get_or xs i d)) (take i xs)) (nat_apart x (get_or xs i d) (all_at (ltb x) xs i d parts.0 (omega (arith, less)))) (none_before xs i d parts.1 (omega (arith, less)))
+
+-- the cells known at more BSCs: those known at one more
+pub known_more : (t : Table) (r : State) (bs : List ℕ) (i d : ℕ) (cs : List Cell) (spots new : List Spot) → is_ascending ltb bs ≡ true → i < length bs → AreSpots spots (is_known_among t r (take i bs)) → is_ascending cell_lt cs ≡ true → ((c : Cell) → list_any (cell_eq c) cs ≡ kept.is_known t r (get_or bs i d) c) → new ≡ spots ++ map (spot (get_or bs i d)) cs → AreSpots new (is_known_among t r (take (i + 1) bs))
+known_more t r bs i d cs spots new ascending less before order known is =
+    subst (λ (l : List Spot). AreSpots l (is_known_among t r (take (i + 1) bs))) (sym is)
+    (spots_same (spots ++ map (spot b) cs) (λ s. is_known_among t r (take i bs) s || is_known_at t r b s) (is_known_among t r (take (i + 1) bs)) both
+    (joined_spots spots (map (spot b) cs) (is_known_among t r (take i bs)) (is_known_at t r b) apart before (known_found t r b cs (map (spot b) cs) order known refl)))
+  where
+    b : ℕ
+    b = get_or bs i d
+
+    among : ℕ → Bool
+    among k = list_any (λ x. nat_eq x k) (take i bs)
+
+    apart : (s : Spot) → is_known_among t r (take i bs) s ≡ true → is_known_at t r b s ≡ false
+    apart s h = step (nat_eq s.bsc b) refl
+      where
+        step : (u : Bool) → nat_eq s.bsc b ≡ u → (u && kept.is_known t r b s.cell) ≡ false
+        step true e =
+            absurd (let no : true ≡ false = sym (and_parts (among s.bsc) (kept.is_known t r s.bsc s.cell) h).0 ∙ ap among (eqb-true s.bsc b e) ∙ none_before bs i d ascending less in cc)
+        step false e = refl
+
+    there : (s : Spot) → list_any (λ x. nat_eq x s.bsc) (take (i + 1) bs) ≡ (among s.bsc || nat_eq s.bsc b)
+    there s =
+        ap (list_any (λ x. nat_eq x s.bsc)) (take_more bs i d less)
+        ∙ list_any-append (λ x. nat_eq x s.bsc) (take i bs) (b ∷ [])
+        ∙ ap (λ u. among s.bsc || u) (or_none (nat_eq b s.bsc) ∙ turned nat_eq unsigned_Decides b s.bsc)
+
+    both : (s : Spot) → (is_known_among t r (take i bs) s || is_known_at t r b s) ≡ is_known_among t r (take (i + 1) bs) s
+    both s = step (among s.bsc) (nat_eq s.bsc b) refl ∙ ap (λ u. u && kept.is_known t r s.bsc s.cell) (sym (there s))
+      where
+        step : (u v : Bool) → nat_eq s.bsc b ≡ v → ((u && kept.is_known t r s.bsc s.cell) || (v && kept.is_known t r b s.cell)) ≡ ((u || v) && kept.is_known t r s.bsc s.cell)
+        step u true e = ap (λ k. (u && kept.is_known t r s.bsc s.cell) || kept.is_known t r k s.cell) (sym (eqb-true s.bsc b e)) ∙ either u (kept.is_known t r s.bsc s.cell)
+          where
+            either : (x y : Bool) → ((x && y) || y) ≡ ((x || true) && y)
+            either true true = refl
+            either true false = refl
+            either false y = refl
+        step u false e = or_none (u && kept.is_known t r s.bsc s.cell) ∙ ap (λ x. x && kept.is_known t r s.bsc s.cell) (sym (or_none u))
 
 -- the registered cells that a selector names
 pub cell_named : (r : State) (c : Cell) (spots : List Spot) → spots ≡ at_bsc c (place_in r c) → AreSpots spots (λ s. is_placed r s && cell_eq c s.cell)

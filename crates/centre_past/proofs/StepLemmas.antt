@@ -42,7 +42,7 @@ done_at f n None k = k
 done_at f n (Some v) k = state_after (f v.serial) (n v.serial) k
 
 -- where a version has the update number, no other of these has
-none_later : (v : Version) (vs : List Version) (u : ℕ) → list_any (same_update v) vs ≡ false → nat_eq (update_of v.serial) u ≡ true → version_at vs u ≡ None
+pub none_later : (v : Version) (vs : List Version) (u : ℕ) → list_any (same_update v) vs ≡ false → nat_eq (update_of v.serial) u ≡ true → version_at vs u ≡ None
 none_later v [] u h e = refl
 none_later v (w ∷ vs) u h e = step (λ g. none_later v vs u g e) (nat_eq (update_of w.serial) (update_of v.serial)) refl h
   where

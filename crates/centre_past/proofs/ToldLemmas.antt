@@ -2,11 +2,11 @@
 use Rattle.std.proofs.Common.{◌≡◌, ℕ, ◌+◌, Bool, true, false, not, List, [], ◌∷◌, ◌++◌, Option, Some, None, Ok, nat_eq, filter, cond, unwrap_or, refl, sym, ◌∙◌, ap, eqb-true}
 use Rattle.std.specs.Prelude.{find}
 use Rattle.std.specs.List.{list_any}
-use Rattle.std.specs.Option.{option_map, option_and_then, option_to_list, is_some}
+use Rattle.std.specs.Option.{option_map, option_and_then, is_some}
 use Rattle.std.proofs.lemmas.Bool.{not-false}
 use Rattle.serials.specs.Serials.{next_of}
 use Rattle.common.specs.Order.{is_ascending}
-use Rattle.warning_book.specs.Book.{has_number, number_lt, is_so, areas_of, versions_of, last_serial, current_of, numbers, new_warning, version_after, updated, widened, narrowed, stopped, edited, without}
+use Rattle.warning_book.specs.Book.{has_number, number_lt, is_so, areas_of, versions_of, followed, last_serial, current_of, numbers, new_warning, updated, widened, narrowed, stopped, edited, without}
 use Rattle.warning_book.specs.Laws.{KeepsNumber, number-edited, absent_so, found_so}
 use Rattle.warning_book.specs.Sound.{IsSound}
 use Rattle.warning_book.specs.declared.content.Content.{Content}
@@ -157,12 +157,12 @@ versions_found n (w ∷ ws) = step (versions_found n ws) (has_number n w)
 pub update_told : (past : Past) (m : ℕ) (content : Content) (a : Answer) → update past m content ≡ Ok a → update_answer (option_map next_of (option_and_then current_of (find (has_number m) (warnings_of past)))) ≡ Ok a
 update_told past m content a h = unless_ok (update_checks past m content) (update_answer (option_map next_of (option_and_then current_of (find (has_number m) (warnings_of past))))) a h
 
-one_more : (content : Content) (a : Answer) (vs : List Version) (k : Option ℕ) → update_answer (option_map next_of k) ≡ Ok a → vs ++ option_to_list (option_map (version_after content) k) ≡ continued content a vs
-one_more content a vs None h = cc
+one_more : (content : Content) (a : Answer) (vs : List Version) (k : Option ℕ) → update_answer (option_map next_of k) ≡ Ok a → followed content k vs ≡ continued content a vs
+one_more content a vs None h = let same : answer.Done ≡ a = cc in ap (λ x. continued content x vs) same
 one_more content a vs (Some t) h = let same : answer.Updated (next_of t) ≡ a = cc in ap (λ x. continued content x vs) same
 
 version_more : (content : Content) (a : Answer) (o : Option Warning) → update_answer (option_map next_of (option_and_then current_of o)) ≡ Ok a → versions_in (option_map (updated content) o) ≡ continued content a (versions_in o)
-version_more content a None h = cc
+version_more content a None h = let same : answer.Done ≡ a = cc in ap (λ x. continued content x []) same
 version_more content a (Some w) h = one_more content a w.versions (last_serial w.versions) h
 
 versions_after : (past : Past) (n : ℕ) (e : Edit) (a : Answer) → edit_answered past e ≡ Ok a → IsSound (book_of past) → versions_in (find (has_number n) (book_after e (book_of past)).warnings) ≡ versions_then n e a (versions_in (find (has_number n) (warnings_of past)))

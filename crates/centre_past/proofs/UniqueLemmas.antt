@@ -1,5 +1,5 @@
 -- At most one warning of a legal past's book has a key.
-use Rattle.std.proofs.Common.{◌≡◌, ℕ, ◌+◌, ◌≤◌, Bool, true, false, ◌&&◌, ◌||◌, not, nat_eq, nat_le, List, [], ◌∷◌, Option, Some, None, Ok, refl, sym, ◌∙◌, ap, map, eqb-true, eq-eqb, arith}
+use Rattle.std.proofs.Common.{◌≡◌, ℕ, ◌+◌, ◌≤◌, Bool, true, false, ◌&&◌, ◌||◌, not, nat_eq, List, [], ◌∷◌, Option, Some, None, Ok, refl, sym, ◌∙◌, ap, map, eqb-true, eq-eqb, arith}
 use Rattle.std.specs.List.{list_any, list_all}
 use Rattle.std.proofs.lemmas.Bool.{and_parts, and_from, or_parts, not-true}
 use Rattle.std.specs.Option.{option_map}
@@ -9,9 +9,9 @@ use Rattle.warning_book.specs.Sound.{shares_code, has_one_code, key_of, is_same_
 use Rattle.warning_book.specs.declared.version.Version.{Version}
 use Rattle.warning_book.specs.declared.warning.Warning.{Warning}
 use Rattle.common.specs.Sums.{one, count_of}
-use Rattle.centre_events.specs.Past.{Past, entry_count}
+use Rattle.centre_events.specs.Past.{Past}
 use Rattle.centre_events.specs.Settings.{Settings}
-use Rattle.centre_events.specs.Verdict.{verdict, answered}
+use Rattle.centre_events.specs.Verdict.{verdict, answered, is_full}
 use Rattle.centre_events.specs.Warnings.{has_key, is_version}
 use Rattle.centre_events.specs.declared.answer.Answer.{Answer}
 use Rattle.centre_events.specs.declared.event.Event.{Event}
@@ -21,7 +21,7 @@ use Rattle.centre_past.proofs.CheckLemmas.{unless_ok}
 
 -- what is accepted was not refused because the journal is full
 pub verdict_answered : (settings : Settings) (past : Past) (e : Event) (a : Answer) → verdict settings past e ≡ Ok a → answered settings.network past e ≡ Ok a
-verdict_answered settings past e a h = unless_ok ((nat_le settings.limit (entry_count past), refusal.JournalFull) ∷ []) (answered settings.network past e) a h
+verdict_answered settings past e a h = unless_ok ((is_full settings past, refusal.JournalFull) ∷ []) (answered settings.network past e) a h
 
 -- the count of what no element passes
 pub count_none : {X : Type 0} (p : X → Bool) (xs : List X) → list_any p xs ≡ false → count_of p xs ≡ 0

@@ -1,14 +1,15 @@
 -- The update number of a version tells it from the other versions of its warning, so that a line has of each version what
 -- the past says of it.
-use Rattle.std.proofs.Common.{◌≡◌, arith, ℕ, ◌+◌, ◌<◌, Bool, true, false, ◌||◌, not, nat_eq, List, [], ◌∷◌, Some, cond, refl, sym, ◌∙◌, ap, eqb-true, eq-eqb}
-use Rattle.std.specs.Prelude.{find}
-use Rattle.std.specs.List.{list_any, list_all}
-use Rattle.std.proofs.lemmas.Bool.{and_parts, and_from, or_from, not-true, not_from_false, false_from_ne_true}
+use Rattle.std.proofs.Common.{◌≡◌, arith, ℕ, ◌<◌, Bool, true, false, ◌||◌, not, nat_eq, List, [], ◌∷◌, Some, cond, refl, sym, ◌∙◌, ap, eqb-true, eq-eqb}
+use Rattle.std.specs.List.{list_any}
+use Rattle.std.proofs.lemmas.Bool.{and_parts, and_from, not-true}
+use Rattle.common.specs.Order.{each_once}
 use Rattle.common.specs.declared.cell.Cell.{Cell}
 use Rattle.mirror.specs.Line.{state_of}
 use Rattle.serials.specs.Serials.{update_of}
 use Rattle.warning_book.specs.Book.{has_number, warning_of}
-use Rattle.warning_book.specs.Sound.{are_counted, counts_updates}
+use Rattle.warning_book.specs.Sound.{IsSound, has_one_code, has_serials}
+use Rattle.warning_book.specs.VersionLaws.{updates_apart}
 use Rattle.warning_book.specs.declared.version.Version.{Version}
 use Rattle.warning_book.specs.declared.warning.Warning.{Warning}
 use Rattle.centre_events.specs.Facts.{key_state, version_at, version_state, line_of}
@@ -18,46 +19,26 @@ use Rattle.centre_events.specs.Settings.{Settings}
 use Rattle.centre_events.specs.Stepping.{same_update, updates_once}
 use Rattle.centre_events.specs.Warnings.{book_of, warnings_of, is_version}
 use Rattle.centre_past.proofs.AnyLemmas.{any_implies, contrary}
+use Rattle.centre_past.proofs.LineLemmas.{found_all}
 use Rattle.centre_past.proofs.StepLemmas.{line_at_update}
-use Rattle.centre_past.proofs.WarningLemmas.{legal_counted}
+use Rattle.centre_past.proofs.WarningLemmas.{legal_sound}
 
 -- No two versions of a warning have one update number.
 
--- of versions that count on from a number, none has a lesser one
-none_below : (vs : List Version) (k u : ℕ) → are_counted k vs ≡ true → u < k → list_any (λ w. nat_eq (update_of w.serial) u) vs ≡ false
-none_below [] k u counted less = refl
-none_below (v ∷ vs) k u counted less =
-    let parts = and_parts (nat_eq (update_of v.serial) k) (are_counted (k + 1) vs) counted in
-    or_from (nat_eq (update_of v.serial) u) (list_any (λ w. nat_eq (update_of w.serial) u) vs) (false_from_ne_true (nat_eq (update_of v.serial) u) (apart parts.0)) (none_below vs (k + 1) u parts.1 (omega (arith, less)))
-  where
-    apart : nat_eq (update_of v.serial) k ≡ true → nat_eq (update_of v.serial) u ≡ true → ⊥
-    apart e f =
-        let here : update_of v.serial ≡ k = eqb-true (update_of v.serial) k e in
-        let there : update_of v.serial ≡ u = eqb-true (update_of v.serial) u f in
-        omega (arith, less)
+once_as : (vs : List Version) → each_once same_update vs ≡ true → updates_once vs ≡ true
+once_as [] h = refl
+once_as (v ∷ vs) h =
+    let parts = and_parts (not (list_any (same_update v) vs)) (each_once same_update vs) h in
+    and_from (not (list_any (same_update v) vs)) (updates_once vs) parts.0 (once_as vs parts.1)
 
-counted_once : (vs : List Version) (k : ℕ) → are_counted k vs ≡ true → updates_once vs ≡ true
-counted_once [] k counted = refl
-counted_once (v ∷ vs) k counted =
-    let parts = and_parts (nat_eq (update_of v.serial) k) (are_counted (k + 1) vs) counted in
-    let here : update_of v.serial ≡ k = eqb-true (update_of v.serial) k parts.0 in
-    and_from (not (list_any (same_update v) vs)) (updates_once vs) (not_from_false (list_any (same_update v) vs) (none_below vs (k + 1) (update_of v.serial) parts.1 (omega (arith, here)))) (counted_once vs (k + 1) parts.1)
-
--- what is so of all is so of one that is found
-found_passes : {X : Type 0} (p q : X → Bool) (xs : List X) (x : X) → list_all p xs ≡ true → find q xs ≡ Some x → p x ≡ true
-found_passes p q [] x h e = cc
-found_passes {X} p q (y ∷ ys) x h e = step (found_passes p q ys x parts.1) (q y) e
-  where
-    parts : (p y ≡ true) × (list_all p ys ≡ true)
-    parts = and_parts (p y) (list_all p ys) h
-
-    step : (find q ys ≡ Some x → p x ≡ true) → (t : Bool) → cond t (Some y) (find q ys) ≡ Some x → p x ≡ true
-    step rest true g = let same : y ≡ x = cc in ap p (sym same) ∙ parts.0
-    step rest false g = rest g
+-- since their serial numbers stand once, and have one scope and code
+pub sound_updates : (w : Warning) → has_serials w ≡ true → has_one_code w ≡ true → updates_once w.versions ≡ true
+sound_updates w serials codes = once_as w.versions (updates_apart w.versions codes serials)
 
 pub legal_updates : (settings : Settings) (past : Past) → Legal settings past → (n : ℕ) (w : Warning) → warning_of (book_of past) n ≡ Some w → updates_once w.versions ≡ true
 legal_updates settings past legal n w found =
-    counted_once w.versions 0 (found_passes counts_updates (has_number n) (warnings_of past) w (legal_counted settings past legal).counted found)
+    let sound : IsSound (book_of past) = legal_sound settings past legal in
+    sound_updates w (found_all (has_number n) has_serials (warnings_of past) w found sound.serials) (found_all (has_number n) has_one_code (warnings_of past) w found sound.codes)
 
 -- A line has of each version what the past says of it.
 

@@ -2,19 +2,18 @@
 use Rattle.std.proofs.Common.{◌≡◌, ◌⊎◌, arith, ℕ, ◌+◌, ◌<◌, Bool, true, false, ◌&&◌, ◌||◌, not, List, [], ◌∷◌, Option, Some, None, Ok, Err, nat_eq, length, cond, refl, sym, ◌∙◌, ap, eqb-true, subst}
 use Rattle.std.specs.Prelude.{IfSome, IsOk, find}
 use Rattle.std.specs.List.{list_any, list_all}
-use Rattle.std.specs.Option.{option_map, option_and_then}
+use Rattle.std.specs.Option.{option_map}
 use Rattle.std.proofs.lemmas.Bool.{leb-false, and_parts, and_from, or_parts, not-false}
 use Rattle.std.proofs.lemmas.List.Folds.{list_all-append}
-use Rattle.serials.specs.Serials.{next_of}
 use Rattle.common.specs.CheckLaws.{NoneHolds, none_holds}
 use Rattle.common.specs.Checks.{first_refusal}
 use Rattle.common.specs.Order.{is_ascending}
-use Rattle.warning_book.specs.Book.{State, empty, has_number, number_lt, warning_is, warning_of, is_so, versions_if, versions_with, content_of, new_serial, next_serial, current_of, is_exhausted, ends_updates}
+use Rattle.warning_book.specs.Book.{State, empty, has_number, number_lt, warning_is, warning_of, is_so, versions_if, versions_with, content_of, new_serial, next_serial}
 use Rattle.warning_book.specs.Checks as book
 use Rattle.warning_book.specs.Content.{have_pages, has_period}
 use Rattle.warning_book.specs.Laws.{found_so}
 use Rattle.warning_book.specs.SerialLaws.{serial_is_there}
-use Rattle.warning_book.specs.Sound.{IsSound, IsCounted, is_good, has_contents}
+use Rattle.warning_book.specs.Sound.{IsSound, is_good, has_contents}
 use Rattle.warning_book.specs.SoundLaws.{sound_after_issue, sound_after_update, sound_after_widen, sound_after_narrow, sound_after_stop, sound_after_forget}
 use Rattle.warning_book.specs.declared.content.Content.{Content}
 use Rattle.warning_book.specs.declared.notice.Notice.{Notice}
@@ -28,9 +27,9 @@ use Rattle.centre_events.specs.Kept.{Gives}
 use Rattle.centre_past.specs.Legal.{Legal}
 use Rattle.centre_events.specs.Past.{Past, From, After}
 use Rattle.centre_events.specs.Refusals.{of_book}
-use Rattle.centre_events.specs.Reported.{is_reported, is_in_flight}
+use Rattle.centre_events.specs.Reported.{is_reported, is_in_flight, is_key_reported, is_key_in_flight}
 use Rattle.centre_events.specs.Settings.{Settings}
-use Rattle.centre_events.specs.Verdict.{unless, answered, edit_answered, by_book, issue, issue_answer, update, update_answer, widen, narrow, stop, forget, idle_checks}
+use Rattle.centre_events.specs.Verdict.{unless, answered, edit_answered, by_book, issue, issue_answer, reuses, update, update_checks, update_answer, widen, narrow, stop, forget, idle_checks}
 use Rattle.centre_events.specs.Warnings.{book_of, book_then}
 use Rattle.coverage_plan.specs.Edited.{book_after, with_issue}
 use Rattle.centre_events.specs.declared.answer.Answer.{Answer}
@@ -41,7 +40,7 @@ use Rattle.centre_events.specs.declared.event.Event.{Event}
 use Rattle.centre_events.specs.declared.event.Event.TheVariants as event
 use Rattle.centre_events.specs.declared.refusal.Refusal.{Refusal}
 use Rattle.centre_events.specs.declared.refusal.Refusal.TheVariants as refusal
-use Rattle.centre_past.proofs.CheckLemmas.{taken, refused, refused_first, passed, given, ok_after, none_held, past_check, past_given, past_ok, checked_after}
+use Rattle.centre_past.proofs.CheckLemmas.{taken, refused, refused_first, passed, given, ok_after, ok_is, none_around, none_held, past_check, past_given, past_ok, checked_after}
 use Rattle.centre_past.proofs.FoundLemmas.{found_number}
 use Rattle.centre_past.proofs.UniqueLemmas.{verdict_answered}
 
@@ -79,23 +78,17 @@ found_not n f (v ∷ ws) w h g = step (found_not n f ws w) (has_number n v) h g
     step rest true e k = let same : v ≡ w = cc in ap f (sym same) ∙ (or_parts (f v) (is_so n f ws) k).0
     step rest false e k = rest e k
 
--- what is updated has a next serial number
-pub update_ok : (past : Past) (n : ℕ) (content : Content) → first_refusal (book.update_checks (book_of past) n content) ≡ None → IsOk (update_answer (next_serial (book_of past) n))
-update_ok past n content h = step (warning_of (book_of past) n) refl
+-- whatever serial number it has, an Update that nothing refuses is accepted
+pub update_ok : (past : Past) (n : ℕ) → IsOk (update_answer (next_serial (book_of past) n))
+update_ok past n = step (next_serial (book_of past) n)
   where
-    none : NoneHolds (book.update_checks (book_of past) n content)
-    none = none_holds (book.update_checks (book_of past) n content) h
+    step : (o : Option ℕ) → IsOk (update_answer o)
+    step None = refl
+    step (Some s) = refl
 
-    there : list_any (has_number n) (book_of past).warnings ≡ true
-    there = not-false (list_any (has_number n) (book_of past).warnings) none.0
-
-    next : (o : Option ℕ) → ends_updates o ≡ false → IsOk (update_answer (option_map next_of o))
-    next None e = absurd (let no : true ≡ false = e in cc)
-    next (Some s) e = refl
-
-    step : (o : Option Warning) → warning_of (book_of past) n ≡ o → IsOk (update_answer (option_map next_of (option_and_then current_of o)))
-    step None e = absurd (let no : true ≡ false = sym there ∙ none_found n (book_of past).warnings e in cc)
-    step (Some w) e = next (current_of w) (found_not n is_exhausted (book_of past).warnings w e none.1.1.1.1.1.0)
+-- that what is on air or in flight of the next serial number refuses an Update
+abbrev reuse_checks : Past → ℕ → List (Bool × Refusal)
+reuse_checks past n = (reuses past n (is_key_reported past), refusal.StillReported) ∷ (reuses past n (is_key_in_flight past), refusal.StillInFlight) ∷ []
 
 -- an area that is not there
 pub issue_elsewhere : (past : Past) (notice : Notice) (areas : List (List ℕ)) → list_any (λ a. not (is_area past a)) areas ≡ true → issue past notice areas ≡ Err refusal.NoSuchArea
@@ -112,12 +105,47 @@ issue_refused past st notice areas e is there h =
     past_given (list_any (λ a. not (is_area past a)) areas) refusal.NoSuchArea (unless (by_book (book.issue_checks (book_of past) notice areas)) (issue_answer ((book_of past).issued + 1) (new_serial (book_of past) notice))) (Err (of_book e)) there
     (given of_book book_refusal_is.Memory refl (book.issue_checks (book_of past) notice areas) (issue_answer ((book_of past).issued + 1) (new_serial (book_of past) notice)) e (issue_ok past notice areas) (rw (← is) h))
 
-pub update_taken : (past : Past) (st : State) (n : ℕ) (content : Content) (s : ℕ) → st ≡ book_of past → first_refusal (book.update_checks st n content) ≡ None → next_serial st n ≡ Some s → update past n content ≡ Ok (answer.Updated s)
-update_taken past st n content s is checked serial =
-    taken of_book (book.update_checks (book_of past) n content) (update_answer (next_serial (book_of past) n)) (rw (← is) checked) ∙ (rw (← is, serial) refl)
+-- An Update that is accepted, as it is made.
 
-pub update_refused : (past : Past) (st : State) (n : ℕ) (content : Content) (e : book_refusal.Refusal) → st ≡ book_of past → (first_refusal (book.update_checks st n content) ≡ Some e) ⊎ ((e ≡ book_refusal_is.Memory) × (first_refusal (book.update_checks st n content) ≡ None)) → Gives (update past n content) (Err (of_book e))
-update_refused past st n content e is h = given of_book book_refusal_is.Memory refl (book.update_checks (book_of past) n content) (update_answer (next_serial (book_of past) n)) e (update_ok past n content) (rw (← is) h)
+pub update_taken : (past : Past) (st : State) (n : ℕ) (content : Content) (s : ℕ) → st ≡ book_of past → IsOk (update past n content) → next_serial st n ≡ Some s → update past n content ≡ Ok (answer.Updated s)
+update_taken past st n content s is free serial =
+    ok_is (update_checks past n content) (update_answer (next_serial (book_of past) n)) free ∙ (rw (← is, serial) refl)
+
+-- the book refuses none but for want of memory
+pub update_refused : (past : Past) (st : State) (n : ℕ) (content : Content) (e : book_refusal.Refusal) → st ≡ book_of past → IsOk (update past n content) → (first_refusal (book.update_checks st n content) ≡ Some e) ⊎ ((e ≡ book_refusal_is.Memory) × (first_refusal (book.update_checks st n content) ≡ None)) → Gives (update past n content) (Err (of_book e))
+update_refused past st n content e is free (inl h) =
+    absurd (let no : first_refusal (book.update_checks st n content) ≡ None = ap (λ (b : State). first_refusal (book.update_checks b n content)) is ∙ none_around of_book (book.there_checks (book_of past) n) (reuse_checks past n) (book.content_checks (book_of past) n content) (update_answer (next_serial (book_of past) n)) free in cc)
+update_refused past st n content e is free (inr h) = inl (ap of_book h.0, free)
+
+-- Why an Update is refused, and where it isn't.
+
+pub update_first : (past : Past) (st : State) (n : ℕ) (content : Content) (e : book_refusal.Refusal) → st ≡ book_of past → first_refusal (book.there_checks st n) ≡ Some e → update past n content ≡ Err (of_book e)
+update_first past st n content e is h =
+    refused_first of_book (book.there_checks (book_of past) n) (reuse_checks past n ++ by_book (book.content_checks (book_of past) n content)) (update_answer (next_serial (book_of past) n)) e (rw (← is) h)
+
+-- what the book does not refuse is refused by what is on air or in flight of its next serial number, or else by its content
+pub update_there : (past : Past) (st : State) (n : ℕ) (content : Content) → st ≡ book_of past → first_refusal (book.there_checks st n) ≡ None → update past n content ≡ unless (reuse_checks past n) (unless (by_book (book.content_checks (book_of past) n content)) (update_answer (next_serial (book_of past) n)))
+update_there past st n content is h =
+    passed of_book (book.there_checks (book_of past) n) (reuse_checks past n ++ by_book (book.content_checks (book_of past) n content)) (update_answer (next_serial (book_of past) n)) (rw (← is) h)
+
+pub update_reported : (past : Past) (st : State) (n : ℕ) (content : Content) → st ≡ book_of past → first_refusal (book.there_checks st n) ≡ None → reuses past n (is_key_reported past) ≡ true → update past n content ≡ Err refusal.StillReported
+update_reported past st n content is h reported = update_there past st n content is h ∙ (rw reported refl)
+
+pub update_flying : (past : Past) (st : State) (n : ℕ) (content : Content) → st ≡ book_of past → first_refusal (book.there_checks st n) ≡ None → reuses past n (is_key_reported past) ≡ false → reuses past n (is_key_in_flight past) ≡ true → update past n content ≡ Err refusal.StillInFlight
+update_flying past st n content is h reported flying = update_there past st n content is h ∙ (rw (reported, flying) refl)
+
+-- where neither is
+update_idle : (past : Past) (st : State) (n : ℕ) (content : Content) → st ≡ book_of past → first_refusal (book.there_checks st n) ≡ None → reuses past n (is_key_reported past) ≡ false → reuses past n (is_key_in_flight past) ≡ false → update past n content ≡ unless (by_book (book.content_checks (book_of past) n content)) (update_answer (next_serial (book_of past) n))
+update_idle past st n content is h reported flying = update_there past st n content is h ∙ (rw (reported, flying) refl)
+
+pub update_content : (past : Past) (st : State) (n : ℕ) (content : Content) (e : book_refusal.Refusal) → st ≡ book_of past → first_refusal (book.there_checks st n) ≡ None → reuses past n (is_key_reported past) ≡ false → reuses past n (is_key_in_flight past) ≡ false → first_refusal (book.content_checks st n content) ≡ Some e → update past n content ≡ Err (of_book e)
+update_content past st n content e is h reported flying bad =
+    update_idle past st n content is h reported flying ∙ refused of_book (book.content_checks (book_of past) n content) (update_answer (next_serial (book_of past) n)) e (rw (← is) bad)
+
+pub update_free : (past : Past) (st : State) (n : ℕ) (content : Content) → st ≡ book_of past → first_refusal (book.there_checks st n) ≡ None → reuses past n (is_key_reported past) ≡ false → reuses past n (is_key_in_flight past) ≡ false → first_refusal (book.content_checks st n content) ≡ None → IsOk (update past n content)
+update_free past st n content is h reported flying good =
+    subst IsOk (sym (update_idle past st n content is h reported flying))
+    (ok_after of_book (book.content_checks (book_of past) n content) (update_answer (next_serial (book_of past) n)) (rw (← is) good) (update_ok past n))
 
 pub widen_taken : (past : Past) (st : State) (n : ℕ) (a : List ℕ) → st ≡ book_of past → is_area past a ≡ true → first_refusal (book.widen_checks st n a) ≡ None → widen past n a ≡ Ok answer.Done
 widen_taken past st n a is there checked =
@@ -154,13 +182,6 @@ pub issue_first : (past : Past) (st : State) (notice : Notice) (areas : List (Li
 issue_first past st notice areas e is there h =
     past_check (list_any (λ a. not (is_area past a)) areas) refusal.NoSuchArea (unless (by_book (book.issue_checks (book_of past) notice areas)) (issue_answer ((book_of past).issued + 1) (new_serial (book_of past) notice))) (Err (of_book e)) there
     (refused of_book (book.issue_checks (book_of past) notice areas) (issue_answer ((book_of past).issued + 1) (new_serial (book_of past) notice)) e (rw (← is) h))
-
-pub update_free : (past : Past) (st : State) (n : ℕ) (content : Content) → st ≡ book_of past → first_refusal (book.update_checks st n content) ≡ None → IsOk (update past n content)
-update_free past st n content is checked =
-    ok_after of_book (book.update_checks (book_of past) n content) (update_answer (next_serial (book_of past) n)) (rw (← is) checked) (update_ok past n content (rw (← is) checked))
-
-pub update_first : (past : Past) (st : State) (n : ℕ) (content : Content) (e : book_refusal.Refusal) → st ≡ book_of past → first_refusal (book.update_checks st n content) ≡ Some e → update past n content ≡ Err (of_book e)
-update_first past st n content e is h = refused of_book (book.update_checks (book_of past) n content) (update_answer (next_serial (book_of past) n)) e (rw (← is) h)
 
 pub widen_free : (past : Past) (st : State) (n : ℕ) (a : List ℕ) → st ≡ book_of past → is_area past a ≡ true → first_refusal (book.widen_checks st n a) ≡ None → IsOk (widen past n a)
 widen_free past st n a is there checked = subst IsOk (sym (widen_taken past st n a is there checked)) refl
@@ -218,21 +239,23 @@ found_itself past st n w is h =
 
 -- What holds of the book of a legal past.
 
-issued_sound : (past : Past) (notice : Notice) (areas : List (List ℕ)) (a : Answer) → issue past notice areas ≡ Ok a → IsCounted (book_of past) → IsCounted (with_issue notice areas (new_serial (book_of past) notice) (book_of past))
+issued_sound : (past : Past) (notice : Notice) (areas : List (List ℕ)) (a : Answer) → issue past notice areas ≡ Ok a → IsSound (book_of past) → IsSound (with_issue notice areas (new_serial (book_of past) notice) (book_of past))
 issued_sound past notice areas a h sound = step (new_serial (book_of past) notice) refl
   where
     after : unless (by_book (book.issue_checks (book_of past) notice areas)) (issue_answer ((book_of past).issued + 1) (new_serial (book_of past) notice)) ≡ Ok a
     after = checked_after (list_any (λ a. not (is_area past a)) areas) refusal.NoSuchArea (unless (by_book (book.issue_checks (book_of past) notice areas)) (issue_answer ((book_of past).issued + 1) (new_serial (book_of past) notice))) a h
 
-    step : (o : Option ℕ) → new_serial (book_of past) notice ≡ o → IsCounted (with_issue notice areas o (book_of past))
+    step : (o : Option ℕ) → new_serial (book_of past) notice ≡ o → IsSound (with_issue notice areas o (book_of past))
     step None e = sound
     step (Some s) e =
         sound_after_issue (book_of past) notice areas s
         (none_held of_book (book.issue_checks (book_of past) notice areas) (issue_answer ((book_of past).issued + 1) (new_serial (book_of past) notice)) a after) e sound
 
-sound_after : (past : Past) (e : Edit) (a : Answer) → edit_answered past e ≡ Ok a → IsCounted (book_of past) → IsCounted (book_after e (book_of past))
+sound_after : (past : Past) (e : Edit) (a : Answer) → edit_answered past e ≡ Ok a → IsSound (book_of past) → IsSound (book_after e (book_of past))
 sound_after past (edit.Issue notice areas) a h sound = issued_sound past notice areas a h sound
-sound_after past (edit.Update n content) a h sound = sound_after_update (book_of past) n content (none_held of_book (book.update_checks (book_of past) n content) (update_answer (next_serial (book_of past) n)) a h) sound
+sound_after past (edit.Update n content) a h sound =
+    sound_after_update (book_of past) n content
+    (none_around of_book (book.there_checks (book_of past) n) (reuse_checks past n) (book.content_checks (book_of past) n content) (update_answer (next_serial (book_of past) n)) (subst IsOk (sym h) refl)) sound
 sound_after past (edit.Widen n x) a h sound =
     sound_after_widen (book_of past) n x (none_held of_book (book.widen_checks (book_of past) n x) (Ok answer.Done) a (checked_after (not (is_area past x)) refusal.NoSuchArea (unless (by_book (book.widen_checks (book_of past) n x)) (Ok answer.Done)) a h)) sound
 sound_after past (edit.Narrow n x) a h sound =
@@ -241,24 +264,18 @@ sound_after past (edit.Stop n) a h sound = sound_after_stop (book_of past) n sou
 sound_after past (edit.Forget n) a h sound = sound_after_forget (book_of past) n sound
 sound_after past other a h sound = sound
 
-sound_then : (network : List ℕ) (past : Past) (e : Event) (a : Answer) → answered network past e ≡ Ok a → IsCounted (book_of past) → IsCounted (book_then e (book_of past))
+sound_then : (network : List ℕ) (past : Past) (e : Event) (a : Answer) → answered network past e ≡ Ok a → IsSound (book_of past) → IsSound (book_then e (book_of past))
 sound_then network past (event.Edit e) a h sound = sound_after past e a h sound
 sound_then network past other a h sound = sound
 
 -- the empty book is sound
-counted_empty : IsCounted empty
-counted_empty = record {
-  sound = record { ordered = refl; given = refl; few = omega arith; areas = refl; contents = refl; versions = refl; serials = refl; codes = refl; own_codes = refl; kinds = refl };
-  counted = refl;
-}
+sound_empty : IsSound empty
+sound_empty = record { ordered = refl; given = refl; few = omega arith; areas = refl; contents = refl; versions = refl; serials = refl; codes = refl; own_codes = refl; kinds = refl }
 
-pub legal_counted : (settings : Settings) (past : Past) → Legal settings past → IsCounted (book_of past)
-legal_counted settings (From base) legal = subst (λ (k : Base). IsCounted k.book) (sym legal) counted_empty
-legal_counted settings (After e before) legal = sound_then settings.network before e.event e.answer (verdict_answered settings before e.event e.answer legal.0) (legal_counted settings before legal.1)
-
--- the book of a legal past is sound
+-- so is that of a legal past
 pub legal_sound : (settings : Settings) (past : Past) → Legal settings past → IsSound (book_of past)
-legal_sound settings past legal = (legal_counted settings past legal).sound
+legal_sound settings (From base) legal = subst (λ (k : Base). IsSound k.book) (sym legal) sound_empty
+legal_sound settings (After e before) legal = sound_then settings.network before e.event e.answer (verdict_answered settings before e.event e.answer legal.0) (legal_sound settings before legal.1)
 
 -- The pages of what the book holds.
 

@@ -1,6 +1,6 @@
 -- The warnings in an operator's words: what the entries of a past say of the warning of a number. None of the book's
 -- own words for its edits stands here, so that the book is measured by another account of the same entries.
-use Rattle.std.specs.Prelude.{◌≡◌, ◌<◌, ℕ, ◌+◌, Bool, true, false, ◌&&◌, not, List, [], ◌∷◌, ◌++◌, Option, Some, None, nat_eq, bytes_eq, if◌then◌else◌}
+use Rattle.std.specs.Prelude.{◌≡◌, ◌<◌, ℕ, ◌+◌, ◌%◌, Bool, true, false, ◌&&◌, not, List, [], ◌∷◌, ◌++◌, Option, Some, None, nat_eq, bytes_eq, if◌then◌else◌}
 use Rattle.std.specs.List.{list_any, filter}
 use Rattle.serials.specs.Serials.{scope_number, scope_part, code_of, update_of}
 use Rattle.warning_book.specs.Book.{is_active, areas_of, versions_of, message_id, numbers}
@@ -70,9 +70,14 @@ abbrev pub begun : ℕ → Content → Answer → List Version → List Version
 begun n content (Issued m s) were = if nat_eq m n then version s content ∷ [] else were
 begun n content other were = were
 
--- each further one has the serial number that its Update was answered, and stands last
+-- the versions but that of the serial number, in their order
+abbrev pub without_version : ℕ → List Version → List Version
+without_version s versions = filter (λ v. not (nat_eq v.serial s)) versions
+
+-- each further one has the serial number that its Update was answered, and stands last; one that had this serial number
+-- before is no version any more
 abbrev pub continued : Content → Answer → List Version → List Version
-continued content (Updated s) were = were ++ version s content ∷ []
+continued content (Updated s) were = without_version s were ++ version s content ∷ []
 continued content other were = were
 
 -- the versions of a warning begin with its Issue; an Update adds one; after its Forget there are none
@@ -146,11 +151,11 @@ abbrev pub IsAnsweredIssue : Past → Notice → Answer → Type 0
 IsAnsweredIssue before notice (Issued n s) = IsNew before notice n s
 IsAnsweredIssue before notice other = ⊥
 
--- a further version has the scope and the code of the one before it, and the next update number
+-- a further version has the scope and the code of the one before it, and the next update number, 0 after 15
 pub record IsNext (t : ℕ) (s : ℕ) : Type 0 where
   pub scope : scope_part s ≡ scope_part t
   pub code : code_of s ≡ code_of t
-  pub update : update_of s ≡ update_of t + 1
+  pub update : update_of s ≡ (update_of t + 1) % 16
 
 -- that of the last of the versions, and there is one
 abbrev pub FollowsLast : List Version → ℕ → Type 0

@@ -3,6 +3,7 @@ pub mod Table
 pub mod Numbers
 pub mod Fits
 pub mod Legal
+pub mod Alike
 pub mod LinkStates
 pub mod Flights
 pub mod Headline

@@ -16,6 +16,7 @@ use Rattle.centre_events.specs.Links.{bscs}
 use Rattle.centre_events.specs.Past.{Past}
 use Rattle.centre_events.specs.Places.{place, cells}
 use Rattle.centre_events.specs.Reported.{names_warning}
+use Rattle.centre_events.specs.Verdict.{reuses}
 use Rattle.centre_events.specs.Warnings.{book_of, warnings_of}
 use Rattle.centre_events.specs.declared.answer.Answer.{Answer}
 use Rattle.centre_events.specs.declared.answer.Answer.TheVariants.{Done, Listed, Replied}
@@ -73,9 +74,22 @@ abbrev pub flight_reach : Past → ℕ → Option InFlight → Reach
 flight_reach past b None = no_reach
 flight_reach past b (Some f) = record { spots = map (spot b) (cells_of f); warnings = numbers_where past (names_warning f) }
 
+-- an Update of the warning takes a serial number that a version of it has
+abbrev pub wraps : Past → ℕ → Bool
+wraps past n = reuses past n (λ m s. true)
+
+-- what is known anywhere
+abbrev pub known_anywhere : Past → List Spot
+known_anywhere past = flat_map (known_at past) (bscs past)
+
+-- the registered cells that the areas of the warning of that number cover
+abbrev pub covered_by : Past → ℕ → List Spot
+covered_by past n = placed_where past (is_covered past (areas_of n (warnings_of past)))
+
 -- a cell that is registered, moved or taken out: the BSC where it was, and that where it comes to be; a selector: the
 -- registered cells that it names, and the warnings that name its area; an edit of a warning: the registered cells that
--- its areas cover; a Forget: what is known anywhere; a BSC that is taken out: what is known there
+-- its areas cover; a Forget, and an Update that takes a serial number again: what is known anywhere; a BSC that is taken
+-- out: what is known there
 abbrev pub edit_reach : Past → Edit → Reach
 edit_reach past (edit.RemoveBsc b) = record { spots = known_at past b; warnings = all_numbers past }
 edit_reach past (edit.AddCell c b) = record { spots = spot b c ∷ []; warnings = all_numbers past }
@@ -84,11 +98,11 @@ edit_reach past (edit.RemoveCell c) = record { spots = at_bsc c (place past c); 
 edit_reach past (edit.Put a s) = record { spots = placed_where past (is_named_by s); warnings = numbers_where past (names a) }
 edit_reach past (edit.Cut a s) = record { spots = placed_where past (is_named_by s); warnings = numbers_where past (names a) }
 edit_reach past (edit.Issue notice areas) = record { spots = placed_where past (is_covered past areas); warnings = ((book_of past).issued + 1) ∷ [] }
-edit_reach past (edit.Update n content) = record { spots = placed_where past (is_covered past (areas_of n (warnings_of past))); warnings = n ∷ [] }
+edit_reach past (edit.Update n content) = record { spots = if wraps past n then known_anywhere past else covered_by past n; warnings = n ∷ [] }
 edit_reach past (edit.Widen n a) = record { spots = placed_where past (covers past a); warnings = n ∷ [] }
 edit_reach past (edit.Narrow n a) = record { spots = placed_where past (covers past a); warnings = n ∷ [] }
-edit_reach past (edit.Stop n) = record { spots = placed_where past (is_covered past (areas_of n (warnings_of past))); warnings = n ∷ [] }
-edit_reach past (edit.Forget n) = record { spots = flat_map (known_at past) (bscs past); warnings = n ∷ [] }
+edit_reach past (edit.Stop n) = record { spots = covered_by past n; warnings = n ∷ [] }
+edit_reach past (edit.Forget n) = record { spots = known_anywhere past; warnings = n ∷ [] }
 edit_reach past other = no_reach
 
 -- a matched reply bears on what was in flight, an indication on the cells that it lists

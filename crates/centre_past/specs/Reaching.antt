@@ -51,6 +51,10 @@ is_placed r s = is_place (place_in r s.cell) s.bsc
 abbrev pub is_known_at : Table → register.State → ℕ → Spot → Bool
 is_known_at t r b s = nat_eq s.bsc b && is_known t r b s.cell
 
+-- its BSC is one of those, and the cell is known there
+abbrev pub is_known_among : Table → register.State → List ℕ → Spot → Bool
+is_known_among t r bs s = list_any (λ b. nat_eq b s.bsc) bs && is_known t r s.bsc s.cell
+
 -- the register, the book and the lines tell what a legal past says
 pub record Told (settings : Settings) (past : Past) (r : register.State) (st : book.State) (t : Table) : Type 0 where
   pub legal : Legal settings past

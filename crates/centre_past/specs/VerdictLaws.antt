@@ -1,14 +1,14 @@
 -- A verdict is never that the centre is stale, nor that it is out of memory, nor that a desk isn't the one it was.
-use Rattle.std.proofs.Common.{◌≡◌, ℕ, ◌+◌, Bool, true, false, ◌&&◌, Option, Some, None, Result, Ok, Err, List, [], ◌∷◌, refl, sym, ap, ◌∙◌, nat_le, if◌then◌else◌}
+use Rattle.std.proofs.Common.{◌≡◌, ℕ, ◌+◌, Bool, true, false, ◌&&◌, Option, Some, None, Result, Ok, Err, List, [], ◌∷◌, refl, sym, ap, ◌∙◌, if◌then◌else◌}
 use Rattle.cbsp_messages.specs.declared.message.Message.{Message}
 use Rattle.cbsp_messages.specs.declared.message.Message.TheVariants as message
 use Rattle.common.specs.declared.cell.Cell.{Cell}
 use Rattle.centre_events.specs.Asking.{asked_cells, query_of, query_of_kind, version_query, warning_query}
 use Rattle.centre_events.specs.InFlight.{in_flight}
-use Rattle.centre_events.specs.Past.{Past, entry_count, position}
+use Rattle.centre_events.specs.Past.{Past, position}
 use Rattle.centre_events.specs.Pending.{pending}
 use Rattle.centre_events.specs.Settings.{Settings}
-use Rattle.centre_events.specs.Verdict.{add_area_checks, add_bsc_checks, add_cell_checks, answered, ask_checks, cut_checks, drop_area_checks, edit_answered, forget_checks, issue_answer, issue_checks, link_checks, link_up_checks, move_cell_checks, narrow_checks, put_checks, remove_bsc_checks, remove_cell_checks, reply_answer, report_answer, report_checks, retry_checks, send_answer, send_checks, stop_checks, unless, update_answer, update_checks, verdict, widen_checks}
+use Rattle.centre_events.specs.Verdict.{add_area_checks, add_bsc_checks, add_cell_checks, answered, ask_checks, cut_checks, drop_area_checks, edit_answered, forget_checks, is_full, issue_answer, issue_checks, link_checks, link_up_checks, move_cell_checks, narrow_checks, put_checks, remove_bsc_checks, remove_cell_checks, reply_answer, report_answer, report_checks, retry_checks, send_answer, send_checks, stop_checks, unless, update_answer, update_checks, verdict, widen_checks}
 use Rattle.centre_events.specs.Warnings.{book_of}
 use Rattle.centre_events.specs.declared.answer.Answer.{Answer}
 use Rattle.centre_events.specs.declared.answer.Answer.TheVariants as answer
@@ -122,7 +122,7 @@ event_given network past (event.Report b generation m) =
 
 pub verdict_given : (settings : Settings) (past : Past) (e : Event) → is_given (verdict settings past e) ≡ true
 verdict_given settings past e =
-    elim (nat_le settings.limit (entry_count past)) as (λ b. is_given (if b then Err refusal.JournalFull else answered settings.network past e) ≡ true) [
+    elim (is_full settings past) as (λ b. is_given (if b then Err refusal.JournalFull else answered settings.network past e) ≡ true) [
       | true ↦ refl
       | false ↦ event_given settings.network past e
     ]

@@ -153,7 +153,6 @@ fn refusal_name(refusal: Refusal) -> &'static str
         Refusal::BadPages => "BadPages",
         Refusal::BadPeriod => "BadPeriod",
         Refusal::WrongKind => "WrongKind",
-        Refusal::UpdatesExhausted => "UpdatesExhausted",
         Refusal::StaleLink { .. } => "StaleLink",
         Refusal::LinkNotUp => "LinkNotUp",
         Refusal::InFlight => "InFlight",

@@ -13,7 +13,7 @@ use Rattle.common.specs.Order.{is_ascending}
 use Rattle.common.specs.OrderLaws.{find_passes}
 use Rattle.common.specs.declared.cell.Cell.{Cell}
 use Rattle.serials.specs.Serials.{next_of}
-use Rattle.warning_book.specs.Book.{has_number, number_lt, names, is_so, is_there, is_active, warning_is, warning_of, areas_of, current_of, last_serial, new_warning, version_after, updated, widened, narrowed, stopped, changed_if, edited, without, after_issue}
+use Rattle.warning_book.specs.Book.{has_number, number_lt, names, is_so, is_there, is_active, warning_is, warning_of, areas_of, current_of, last_serial, new_warning, version_after, followed, but_serial, with_next, updated, widened, narrowed, stopped, changed_if, edited, without, after_issue}
 use Rattle.warning_book.specs.Book as book
 use Rattle.warning_book.specs.Laws.{KeepsNumber, found_so, found_edited, found_without, found_issued}
 use Rattle.warning_book.specs.Sound.{was_issued, has_versions}
@@ -138,13 +138,13 @@ stopped_warning st n ordered versions there active =
 
 -- a warning has a new version
 
-next_differs : (content : Content) (vs : List Version) → is_some (last_serial vs) ≡ true → differ (last_serial vs) (last_serial (vs ++ option_to_list (option_map (version_after content) (last_serial vs)))) ≡ true
+next_differs : (content : Content) (vs : List Version) → is_some (last_serial vs) ≡ true → differ (last_serial vs) (last_serial (with_next content vs)) ≡ true
 next_differs content vs h = at (last_serial vs) h
   where
-    at : (o : Option ℕ) → is_some o ≡ true → differ o (last_serial (vs ++ option_to_list (option_map (version_after content) o))) ≡ true
+    at : (o : Option ℕ) → is_some o ≡ true → differ o (last_serial (followed content o vs)) ≡ true
     at None g = cc
     at (Some s) g =
-        ap (λ (o : Option Version). differ (Some s) (option_map (λ (v : Version). v.serial) o)) (last_more None vs (version_after content s)) ∙ ap not (ne_eqb s (next_of s) (λ same. omega arith))
+        ap (λ (o : Option Version). differ (Some s) (option_map (λ (v : Version). v.serial) o)) (last_more None (but_serial (next_of s) vs) (version_after content s)) ∙ ap not (ne_eqb s (next_of s) (λ same. omega arith))
 
 pub updated_warning : (st : State) (n : ℕ) (content : Content) → is_ascending number_lt st.book.warnings ≡ true → list_all has_versions st.book.warnings ≡ true → is_there st.book n ≡ true → is_active st.book n ≡ true → (c : Cell) (m : ℕ) → is_of_areas st.register st.areas (areas_of n st.book.warnings) n c m ≡ is_changed st (with_book st (record st.book { warnings = edited n (updated content) st.book.warnings })) c m
 updated_warning st n content ordered versions there active =

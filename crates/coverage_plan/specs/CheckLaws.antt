@@ -10,7 +10,7 @@ use Rattle.coverage_plan.specs.declared.edit.Edit.{Edit}
 use Rattle.coverage_plan.specs.declared.refusal.Limit as limits
 use Rattle.coverage_plan.specs.declared.refusal.Limit.TheVariants as limit
 use Rattle.coverage_plan.specs.declared.refusal.Refusal.{Refusal}
-use Rattle.coverage_plan.specs.declared.refusal.Refusal.TheVariants.{NoSuchBsc, BscExists, BscHasCells, CellExists, NoSuchCell, SameBsc, BadName, AreaExists, NoSuchArea, AreaInUse, SelectorThere, SelectorNotThere, NoSuchWarning, NotActive, StillActive, NoAreas, AreaThere, AreaNotThere, LastArea, BadPages, BadPeriod, WrongKind, UpdatesExhausted, Limit, Memory}
+use Rattle.coverage_plan.specs.declared.refusal.Refusal.TheVariants.{NoSuchBsc, BscExists, BscHasCells, CellExists, NoSuchCell, SameBsc, BadName, AreaExists, NoSuchArea, AreaInUse, SelectorThere, SelectorNotThere, NoSuchWarning, NotActive, StillActive, NoAreas, AreaThere, AreaNotThere, LastArea, BadPages, BadPeriod, WrongKind, Limit, Memory}
 
 -- the place of a limit among the limits
 abbrev pub limit_rank : limits.Limit → ℕ
@@ -46,7 +46,6 @@ rank LastArea = 24
 rank BadPages = 25
 rank BadPeriod = 26
 rank WrongKind = 27
-rank UpdatesExhausted = 28
 rank (Limit which) = 35 + limit_rank which
 rank Memory = 42
 

@@ -10,7 +10,7 @@ use Rattle.warning_book.specs.declared.refusal.Refusal as book
 use Rattle.warning_book.specs.declared.refusal.Refusal.TheVariants as book_refusal
 use Rattle.coverage_plan.specs.declared.refusal.Limit.TheVariants as limit
 use Rattle.coverage_plan.specs.declared.refusal.Refusal.{Refusal}
-use Rattle.coverage_plan.specs.declared.refusal.Refusal.TheVariants.{NoSuchBsc, BscExists, BscHasCells, CellExists, NoSuchCell, SameBsc, BadName, AreaExists, NoSuchArea, SelectorThere, SelectorNotThere, NoSuchWarning, NotActive, StillActive, NoAreas, AreaThere, AreaNotThere, LastArea, BadPages, BadPeriod, WrongKind, UpdatesExhausted, Limit, Memory}
+use Rattle.coverage_plan.specs.declared.refusal.Refusal.TheVariants.{NoSuchBsc, BscExists, BscHasCells, CellExists, NoSuchCell, SameBsc, BadName, AreaExists, NoSuchArea, SelectorThere, SelectorNotThere, NoSuchWarning, NotActive, StillActive, NoAreas, AreaThere, AreaNotThere, LastArea, BadPages, BadPeriod, WrongKind, Limit, Memory}
 
 -- the refusal that one of the register is
 abbrev pub of_register : register.Refusal → Refusal
@@ -47,7 +47,6 @@ of_book book_refusal.LastArea = LastArea
 of_book book_refusal.BadPages = BadPages
 of_book book_refusal.BadPeriod = BadPeriod
 of_book book_refusal.WrongKind = WrongKind
-of_book book_refusal.UpdatesExhausted = UpdatesExhausted
 of_book (book_refusal.Limit book_limit.Warnings) = Limit limit.Warnings
 of_book (book_refusal.Limit book_limit.WarningAreas) = Limit limit.WarningAreas
 of_book (book_refusal.Limit book_limit.Ids) = Limit limit.Ids

@@ -51,7 +51,6 @@ pub enum Refusal {
     BadPages,
     BadPeriod,
     WrongKind,
-    UpdatesExhausted,
     Limit { which: Limit },
     Memory,
 }
@@ -82,7 +81,6 @@ impl Refusal {
             Refusal::BadPages => "a content has 1 to 15 pages of 1 to 82 octets",
             Refusal::BadPeriod => "a repetition period is 1 to 1,024",
             Refusal::WrongKind => "the warning is of the other kind",
-            Refusal::UpdatesExhausted => "the warning had its last update",
             Refusal::Limit { which: Limit::Bscs } => "a limit would be passed: Bscs",
             Refusal::Limit {
                 which: Limit::Cells,
@@ -186,7 +184,6 @@ impl From<warning_book::Refusal> for Refusal {
             warning_book::Refusal::BadPages => Refusal::BadPages,
             warning_book::Refusal::BadPeriod => Refusal::BadPeriod,
             warning_book::Refusal::WrongKind => Refusal::WrongKind,
-            warning_book::Refusal::UpdatesExhausted => Refusal::UpdatesExhausted,
             warning_book::Refusal::Limit {
                 which: warning_book::Limit::Warnings,
             } => Refusal::Limit {

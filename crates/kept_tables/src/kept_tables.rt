@@ -143,6 +143,7 @@ impl KeptTables {
     ghost use Rattle.mirror.specs.Index.{key_before};
     ghost use Rattle.mirror.specs.Known.{is_known, is_named};
     ghost use Rattle.mirror.specs.OnAir.{AreOnAir, line_count, read_count};
+    ghost use Rattle.mirror.specs.Present.{is_present_at};
     ghost use Rattle.mirror.specs.Table.{counted_all, line_at, down_at};
     ghost use Rattle.mirror.specs.declared.line_key.LineKey.{LineKey};
     ghost use Rattle.order_maker.specs.Grouping.{in_order, grouped, first};
@@ -272,6 +273,20 @@ impl KeptTables {
         ensures least { self.old.lines.meter ≤ self.new.lines.meter }
     {
         self.lines.places_of(w)
+    }
+
+    /// Whether the version of that serial number of the warning is on air in some cell at some BSC, or may be. Each line of
+    /// the warning that is read is counted. It takes no memory.
+    pub fn is_present_anywhere(&mut self, w: WarningId, serial: Serial) -> bool
+        ensures some { result ≡ true → (b : ℕ) × ((c : Cell) × (is_present_at self.old.lines b c w serial ≡ true)) }
+        ensures none { result ≡ false → (b : ℕ) (c : Cell) → is_present_at self.old.lines b c w serial ≡ false }
+        ensures same { SameTables self.old self.new }
+        ensures lines { self.new.lines.lines ≡ self.old.lines.lines }
+        ensures downs { self.new.lines.downs ≡ self.old.lines.downs }
+        ensures most { (ks : List LineKey) → ((b : ℕ) (c : Cell) → is_blank (line_at self.old.lines b c w) ≡ false → list_any (λ k. is_key k b c w) ks ≡ true) → self.new.lines.meter ≤ self.old.lines.meter + length ks }
+        ensures least { self.old.lines.meter ≤ self.new.lines.meter }
+    {
+        self.lines.is_present_anywhere(w, serial)
     }
 
     /// Whether the cell is down at the BSC for warnings of the kind (TS 48.049, 8.1.3). It takes no memory.

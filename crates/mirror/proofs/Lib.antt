@@ -13,3 +13,4 @@ mod TableLemmas
 mod OnAirCellLemmas
 mod UntilLemmas
 mod DownLemmas
+mod PresentLemmas

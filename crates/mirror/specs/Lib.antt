@@ -14,3 +14,4 @@ pub mod Lines
 pub mod Index
 pub mod Known
 pub mod OnAir
+pub mod Present

@@ -12,6 +12,7 @@ ghost use Rattle.mirror.specs.Line.{blank_line};
 ghost use Rattle.mirror.specs.Table.{line_at, has_line, down_at, counted, counted_all, is_key};
 ghost use Rattle.mirror.specs.Known.{are_of_cells, is_known, is_named, warnings_at};
 ghost use Rattle.mirror.specs.OnAir.{AreOnAir, line_count, read_count};
+ghost use Rattle.mirror.specs.Present.{is_present_at};
 ghost use Rattle.mirror.specs.declared.line_key.LineKey.{LineKey};
 ghost use Rattle.warning_book.specs.Content.{is_same_kind};
 ghost use Rattle.warning_book.specs.declared.kind.Kind.{Kind};
@@ -25,9 +26,10 @@ use crate::line_key::LineKey;
 use crate::lines::Lines;
 use crate::naming::{are_of_cells, named, own_cell};
 use crate::on_air::first_on_air;
+use crate::presences::is_present_among;
 use crate::reading::line_of;
 use crate::version_at::VersionAt;
-use crate::warning_lines::{keys_of, later};
+use crate::warning_lines::{keys_of, later, slots_of};
 use cbsp_ie::CellId;
 use cell_register::{BscId, Register};
 use common::{Cell, Cells};
@@ -42,8 +44,8 @@ const FEW: usize = 16;
 
 /// A line for each BSC, cell and warning, and whether each cell is down at each BSC for warnings of each kind. Each line
 /// that is read or set is counted; to be told that something is kept of a line is to read it. So the calls that read or set
-/// lines take `&mut self`: `read_line`, `set_line`, `cells_on_air`, `warnings_at`, `held_at` and `places_of`. No other call tells
-/// anything of one line: `known_cells` and `cells_named` tell of a cell whether it is known, by its registration, by a
+/// lines take `&mut self`: `read_line`, `set_line`, `cells_on_air`, `is_present_anywhere`, `warnings_at`, `held_at` and
+/// `places_of`. No other call tells anything of one line: `known_cells` and `cells_named` tell of a cell whether it is known, by its registration, by a
 /// report or by its lines.
 #[derive(Drop)]
 pub struct LineTable {
@@ -254,6 +256,20 @@ impl LineTable {
             &mut self.meter,
         )?;
         Ok(cells)
+    }
+
+    /// Whether the version of that serial number of the warning is on air in some cell at some BSC, or may be. Each line of
+    /// the warning that is read is counted. It takes no memory.
+    pub fn is_present_anywhere(&mut self, w: WarningId, serial: Serial) -> bool
+        ensures some { result ≡ true → (b : ℕ) × ((c : Cell) × (is_present_at self.old b c w serial ≡ true)) }
+        ensures none { result ≡ false → (b : ℕ) (c : Cell) → is_present_at self.old b c w serial ≡ false }
+        ensures lines { self.new.lines ≡ self.old.lines }
+        ensures downs { self.new.downs ≡ self.old.downs }
+        ensures most { (ks : List LineKey) → ((b : ℕ) (c : Cell) → is_blank (line_at self.old b c w) ≡ false → list_any (λ k. is_key k b c w) ks ≡ true) → self.new.meter ≤ self.old.meter + length ks }
+        ensures least { self.old.meter ≤ self.new.meter }
+    {
+        let slots = slots_of(&self.lines, w);
+        is_present_among(slots, &self.lines, serial, &mut self.meter)
     }
 
     /// Whether the cell is down at the BSC for warnings of the kind: the BSC's last indication of their type that named it

@@ -48,6 +48,16 @@ pub(crate) fn later(
     lines.slots().range((first, Bound::Unbounded))
 }
 
+/// The slots of the warning's lines, in the order of their BSCs and cells.
+pub(crate) fn slots_of(lines: &Lines, w: WarningId) -> Range<'_, WarningSlot>
+    ensures of { lines_at result lines.now ≡ filter (λ e. nat_eq w e.0.warning) lines.now }
+    ensures ordered { IsStrictlySortedBy warning_slot_cmp (keys_of lines.now) }
+{
+    lines
+        .slots()
+        .range(WarningSlot::first_of(w)..WarningSlot::end_of(w))
+}
+
 /// The warning's lines, in the order of their BSCs and cells.
 pub(crate) fn keys_of(
     alloc: Global,

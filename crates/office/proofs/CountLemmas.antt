@@ -1,5 +1,5 @@
--- Where no desk is missing, the desks that are handed in have no fewer receipts, all together, than the journal has entries.
-use Rattle.std.proofs.Common.{◌≡◌, ℕ, ◌+◌, ◌<◌, ◌≤◌, ◌==◌, Bool, true, false, ◌||◌, List, [], ◌∷◌, length, refl, sym, ap, arith, All, Any, if◌then◌else◌, true≢false, subst}
+-- Where no desk is missing, the desks that are handed in have no fewer receipts, all together, than there are entries.
+use Rattle.std.proofs.Common.{◌≡◌, ℕ, ◌+◌, ◌<◌, ◌≤◌, ◌==◌, Bool, true, false, ◌||◌, List, [], ◌∷◌, ◌++◌, length, refl, sym, ap, arith, All, Any, if◌then◌else◌, true≢false, subst}
 use Rattle.std.proofs.lemmas.Bool.Decides.{nat_tests}
 use Rattle.std.proofs.lemmas.List.Elements.{All-head, All-tail, All-weaker}
 use Rattle.std.proofs.lemmas.List.Folds.{list_any-from_Any}
@@ -11,6 +11,7 @@ use Rattle.office.specs.Receipts.{receipt_of, receipts_from}
 use Rattle.office.specs.Shuffles.{HasItsEntries, receipt_count}
 use Rattle.centre_events.specs.declared.entry.Entry.{Entry}
 use Rattle.office.specs.declared.receipt.Receipt.{Receipt}
+use Rattle.office.proofs.ShuffleLemmas.{has_count}
 
 -- how many entries the desks have among these, all together
 abbrev counted : List DeskState → ℕ → List Entry → ℕ
@@ -50,20 +51,20 @@ at_least desks n (e ∷ h) there =
     omega (arith, here, rest)
 
 -- desks that have their entries have as many receipts
-as_many : (desks : List DeskState) (h : List Entry) → All (HasItsEntries h) desks → counted desks 0 h ≡ receipt_count desks
-as_many [] h have = refl
-as_many (d ∷ ds) h have =
-    let here : length (receipts_from d.number 0 h) ≡ length d.receipts = ap length (All-head (HasItsEntries h) d ds have) in
-    let rest : counted ds 0 h ≡ receipt_count ds = as_many ds h (All-tail (HasItsEntries h) d ds have) in
+as_many : (folded journal : List Entry) (desks : List DeskState) → All (HasItsEntries folded journal) desks → counted desks 0 (folded ++ journal) ≡ receipt_count desks
+as_many folded journal [] have = refl
+as_many folded journal (d ∷ ds) have =
+    let here : length d.receipts ≡ length (receipts_from d.number 0 (folded ++ journal)) = has_count folded journal d (All-head (HasItsEntries folded journal) d ds have) in
+    let rest : counted ds 0 (folded ++ journal) ≡ receipt_count ds = as_many folded journal ds (All-tail (HasItsEntries folded journal) d ds have) in
     omega (arith, here, rest)
 
 -- with the book's total the desks have exactly as many receipts as there are entries
-pub exactly_counted : (opened total : ℕ) (h : List Entry) (desks : List DeskState) → All (IsByOpened opened) h → All (HasItsEntries h) desks → ((n : ℕ) → 0 < n → n ≤ opened → Any (λ (d : DeskState). d.number ≡ n) desks) → total ≡ length h → receipt_count desks ≤ total → length h ≡ receipt_count desks
-exactly_counted opened total h desks by have every is most =
+pub exactly_counted : (opened total : ℕ) (folded journal : List Entry) (desks : List DeskState) → All (IsByOpened opened) (folded ++ journal) → All (HasItsEntries folded journal) desks → ((n : ℕ) → 0 < n → n ≤ opened → Any (λ (d : DeskState). d.number ≡ n) desks) → total ≡ length (folded ++ journal) → receipt_count desks ≤ total → length (folded ++ journal) ≡ receipt_count desks
+exactly_counted opened total folded journal desks by have every is most =
     let found : (e : Entry) → IsByOpened opened e → is_there desks e ≡ true = λ e from.
     (let some = every e.desk from.0 from.1 in
     let own : some.1.number ≡ e.desk = some.4 in
     list_any-from_Any (λ (d : DeskState). e.desk == d.number) desks (some.0, some.1, some.2, some.3, grind (arith, nat_tests, own))) in
-    let least : length h ≤ counted desks 0 h = at_least desks 0 h (All-weaker (IsByOpened opened) (λ e. is_there desks e ≡ true) found h by) in
-    let same : counted desks 0 h ≡ receipt_count desks = as_many desks h have in
+    let least : length (folded ++ journal) ≤ counted desks 0 (folded ++ journal) = at_least desks 0 (folded ++ journal) (All-weaker (IsByOpened opened) (λ e. is_there desks e ≡ true) found (folded ++ journal) by) in
+    let same : counted desks 0 (folded ++ journal) ≡ receipt_count desks = as_many folded journal desks have in
     omega (arith, least, same, is, most)

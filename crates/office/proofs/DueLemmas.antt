@@ -7,10 +7,10 @@ use Rattle.std.specs.Option.{is_some}
 use Rattle.coverage_plan.specs.declared.edit.Edit.{Edit}
 use Rattle.coverage_plan.specs.declared.edit.Edit.TheVariants as edit
 use Rattle.order_maker.specs.Grouping.{first}
-use Rattle.centre_events.specs.Base.{empty_base}
+use Rattle.centre_events.specs.Folding.{base_of}
 use Rattle.centre_events.specs.InFlight.{asked_flight, in_flight, is_replied, sent_flight}
 use Rattle.centre_events.specs.Links.{is_bsc, is_up, last_link}
-use Rattle.centre_events.specs.Past.{Past, After, since}
+use Rattle.centre_events.specs.Past.{Past, After, past_of, since}
 use Rattle.centre_events.specs.Pending.{pending}
 use Rattle.centre_events.specs.Verdict.{add_bsc_checks, answered, ask_checks, edit_answered, remove_bsc_checks, send_answer, send_checks, verdict}
 use Rattle.centre_events.specs.declared.answer.Answer.{Answer}
@@ -19,7 +19,7 @@ use Rattle.centre_events.specs.declared.entry.Entry.{Entry}
 use Rattle.centre_events.specs.declared.event.Event.{Event}
 use Rattle.centre_events.specs.declared.event.Event.TheVariants as event
 use Rattle.centre_events.specs.declared.in_flight.InFlight.{InFlight}
-use Rattle.centre_past.specs.Legal.{Known, Legal, past}
+use Rattle.centre_past.specs.Legal.{Known, Lawful, past}
 use Rattle.centre_past.proofs.CheckLemmas.{no_check}
 use Rattle.centre_past.proofs.LineLemmas.{entry_of}
 use Rattle.centre_past.proofs.UniqueLemmas.{verdict_answered}
@@ -29,7 +29,7 @@ use Rattle.office.specs.Wishes.{wish_for}
 use Rattle.office.specs.declared.wake.Wake.{Wake}
 use Rattle.office.specs.declared.wake.Wake.TheVariants as wake
 use Rattle.office.specs.declared.wish.Wish.{Wish}
-use Rattle.office.proofs.PendingLemmas.{orders_left}
+use Rattle.office.proofs.LawfulLemmas.{orders_left_lawful}
 
 -- what is due, by what is told: whether the centre is stale, the link is up, the journal is full, something is in flight, an order is
 -- pending, and which query is wished for
@@ -140,12 +140,12 @@ abbrev due_then : Known → Entry → List Wish → ℕ → ℕ → Past → Opt
 due_then centre e wishes b generation now =
     due_by centre.stale (is_bsc now b && (nat_eq (last_link now b) generation && is_up now b)) (is_full (with_entry centre e)) (is_some (in_flight now b)) (is_some (first (pending now b))) (query_of (wish_for wishes b))
 
-pub idle_left : (centre : Known) (e : Entry) → Legal centre.settings (past centre) → verdict centre.settings (past centre) e.event ≡ Ok e.answer → LeavesIdle centre e
-idle_left centre e legal v wishes b generation other none room =
-    let now : past (with_entry centre e) ≡ After e (past centre) = ap (since empty_base) (reverse-append centre.journal (e ∷ [])) in
+pub idle_left : (centre : Known) (e : Entry) → Lawful centre.settings (past centre) → verdict centre.settings (past centre) e.event ≡ Ok e.answer → LeavesIdle centre e
+idle_left centre e lawful v wishes b generation other none room =
+    let now : past (with_entry centre e) ≡ After e (past centre) = ap (since (base_of (past_of centre.folded))) (reverse-append centre.journal (e ∷ [])) in
     let after : due_then centre e wishes b generation (After e (past centre)) ≡ None =
     idle_stays centre.stale (is_linked centre b generation) (is_bsc (After e (past centre)) b && (nat_eq (last_link (After e (past centre)) b) generation && is_up (After e (past centre)) b)) (is_full centre) (is_full (with_entry centre e)) (is_some (in_flight (past centre) b)) (is_some (in_flight (After e (past centre)) b)) (is_some (first (pending (past centre) b))) (is_some (first (pending (After e (past centre)) b))) (query_of (wish_for wishes b))
     none (linked_stays centre e v b generation other) room
     (stays_flying centre.settings.network (past centre) e.desk e.event e.answer (verdict_answered centre.settings (past centre) e.event e.answer v) b other)
-    (λ linked has. orders_left centre.settings (past centre) e legal v b other (and_parts (is_bsc (After e (past centre)) b) (nat_eq (last_link (After e (past centre)) b) generation && is_up (After e (past centre)) b) linked).0 has) in
+    (λ linked has. orders_left_lawful centre.settings (past centre) e lawful v b other (and_parts (is_bsc (After e (past centre)) b) (nat_eq (last_link (After e (past centre)) b) generation && is_up (After e (past centre)) b) linked).0 has) in
     ap (due_then centre e wishes b generation) now ∙ after

@@ -1,12 +1,12 @@
--- What always holds under the lock, after a desk was opened and after an event was entered.
-use Rattle.std.proofs.Common.{◌≡◌, ℕ, ◌+◌, ◌-◌, ◌<◌, ◌≤◌, ◌==◌, ◌&&◌, Bool, true, false, List, [], ◌∷◌, ◌++◌, length, get_or, set, sym, ap, ◌∙◌, subst, arith, All, nat_lt, nat_le, ◌≢◌, ap₂, subst₂, ⊎_elim}
+-- What always holds under the lock, after a desk was opened, after an event was entered and after entries were folded.
+use Rattle.std.proofs.Common.{◌≡◌, ℕ, ◌+◌, ◌-◌, ◌<◌, ◌≤◌, ◌==◌, ◌&&◌, Bool, true, false, List, [], ◌∷◌, ◌++◌, length, get_or, set, sym, ap, ◌∙◌, subst, arith, All, nat_lt, nat_le, ◌≢◌, ap₂, subst₂, ⊎_elim, append-nil}
 use Rattle.std.proofs.lemmas.Bool.{and_parts, cases_eq}
 use Rattle.std.proofs.lemmas.Bool.Decides.{nat_tests}
-use Rattle.std.proofs.lemmas.List.{length-append, length-set, get_or_append_left, get_or-append-add, get_or-set_same, get_or-set_other}
+use Rattle.std.proofs.lemmas.List.{append_assoc, length-append, length-set, get_or_append_left, get_or-append-add, get_or-set_same, get_or-set_other}
 use Rattle.std.proofs.lemmas.List.Elements.{All-push, All-weaker}
 use Rattle.centre_events.specs.declared.entry.Entry.{Entry}
 use Rattle.office.specs.Desks.{DeskState}
-use Rattle.office.specs.Helds.{IsByOpened, IsHeld, RowsFit, fits, no_row, row_of}
+use Rattle.office.specs.Helds.{AreRowsOf, IsByOpened, IsHeld, RowsFit, fits, no_row, row_of}
 use Rattle.office.specs.Receipts.{receipt_of, receipts_of, last_place}
 use Rattle.office.specs.declared.receipt.Receipt.{Receipt}
 use Rattle.office.specs.declared.row.Row.{Row}
@@ -56,13 +56,16 @@ rows_opened rows journal r is fit by k lt =
     (ap (λ i. get_or (rows ++ r ∷ []) i no_row) (omega arith) ∙ get_or-append-add rows (r ∷ []) 0 no_row ∙ is ∙ sym (ap (λ (rs : List Receipt). let row : Row = record { entries = length rs; last = last_place rs } in row) none)) in
     ⊎_elim at (λ ne. get_or_append_left rows (r ∷ []) no_row k (omega (arith, lt, long, ne)) ∙ fit k (omega (arith, lt, long, ne))) (cases_eq k (length rows))
 
-pub held_opened : (rows rows' : List Row) (journal : List Entry) (total parts parts' amount amount' : ℕ) (r : Row) → IsHeld rows journal total parts amount → length rows < 1024 → r ≡ no_row → rows' ≡ rows ++ r ∷ [] → parts' + 1 ≡ parts → amount' + 0 ≡ amount → IsHeld rows' journal total parts' amount'
-held_opened rows rows' journal total parts parts' amount amount' r is few none more parts_left amount_left =
+pub held_opened : (rows rows' base_rows : List Row) (folded journal : List Entry) (total parts parts' amount amount' : ℕ) (r : Row) → IsHeld rows base_rows folded journal total parts amount → length rows < 1024 → r ≡ no_row → rows' ≡ rows ++ r ∷ [] → parts' + 1 ≡ parts → amount' + 0 ≡ amount → IsHeld rows' base_rows folded journal total parts' amount'
+held_opened rows rows' base_rows folded journal total parts parts' amount amount' r is few none more parts_left amount_left =
     let long : length rows' ≡ length rows + 1 = ap length more ∙ length-append rows (r ∷ []) in
     let weaker : (e : Entry) → IsByOpened (length rows) e → IsByOpened (length rows') e = λ e by. (by.0, omega (arith, by.1, long)) in
     record {
-      rows_fit = subst (λ rs. RowsFit rs journal) (sym more) (rows_opened rows journal r none is.rows_fit is.opened);
-      opened = All-weaker (IsByOpened (length rows)) (IsByOpened (length rows')) weaker journal is.opened;
+      all_rows = record {
+        fit = subst (λ rs. RowsFit rs (folded ++ journal)) (sym more) (rows_opened rows (folded ++ journal) r none is.all_rows.fit is.all_rows.opened);
+        opened = All-weaker (IsByOpened (length rows)) (IsByOpened (length rows')) weaker (folded ++ journal) is.all_rows.opened;
+      };
+      folded_rows = is.folded_rows;
       counted = is.counted;
       parts_left = omega (arith, is.parts_left, parts_left, long);
       few = omega (arith, few, long);
@@ -89,18 +92,35 @@ rows_entered rows journal d e r known fit own entries last k lt =
     get_or-set_other rows (d.number - 1) k r no_row ne ∙ fit k (omega (arith, lt, long)) ∙ sym (ap (λ (rs : List Receipt). let row : Row = record { entries = length rs; last = last_place rs } in row) (receipts_other (k + 1) journal e other))) in
     ⊎_elim at beside (cases_eq k (d.number - 1))
 
-pub held_entered : (rows rows' : List Row) (journal journal' : List Entry) (total total' parts amount : ℕ) (d : DeskState) (e : Entry) (r : Row) → IsHeld rows journal total parts amount → fits (length rows) journal d ≡ true → e.desk ≡ d.number → r.entries ≡ length d.receipts + 1 → r.last ≡ length journal + 1 → rows' ≡ set rows (d.number - 1) r → journal' ≡ journal ++ e ∷ [] → total' ≡ total + 1 → IsHeld rows' journal' total' parts amount
-held_entered rows rows' journal journal' total total' parts amount d e r is fit own entries last rows_are journal_is total_is =
-    let known : IsKnown (length rows) journal d = known_if (length rows) journal d fit in
+pub held_entered : (rows rows' base_rows : List Row) (folded folded' journal journal' : List Entry) (total total' parts amount : ℕ) (d : DeskState) (e : Entry) (r : Row) → IsHeld rows base_rows folded journal total parts amount → fits (length rows) (folded ++ journal) d ≡ true → e.desk ≡ d.number → r.entries ≡ length d.receipts + 1 → r.last ≡ length (folded ++ journal) + 1 → rows' ≡ set rows (d.number - 1) r → folded' ≡ folded → journal' ≡ journal ++ e ∷ [] → total' ≡ total + 1 → IsHeld rows' base_rows folded' journal' total' parts amount
+held_entered rows rows' base_rows folded folded' journal journal' total total' parts amount d e r is fit own entries last rows_are folded_is journal_is total_is =
+    let known : IsKnown (length rows) (folded ++ journal) d = known_if (length rows) (folded ++ journal) d fit in
+    let all_is : folded' ++ journal' ≡ (folded ++ journal) ++ e ∷ [] = ap₂ (λ xs ys. xs ++ ys) folded_is journal_is ∙ sym (append_assoc folded journal (e ∷ [])) in
     let long : length rows' ≡ length rows = ap length rows_are ∙ length-set rows (d.number - 1) r in
     let first = known.first in
     let opened = known.last in
-    let by : All (IsByOpened (length rows)) (journal ++ e ∷ []) = All-push (IsByOpened (length rows)) journal e is.opened (omega (arith, first, own), omega (arith, opened, own)) in
+    let by : All (IsByOpened (length rows)) ((folded ++ journal) ++ e ∷ []) = All-push (IsByOpened (length rows)) (folded ++ journal) e is.all_rows.opened (omega (arith, first, own), omega (arith, opened, own)) in
     record {
-      rows_fit = subst₂ (λ rs h. RowsFit rs h) (sym rows_are) (sym journal_is) (rows_entered rows journal d e r known is.rows_fit own entries last);
-      opened = subst₂ (λ n h. All (IsByOpened n) h) (sym long) (sym journal_is) by;
-      counted = omega (arith, total_is, is.counted, ap length journal_is, length-append journal (e ∷ []));
+      all_rows = record {
+        fit = subst₂ (λ rs h. RowsFit rs h) (sym rows_are) (sym all_is) (rows_entered rows (folded ++ journal) d e r known is.all_rows.fit own entries last);
+        opened = subst₂ (λ n h. All (IsByOpened n) h) (sym long) (sym all_is) by;
+      };
+      folded_rows = subst (AreRowsOf base_rows) (sym folded_is) is.folded_rows;
+      counted = omega (arith, total_is, is.counted, ap length all_is, length-append (folded ++ journal) (e ∷ []));
       parts_left = omega (arith, is.parts_left, long);
       few = omega (arith, is.few, long);
+      nothing = is.nothing;
+    }
+
+-- all entries are folded, and the rows are kept as they are
+pub held_folded : (rows base_rows base_rows' : List Row) (folded folded' journal journal' : List Entry) (total parts amount : ℕ) → IsHeld rows base_rows folded journal total parts amount → base_rows' ≡ rows → folded' ≡ folded ++ journal → journal' ≡ [] → IsHeld rows base_rows' folded' journal' total parts amount
+held_folded rows base_rows base_rows' folded folded' journal journal' total parts amount is rows_are folded_is journal_is =
+    let all_is : folded' ++ journal' ≡ folded ++ journal = ap₂ (λ xs ys. xs ++ ys) folded_is journal_is ∙ append-nil (folded ++ journal) in
+    record {
+      all_rows = subst (AreRowsOf rows) (sym all_is) is.all_rows;
+      folded_rows = subst₂ AreRowsOf (sym rows_are) (sym folded_is) is.all_rows;
+      counted = is.counted ∙ sym (ap length all_is);
+      parts_left = is.parts_left;
+      few = is.few;
       nothing = is.nothing;
     }

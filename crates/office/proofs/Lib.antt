@@ -7,4 +7,5 @@ pub mod KeptLemmas
 pub mod OfficeLemmas
 pub mod WishLemmas
 pub mod PendingLemmas
+pub mod LawfulLemmas
 pub mod DueLemmas

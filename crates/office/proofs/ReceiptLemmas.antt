@@ -12,15 +12,21 @@ if_append : {X : Type 0} (b : Bool) (x : X) (whole front back : List X) → whol
 if_append true x whole front back is = ap (λ xs. x ∷ xs) is
 if_append false x whole front back is = is
 
--- after one more entry, the desk has the receipt of that entry too, if it is the desk's
-pub receipts_more : (desk n : ℕ) (h : List Entry) (e : Entry) → receipts_from desk n (h ++ e ∷ []) ≡ receipts_from desk n h ++ receipts_from desk (n + length h) (e ∷ [])
-receipts_more desk n [] e =
+-- the receipts of the desk for entries and then others are those for the ones and then those for the others
+pub receipts_parted : (desk n : ℕ) (xs ys : List Entry) → receipts_from desk n (xs ++ ys) ≡ receipts_from desk n xs ++ receipts_from desk (n + length xs) ys
+receipts_parted desk n [] ys =
     let here : n ≡ n + 0 = omega arith in
-    ap (λ k. receipts_from desk k (e ∷ [])) here
-receipts_more desk n (x ∷ h) e =
-    let here : n + 1 + length h ≡ n + length (x ∷ h) = omega arith in
-    if_append (x.desk == desk) (receipt_of (n + 1) x) (receipts_from desk (n + 1) (h ++ e ∷ [])) (receipts_from desk (n + 1) h) (receipts_from desk (n + length (x ∷ h)) (e ∷ []))
-    (receipts_more desk (n + 1) h e ∙ ap (λ k. receipts_from desk (n + 1) h ++ receipts_from desk k (e ∷ [])) here)
+    ap (λ k. receipts_from desk k ys) here
+receipts_parted desk n (x ∷ xs) ys =
+    let here : n + 1 + length xs ≡ n + length (x ∷ xs) = omega arith in
+    if_append (x.desk == desk) (receipt_of (n + 1) x) (receipts_from desk (n + 1) (xs ++ ys)) (receipts_from desk (n + 1) xs) (receipts_from desk (n + length (x ∷ xs)) ys)
+    (receipts_parted desk (n + 1) xs ys ∙ ap (λ k. receipts_from desk (n + 1) xs ++ receipts_from desk k ys) here)
+
+-- the same where the first of the entries have been folded
+pub receipts_over : (desk : ℕ) (folded journal : List Entry) → receipts_of desk (folded ++ journal) ≡ receipts_of desk folded ++ receipts_from desk (length folded) journal
+receipts_over desk folded journal =
+    let here : 0 + length folded ≡ length folded = omega arith in
+    receipts_parted desk 0 folded journal ∙ ap (λ k. receipts_of desk folded ++ receipts_from desk k journal) here
 
 if_one : {X : Type 0} (b : Bool) (x : X) → b ≡ true → (if b then x ∷ [] else []) ≡ x ∷ []
 if_one true x is = refl
@@ -34,13 +40,12 @@ if_none false x xs is none = none
 pub receipts_own : (desk : ℕ) (h : List Entry) (e : Entry) → e.desk ≡ desk → receipts_of desk (h ++ e ∷ []) ≡ receipts_of desk h ++ receipt_of (length h + 1) e ∷ []
 receipts_own desk h e own =
     let is : (e.desk == desk) ≡ true = grind (arith, nat_tests, own) in
-    let here : 0 + length h ≡ length h = omega arith in
-    receipts_more desk 0 h e ∙ ap (λ k. receipts_of desk h ++ receipts_from desk k (e ∷ [])) here ∙ ap (λ rs. receipts_of desk h ++ rs) (if_one (e.desk == desk) (receipt_of (length h + 1) e) is)
+    receipts_over desk h (e ∷ []) ∙ ap (λ rs. receipts_of desk h ++ rs) (if_one (e.desk == desk) (receipt_of (length h + 1) e) is)
 
 -- after one more entry of another desk
 pub receipts_other : (desk : ℕ) (h : List Entry) (e : Entry) → (e.desk == desk) ≡ false → receipts_of desk (h ++ e ∷ []) ≡ receipts_of desk h
 receipts_other desk h e other =
-    receipts_more desk 0 h e ∙ ap (λ rs. receipts_of desk h ++ rs) (if_none (e.desk == desk) (receipt_of (0 + length h + 1) e) [] other refl) ∙ append-nil (receipts_of desk h)
+    receipts_over desk h (e ∷ []) ∙ ap (λ rs. receipts_of desk h ++ rs) (if_none (e.desk == desk) (receipt_of (length h + 1) e) [] other refl) ∙ append-nil (receipts_of desk h)
 
 -- a desk that isn't among those opened has no receipts
 pub receipts_none : (desk n opened : ℕ) (h : List Entry) → All (IsByOpened opened) h → opened < desk → receipts_from desk n h ≡ []

@@ -1,5 +1,5 @@
 -- When entries are a shuffle of what the desks have as receipts, and why an office can't be settled.
-use Rattle.std.specs.Prelude.{◌≡◌, ◌≢◌, ◌<◌, ◌≤◌, ◌-◌, ◌++◌, ℕ, List, [], ◌∷◌, Some, slice_get, length, All, Any}
+use Rattle.std.specs.Prelude.{◌≡◌, ◌≢◌, ◌<◌, ◌≤◌, ◌-◌, ◌++◌, ℕ, List, [], ◌∷◌, Some, slice_get, length, take, drop, All, Any}
 use Rattle.common.specs.Sums.{sum_of}
 use Rattle.centre_past.specs.Legal.{Known}
 use Rattle.centre_events.specs.declared.entry.Entry.{Entry}
@@ -19,13 +19,18 @@ abbrev pub AreEntriesOf : ℕ → ℕ → List Entry → ℕ → List Receipt �
 AreEntriesOf desk folded journal before [] = Unit {0}
 AreEntriesOf desk folded journal before (r ∷ rs) = ((before < r.place) × IsEntryOf desk folded journal r) × AreEntriesOf desk folded journal r.place rs
 
+-- of the receipts, the first, so many, have places among the folded entries, and the others have their entries in the journal
+abbrev pub AreSplit : ℕ → ℕ → List Entry → ℕ → List Receipt → Type 0
+AreSplit desk folded journal count receipts = All (λ (r : Receipt). r.place ≤ folded) (take count receipts) × AreEntriesOf desk folded journal 0 (drop count receipts)
+
 -- The desk's receipts above the folded entries are its entries in the journal, in their order, with their places. The others are as
--- many as it has folded entries, and their places are among the folded ones.
+-- many as it has folded entries, and their places are among the folded ones. The desk let go of no receipt but of these.
 pub record HasItsEntries (folded journal : List Entry) (d : DeskState) : Type 0 where
   pub earlier : List Receipt
   pub receipts : d.receipts ≡ earlier ++ receipts_from d.number (length folded) journal
   pub counted : length earlier ≡ length (receipts_of d.number folded)
   pub places : All (λ (r : Receipt). r.place ≤ length folded) earlier
+  pub released : d.released ≤ length earlier
 
 -- how many receipts the desks have, all together
 abbrev pub receipt_count : List DeskState → ℕ

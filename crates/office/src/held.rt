@@ -59,12 +59,12 @@ impl<L: Ledger> Held<L> {
     ghost use Rattle.std.specs.Prelude.{◌≡◌, ◌≤◌, ◌<◌, ◌+◌, ◌-◌, ◌++◌, ◌∷◌, ℕ, [], length, set, true, false, Ok, Err, None, IfOk, IfErr, OnOk, OnErr, MatchBool, nat_lt};
     ghost use Rattle.centre_core.specs.Centre.{Leaves, Refuses};
     ghost use Rattle.centre_past.specs.Headline.{PendingGivesPlan};
-    ghost use Rattle.centre_past.specs.Legal.{Lawful, all_entries, new_centre, past};
+    ghost use Rattle.centre_past.specs.Legal.{Lawful, all_entries, checkpointed, new_centre, past};
     ghost use Rattle.centre_events.specs.Folding.{base_of};
     ghost use Rattle.centre_events.specs.Links.{last_link};
     ghost use Rattle.cell_register.specs.Register.{is_place};
     ghost use Rattle.office.specs.Affecting.{affects, includes};
-    ghost use Rattle.office.specs.Helds.{HasEachOnce, IsEntered, IsHeld, RefusesFold, fits, no_row, row_at, with_all_folded};
+    ghost use Rattle.office.specs.Helds.{HasEachOnce, IsEntered, IsHeld, RefusesFold, fits, no_row, row_at};
     ghost use Rattle.centre_questions.specs.Questions.{RefusesQuestion, Shows};
     ghost use Rattle.office.specs.Shuffles.{IsFault, IsShuffle};
     ghost use Rattle.office.specs.Wakes.{due, is_full, left_by};
@@ -223,7 +223,7 @@ impl<L: Ledger> Held<L> {
     }
 
     /// Whether the journal takes no more entries, so that nobody has anything to wait for.
-    pub(crate) fn is_full(&self) -> bool
+    fn is_full(&self) -> bool
         ensures { result ≡ is_full self.now.centre }
     {
         self.centre.is_full()
@@ -288,12 +288,19 @@ impl<L: Ledger> Held<L> {
         self.centre.rebuild()
     }
 
+    /// How many entries are folded.
+    pub fn folded(&self) -> u64
+        ensures { result ≡ length self.now.centre.folded }
+    {
+        self.folded
+    }
+
     /// Folds the entries of the journal, and answers how many there were. `Stale`, then `Memory`; then nothing changed. Places go
     /// on, and what the past says is as before: the centre is asked and takes events as if nothing had been folded, but that
     /// its journal has room again.
     pub fn checkpoint(&mut self) -> Result<u64, Refusal>
         ensures counted { IfOk result (λ n. n ≡ length self.old.centre.journal) }
-        ensures folded { OnOk result (self.new ≡ record self.old { centre = with_all_folded self.old.centre; base_rows = self.old.rows }) }
+        ensures folded { OnOk result (self.new ≡ record self.old { centre = checkpointed self.old.centre; base_rows = self.old.rows }) }
         ensures same { OnOk result (base_of (past self.new.centre) ≡ base_of (past self.old.centre)) }
         ensures whole { OnOk result (self.old.centre.stale ≡ false) }
         ensures refused { IfErr result (RefusesFold self.old.centre) }
@@ -302,7 +309,7 @@ impl<L: Ledger> Held<L> {
         if self.centre.is_stale() {
             return Err(Refusal::Stale);
         }
-        let rows = self.rows.clone()?;
+        let rows = Vec::from_slice(self.alloc, self.rows.as_slice())?;
         let count = self.centre.checkpoint()?;
         self.base_rows = rows;
         self.folded = self.centre.position();

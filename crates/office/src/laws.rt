@@ -9,7 +9,7 @@ ghost use Rattle.centre_past.specs.Legal.{Known, Lawful, past};
 ghost use Rattle.office.specs.Affecting.{LeavesIdle, LeavesOrders};
 
 /// Lemma: after every lawful history, an event that is accepted makes no order pending for a BSC that it doesn't affect.
-#[tactic(auto, using(crate::proofs::PendingLemmas::orders_left))]
+#[tactic(auto, using(crate::proofs::LawfulLemmas::orders_left_lawful))]
 pub fn orders_come_where_an_event_affects()
     ensures { (settings : Settings) (past : Past) (e : Entry) → Lawful settings past → verdict settings past e.event ≡ Ok e.answer → LeavesOrders past e }
 {}

@@ -6,7 +6,7 @@ ghost use Rattle.centre_past.specs.Legal.{all_entries};
 ghost use Rattle.office.specs.Desks.{DeskState};
 ghost use Rattle.office.specs.Helds.{AreRowsOf};
 ghost use Rattle.office.specs.Receipts.{receipts_of};
-ghost use Rattle.office.specs.Shuffles.{AreEntriesOf, HasItsEntries, IsEntryOf, IsMismatch, IsMissing};
+ghost use Rattle.office.specs.Shuffles.{AreEntriesOf, AreSplit, HasItsEntries, IsEntryOf, IsMismatch, IsMissing};
 ghost use Rattle.office.specs.declared.receipt.Receipt.{Receipt};
 
 use crate::desk::Desk;
@@ -63,8 +63,26 @@ fn entries_of(rows: &[Row], desk: u32) -> u64
     rows[number - 1].entries
 }
 
-/// Whether the desk's receipts are its entries. There are as many as entries. The first of them, as many as entries of it were folded,
-/// have places among the folded ones; each other one is at the place of another entry of the desk.
+/// Whether so many receipts have places among the folded entries, and each one after them has its entry in the journal.
+fn are_split(
+    centre: &mut Centre,
+    desk: u32,
+    folded: u64,
+    count: usize,
+    receipts: &[Receipt],
+) -> bool
+    requires within { count ≤ length receipts.now }
+    requires folded { folded ≡ length centre.old.known.folded }
+    ensures are { IsTrue result ↔ AreSplit desk folded centre.old.known.journal count receipts.now }
+    ensures unchanged { centre.new.known ≡ centre.old.known }
+{
+    let (earlier, later) = receipts.split_at(count);
+    are_folded(folded, earlier) && are_entries(centre, desk, later)
+}
+
+/// Whether the desk's receipts are its entries. There are as many as entries. The first of them, as many as entries of it were
+/// folded, have places among the folded ones, of which alone the desk let go; each other one is at the place of another entry of
+/// the desk.
 fn has_its_entries<L: Ledger>(
     centre: &mut Centre,
     rows: &[Row],
@@ -78,13 +96,13 @@ fn has_its_entries<L: Ledger>(
     ensures has { IsTrue result ↔ HasItsEntries centre.old.known.folded centre.old.known.journal desk.now }
     ensures unchanged { centre.new.known ≡ centre.old.known }
 {
-    if desk.len() != entries_of(rows, desk.number()) {
+    let number = desk.number();
+    let count = entries_of(base_rows, number);
+    if desk.len() != entries_of(rows, number) || desk.released() > count {
         return false;
     }
-    let count = entries_of(base_rows, desk.number()) as usize;
-    let receipts = desk.receipts();
-    are_folded(folded, &receipts[..count])
-        && are_entries(centre, desk.number(), &receipts[count..])
+    let count = (count - desk.released()) as usize;
+    desk.is_released_within(folded) && are_split(centre, number, folded, count, desk.receipts())
 }
 
 /// The number of the first desk whose receipts aren't its entries.

@@ -1,5 +1,5 @@
 -- What is known of the least free code and of the serial number that is made with it.
-use Rattle.std.proofs.Common.{◌≡◌, ℕ, zero, suc, ◌+◌, ◌<◌, ◌≤◌, Bool, true, false, ◌||◌, not, cond, List, [], ◌∷◌, Option, Some, None, nat_eq, length, refl, sym, ap, ◌∙◌, arith}
+use Rattle.std.proofs.Common.{◌≡◌, ℕ, zero, suc, ◌+◌, ◌%◌, ◌<◌, ◌≤◌, Bool, true, false, ◌||◌, not, cond, List, [], ◌∷◌, Option, Some, None, nat_eq, length, refl, sym, ap, ◌∙◌, arith}
 use Rattle.std.specs.Prelude.{find}
 use Rattle.std.specs.Cmp.{unsigned_Decides}
 use Rattle.std.specs.List.{list_any, filter, range_with_len}
@@ -8,7 +8,7 @@ use Rattle.std.proofs.lemmas.Bool.{not-false, not-true, or_left}
 use Rattle.std.proofs.lemmas.Bool.Decides.{nat_tests}
 use Rattle.std.proofs.lemmas.Grind.{common_steps}
 use Rattle.std.proofs.lemmas.List.Sums.{length-filter, count_by-le-length}
-use Rattle.serials.specs.Serials.{serial_of, scope_part, code_of, update_of, next_of, is_last, every_code, least_free}
+use Rattle.serials.specs.Serials.{serial_of, scope_part, code_of, update_of, next_of, every_code, least_free}
 
 -- the number that a search of a range finds is one of the range and passes the test
 
@@ -97,19 +97,18 @@ code_of_serial scope code h = omega arith
 pub update_of_serial : (scope code : ℕ) → update_of (serial_of scope code 0) ≡ 0
 update_of_serial scope code = omega arith
 
--- while an update number is left, the next serial number has the same scope and code, and the next update number
+-- the next serial number has the same scope and code, and the next update number, 0 after 15
 
-pub update_left : (s : ℕ) → is_last s ≡ false → update_of s < 15
-update_left s h = below (update_of s) h (omega arith)
-  where
-    below : (u : ℕ) → nat_eq u 15 ≡ false → u < 16 → u < 15
-    below u h g = grind (arith, nat_tests, common_steps)
+pub next_scope : (s : ℕ) → scope_part (next_of s) ≡ scope_part s
+next_scope s = omega arith
 
-pub next_scope : (s : ℕ) → is_last s ≡ false → scope_part (next_of s) ≡ scope_part s
-next_scope s h = let left = update_left s h in omega arith
+pub next_code : (s : ℕ) → code_of (next_of s) ≡ code_of s
+next_code s = omega arith
 
-pub next_code : (s : ℕ) → is_last s ≡ false → code_of (next_of s) ≡ code_of s
-next_code s h = let left = update_left s h in omega arith
+pub next_update : (s : ℕ) → update_of (next_of s) ≡ (update_of s + 1) % 16
+next_update s = omega arith
 
-pub next_update : (s : ℕ) → is_last s ≡ false → update_of (next_of s) ≡ update_of s + 1
-next_update s h = let left = update_left s h in omega arith
+-- two serial numbers with one scope and code are one where they have one update number
+
+pub same_serial : (s t : ℕ) → scope_part s ≡ scope_part t → code_of s ≡ code_of t → update_of s ≡ update_of t → s ≡ t
+same_serial s t h g e = omega arith

@@ -1,5 +1,5 @@
 -- Serial numbers and message codes (TS 23.041, 9.4.1.2.1).
-use Rattle.std.specs.Prelude.{ℕ, Bool, ◌+◌, ◌*◌, ◌/◌, ◌%◌, not, nat_eq, List, Option, find}
+use Rattle.std.specs.Prelude.{ℕ, ◌+◌, ◌*◌, ◌/◌, ◌%◌, not, nat_eq, List, Option, find}
 use Rattle.std.specs.List.{range_with_len}
 use Rattle.std.specs.List.{list_any}
 use Rattle.serials.specs.declared.scope.Scope.{Scope}
@@ -28,13 +28,10 @@ code_of serial = serial / 16 % 1024
 abbrev pub update_of : ℕ → ℕ
 update_of serial = serial % 16
 
--- the serial number of the version that follows one with this serial number
+-- the serial number of the version that follows one with this serial number: its scope and code, the next update number, 0
+-- after 15
 abbrev pub next_of : ℕ → ℕ
-next_of serial = serial + 1
-
--- no update number is left for a version that would follow one with this serial number
-abbrev pub is_last : ℕ → Bool
-is_last serial = nat_eq (update_of serial) 15
+next_of serial = serial / 16 * 16 + (serial + 1) % 16
 
 -- the codes there are, in order
 unfoldable pub every_code : List ℕ

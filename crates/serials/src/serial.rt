@@ -1,6 +1,6 @@
 //! A serial number: scope, message code and update number in 16 bits.
 
-ghost use Rattle.std.specs.Prelude.{◌≡◌, ◌+◌, ℕ, ◌<◌, ◌↔◌, IsSome, IfSome};
+ghost use Rattle.std.specs.Prelude.{◌≡◌, ◌+◌, ◌%◌, ℕ, ◌<◌, ◌↔◌, IsSome, IfSome};
 ghost use Rattle.serials.specs.Serials.{scope_number, serial_of, scope_part, code_of, update_of, next_of};
 
 use crate::scope::Scope;
@@ -77,20 +77,15 @@ impl Serial {
         Serial { value }
     }
 
-    /// The serial number of the next update; `None` where the update number is 15.
-    pub fn next(self) -> Option<Serial>
-        ensures last { IsSome result ↔ (update_of self < 15) }
-        ensures value { IfSome result (λ s. s ≡ next_of self) }
-        ensures scope { IfSome result (λ s. scope_part s ≡ scope_part self) }
-        ensures code { IfSome result (λ s. code_of s ≡ code_of self) }
-        ensures update { IfSome result (λ s. update_of s ≡ update_of self + 1) }
+    /// The serial number of the next update: its scope and code stay, and update number 0 follows 15.
+    pub fn next(self) -> Serial
+        ensures value { result ≡ next_of self }
+        ensures scope { scope_part result ≡ scope_part self }
+        ensures code { code_of result ≡ code_of self }
+        ensures update { update_of result ≡ (update_of self + 1) % 16 }
     {
-        if self.value % 16 < 15 {
-            Some(Serial {
-                value: self.value + 1,
-            })
-        } else {
-            None
+        Serial {
+            value: self.value / 16 * 16 + (self.value % 16 + 1) % 16,
         }
     }
 }

@@ -7,7 +7,11 @@
 #[cfg(test)]
 mod centre_tests;
 #[cfg(test)]
+mod checkpoint_tests;
+#[cfg(test)]
 mod checks;
+#[cfg(test)]
+mod copying_tests;
 #[cfg(test)]
 mod day;
 #[cfg(test)]

@@ -54,7 +54,7 @@ fn state(centre: &mut Centre, b: BscId) -> Result<[u64; 6], Refusal> {
 }
 
 /// The centre is whole and says this, once memory is there.
-fn is_whole(rt: &impl Abort, centre: &mut Centre, b: BscId, want: [u64; 6]) {
+pub(crate) fn is_whole(rt: &impl Abort, centre: &mut Centre, b: BscId, want: [u64; 6]) {
     yes(rt, !centre.is_stale(), "the centre is whole");
     let said = match state(centre, b) {
         Err(Refusal::Memory) => state(centre, b),
@@ -68,6 +68,7 @@ fn is_of_no_use(rt: &impl Abort, centre: &mut Centre, b: BscId) {
     let stale = Some(Refusal::Stale);
     yes(rt, centre.is_stale(), "the centre is stale");
     same(rt, refusal(centre, Event::Retry(b)), stale, "an event");
+    same(rt, centre.checkpoint().err(), stale, "a checkpoint");
     same(rt, centre.pending_of(b).err(), stale, "the orders");
     same(rt, centre.in_flight_of(b).err(), stale, "the flight");
     same(rt, centre.place_of(SEVEN).err(), stale, "the place");
@@ -75,7 +76,7 @@ fn is_of_no_use(rt: &impl Abort, centre: &mut Centre, b: BscId) {
     same(rt, centre.board_total(first_id()).err(), stale, "the board");
 }
 
-fn rebuilds(rt: &impl Abort, centre: &mut Centre) {
+pub(crate) fn rebuilds(rt: &impl Abort, centre: &mut Centre) {
     yes(rt, centre.rebuild().is_ok(), "the centre is rebuilt");
 }
 
@@ -98,7 +99,13 @@ fn is_left(rt: &impl Abort, centre: &mut Centre, b: BscId, position: u64, before
 }
 
 /// The event of the step is entered, at once or where memory ran out once.
-fn enters(rt: &impl Abort, alloc: Global, centre: &mut Centre, step: Step, before: [u64; 6]) {
+pub(crate) fn enters(
+    rt: &impl Abort,
+    alloc: Global,
+    centre: &mut Centre,
+    step: Step,
+    before: [u64; 6],
+) {
     let position = centre.position();
     let event = event_of(rt, alloc, step);
     if let Some(refusal) = refusal(centre, event) {

@@ -75,7 +75,7 @@ pub(crate) enum Step {
     Report(u64, u8, &'static [u8]),
 }
 
-fn name(alloc: Global, octets: &[u8]) -> Result<Name, AllocError> {
+pub(crate) fn name(alloc: Global, octets: &[u8]) -> Result<Name, AllocError> {
     Ok(Name::from_vec(Vec::from_slice(alloc, octets)?))
 }
 
@@ -91,7 +91,7 @@ fn content(alloc: Global) -> Result<Content, AllocError> {
     }))
 }
 
-fn notice(alloc: Global) -> Result<Notice, AllocError> {
+pub(crate) fn notice(alloc: Global) -> Result<Notice, AllocError> {
     Ok(Notice {
         message_id: MESSAGE_ID,
         scope: Scope::Cell,
@@ -99,7 +99,7 @@ fn notice(alloc: Global) -> Result<Notice, AllocError> {
     })
 }
 
-fn names(alloc: Global, octets: &[u8]) -> Result<Names, AllocError> {
+pub(crate) fn names(alloc: Global, octets: &[u8]) -> Result<Names, AllocError> {
     let mut names = Vec::new(alloc);
     names.push(name(alloc, octets)?)?;
     Ok(Names::from_vec(names))

@@ -257,3 +257,48 @@ fn calls<L: Ledger, R: Wait + Abort>(rt: &R, alloc: Global, blank: Blank)
 fn every_call_answers(rt: HostRuntime) {
     calls::<Brand, _>(&rt, rt.alloc(), Blank::new(1025));
 }
+
+/// Two desks submit 50 events each at the same time. Between its own, the first has the entries folded.
+fn two_desks<L: Ledger + Send + Sync, R: Threads + Wait + Abort + Sync>(
+    rt: &R,
+    alloc: Global,
+    blank: Blank,
+)
+    requires name { blank.name ≡ L.name }
+    requires parts { blank.parts ≡ L.parts }
+    requires desks { blank.parts ≡ 1025 }
+{
+    let b = first_bsc(rt);
+    let office = new_office::<L>(alloc, blank, 1000);
+    let shared = &office;
+    let mut first = opens(rt, shared);
+    let second = opens(rt, shared);
+    edits(rt, shared, &mut first, Edit::AddBsc(b));
+    let (one, two) = thread::join(
+        rt,
+        move || registers_and_folds(rt, shared, first, b),
+        move || registers(rt, shared, second, b, 200, 50),
+    );
+    yes(rt, one.1 && two.1, "a cell is not registered");
+    let desks = vec![in alloc; one.0, two.0].expect(rt, "memory");
+    same(rt, settled(office, desks), Ok(100), "the entries");
+}
+
+/// Registers 24 cells of a location area at the BSC, folds the entries, and registers 25 cells of another. Hands back the desk,
+/// and whether all is as it has to be.
+fn registers_and_folds<L: Ledger, R: Wait>(
+    rt: &R,
+    office: &Office<L>,
+    desk: Desk<L>,
+    b: BscId,
+) -> (Desk<L>, bool) {
+    let (desk, is_first) = registers(rt, office, desk, b, 100, 24);
+    let is_folded = office.checkpoint(rt).is_ok_and(|folded| folded >= 25);
+    let (desk, is_second) = registers(rt, office, desk, b, 101, 25);
+    (desk, is_first && is_folded && is_second)
+}
+
+#[test]
+fn two_desks_settle_after_a_checkpoint(rt: HostRuntime) {
+    two_desks::<Brand, _>(&rt, rt.alloc(), Blank::new(1025));
+}

@@ -58,6 +58,31 @@ fn every_call_answers(rt: HostRuntime) {
     areas.tell_soundness();
 }
 
+/// A copy; where memory runs out once, the areas are as they were.
+fn copied(rt: &impl Abort, alloc: Global, areas: &Areas) -> Areas {
+    match areas.copied() {
+        Ok(copy) => copy,
+        Err(_) => {
+            has_areas(rt, alloc, areas, CELL, b"Coast ");
+            areas.copied().expect(rt, "memory")
+        }
+    }
+}
+
+#[test]
+fn a_copy_of_the_areas_stands_alone(rt: HostRuntime) {
+    let alloc = rt.alloc();
+    let coast = name(&rt, alloc, b"Coast");
+    let mut areas = named(&rt, alloc, &[b"Hills", b"Coast"]);
+    made(&rt, areas.put(&coast, Selector::Cell(CELL)), "a put");
+    let mut copy = copied(&rt, alloc, &areas);
+    is_taken_away(&rt, &mut areas, &coast);
+    has_areas(&rt, alloc, &copy, CELL, b"Coast ");
+    put_all(&rt, alloc, &mut copy, &[b"Hills"]);
+    has_areas(&rt, alloc, &copy, NEXT, b"Hills ");
+    has_areas(&rt, alloc, &areas, NEXT, b"");
+}
+
 #[test]
 fn selectors_are_copied(rt: HostRuntime) {
     let alloc = rt.alloc();

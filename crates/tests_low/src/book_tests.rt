@@ -143,12 +143,12 @@ fn a_stopped_warning_keeps_its_areas_until_it_is_forgotten(rt: HostRuntime) {
 
 /// The serial number of the first warning after so many updates.
 fn updated(updates: u16) -> Serial {
-    Serial::from_u16(0xc000u16.saturating_add(updates))
+    Serial::from_u16(0xc000u16.saturating_add(updates % 16))
 }
 
-/// The content after so many updates, of which there are fifteen at most: it has one octet more after each.
+/// The content after so many updates, 39 at most: it has one octet more after each.
 fn longer(rt: &impl Abort, alloc: Global, updates: u16) -> Content {
-    let octets = [0x41; 16];
+    let octets = [0x41; 40];
     let length = usize::from(updates).saturating_add(1);
     content(rt, alloc, octets.get(..length).unwrap_or(&octets))
 }
@@ -192,6 +192,77 @@ fn updates_and_keeps(rt: &impl Abort, alloc: Global, book: &mut Book) {
 fn fifteen_updates_count_in_the_serial_number(rt: HostRuntime) {
     let mut book = issued_for(&rt, rt.alloc(), &[b"coast"], Scope::Cell);
     updates_and_keeps(&rt, rt.alloc(), &mut book);
+}
+
+/// The versions of the first warning are those of the updates from `first` on, in their order, and no other.
+fn are_newest(rt: &impl Abort, alloc: Global, book: &Book, first: u16) {
+    let versions = book.versions(first_id());
+    yes(rt, versions.len() == 16, "sixteen versions");
+    for (version, n) in versions.iter().zip(first..40u16) {
+        yes(rt, version.serial == updated(n), "a version's place");
+        keeps(rt, alloc, book, n);
+    }
+}
+
+#[test]
+fn the_newest_sixteen_versions_are_kept(rt: HostRuntime) {
+    let alloc = rt.alloc();
+    let mut book = issued_for(&rt, alloc, &[b"coast"], Scope::Cell);
+    for n in 1..16u16 {
+        updates(&rt, alloc, &mut book, n);
+    }
+    are_newest(&rt, alloc, &book, 0);
+    for n in 16..40u16 {
+        updates(&rt, alloc, &mut book, n);
+        are_newest(&rt, alloc, &book, n.saturating_sub(15));
+    }
+}
+
+/// A copy; where memory runs out once, the book is as it was.
+fn copied(rt: &impl Abort, book: &Book, area: &Name) -> Book {
+    match book.copied() {
+        Ok(copy) => copy,
+        Err(_) => {
+            is_found(rt, book, area);
+            book.copied().expect(rt, "memory")
+        }
+    }
+}
+
+/// A book whose first warning has two versions.
+fn updated_once(rt: &impl Abort, alloc: Global) -> Book {
+    let mut book = issued_for(rt, alloc, &[b"coast"], Scope::Cell);
+    updates(rt, alloc, &mut book, 1);
+    book
+}
+
+#[test]
+fn a_copy_of_a_book_stands_alone(rt: HostRuntime) {
+    let alloc = rt.alloc();
+    let coast = name(&rt, alloc, b"coast");
+    let mut book = updated_once(&rt, alloc);
+    let copy = copied(&rt, &book, &coast);
+    keeps_area(&rt, &mut book, &coast);
+    is_found(&rt, &copy, &coast);
+    keeps(&rt, alloc, &copy, 0);
+    keeps(&rt, alloc, &copy, 1);
+}
+
+/// Whether the content of the book's emergency warning is the one that it was issued with.
+fn has_emergency(book: &Book) -> bool {
+    match book.content_of(4352, Serial::from_u16(0x4000)) {
+        Some(found) => found.same(&emergency(0x0580)),
+        None => false,
+    }
+}
+
+#[test]
+fn a_copy_of_a_book_has_its_emergency_warnings(rt: HostRuntime) {
+    let mut book = emergency_issued(&rt, rt.alloc());
+    let copy = copied(&rt, &book, &name(&rt, rt.alloc(), b"hills"));
+    made(&rt, book.stop(first_id()), "the warning is stopped");
+    yes(&rt, has_emergency(&copy), "the content of the copy");
+    yes(&rt, copy.is_active(first_id()), "it is active in the copy");
 }
 
 fn version(rt: &impl Abort, alloc: Global, serial: u16, octet: u8) -> Version {
@@ -246,6 +317,9 @@ fn checks_edits(rt: &impl Abort, book: &Book, hills: &Name, long: &Content) {
     made(rt, book.check_widen(id, hills), "it may be widened");
     let narrow = book.check_narrow(id, hills);
     same(rt, &narrow, &Err(Refusal::AreaNotThere), "no such area");
+    made(rt, book.check_active(id), "it is active");
+    let content = book.check_content(id, long);
+    same(rt, &content, &Err(Refusal::BadPages), "a page is too long");
     let update = book.check_update(id, long);
     same(rt, &update, &Err(Refusal::BadPages), "a page is too long");
 }
@@ -257,6 +331,8 @@ fn checks_ends(rt: &impl Abort, book: &mut Book) {
     same(rt, &forget, &Err(Refusal::StillActive), "it is active");
     made(rt, book.check_stop(id), "it may be stopped");
     made(rt, book.stop(id), "it is stopped");
+    let active = book.check_active(id);
+    same(rt, &active, &Err(Refusal::NotActive), "it is not active");
     let stop = book.check_stop(id);
     same(rt, &stop, &Err(Refusal::NotActive), "it is stopped");
     made(rt, book.check_forget(id), "it may be forgotten");
@@ -411,10 +487,6 @@ const TEXTS: &[(Refusal, &str)] = &[
     ),
     (Refusal::BadPeriod, "a repetition period is 1 to 1,024"),
     (Refusal::WrongKind, "the warning is of the other kind"),
-    (
-        Refusal::UpdatesExhausted,
-        "the warning was updated fifteen times",
-    ),
     (FULL, "a limit would be passed: Ids"),
     (Refusal::Memory, "out of memory"),
 ];

@@ -93,6 +93,27 @@ fn lists_in_order(rt: &impl Abort, register: &mut Register, first: BscId) {
     are(rt, register.cells_in(7), &[], "location area 7");
 }
 
+/// A copy; where memory runs out once, the register is as it was.
+fn copied(rt: &impl Abort, register: &Register) -> Register {
+    match register.copied() {
+        Ok(copy) => copy,
+        Err(_) => {
+            lists(rt, register, &[FIRST, THIRD]);
+            register.copied().expect(rt, "memory")
+        }
+    }
+}
+
+#[test]
+fn a_copy_of_the_register_stands_alone(rt: HostRuntime) {
+    let mut register = begun(&rt, rt.alloc());
+    let mut copy = copied(&rt, &register);
+    is_taken_out(&rt, &mut register, bsc(&rt, 1), bsc(&rt, 2));
+    lists(&rt, &copy, &[FIRST, THIRD]);
+    lists_in_order(&rt, &mut copy, bsc(&rt, 1));
+    yes(&rt, !register.has_bsc(bsc(&rt, 1)), "the BSC is gone");
+}
+
 #[test]
 fn cells_are_told_in_order(rt: HostRuntime) {
     let mut register = begun(&rt, rt.alloc());

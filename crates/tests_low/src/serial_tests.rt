@@ -43,15 +43,16 @@ fn a_serial_has_its_parts(rt: HostRuntime) {
 }
 
 #[test]
-fn updates_count_to_fifteen(rt: HostRuntime) {
+fn update_number_zero_follows_fifteen(rt: HostRuntime) {
     for (serial, want) in &[
-        (0xc000, Some(0xc001)),
-        (0x401e, Some(0x401f)),
-        (0x401f, None),
-        (0xffff, None),
+        (0xc000, 0xc001),
+        (0x401e, 0x401f),
+        (0x401f, 0x4010),
+        (0xc00f, 0xc000),
+        (0xffff, 0xfff0),
     ] {
         let next = Serial::from_u16(*serial).next();
-        same(&rt, &number(next), want, "the next serial number");
+        same(&rt, &next.to_u16(), want, "the next serial number");
     }
 }
 

@@ -253,6 +253,45 @@ fn lines_that_are_told_of_are_counted(rt: HostRuntime) {
     tells_and_counts(&rt, &mut table, b);
 }
 
+/// A copy; where memory runs out once, the table is as it was. It has a line, one that is held, and a cell that is down.
+fn copied(rt: &impl Abort, table: &mut LineTable, b: BscId) -> LineTable {
+    match table.copied() {
+        Ok(copy) => copy,
+        Err(_) => {
+            are_reported(rt, table, b);
+            table.copied().expect(rt, "memory")
+        }
+    }
+}
+
+/// The lines are blank again, and the cell is up.
+fn are_taken_out(rt: &impl Abort, table: &mut LineTable, b: BscId) {
+    sets_line(rt, table, key(b, MOVED), Line::blank());
+    sets_line(rt, table, seventh(b, MOVED), Line::blank());
+    sets_down(rt, table, b, false);
+    holds(rt, table, MOVED, &[]);
+}
+
+/// The copy has all of that.
+fn is_whole(rt: &impl Abort, copy: &mut LineTable, register: &Register, b: BscId) {
+    yes(rt, copy.meter() == 0, "no line of the copy was read");
+    are_reported(rt, copy, b);
+    holds(rt, copy, MOVED, &[7]);
+    names_known(rt, copy, register, b);
+}
+
+#[test]
+fn a_copy_of_the_lines_stands_alone(rt: HostRuntime) {
+    let b = bsc(&rt, 1);
+    let register = registered(&rt, rt.alloc());
+    let mut table = reported(&rt, rt.alloc());
+    sets_line(&rt, &mut table, seventh(b, MOVED), held());
+    let mut copy = copied(&rt, &mut table, b);
+    are_taken_out(&rt, &mut table, b);
+    is_whole(&rt, &mut copy, &register, b);
+    are_taken_out(&rt, &mut copy, b);
+}
+
 #[test]
 fn a_state_is_read_as_it_was_set(rt: HostRuntime) {
     let serial = Serial::from_u16(0xc00f);

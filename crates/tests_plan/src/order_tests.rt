@@ -14,6 +14,8 @@ use std::process::Abort;
 
 const FIRST: Cell = Cell { lac: 100, ci: 7 };
 
+const SECOND: Cell = Cell { lac: 100, ci: 9 };
+
 /// The serial number of the warning's current version.
 fn current() -> Serial {
     Serial::from_u16(0xc001)
@@ -108,6 +110,33 @@ fn every_call_answers(rt: HostRuntime) {
     let mut pending = Pending::new(alloc);
     comes_to_be_pending(&rt, &mut pending, b);
     orders_are_copied(&rt, alloc, &pending, b);
+}
+
+/// A copy; where memory runs out once, what is pending is as it was.
+fn copied(rt: &impl Abort, pending: &Pending, b: BscId) -> Pending {
+    match pending.copied() {
+        Ok(copy) => copy,
+        Err(_) => {
+            is_write(rt, &first(rt, pending, b));
+            pending.copied().expect(rt, "memory")
+        }
+    }
+}
+
+#[test]
+fn a_copy_of_what_is_pending_stands_alone(rt: HostRuntime) {
+    let b = bsc(&rt, 1);
+    let mut pending = Pending::new(rt.alloc());
+    begin(&rt, &mut pending, b, FIRST);
+    let copy = copied(&rt, &pending, b);
+    begin(&rt, &mut pending, b, SECOND);
+    is_write(&rt, &first(&rt, &copy, b));
+    let both = first(&rt, &pending, b);
+    yes(
+        &rt,
+        both.cells.as_slice() == &[FIRST, SECOND][..],
+        "both cells",
+    );
 }
 
 /// All cells but one are in the first order, which is the only one.

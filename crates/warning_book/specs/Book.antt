@@ -1,8 +1,8 @@
 -- The book of warnings: what it tells, and what each edit makes of it.
 use Rattle.std.specs.Prelude.{ℕ, ◌+◌, Bool, true, false, ◌&&◌, not, List, [], ◌∷◌, ◌++◌, map, Option, Some, None, nat_eq, nat_le, ltb, bytes_eq, find, length, if◌then◌else◌}
 use Rattle.std.specs.List.{list_any, filter, last_or}
-use Rattle.std.specs.Option.{option_map, option_and_then, option_to_list}
-use Rattle.serials.specs.Serials.{scope_number, serial_of, code_of, next_of, is_last, least_free}
+use Rattle.std.specs.Option.{is_some, option_eq, option_map, option_and_then, option_to_list}
+use Rattle.serials.specs.Serials.{scope_number, serial_of, code_of, next_of, least_free}
 use Rattle.warning_book.specs.Content.{content_kind, is_same_kind}
 use Rattle.warning_book.specs.declared.content.Content.{Content}
 use Rattle.warning_book.specs.declared.kind.Kind.{Kind}
@@ -43,11 +43,6 @@ first_kind (v ∷ versions) = content_kind v.content
 abbrev pub kind_of : Warning → Kind
 kind_of w = first_kind w.versions
 
--- no update number is left after this serial number, or there is no version that one could follow
-abbrev pub ends_updates : Option ℕ → Bool
-ends_updates None = true
-ends_updates (Some serial) = is_last serial
-
 -- tests of a warning
 
 -- it is the warning of that number
@@ -69,10 +64,6 @@ is_full w = nat_le 16 (length w.areas)
 -- it names one area and no other
 abbrev pub has_one_area : Warning → Bool
 has_one_area w = nat_le (length w.areas) 1
-
--- no update number is left for a next version of it
-abbrev pub is_exhausted : Warning → Bool
-is_exhausted w = ends_updates (current_of w)
 
 -- the content is for a warning of the other kind
 abbrev pub is_of_other_kind : Content → Warning → Bool
@@ -170,13 +161,34 @@ next_serial st n = option_map next_of (current st n)
 abbrev pub new_warning : ℕ → Notice → List (List ℕ) → ℕ → Warning
 new_warning n notice areas serial = record { number = n; message_id = notice.message_id; versions = record { serial = serial; content = notice.content } ∷ []; areas = areas; active = true }
 
+-- the version has that serial number
+abbrev pub has_serial : ℕ → Version → Bool
+has_serial serial v = nat_eq v.serial serial
+
+-- the versions but that of the serial number, in their order
+abbrev pub but_serial : ℕ → List Version → List Version
+but_serial serial versions = filter (λ v. not (has_serial serial v)) versions
+
+-- it has no version
+abbrev pub has_none : Warning → Bool
+has_none w = not (is_some (current_of w))
+
 -- the version with that content that follows one with this serial number
 abbrev pub version_after : Content → ℕ → Version
 version_after content serial = record { serial = next_of serial; content = content }
 
--- one more version, last
+-- the version that follows one with this serial number, last; a version that has its serial number leaves
+abbrev pub followed : Content → Option ℕ → List Version → List Version
+followed content None versions = versions
+followed content (Some serial) versions = but_serial (next_of serial) versions ++ version_after content serial ∷ []
+
+-- one more version, last, and without the one that has its serial number
 abbrev pub with_next : Content → List Version → List Version
-with_next content versions = versions ++ option_to_list (option_map (version_after content) (last_serial versions))
+with_next content versions = followed content (last_serial versions) versions
+
+-- the serial number is that of the warning's next version, and a version has it that leaves then
+abbrev pub is_reused : Warning → ℕ → Bool
+is_reused w serial = option_eq nat_eq (option_map next_of (current_of w)) (Some serial) && list_any (has_serial serial) w.versions
 
 -- that content is the current version
 abbrev pub updated : Content → Warning → Warning

@@ -1,7 +1,7 @@
 -- Why an edit is refused: the first cause that holds, in the order of the checks.
-use Rattle.std.specs.Prelude.{ℕ, Bool, true, false, not, List, [], ◌∷◌, bytes_eq, nat_le, ltb, length}
+use Rattle.std.specs.Prelude.{ℕ, Bool, true, false, not, List, [], ◌∷◌, ◌++◌, bytes_eq, nat_le, ltb, length}
 use Rattle.common.specs.Order.{each_once}
-use Rattle.warning_book.specs.Book.{State, names, is_full, has_one_area, is_exhausted, is_of_other_kind, warning_is, is_there, is_active}
+use Rattle.warning_book.specs.Book.{State, names, is_full, has_one_area, is_of_other_kind, warning_is, is_there, is_active}
 use Rattle.warning_book.specs.Content.{have_pages, has_period}
 use Rattle.warning_book.specs.declared.content.Content.{Content}
 use Rattle.warning_book.specs.declared.notice.Notice.{Notice}
@@ -19,9 +19,17 @@ is_empty (a ∷ areas) = false
 abbrev pub issue_checks : State → Notice → List (List ℕ) → List (Bool × Refusal)
 issue_checks st notice areas = (is_empty areas, refusal.NoAreas) ∷ (not (each_once bytes_eq areas), refusal.AreaThere) ∷ (not (have_pages notice.content), refusal.BadPages) ∷ (not (has_period notice.content), refusal.BadPeriod) ∷ (nat_le 256 (length st.warnings), refusal.Limit limit.Warnings) ∷ (ltb 16 (length areas), refusal.Limit limit.WarningAreas) ∷ (nat_le 4294967295 st.issued, refusal.Limit limit.Ids) ∷ []
 
+-- the checks that the warning is there and was not stopped
+abbrev pub there_checks : State → ℕ → List (Bool × Refusal)
+there_checks st n = (not (is_there st n), refusal.NoSuchWarning) ∷ (not (is_active st n), refusal.NotActive) ∷ []
+
+-- the checks of the content that a warning is to have
+abbrev pub content_checks : State → ℕ → Content → List (Bool × Refusal)
+content_checks st n content = (not (have_pages content), refusal.BadPages) ∷ (not (has_period content), refusal.BadPeriod) ∷ (warning_is st n (is_of_other_kind content), refusal.WrongKind) ∷ []
+
 -- the checks of updating a warning
 abbrev pub update_checks : State → ℕ → Content → List (Bool × Refusal)
-update_checks st n content = (not (is_there st n), refusal.NoSuchWarning) ∷ (not (is_active st n), refusal.NotActive) ∷ (not (have_pages content), refusal.BadPages) ∷ (not (has_period content), refusal.BadPeriod) ∷ (warning_is st n (is_of_other_kind content), refusal.WrongKind) ∷ (warning_is st n is_exhausted, refusal.UpdatesExhausted) ∷ []
+update_checks st n content = there_checks st n ++ content_checks st n content
 
 -- the checks of naming one more area
 abbrev pub widen_checks : State → ℕ → List ℕ → List (Bool × Refusal)
@@ -33,7 +41,7 @@ narrow_checks st n a = (not (is_there st n), refusal.NoSuchWarning) ∷ (not (is
 
 -- the checks of stopping a warning
 abbrev pub stop_checks : State → ℕ → List (Bool × Refusal)
-stop_checks st n = (not (is_there st n), refusal.NoSuchWarning) ∷ (not (is_active st n), refusal.NotActive) ∷ []
+stop_checks st n = there_checks st n
 
 -- the checks of forgetting a warning
 abbrev pub forget_checks : State → ℕ → List (Bool × Refusal)
@@ -41,9 +49,9 @@ forget_checks st n = (not (is_there st n), refusal.NoSuchWarning) ∷ (is_active
 
 -- the checks that are left where the warning is there
 
--- the checks of updating it
-abbrev pub warning_update_checks : Content → Warning → List (Bool × Refusal)
-warning_update_checks content w = (not w.active, refusal.NotActive) ∷ (not (have_pages content), refusal.BadPages) ∷ (not (has_period content), refusal.BadPeriod) ∷ (is_of_other_kind content w, refusal.WrongKind) ∷ (is_exhausted w, refusal.UpdatesExhausted) ∷ []
+-- the check that it was not stopped
+abbrev pub warning_there_checks : Warning → List (Bool × Refusal)
+warning_there_checks w = (not w.active, refusal.NotActive) ∷ []
 
 -- the checks of naming one more area in it
 abbrev pub warning_widen_checks : List ℕ → Warning → List (Bool × Refusal)
@@ -52,10 +60,6 @@ warning_widen_checks a w = (not w.active, refusal.NotActive) ∷ (names a w, ref
 -- the checks of taking an area out of it
 abbrev pub warning_narrow_checks : List ℕ → Warning → List (Bool × Refusal)
 warning_narrow_checks a w = (not w.active, refusal.NotActive) ∷ (not (names a w), refusal.AreaNotThere) ∷ (has_one_area w, refusal.LastArea) ∷ []
-
--- the checks of stopping it
-abbrev pub warning_stop_checks : Warning → List (Bool × Refusal)
-warning_stop_checks w = (not w.active, refusal.NotActive) ∷ []
 
 -- the checks of forgetting it
 abbrev pub warning_forget_checks : Warning → List (Bool × Refusal)

@@ -2,8 +2,8 @@
 use Rattle.std.proofs.Common.{◌≡◌, ℕ, suc, ◌+◌, ◌<◌, ◌≤◌, Bool, true, false, cond, List, [], ◌∷◌, ◌++◌, Option, Some, None, nat_eq, length, refl, sym, ap, ◌∙◌, arith, length-append}
 use Rattle.std.specs.List.{list_any}
 use Rattle.std.specs.Option.{option_map, option_to_list, is_some}
-use Rattle.serials.specs.Laws.{free_code, some_free, code_of_serial, update_of_serial}
-use Rattle.serials.specs.Serials.{scope_number, serial_of, code_of, update_of, least_free}
+use Rattle.serials.specs.Laws.{free_code, some_free, code_of_serial}
+use Rattle.serials.specs.Serials.{scope_number, serial_of, code_of, least_free}
 use Rattle.warning_book.specs.Book.{code_in, codes_if, codes_of, new_serial}
 use Rattle.warning_book.specs.declared.notice.Notice.{Notice}
 use Rattle.warning_book.specs.declared.warning.Warning.{Warning}
@@ -37,15 +37,13 @@ serial_is_there {P} i l notice few h = step (least_free (codes_of notice.message
     step None e h = absurd (let no : false ≡ true = e in cc)
     step (Some code) e h = absurd (let no : true ≡ false = ap is_some h in cc)
 
--- it has update number 0, and a code that no warning with the message identifier has
-pub new_serial_parts : (i : ℕ) (l : List Warning) (notice : Notice) (serial : ℕ) → new_serial (record { issued = i; warnings = l }) notice ≡ Some serial → (update_of serial ≡ 0) × (list_any (nat_eq (code_of serial)) (codes_of notice.message_id l) ≡ false)
-new_serial_parts i l notice serial h = step (least_free (codes_of notice.message_id l)) (free_code (codes_of notice.message_id l)) h
+-- no warning with the message identifier has its code
+pub new_code_free : (i : ℕ) (l : List Warning) (notice : Notice) (serial : ℕ) → new_serial (record { issued = i; warnings = l }) notice ≡ Some serial → list_any (nat_eq (code_of serial)) (codes_of notice.message_id l) ≡ false
+new_code_free i l notice serial h = step (least_free (codes_of notice.message_id l)) (free_code (codes_of notice.message_id l)) h
   where
-    step : (o : Option ℕ) → ((code : ℕ) → o ≡ Some code → (code < 1024) × (list_any (nat_eq code) (codes_of notice.message_id l) ≡ false)) → option_map (λ code. serial_of (scope_number notice.scope) code 0) o ≡ Some serial → (update_of serial ≡ 0) × (list_any (nat_eq (code_of serial)) (codes_of notice.message_id l) ≡ false)
+    step : (o : Option ℕ) → ((code : ℕ) → o ≡ Some code → (code < 1024) × (list_any (nat_eq code) (codes_of notice.message_id l) ≡ false)) → option_map (λ code. serial_of (scope_number notice.scope) code 0) o ≡ Some serial → list_any (nat_eq (code_of serial)) (codes_of notice.message_id l) ≡ false
     step None free h = cc
     step (Some code) free h =
         let same : serial_of (scope_number notice.scope) code 0 ≡ serial = cc in
-        let parts = free code refl in (
-          ap update_of (sym same) ∙ update_of_serial (scope_number notice.scope) code,
-          ap (λ (s : ℕ). list_any (nat_eq (code_of s)) (codes_of notice.message_id l)) (sym same) ∙ ap (λ (k : ℕ). list_any (nat_eq k) (codes_of notice.message_id l)) (code_of_serial (scope_number notice.scope) code parts.0) ∙ parts.1,
-        )
+        let parts = free code refl in
+        ap (λ (s : ℕ). list_any (nat_eq (code_of s)) (codes_of notice.message_id l)) (sym same) ∙ ap (λ (k : ℕ). list_any (nat_eq k) (codes_of notice.message_id l)) (code_of_serial (scope_number notice.scope) code parts.0) ∙ parts.1

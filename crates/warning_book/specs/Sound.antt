@@ -1,7 +1,7 @@
 -- What holds of every book.
-use Rattle.std.specs.Prelude.{◌≡◌, ◌≤◌, ℕ, ◌+◌, Bool, true, false, ◌&&◌, List, [], ◌∷◌, Option, Some, None, map, bytes_eq, nat_eq, nat_le, length}
+use Rattle.std.specs.Prelude.{◌≡◌, ◌≤◌, ℕ, Bool, true, false, ◌&&◌, List, Option, Some, None, map, bytes_eq, nat_eq, nat_le, length}
 use Rattle.std.specs.List.{list_all}
-use Rattle.serials.specs.Serials.{scope_part, code_of, update_of}
+use Rattle.serials.specs.Serials.{scope_part, code_of}
 use Rattle.common.specs.Order.{is_ascending, each_once}
 use Rattle.warning_book.specs.Book.{State, number_lt, last_serial, code_in, first_kind}
 use Rattle.warning_book.specs.Content.{content_kind, is_same_kind, have_pages, has_period}
@@ -96,17 +96,3 @@ pub record IsSound (st : State) : Type 0 where
   pub codes : list_all has_one_code st.warnings ≡ true
   pub kinds : list_all has_one_kind st.warnings ≡ true
   pub own_codes : have_own_codes st.warnings ≡ true
-
--- the versions have the update numbers from this one on, in their order
-abbrev pub are_counted : ℕ → List Version → Bool
-are_counted update [] = true
-are_counted update (v ∷ versions) = nat_eq (update_of v.serial) update && are_counted (update + 1) versions
-
--- its versions have the update numbers 0, 1, 2 and so on
-abbrev pub counts_updates : Warning → Bool
-counts_updates w = are_counted 0 w.versions
-
--- a book as its edits keep it: sound, and the update numbers count the versions. No call promises the second.
-pub record IsCounted (st : State) : Type 0 where
-  pub sound : IsSound st
-  pub counted : list_all counts_updates st.warnings ≡ true

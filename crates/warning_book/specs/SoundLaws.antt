@@ -12,16 +12,16 @@ use Rattle.std.proofs.lemmas.Slice.Eq.{bytes_eq-Decides}
 use Rattle.common.specs.OnceLaws.{once_last, once_filter, once_key, kept_whole, length_without_same}
 use Rattle.common.specs.Order.{each_once}
 use Rattle.common.specs.OrderLaws.{all_same, all_filter, ascending_filter, ascending_last, ascending_map, length_filter}
-use Rattle.serials.specs.Serials.{scope_part, code_of, update_of}
-use Rattle.warning_book.specs.Book.{State, has_number, number_lt, names, is_full, has_one_area, is_exhausted, is_of_other_kind, is_so, code_in, kind_of, codes_of, new_serial, new_warning, updated, widened, narrowed, stopped, changed_if, edited, without, after_issue, after_update, after_widen, after_narrow, after_stop, after_forget}
+use Rattle.serials.specs.Serials.{scope_part, code_of}
+use Rattle.warning_book.specs.Book.{State, has_number, number_lt, names, is_full, has_one_area, is_of_other_kind, is_so, code_in, kind_of, codes_of, new_serial, new_warning, updated, widened, narrowed, stopped, changed_if, edited, without, after_issue, after_update, after_widen, after_narrow, after_stop, after_forget}
 use Rattle.common.specs.CheckLaws.{none_holds}
 use Rattle.common.specs.Checks.{first_refusal}
 use Rattle.warning_book.specs.Checks.{is_empty, issue_checks, update_checks, widen_checks, narrow_checks}
 use Rattle.warning_book.specs.Content.{kind_number, content_kind, is_same_kind, have_pages, has_period}
-use Rattle.warning_book.specs.SerialLaws.{new_serial_parts}
+use Rattle.warning_book.specs.SerialLaws.{new_code_free}
 use Rattle.warning_book.specs.Laws.{KeepsNumber, number-edited}
-use Rattle.warning_book.specs.Sound.{was_issued, has_areas, is_good, has_contents, has_versions, has_serials, has_one_code, has_one_kind, key_of, is_same_code, is_same_key, counts_updates, IsCounted}
-use Rattle.warning_book.specs.VersionLaws.{all-last, has_own_code, few_next, once_next, code_next, kind_next, counted_next, all_next, code_kept}
+use Rattle.warning_book.specs.Sound.{was_issued, has_areas, is_good, has_contents, has_versions, has_serials, has_one_code, has_one_kind, key_of, is_same_code, is_same_key, IsSound}
+use Rattle.warning_book.specs.VersionLaws.{all-last, has_own_code, few_next, once_next, code_next, kind_next, all_next, code_kept}
 use Rattle.warning_book.specs.declared.content.Content.{Content}
 use Rattle.warning_book.specs.declared.notice.Notice.{Notice}
 use Rattle.warning_book.specs.declared.warning.Warning.{Warning}
@@ -89,29 +89,36 @@ pub record Keeps (f : Warning → Warning) (g : Warning → Bool) : Type 0 where
   pub number : KeepsNumber f
   pub areas : (w : Warning) → g w ≡ false → has_areas w ≡ true → has_areas (f w) ≡ true
   pub contents : (w : Warning) → g w ≡ false → has_contents w ≡ true → has_contents (f w) ≡ true
-  pub versions : (w : Warning) → g w ≡ false → counts_updates w ≡ true → has_versions w ≡ true → has_versions (f w) ≡ true
-  pub serials : (w : Warning) → g w ≡ false → counts_updates w ≡ true → has_serials w ≡ true → has_serials (f w) ≡ true
+  pub versions : (w : Warning) → g w ≡ false → (has_serials w && has_one_code w) ≡ true → has_versions w ≡ true → has_versions (f w) ≡ true
+  pub serials : (w : Warning) → g w ≡ false → has_serials w ≡ true → has_serials (f w) ≡ true
   pub codes : (w : Warning) → g w ≡ false → has_one_code w ≡ true → has_one_code (f w) ≡ true
   pub kinds : (w : Warning) → g w ≡ false → has_one_kind w ≡ true → has_one_kind (f w) ≡ true
   pub key : (w : Warning) → g w ≡ false → key_of (f w) ≡ key_of w
-  pub counted : (w : Warning) → g w ≡ false → counts_updates w ≡ true → counts_updates (f w) ≡ true
 
-sound-edited : (n : ℕ) (f : Warning → Warning) (g : Warning → Bool) (i : ℕ) (l : List Warning) → Keeps f g → is_so n g l ≡ false → IsCounted (record { issued = i; warnings = l }) → IsCounted (record { issued = i; warnings = edited n f l })
+-- the serial numbers stand once, and have one code
+abbrev pub has_own_serials : Warning → Bool
+has_own_serials w = has_serials w && has_one_code w
+
+both_all : {X : Type 0} (p q : X → Bool) (xs : List X) → list_all p xs ≡ true → list_all q xs ≡ true → list_all (λ x. p x && q x) xs ≡ true
+both_all p q [] h g = refl
+both_all p q (x ∷ xs) h g =
+    let first = and_parts (p x) (list_all p xs) h in
+    let second = and_parts (q x) (list_all q xs) g in
+    and_from (p x && q x) (list_all (λ y. p y && q y) xs) (and_from (p x) (q x) first.0 second.0) (both_all p q xs first.1 second.1)
+
+sound-edited : (n : ℕ) (f : Warning → Warning) (g : Warning → Bool) (i : ℕ) (l : List Warning) → Keeps f g → is_so n g l ≡ false → IsSound (record { issued = i; warnings = l }) → IsSound (record { issued = i; warnings = edited n f l })
 sound-edited n f g i l k so s =
     record {
-      sound = record {
-        ordered = ascending_map number_lt number_lt (changed_if n f) (order-edited n f k.number) l s.sound.ordered;
-        given = all-edited n f g counts_updates (was_issued i) (λ w h c e. rw (k.number w) e) l so s.counted s.sound.given;
-        few = rw (length-map l (changed_if n f)) s.sound.few;
-        areas = all-edited n f g counts_updates has_areas (λ w h c e. k.areas w h e) l so s.counted s.sound.areas;
-        contents = all-edited n f g counts_updates has_contents (λ w h c e. k.contents w h e) l so s.counted s.sound.contents;
-        versions = all-edited n f g counts_updates has_versions k.versions l so s.counted s.sound.versions;
-        serials = all-edited n f g counts_updates has_serials k.serials l so s.counted s.sound.serials;
-        codes = all-edited n f g counts_updates has_one_code (λ w h c e. k.codes w h e) l so s.counted s.sound.codes;
-        kinds = all-edited n f g counts_updates has_one_kind (λ w h c e. k.kinds w h e) l so s.counted s.sound.kinds;
-        own_codes = ap (each_once is_same_key) (map-edited key_of n f g k.key l so) ∙ s.sound.own_codes;
-      };
-      counted = all-edited n f g counts_updates counts_updates (λ w h c e. k.counted w h e) l so s.counted s.counted;
+      ordered = ascending_map number_lt number_lt (changed_if n f) (order-edited n f k.number) l s.ordered;
+      given = all-edited n f g has_areas (was_issued i) (λ w h c e. rw (k.number w) e) l so s.areas s.given;
+      few = rw (length-map l (changed_if n f)) s.few;
+      areas = all-edited n f g has_areas has_areas (λ w h c e. k.areas w h e) l so s.areas s.areas;
+      contents = all-edited n f g has_areas has_contents (λ w h c e. k.contents w h e) l so s.areas s.contents;
+      versions = all-edited n f g has_own_serials has_versions k.versions l so (both_all has_serials has_one_code l s.serials s.codes) s.versions;
+      serials = all-edited n f g has_areas has_serials (λ w h c e. k.serials w h e) l so s.areas s.serials;
+      codes = all-edited n f g has_areas has_one_code (λ w h c e. k.codes w h e) l so s.areas s.codes;
+      kinds = all-edited n f g has_areas has_one_kind (λ w h c e. k.kinds w h e) l so s.areas s.kinds;
+      own_codes = ap (each_once is_same_key) (map-edited key_of n f g k.key l so) ∙ s.own_codes;
     }
 
 -- stop
@@ -123,14 +130,13 @@ keeps-stopped =
       areas = λ w h e. e;
       contents = λ w h e. e;
       versions = λ w h c e. e;
-      serials = λ w h c e. e;
+      serials = λ w h e. e;
       codes = λ w h e. e;
       kinds = λ w h e. e;
       key = λ w h. refl;
-      counted = λ w h e. e;
     }
 
-pub sound-stopped : (n i : ℕ) (l : List Warning) → IsCounted (record { issued = i; warnings = l }) → IsCounted (record { issued = i; warnings = edited n stopped l })
+pub sound-stopped : (n i : ℕ) (l : List Warning) → IsSound (record { issued = i; warnings = l }) → IsSound (record { issued = i; warnings = edited n stopped l })
 sound-stopped n i l s = sound-edited n stopped (λ w. false) i l keeps-stopped (never_so n l) s
 
 -- narrow
@@ -151,14 +157,13 @@ keeps-narrowed a =
       areas = areas-narrowed a;
       contents = λ w h e. e;
       versions = λ w h c e. e;
-      serials = λ w h c e. e;
+      serials = λ w h e. e;
       codes = λ w h e. e;
       kinds = λ w h e. e;
       key = λ w h. refl;
-      counted = λ w h e. e;
     }
 
-pub sound-narrowed : (n : ℕ) (a : List ℕ) (i : ℕ) (l : List Warning) → is_so n has_one_area l ≡ false → IsCounted (record { issued = i; warnings = l }) → IsCounted (record { issued = i; warnings = edited n (narrowed a) l })
+pub sound-narrowed : (n : ℕ) (a : List ℕ) (i : ℕ) (l : List Warning) → is_so n has_one_area l ≡ false → IsSound (record { issued = i; warnings = l }) → IsSound (record { issued = i; warnings = edited n (narrowed a) l })
 sound-narrowed n a i l so s = sound-edited n (narrowed a) has_one_area i l (keeps-narrowed a) so s
 
 -- widen
@@ -180,58 +185,49 @@ keeps-widened a =
       areas = areas-widened a;
       contents = λ w h e. e;
       versions = λ w h c e. e;
-      serials = λ w h c e. e;
+      serials = λ w h e. e;
       codes = λ w h e. e;
       kinds = λ w h e. e;
       key = λ w h. refl;
-      counted = λ w h e. e;
     }
 
-pub sound-widened : (n : ℕ) (a : List ℕ) (i : ℕ) (l : List Warning) → is_so n (names a) l ≡ false → is_so n is_full l ≡ false → IsCounted (record { issued = i; warnings = l }) → IsCounted (record { issued = i; warnings = edited n (widened a) l })
+pub sound-widened : (n : ℕ) (a : List ℕ) (i : ℕ) (l : List Warning) → is_so n (names a) l ≡ false → is_so n is_full l ≡ false → IsSound (record { issued = i; warnings = l }) → IsSound (record { issued = i; warnings = edited n (widened a) l })
 sound-widened n a i l so full s =
     sound-edited n (widened a) (λ w. names a w || is_full w) i l (keeps-widened a) (so_either n (names a) is_full l so full) s
 
 -- update
 
-keeps-updated : (c : Content) → have_pages c ≡ true → has_period c ≡ true → Keeps (updated c) (λ w. is_of_other_kind c w || is_exhausted w)
+keeps-updated : (c : Content) → have_pages c ≡ true → has_period c ≡ true → Keeps (updated c) (is_of_other_kind c)
 keeps-updated c good period =
     record {
       number = λ w. refl;
       areas = λ w h e. e;
-      contents = λ w h e. all_next is_good c w.versions (λ s. and_from (have_pages c) (has_period c) good period) (left w h) e;
-      versions = λ w h counted e. few_next c w.versions (left w h) counted e;
-      serials = λ w h counted e. once_next c w.versions (left w h) counted e;
-      codes = λ w h e. code_next c w.versions (left w h) e;
-      kinds = λ w h e. kind_next c w.versions (not-false (is_same_kind (content_kind c) (kind_of w)) (or_parts (is_of_other_kind c w) (is_exhausted w) h).0) (left w h) e;
-      key = λ w h. ap (λ (k : Option ℕ). (w.message_id, k)) (code_kept c w.versions (left w h));
-      counted = λ w h e. counted_next c w.versions (left w h) e;
+      contents = λ w h e. all_next is_good c w.versions (λ s. and_from (have_pages c) (has_period c) good period) e;
+      versions = λ w h own e. let parts = and_parts (has_serials w) (has_one_code w) own in few_next c w.versions parts.1 parts.0 e;
+      serials = λ w h e. once_next c w.versions e;
+      codes = λ w h e. code_next c w.versions e;
+      kinds = λ w h e. kind_next c w.versions (not-false (is_same_kind (content_kind c) (kind_of w)) h) e;
+      key = λ w h. ap (λ (k : Option ℕ). (w.message_id, k)) (code_kept c w.versions);
     }
-  where
-    left : (w : Warning) → (is_of_other_kind c w || is_exhausted w) ≡ false → is_exhausted w ≡ false
-    left w h = (or_parts (is_of_other_kind c w) (is_exhausted w) h).1
 
-pub sound-updated : (n : ℕ) (c : Content) (i : ℕ) (l : List Warning) → have_pages c ≡ true → has_period c ≡ true → is_so n (is_of_other_kind c) l ≡ false → is_so n is_exhausted l ≡ false → IsCounted (record { issued = i; warnings = l }) → IsCounted (record { issued = i; warnings = edited n (updated c) l })
-sound-updated n c i l good period same so s =
-    sound-edited n (updated c) (λ w. is_of_other_kind c w || is_exhausted w) i l (keeps-updated c good period) (so_either n (is_of_other_kind c) is_exhausted l same so) s
+pub sound-updated : (n : ℕ) (c : Content) (i : ℕ) (l : List Warning) → have_pages c ≡ true → has_period c ≡ true → is_so n (is_of_other_kind c) l ≡ false → IsSound (record { issued = i; warnings = l }) → IsSound (record { issued = i; warnings = edited n (updated c) l })
+sound-updated n c i l good period same s = sound-edited n (updated c) (is_of_other_kind c) i l (keeps-updated c good period) same s
 
 -- forget
 
-pub sound-without : (n i : ℕ) (l : List Warning) → IsCounted (record { issued = i; warnings = l }) → IsCounted (record { issued = i; warnings = without n l })
+pub sound-without : (n i : ℕ) (l : List Warning) → IsSound (record { issued = i; warnings = l }) → IsSound (record { issued = i; warnings = without n l })
 sound-without n i l s =
     record {
-      sound = record {
-        ordered = ascending_filter number_lt (λ w. not (has_number n w)) l s.sound.ordered;
-        given = all_filter (was_issued i) (λ w. not (has_number n w)) l s.sound.given;
-        few = let fewer = length_filter (λ (w : Warning). not (has_number n w)) l in let all = s.sound.few in omega arith;
-        areas = all_filter has_areas (λ w. not (has_number n w)) l s.sound.areas;
-        contents = all_filter has_contents (λ w. not (has_number n w)) l s.sound.contents;
-        versions = all_filter has_versions (λ w. not (has_number n w)) l s.sound.versions;
-        serials = all_filter has_serials (λ w. not (has_number n w)) l s.sound.serials;
-        codes = all_filter has_one_code (λ w. not (has_number n w)) l s.sound.codes;
-        kinds = all_filter has_one_kind (λ w. not (has_number n w)) l s.sound.kinds;
-        own_codes = once_key is_same_key key_of (without n l) ∙ once_filter (λ v w. is_same_key (key_of v) (key_of w)) (λ w. not (has_number n w)) l (sym (once_key is_same_key key_of l) ∙ s.sound.own_codes);
-      };
-      counted = all_filter counts_updates (λ w. not (has_number n w)) l s.counted;
+      ordered = ascending_filter number_lt (λ w. not (has_number n w)) l s.ordered;
+      given = all_filter (was_issued i) (λ w. not (has_number n w)) l s.given;
+      few = let fewer = length_filter (λ (w : Warning). not (has_number n w)) l in let all = s.few in omega arith;
+      areas = all_filter has_areas (λ w. not (has_number n w)) l s.areas;
+      contents = all_filter has_contents (λ w. not (has_number n w)) l s.contents;
+      versions = all_filter has_versions (λ w. not (has_number n w)) l s.versions;
+      serials = all_filter has_serials (λ w. not (has_number n w)) l s.serials;
+      codes = all_filter has_one_code (λ w. not (has_number n w)) l s.codes;
+      kinds = all_filter has_one_kind (λ w. not (has_number n w)) l s.kinds;
+      own_codes = once_key is_same_key key_of (without n l) ∙ once_filter (λ v w. is_same_key (key_of v) (key_of w)) (λ w. not (has_number n w)) l (sym (once_key is_same_key key_of l) ∙ s.own_codes);
     }
 
 -- issue
@@ -282,38 +278,33 @@ pub record IsNew (l : List Warning) (notice : Notice) (areas : List (List ℕ)) 
   pub pages : have_pages notice.content ≡ true
   pub period : has_period notice.content ≡ true
   pub room : length l < 256
-  pub first : update_of serial ≡ 0
   pub free : list_any (nat_eq (code_of serial)) (codes_of notice.message_id l) ≡ false
 
 -- a content has its own kind
 own_kind : (c : Content) → is_same_kind (content_kind c) (content_kind c) ≡ true
 own_kind c = eq-eqb (kind_number (content_kind c)) (kind_number (content_kind c)) refl
 
-pub sound-issue : (i : ℕ) (l : List Warning) (notice : Notice) (areas : List (List ℕ)) (serial : ℕ) → IsNew l notice areas serial → IsCounted (record { issued = i; warnings = l }) → IsCounted (record { issued = i + 1; warnings = l ++ new_warning (i + 1) notice areas serial ∷ [] })
+pub sound-issue : (i : ℕ) (l : List Warning) (notice : Notice) (areas : List (List ℕ)) (serial : ℕ) → IsNew l notice areas serial → IsSound (record { issued = i; warnings = l }) → IsSound (record { issued = i + 1; warnings = l ++ new_warning (i + 1) notice areas serial ∷ [] })
 sound-issue i l notice areas serial new s =
     let w : Warning = new_warning (i + 1) notice areas serial in
     record {
-      sound = record {
-        ordered = ascending_last number_lt w l (all_earlier i w l refl s.sound.given) s.sound.ordered;
-        given = all-last (was_issued (i + 1)) w l (all_same (was_issued i) (was_issued (i + 1)) (was_issued-more i) l s.sound.given) (was_issued-new i);
-        few = let room = new.room in omega (arith, length-append l (w ∷ []));
-        areas = all-last has_areas w l s.sound.areas (new_areas areas new.some new.once new.few);
-        contents = all-last has_contents w l s.sound.contents (and_from (have_pages notice.content && has_period notice.content) true (and_from (have_pages notice.content) (has_period notice.content) new.pages new.period) refl);
-        versions = all-last has_versions w l s.sound.versions refl;
-        serials = all-last has_serials w l s.sound.serials refl;
-        codes = all-last has_one_code w l s.sound.codes (and_from (nat_eq (scope_part serial) (scope_part serial) && nat_eq (code_of serial) (code_of serial)) true (has_own_code serial) refl);
-        kinds = all-last has_one_kind w l s.sound.kinds (and_from (is_same_kind (content_kind notice.content) (content_kind notice.content)) true (own_kind notice.content) refl);
-        own_codes = ap (each_once is_same_key) (map-append key_of l (w ∷ [])) ∙ once_last is_same_key (notice.message_id, Some (code_of serial)) (map key_of l) (no_same_key notice.message_id (code_of serial) l new.free) s.sound.own_codes;
-      };
-      counted = all-last counts_updates w l s.counted (and_from (nat_eq (update_of serial) 0) true (ap (λ (u : ℕ). nat_eq u 0) new.first) refl);
+      ordered = ascending_last number_lt w l (all_earlier i w l refl s.given) s.ordered;
+      given = all-last (was_issued (i + 1)) w l (all_same (was_issued i) (was_issued (i + 1)) (was_issued-more i) l s.given) (was_issued-new i);
+      few = let room = new.room in omega (arith, length-append l (w ∷ []));
+      areas = all-last has_areas w l s.areas (new_areas areas new.some new.once new.few);
+      contents = all-last has_contents w l s.contents (and_from (have_pages notice.content && has_period notice.content) true (and_from (have_pages notice.content) (has_period notice.content) new.pages new.period) refl);
+      versions = all-last has_versions w l s.versions refl;
+      serials = all-last has_serials w l s.serials refl;
+      codes = all-last has_one_code w l s.codes (and_from (nat_eq (scope_part serial) (scope_part serial) && nat_eq (code_of serial) (code_of serial)) true (has_own_code serial) refl);
+      kinds = all-last has_one_kind w l s.kinds (and_from (is_same_kind (content_kind notice.content) (content_kind notice.content)) true (own_kind notice.content) refl);
+      own_codes = ap (each_once is_same_key) (map-append key_of l (w ∷ [])) ∙ once_last is_same_key (notice.message_id, Some (code_of serial)) (map key_of l) (no_same_key notice.message_id (code_of serial) l new.free) s.own_codes;
     }
 
 -- an edit none of whose checks holds
 
-pub sound_after_issue : (st : State) (notice : Notice) (areas : List (List ℕ)) (serial : ℕ) → first_refusal (issue_checks st notice areas) ≡ None → new_serial st notice ≡ Some serial → IsCounted st → IsCounted (after_issue notice areas serial st)
+pub sound_after_issue : (st : State) (notice : Notice) (areas : List (List ℕ)) (serial : ℕ) → first_refusal (issue_checks st notice areas) ≡ None → new_serial st notice ≡ Some serial → IsSound st → IsSound (after_issue notice areas serial st)
 sound_after_issue st notice areas serial checked given sound =
     let none = none_holds (issue_checks st notice areas) checked in
-    let parts = new_serial_parts st.issued st.warnings notice serial given in
     sound-issue st.issued st.warnings notice areas serial
     (record {
       some = none.0;
@@ -322,8 +313,7 @@ sound_after_issue st notice areas serial checked given sound =
       pages = not-false (have_pages notice.content) none.1.1.0;
       period = not-false (has_period notice.content) none.1.1.1.0;
       room = room (length st.warnings) none.1.1.1.1.0;
-      first = parts.0;
-      free = parts.1;
+      free = new_code_free st.issued st.warnings notice serial given;
     })
     sound
   where
@@ -333,23 +323,23 @@ sound_after_issue st notice areas serial checked given sound =
     room : (n : ℕ) → nat_le 256 n ≡ false → n < 256
     room n h = grind (arith, nat_tests, common_steps)
 
-pub sound_after_update : (st : State) (n : ℕ) (content : Content) → first_refusal (update_checks st n content) ≡ None → IsCounted st → IsCounted (after_update n content st)
+pub sound_after_update : (st : State) (n : ℕ) (content : Content) → first_refusal (update_checks st n content) ≡ None → IsSound st → IsSound (after_update n content st)
 sound_after_update st n content checked sound =
     let none = none_holds (update_checks st n content) checked in
-    sound-updated n content st.issued st.warnings (not-false (have_pages content) none.1.1.0) (not-false (has_period content) none.1.1.1.0) none.1.1.1.1.0 none.1.1.1.1.1.0 sound
+    sound-updated n content st.issued st.warnings (not-false (have_pages content) none.1.1.0) (not-false (has_period content) none.1.1.1.0) none.1.1.1.1.0 sound
 
-pub sound_after_widen : (st : State) (n : ℕ) (a : List ℕ) → first_refusal (widen_checks st n a) ≡ None → IsCounted st → IsCounted (after_widen n a st)
+pub sound_after_widen : (st : State) (n : ℕ) (a : List ℕ) → first_refusal (widen_checks st n a) ≡ None → IsSound st → IsSound (after_widen n a st)
 sound_after_widen st n a checked sound =
     let none = none_holds (widen_checks st n a) checked in
     sound-widened n a st.issued st.warnings none.1.1.0 none.1.1.1.0 sound
 
-pub sound_after_narrow : (st : State) (n : ℕ) (a : List ℕ) → first_refusal (narrow_checks st n a) ≡ None → IsCounted st → IsCounted (after_narrow n a st)
+pub sound_after_narrow : (st : State) (n : ℕ) (a : List ℕ) → first_refusal (narrow_checks st n a) ≡ None → IsSound st → IsSound (after_narrow n a st)
 sound_after_narrow st n a checked sound =
     let none = none_holds (narrow_checks st n a) checked in
     sound-narrowed n a st.issued st.warnings none.1.1.1.0 sound
 
-pub sound_after_stop : (st : State) (n : ℕ) → IsCounted st → IsCounted (after_stop n st)
+pub sound_after_stop : (st : State) (n : ℕ) → IsSound st → IsSound (after_stop n st)
 sound_after_stop st n sound = sound-stopped n st.issued st.warnings sound
 
-pub sound_after_forget : (st : State) (n : ℕ) → IsCounted st → IsCounted (after_forget n st)
+pub sound_after_forget : (st : State) (n : ℕ) → IsSound st → IsSound (after_forget n st)
 sound_after_forget st n sound = sound-without n st.issued st.warnings sound

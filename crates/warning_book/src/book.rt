@@ -23,13 +23,13 @@ pub struct Book {
 
 impl Model for Book {
     ghost use Rattle.warning_book.specs.Book.{State};
-    ghost use Rattle.warning_book.specs.Sound.{IsCounted};
+    ghost use Rattle.warning_book.specs.Sound.{IsSound};
 
     ghost Value = { State };
 
     ghost view = { λ b. record { issued = b.issued; warnings = b.warnings.items } };
 
-    ghost invariant = { λ b. IsCounted (record { issued = b.issued; warnings = b.warnings.items }) };
+    ghost invariant = { λ b. IsSound (record { issued = b.issued; warnings = b.warnings.items }) };
 }
 
 impl Book {
@@ -39,7 +39,7 @@ impl Book {
     ghost use Rattle.warning_book.specs.Book.{empty, number_lt, names, is_active, warning_of, current, message_id, versions_of, numbers, names_one_of, naming, naming_one_of, is_so, areas_of, content_of, new_serial, next_serial, after_issue, after_update, after_widen, after_narrow, after_stop, after_forget};
     ghost use Rattle.common.specs.Checks.{first_refusal};
     ghost use Rattle.common.specs.Order.{is_ascending};
-    ghost use Rattle.warning_book.specs.Checks.{issue_checks, update_checks, widen_checks, narrow_checks, stop_checks, forget_checks};
+    ghost use Rattle.warning_book.specs.Checks.{issue_checks, there_checks, content_checks, update_checks, widen_checks, narrow_checks, stop_checks, forget_checks};
     ghost use Rattle.warning_book.specs.Sound.{was_issued, has_areas, has_contents, has_versions, has_serials, has_one_code, has_one_kind, have_own_codes};
     ghost use Rattle.warning_book.specs.declared.refusal.Refusal.TheVariants as refusal;
 
@@ -141,22 +141,50 @@ impl Book {
         Ok((number, serial))
     }
 
-    /// Whether `update` takes the content, memory aside.
-    pub fn check_update(&self, number: WarningId, content: &Content) -> Result<(), Refusal>
-        ensures accepted { OnOk result (first_refusal (update_checks self.now number content.now) ≡ None) }
-        ensures refused { IfErr result (λ e. first_refusal (update_checks self.now number content.now) ≡ Some e) }
+    /// Whether the warning is there and was not stopped: `NoSuchWarning`, then `NotActive`.
+    pub fn check_active(&self, number: WarningId) -> Result<(), Refusal>
+        ensures accepted { OnOk result (first_refusal (there_checks self.now number) ≡ None) }
+        ensures refused { IfErr result (λ e. first_refusal (there_checks self.now number) ≡ Some e) }
     {
         match lookups::find(self.warnings.as_slice(), number) {
-            Some(warning) => warning_checks::check_update(warning, content),
+            Some(warning) => warning_checks::check_active(warning),
             None => Err(Refusal::NoSuchWarning),
         }
     }
 
-    /// Gives a warning a new version, and answers its serial number.
+    /// Whether the content can be broadcast and is of the warning's kind: `BadPages`, `BadPeriod`, then `WrongKind`. It
+    /// says nothing of a warning that is not there.
+    pub fn check_content(&self, number: WarningId, content: &Content) -> Result<(), Refusal>
+        ensures accepted { OnOk result (first_refusal (content_checks self.now number content.now) ≡ None) }
+        ensures refused { IfErr result (λ e. first_refusal (content_checks self.now number content.now) ≡ Some e) }
+    {
+        if !content.have_pages() {
+            return Err(Refusal::BadPages);
+        }
+        if !content.has_period() {
+            return Err(Refusal::BadPeriod);
+        }
+        if lookups::is_of_other_kind(self.warnings.as_slice(), number, content) {
+            return Err(Refusal::WrongKind);
+        }
+        Ok(())
+    }
+
+    /// Whether `update` takes the content, memory aside: what `check_active` says, then what `check_content` says.
+    pub fn check_update(&self, number: WarningId, content: &Content) -> Result<(), Refusal>
+        ensures accepted { OnOk result (first_refusal (update_checks self.now number content.now) ≡ None) }
+        ensures refused { IfErr result (λ e. first_refusal (update_checks self.now number content.now) ≡ Some e) }
+    {
+        self.check_active(number)?;
+        self.check_content(number, content)?;
+        Ok(())
+    }
+
+    /// Gives a warning a new version, which stands last, and answers its serial number. Update number 0 follows 15: a
+    /// version that has the new serial number already leaves the book.
     ///
-    /// Refused as `NoSuchWarning`, `NotActive`, `BadPages`, `BadPeriod`, `WrongKind` where the warning is of the other
-    /// kind, or `UpdatesExhausted`, the first that holds, else as `Memory` where it is out of memory; an `Err` leaves
-    /// the book as it was.
+    /// Refused as `NoSuchWarning`, `NotActive`, `BadPages`, `BadPeriod`, or `WrongKind` where the warning is of the other
+    /// kind, the first that holds, else as `Memory` where it is out of memory; an `Err` leaves the book as it was.
     pub fn update(&mut self, number: WarningId, content: &Content) -> Result<Serial, Refusal>
         ensures accepted { OnOk result (first_refusal (update_checks self.old number content.now) ≡ None) }
         ensures serial { IfOk result (λ s. next_serial self.old number ≡ Some s) }
@@ -226,10 +254,8 @@ impl Book {
         ensures accepted { OnOk result (first_refusal (stop_checks self.now number) ≡ None) }
         ensures refused { IfErr result (λ e. first_refusal (stop_checks self.now number) ≡ Some e) }
     {
-        match lookups::find(self.warnings.as_slice(), number) {
-            Some(warning) => warning_checks::check_stop(warning),
-            None => Err(Refusal::NoSuchWarning),
-        }
+        self.check_active(number)?;
+        Ok(())
     }
 
     /// Stops a warning, which stays in the book, and takes no memory.

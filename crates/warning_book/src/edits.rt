@@ -5,7 +5,7 @@ ghost use Rattle.std.specs.List.{list_any};
 ghost use Rattle.std.specs.Option.{option_map, option_and_then};
 ghost use Rattle.common.specs.Order.{each_once, is_ascending};
 ghost use Rattle.serials.specs.Serials.{next_of};
-ghost use Rattle.warning_book.specs.Book.{has_number, names, number_lt, current_of, is_exhausted, is_so, new_warning, updated, widened, narrowed, stopped, edited, without};
+ghost use Rattle.warning_book.specs.Book.{has_number, has_none, names, number_lt, current_of, is_so, new_warning, updated, widened, narrowed, stopped, edited, without};
 ghost use Rattle.warning_book.specs.declared.refusal.Refusal.TheVariants as refusal;
 
 use crate::content::Content;
@@ -50,17 +50,17 @@ pub(crate) fn issue(
 
 /// Makes the content the warning's current version, and answers its serial number.
 fn update_one(alloc: Global, warning: &mut Warning, content: &Content) -> Result<Serial, Refusal>
-    requires { is_exhausted warning.old ≡ false }
+    requires { has_none warning.old ≡ false }
     ensures serial { IfOk result (λ s. option_map next_of (current_of warning.old) ≡ Some s) }
     ensures updated { OnOk result (warning.new ≡ updated content.now warning.old) }
     ensures memory { IfErr result (λ e. e ≡ refusal.Memory) }
     ensures unchanged { OnErr result (warning.new ≡ warning.old) }
 {
     let Some(serial) = warning.next_serial() else {
-        return Err(Refusal::UpdatesExhausted);
+        return Err(Refusal::NoSuchWarning);
     };
     let content = content.copied(alloc)?;
-    warning.versions.push(Version { serial, content })?;
+    warning.versions.follow(Version { serial, content })?;
     Ok(serial)
 }
 
@@ -73,7 +73,7 @@ pub(crate) fn update(
 ) -> Result<Serial, Refusal>
     requires ordered { is_ascending number_lt warnings.old.items ≡ true }
     requires there { list_any (has_number number) warnings.old.items ≡ true }
-    requires left { is_so number is_exhausted warnings.old.items ≡ false }
+    requires some { is_so number has_none warnings.old.items ≡ false }
     ensures serial { IfOk result (λ s. option_map next_of (option_and_then current_of (find (has_number number) warnings.old.items)) ≡ Some s) }
     ensures updated { OnOk result (warnings.new.items ≡ edited number (updated content.now) warnings.old.items) }
     ensures memory { IfErr result (λ e. e ≡ refusal.Memory) }

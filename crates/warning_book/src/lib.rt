@@ -1,7 +1,8 @@
 //! The warnings that an operator of a cell broadcast centre has issued, each with its versions and its areas.
 //!
 //! A version has a content and a serial number (3GPP TS 23.041, 9.4.1.2.1). The versions of a warning stand in one list,
-//! the current one last; their scope, code and kind are the same, and their update numbers differ. A stopped warning stays in the book, with its code and its areas, until it is forgotten.
+//! the current one last; their scope, code and kind are the same, and their update numbers differ, so there are 16 at most.
+//! A stopped warning stays in the book, with its code and its areas, until it is forgotten.
 //! Begin with `book`; the words of its contracts stand in `specs/Book`, the checks of each edit in `specs/Checks`, and
 //! what holds of every book in `specs/Sound`.
 #![tactic(auto)]

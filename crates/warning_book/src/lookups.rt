@@ -6,8 +6,9 @@ ghost use Rattle.std.specs.List.{position_or_len};
 ghost use Rattle.std.specs.List.Sorted.{IsPartitionPoint};
 ghost use Rattle.std.specs.Option.{option_map, option_and_then, option_copied};
 ghost use Rattle.common.specs.Order.{is_ascending};
-ghost use Rattle.warning_book.specs.Book.{has_number, number_lt, current_of, is_so, areas_of, versions_of};
+ghost use Rattle.warning_book.specs.Book.{has_number, number_lt, current_of, is_of_other_kind, is_so, areas_of, versions_of};
 
+use crate::content::Content;
 use crate::version::Version;
 use crate::warning::Warning;
 use crate::warning_id::WarningId;
@@ -71,6 +72,18 @@ pub(crate) fn is_active(warnings: &[Warning], number: WarningId) -> bool
 {
     match find(warnings, number) {
         Some(warning) => warning.active,
+        None => false,
+    }
+}
+
+/// Whether the warning is there, and the content is for one of the other kind.
+#[tactic(auto, using(crate::specs::Laws::found_so, crate::proofs::FoundLemmas::so_absent))]
+pub(crate) fn is_of_other_kind(warnings: &[Warning], number: WarningId, content: &Content) -> bool
+    requires { is_ascending number_lt warnings.now ≡ true }
+    ensures { result ≡ is_so number (is_of_other_kind content.now) warnings.now }
+{
+    match find(warnings, number) {
+        Some(warning) => content.kind() != warning.kind(),
         None => false,
     }
 }

@@ -30,7 +30,6 @@ pub enum Refusal {
     BadPages,
     BadPeriod,
     WrongKind,
-    UpdatesExhausted,
     Limit { which: Limit },
     Memory,
 }
@@ -49,7 +48,6 @@ impl Refusal {
             Refusal::BadPages => "a content has 1 to 15 pages of 1 to 82 octets",
             Refusal::BadPeriod => "a repetition period is 1 to 1,024",
             Refusal::WrongKind => "the warning is of the other kind",
-            Refusal::UpdatesExhausted => "the warning was updated fifteen times",
             Refusal::Limit {
                 which: Limit::Warnings,
             } => "a limit would be passed: Warnings",

@@ -1,8 +1,11 @@
 //! A list of versions.
 
-ghost use Rattle.std.specs.Prelude.{◌≡◌, ◌++◌, ◌∷◌, [], OnOk, OnErr};
+ghost use Rattle.std.specs.Prelude.{◌≡◌, ◌<◌, ◌≤◌, ◌++◌, ◌∷◌, [], OnOk, OnErr};
+ghost use Rattle.std.specs.Vec.{vec_len, vec_capacity};
+ghost use Rattle.warning_book.specs.Book.{but_serial};
 
 use crate::version::Version;
+use serials::Serial;
 use std::alloc::{AllocError, Global};
 use std::marker::Model;
 
@@ -33,6 +36,23 @@ impl Clone for Versions {
     }
 }
 
+/// Puts a version last, for which there is room.
+fn put_last(versions: &mut Vec<Version>, version: Version)
+    requires { vec_len versions.old < vec_capacity versions.old }
+    ensures { versions.new.items ≡ versions.old.items ++ version ∷ [] }
+{
+    let _ = versions.push(version);
+}
+
+/// Takes out the version of that serial number, if there is one.
+fn take_out(versions: &mut Vec<Version>, serial: Serial)
+    ensures items { versions.new.items ≡ but_serial serial versions.old.items }
+    ensures room { vec_len versions.new ≤ vec_len versions.old }
+    ensures capacity { vec_capacity versions.new ≡ vec_capacity versions.old }
+{
+    versions.retain(|version| version.serial != serial);
+}
+
 impl Versions {
     /// No versions. What they will need is taken from the allocator.
     pub(crate) fn new(alloc: Global) -> Versions
@@ -47,6 +67,17 @@ impl Versions {
         ensures { result.now ≡ self.now }
     {
         &self.versions
+    }
+
+    /// Puts a version last, in the place of one that has its serial number, which makes it the current one.
+    pub(crate) fn follow(&mut self, version: Version) -> Result<(), AllocError>
+        ensures put { OnOk result (self.new ≡ but_serial version.serial self.old ++ version ∷ []) }
+        ensures unchanged { OnErr result (self.new ≡ self.old) }
+    {
+        self.versions.try_reserve(1)?;
+        take_out(&mut self.versions, version.serial);
+        put_last(&mut self.versions, version);
+        Ok(())
     }
 
     /// Puts a version last, which makes it the current one.

@@ -36,10 +36,10 @@ impl Clone for Warning {
 }
 
 impl Warning {
-    ghost use Rattle.std.specs.Prelude.{◌≡◌, Some, true, false, IfSome, IfNone};
+    ghost use Rattle.std.specs.Prelude.{◌≡◌};
     ghost use Rattle.std.specs.Option.{option_map};
     ghost use Rattle.serials.specs.Serials.{next_of};
-    ghost use Rattle.warning_book.specs.Book.{current_of, is_exhausted, kind_of};
+    ghost use Rattle.warning_book.specs.Book.{current_of, kind_of};
 
     pub fn number(&self) -> WarningId
         ensures { result ≡ self.now.number }
@@ -82,23 +82,14 @@ impl Warning {
             .map(|version| version.serial)
     }
 
-    /// The serial number of the next version; `None` where no update number is left.
+    /// The serial number of the next version; `None` where there is no version.
     pub(crate) fn next_serial(&self) -> Option<Serial>
-        ensures next { IfSome result (λ s. option_map next_of (current_of self.now) ≡ Some s) }
-        ensures left { IfSome result (λ s. is_exhausted self.now ≡ false) }
-        ensures none { IfNone result (is_exhausted self.now ≡ true) }
+        ensures { result ≡ option_map next_of (current_of self.now) }
     {
         match self.serial() {
-            Some(serial) => serial.next(),
+            Some(serial) => Some(serial.next()),
             None => None,
         }
-    }
-
-    /// Whether no update number is left for a next version.
-    pub(crate) fn is_exhausted(&self) -> bool
-        ensures { result ≡ is_exhausted self.now }
-    {
-        self.next_serial().is_none()
     }
 
     /// The areas, in the order in which they were named.

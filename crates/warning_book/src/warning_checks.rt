@@ -2,32 +2,19 @@
 
 ghost use Rattle.std.specs.Prelude.{◌≡◌, Some, None, IfErr, OnOk};
 ghost use Rattle.common.specs.Checks.{first_refusal};
-ghost use Rattle.warning_book.specs.Checks.{warning_update_checks, warning_widen_checks, warning_narrow_checks, warning_stop_checks, warning_forget_checks};
+ghost use Rattle.warning_book.specs.Checks.{warning_there_checks, warning_widen_checks, warning_narrow_checks, warning_forget_checks};
 
-use crate::content::Content;
 use crate::refusal::{Limit, Refusal};
 use crate::warning::Warning;
 use common::Name;
 
-/// Whether the warning may have a new version with this content.
-pub(crate) fn check_update(warning: &Warning, content: &Content) -> Result<(), Refusal>
-    ensures accepted { OnOk result (first_refusal (warning_update_checks content.now warning.now) ≡ None) }
-    ensures refused { IfErr result (λ e. first_refusal (warning_update_checks content.now warning.now) ≡ Some e) }
+/// Whether the warning was not stopped.
+pub(crate) fn check_active(warning: &Warning) -> Result<(), Refusal>
+    ensures accepted { OnOk result (first_refusal (warning_there_checks warning.now) ≡ None) }
+    ensures refused { IfErr result (λ e. first_refusal (warning_there_checks warning.now) ≡ Some e) }
 {
     if !warning.active {
         return Err(Refusal::NotActive);
-    }
-    if !content.have_pages() {
-        return Err(Refusal::BadPages);
-    }
-    if !content.has_period() {
-        return Err(Refusal::BadPeriod);
-    }
-    if content.kind() != warning.kind() {
-        return Err(Refusal::WrongKind);
-    }
-    if warning.is_exhausted() {
-        return Err(Refusal::UpdatesExhausted);
     }
     Ok(())
 }
@@ -64,17 +51,6 @@ pub(crate) fn check_narrow(warning: &Warning, a: &Name) -> Result<(), Refusal>
     }
     if warning.areas.len() <= 1 {
         return Err(Refusal::LastArea);
-    }
-    Ok(())
-}
-
-/// Whether the warning may be stopped.
-pub(crate) fn check_stop(warning: &Warning) -> Result<(), Refusal>
-    ensures accepted { OnOk result (first_refusal (warning_stop_checks warning.now) ≡ None) }
-    ensures refused { IfErr result (λ e. first_refusal (warning_stop_checks warning.now) ≡ Some e) }
-{
-    if !warning.active {
-        return Err(Refusal::NotActive);
     }
     Ok(())
 }

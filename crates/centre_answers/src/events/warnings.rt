@@ -1,19 +1,31 @@
 //! Edits of warnings.
 
-ghost use Rattle.std.specs.Prelude.{◌≡◌, not, true, OnOk, OnErr, IfOk};
+ghost use Rattle.std.specs.Prelude.{◌≡◌, ◌≤◌, ◌+◌, not, true, OnOk, OnErr, IfOk, IsOk};
 ghost use Rattle.std.specs.List.{list_any};
 ghost use Rattle.areas.specs.Areas.{has_area};
+ghost use Rattle.cell_register.specs.Register.{State};
+ghost use Rattle.kept_tables.specs.Consistent.{Consistent};
 ghost use Rattle.warning_book.specs.Book.{new_serial, after_update, after_widen, after_narrow, after_stop};
-ghost use Rattle.centre_events.specs.Kept.{AreAreasOf, Gives, IsChecked, is_plain};
+ghost use Rattle.centre_answers.specs.Reused.{most_read};
+ghost use Rattle.centre_events.specs.Kept.{AreAreasOf, AreFlightsOf, IsRegisterOf, Gives, IsChecked, is_plain};
 ghost use Rattle.centre_events.specs.Past.{Past};
+ghost use Rattle.centre_events.specs.Settings.{Settings};
 ghost use Rattle.centre_events.specs.Verdict.{issue, update, widen, narrow, stop};
 ghost use Rattle.centre_events.specs.Warnings.{book_of};
+ghost use Rattle.centre_past.specs.Facts.{facts};
+ghost use Rattle.centre_past.specs.Idle.{AreKnownOf, OnlyReads};
+ghost use Rattle.centre_past.specs.Legal.{Legal};
+ghost use Rattle.centre_past.specs.Reach.{wraps};
 ghost use Rattle.coverage_plan.specs.Edited.{with_issue};
 
+use crate::events::reusing::check_reused;
 use areas::Areas;
+use cell_register::Register;
 use centre_events::answer::Answer;
+use centre_events::flight::Flight;
 use centre_events::refusal::Refusal;
 use common::Name;
+use kept_tables::KeptTables;
 use warning_book::{Book, Content, Notice, WarningId};
 
 /// Whether one of the names is no area.
@@ -61,23 +73,35 @@ pub(crate) fn issue(
     Ok(Answer::Issued(number, serial))
 }
 
-/// Whether an Update is accepted: the warning is active and has a version left, and its content is good.
-#[tactic(auto, using(centre_past::proofs::WarningLemmas::update_free, centre_past::proofs::WarningLemmas::update_first))]
-pub(crate) fn check_update(book: &Book, number: WarningId, content: &Content) -> Result<(), Refusal>
-    ensures { (past : Past) → book.now ≡ book_of past → IsChecked (update past number content.now) result }
+/// Whether an Update is accepted: the warning is active, nothing is on air or in flight of a version that has the serial
+/// number of the next, and the content is good. Lines are read only where a version has that serial number, and no memory
+/// is taken.
+pub(crate) fn check_update(
+    register: &Register,
+    book: &Book,
+    flights: &[Flight],
+    tables: &mut KeptTables,
+    number: WarningId,
+    content: &Content,
+) -> Result<(), Refusal>
+    ensures checked { (settings : Settings) (past : Past) → Legal settings past → IsRegisterOf past register.now → book.now ≡ book_of past → AreFlightsOf past flights.now → Consistent tables.old (facts past) → IsChecked (update past number content.now) result }
+    ensures reads { OnlyReads tables.old tables.new }
+    ensures meter { (settings : Settings) (past : Past) (r : State) → Legal settings past → book.now ≡ book_of past → AreKnownOf past tables.old.lines r → tables.new.lines.meter ≤ tables.old.lines.meter + most_read past (wraps past number) }
 {
-    book.check_update(number, content)?;
+    book.check_active(number)?;
+    check_reused(register, book, flights, tables, number)?;
+    book.check_content(number, content)?;
     Ok(())
 }
 
-/// Update: gives a warning a new version.
+/// Update: gives a warning a new version. A version that has its serial number leaves the book.
 #[tactic(auto, using(centre_past::proofs::WarningLemmas::update_taken, centre_past::proofs::WarningLemmas::update_refused))]
 pub(crate) fn update(
     book: &mut Book,
     number: WarningId,
     content: &Content,
 ) -> Result<Answer, Refusal>
-    ensures verdict { (past : Past) → book.old ≡ book_of past → Gives (update past number content.now) result }
+    ensures verdict { (past : Past) → book.old ≡ book_of past → IsOk (update past number content.now) → Gives (update past number content.now) result }
     ensures changed { OnOk result (book.new ≡ after_update number content.now book.old) }
     ensures unchanged { OnErr result (book.new ≡ book.old) }
     ensures plain { IfOk result (λ a. is_plain a ≡ true) }

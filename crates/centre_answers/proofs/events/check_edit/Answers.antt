@@ -1,13 +1,17 @@
+use Rattle.std.proofs.Common.{arith, sym, subst}
+use Rattle.centre_events.specs.Kept.{AreFlightsOf}
+use Rattle.centre_past.proofs.ReadLemmas.{known_kept}
+use Rattle.centre_past.specs.Reaching.{TellsLines}
+use Rattle.centre_answers.proofs.ReuseLemmas.{read_in_reach}
 use Rattle.centre_answers.proofs.events.check_edit.Goals as goal
 
-pub returns-in-Update : goal.returns-in-Update
-returns-in-Update c =
-    λ settings past legal kept. rw c.in-Update.is (c.check_update.ensures past kept.booked)
+pub returns-in-Update-clause-checked : goal.returns-in-Update-clause-checked
+returns-in-Update-clause-checked c =
+    λ settings past legal kept. rw c.in-Update.is (c.check_update.ensures.checked settings past legal kept.registered kept.booked (subst (AreFlightsOf past) (sym c.as_slice.ensures.value) kept.flying) kept.tables)
 
-pub returns-in-Widen : goal.returns-in-Widen
-returns-in-Widen c =
-    λ settings past legal kept. rw c.in-Widen.is (c.check_widen.ensures past kept.selected kept.booked)
-
-pub returns-in-Narrow : goal.returns-in-Narrow
-returns-in-Narrow c =
-    λ settings past legal kept. rw c.in-Narrow.is (c.check_narrow.ensures past kept.selected kept.booked)
+pub returns-in-Update-clause-meter : goal.returns-in-Update-clause-meter
+returns-in-Update-clause-meter c =
+    λ settings past legal kept.
+    let read = c.check_update.ensures.meter settings past c.args.kept.now.register legal kept.booked (known_kept settings past c.args.kept.now legal kept (subst TellsLines c.lines.ensures c.tell_lines.ensures)) in
+    let reach = read_in_reach past c.in-Update.number.now c.in-Update.content.now in
+    rw c.in-Update.is (omega (arith, read, reach))

@@ -1,19 +1,36 @@
-use Rattle.std.proofs.Common.{◌<◌, ◌≤◌, length, refl, rules}
-use Rattle.centre_core.proofs.CentreLemmas.{checked_there, full}
+use Rattle.std.proofs.Common.{◌≡◌, ◌∙◌, ◌++◌, ◌+◌, false, length, rules, sym, true}
+use Rattle.centre_core.proofs.CentreLemmas.{checked_there}
+use Rattle.centre_core.proofs.FoldedLemmas.{anyway, few_of, full, number_of}
 use Rattle.centre_events.specs.Past.{past_of}
-use Rattle.centre_events.specs.Settings.{Settings}
 use Rattle.centre_events.specs.declared.event.Event.TheVariants as event
+use Rattle.centre_past.specs.Legal.{lasting}
 use Rattle.centre_core.proofs.looking.look_at_edit.Goals as goal
 
-pub returns-then-len-from-clause-verdict : goal.returns-then-len-from-clause-verdict
-returns-then-len-from-clause-verdict c =
-    let many : c.args.limit ≤ length c.args.journal.now.entries = search rules in
-    λ network centre. full (record { network = network; limit = c.args.limit }) c.args.journal.now.entries (event.Edit c.args.edit.now) many
+pub returns-then-is_full-clause-verdict : goal.returns-then-is_full-clause-verdict
+returns-then-is_full-clause-verdict c =
+    let none : c.is_full.result ≡ true = search rules in
+    λ network centre. full (record { network = network; limit = c.args.limit }) c.args.journal.now.folded c.args.journal.now.entries (event.Edit c.args.edit.now) (sym c.is_full.ensures ∙ none)
+
+pub returns-clause-few : goal.returns-clause-few
+returns-clause-few c =
+    let room : c.is_full.result ≡ false = search rules in
+    anyway c.check_edit.result (few_of c.args.limit (length c.args.journal.now.entries) (length c.args.journal.now.folded + length c.args.journal.now.entries) (sym c.is_full.ensures ∙ room))
+
+pub returns-clause-number : goal.returns-clause-number
+returns-clause-number c =
+    let room : c.is_full.result ≡ false = search rules in
+    anyway c.check_edit.result (number_of c.args.limit (length c.args.journal.now.entries) (length c.args.journal.now.folded + length c.args.journal.now.entries) (sym c.is_full.ensures ∙ room))
 
 pub returns-clause-verdict : goal.returns-clause-verdict
 returns-clause-verdict c =
-    let room : length c.args.journal.now.entries < c.args.limit = search rules in
+    let room : c.is_full.result ≡ false = search rules in
+    let is = sym c.is_full.ensures ∙ room in
     λ network centre.
-    let settings : Settings = record { network = network; limit = c.args.limit } in
-    checked_there settings c.args.journal.now.entries (event.Edit c.args.edit.now) c.check_edit.result room
-    (c.check_edit.ensures settings (past_of c.args.journal.now.entries) centre.legal (centre.whole refl))
+    checked_there (record { network = network; limit = c.args.limit }) c.args.journal.now.folded c.args.journal.now.entries (event.Edit c.args.edit.now) c.check_edit.result
+    (few_of c.args.limit (length c.args.journal.now.entries) (length c.args.journal.now.folded + length c.args.journal.now.entries) is) (number_of c.args.limit (length c.args.journal.now.entries) (length c.args.journal.now.folded + length c.args.journal.now.entries) is)
+    (c.check_edit.ensures.checked (lasting network) (past_of (c.args.journal.now.folded ++ c.args.journal.now.entries)) centre.legal centre.kept)
+
+pub returns-clause-meter : goal.returns-clause-meter
+returns-clause-meter c =
+    λ network centre.
+    c.check_edit.ensures.meter (lasting network) (past_of (c.args.journal.now.folded ++ c.args.journal.now.entries)) centre.legal centre.kept

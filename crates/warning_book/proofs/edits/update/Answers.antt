@@ -3,7 +3,7 @@ use Rattle.std.specs.List.{position_or_len}
 use Rattle.std.specs.Option.{option_map, option_and_then}
 use Rattle.serials.specs.Serials.{next_of}
 use Rattle.warning_book.proofs.PlaceLemmas.{changed_at_place, found_at_place, not_so_at_place, has_place}
-use Rattle.warning_book.specs.Book.{has_number, current_of, is_exhausted, updated}
+use Rattle.warning_book.specs.Book.{has_number, current_of, has_none, updated}
 use Rattle.warning_book.specs.declared.warning.Warning.{Warning}
 use Rattle.warning_book.proofs.edits.update.Goals as goal
 
@@ -17,7 +17,7 @@ pub update_one-requires : goal.update_one-requires
 update_one-requires c =
     let place : c.place_of-place.result ≡ position_or_len (has_number c.args.number) c.args.warnings.now.items = search rules in
     let within : c.place_of-place.result < length c.args.warnings.now.items = search rules in
-    not_so_at_place c.args.number is_exhausted c.args.warnings.now.items c.place_of-place.result c.index_mut-warning.result.now place within (search rules) c.requires.left
+    not_so_at_place c.args.number has_none c.args.warnings.now.items c.place_of-place.result c.index_mut-warning.result.now place within (search rules) c.requires.some
 
 pub returns-clause-serial : goal.returns-clause-serial
 returns-clause-serial c =

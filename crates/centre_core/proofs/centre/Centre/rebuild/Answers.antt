@@ -1,4 +1,5 @@
+use Rattle.centre_past.specs.Legal.{lasting}
 use Rattle.centre_core.proofs.centre.Centre.rebuild.Goals as goal
 
-pub kept_of-requires : goal.kept_of-requires
-kept_of-requires c = record { settings = record { network = c.self.inside.plmn; limit = c.self.inside.limit }; legal = c.self.invariant.legal }
+pub kept_of-requires-clause-legal : goal.kept_of-requires-clause-legal
+kept_of-requires-clause-legal c = record { settings = lasting c.self.inside.plmn; legal = c.self.invariant.legal }

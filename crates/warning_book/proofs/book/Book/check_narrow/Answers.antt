@@ -9,13 +9,13 @@ use Rattle.warning_book.proofs.book.Book.check_narrow.Goals as goal
 pub returns-in-Some-clause-accepted : goal.returns-in-Some-clause-accepted
 returns-in-Some-clause-accepted c =
     let found : find (has_number c.args.number) c.self.inside.warnings.items ≡ Some c.in-Some.warning.now = search rules in
-    let same = ap (λ (st : State). first_refusal (narrow_checks st c.args.number c.args.a.now)) (sym c.self.view_is) ∙ narrow_found (record { issued = c.self.inside.issued; warnings = c.self.inside.warnings.items }) c.args.number c.args.a.now c.in-Some.warning.now c.self.invariant.sound.ordered found in
+    let same = ap (λ (st : State). first_refusal (narrow_checks st c.args.number c.args.a.now)) (sym c.self.view_is) ∙ narrow_found (record { issued = c.self.inside.issued; warnings = c.self.inside.warnings.items }) c.args.number c.args.a.now c.in-Some.warning.now c.self.invariant.ordered found in
     rw same c.check_narrow.ensures.accepted
 
 pub returns-in-Some-clause-refused : goal.returns-in-Some-clause-refused
 returns-in-Some-clause-refused c =
     let found : find (has_number c.args.number) c.self.inside.warnings.items ≡ Some c.in-Some.warning.now = search rules in
-    let same = ap (λ (st : State). first_refusal (narrow_checks st c.args.number c.args.a.now)) (sym c.self.view_is) ∙ narrow_found (record { issued = c.self.inside.issued; warnings = c.self.inside.warnings.items }) c.args.number c.args.a.now c.in-Some.warning.now c.self.invariant.sound.ordered found in
+    let same = ap (λ (st : State). first_refusal (narrow_checks st c.args.number c.args.a.now)) (sym c.self.view_is) ∙ narrow_found (record { issued = c.self.inside.issued; warnings = c.self.inside.warnings.items }) c.args.number c.args.a.now c.in-Some.warning.now c.self.invariant.ordered found in
     rw same c.check_narrow.ensures.refused
 
 pub returns-in-None-clause-refused : goal.returns-in-None-clause-refused

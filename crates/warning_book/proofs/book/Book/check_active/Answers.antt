@@ -2,21 +2,21 @@ use Rattle.std.proofs.Common.{◌≡◌, ◌∙◌, Some, None, ap, sym, refl, f
 use Rattle.std.specs.Prelude.{find}
 use Rattle.common.specs.Checks.{first_refusal}
 use Rattle.warning_book.specs.Book.{State, has_number, is_there, warning_of}
-use Rattle.warning_book.specs.Checks.{stop_checks}
-use Rattle.warning_book.proofs.CheckLemmas.{is_absent, stop_found}
-use Rattle.warning_book.proofs.book.Book.check_stop.Goals as goal
+use Rattle.warning_book.specs.Checks.{there_checks}
+use Rattle.warning_book.proofs.CheckLemmas.{is_absent, active_found}
+use Rattle.warning_book.proofs.book.Book.check_active.Goals as goal
 
 pub returns-in-Some-clause-accepted : goal.returns-in-Some-clause-accepted
 returns-in-Some-clause-accepted c =
     let found : find (has_number c.args.number) c.self.inside.warnings.items ≡ Some c.in-Some.warning.now = search rules in
-    let same = ap (λ (st : State). first_refusal (stop_checks st c.args.number)) (sym c.self.view_is) ∙ stop_found (record { issued = c.self.inside.issued; warnings = c.self.inside.warnings.items }) c.args.number c.in-Some.warning.now c.self.invariant.sound.ordered found in
-    rw same c.check_stop.ensures.accepted
+    let same = ap (λ (st : State). first_refusal (there_checks st c.args.number)) (sym c.self.view_is) ∙ active_found (record { issued = c.self.inside.issued; warnings = c.self.inside.warnings.items }) c.args.number c.in-Some.warning.now c.self.invariant.ordered found in
+    rw same c.check_active.ensures.accepted
 
 pub returns-in-Some-clause-refused : goal.returns-in-Some-clause-refused
 returns-in-Some-clause-refused c =
     let found : find (has_number c.args.number) c.self.inside.warnings.items ≡ Some c.in-Some.warning.now = search rules in
-    let same = ap (λ (st : State). first_refusal (stop_checks st c.args.number)) (sym c.self.view_is) ∙ stop_found (record { issued = c.self.inside.issued; warnings = c.self.inside.warnings.items }) c.args.number c.in-Some.warning.now c.self.invariant.sound.ordered found in
-    rw same c.check_stop.ensures.refused
+    let same = ap (λ (st : State). first_refusal (there_checks st c.args.number)) (sym c.self.view_is) ∙ active_found (record { issued = c.self.inside.issued; warnings = c.self.inside.warnings.items }) c.args.number c.in-Some.warning.now c.self.invariant.ordered found in
+    rw same c.check_active.ensures.refused
 
 pub returns-in-None-clause-refused : goal.returns-in-None-clause-refused
 returns-in-None-clause-refused c =
