@@ -1,6 +1,6 @@
 -- The messages that are sent fit, since an order or a query names at most 1,000 cells and a content has 1 to 15 pages; and
 -- they carry their orders.
-use Rattle.std.proofs.Common.{◌≡◌, ℕ, ◌+◌, ◌*◌, ◌<◌, ◌≤◌, Bool, true, ◌&&◌, not, List, [], ◌∷◌, Option, Some, None, Result, Ok, Err, nat_le, length, take, map, refl, sym, subst, ◌∙◌, arith, length-append, lit≤}
+use Rattle.std.proofs.Common.{◌≡◌, ℕ, ◌+◌, ◌*◌, ◌<◌, ◌≤◌, Bool, true, ◌&&◌, not, List, [], ◌∷◌, Option, Some, None, Result, Ok, Err, nat_le, length, take, map, refl, sym, ap, subst, ◌∙◌, arith, length-append, lit≤}
 use Rattle.std.specs.Prelude.{IfOk, IfSome, if◌then◌else◌}
 use Rattle.std.specs.List.{list_any, flat_map}
 use Rattle.std.proofs.lemmas.Bool.{leb-true, and_parts}

@@ -20,18 +20,18 @@ past_over folded journal = since (base_of (past_of folded)) (reverse journal)
 
 -- The entries that were folded and then those of the journal are legal over the empty base, and what is kept is what they
 -- come to.
-pub record IsWhole (network : List ℕ) (folded journal : List Entry) (kept : Kept) : Type 0 where
+pub record IsWhole (network : List ℕ) (folded journal : List Entry) (s : Kept) : Type 0 where
   pub legal : Legal (lasting network) (past_of (folded ++ journal))
-  pub kept : IsKept (past_of (folded ++ journal)) kept
+  pub kept : IsKept (past_of (folded ++ journal)) s
 
 -- The journal has no more entries than it may; the entries that were folded and then its own are legal over the empty base;
 -- the base is what the folded ones come to, and what is kept beside the journal is what all come to, unless the centre is
 -- stale.
-pub record IsCentre (settings : Settings) (folded journal : List Entry) (stale : Bool) (base kept : Kept) : Type 0 where
+pub record IsCentre (settings : Settings) (folded journal : List Entry) (stale : Bool) (first kept : Kept) : Type 0 where
   pub few : settings.limit ≤ 4000000
   pub long : length journal ≤ settings.limit
   pub legal : Legal (lasting settings.network) (past_of (folded ++ journal))
-  pub base : IsKept (past_of folded) base
+  pub base : IsKept (past_of folded) first
   pub whole : stale ≡ false → IsKept (past_of (folded ++ journal)) kept
 
 -- why an event is refused in a whole centre: memory runs out where it may be, or the verdict is that refusal
