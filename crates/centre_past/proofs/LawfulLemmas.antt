@@ -112,7 +112,7 @@ lawful_onto settings past (e ∷ es) few legal = (ap (λ t. if t then Err refusa
     left = ap (λ (x : Base). nat_le last_position x.folded) same ∙ here.1
 
     fits : nat_le settings.limit (entry_count (onto es (folded past))) ≡ false
-    fits = lt-leb settings.limit (entry_count (onto es (folded past))) (omega (few, onto_count es (base_of past)))
+    fits = lt-leb settings.limit (entry_count (onto es (folded past))) (omega (arith, few, onto_count es (base_of past)))
 
     room : is_full settings (onto es (folded past)) ≡ false
     room = rw (fits, left) refl

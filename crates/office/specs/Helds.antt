@@ -82,7 +82,8 @@ receipt_at place event answer = record { place = place; event = event; answer = 
 abbrev pub row_at : ℕ → ℕ → Row
 row_at entries last = record { entries = entries; last = last }
 
--- the event was accepted: it is the one new entry, of that desk, with the verdict as its answer, and the desk has its receipt
+-- the event was accepted: it is the one new entry, of that desk, with the verdict as its answer, and the desk has its receipt, and lets
+-- go of none
 pub record IsEntered (old : Known) (before : DeskState) (event : Event) (new : Known) (after : DeskState) : Type 0 where
   pub answer : Answer
   pub is_verdict : verdict old.settings (past old) event ≡ Ok answer
@@ -91,6 +92,8 @@ pub record IsEntered (old : Known) (before : DeskState) (event : Event) (new : K
   pub entry : new ≡ record old { journal = old.journal ++ entry_of before.number event answer ∷ [] }
   pub receipts : after.receipts ≡ before.receipts ++ receipt_at (length (all_entries old) + 1) event answer ∷ []
   pub number : after.number ≡ before.number
+  pub released : after.released ≡ before.released
+  pub held : after.released < length after.receipts
 
 -- why no entry is folded: the centre is stale, or it is whole and memory runs out
 abbrev pub RefusesFold : Known → Refusal → Type 0

@@ -1,5 +1,5 @@
 -- What a call of an office promises, whatever other desks do meanwhile.
-use Rattle.std.specs.Prelude.{◌≡◌, ◌≤◌, ◌⊎◌, ◌+◌, ◌++◌, ℕ, false, [], ◌∷◌, Result, Ok, Err, Some, length, slice_get}
+use Rattle.std.specs.Prelude.{◌≡◌, ◌≤◌, ◌<◌, ◌⊎◌, ◌+◌, ◌++◌, ℕ, false, [], ◌∷◌, Result, Ok, Err, Some, length, take, drop, slice_get, All}
 use Rattle.std.specs.Borrow.{Bor}
 use Rattle.centre_core.specs.Centre.{Refuses}
 use Rattle.centre_past.specs.Fits.{AnswerFits}
@@ -28,7 +28,8 @@ pub record Meets (centre : Known) (d : DeskState) : Type 0 where
   pub place : last_place (receipts_of d.number (all_entries centre)) ≡ last_place d.receipts
   pub later : last_place d.receipts ≤ length (all_entries centre)
 
--- in some such centre the event has that answer, and the desk has one more receipt, whose place is above all others of the desk
+-- in some such centre the event has that answer, and the desk has one more receipt, whose place is above all others of the desk, and
+-- lets go of none
 pub record IsSubmitted (before : DeskState) (event : Event) (after : DeskState) : Type 0 where
   pub centre : Known
   pub meets : Meets centre before
@@ -37,6 +38,8 @@ pub record IsSubmitted (before : DeskState) (event : Event) (after : DeskState) 
   pub message_fits : AnswerFits answer
   pub receipts : after.receipts ≡ before.receipts ++ receipt_at (length (all_entries centre) + 1) event answer ∷ []
   pub number : after.number ≡ before.number
+  pub released : after.released ≡ before.released
+  pub held : after.released < length after.receipts
 
 -- in some such centre the event is refused for that cause
 pub record IsRefusedIn (d : DeskState) (event : Event) (r : Refusal) : Type 0 where
@@ -75,6 +78,18 @@ pub record IsFoldedSomewhere (count : ℕ) : Type 0 where
   pub whole : centre.stale ≡ false
   pub counted : count ≡ length centre.journal
   pub same : base_of (past (checkpointed centre)) ≡ base_of (past centre)
+
+-- the desk is as it was, but for how many of its receipts it let go of, and for its room
+abbrev pub IsSameDesk : DeskState → DeskState → Type 0
+IsSameDesk old new = new ≡ record old { released = new.released; spare = new.spare }
+
+-- the desk let go of more of its receipts, whose places are among the entries that were folded in some such centre
+pub record IsReleasedSomewhere (old new : DeskState) : Type 0 where
+  pub centre : Known
+  pub lawful : Lawful centre.settings (past centre)
+  pub same : IsSameDesk old new
+  pub more : old.released ≤ new.released
+  pub places : All (λ (r : Receipt). r.place ≤ length centre.folded) (drop old.released (take new.released old.receipts))
 
 -- where the event was accepted the desk has one more receipt, and the one that is lent is the last; where it was refused the desk is
 -- as it was, but for its room

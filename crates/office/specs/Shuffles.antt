@@ -24,12 +24,13 @@ abbrev pub AreSplit : ℕ → ℕ → List Entry → ℕ → List Receipt → Ty
 AreSplit desk folded journal count receipts = All (λ (r : Receipt). r.place ≤ folded) (take count receipts) × AreEntriesOf desk folded journal 0 (drop count receipts)
 
 -- The desk's receipts above the folded entries are its entries in the journal, in their order, with their places. The others are as
--- many as it has folded entries, and their places are among the folded ones.
+-- many as it has folded entries, and their places are among the folded ones. The desk let go of no receipt but of these.
 pub record HasItsEntries (folded journal : List Entry) (d : DeskState) : Type 0 where
   pub earlier : List Receipt
   pub receipts : d.receipts ≡ earlier ++ receipts_from d.number (length folded) journal
   pub counted : length earlier ≡ length (receipts_of d.number folded)
   pub places : All (λ (r : Receipt). r.place ≤ length folded) earlier
+  pub released : d.released ≤ length earlier
 
 -- how many receipts the desks have, all together
 abbrev pub receipt_count : List DeskState → ℕ

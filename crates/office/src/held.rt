@@ -223,7 +223,7 @@ impl<L: Ledger> Held<L> {
     }
 
     /// Whether the journal takes no more entries, so that nobody has anything to wait for.
-    pub(crate) fn is_full(&self) -> bool
+    fn is_full(&self) -> bool
         ensures { result ≡ is_full self.now.centre }
     {
         self.centre.is_full()
@@ -286,6 +286,13 @@ impl<L: Ledger> Held<L> {
         ensures unchanged { OnErr result (self.new ≡ self.old) }
     {
         self.centre.rebuild()
+    }
+
+    /// How many entries are folded.
+    pub fn folded(&self) -> u64
+        ensures { result ≡ length self.now.centre.folded }
+    {
+        self.folded
     }
 
     /// Folds the entries of the journal, and answers how many there were. `Stale`, then `Memory`; then nothing changed. Places go

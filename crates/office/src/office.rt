@@ -2,7 +2,7 @@
 
 ghost use Rattle.std.specs.Prelude.{◌≡◌, ◌≤◌, ◌<◌, ◌⊎◌, [], IfOk, IfErr, OnOk, OnErr};
 ghost use Rattle.centre_past.specs.Legal.{Lawful, past};
-ghost use Rattle.office.specs.Offices.{IsFoldedSomewhere, IsRefusedSomewhere, IsSeenSomewhere, IsSubmitted, IsUnseenSomewhere};
+ghost use Rattle.office.specs.Offices.{IsFoldedSomewhere, IsRefusedSomewhere, IsReleasedSomewhere, IsSameDesk, IsSeenSomewhere, IsSubmitted, IsUnseenSomewhere};
 ghost use Rattle.office.specs.Shuffles.{IsSettled, IsUnsettled};
 ghost use Rattle.office.specs.Wakes.{IsDueSomewhere};
 ghost use Rattle.office.specs.Wishes.{IsUnwishedSomewhere, IsWishedSomewhere};
@@ -137,12 +137,22 @@ impl<L: Ledger> Office<L> {
     /// is pending and nothing is in flight, or nothing of either and a query is wished for, which takes the wish out. Where the
     /// link is up and the journal is full it answers `Order`, whose event is then refused.
     #[tactic(auto, using(crate::proofs::WishLemmas::due_if))]
-    pub fn wait_pending<R: Wait>(&self, rt: &R, b: BscId, generation: u64) -> Wake
-        ensures { IsDueSomewhere b generation result }
+    ///
+    /// Before it waits, and each time entries are folded, the desk of the side lets go of its receipts of folded entries.
+    pub fn wait_pending<R: Wait>(
+        &self,
+        rt: &R,
+        desk: &mut Desk<L>,
+        b: BscId,
+        generation: u64,
+    ) -> Wake
+        ensures due { IsDueSomewhere b generation result }
+        ensures same { IsSameDesk desk.old desk.new }
     {
         for _ in rt.forever() {
+            let folded = self.release(rt, desk);
             let mut guard = self.moved.wait_while(rt, self.held.lock(rt), |held| {
-                held.wake_of(b, generation).is_none()
+                held.folded() == folded && held.wake_of(b, generation).is_none()
             });
             guard.tell_soundness();
             if let Some(wake) = guard.take_wake(b, generation) {
@@ -157,17 +167,30 @@ impl<L: Ledger> Office<L> {
         self.held.lock(rt).rebuild()
     }
 
+    /// Has the desk let go of its receipts of folded entries, and answers how many entries are folded. Where memory runs out it
+    /// keeps them until the next time.
+    pub fn release<R: Wait>(&self, rt: &R, desk: &mut Desk<L>) -> u64
+        ensures { IsReleasedSomewhere desk.old desk.new }
+    {
+        let guard = self.held.lock(rt);
+        guard.tell_soundness();
+        let folded = guard.folded();
+        drop(guard);
+        let _ = desk.release(folded);
+        folded
+    }
+
     /// Folds the entries of the journal, and answers how many there were: `Stale`, then `Memory`, or else the journal is empty, and
-    /// all that the past says is as before. It isn't an event. Those who wait are woken only where the journal had been full.
+    /// all that the past says is as before. It isn't an event. Those who wait are woken, since their desks may let go of receipts,
+    /// and wait on.
     pub fn checkpoint<R: Wait>(&self, rt: &R) -> Result<u64, Refusal>
         ensures folded { IfOk result IsFoldedSomewhere }
         ensures refused { IfErr result (λ r. (r ≡ Refusal.Stale) ⊎ (r ≡ Refusal.Memory)) }
     {
         let mut guard = self.held.lock(rt);
         guard.tell_soundness();
-        let was_full = guard.is_full();
         let result = guard.checkpoint();
-        if was_full && result.is_ok() {
+        if result.is_ok() {
             self.moved.notify_all();
         }
         result

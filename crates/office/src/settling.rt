@@ -81,7 +81,8 @@ fn are_split(
 }
 
 /// Whether the desk's receipts are its entries. There are as many as entries. The first of them, as many as entries of it were
-/// folded, have places among the folded ones; each other one is at the place of another entry of the desk.
+/// folded, have places among the folded ones, of which alone the desk let go; each other one is at the place of another entry of
+/// the desk.
 fn has_its_entries<L: Ledger>(
     centre: &mut Centre,
     rows: &[Row],
@@ -95,11 +96,13 @@ fn has_its_entries<L: Ledger>(
     ensures has { IsTrue result ↔ HasItsEntries centre.old.known.folded centre.old.known.journal desk.now }
     ensures unchanged { centre.new.known ≡ centre.old.known }
 {
-    if desk.len() != entries_of(rows, desk.number()) {
+    let number = desk.number();
+    let count = entries_of(base_rows, number);
+    if desk.len() != entries_of(rows, number) || desk.released() > count {
         return false;
     }
-    let count = entries_of(base_rows, desk.number()) as usize;
-    are_split(centre, desk.number(), folded, count, desk.receipts())
+    let count = (count - desk.released()) as usize;
+    desk.is_released_within(folded) && are_split(centre, number, folded, count, desk.receipts())
 }
 
 /// The number of the first desk whose receipts aren't its entries.

@@ -213,6 +213,7 @@ pub fn read_links<L: Ledger, E: Write + Drop, R: Wait + Clock>(
             Ok((stream, _)) => {
                 was_told = false;
                 take_stream(rt, shared, port, &mut desk, stream);
+                let _ = shared.office.release(rt, &mut desk);
             }
             Err(error) => {
                 tell_untaken(rt, shared, port, &error, was_told);

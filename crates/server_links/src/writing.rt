@@ -55,6 +55,7 @@ pub fn write_links<L: Ledger, E: Write + Drop, R: Wait + Clock>(
             Some(job) => {
                 let end = write_link(rt, shared, port, &mut desk, job);
                 port.end_write(rt, end);
+                let _ = shared.office.release(rt, &mut desk);
             }
             None => break,
         }

@@ -285,7 +285,7 @@ fn hear<L: Ledger, S: Server, R: Wait>(
     heard
 }
 
-/// Reads one line and answers it. The answer is whether more lines are read.
+/// Reads one line and answers it; the desk lets go of its receipts of folded entries. The answer is whether more lines are read.
 fn turn<L: Ledger, S: Server, R: Wait, I: BufRead + Drop, W: Write + Drop>(
     rt: &R,
     operator: &Operator<'_, L, S>,
@@ -300,6 +300,7 @@ fn turn<L: Ledger, S: Server, R: Wait, I: BufRead + Drop, W: Write + Drop>(
         Heard::Answered(text) => {
             terminal.write(text.as_bytes())?;
             operator.server.answered(rt);
+            let _ = operator.office.release(rt, desk);
             Ok(true)
         }
     }
