@@ -172,7 +172,7 @@ reuses_found past n p w ordered found =
 
 pub wraps_found : (past : Past) (st : BookState) (n : ℕ) (w : Warning) → st ≡ book_of past → is_ascending number_lt st.warnings ≡ true → warning_of st n ≡ Some w → wraps past n ≡ is_some (reused_of w)
 wraps_found past st n w is ordered found =
-    reuses_found past n (λ m s. true) w (rw (← is) ordered) (rw (← is) found) ∙ step (reused_of w)
+    reuses_found past n (λ m s. true) w (subst (λ (b : BookState). is_ascending number_lt b.warnings ≡ true) is ordered) (subst (λ (b : BookState). warning_of b n ≡ Some w) is found) ∙ step (reused_of w)
   where
     step : (o : Option ℕ) → list_any (λ s. true) (option_to_list o) ≡ is_some o
     step None = refl
@@ -189,10 +189,10 @@ pub first_found : (past : Past) (st : BookState) (n : ℕ) (w : Warning) (r : Re
 first_found past st n w r is ordered found h = first_same (key_checks past w.message_id (reused_of w)) (reuse_checks past n) r same h
   where
     in_order : is_ascending number_lt (warnings_of past) ≡ true
-    in_order = rw (← is) ordered
+    in_order = subst (λ (b : BookState). is_ascending number_lt b.warnings ≡ true) is ordered
 
     here : find (has_number n) (warnings_of past) ≡ Some w
-    here = rw (← is) found
+    here = subst (λ (b : BookState). warning_of b n ≡ Some w) is found
 
     step : (o : Option ℕ) → first_refusal (key_checks past w.message_id o) ≡ first_refusal ((list_any (is_key_reported past w.message_id) (option_to_list o), StillReported) ∷ (list_any (is_key_in_flight past w.message_id) (option_to_list o), StillInFlight) ∷ [])
     step None = refl
@@ -217,7 +217,7 @@ first_missing past st n is missing =
     λ i. first_refusal ((none (is_key_reported past) i, StillReported) ∷ (none (is_key_in_flight past) i, StillInFlight) ∷ [])
   where
     none : (p : ℕ → ℕ → Bool) → reuses past n p ≡ false
-    none p = none_so n (λ (v : Warning). list_any (λ s. is_reused v s && p v.message_id s) (option_to_list (option_map next_of (current_of v)))) (warnings_of past) (rw (← is) missing)
+    none p = none_so n (λ (v : Warning). list_any (λ s. is_reused v s && p v.message_id s) (option_to_list (option_map next_of (current_of v)))) (warnings_of past) (subst (λ (b : BookState). warning_of b n ≡ None) is missing)
 
 -- The verdict.
 
