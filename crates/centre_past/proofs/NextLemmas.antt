@@ -135,14 +135,20 @@ next_at content vs once u v h = step (last_serial vs)
         given e = ap (λ k. nat_eq (update_of k) u) (sym (eqb-true v.serial (next_of t) e)) ∙ find_passes (λ (y : Version). nat_eq (update_of y.serial) u) vs v h
 
         at : (c : Bool) → nat_eq v.serial (next_of t) ≡ c → (x : Version) × ((version_at (but_serial (next_of t) vs ++ new ∷ []) u ≡ Some x) × (x.serial ≡ v.serial))
-        at true e =
-            (new,
-              (version_more u (but_serial (next_of t) vs) new
+        at true e = (
+          new,
+          (
+            version_more u (but_serial (next_of t) vs) new
                 ∙ ap (λ o. option_or o (cond (nat_eq (update_of new.serial) u) (Some new) None)) (find_gone (next_of t) u vs v once h e)
                 ∙ ap (λ c. cond c (Some new) None) (given e),
-                sym (eqb-true v.serial (next_of t) e)))
-        at false e =
-            (v,
-              (find_more (λ (y : Version). nat_eq (update_of y.serial) u) (but_serial (next_of t) vs) (new ∷ []) v
+            sym (eqb-true v.serial (next_of t) e),
+          ),
+        )
+        at false e = (
+          v,
+          (
+            find_more (λ (y : Version). nat_eq (update_of y.serial) u) (but_serial (next_of t) vs) (new ∷ []) v
                 (find_kept (λ (y : Version). nat_eq (update_of y.serial) u) (λ (y : Version). not (has_serial (next_of t) y)) vs v h (ap not e)),
-                refl))
+            refl,
+          ),
+        )
