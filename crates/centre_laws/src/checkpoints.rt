@@ -1,12 +1,13 @@
 //! What a checkpoint leaves as it was, as the contracts of calls that do nothing. It folds all entries of the journal into a
 //! base, from which the past goes on.
 
-ghost use Rattle.std.specs.Prelude.{◌≡◌};
+ghost use Rattle.std.specs.Prelude.{◌≡◌, ◌≤◌, ◌++◌, List, length, reverse};
 ghost use Rattle.centre_events.specs.Folding.{base_of, folded};
-ghost use Rattle.centre_events.specs.Past.{Past};
+ghost use Rattle.centre_events.specs.Past.{Past, past_of, since};
 ghost use Rattle.centre_events.specs.Settings.{Settings};
 ghost use Rattle.centre_past.specs.Alike.{SaysTheSame};
-ghost use Rattle.centre_past.specs.Legal.{HasWhole, Known, Lawful, checkpointed, past};
+ghost use Rattle.centre_past.specs.Legal.{HasWhole, Known, Lawful, Legal, checkpointed, lasting, past};
+ghost use Rattle.centre_events.specs.declared.entry.Entry.{Entry};
 
 /// Two pasts that come to one base say the same of everything but how many entries stand after their bases.
 #[tactic(auto, using(centre_past::proofs::AlikeLemmas::says_the_same))]
@@ -28,4 +29,11 @@ pub fn checkpoint_says_the_same()
 pub fn lawful_past_has_a_whole()
     ensures folded { (settings : Settings) (past : Past) → Lawful settings past → Lawful settings (folded past) }
     ensures whole { (settings : Settings) (past : Past) → Lawful settings past → HasWhole settings.network past }
+{}
+
+/// A centre's past is lawful where all its entries, the folded ones first, are legal, and the limit bounds those of its
+/// journal.
+#[tactic(auto, using(centre_past::proofs::LawfulLemmas::lawful_since))]
+pub fn centre_past_is_lawful()
+    ensures { (settings : Settings) (xs ys : List Entry) → length ys ≤ settings.limit → Legal (lasting settings.network) (past_of (xs ++ ys)) → Lawful settings (since (base_of (past_of xs)) (reverse ys)) }
 {}

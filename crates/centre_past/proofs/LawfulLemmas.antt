@@ -96,11 +96,11 @@ legal_front settings xs ys legal = legal_onto settings (past_of xs) (reverse ys)
 
 onto_count : (es : List Entry) (base : Base) → entry_count (onto es (From base)) ≡ length es
 onto_count [] base = refl
-onto_count (e ∷ es) base = ap (λ n. n + 1) (onto_count es base)
+onto_count (e ∷ es) base = omega (arith, onto_count es base)
 
 lawful_onto : (settings : Settings) (past : Past) (es : List Entry) → length es ≤ settings.limit → Legal (lasting settings.network) (onto es past) → Lawful settings (onto es (folded past))
 lawful_onto settings past [] few legal = record { full = past; legal = legal; same = refl }
-lawful_onto settings past (e ∷ es) few legal = (ap (λ t. if t then Err refusal.JournalFull else answered settings.network (onto es (folded past)) e.event) room ∙ alike settings.network (onto es (folded past)) (onto es past) same e.event ∙ here.0, lawful_onto settings past es (omega few) legal.1)
+lawful_onto settings past (e ∷ es) few legal = (ap (λ t. if t then Err refusal.JournalFull else answered settings.network (onto es (folded past)) e.event) room ∙ alike settings.network (onto es (folded past)) (onto es past) same e.event ∙ here.0, lawful_onto settings past es (omega (arith, few)) legal.1)
   where
     same : base_of (onto es (folded past)) ≡ base_of (onto es past)
     same = folded_then es past
@@ -112,7 +112,7 @@ lawful_onto settings past (e ∷ es) few legal = (ap (λ t. if t then Err refusa
     left = ap (λ (x : Base). nat_le last_position x.folded) same ∙ here.1
 
     fits : nat_le settings.limit (entry_count (onto es (folded past))) ≡ false
-    fits = lt-leb settings.limit (entry_count (onto es (folded past))) (omega (few, onto_count es (base_of past)))
+    fits = lt-leb settings.limit (entry_count (onto es (folded past))) (omega (arith, few, onto_count es (base_of past)))
 
     room : is_full settings (onto es (folded past)) ≡ false
     room = rw (fits, left) refl

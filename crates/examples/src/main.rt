@@ -16,10 +16,11 @@ use std::process::ExitCode;
 use std::rt::Files;
 
 /// Scripts as an operator writes them: NAME.txt, with its answers in NAME.answers.
-const SCRIPTS: [&str; 11] = [
+const SCRIPTS: [&str; 12] = [
     "broadcasts-told",
     "day-of-failures",
     "first-warning",
+    "flood-for-days",
     "flood-two-controllers",
     "journal-folded",
     "link-lost",
@@ -34,7 +35,7 @@ const SCRIPTS: [&str; 11] = [
 const SCRIPTS_DRAWN: u64 = 300;
 
 /// Files of rows. A row may begin with one of an earlier file.
-const ROWS: [&str; 10] = [
+const ROWS: [&str; 11] = [
     "first-warning.rows",
     "bad-lines.rows",
     "changes.rows",
@@ -44,6 +45,7 @@ const ROWS: [&str; 10] = [
     "queries.rows",
     "warnings.rows",
     "alerts.rows",
+    "updates.rows",
     "checkpoints.rows",
 ];
 

@@ -122,7 +122,7 @@ fn words_of(letter: char) -> &'static [&'static str] {
         'M' => &["4370", "4371"],
         'P' => &["d4f29c0e", "01", "01/0203"],
         // the first serial numbers that warnings for cells get
-        'N' => &["c000", "c001", "c002", "c010"],
+        'N' => &["c000", "c001", "c002", "c00f", "c010"],
         // causes that the rules tell apart, and others (TS 48.049, 8.2.13)
         'K' => &["02", "03", "06", "0d", "0e"],
         // numbers of broadcasts
@@ -142,10 +142,18 @@ fn add_line(script: &mut String, draws: &mut Draws, line: &str) -> Result<(), Al
     script.push('\n')
 }
 
-/// A script with so many lines between its beginning and its end.
+/// An update of the warning with which each script begins.
+const UPDATE: &str = "update 1 15 0 30 P";
+
+/// A script with so many lines between its beginning and its end. In one of three the first warning is updated before
+/// every second line or so, so that its update numbers begin again at 0.
 pub fn random_script(alloc: Global, draws: &mut Draws, lines: usize) -> Result<String, AllocError> {
     let mut script = String::from_str(alloc, BEGINNING)?;
+    let is_updated = draws.below(3) == 0;
     for _ in 0..lines {
+        if is_updated && draws.below(2) == 0 {
+            add_line(&mut script, draws, UPDATE)?;
+        }
         let kind = draws.below(10);
         let line = draws.pick(lines_of(kind));
         add_line(&mut script, draws, line)?;

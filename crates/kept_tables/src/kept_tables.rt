@@ -143,8 +143,8 @@ impl KeptTables {
     ghost use Rattle.mirror.specs.Index.{key_before};
     ghost use Rattle.mirror.specs.Known.{is_known, is_named};
     ghost use Rattle.mirror.specs.OnAir.{AreOnAir, line_count, read_count};
-    ghost use Rattle.mirror.specs.Present.{is_present_at};
-    ghost use Rattle.mirror.specs.Table.{counted_all, line_at, down_at};
+    ghost use Rattle.mirror.specs.Present.{is_present_at, lines_of};
+    ghost use Rattle.mirror.specs.Table.{counted, counted_all, line_at, down_at};
     ghost use Rattle.mirror.specs.declared.line_key.LineKey.{LineKey};
     ghost use Rattle.order_maker.specs.Grouping.{in_order, grouped, first};
     ghost use Rattle.order_maker.specs.Pending.{IsListOf};
@@ -285,6 +285,8 @@ impl KeptTables {
         ensures downs { self.new.lines.downs ≡ self.old.lines.downs }
         ensures most { (ks : List LineKey) → ((b : ℕ) (c : Cell) → is_blank (line_at self.old.lines b c w) ≡ false → list_any (λ k. is_key k b c w) ks ≡ true) → self.new.lines.meter ≤ self.old.lines.meter + length ks }
         ensures least { self.old.lines.meter ≤ self.new.lines.meter }
+        ensures all { result ≡ false → self.new.lines.meter ≡ counted_all (length (lines_of w self.old.lines)) self.old.lines.meter }
+        ensures first { result ≡ true → counted self.old.lines.meter ≤ self.new.lines.meter }
     {
         self.lines.is_present_anywhere(w, serial)
     }

@@ -12,7 +12,7 @@ ghost use Rattle.mirror.specs.Line.{blank_line};
 ghost use Rattle.mirror.specs.Table.{line_at, has_line, down_at, counted, counted_all, is_key};
 ghost use Rattle.mirror.specs.Known.{are_of_cells, is_known, is_named, warnings_at};
 ghost use Rattle.mirror.specs.OnAir.{AreOnAir, line_count, read_count};
-ghost use Rattle.mirror.specs.Present.{is_present_at};
+ghost use Rattle.mirror.specs.Present.{is_present_at, lines_of};
 ghost use Rattle.mirror.specs.declared.line_key.LineKey.{LineKey};
 ghost use Rattle.warning_book.specs.Content.{is_same_kind};
 ghost use Rattle.warning_book.specs.declared.kind.Kind.{Kind};
@@ -259,7 +259,8 @@ impl LineTable {
     }
 
     /// Whether the version of that serial number of the warning is on air in some cell at some BSC, or may be. Each line of
-    /// the warning that is read is counted. It takes no memory.
+    /// the warning that is read is counted: all of them, or, where the version is found, those up to the one that says so.
+    /// It takes no memory.
     pub fn is_present_anywhere(&mut self, w: WarningId, serial: Serial) -> bool
         ensures some { result ≡ true → (b : ℕ) × ((c : Cell) × (is_present_at self.old b c w serial ≡ true)) }
         ensures none { result ≡ false → (b : ℕ) (c : Cell) → is_present_at self.old b c w serial ≡ false }
@@ -267,6 +268,8 @@ impl LineTable {
         ensures downs { self.new.downs ≡ self.old.downs }
         ensures most { (ks : List LineKey) → ((b : ℕ) (c : Cell) → is_blank (line_at self.old b c w) ≡ false → list_any (λ k. is_key k b c w) ks ≡ true) → self.new.meter ≤ self.old.meter + length ks }
         ensures least { self.old.meter ≤ self.new.meter }
+        ensures all { result ≡ false → self.new.meter ≡ counted_all (length (lines_of w self.old)) self.old.meter }
+        ensures first { result ≡ true → counted self.old.meter ≤ self.new.meter }
     {
         let slots = slots_of(&self.lines, w);
         is_present_among(slots, &self.lines, serial, &mut self.meter)

@@ -1,9 +1,10 @@
 //! Whether a version of a warning may be on air.
 
-ghost use Rattle.std.specs.Prelude.{◌≡◌, ◌≤◌, ◌+◌, length};
+ghost use Rattle.std.specs.Prelude.{◌≡◌, ◌≤◌, ◌+◌, true, false, length};
 ghost use Rattle.std.specs.List.{list_any};
 ghost use Rattle.mirror.specs.Lines.{lines_at};
 ghost use Rattle.mirror.specs.Present.{is_present_in};
+ghost use Rattle.mirror.specs.Table.{counted, counted_all};
 
 use crate::line::Line;
 use crate::lines::Lines;
@@ -29,6 +30,8 @@ pub(crate) fn is_present_among(
     ensures which { result ≡ list_any (λ e. is_present_in serial e.1) (lines_at slots.entry lines.now) }
     ensures meter { meter.new ≤ meter.old + length slots.entry }
     ensures least { meter.old ≤ meter.new }
+    ensures all { result ≡ false → meter.new ≡ counted_all (length slots.entry) meter.old }
+    ensures some { result ≡ true → counted meter.old ≤ meter.new }
 {
     // A lemma: the meter fits 64 bits.
     let _before = *meter;

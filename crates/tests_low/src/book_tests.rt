@@ -256,10 +256,21 @@ fn has_emergency(book: &Book) -> bool {
     }
 }
 
+/// A copy; where memory runs out once, the emergency warning is there.
+fn emergency_copied(rt: &impl Abort, book: &Book) -> Book {
+    match book.copied() {
+        Ok(copy) => copy,
+        Err(_) => {
+            yes(rt, has_emergency(book), "the content of the original");
+            book.copied().expect(rt, "memory")
+        }
+    }
+}
+
 #[test]
 fn a_copy_of_a_book_has_its_emergency_warnings(rt: HostRuntime) {
     let mut book = emergency_issued(&rt, rt.alloc());
-    let copy = copied(&rt, &book, &name(&rt, rt.alloc(), b"hills"));
+    let copy = emergency_copied(&rt, &book);
     made(&rt, book.stop(first_id()), "the warning is stopped");
     yes(&rt, has_emergency(&copy), "the content of the copy");
     yes(&rt, copy.is_active(first_id()), "it is active in the copy");

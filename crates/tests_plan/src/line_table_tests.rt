@@ -292,6 +292,20 @@ fn a_copy_of_the_lines_stands_alone(rt: HostRuntime) {
     are_taken_out(&rt, &mut copy, b);
 }
 
+/// A version is on air in a cell that is registered nowhere. Where it is looked for the lines of its warning are read.
+#[test]
+fn a_version_on_air_is_found_anywhere(rt: HostRuntime) {
+    let mut table = reported(&rt, rt.alloc());
+    let first = Serial::from_u16(0xc000);
+    let found = table.is_present_anywhere(WarningId::new(1), first);
+    yes(&rt, found, "the first version");
+    let next = table.is_present_anywhere(WarningId::new(1), first.next());
+    yes(&rt, !next, "the next version");
+    let other = table.is_present_anywhere(WarningId::new(7), first);
+    yes(&rt, !other, "another warning");
+    yes(&rt, table.meter() == 3, "a line set and two read");
+}
+
 #[test]
 fn a_state_is_read_as_it_was_set(rt: HostRuntime) {
     let serial = Serial::from_u16(0xc00f);

@@ -266,6 +266,17 @@ fn scenarios_go_as_planned(rt: HostRuntime) {
     }
 }
 
+#[test]
+fn the_plan_follows_updates_past_the_sixteenth(rt: HostRuntime) {
+    let alloc = rt.alloc();
+    let mut plan = begun(&rt, alloc);
+    for n in 1..18u16 {
+        let serial = FIRST_SERIAL.saturating_add(n % 16);
+        takes(&rt, alloc, &mut plan, Changes(Update(1), &[SEVEN, EIGHT]));
+        takes(&rt, alloc, &mut plan, Planned(1, &[SEVEN, EIGHT], serial));
+    }
+}
+
 /// An Issue is copied, and adds a second warning in area B.
 fn a_copy_is_issued(rt: &impl Abort, alloc: Global, plan: &mut Plan) {
     let edit = issue(rt, alloc, &[b"B"]);

@@ -69,7 +69,7 @@ impl Versions {
         &self.versions
     }
 
-    /// Puts a version last, in the place of one that has its serial number, which makes it the current one.
+    /// Puts a version last, which makes it the current one. A version that has its serial number is taken out.
     pub(crate) fn follow(&mut self, version: Version) -> Result<(), AllocError>
         ensures put { OnOk result (self.new ≡ but_serial version.serial self.old ++ version ∷ []) }
         ensures unchanged { OnErr result (self.new ≡ self.old) }
