@@ -38,6 +38,8 @@ submitted_with centre new d e after event same is entered =
       message_fits = room.message_fits;
       receipts = room.receipts;
       number = room.number;
+      released = room.released;
+      held = room.held;
     }
 
 pub submitted_if : {A : Type 0} (result : Result A Refusal) (centre new : Known) (opened : ℕ) (d e after : DeskState) (event : Event) → Lawful centre.settings (past centre) → PendingGivesPlan (past centre) → e ≡ record d { spare = e.spare } → OnOk result (fits opened (all_entries centre) e ≡ true) → OnOk result (IsEntered centre e event new after) → OnOk result (IsSubmitted d event after)
@@ -72,3 +74,6 @@ unseen_if (Err r) centre opened d q lawful headline wrong refuses = unseen_by (f
 pub folded_if : (result : Result ℕ Refusal) (centre new : Known) → Lawful centre.settings (past centre) → PendingGivesPlan (past centre) → IfOk result (λ n. n ≡ length centre.journal) → OnOk result (new ≡ checkpointed centre) → OnOk result (base_of (past new) ≡ base_of (past centre)) → OnOk result (centre.stale ≡ false) → IfOk result IsFoldedSomewhere
 folded_if (Ok n) centre new lawful headline counted is same whole = record { centre = centre; lawful = lawful; headline = headline; whole = whole; counted = counted; same = subst (λ (k : Known). base_of (past k) ≡ base_of (past centre)) is same }
 folded_if (Err r) centre new lawful headline counted is same whole = counted
+
+pub released_if : (centre : Known) (place : ℕ) (result : Result (Unit {0}) AllocError) (old new : DeskState) → Lawful centre.settings (past centre) → place ≡ length centre.folded → OnOk result (IsReleased place old new) → OnErr result (new ≡ old) → IsReleasedSomewhere old new
+released_if centre place result old new lawful is released unchanged = cc
