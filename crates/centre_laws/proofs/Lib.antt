@@ -3,6 +3,7 @@ pub mod AwaitedLemmas
 pub mod CarriedLemmas
 pub mod CheckpointLemmas
 pub mod HeadlineExamples
+pub mod CheckpointExamples
 pub mod IssuedLemmas
 pub mod CauseLemmas
 pub mod PlanCauseLemmas

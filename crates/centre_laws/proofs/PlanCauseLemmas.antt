@@ -1,5 +1,5 @@
 -- What refuses an edit in the plan refuses it in the centre.
-use Rattle.std.proofs.Common.{◌≡◌, ◌⊎◌, inl, inr, ℕ, Bool, true, false, not, nat_le, List, [], ◌∷◌, ◌++◌, Some, Err, cond, refl, sym, ◌∙◌, ap, subst}
+use Rattle.std.proofs.Common.{◌≡◌, ◌⊎◌, inl, inr, ℕ, Bool, true, false, not, List, [], ◌∷◌, ◌++◌, Some, Err, cond, refl, sym, ◌∙◌, ap, subst}
 use Rattle.areas.specs.Areas.{named_lt, selectors_of}
 use Rattle.areas.specs.Selector.{selector_eq}
 use Rattle.areas.specs.declared.area.Area.{Area}
@@ -19,10 +19,10 @@ use Rattle.warning_book.specs.Book.{is_active, is_of_other_kind, is_there, warni
 use Rattle.warning_book.specs.Checks as book_checks
 use Rattle.warning_book.specs.Content.{have_pages, has_period}
 use Rattle.warning_book.specs.declared.content.Content.{Content}
-use Rattle.centre_events.specs.Past.{Past, entry_count}
+use Rattle.centre_events.specs.Past.{Past}
 use Rattle.centre_events.specs.Reported.{is_key_reported, is_key_in_flight}
 use Rattle.centre_events.specs.Settings.{Settings}
-use Rattle.centre_events.specs.Verdict.{answered, reuses, verdict}
+use Rattle.centre_events.specs.Verdict.{answered, is_full, reuses, verdict}
 use Rattle.centre_events.specs.Warnings.{book_of}
 use Rattle.centre_events.specs.declared.event.Event.TheVariants as event
 use Rattle.centre_events.specs.declared.refusal.Refusal.{Refusal}
@@ -61,7 +61,7 @@ first_stays f ((true, e) ∷ checks) rest r head = let same : e ≡ r = cc in ap
 first_stays f ((false, e) ∷ checks) rest r head = first_stays f checks rest r head
 
 -- the verdict where the journal has room, by the first of the causes
-by_first : (settings : Settings) (past : Past) (e : Edit) (q : Refusal) → nat_le settings.limit (entry_count past) ≡ false → first_refusal (edit_causes past e) ≡ Some q → verdict settings past (event.Edit e) ≡ Err q
+by_first : (settings : Settings) (past : Past) (e : Edit) (q : Refusal) → is_full settings past ≡ false → first_refusal (edit_causes past e) ≡ Some q → verdict settings past (event.Edit e) ≡ Err q
 by_first settings past e q room first =
     ap (λ t. cond t (Err refusal.JournalFull) (answered settings.network past (event.Edit e))) room ∙ (edit_decides past e).refused q first
 
@@ -70,7 +70,7 @@ abbrev AsPlan : Settings → Past → Edit → plan.Refusal → Type 0
 AsPlan settings past e r = (verdict settings past (event.Edit e) ≡ Err (of_plan r)) ⊎ RefusesBefore settings past e (of_plan r)
 
 -- it is the plan's where the centre's own causes come last
-own_last : (settings : Settings) (past : Past) (st : State) (e : Edit) (r : plan.Refusal) → nat_le settings.limit (entry_count past) ≡ false → first_refusal (edit_checks st e) ≡ Some r → edit_causes past e ≡ translated of_plan (edit_checks st e) ++ own_causes past e → AsPlan settings past e r
+own_last : (settings : Settings) (past : Past) (st : State) (e : Edit) (r : plan.Refusal) → is_full settings past ≡ false → first_refusal (edit_checks st e) ≡ Some r → edit_causes past e ≡ translated of_plan (edit_checks st e) ++ own_causes past e → AsPlan settings past e r
 own_last settings past st e r room first same =
     inl (by_first settings past e (of_plan r) room (ap first_refusal same ∙ first_stays of_plan (edit_checks st e) (own_causes past e) r first))
 
@@ -110,7 +110,7 @@ first_of false false true y c d w r h = inr (refusal.StillReported, (refl, ((con
 first_of false false false true c d w r h = inr (refusal.StillInFlight, (refl, ((content_after c d w r h).flying, refl)))
 first_of false false false false c d w r h = inl (content_after c d w r h).first
 
-update_as : (settings : Settings) (past : Past) (st : State) (n : ℕ) (content : Content) (r : plan.Refusal) → st.book ≡ book_of past → nat_le settings.limit (entry_count past) ≡ false → first_refusal (edit_checks st (edit.Update n content)) ≡ Some r → AsPlan settings past (edit.Update n content) r
+update_as : (settings : Settings) (past : Past) (st : State) (n : ℕ) (content : Content) (r : plan.Refusal) → st.book ≡ book_of past → is_full settings past ≡ false → first_refusal (edit_checks st (edit.Update n content)) ≡ Some r → AsPlan settings past (edit.Update n content) r
 update_as settings past st n content r booked room first =
     step
     (first_of (not (is_there (book_of past) n)) (not (is_active (book_of past) n)) (reuses past n (is_key_reported past)) (reuses past n (is_key_in_flight past)) (not (have_pages content)) (not (has_period content)) (warning_is (book_of past) n (is_of_other_kind content)) r
@@ -120,7 +120,7 @@ update_as settings past st n content r booked room first =
     step (inl h) = inl (by_first settings past (edit.Update n content) (of_plan r) room h)
     step (inr (q, (holds, (before, h)))) = inr (record { own = q; holds = holds; before = before; refused = by_first settings past (edit.Update n content) q room h })
 
-edit_as : (settings : Settings) (past : Past) (st : State) → IsRegister st.register → AreSound st.areas → IsPlanOf past st → (e : Edit) (r : plan.Refusal) → nat_le settings.limit (entry_count past) ≡ false → first_refusal (edit_checks st e) ≡ Some r → AsPlan settings past e r
+edit_as : (settings : Settings) (past : Past) (st : State) → IsRegister st.register → AreSound st.areas → IsPlanOf past st → (e : Edit) (r : plan.Refusal) → is_full settings past ≡ false → first_refusal (edit_checks st e) ≡ Some r → AsPlan settings past e r
 edit_as settings past st sound areas tied (edit.AddBsc b) r room first = own_last settings past st (edit.AddBsc b) r room first (causes past st sound areas tied (edit.AddBsc b))
 edit_as settings past st sound areas tied (edit.RemoveBsc b) r room first = own_last settings past st (edit.RemoveBsc b) r room first (causes past st sound areas tied (edit.RemoveBsc b))
 edit_as settings past st sound areas tied (edit.AddCell c b) r room first = own_last settings past st (edit.AddCell c b) r room first (causes past st sound areas tied (edit.AddCell c b))

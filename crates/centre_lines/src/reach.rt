@@ -75,9 +75,11 @@ fn updated(
 {
     tell_lines(tables);
     if wraps(plan.book, n) {
-        return known_anywhere(alloc, plan.register, tables);
+        let spots = known_anywhere(alloc, plan.register, tables)?;
+        return Ok(spots);
     }
-    covered(alloc, plan.register, plan.areas, plan.book.areas_of(n))
+    let spots = covered(alloc, plan.register, plan.areas, plan.book.areas_of(n))?;
+    Ok(spots)
 }
 
 /// The cells at BSCs on which an edit bears that is no Forget.

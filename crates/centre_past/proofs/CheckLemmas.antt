@@ -65,6 +65,11 @@ none_held f [] r a h = refl
 none_held f ((true, e) ∷ checks) r a h = cc
 none_held f ((false, e) ∷ checks) r a h = none_held f checks r a h
 
+-- after a check that holds
+pub held_check : (t : Bool) (e : Refusal) (v : Result Answer Refusal) → t ≡ true → cond t (Err e) v ≡ Err e
+held_check true e v h = refl
+held_check false e v h = cc
+
 -- after a check that does not hold
 pub past_check : (t : Bool) (e : Refusal) (v w : Result Answer Refusal) → t ≡ false → v ≡ w → cond t (Err e) v ≡ w
 past_check true e v w h g = cc

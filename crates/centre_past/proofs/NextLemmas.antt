@@ -104,24 +104,21 @@ find_more p (y ∷ xs) ys x h = step (find_more p xs ys x) (p y) h
 -- where the version of an update number leaves, no other has it
 find_gone : (s u : ℕ) (vs : List Version) (v : Version) → updates_once vs ≡ true → version_at vs u ≡ Some v → nat_eq v.serial s ≡ true → version_at (but_serial s vs) u ≡ None
 find_gone s u [] v once h g = refl
-find_gone s u (x ∷ vs) v once h g = step (nat_eq (update_of x.serial) u) refl h
+find_gone s u (x ∷ vs) v once h g = step (λ i. find_gone s u vs v (and_parts (not (list_any (same_update x) vs)) (updates_once vs) once).1 i g) (nat_eq (update_of x.serial) u) refl h
   where
     parts : (not (list_any (same_update x) vs) ≡ true) × (updates_once vs ≡ true)
     parts = and_parts (not (list_any (same_update x) vs)) (updates_once vs) once
 
-    step : (t : Bool) → nat_eq (update_of x.serial) u ≡ t → cond t (Some x) (version_at vs u) ≡ Some v → version_at (but_serial s (x ∷ vs)) u ≡ None
-    step true e f =
+    step : (version_at vs u ≡ Some v → version_at (but_serial s vs) u ≡ None) → (t : Bool) → nat_eq (update_of x.serial) u ≡ t → cond t (Some x) (version_at vs u) ≡ Some v → version_at (but_serial s (x ∷ vs)) u ≡ None
+    step rest true e f =
         let same : x ≡ v = cc in
         ap (λ t. version_at (cond (not t) (x ∷ but_serial s vs) (but_serial s vs)) u) (ap (λ (y : Version). nat_eq y.serial s) same ∙ g)
-        ∙ find_none (λ y. nat_eq (update_of y.serial) u) (λ y. not (has_serial s y)) vs (none_later x vs u (not-true (list_any (same_update x) vs) parts.0) e)
-    step false e f = kept (nat_eq x.serial s)
+        ∙ find_none (λ (y : Version). nat_eq (update_of y.serial) u) (λ (y : Version). not (has_serial s y)) vs (none_later x vs u (not-true (list_any (same_update x) vs) parts.0) e)
+    step rest false e f = kept (nat_eq x.serial s)
       where
-        rest : version_at (but_serial s vs) u ≡ None
-        rest = find_gone s u vs v parts.1 f g
-
         kept : (t : Bool) → version_at (cond (not t) (x ∷ but_serial s vs) (but_serial s vs)) u ≡ None
-        kept true = rest
-        kept false = ap (λ t. cond t (Some x) (version_at (but_serial s vs) u)) e ∙ rest
+        kept true = rest f
+        kept false = ap (λ t. cond t (Some x) (version_at (but_serial s vs) u)) e ∙ rest f
 
 -- the one that has an update number after an Update has the serial number of the one that had it before
 pub next_at : (content : Content) (vs : List Version) → updates_once vs ≡ true → (u : ℕ) (v : Version) → version_at vs u ≡ Some v → (x : Version) × ((version_at (with_next content vs) u ≡ Some x) × (x.serial ≡ v.serial))
@@ -135,17 +132,23 @@ next_at content vs once u v h = step (last_serial vs)
         new = version_after content t
 
         given : nat_eq v.serial (next_of t) ≡ true → nat_eq (update_of new.serial) u ≡ true
-        given e = ap (λ k. nat_eq (update_of k) u) (sym (eqb-true v.serial (next_of t) e)) ∙ find_passes (λ y. nat_eq (update_of y.serial) u) vs v h
+        given e = ap (λ k. nat_eq (update_of k) u) (sym (eqb-true v.serial (next_of t) e)) ∙ find_passes (λ (y : Version). nat_eq (update_of y.serial) u) vs v h
 
         at : (c : Bool) → nat_eq v.serial (next_of t) ≡ c → (x : Version) × ((version_at (but_serial (next_of t) vs ++ new ∷ []) u ≡ Some x) × (x.serial ≡ v.serial))
-        at true e =
-            (new,
-              (version_more u (but_serial (next_of t) vs) new
+        at true e = (
+          new,
+          (
+            version_more u (but_serial (next_of t) vs) new
                 ∙ ap (λ o. option_or o (cond (nat_eq (update_of new.serial) u) (Some new) None)) (find_gone (next_of t) u vs v once h e)
                 ∙ ap (λ c. cond c (Some new) None) (given e),
-                sym (eqb-true v.serial (next_of t) e)))
-        at false e =
-            (v,
-              (find_more (λ y. nat_eq (update_of y.serial) u) (but_serial (next_of t) vs) (new ∷ []) v
-                (find_kept (λ y. nat_eq (update_of y.serial) u) (λ y. not (has_serial (next_of t) y)) vs v h (ap not e)),
-                refl))
+            sym (eqb-true v.serial (next_of t) e),
+          ),
+        )
+        at false e = (
+          v,
+          (
+            find_more (λ (y : Version). nat_eq (update_of y.serial) u) (but_serial (next_of t) vs) (new ∷ []) v
+                (find_kept (λ (y : Version). nat_eq (update_of y.serial) u) (λ (y : Version). not (has_serial (next_of t) y)) vs v h (ap not e)),
+            refl,
+          ),
+        )

@@ -55,23 +55,23 @@ update_given settings past legal n content a h = step (find (has_number n) (warn
     some_current w e = not-false (is_some (current_of w)) (sym (found_so n has_none (warnings_of past) w sound.ordered e) ∙ none_empty n (warnings_of past) sound.versions)
 
     given : (w : Warning) → find (has_number n) (warnings_of past) ≡ Some w → (o : Option ℕ) → current_of w ≡ o → is_some o ≡ true → update_answer (option_map next_of o) ≡ Ok a → UpdateGiven past n a
-    given w e None i some g = cc
+    given w e None i some g = absurd (cc)
     given w e (Some s) i some g = let same : answer.Updated (next_of s) ≡ a = cc in record { warning = w; found = e; last = s; current = i; answered = sym same }
 
     step : (o : Option Warning) → find (has_number n) (warnings_of past) ≡ o → is_some o ≡ true → update_answer (option_map next_of (option_and_then current_of o)) ≡ Ok a → UpdateGiven past n a
-    step None e some g = cc
+    step None e some g = absurd (cc)
     step (Some w) e some g = given w e (current_of w) refl (some_current w e) g
 
 -- which key the answer gives
 pub given_parts : (past : Past) (n : ℕ) (a : Answer) → is_ascending number_lt (warnings_of past) ≡ true → (g : UpdateGiven past n a) → (m s : ℕ) → is_given n m s a (warnings_of past) ≡ true → (s ≡ next_of g.last) × (g.warning.message_id ≡ m)
 given_parts past n a ordered g m s h =
-    let parts = and_parts (nat_eq s (next_of g.last)) (is_so n (λ w. nat_eq w.message_id m) (warnings_of past)) (sym (ap (λ x. is_given n m s x (warnings_of past)) g.answered) ∙ h) in
+    let parts = and_parts (nat_eq s (next_of g.last)) (is_so n (λ (w : Warning). nat_eq w.message_id m) (warnings_of past)) (sym (ap (λ x. is_given n m s x (warnings_of past)) g.answered) ∙ h) in
     (eqb-true s (next_of g.last) parts.0, eqb-true g.warning.message_id m (sym (found_so n (λ (w : Warning). nat_eq w.message_id m) (warnings_of past) g.warning ordered g.found) ∙ parts.1))
 
 -- the book after the Update tells the same of it as the book before
 pub given_after : (n : ℕ) (content : Content) (m s : ℕ) (a : Answer) (ws : List Warning) → is_given n m s a (edited n (updated content) ws) ≡ is_given n m s a ws
 given_after n content m s (answer.Updated t) ws =
-    ap (λ x. nat_eq s t && x) (so_edited n n (updated content) (λ (w : Warning). nat_eq w.message_id m) (λ w. refl) ws ∙ any_same (λ w. has_number n w && nat_eq (changed_if n (updated content) w).message_id m) (λ w. has_number n w && nat_eq w.message_id m) (λ w. same w (has_number n w)) ws)
+    ap (λ x. nat_eq s t && x) (so_edited n n (updated content) (λ (w : Warning). nat_eq w.message_id m) (λ w. refl) ws ∙ any_same (λ (w : Warning). has_number n w && nat_eq (changed_if n (updated content) w).message_id m) (λ (w : Warning). has_number n w && nat_eq w.message_id m) (λ w. same w (has_number n w)) ws)
   where
     same : (w : Warning) (t : Bool) → (has_number n w && nat_eq (if t then updated content w else w).message_id m) ≡ (has_number n w && nat_eq w.message_id m)
     same w true = refl
@@ -89,7 +89,10 @@ reuses_of past n p w s ordered found current =
 -- where no version of one scope and code has the next serial number, none has its update number
 none_shares : (s : ℕ) (vs : List Version) → list_all (shares_code (Some s)) vs ≡ true → list_any (is_version (next_of s)) vs ≡ false → version_at vs (update_of (next_of s)) ≡ None
 none_shares s [] shared h = refl
-none_shares s (v ∷ vs) shared h = step (nat_eq (update_of v.serial) (update_of (next_of s))) refl
+none_shares s (v ∷ vs) shared h =
+    step
+    (none_shares s vs (and_parts (shares_code (Some s) v) (list_all (shares_code (Some s)) vs) shared).1 (or_parts (nat_eq v.serial (next_of s)) (list_any (is_version (next_of s)) vs) h).1)
+    (nat_eq (update_of v.serial) (update_of (next_of s))) refl
   where
     parts : (shares_code (Some s) v ≡ true) × (list_all (shares_code (Some s)) vs ≡ true)
     parts = and_parts (shares_code (Some s) v) (list_all (shares_code (Some s)) vs) shared
@@ -102,10 +105,10 @@ none_shares s (v ∷ vs) shared h = step (nat_eq (update_of v.serial) (update_of
         let codes = and_parts (nat_eq (scope_part v.serial) (scope_part s)) (nat_eq (code_of v.serial) (code_of s)) parts.0 in
         same_serial v.serial (next_of s) (eqb-true (scope_part v.serial) (scope_part s) codes.0 ∙ sym (next_scope s)) (eqb-true (code_of v.serial) (code_of s) codes.1 ∙ sym (next_code s)) e
 
-    step : (t : Bool) → nat_eq (update_of v.serial) (update_of (next_of s)) ≡ t → cond t (Some v) (version_at vs (update_of (next_of s))) ≡ None
-    step true e =
+    step : version_at vs (update_of (next_of s)) ≡ None → (t : Bool) → nat_eq (update_of v.serial) (update_of (next_of s)) ≡ t → cond t (Some v) (version_at vs (update_of (next_of s))) ≡ None
+    step rest true e =
         absurd (let no : true ≡ false = sym (eq-eqb v.serial (next_of s) (same (eqb-true (update_of v.serial) (update_of (next_of s)) e))) ∙ other.0 in cc)
-    step false e = none_shares s vs parts.1 other.1
+    step rest false e = rest
 
 -- so it is in a sound book
 pub next_free : (past : Past) (n : ℕ) (w : Warning) (s : ℕ) → IsSound (book_of past) → warning_of (book_of past) n ≡ Some w → last_serial w.versions ≡ Some s → list_any (is_version (next_of s)) w.versions ≡ false → version_at w.versions (update_of (next_of s)) ≡ None

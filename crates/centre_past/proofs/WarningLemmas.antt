@@ -1,5 +1,5 @@
 -- The book of a legal past is sound, and what the book refuses is what an event is refused.
-use Rattle.std.proofs.Common.{◌≡◌, ◌⊎◌, arith, ℕ, ◌+◌, ◌<◌, Bool, true, false, ◌&&◌, ◌||◌, not, List, [], ◌∷◌, Option, Some, None, Ok, Err, nat_eq, length, cond, refl, sym, ◌∙◌, ap, eqb-true, subst}
+use Rattle.std.proofs.Common.{◌≡◌, ◌⊎◌, ◌++◌, inl, inr, arith, ℕ, ◌+◌, ◌<◌, Bool, true, false, ◌&&◌, ◌||◌, not, List, [], ◌∷◌, Option, Some, None, Ok, Err, nat_eq, length, cond, refl, sym, ◌∙◌, ap, eqb-true, subst}
 use Rattle.std.specs.Prelude.{IfSome, IsOk, find}
 use Rattle.std.specs.List.{list_any, list_all}
 use Rattle.std.specs.Option.{option_map}
@@ -40,7 +40,7 @@ use Rattle.centre_events.specs.declared.event.Event.{Event}
 use Rattle.centre_events.specs.declared.event.Event.TheVariants as event
 use Rattle.centre_events.specs.declared.refusal.Refusal.{Refusal}
 use Rattle.centre_events.specs.declared.refusal.Refusal.TheVariants as refusal
-use Rattle.centre_past.proofs.CheckLemmas.{taken, refused, refused_first, passed, given, ok_after, ok_is, none_around, none_held, past_check, past_given, past_ok, checked_after}
+use Rattle.centre_past.proofs.CheckLemmas.{taken, refused, refused_first, passed, given, ok_after, ok_is, none_around, none_held, held_check, past_check, past_given, past_ok, checked_after}
 use Rattle.centre_past.proofs.FoundLemmas.{found_number}
 use Rattle.centre_past.proofs.UniqueLemmas.{verdict_answered}
 
@@ -129,14 +129,22 @@ update_there past st n content is h =
     passed of_book (book.there_checks (book_of past) n) (reuse_checks past n ++ by_book (book.content_checks (book_of past) n content)) (update_answer (next_serial (book_of past) n)) (rw (← is) h)
 
 pub update_reported : (past : Past) (st : State) (n : ℕ) (content : Content) → st ≡ book_of past → first_refusal (book.there_checks st n) ≡ None → reuses past n (is_key_reported past) ≡ true → update past n content ≡ Err refusal.StillReported
-update_reported past st n content is h reported = update_there past st n content is h ∙ (rw reported refl)
+update_reported past st n content is h reported =
+    update_there past st n content is h
+    ∙ held_check (reuses past n (is_key_reported past)) refusal.StillReported (unless ((reuses past n (is_key_in_flight past), refusal.StillInFlight) ∷ []) (unless (by_book (book.content_checks (book_of past) n content)) (update_answer (next_serial (book_of past) n)))) reported
 
 pub update_flying : (past : Past) (st : State) (n : ℕ) (content : Content) → st ≡ book_of past → first_refusal (book.there_checks st n) ≡ None → reuses past n (is_key_reported past) ≡ false → reuses past n (is_key_in_flight past) ≡ true → update past n content ≡ Err refusal.StillInFlight
-update_flying past st n content is h reported flying = update_there past st n content is h ∙ (rw (reported, flying) refl)
+update_flying past st n content is h reported flying =
+    update_there past st n content is h
+    ∙ past_check (reuses past n (is_key_reported past)) refusal.StillReported (unless ((reuses past n (is_key_in_flight past), refusal.StillInFlight) ∷ []) (unless (by_book (book.content_checks (book_of past) n content)) (update_answer (next_serial (book_of past) n)))) (Err refusal.StillInFlight) reported
+    (held_check (reuses past n (is_key_in_flight past)) refusal.StillInFlight (unless (by_book (book.content_checks (book_of past) n content)) (update_answer (next_serial (book_of past) n))) flying)
 
 -- where neither is
 update_idle : (past : Past) (st : State) (n : ℕ) (content : Content) → st ≡ book_of past → first_refusal (book.there_checks st n) ≡ None → reuses past n (is_key_reported past) ≡ false → reuses past n (is_key_in_flight past) ≡ false → update past n content ≡ unless (by_book (book.content_checks (book_of past) n content)) (update_answer (next_serial (book_of past) n))
-update_idle past st n content is h reported flying = update_there past st n content is h ∙ (rw (reported, flying) refl)
+update_idle past st n content is h reported flying =
+    update_there past st n content is h
+    ∙ past_check (reuses past n (is_key_reported past)) refusal.StillReported (unless ((reuses past n (is_key_in_flight past), refusal.StillInFlight) ∷ []) (unless (by_book (book.content_checks (book_of past) n content)) (update_answer (next_serial (book_of past) n)))) (unless (by_book (book.content_checks (book_of past) n content)) (update_answer (next_serial (book_of past) n))) reported
+    (past_check (reuses past n (is_key_in_flight past)) refusal.StillInFlight (unless (by_book (book.content_checks (book_of past) n content)) (update_answer (next_serial (book_of past) n))) (unless (by_book (book.content_checks (book_of past) n content)) (update_answer (next_serial (book_of past) n))) flying refl)
 
 pub update_content : (past : Past) (st : State) (n : ℕ) (content : Content) (e : book_refusal.Refusal) → st ≡ book_of past → first_refusal (book.there_checks st n) ≡ None → reuses past n (is_key_reported past) ≡ false → reuses past n (is_key_in_flight past) ≡ false → first_refusal (book.content_checks st n content) ≡ Some e → update past n content ≡ Err (of_book e)
 update_content past st n content e is h reported flying bad =
