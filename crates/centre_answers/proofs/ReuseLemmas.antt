@@ -108,8 +108,8 @@ present_anywhere settings past legal m s b c h =
 -- what is found in the lines is what the past says
 reported_is : (settings : Settings) (past : Past) → Legal settings past → (t : Tables) (w : Warning) (s : ℕ) → Consistent t (facts past) → warning_of (book_of past) w.number ≡ Some w → list_any (has_serial s) w.versions ≡ true → (found : Bool) → (found ≡ true → (b : ℕ) × ((c : Cell) × (is_present_at t.lines b c w.number s ≡ true))) → (found ≡ false → (b : ℕ) (c : Cell) → is_present_at t.lines b c w.number s ≡ false) → found ≡ is_key_reported past w.message_id s
 reported_is settings past legal t w s tables is there true some none =
-    let (b, (c, h)) = some refl in
-    sym (present_anywhere settings past legal w.message_id s b c (sym (present_same settings past legal t w s tables is there b c) ∙ h))
+    let seen = some refl in
+    sym (present_anywhere settings past legal w.message_id s seen.0 seen.1.0 (sym (present_same settings past legal t w s tables is there seen.0 seen.1.0) ∙ seen.1.1))
 reported_is settings past legal t w s tables is there false some none =
     sym (any_same (is_key_reported_at past w.message_id s) (λ b. false) at (bscs past) ∙ any_never (bscs past))
   where
@@ -172,7 +172,7 @@ reuses_found past n p w ordered found =
 
 pub wraps_found : (past : Past) (st : BookState) (n : ℕ) (w : Warning) → st ≡ book_of past → is_ascending number_lt st.warnings ≡ true → warning_of st n ≡ Some w → wraps past n ≡ is_some (reused_of w)
 wraps_found past st n w is ordered found =
-    reuses_found past n (λ m s. true) w (rw (← is) ordered) (rw (← is) found) ∙ step (reused_of w)
+    reuses_found past n (λ m s. true) w (subst (λ (b : BookState). is_ascending number_lt b.warnings ≡ true) is ordered) (subst (λ (b : BookState). warning_of b n ≡ Some w) is found) ∙ step (reused_of w)
   where
     step : (o : Option ℕ) → list_any (λ s. true) (option_to_list o) ≡ is_some o
     step None = refl
@@ -189,10 +189,10 @@ pub first_found : (past : Past) (st : BookState) (n : ℕ) (w : Warning) (r : Re
 first_found past st n w r is ordered found h = first_same (key_checks past w.message_id (reused_of w)) (reuse_checks past n) r same h
   where
     in_order : is_ascending number_lt (warnings_of past) ≡ true
-    in_order = rw (← is) ordered
+    in_order = subst (λ (b : BookState). is_ascending number_lt b.warnings ≡ true) is ordered
 
     here : find (has_number n) (warnings_of past) ≡ Some w
-    here = rw (← is) found
+    here = subst (λ (b : BookState). warning_of b n ≡ Some w) is found
 
     step : (o : Option ℕ) → first_refusal (key_checks past w.message_id o) ≡ first_refusal ((list_any (is_key_reported past w.message_id) (option_to_list o), StillReported) ∷ (list_any (is_key_in_flight past w.message_id) (option_to_list o), StillInFlight) ∷ [])
     step None = refl
@@ -206,18 +206,18 @@ first_found past st n w r is ordered found h = first_same (key_checks past w.mes
 -- of one that isn't, none holds
 none_so : (n : ℕ) (f : Warning → Bool) (ws : List Warning) → find (has_number n) ws ≡ None → is_so n f ws ≡ false
 none_so n f [] h = refl
-none_so n f (w ∷ ws) h = step (has_number n w) h
+none_so n f (w ∷ ws) h = step (none_so n f ws) (has_number n w) h
   where
-    step : (t : Bool) → cond t (Some w) (find (has_number n) ws) ≡ None → ((t && f w) || is_so n f ws) ≡ false
-    step true k = cc
-    step false k = none_so n f ws k
+    step : (find (has_number n) ws ≡ None → is_so n f ws ≡ false) → (t : Bool) → cond t (Some w) (find (has_number n) ws) ≡ None → ((t && f w) || is_so n f ws) ≡ false
+    step rest true k = cc
+    step rest false k = rest k
 
 pub first_missing : (past : Past) (st : BookState) (n : ℕ) → st ≡ book_of past → warning_of st n ≡ None → first_refusal (reuse_checks past n) ≡ None
 first_missing past st n is missing =
     λ i. first_refusal ((none (is_key_reported past) i, StillReported) ∷ (none (is_key_in_flight past) i, StillInFlight) ∷ [])
   where
     none : (p : ℕ → ℕ → Bool) → reuses past n p ≡ false
-    none p = none_so n (λ (v : Warning). list_any (λ s. is_reused v s && p v.message_id s) (option_to_list (option_map next_of (current_of v)))) (warnings_of past) (rw (← is) missing)
+    none p = none_so n (λ (v : Warning). list_any (λ s. is_reused v s && p v.message_id s) (option_to_list (option_map next_of (current_of v)))) (warnings_of past) (subst (λ (b : BookState). warning_of b n ≡ None) is missing)
 
 -- The verdict.
 

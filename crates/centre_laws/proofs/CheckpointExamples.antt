@@ -1,5 +1,5 @@
 -- Worked instances: a journal of at most two entries, a checkpoint, and what is answered then.
-use Rattle.std.specs.Prelude.{◌≡◌, ℕ, List, [], ◌∷◌, Ok, Err}
+use Rattle.std.specs.Prelude.{◌≡◌, ℕ, [], ◌∷◌, Ok, Err}
 use Rattle.std.proofs.Common.{refl}
 use Rattle.centre_events.specs.Base.{empty_base}
 use Rattle.centre_events.specs.Folding.{folded}

@@ -25,7 +25,6 @@ use Rattle.centre_events.specs.Settings.{Settings}
 use Rattle.centre_events.specs.Verdict.{answered, edit_answered, issue, update}
 use Rattle.centre_events.specs.Warnings.{book_of, warnings_of}
 use Rattle.centre_events.specs.declared.answer.Answer.{Answer}
-use Rattle.centre_events.specs.declared.answer.Answer.TheVariants as answer
 use Rattle.coverage_plan.specs.declared.edit.Edit.{Edit}
 use Rattle.coverage_plan.specs.declared.edit.Edit.TheVariants as edit
 use Rattle.centre_events.specs.declared.event.Event.{Event}

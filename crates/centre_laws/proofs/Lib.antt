@@ -7,3 +7,4 @@ pub mod CheckpointExamples
 pub mod IssuedLemmas
 pub mod CauseLemmas
 pub mod PlanCauseLemmas
+pub mod FoldedCauseLemmas

@@ -2,6 +2,7 @@
 
 ghost use Rattle.std.specs.Prelude.{◌≡◌, true, Err};
 ghost use Rattle.centre_laws.specs.Causes.{CausesAscend, IsLeastCause, IsPlanOf, RefusesAsPlan};
+ghost use Rattle.centre_events.specs.Folding.{base_of};
 ghost use Rattle.centre_events.specs.Past.{Past};
 ghost use Rattle.centre_past.specs.VerdictLaws.{is_of_event};
 ghost use Rattle.centre_events.specs.Settings.{Settings};
@@ -27,9 +28,10 @@ pub fn least_cause_refuses()
 /// What refuses an edit in the plan refuses it in the centre, which has five causes more, each in its place by the number of
 /// its refusal: a RemoveBsc of a BSC whose link is up, a Forget of a warning of which something is on air or in flight, and
 /// an Update that gives a serial number again of which something is. Where one of the last two holds it refuses an Update
-/// whose content the plan refuses.
+/// whose content the plan refuses. So it is after each past of the same base, however many of its entries were folded.
 pub fn plan_refuses_the_same(plan: &Plan)
-    ensures { (past : Past) → IsPlanOf past plan.now → RefusesAsPlan past plan.now }
+    ensures whole { (past : Past) → IsPlanOf past plan.now → RefusesAsPlan past plan.now }
+    ensures folded { (p q : Past) → base_of p ≡ base_of q → IsPlanOf p plan.now → RefusesAsPlan q plan.now }
 {
     plan.register().tell_soundness();
     plan.areas().tell_soundness();

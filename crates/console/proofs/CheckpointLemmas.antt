@@ -1,7 +1,7 @@
 -- From what a checkpoint of the centre answers to what a line is answered.
-use Rattle.std.proofs.Common.{◌≡◌, ◌⊎◌, inl, inr, ℕ, true, false, List, [], length, sym, ap, ◌∙◌, subst}
+use Rattle.std.proofs.Common.{◌≡◌, ◌⊎◌, inl, inr, ℕ, true, false, length, sym, ap, ◌∙◌, subst}
 use Rattle.std.specs.Bool.{MatchBool}
-use Rattle.centre_past.specs.Legal.{all_entries}
+use Rattle.centre_past.specs.Legal.{checkpointed}
 use Rattle.centre_events.specs.declared.refusal.Refusal.{Refusal}
 use Rattle.centre_events.specs.declared.refusal.Refusal.TheVariants as refusal
 use Rattle.console.specs.Sessions.{SessionState, Folds, RespondsOrStarves, Says}
@@ -12,11 +12,11 @@ use Rattle.console.proofs.SessionLemmas.{same_session}
 
 -- a whole centre whose entries are folded
 pub folded : (old : SessionState) (count : ℕ) (r : Response) (new : SessionState) → old.centre.stale ≡ false → count ≡ length old.centre.journal
-    → new.centre ≡ record old.centre { folded = all_entries old.centre; journal = [] } → new.kept ≡ old.kept → r ≡ response.Folded count
+    → new.centre ≡ checkpointed old.centre → new.kept ≡ old.kept → r ≡ response.Folded count
     → RespondsOrStarves old line.Checkpoint r new
 folded old count r new whole counted centre kept is =
     inl (subst (λ t. MatchBool t (Says old (response.Refused refusal.Stale) r new) (Folds old r new)) (sym whole)
-    (is ∙ ap response.Folded counted, same_session old new (record old.centre { folded = all_entries old.centre; journal = [] }) kept centre))
+    (is ∙ ap response.Folded counted, same_session old new (checkpointed old.centre) kept centre))
 
 -- a centre that folds none: it is stale, or memory ran out
 pub unfolded : (old : SessionState) (e : Refusal) (r : Response) (new : SessionState)

@@ -8,7 +8,7 @@ use Rattle.cbsp_messages.specs.declared.fault.MessageFault.{MessageFault}
 use Rattle.cbsp_messages.specs.declared.message.Message.{Message}
 use Rattle.cbsp_messages.specs.declared.message_type.MessageType.{MessageType}
 use Rattle.centre_events.specs.Kept.{MayStarve}
-use Rattle.centre_past.specs.Legal.{Known, all_entries, past}
+use Rattle.centre_past.specs.Legal.{Known, all_entries, checkpointed, past}
 use Rattle.centre_events.specs.Links.{is_bsc}
 use Rattle.centre_events.specs.Verdict.{verdict}
 use Rattle.centre_events.specs.declared.answer.Answer.{Answer}
@@ -121,7 +121,7 @@ Rebuilds old r new = (r ≡ response.Rebuilt) × (new ≡ with_stale false old)
 
 -- the entries of the journal are folded
 abbrev pub with_all_folded : SessionState → SessionState
-with_all_folded s = record s { centre = record s.centre { folded = all_entries s.centre; journal = [] } }
+with_all_folded s = record s { centre = checkpointed s.centre }
 
 -- they are folded, and the answer is how many they are
 abbrev pub Folds : SessionState → Response → SessionState → Type 0

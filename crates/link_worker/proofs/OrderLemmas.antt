@@ -6,6 +6,7 @@ use Rattle.std.specs.Prelude.{slice_get}
 use Rattle.std.proofs.KnownBytes.{Appends-nil, Appends-trans}
 use Rattle.std.proofs.lemmas.Grind.{flat_map-append}
 use Rattle.centre_past.specs.Fits.{AnswerFits}
+use Rattle.centre_past.specs.Legal.{all_entries}
 use Rattle.centre_events.specs.declared.event.Event.{Event}
 use Rattle.link_worker.specs.declared.end.End.{End}
 use Rattle.link_worker.specs.declared.end.End.TheVariants as end
@@ -16,7 +17,7 @@ use Rattle.link_worker.specs.Orders.{EndsAsUnsent, EndsWriting, Gets, IsCutAt, I
 use Rattle.link_worker.proofs.ListLemmas.{AllByRecursion-append, last_put}
 use Rattle.office.specs.Desks.{DeskState}
 use Rattle.office.specs.Helds.{receipt_at}
-use Rattle.office.specs.Offices.{IsRefusedIn, IsRefusedSomewhere, IsSubmitted}
+use Rattle.office.specs.Offices.{IsRefusedIn, IsRefusedSomewhere, IsSameDesk, IsSubmitted}
 use Rattle.office.specs.declared.receipt.Receipt.{Receipt}
 
 -- no receipt came
@@ -42,6 +43,14 @@ Gets-more b generation c d e xs ys p q = record {
 -- nothing is written yet
 pub Writes-none : (b generation : ℕ) (d : DeskState) (p : Option (List ℕ)) → Writes b generation d d p p
 Writes-none b generation d p = record { more = []; gets = Gets-none b generation d; written = Appends-nil p }
+
+-- to let go of receipts writes nothing
+pub Writes-same : (b generation : ℕ) (d e : DeskState) (p : Option (List ℕ)) → IsSameDesk d e → Writes b generation d e p p
+Writes-same b generation d e p same = record {
+  more = [];
+  gets = record { receipts = ap (λ (s : DeskState). s.receipts) same ∙ sym (append-nil d.receipts); orders = tt; number = ap (λ (s : DeskState). s.number) same };
+  written = Appends-nil p;
+}
 
 -- a refused event writes nothing
 pub Writes-room : (b generation : ℕ) (d e : DeskState) (p : Option (List ℕ)) → e ≡ record d { spare = e.spare } → Writes b generation d e p p
@@ -93,7 +102,7 @@ refused_in_room : (d e : DeskState) (event : Event) (r : Refusal) → e ≡ reco
 refused_in_room d e event r same why =
     subst (λ s. IsRefusedIn s event r) (sym same) (record {
       centre = why.centre;
-      meets = record { legal = why.meets.legal; headline = why.meets.headline; entries = why.meets.entries; place = why.meets.place; later = why.meets.later };
+      meets = record { lawful = why.meets.lawful; headline = why.meets.headline; entries = why.meets.entries; place = why.meets.place; later = why.meets.later };
       refuses = why.refuses;
     })
 
@@ -142,14 +151,14 @@ Ends-refused b generation d e p event r x order why same makes refused =
 module _ (b generation : ℕ) (d e : DeskState) (event : Event) (r : Receipt) (submitted : IsSubmitted d event e) (order : IsOrder b generation event)
     (last : slice_get e.receipts (length e.receipts - 1) ≡ Some r) where
   abbrev put : Receipt
-  put = receipt_at (length submitted.centre.journal + 1) event submitted.answer
+  put = receipt_at (length (all_entries submitted.centre) + 1) event submitted.answer
 
   is_put : r ≡ put
   is_put = last_put d.receipts e.receipts put r submitted.receipts last
 
-  -- there is a receipt
-  pub some_receipt : 1 ≤ length e.receipts
-  some_receipt = omega (arith, ap length submitted.receipts, length-append d.receipts (put ∷ []))
+  -- the desk holds a receipt
+  pub some_receipt : e.released < length e.receipts
+  some_receipt = submitted.held
 
   -- its message fits
   pub receipt_fits : AnswerFits r.answer

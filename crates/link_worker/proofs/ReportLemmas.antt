@@ -32,6 +32,7 @@ use Rattle.link_worker.proofs.ListLemmas.{AllByRecursion-append, AllByRecursion-
 use Rattle.cbsp_messages.specs.declared.message.Message.{Message}
 use Rattle.link_worker.proofs.OrderLemmas.{refused_open, refused_room}
 use Rattle.office.specs.Desks.{DeskState}
+use Rattle.office.specs.Offices.{IsSameDesk}
 use Rattle.office.specs.Offices.{IsRefusedSomewhere}
 use Rattle.office.specs.declared.receipt.Receipt.{Receipt}
 
@@ -460,3 +461,20 @@ read_end p q n buffer read none room = (subst (λ k. Consumes p q (take k buffer
 -- one call more
 pub counted_more : (n k : ℕ) → counted (counted n k) 1 ≡ counted n (k + 1)
 counted_more n k = omega arith
+
+-- to let go of receipts reads nothing
+pub Reads-same : (b generation : ℕ) (begun : List ℕ) (old mid new : DeskState) (before after : Option (List ℕ)) (rest : List ℕ) → Reads b generation begun old mid before after rest → IsSameDesk mid new → Reads b generation begun old new before after rest
+Reads-same b generation begun old mid new before after rest reads same = record {
+  octets = reads.octets;
+  frames = reads.frames;
+  consumed = reads.consumed;
+  cuts = reads.cuts;
+  fits = reads.fits;
+  takes = record {
+    more = reads.takes.more;
+    receipts = ap (λ (s : DeskState). s.receipts) same ∙ reads.takes.receipts;
+    number = ap (λ (s : DeskState). s.number) same ∙ reads.takes.number;
+    reports = reads.takes.reports;
+    readable = reads.takes.readable;
+  };
+}

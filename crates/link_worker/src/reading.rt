@@ -24,7 +24,7 @@ use std::sync::ledger::Ledger;
 const PIECE: usize = 4096;
 
 /// Reads frames from the BSC, and submits each report at the desk, in their order; and so on until the side ends. Frames of other
-/// types are passed over by their length. The gate is asked after each report (`Step::AfterReport`). The reads are at most
+/// types are passed over by their length. Before each read the desk lets go of its receipts of folded entries. The gate is asked after each report (`Step::AfterReport`). The reads are at most
 /// 1,000,000,000,000.
 ///
 /// It goes on where a report answers no order in flight (`NoOrder`). It ends by any of the ends but `WriteFault`. The frames before
@@ -55,6 +55,7 @@ pub fn read_side<L: Ledger, S: Source, G: Gate, R: Wait>(
     };
     let mut framer = Framer::new(alloc);
     for _turn in 0..MOST_READS {
+        office.release(rt, desk);
         if let Err(end) = link.read_once(rt, desk, &mut framer, reader) {
             return end;
         }

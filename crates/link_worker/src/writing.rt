@@ -25,7 +25,8 @@ use std::sync::Wait;
 use std::sync::ledger::Ledger;
 
 /// Waits until an order or a query is due at the BSC, submits it at the desk, and writes the frame of its message; and so on until
-/// the side ends. The gate is asked before each write (`Step::BeforeWrite`), when the entry is in the journal already.
+/// the side ends. Before it waits, and each time entries are folded, the desk lets go of its receipts of folded entries. The gate
+/// is asked before each write (`Step::BeforeWrite`), when the entry is in the journal already.
 ///
 /// It goes on where by then nothing is to be sent or asked (`InFlight`, `NothingPending`, `NothingToAsk`, `NoSuchWarning`). It ends
 /// by `WriteFault`, `Superseded`, `Refused` or `GateShut`, the last only where the gate may cut the link. `Refused` has `Stale`, the refusal of an order or a query over this link,
@@ -53,7 +54,7 @@ pub fn write_side<L: Ledger, W: Sink, G: Gate, R: Wait>(
         gate,
     };
     for _ in rt.forever() {
-        match link.due(rt) {
+        match link.due(rt, desk) {
             Ok(event) => {
                 if let Err(end) = link.send_one(rt, desk, event, writer) {
                     return end;
@@ -70,14 +71,19 @@ impl<'o, 'g, L: Ledger, G: Gate> Link<'o, 'g, L, G> {
     ghost use Rattle.std.specs.Io.KnownBytes.{Appends};
     ghost use Rattle.centre_past.specs.Fits.{AnswerFits};
     ghost use Rattle.link_worker.specs.Ends.{fails_to_write};
+    ghost use Rattle.office.specs.Offices.{IsSameDesk};
     ghost use Rattle.link_worker.specs.Orders.{EndsWriting, IsOrder, IsWaitEnd, StopsInFrame, Writes, receipt_frame};
 
-    /// Waits for the next order or query.
-    fn due<R: Wait>(&self, rt: &R) -> Result<Event, End>
+    /// Waits for the next order or query. The desk lets go of receipts of folded entries meanwhile.
+    fn due<R: Wait>(&self, rt: &R, desk: &mut Desk<L>) -> Result<Event, End>
+        ensures same { IsSameDesk desk.old desk.new }
         ensures order { IfOk result (IsOrder self.now.bsc self.now.generation) }
         ensures end { IfErr result (IsWaitEnd self.now.bsc self.now.generation) }
     {
-        match self.office.wait_pending(rt, self.bsc, self.generation) {
+        match self
+            .office
+            .wait_pending(rt, desk, self.bsc, self.generation)
+        {
             Wake::Order => Ok(Event::Send(self.bsc, self.generation)),
             Wake::Query(warning, after) => {
                 Ok(Event::Ask(self.bsc, self.generation, warning, after))

@@ -1,7 +1,8 @@
 -- A desk that keeps one more receipt, and one that lets go of its first ones.
-use Rattle.std.proofs.Common.{◌≡◌, ℕ, suc, ◌+◌, ◌-◌, ◌<◌, ◌≤◌, List, [], ◌∷◌, ◌++◌, length, take, drop, get_or, refl, sym, ap, ap₂, ◌∙◌, subst, arith, All}
+use Rattle.std.proofs.Common.{◌≡◌, ℕ, suc, ◌+◌, ◌-◌, ◌<◌, ◌≤◌, List, [], ◌∷◌, ◌++◌, length, take, drop, get_or, refl, sym, ap, ap₂, ◌∙◌, subst, arith, All, IsTrue, ◌↔◌, nat_le}
 use Rattle.std.proofs.lemmas.List.{append_assoc, drop_at, length-append, take-append-drop, take_at}
-use Rattle.std.proofs.lemmas.List.Elements.{All-cons, All-nil, All-weaker}
+use Rattle.std.proofs.lemmas.List.Elements.{All-cons, All-head, All-nil, All-tail, All-weaker}
+use Rattle.std.proofs.lemmas.Bool.Decides.{nat_tests}
 use Rattle.centre_events.specs.Verdict.{last_position}
 use Rattle.office.specs.Desks.{AreReleased, AreRising, BeginsAbove, DeskState, IsDesk, IsReleased}
 use Rattle.office.specs.Receipts.{last_place, last_place_or}
@@ -99,3 +100,18 @@ pub released_within : (last parts amount count released_last place : ℕ) (gone 
 released_within last parts amount count released_last place gone held is released within =
     let below = rising_below 0 gone (rising_front 0 gone held is.rising) in
     All-weaker (λ (r : Receipt). r.place ≤ last_place gone) (λ (r : Receipt). r.place ≤ place) (λ r le. omega (arith, le, within, released.last_is)) gone below
+
+last_within : (n place : ℕ) (rs : List Receipt) → n ≤ place → All (λ (r : Receipt). r.place ≤ place) rs → last_place_or n rs ≤ place
+last_within n place [] here all = here
+last_within n place (x ∷ rs) here all = last_within x.place place rs (All-head (λ (r : Receipt). r.place ≤ place) x rs all) (All-tail (λ (r : Receipt). r.place ≤ place) x rs all)
+
+-- and only there
+pub released_iff : (last parts amount count released_last place : ℕ) (gone held : List Receipt) → IsDesk last (gone ++ held) parts amount → AreReleased count released_last gone → IsTrue (nat_le released_last place) ↔ All (λ (r : Receipt). r.place ≤ place) (take (length gone) (gone ++ held))
+released_iff last parts amount count released_last place gone held is released =
+    let front : take (length gone) (gone ++ held) ≡ gone = take_at gone held (length gone) refl in (
+      λ t. subst (All (λ (r : Receipt). r.place ≤ place)) (sym front) (released_within last parts amount count released_last place gone held is released (grind (arith, nat_tests, t))),
+      λ all.
+          (let within : last_place gone ≤ place = last_within 0 place gone (omega arith) (subst (All (λ (r : Receipt). r.place ≤ place)) front all) in
+          let at = released.last_is in
+          grind (arith, nat_tests, within, at)),
+    )

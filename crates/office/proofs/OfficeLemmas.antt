@@ -1,5 +1,7 @@
 -- From what holds under the lock to what a call of an office promises.
-use Rattle.std.proofs.Common.{◌≡◌, ℕ, Bool, true, false, Result, Ok, Err, OnOk, IfOk, IfErr, inl, inr, length, refl, ap, subst}
+use Rattle.std.proofs.Common.{◌≡◌, ◌≤◌, ℕ, Bool, true, false, List, [], Result, Ok, Err, OnOk, OnErr, IfOk, IfErr, All, inl, inr, length, take, drop, refl, sym, ap, ◌∙◌, subst, arith}
+use Rattle.std.proofs.lemmas.List.{drop-take}
+use Rattle.std.proofs.lemmas.List.Elements.{All-nil}
 use Rattle.centre_core.specs.Centre.{Refuses}
 use Rattle.centre_past.specs.Headline.{PendingGivesPlan}
 use Rattle.centre_past.specs.Legal.{Known, Lawful, all_entries, checkpointed, past}
@@ -7,11 +9,12 @@ use Rattle.centre_events.specs.Folding.{base_of}
 use Rattle.centre_events.specs.declared.event.Event.{Event}
 use Rattle.centre_events.specs.declared.refusal.Refusal.{Refusal}
 use Rattle.centre_events.specs.declared.refusal.Refusal.TheVariants as refusal
-use Rattle.office.specs.Desks.{DeskState}
+use Rattle.office.specs.Desks.{DeskState, IsReleased}
 use Rattle.office.specs.Helds.{IsEntered, fits}
-use Rattle.office.specs.Offices.{IsFoldedSomewhere, IsRefusedSomewhere, IsSeenSomewhere, IsSubmitted, IsUnseenSomewhere, Meets}
+use Rattle.office.specs.Offices.{IsFoldedSomewhere, IsRefusedSomewhere, IsReleasedSomewhere, IsSameDesk, IsSeenSomewhere, IsSubmitted, IsUnseenSomewhere, Meets}
 use Rattle.centre_questions.specs.Questions.{RefusesQuestion, Shows}
 use Rattle.centre_questions.specs.declared.question.Question.{Question}
+use Rattle.office.specs.declared.receipt.Receipt.{Receipt}
 use Rattle.office.specs.declared.seen.Seen.{Seen}
 use Rattle.office.proofs.HeldLemmas.{IsKnown, known_if}
 
@@ -38,6 +41,8 @@ submitted_with centre new d e after event same is entered =
       message_fits = room.message_fits;
       receipts = room.receipts;
       number = room.number;
+      released = room.released;
+      held = room.held;
     }
 
 pub submitted_if : {A : Type 0} (result : Result A Refusal) (centre new : Known) (opened : ℕ) (d e after : DeskState) (event : Event) → Lawful centre.settings (past centre) → PendingGivesPlan (past centre) → e ≡ record d { spare = e.spare } → OnOk result (fits opened (all_entries centre) e ≡ true) → OnOk result (IsEntered centre e event new after) → OnOk result (IsSubmitted d event after)
@@ -72,3 +77,27 @@ unseen_if (Err r) centre opened d q lawful headline wrong refuses = unseen_by (f
 pub folded_if : (result : Result ℕ Refusal) (centre new : Known) → Lawful centre.settings (past centre) → PendingGivesPlan (past centre) → IfOk result (λ n. n ≡ length centre.journal) → OnOk result (new ≡ checkpointed centre) → OnOk result (base_of (past new) ≡ base_of (past centre)) → OnOk result (centre.stale ≡ false) → IfOk result IsFoldedSomewhere
 folded_if (Ok n) centre new lawful headline counted is same whole = record { centre = centre; lawful = lawful; headline = headline; whole = whole; counted = counted; same = subst (λ (k : Known). base_of (past k) ≡ base_of (past centre)) is same }
 folded_if (Err r) centre new lawful headline counted is same whole = counted
+
+-- what a desk lets go of that lets go of nothing
+none_more : (n : ℕ) (rs : List Receipt) → drop n (take n rs) ≡ []
+none_more n rs = ap (λ k. drop n (take k rs)) (omega arith) ∙ drop-take n 0 rs
+
+pub released_if : {A E : Type 0} (result : Result A E) (centre : Known) (place : ℕ) (old new : DeskState) → Lawful centre.settings (past centre) → place ≡ length centre.folded → OnOk result (IsReleased place old new) → OnErr result (new ≡ old) → IsReleasedSomewhere old new
+released_if (Ok done) centre place old new lawful is released unchanged = record {
+  centre = centre;
+  lawful = lawful;
+  same = released.same;
+  more = released.more;
+  places = subst (λ n. All (λ (r : Receipt). r.place ≤ n) (drop old.released (take new.released old.receipts))) is released.places;
+}
+released_if (Err e) centre place old new lawful is released unchanged = subst (IsReleasedSomewhere old) (sym unchanged) (record {
+  centre = centre;
+  lawful = lawful;
+  same = refl;
+  more = omega arith;
+  places = subst (All (λ (r : Receipt). r.place ≤ length centre.folded)) (sym (none_more old.released old.receipts)) (All-nil (λ (r : Receipt). r.place ≤ length centre.folded));
+})
+
+-- a desk that let go of receipts again is still the same
+pub same_more : (d e f : DeskState) → IsSameDesk d e → IsSameDesk e f → IsSameDesk d f
+same_more d e f one two = two ∙ ap (λ (s : DeskState). record s { released = f.released; spare = f.spare }) one

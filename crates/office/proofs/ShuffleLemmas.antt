@@ -2,8 +2,9 @@
 use Rattle.std.proofs.Common.{◌≡◌, ◌≢◌, ℕ, suc, ◌+◌, ◌-◌, ◌<◌, ◌≤◌, ◌==◌, Bool, true, false, List, [], ◌∷◌, ◌++◌, Some, length, slice_get, get_or, take, drop, unwrap_or, refl, sym, ap, ◌∙◌, subst, arith, All, Any, IsTrue, ◌↔◌, ◌⊎◌, ⊎_elim, if◌then◌else◌}
 use Rattle.std.proofs.lemmas.Bool.{cases_eq}
 use Rattle.std.proofs.lemmas.Bool.Decides.{nat_tests}
-use Rattle.std.proofs.lemmas.List.{drop_at, length-append, length-drop, length-take-le, nil_from_length, take-append-drop, take_at}
-use Rattle.std.proofs.lemmas.List.Elements.{All-head, All-tail}
+use Rattle.std.proofs.lemmas.List.{drop-drop, drop-take, drop_at, length-append, length-drop, length-take-le, nil_from_length, take-append-drop, take-take, take_at}
+use Rattle.std.proofs.lemmas.List.Elements.{All-append, All-drop, All-head, All-tail, All-take}
+use Rattle.std.proofs.Math.Seq.{take-add}
 use Rattle.std.proofs.lemmas.Option.{none-some}
 use Rattle.centre_past.specs.Legal.{Known}
 use Rattle.centre_events.specs.declared.entry.Entry.{Entry}
@@ -125,8 +126,8 @@ folded_within desk folded journal =
     let all : length (receipts_of desk (folded ++ journal)) ≡ length (receipts_of desk folded) + length (receipts_from desk (length folded) journal) = ap length (receipts_over desk folded journal) ∙ length-append (receipts_of desk folded) (receipts_from desk (length folded) journal) in
     omega (arith, all)
 
-has_if : (folded journal : List Entry) (d : DeskState) (count : ℕ) → count ≡ length (receipts_of d.number folded) → length d.receipts ≡ length (receipts_of d.number (folded ++ journal)) → AreSplit d.number (length folded) journal count d.receipts → HasItsEntries folded journal d
-has_if folded journal d count folded_is same are =
+has_if : (folded journal : List Entry) (d : DeskState) (count : ℕ) → count ≡ length (receipts_of d.number folded) → length d.receipts ≡ length (receipts_of d.number (folded ++ journal)) → d.released ≤ count → AreSplit d.number (length folded) journal count d.receipts → HasItsEntries folded journal d
+has_if folded journal d count folded_is same few are =
     let within : length (receipts_of d.number folded) ≤ length (receipts_of d.number (folded ++ journal)) = folded_within d.number folded journal in
     let front : length (take count d.receipts) ≡ count = length-take-le count d.receipts (omega (arith, within, same, folded_is)) in
     let back : length (drop count d.receipts) ≡ length d.receipts - count = length-drop count d.receipts in
@@ -137,6 +138,7 @@ has_if folded journal d count folded_is same are =
       receipts = sym (take-append-drop count d.receipts) ∙ ap (λ rs. take count d.receipts ++ rs) (sym rest);
       counted = front ∙ folded_is;
       places = are.0;
+      released = omega (arith, few, front);
     }
 
 are_if : (folded journal : List Entry) (d : DeskState) (count : ℕ) → count ≡ length (receipts_of d.number folded) → HasItsEntries folded journal d → AreSplit d.number (length folded) journal count d.receipts
@@ -146,9 +148,39 @@ are_if folded journal d count folded_is has =
     let back : drop count d.receipts ≡ receipts_from d.number (length folded) journal = ap (drop count) has.receipts ∙ drop_at has.earlier (receipts_from d.number (length folded) journal) count (sym long) in
     (subst (All (λ (r : Receipt). r.place ≤ length folded)) (sym front) has.places, subst (AreEntriesOf d.number (length folded) journal 0) (sym back) (own_if d.number (length folded) journal))
 
--- where there are as many receipts as entries, to look at them tells whether they are the desk's entries
-pub has_iff : (folded journal : List Entry) (d : DeskState) (count : ℕ) (b : Bool) → count ≡ length (receipts_of d.number folded) → length d.receipts ≡ length (receipts_of d.number (folded ++ journal)) → IsTrue b ↔ AreSplit d.number (length folded) journal count d.receipts → IsTrue b ↔ HasItsEntries folded journal d
-has_iff folded journal d count b folded_is same is = (λ t. has_if folded journal d count folded_is same (is.0 t), λ has. is.1 (are_if folded journal d count folded_is has))
+-- Of receipts so many were let go. What is said of the first, more than these, is said of them, and of those after them.
+
+split_over : (desk folded : ℕ) (journal : List Entry) (gone more : ℕ) (rs : List Receipt) → All (λ (r : Receipt). r.place ≤ folded) (take gone rs) → AreSplit desk folded journal more (drop gone rs) → AreSplit desk folded journal (gone + more) rs
+split_over desk folded journal gone more rs first rest = (
+  subst (All (λ (r : Receipt). r.place ≤ folded)) (sym (take-add gone more rs)) (All-append (λ (r : Receipt). r.place ≤ folded) (take gone rs) (take more (drop gone rs)) first rest.0),
+  subst (AreEntriesOf desk folded journal 0) (drop-drop more gone rs) rest.1,
+)
+
+split_rest : (desk folded : ℕ) (journal : List Entry) (gone more : ℕ) (rs : List Receipt) → AreSplit desk folded journal (gone + more) rs → AreSplit desk folded journal more (drop gone rs)
+split_rest desk folded journal gone more rs are = (
+  subst (All (λ (r : Receipt). r.place ≤ folded)) (drop-take gone more rs) (All-drop (λ (r : Receipt). r.place ≤ folded) gone (take (gone + more) rs) are.0),
+  subst (AreEntriesOf desk folded journal 0) (sym (drop-drop more gone rs)) are.1,
+)
+
+-- what holds of a desk that has its entries: it let go of no more receipts than it has folded entries, all of places among these
+pub released_few : (folded journal : List Entry) (d : DeskState) (count : ℕ) → count ≡ length (receipts_of d.number folded) → HasItsEntries folded journal d → d.released ≤ count
+released_few folded journal d count folded_is has =
+    let few = has.released in
+    let same = has.counted in
+    omega (arith, few, same, folded_is)
+
+pub released_folded : (folded journal : List Entry) (d : DeskState) → HasItsEntries folded journal d → All (λ (r : Receipt). r.place ≤ length folded) (take d.released d.receipts)
+released_folded folded journal d has =
+    let are : AreSplit d.number (length folded) journal (length (receipts_of d.number folded)) d.receipts = are_if folded journal d (length (receipts_of d.number folded)) refl has in
+    subst (All (λ (r : Receipt). r.place ≤ length folded)) (take-take d.released (length (receipts_of d.number folded)) d.receipts (released_few folded journal d (length (receipts_of d.number folded)) refl has)) (All-take (λ (r : Receipt). r.place ≤ length folded) d.released (take (length (receipts_of d.number folded)) d.receipts) are.0)
+
+-- where that holds, and there are as many receipts as entries, to look at those that are held tells whether they are the desk's entries
+pub has_iff : (folded journal : List Entry) (d : DeskState) (count more : ℕ) (b : Bool) → count ≡ length (receipts_of d.number folded) → length d.receipts ≡ length (receipts_of d.number (folded ++ journal)) → d.released ≤ count → more ≡ count - d.released → All (λ (r : Receipt). r.place ≤ length folded) (take d.released d.receipts) → IsTrue b ↔ AreSplit d.number (length folded) journal more (drop d.released d.receipts) → IsTrue b ↔ HasItsEntries folded journal d
+has_iff folded journal d count more b folded_is same few more_is first is =
+    let whole : d.released + more ≡ count = omega (arith, few, more_is) in (
+      λ t. has_if folded journal d count folded_is same few (subst (λ n. AreSplit d.number (length folded) journal n d.receipts) whole (split_over d.number (length folded) journal d.released more d.receipts first (is.0 t))),
+      λ has. is.1 (split_rest d.number (length folded) journal d.released more d.receipts (subst (λ n. AreSplit d.number (length folded) journal n d.receipts) (sym whole) (are_if folded journal d count folded_is has))),
+    )
 
 -- no desk has the number 0
 none_at_zero : (n opened : ℕ) (h : List Entry) → All (IsByOpened opened) h → receipts_from 0 n h ≡ []

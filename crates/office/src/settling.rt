@@ -98,11 +98,14 @@ fn has_its_entries<L: Ledger>(
 {
     let number = desk.number();
     let count = entries_of(base_rows, number);
-    if desk.len() != entries_of(rows, number) || desk.released() > count {
+    if desk.len() != entries_of(rows, number)
+        || desk.released() > count
+        || !desk.is_released_within(folded)
+    {
         return false;
     }
-    let count = (count - desk.released()) as usize;
-    desk.is_released_within(folded) && are_split(centre, number, folded, count, desk.receipts())
+    let more = (count - desk.released()) as usize;
+    are_split(centre, number, folded, more, desk.receipts())
 }
 
 /// The number of the first desk whose receipts aren't its entries.

@@ -110,12 +110,12 @@ pub(crate) fn rebuild<L: Ledger, R: Wait + Print>(
 fn is_made_whole<L: Ledger, R: Wait + Print>(
     rt: &R,
     office: &Office<L>,
-    desk: &Desk<L>,
+    desk: &mut Desk<L>,
     b: BscId,
     want: &mut Want,
 ) -> Result<(), Wrong> {
     want.note(rt, Met::Stale);
-    if office.wait_pending(rt, b, LINK) != Wake::StaleCentre {
+    if office.wait_pending(rt, desk, b, LINK) != Wake::StaleCentre {
         return Err(Wrong::Wake);
     }
     want.note(rt, Met::WaitStale);
@@ -129,7 +129,7 @@ fn is_made_whole<L: Ledger, R: Wait + Print>(
 fn is_left<L: Ledger, R: Wait + Print>(
     rt: &R,
     office: &Office<L>,
-    desk: &Desk<L>,
+    desk: &mut Desk<L>,
     b: BscId,
     before: ((usize, u64), Says),
     want: &mut Want,
@@ -196,9 +196,10 @@ pub(crate) fn show<L: Ledger, R: Wait + Print>(
 pub(crate) fn has_order<L: Ledger, R: Wait + Print>(
     rt: &R,
     office: &Office<L>,
+    desk: &mut Desk<L>,
     b: BscId,
 ) -> Result<(), Wrong> {
-    if office.wait_pending(rt, b, LINK) != Wake::Order {
+    if office.wait_pending(rt, desk, b, LINK) != Wake::Order {
         return Err(Wrong::Wake);
     }
     let _ = println!(rt; "wait: order");

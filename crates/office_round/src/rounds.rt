@@ -48,7 +48,7 @@ fn bring_on_air<L: Ledger, R: Wait + Print>(
     enter_all(rt, alloc, office, first, b, &begun, want)?;
     let issued = [Step::AddArea, Step::Put, Step::Issue, Step::LinkUp];
     enter_all(rt, alloc, office, second, b, &issued, want)?;
-    has_order(rt, office, b)?;
+    has_order(rt, office, first, b)?;
     enter(rt, alloc, office, first, b, Step::Send, want)?;
     show(rt, office, second, b, want)?;
     enter(rt, alloc, office, second, b, Step::Complete, want)?;

@@ -52,10 +52,11 @@ fn update<L: Ledger, R: Wait + Clock>(
 fn side<L: Ledger, R: Wait>(
     rt: &R,
     office: &Office<L>,
-    desk: Desk<L>,
+    mut desk: Desk<L>,
     b: BscId,
 ) -> (Wake, Desk<L>) {
-    (office.wait_pending(rt, b, LINK), desk)
+    let wake = office.wait_pending(rt, &mut desk, b, LINK);
+    (wake, desk)
 }
 
 /// Both at once: the first desk and what its update is answered, the desk of the side, and for what that goes on.
@@ -115,7 +116,7 @@ fn go_on<L: Ledger, R: Wait + Print>(
         }
         Err(_) => return Err(Wrong::Refused),
     }
-    has_order(rt, office, b)
+    has_order(rt, office, desk, b)
 }
 
 /// The first desk updates the warning while the side of the link, whose desk the second is, waits.

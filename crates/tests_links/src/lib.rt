@@ -7,6 +7,8 @@
 #[cfg(test)]
 mod checks;
 #[cfg(test)]
+mod folding_tests;
+#[cfg(test)]
 mod given_events;
 #[cfg(test)]
 mod given_link;

@@ -56,17 +56,17 @@ fn wakes<L: Ledger, R: Wait + Abort>(rt: &R, alloc: Global, blank: Blank)
 {
     let b = first_bsc(rt);
     let (office, mut desk) = linked::<L, R>(rt, alloc, blank, 1000);
-    let pending = office.wait_pending(rt, b, LINK);
+    let pending = office.wait_pending(rt, &mut desk, b, LINK);
     same(rt, pending, Wake::Order, "pending");
     is_answered(rt, alloc, &office, &mut desk, b);
     wishes(rt, &office, b);
-    let wished = office.wait_pending(rt, b, LINK);
+    let wished = office.wait_pending(rt, &mut desk, b, LINK);
     let query = Wake::Query(first_warning(), Some(SEVEN));
     same(rt, wished, query, "wished for");
-    let older = office.wait_pending(rt, b, LINK - 1);
+    let older = office.wait_pending(rt, &mut desk, b, LINK - 1);
     same(rt, older, Wake::Ended, "an older link");
     enters(rt, &office, &mut desk, Event::LinkDown(b, LINK));
-    let lost = office.wait_pending(rt, b, LINK);
+    let lost = office.wait_pending(rt, &mut desk, b, LINK);
     same(rt, lost, Wake::Ended, "lost");
 }
 
@@ -79,16 +79,19 @@ fn a_side_goes_on_for_what_is_to_be_done(rt: HostRuntime) {
 fn is_told<L: Ledger, R: Wait + Abort>(
     rt: &R,
     office: &Office<L>,
+    desk: &mut Desk<L>,
     refused: Option<Refusal>,
     is_stale: bool,
 ) {
     let b = first_bsc(rt);
-    let wake = office.wait_pending(rt, b, LINK);
+    let wake = office.wait_pending(rt, desk, b, LINK);
     let wish = office.wish(rt, b, first_warning(), None);
     if is_stale {
         same(rt, refused, Some(Refusal::Memory), "an event");
         same(rt, wake, Wake::StaleCentre, "a stale centre");
         same(rt, wish, Err(Refusal::Stale), "a wish");
+        let folded = office.checkpoint(rt);
+        same(rt, folded, Err(Refusal::Stale), "a checkpoint");
     } else {
         same(rt, wake, Wake::Order, "a whole centre");
     }
@@ -104,11 +107,17 @@ fn wakes_after_issue<L: Ledger, R: Wait + Abort>(rt: &R, alloc: Global, blank: B
     let (office, mut desk) = linked::<L, R>(rt, alloc, blank, 1000);
     let refused = office.submit(rt, &mut desk, issue(rt, alloc)).err();
     let question = office.look(rt, &desk, Question::InFlight(b)).err();
-    is_told(rt, &office, refused, question == Some(Refusal::Stale));
+    is_told(
+        rt,
+        &office,
+        &mut desk,
+        refused,
+        question == Some(Refusal::Stale),
+    );
     if office.rebuild(rt).is_err() {
         office.rebuild(rt).expect(rt, "the centre is rebuilt");
     }
-    let wake = office.wait_pending(rt, b, LINK);
+    let wake = office.wait_pending(rt, &mut desk, b, LINK);
     same(rt, wake, Wake::Order, "rebuilt");
 }
 

@@ -149,11 +149,11 @@ fn changes_later<L: Ledger, R: Wait + Clock + Abort>(
 fn waits<L: Ledger, R: Wait>(
     rt: &R,
     office: &Office<L>,
-    desk: Desk<L>,
+    mut desk: Desk<L>,
     b: BscId,
     is_awake: &AtomicBool,
 ) -> (Desk<L>, Wake) {
-    let wake = office.wait_pending(rt, b, LINK);
+    let wake = office.wait_pending(rt, &mut desk, b, LINK);
     is_awake.store(true, Ordering::SeqCst);
     (desk, wake)
 }
@@ -255,7 +255,7 @@ fn is_asked<L: Ledger, R: Wait + Abort>(
     let (b, first) = (first_bsc(rt), first_warning());
     let wished = office.wish(rt, b, first, None);
     same(rt, wished, Ok(()), "a wish");
-    let wake = office.wait_pending(rt, b, LINK);
+    let wake = office.wait_pending(rt, desk, b, LINK);
     same(rt, wake, Wake::Query(first, None), "a query");
     enters(rt, office, desk, Event::Ask(b, LINK, first, None));
     reports(rt, alloc, office, desk, 0x0b, &COUNTED);
@@ -293,9 +293,9 @@ fn ends_full<L: Ledger, R: Wait + Abort>(rt: &R, alloc: Global, blank: Blank)
     let b = first_bsc(rt);
     let (office, mut desk) = linked::<L, R>(rt, alloc, blank, 7);
     enters(rt, &office, &mut desk, Event::LinkDown(b, LINK));
-    let lost = office.wait_pending(rt, b, LINK);
+    let lost = office.wait_pending(rt, &mut desk, b, LINK);
     same(rt, lost, Wake::Ended, "a link that is lost");
-    let unknown = office.wait_pending(rt, bsc(rt, 2), LINK);
+    let unknown = office.wait_pending(rt, &mut desk, bsc(rt, 2), LINK);
     same(rt, unknown, Wake::Ended, "a BSC that isn't there");
     let refused = office.submit(rt, &mut desk, Event::LinkUp(b));
     same(rt, refused, Err(Refusal::JournalFull), "an eighth entry");

@@ -13,5 +13,5 @@ pub returns-in-Update-clause-meter : goal.returns-in-Update-clause-meter
 returns-in-Update-clause-meter c =
     λ settings past legal kept.
     let read = c.check_update.ensures.meter settings past c.args.kept.now.register legal kept.booked (known_kept settings past c.args.kept.now legal kept (subst TellsLines c.lines.ensures c.tell_lines.ensures)) in
-    let reach = read_in_reach past c.in-Update.number.now c.in-Update.content.now in
+    let reach = read_in_reach past c.in-Update.number c.in-Update.content in
     rw c.in-Update.is (omega (arith, read, reach))
