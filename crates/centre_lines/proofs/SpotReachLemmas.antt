@@ -2,6 +2,7 @@
 use Rattle.std.proofs.Common.{◌≡◌, ◌⊎◌, inl, inr, ℕ, Bool, true, false, ◌&&◌, ◌||◌, not, nat_eq, ltb, List, [], ◌∷◌, Option, Some, None, Ok, filter, length, refl, sym, ◌∙◌, ap, subst}
 use Rattle.std.specs.Prelude.{if◌then◌else◌}
 use Rattle.std.specs.List.{flat_map, list_any}
+use Rattle.std.specs.Option.{option_map, option_to_list}
 use Rattle.std.proofs.lemmas.Bool.{and_from, not_from_false}
 use Rattle.areas.specs.Areas as kept
 use Rattle.areas.specs.declared.area.Area.{Area}
@@ -24,6 +25,7 @@ use Rattle.kept_tables.specs.View.{spot_eq}
 use Rattle.kept_tables.specs.declared.spot.Spot.{Spot}
 use Rattle.mirror.specs.Known as known
 use Rattle.mirror.specs.Table.{Table}
+use Rattle.serials.specs.Serials.{next_of}
 use Rattle.warning_book.specs.Book as book
 use Rattle.warning_book.specs.Book.{number_lt, areas_of, names}
 use Rattle.warning_book.specs.declared.content.Content.{Content}
@@ -44,7 +46,7 @@ use Rattle.centre_past.specs.Reaching.{AreSpots, AreThose, Told, TellsLines, Edi
 use Rattle.centre_events.specs.Reported.{names_warning}
 use Rattle.centre_events.specs.Settings.{Settings}
 use Rattle.centre_events.specs.Verdict.{answered, move_cell_checks, report_checks, report_answer}
-use Rattle.centre_events.specs.Warnings.{warnings_of}
+use Rattle.centre_events.specs.Warnings.{book_of, warnings_of}
 use Rattle.centre_events.specs.declared.answer.Answer.{Answer}
 use Rattle.centre_events.specs.declared.answer.Answer.TheVariants as answer
 use Rattle.coverage_plan.specs.declared.edit.Edit.{Edit}
@@ -178,6 +180,10 @@ wrapped_reached settings past r st t spots told tells are =
     at_bscs : (a b : Bool) → (a ≡ true → b ≡ true) → (b && a) ≡ a
     at_bscs true b h = ap (λ x. x && true) (h refl)
     at_bscs false b h = and_none b
+
+-- whether an Update wraps, by the book
+pub wraps_by : (past : Past) (st : book.State) (n : ℕ) → st ≡ book_of past → book.is_so n (λ w. list_any (λ s. book.is_reused w s && true) (option_to_list (option_map next_of (book.current_of w)))) st.warnings ≡ wraps past n
+wraps_by past st n booked = ap (λ (k : book.State). book.is_so n (λ w. list_any (λ s. book.is_reused w s && true) (option_to_list (option_map next_of (book.current_of w)))) k.warnings) booked
 
 pub spots_where : (past : Past) (n : ℕ) (t : Bool) (spots : List Spot) → wraps past n ≡ t → AreThose spots (if t then flat_map (known_at past) (bscs past) else placed_where past (is_covered past (areas_of n (warnings_of past)))) → AreThose spots (if wraps past n then flat_map (known_at past) (bscs past) else placed_where past (is_covered past (areas_of n (warnings_of past))))
 spots_where past n t spots e are =

@@ -4,13 +4,13 @@ ghost use Rattle.std.specs.Prelude.{◌≡◌, ◌&&◌, true, false, if◌then�
 ghost use Rattle.std.specs.List.{list_any};
 ghost use Rattle.std.specs.Option.{option_copied, option_map, option_to_list};
 ghost use Rattle.serials.specs.Serials.{next_of};
-ghost use Rattle.warning_book.specs.Book.{current_of, is_reused};
+ghost use Rattle.warning_book.specs.Book.{current_of, is_reused, is_so};
 ghost use Rattle.centre_events.specs.InFlight.{in_flight};
 ghost use Rattle.centre_events.specs.Past.{Past};
 ghost use Rattle.centre_past.specs.Reaching.{is_forget, AreThose, EditTold, EventTold};
 ghost use Rattle.centre_past.specs.Reach.{IsReach, flight_reach, edit_reach, report_reach, reach_of, covered_by, known_anywhere, wraps};
 ghost use Rattle.centre_events.specs.Settings.{Settings};
-ghost use Rattle.centre_events.specs.Warnings.{book_of, is_version};
+ghost use Rattle.centre_events.specs.Warnings.{is_version};
 
 use crate::plan_parts::PlanParts;
 use crate::reached_warnings;
@@ -55,7 +55,7 @@ fn is_given_again(w: &Warning) -> bool
 
 /// Whether an Update of the warning of that number takes the serial number of a version, which leaves the book then.
 fn wraps(book: &Book, n: WarningId) -> bool
-    ensures { (past : Past) → book.now ≡ book_of past → result ≡ wraps past n }
+    ensures { result ≡ is_so n (λ w. list_any (λ s. is_reused w s && true) (option_to_list (option_map next_of (current_of w)))) book.now.warnings }
 {
     book.as_slice()
         .iter()

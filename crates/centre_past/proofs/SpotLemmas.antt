@@ -258,7 +258,7 @@ none_before (x ∷ xs) (suc i) d h less =
     or_from (nat_eq x (get_or xs i d)) (list_any (λ y. nat_eq y (get_or xs i d)) (take i xs)) (nat_apart x (get_or xs i d) (all_at (ltb x) xs i d parts.0 (omega (arith, less)))) (none_before xs i d parts.1 (omega (arith, less)))
 
 -- the cells known at more BSCs: those known at one more
-pub known_more : (t : Table) (r : State) (bs : List ℕ) (i d : ℕ) (cs : List Cell) (spots new : List Spot) → is_ascending ltb bs ≡ true → i < length bs → AreSpots spots (is_known_among t r (take i bs)) → is_ascending cell_lt cs ≡ true → ((c : Cell) → list_any (cell_eq c) cs ≡ kept.is_known t r (get_or bs i d) c) → new ≡ spots ++ map (spot (get_or bs i d)) cs → AreSpots new (is_known_among t r (take (i + 1) bs))
+known_more : (t : Table) (r : State) (bs : List ℕ) (i d : ℕ) (cs : List Cell) (spots new : List Spot) → is_ascending ltb bs ≡ true → i < length bs → AreSpots spots (is_known_among t r (take i bs)) → is_ascending cell_lt cs ≡ true → ((c : Cell) → list_any (cell_eq c) cs ≡ kept.is_known t r (get_or bs i d) c) → new ≡ spots ++ map (spot (get_or bs i d)) cs → AreSpots new (is_known_among t r (take (i + 1) bs))
 known_more t r bs i d cs spots new ascending less before order known is =
     subst (λ (l : List Spot). AreSpots l (is_known_among t r (take (i + 1) bs))) (sym is)
     (spots_same (spots ++ map (spot b) cs) (λ s. is_known_among t r (take i bs) s || is_known_at t r b s) (is_known_among t r (take (i + 1) bs)) both
@@ -295,6 +295,11 @@ known_more t r bs i d cs spots new ascending less before order known is =
             either true false = refl
             either false y = refl
         step u false e = or_none (u && kept.is_known t r s.bsc s.cell) ∙ ap (λ x. x && kept.is_known t r s.bsc s.cell) (sym (or_none u))
+
+-- the same where the next BSC is told
+pub known_next : (t : Table) (r : State) (bs : List ℕ) (i b : ℕ) (cs : List Cell) (spots new : List Spot) → is_ascending ltb bs ≡ true → i < length bs → b ≡ get_or bs i b → AreSpots spots (is_known_among t r (take i bs)) → is_ascending cell_lt cs ≡ true → ((c : Cell) → list_any (cell_eq c) cs ≡ kept.is_known t r b c) → new ≡ spots ++ map (spot b) cs → AreSpots new (is_known_among t r (take (i + 1) bs))
+known_next t r bs i b cs spots new ascending less at before order known is =
+    known_more t r bs i b cs spots new ascending less before order (λ c. known c ∙ ap (λ k. kept.is_known t r k c) at) (is ∙ ap (λ k. spots ++ map (spot k) cs) at)
 
 -- the registered cells that a selector names
 pub cell_named : (r : State) (c : Cell) (spots : List Spot) → spots ≡ at_bsc c (place_in r c) → AreSpots spots (λ s. is_placed r s && cell_eq c s.cell)
