@@ -58,6 +58,7 @@ line_starved old (request.Report b text) r new h = octets_starved old b (octets_
 line_starved old (request.Pending b) r new h = h.2.0
 line_starved old (request.Table b) r new h = h.2.0
 line_starved old request.Rebuild r new h = h.0
+line_starved old request.Checkpoint r new h = h.1.0
 line_starved old l r new h = some_starved old (event_of old l) r new h
 
 -- a line has its answer, or memory ran out where it may be
