@@ -1,5 +1,5 @@
 -- After a lawful past an event that is accepted makes no order pending for a BSC that it doesn't affect: it is so after its whole.
-use Rattle.std.proofs.Common.{◌≡◌, ℕ, true, false, Ok, Err, sym, ap, ◌∙◌, refl, nat_le, if◌then◌else◌}
+use Rattle.std.proofs.Common.{List, ◌≡◌, ℕ, true, false, Ok, Err, sym, ap, ◌∙◌, refl, nat_le, if◌then◌else◌}
 use Rattle.std.specs.Option.{is_some}
 use Rattle.coverage_plan.specs.declared.edit.Edit.{Edit}
 use Rattle.coverage_plan.specs.declared.edit.Edit.TheVariants as edit

@@ -1,5 +1,5 @@
 -- Receipts that are entries of a desk, at places that rise, and as many as the desk has entries, are all of them.
-use Rattle.std.proofs.Common.{◌≡◌, ◌≢◌, ℕ, suc, ◌+◌, ◌-◌, ◌<◌, ◌≤◌, ◌==◌, Bool, true, false, List, [], ◌∷◌, ◌++◌, Some, length, slice_get, get_or, take, drop, unwrap_or, refl, sym, ap, ◌∙◌, subst, arith, All, Any, IsTrue, ◌↔◌, ◌⊎◌, ⊎_elim, if◌then◌else◌}
+use Rattle.std.proofs.Common.{◌≡◌, ◌≢◌, ℕ, suc, ◌+◌, ◌-◌, ◌<◌, ◌≤◌, ◌==◌, Bool, true, false, List, [], ◌∷◌, ◌++◌, Some, Result, Ok, Err, IfOk, length, slice_get, get_or, take, drop, unwrap_or, refl, sym, ap, ◌∙◌, subst, arith, All, Any, IsTrue, ◌↔◌, ◌⊎◌, ⊎_elim, if◌then◌else◌}
 use Rattle.std.proofs.lemmas.Bool.{cases_eq}
 use Rattle.std.proofs.lemmas.Bool.Decides.{nat_tests}
 use Rattle.std.proofs.lemmas.List.{drop-drop, drop-take, drop_at, length-append, length-drop, length-take-le, nil_from_length, take-append-drop, take-take, take_at}
@@ -11,7 +11,7 @@ use Rattle.centre_events.specs.declared.entry.Entry.{Entry}
 use Rattle.office.specs.Desks.{DeskState}
 use Rattle.office.specs.Helds.{AreRowsOf, IsByOpened, entry_of, no_row}
 use Rattle.office.specs.Receipts.{receipt_of, receipts_from, receipts_of}
-use Rattle.office.specs.Shuffles.{AreEntriesOf, AreSplit, HasItsEntries, IsEntryOf, IsFault, IsUnsettled}
+use Rattle.office.specs.Shuffles.{AreEntriesOf, AreSplit, HasItsEntries, IsEntryOf, IsFault, IsSettled, IsShuffle, IsUnsettled}
 use Rattle.office.specs.declared.fault.Fault.{Fault}
 use Rattle.office.specs.declared.receipt.Receipt.{Receipt}
 use Rattle.office.specs.declared.row.Row.{Row}
@@ -212,3 +212,12 @@ there_more desks number below here n first last =
 -- a fault among so many desks is one among some number of desks
 pub some_fault : (opened : ℕ) (centre : Known) (desks : List DeskState) (f : Fault) → IsFault opened centre.folded centre.journal desks f → IsUnsettled centre desks f
 some_fault opened centre desks f is = (opened, is)
+
+-- the entries are a shuffle for some number of desks that were opened
+pub some_shuffle : (opened : ℕ) (centre known : Known) (desks : List DeskState) → known ≡ centre → IsShuffle opened centre.folded centre.journal desks → IsSettled known desks
+some_shuffle opened centre known desks is shuffle = subst (λ k. IsSettled k desks) (sym is) (opened, shuffle)
+
+-- what holds of an answer by two clauses
+pub of_both : {T E : Type 0} (r : Result T E) (P Q R : T → Type 0) → ((x : T) → P x → Q x → R x) → IfOk r P → IfOk r Q → IfOk r R
+of_both (Ok x) P Q R f p q = f x p q
+of_both (Err e) P Q R f p q = tt
