@@ -168,6 +168,15 @@ other_within settings xs ys e a old mid new is looks bears =
     let all : reach (past_over xs ys) e (verdict settings (past_over xs ys) e) ≡ size (reach_of (past_of (xs ++ ys)) e a) + looked_at (past_of (xs ++ ys)) e = ap (reach (past_over xs ys) e) is ∙ reach_over xs ys e (Ok a) in
     omega (arith, looks, bears, all)
 
+-- those of an event that is looked at alone
+looked_in : (past : Past) (e : Event) (v : Result Answer Refusal) → looked_at past e ≤ reach past e v
+looked_in past e (Ok a) = omega arith
+looked_in past e (Err x) = omega arith
+
+pub other_looked : (settings : Settings) (xs ys : List Entry) (e : Event) (old new : ℕ) → new ≤ old + looked_at (past_of (xs ++ ys)) e → new ≤ old + 2 * reach (past_over xs ys) e (verdict settings (past_over xs ys) e)
+other_looked settings xs ys e old new looks =
+    omega (arith, looks, reach_over xs ys e (verdict settings (past_over xs ys) e), looked_in (past_of (xs ++ ys)) e (verdict settings (past_over xs ys) e))
+
 -- What a centre is, one event further.
 
 pub centre_after : (settings : Settings) (xs ys folded now : List Entry) (stale : Bool) (b s t : Kept) → IsCentre settings xs ys stale b s → folded ≡ xs → now ≡ ys → OnlyReadsIn s t → IsCentre settings folded now stale b t

@@ -19,6 +19,7 @@ use Rattle.centre_events.specs.declared.refusal.Refusal.TheVariants.{JournalFull
 use Rattle.centre_events.proofs.FoldingLemmas.{alike, folded_then, past_joined, past_whole, since_onto}
 use Rattle.centre_events.proofs.PastLemmas.{count_journal, position_journal}
 use Rattle.centre_past.proofs.AlikeLemmas.{says_the_same}
+use Rattle.centre_past.specs.Alike.{SaysTheSame}
 use Rattle.centre_past.specs.Legal.{lasting}
 use Rattle.centre_past.specs.Reach.{edit_reach, looked_at, reach, reach_of, size}
 use Rattle.centre_core.specs.Centre.{all_reach, past_over}
@@ -123,3 +124,7 @@ all_reach_over xs ys =
 pub anyway : {A E P : Type 0} (o : Result A E) → P → OnOk o P
 anyway (Ok a) h = h
 anyway (Err e) h = tt
+
+-- the past over the base says what all entries say
+pub over_says : (xs ys : List Entry) → SaysTheSame (past_over xs ys) (past_of (xs ++ ys))
+over_says xs ys = says_the_same (past_over xs ys) (past_of (xs ++ ys)) (past_whole xs ys)

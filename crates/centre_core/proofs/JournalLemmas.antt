@@ -33,3 +33,14 @@ fewer few many n h = further (many - few) few many n (omega (arith, h))
 pub read_at_most : {A E : Type 0} (o : Result A E) (done all n old new : ℕ) → done < all → old ≡ counted_by done n → new ≡ counted old → OnErr o (new ≤ counted_by all n)
 read_at_most (Ok x) done all n old new h before is = tt
 read_at_most (Err x) done all n old new h before is = subst (λ m. m ≤ counted_by all n) (sym (is ∙ ap counted before ∙ one_more done n)) (fewer (done + 1) all n (omega (arith, h)))
+
+-- where nothing was read
+pub unread_at_most : {A E : Type 0} (o : Result A E) (all n : ℕ) → OnErr o (n ≤ counted_by all n)
+unread_at_most (Ok x) all n = tt
+unread_at_most (Err x) all n = fewer zero all n (omega arith)
+
+-- after another read
+pub read_more : (from done n old new : ℕ) → from ≤ done → old ≡ counted_by (done - from) n → new ≡ counted old → new ≡ counted_by (done + 1 - from) n
+read_more from done n old new h before is =
+    let next : done - from + 1 ≡ done + 1 - from = omega (arith, h) in
+    is ∙ ap counted before ∙ one_more (done - from) n ∙ ap (λ k. counted_by k n) next

@@ -2,7 +2,7 @@
 use Rattle.std.specs.Prelude.{OnOk, Some, None, nat_le, slice_get, if◌then◌else◌}
 use Rattle.kept_tables.specs.declared.spot.Spot.{Spot}
 use Rattle.coverage_plan.specs.declared.edit.Edit.{Edit}
-use Rattle.std.proofs.Common.{◌≡◌, ℕ, suc, zero, Bool, false, ◌+◌, ◌-◌, ◌<◌, ◌≤◌, List, [], ◌∷◌, ◌++◌, Result, Ok, Err, refl, sym, ◌∙◌, ap, subst, length, get_or, take, drop, reverse, arith, length-append}
+use Rattle.std.proofs.Common.{◌≡◌, ℕ, suc, zero, Bool, false, ◌+◌, ◌-◌, ◌*◌, ◌<◌, ◌≤◌, List, [], ◌∷◌, ◌++◌, Result, Ok, Err, refl, sym, ◌∙◌, ap, subst, length, get_or, take, drop, reverse, arith, length-append}
 use Rattle.std.proofs.Math.Seq.{take-append_seam}
 use Rattle.std.proofs.lemmas.Bool.{lt-leb}
 use Rattle.std.proofs.lemmas.List.{reverse-append, take_all}
@@ -24,7 +24,9 @@ use Rattle.centre_events.specs.declared.event.Event.{Event}
 use Rattle.centre_events.specs.declared.event.Event.TheVariants as event
 use Rattle.centre_lines.specs.declared.held_lines.HeldLines.{HeldLines}
 use Rattle.centre_past.specs.declared.kept.Kept.{Kept}
+use Rattle.centre_core.specs.Centre.{all_reach, past_over}
 use Rattle.centre_core.proofs.CentreLemmas.{finishes_edit, finishes_other}
+use Rattle.centre_core.proofs.FoldedLemmas.{all_reach_over}
 use Rattle.centre_events.proofs.PastLemmas.{past_more, position_past}
 use Rattle.centre_past.proofs.ReadLemmas.{reads_kept}
 use Rattle.centre_past.proofs.UniqueLemmas.{verdict_answered}
@@ -192,3 +194,34 @@ take_folded xs ys = ap (λ zs. past_of zs) (take-append_seam xs ys)
 
 pub take_whole : (xs ys : List Entry) → past_of (take (length xs + length ys) (xs ++ ys)) ≡ past_of (xs ++ ys)
 take_whole xs ys = ap (λ zs. past_of zs) (take_all (length xs + length ys) (xs ++ ys) (omega (arith, length-append xs ys)))
+
+-- How many lines were read or set.
+
+pub metered_more : (xs ys folded now : List Entry) (done old new : ℕ) → folded ≡ xs → now ≡ ys → old + 4 * all_reach (past_of xs) ≤ 4 * all_reach (past_of (take done (xs ++ ys))) → (old + 4 * all_reach (past_of folded) ≤ 4 * all_reach (past_of (take (done + 1 - 1) (folded ++ now))) → new + 4 * all_reach (past_of folded) ≤ 4 * all_reach (past_of (take (done + 1) (folded ++ now)))) → new + 4 * all_reach (past_of xs) ≤ 4 * all_reach (past_of (take (done + 1) (xs ++ ys)))
+metered_more xs ys folded now done old new same_folded same within more =
+    let joined : folded ++ now ≡ xs ++ ys = ap (λ fs. fs ++ now) same_folded ∙ ap (λ js. xs ++ js) same in
+    let back : done + 1 - 1 ≡ done = omega arith in
+    let base : all_reach (past_of folded) ≡ all_reach (past_of xs) = ap (λ fs. all_reach (past_of fs)) same_folded in
+    let before : all_reach (past_of (take (done + 1 - 1) (folded ++ now))) ≡ all_reach (past_of (take done (xs ++ ys))) = ap (λ n. all_reach (past_of (take n (folded ++ now)))) back ∙ ap (λ es. all_reach (past_of (take done es))) joined in
+    let after : all_reach (past_of (take (done + 1) (folded ++ now))) ≡ all_reach (past_of (take (done + 1) (xs ++ ys))) = ap (λ es. all_reach (past_of (take (done + 1) es))) joined in
+    let given : new + 4 * all_reach (past_of folded) ≤ 4 * all_reach (past_of (take (done + 1) (folded ++ now))) = more (omega (arith, within, base, before)) in
+    omega (arith, given, base, after)
+
+pub metered_first : (xs ys : List Entry) (done meter : ℕ) → done ≡ length xs → meter ≡ 0 → meter + 4 * all_reach (past_of xs) ≤ 4 * all_reach (past_of (take done (xs ++ ys)))
+metered_first xs ys done meter at none =
+    let here : all_reach (past_of (take done (xs ++ ys))) ≡ all_reach (past_of xs) = ap (λ n. all_reach (past_of (take n (xs ++ ys)))) at ∙ ap all_reach (take_folded xs ys) in
+    omega (arith, none, here)
+
+pub metered_last : (xs ys : List Entry) (done meter : ℕ) → done ≡ length xs + length ys → meter + 4 * all_reach (past_of xs) ≤ 4 * all_reach (past_of (take done (xs ++ ys))) → meter ≤ 4 * all_reach (past_over xs ys)
+metered_last xs ys done meter at within =
+    let here : all_reach (past_of (take done (xs ++ ys))) ≡ all_reach (past_of (xs ++ ys)) = ap (λ n. all_reach (past_of (take n (xs ++ ys)))) at ∙ ap all_reach (take_whole xs ys) in
+    omega (arith, within, here, all_reach_over xs ys)
+
+-- what is kept of the entries so far, before the first and after one more
+pub kept_first : (xs ys : List Entry) (done : ℕ) (s : Kept) → done ≡ length xs → IsKept (past_of xs) s → IsKept (past_of (take done (xs ++ ys))) s
+kept_first xs ys done s at kept =
+    subst (λ past. IsKept past s) (sym (ap (λ n. past_of (take n (xs ++ ys))) at ∙ take_folded xs ys)) kept
+
+pub kept_further : (xs ys folded now : List Entry) (done : ℕ) (s : Kept) → folded ≡ xs → now ≡ ys → IsKept (past_of (take (done + 1) (folded ++ now))) s → IsKept (past_of (take (done + 1) (xs ++ ys))) s
+kept_further xs ys folded now done s same_folded same kept =
+    subst (λ es. IsKept (past_of (take (done + 1) es)) s) (ap (λ fs. fs ++ now) same_folded ∙ ap (λ js. xs ++ js) same) kept

@@ -1,7 +1,7 @@
 //! The centre: its journal, what is kept beside it, and the questions that are answered from there.
 
 use crate::entering::{enter, make, with_entry};
-use crate::journal::Journal;
+use crate::journal::{Journal, tell_over};
 use crate::looking::{prepare_edit, prepare_other};
 use crate::rebuilding::kept_of;
 use cell_register::BscId;
@@ -278,6 +278,7 @@ impl Centre {
         if self.stale {
             return Err(Refusal::Stale);
         }
+        tell_over(&self.journal);
         if !self.kept.register.has_bsc(b) {
             return Err(Refusal::NoSuchBsc);
         }
@@ -293,6 +294,7 @@ impl Centre {
         if self.stale {
             return Err(Refusal::Stale);
         }
+        tell_over(&self.journal);
         if !self.kept.register.has_bsc(b) {
             return Err(Refusal::NoSuchBsc);
         }
@@ -308,6 +310,7 @@ impl Centre {
         if self.stale {
             return Err(Refusal::Stale);
         }
+        tell_over(&self.journal);
         if !self.kept.register.has_bsc(b) {
             return Err(Refusal::NoSuchBsc);
         }
@@ -322,6 +325,7 @@ impl Centre {
         if self.stale {
             return Err(Refusal::Stale);
         }
+        tell_over(&self.journal);
         Ok(self.kept.register.bsc_of(cell))
     }
 
@@ -338,6 +342,7 @@ impl Centre {
         if self.stale {
             return Err(Refusal::Stale);
         }
+        tell_over(&self.journal);
         if !self.kept.register.has_bsc(b) {
             return Err(Refusal::NoSuchBsc);
         }
@@ -361,6 +366,7 @@ impl Centre {
         if self.stale {
             return Err(Refusal::Stale);
         }
+        tell_over(&self.journal);
         match questions::board(&self.kept.tables, &self.kept.book, warning) {
             Some(numbers) => Ok(numbers),
             None => Err(Refusal::NoSuchWarning),
@@ -376,6 +382,7 @@ impl Centre {
         if self.stale {
             return Err(Refusal::Stale);
         }
+        tell_over(&self.journal);
         questions::area_board(
             &self.kept.areas,
             &self.kept.book,

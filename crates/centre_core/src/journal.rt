@@ -6,7 +6,10 @@ ghost use Rattle.std.specs.Option.{option_copied};
 ghost use mathlib.Core.Option.{none};
 ghost use Rattle.mirror.specs.Table.{counted};
 ghost use Rattle.centre_core.specs.contracts.journal.Journal.{the_row};
+ghost use Rattle.centre_core.specs.Centre.{past_over};
+ghost use Rattle.centre_events.specs.Past.{past_of};
 ghost use Rattle.centre_events.specs.Verdict.{last_position};
+ghost use Rattle.centre_past.specs.Alike.{SaysTheSame};
 
 use centre_events::entry::Entry;
 use histories::History;
@@ -143,3 +146,8 @@ impl Journal {
         self.nth(number)
     }
 }
+
+/// Lemma: the past of a centre with that journal, whose base has the entries that were folded away, says what all entries say.
+pub(crate) fn tell_over(journal: &Journal)
+    ensures { SaysTheSame (past_over journal.now.folded journal.now.entries) (past_of (journal.now.folded ++ journal.now.entries)) }
+{}

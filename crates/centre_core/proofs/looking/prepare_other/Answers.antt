@@ -2,7 +2,7 @@ use Rattle.std.proofs.Common.{◌≡◌, ◌++◌, Ok}
 use Rattle.centre_events.specs.Past.{past_of}
 use Rattle.centre_events.specs.Settings.{Settings}
 use Rattle.centre_events.specs.Verdict.{verdict}
-use Rattle.centre_core.proofs.CentreLemmas.{answered_all, other_within}
+use Rattle.centre_core.proofs.CentreLemmas.{answered_all, other_looked, other_within}
 use Rattle.centre_past.proofs.ReadLemmas.{reads_kept, reads_then}
 use Rattle.centre_core.specs.Centre.{past_over}
 use Rattle.centre_past.specs.Legal.{lasting}
@@ -46,3 +46,8 @@ returns-in-Ok-clause-meter c =
     (c.reach_with_room-reached.ensures.meter (lasting c.args.network) (past_of (c.args.journal.now.folded ++ c.args.journal.now.entries)) centre.legal
     (reads_kept (past_of (c.args.journal.now.folded ++ c.args.journal.now.entries)) c.args.kept.now c.look_at_other.new.kept centre.kept c.look_at_other.ensures.reads)
     (answered_all settings c.args.journal.now.folded c.args.journal.now.entries c.args.event.now c.in_ok-answer.answer given))
+
+pub returns-in_err-answer-clause-meter : goal.returns-in_err-answer-clause-meter
+returns-in_err-answer-clause-meter c =
+    λ centre.
+    other_looked (record { network = c.args.network; limit = c.args.limit }) c.args.journal.now.folded c.args.journal.now.entries c.args.event.now c.args.kept.now.tables.lines.meter c.look_at_other.new.kept.tables.lines.meter (c.look_at_other.ensures.meter centre)
