@@ -156,10 +156,6 @@ module _ (b generation : ℕ) (d e : DeskState) (event : Event) (r : Receipt) (s
   is_put : r ≡ put
   is_put = last_put d.receipts e.receipts put r submitted.receipts last
 
-  -- the desk holds a receipt
-  pub some_receipt : e.released < length e.receipts
-  some_receipt = submitted.held
-
   -- its message fits
   pub receipt_fits : AnswerFits r.answer
   receipt_fits = subst (λ (s : Receipt). AnswerFits s.answer) (sym is_put) submitted.message_fits
