@@ -1,6 +1,6 @@
 //! A run of the console over octets.
 
-ghost use Rattle.std.specs.Prelude.{◌≡◌, ◌<◌, ◌≤◌, true, false, length, IfOk, IfErr, OnOk};
+ghost use Rattle.std.specs.Prelude.{◌≡◌, ◌<◌, ◌≤◌, [], true, false, length, IfOk, IfErr, OnOk};
 ghost use Rattle.std.specs.Io.KnownBytes.{IsAtEnd};
 ghost use Rattle.framing.specs.Source.{FailsToRead, counted, with_failure};
 ghost use Rattle.console.specs.Consoles.{Reads, ReadsAndStops, is_read_fault, is_write_fault};
@@ -53,6 +53,29 @@ fn turn<R: Source, W: Sink>(
     turn_over(console, reader, writer, &mut piece)
 }
 
+/// Answers the lines that the reader gives, each at once, from a console that holds no part of a line. The reads are at most
+/// 1,000,000,000,000.
+fn answer_all<R: Source, W: Sink>(
+    console: &mut Console,
+    reader: &mut R,
+    writer: &mut W,
+) -> Result<(), ReplayFault>
+    requires { console.old.begun ≡ [] }
+    ensures all { OnOk result (Replays console.old.session (R.remaining reader.old) (R.remaining reader.new) (W.written writer.old) (W.written writer.new)) }
+    ensures part { IfErr result (BreaksOff console.old.session (R.remaining reader.old) (R.remaining reader.new) (W.written writer.old) (W.written writer.new)) }
+    ensures read_fault { is_read_fault result ≡ true → FailsToRead (R.calls reader.old) (R.calls reader.new) (R.failures reader.old) (R.failures reader.new) }
+    ensures read_failed { is_read_fault result ≡ false → R.failures reader.new ≡ R.failures reader.old }
+    ensures write_fault { W.failures writer.new ≡ with_failure (W.failures writer.old) (is_write_fault result) }
+{
+    for _turn in 0..MOST_READS {
+        if !turn(console, reader, writer)? {
+            console.end_line(writer)?;
+            return Ok(());
+        }
+    }
+    Err(ReplayFault::ReadFault)
+}
+
 /// Answers the lines that the reader gives, each at once, on a centre of the network `plmn` whose journal holds
 /// `journal_limit` entries. The reads are at most 1,000,000,000,000.
 ///
@@ -75,11 +98,5 @@ pub fn replay<R: Source, W: Sink>(
     ensures write_fault { W.failures writer.new ≡ with_failure (W.failures writer.old) (is_write_fault result) }
 {
     let mut console = Console::new(alloc, plmn, journal_limit);
-    for _turn in 0..MOST_READS {
-        if !turn(&mut console, reader, writer)? {
-            console.end_line(writer)?;
-            return Ok(());
-        }
-    }
-    Err(ReplayFault::ReadFault)
+    answer_all(&mut console, reader, writer)
 }

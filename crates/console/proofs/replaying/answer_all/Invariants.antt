@@ -1,7 +1,7 @@
 use Rattle.std.proofs.Common.{◌≡◌}
 use Rattle.framing.specs.Source.{counted}
 use Rattle.console.specs.Consoles.{Reads}
-use Rattle.console.proofs.replaying.replay.Given as goal
+use Rattle.console.proofs.replaying.answer_all.Given as goal
 
 -- the console has taken what was read, and no read or write failed
 abbrev pub invariant-loop-turn : goal.invariant-loop-turn
