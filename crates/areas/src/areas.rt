@@ -191,6 +191,13 @@ impl Areas {
         Ok(())
     }
 
+    /// The areas, in the order of the octets of their names.
+    pub fn as_slice(&self) -> &[Area]
+        ensures { result.now ≡ self.now }
+    {
+        self.list.as_slice()
+    }
+
     /// Whether the area is there, with selectors or without.
     pub fn has_area(&self, a: &Name) -> bool
         ensures { result ≡ has_area self.now a.now }

@@ -1,6 +1,6 @@
 //! The register.
 
-ghost use Rattle.std.specs.Prelude.{◌≡◌, ◌⊎◌, None, Some, OnOk, OnErr, IfOk, IfErr};
+ghost use Rattle.std.specs.Prelude.{◌≡◌, ◌⊎◌, None, Some, length, OnOk, OnErr, IfOk, IfErr};
 ghost use Rattle.common.specs.Checks.{first_refusal};
 ghost use Rattle.cell_register.specs.Register.{empty, has_bsc, has_cells, place_in, cells_of, cells_in, all_cells, with_bsc, without_bsc, with_cell, moved, without_cell, add_bsc_checks, remove_bsc_checks, add_cell_checks, move_cell_checks, remove_cell_checks};
 ghost use Rattle.cell_register.specs.Sound.{IsRegister};
@@ -112,6 +112,13 @@ impl Register {
         ensures { IfOk result (λ cells. cells ≡ cells_in self.now lac) }
     {
         self.places.cells_in(self.alloc, lac)
+    }
+
+    /// How many cells are registered. It takes no memory.
+    pub fn cell_count(&self) -> usize
+        ensures { result ≡ length self.now.cells }
+    {
+        self.places.len()
     }
 
     /// Every registered cell, in ascending order.

@@ -8,3 +8,4 @@ pub mod QuestionLemmas
 pub mod BoardLemmas
 pub mod TableLemmas
 pub mod ReuseLemmas
+pub mod ListLemmas

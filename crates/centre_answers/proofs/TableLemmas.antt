@@ -79,7 +79,7 @@ keys_same line p c m (v ∷ vs) e =
     here = e v.serial (or_left (is_version v.serial v) (list_any (is_version v.serial) vs) (eq-eqb v.serial v.serial refl))
 
 -- the line of a warning in the book
-line_kept : (past : Past) (t u : Tables) (b : ℕ) (c : Cell) (w : Warning) → Tells past t → AsBefore t u → warning_of (book_of past) w.number ≡ Some w → line_at u.lines b c w.number ≡ line_of past b c w
+pub line_kept : (past : Past) (t u : Tables) (b : ℕ) (c : Cell) (w : Warning) → Tells past t → AsBefore t u → warning_of (book_of past) w.number ≡ Some w → line_at u.lines b c w.number ≡ line_of past b c w
 line_kept past t u b c w tells same found =
     same.same.lines b c w.number ∙ tells.is.lines (key_of b c w.number) ∙ ap (λ o. (facts_of past b c o).line) found
 

@@ -5,4 +5,5 @@
 #![tactic(auto)]
 
 pub mod events;
+pub mod lists;
 pub mod questions;

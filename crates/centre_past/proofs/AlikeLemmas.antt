@@ -28,6 +28,7 @@ use Rattle.centre_events.proofs.FoldingLemmas.{alike, same_parts}
 use Rattle.centre_past.specs.Alike.{SaysTheSame}
 use Rattle.centre_past.specs.Facts.{facts, facts_of}
 use Rattle.centre_past.specs.LinkStates.{link_state}
+use Rattle.centre_past.specs.Lists.{area_rows, area_selectors, bsc_rows, cell_rows, failed_of, plan_counts, sheet_of, warning_rows}
 use Rattle.centre_past.specs.Numbers.{area_board, board, warning_area}
 use Rattle.centre_past.specs.Reach.{edit_reach, flight_reach, looked_at, reach, reach_of, report_reach, size}
 use Rattle.centre_past.specs.Table.{table}
@@ -107,4 +108,12 @@ says_the_same p q same = record {
   area_numbers = λ n a. through (λ past. area_board past n a) (λ past. ap (λ r. if is_area past a then r else Err refusal.NoSuchArea) (area_same past a (warning_of (book_of past) n))) p q same;
   answers = λ network. alike network p q same;
   reach = λ e r. through (λ past. reach past e r) (λ past. reach_same past e r) p q same;
+  listed_bscs = ap (λ (x : Base). bsc_rows (From x)) same;
+  listed_cells = λ b. ap (λ (x : Base). cell_rows (From x) b) same;
+  listed_areas = ap (λ (x : Base). area_rows (From x)) same;
+  listed_selectors = λ a. ap (λ (x : Base). area_selectors (From x) a) same;
+  listed_warnings = ap (λ (x : Base). warning_rows (From x)) same;
+  sheets = λ n. ap (λ (x : Base). sheet_of (From x) n) same;
+  listed_failed = λ n. ap (λ (x : Base). failed_of (From x) n) same;
+  counts = ap (λ (x : Base). plan_counts (From x)) same;
 }

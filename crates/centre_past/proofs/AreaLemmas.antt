@@ -109,7 +109,8 @@ area_named_then other a names before known h = known h
 no_area : (base : Base) (a : List ℕ) → base ≡ empty_base → base.is_area a ≡ true → list_any (bytes_eq a) base.areas ≡ true
 no_area base a e h = let no : empty_base.is_area a ≡ true = ap (λ (k : Base). k.is_area a) (sym e) ∙ h in cc
 
-known_area : (past : Past) → IsUnfolded past → (a : List ℕ) → is_area past a ≡ true → list_any (bytes_eq a) (areas past) ≡ true
+-- an area that is there is one of those that were ever made
+pub known_area : (past : Past) → IsUnfolded past → (a : List ℕ) → is_area past a ≡ true → list_any (bytes_eq a) (areas past) ≡ true
 known_area (From base) unfolded a h = no_area base a unfolded h
 known_area (After e before) unfolded a h = area_named_then e.event a (areas before) (is_area before a) (known_area before unfolded a) h
 
@@ -158,7 +159,8 @@ selector_named_then other a s found before known h = known h
 no_selector : (base : Base) (a : List ℕ) (s : Selector) → base ≡ empty_base → base.has_selector a s ≡ true → list_any (selector_eq s) (base.selectors a) ≡ true
 no_selector base a s e h = let no : empty_base.has_selector a s ≡ true = ap (λ (k : Base). k.has_selector a s) (sym e) ∙ h in cc
 
-known_selector : (past : Past) → IsUnfolded past → (a : List ℕ) (s : Selector) → has_selector past a s ≡ true → list_any (selector_eq s) (selectors past a) ≡ true
+-- a selector that is there is one of those that were ever put into the area
+pub known_selector : (past : Past) → IsUnfolded past → (a : List ℕ) (s : Selector) → has_selector past a s ≡ true → list_any (selector_eq s) (selectors past a) ≡ true
 known_selector (From base) unfolded a s h = no_selector base a s unfolded h
 known_selector (After e before) unfolded a s h = selector_named_then e.event a s (selectors before a) (has_selector before a s) (known_selector before unfolded a s) h
 

@@ -40,3 +40,4 @@ pub mod CopyLemmas
 pub mod EmptyLemmas
 pub mod NextLemmas
 pub mod UpdateLemmas
+pub mod ListLemmas

@@ -109,7 +109,8 @@ place_is : (o : Option ℕ) → is_some o ≡ true → (b : ℕ) × (is_place o 
 place_is None h = cc
 place_is (Some b) h = (b, eq-eqb b b refl)
 
-known_cell : (past : Past) → IsUnfolded past → (c : Cell) → is_registered past c ≡ true → list_any (cell_eq c) (cells past) ≡ true
+-- a registered cell is one of those that were ever registered
+pub known_cell : (past : Past) → IsUnfolded past → (c : Cell) → is_registered past c ≡ true → list_any (cell_eq c) (cells past) ≡ true
 known_cell past unfolded c h = let there = place_is (place past c) h in known_place past unfolded there.0 c there.1
 
 -- as many cells stand in the register

@@ -17,13 +17,14 @@ use Rattle.centre_events.specs.declared.event.Event.{Event}
 use Rattle.centre_events.specs.declared.refusal.Refusal.{Refusal}
 use Rattle.centre_past.specs.Facts.{facts}
 use Rattle.centre_past.specs.LinkStates.{link_state}
+use Rattle.centre_past.specs.Lists.{area_rows, area_selectors, bsc_rows, cell_rows, failed_of, plan_counts, sheet_of, warning_rows}
 use Rattle.centre_past.specs.Numbers.{area_board, board}
 use Rattle.centre_past.specs.Reach.{reach}
 use Rattle.centre_past.specs.Table.{table}
 
 -- registers, areas, warnings, links, what is in flight and what was reported, as parts; and what follows from them: what is
 -- covered, wanted and planned, what is on air or may be, which cells are known, what is to be ordered, how each line stands
--- and counts, what each event is answered where the journal has room, and on how many lines it bears
+-- and counts, what each event is answered where the journal has room, on how many lines it bears, and what lists show
 pub record SaysTheSame (p q : Past) : Type 0 where
   pub parts : HasSameParts p q
   pub covered : (a : List ℕ) (c : Cell) → covers p a c ≡ covers q a c
@@ -40,3 +41,11 @@ pub record SaysTheSame (p q : Past) : Type 0 where
   pub area_numbers : (n : ℕ) (a : List ℕ) → area_board p n a ≡ area_board q n a
   pub answers : (network : List ℕ) (e : Event) → answered network p e ≡ answered network q e
   pub reach : (e : Event) (r : Result Answer Refusal) → reach p e r ≡ reach q e r
+  pub listed_bscs : bsc_rows p ≡ bsc_rows q
+  pub listed_cells : (b : ℕ) → cell_rows p b ≡ cell_rows q b
+  pub listed_areas : area_rows p ≡ area_rows q
+  pub listed_selectors : (a : List ℕ) → area_selectors p a ≡ area_selectors q a
+  pub listed_warnings : warning_rows p ≡ warning_rows q
+  pub sheets : (n : ℕ) → sheet_of p n ≡ sheet_of q n
+  pub listed_failed : (n : ℕ) → failed_of p n ≡ failed_of q n
+  pub counts : plan_counts p ≡ plan_counts q

@@ -1,6 +1,7 @@
 pub mod Facts
 pub mod Table
 pub mod Numbers
+pub mod Lists
 pub mod Fits
 pub mod Legal
 pub mod Alike

@@ -1,6 +1,6 @@
 //! Lemmas of the state that a centre keeps, as the contracts of calls that do nothing.
 
-ghost use Rattle.std.specs.Prelude.{◌≡◌, List, ℕ, ◌+◌, Bool, Option, Some, true, map};
+ghost use Rattle.std.specs.Prelude.{◌≡◌, List, ℕ, ◌+◌, Bool, Option, Some, true, length, map};
 ghost use Rattle.std.specs.List.{list_any};
 ghost use Rattle.areas.specs.declared.area.Area.{Area};
 ghost use Rattle.cell_register.specs.Register.{State};
@@ -14,6 +14,9 @@ ghost use Rattle.centre_events.specs.Down.{is_down};
 ghost use Rattle.centre_events.specs.Facts.{IsLineOf, key_state, line_of};
 ghost use Rattle.centre_past.specs.Facts.{facts_of};
 ghost use Rattle.centre_past.specs.Legal.{Legal};
+ghost use Rattle.centre_past.specs.Lists.{failed_rows};
+ghost use Rattle.centre_past.specs.Numbers.{number};
+ghost use Rattle.coverage_board.specs.declared.way.Way.TheVariants as way;
 ghost use Rattle.centre_events.specs.Kept.{IsRegisterOf, AreAreasOf};
 ghost use Rattle.centre_events.specs.Past.{Past, After, position};
 ghost use Rattle.centre_events.specs.Presence.{effect_at};
@@ -47,4 +50,9 @@ fn legal_updates()
 #[tactic(auto, using(crate::proofs::VersionLemmas::version_state_is))]
 fn version_state_is()
     ensures { (past : Past) (b : ℕ) (c : Cell) (w : Warning) (s : ℕ) → updates_once w.versions ≡ true → list_any (is_version s) w.versions ≡ true → state_of (line_of past b c w) s ≡ key_state past b c w.message_id s }
+{}
+
+#[tactic(auto, using(crate::proofs::ListLemmas::failed_counted))]
+fn failed_counted()
+    ensures { (settings : Settings) (past : Past) → Legal settings past → (w : Warning) → length (failed_rows past w) ≡ number past w way.Failed }
 {}

@@ -13,6 +13,7 @@ mod lemmas;
 pub mod link;
 pub mod link_state;
 pub mod links;
+pub mod lists;
 pub mod meter;
 pub mod reported;
 pub mod telling;

@@ -342,6 +342,13 @@ impl KeptTables {
         self.pending.groups(b)
     }
 
+    /// How many orders are pending for the BSC. It takes no memory.
+    pub fn count(&self, b: BscId) -> usize
+        ensures { (xs : List Action) → IsListOf xs self.now.pending b → result ≡ length (grouped (in_order xs)) }
+    {
+        self.pending.count(b)
+    }
+
     /// The order that is sent next, for its first cells. `None` where nothing is pending.
     pub fn first(&self, b: BscId) -> Result<Option<Order>, AllocError>
         ensures { (xs : List Action) → IsListOf xs self.now.pending b → IfOk result (λ o. o ≡ first (grouped (in_order xs))) }

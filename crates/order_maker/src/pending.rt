@@ -1,6 +1,6 @@
 //! The pending orders of each BSC, changed line by line.
 
-ghost use Rattle.std.specs.Prelude.{◌≡◌, ◌≤◌, ℕ, [], true, false, ◌&&◌, ◌||◌, not, nat_eq, List, length, map, take, if◌then◌else◌, IfOk, IsTrue, OnOk};
+ghost use Rattle.std.specs.Prelude.{◌≡◌, ◌≤◌, ◌<◌, ◌^◌, ℕ, [], true, false, ◌&&◌, ◌||◌, not, nat_eq, List, length, map, take, if◌then◌else◌, IfOk, IsTrue, OnOk};
 ghost use Rattle.std.specs.BTreeMap.{is_at};
 ghost use Rattle.std.specs.Map.{remove_entry};
 ghost use Rattle.std.specs.Option.{is_some};
@@ -337,8 +337,11 @@ impl Pending {
 
     /// The orders of the BSC, in the order in which they are sent.
     fn orders_of(&self, b: BscId) -> Range<'_, OrderKey, OrderCells>
-        ensures { (xs : List Action) → IsListOf xs self.now b → map order_of result ≡ grouped (in_order xs) }
+        ensures orders { (xs : List Action) → IsListOf xs self.now b → map order_of result ≡ grouped (in_order xs) }
+        ensures few { length result < 2 ^ 64 }
     {
+        // A lemma: `len` also ensures that there are no more orders than it can tell.
+        let _ = self.orders.len();
         let bsc = b.number() as u32;
         self.orders
             .range(OrderKey::least(bsc)..OrderKey::least(bsc + 1))
@@ -354,6 +357,17 @@ impl Pending {
             orders.push(key.order(cells.all(alloc)?))?;
         }
         Ok(Orders::from_vec(orders))
+    }
+
+    /// How many orders of the BSC are pending. It takes no memory.
+    pub fn count(&self, b: BscId) -> usize
+        ensures { (xs : List Action) → IsListOf xs self.now b → result ≡ length (grouped (in_order xs)) }
+    {
+        let mut count: usize = 0;
+        for _ in self.orders_of(b) {
+            count += 1;
+        }
+        count
     }
 
     /// The order that is sent next, for its first cells. `None` where nothing is pending.

@@ -1,0 +1,50 @@
+//! How many things a centre has.
+
+ghost use Rattle.std.specs.Prelude.{◌≡◌, count_by};
+ghost use Rattle.centre_events.specs.Past.{Past};
+ghost use Rattle.centre_past.specs.IsKept.{IsKept};
+ghost use Rattle.centre_past.specs.Lists.{plan_counts};
+ghost use Rattle.centre_past.specs.State.{link_in, up_of};
+
+use cell_register::BscId;
+use centre_past::kept::Kept;
+use centre_past::link::Link;
+use centre_past::links::is_up;
+use centre_past::lists::PlanCounts;
+use warning_book::Warning;
+
+/// How many of the BSCs have a link that is up.
+fn links_up(links: &[Link], bscs: &[BscId]) -> usize
+    ensures { result ≡ count_by (λ b. up_of (link_in links.now b)) bscs.now }
+{
+    bscs.iter().filter(|b| is_up(links, **b)).count()
+}
+
+/// How many of the warnings are active.
+fn active_count(warnings: &[Warning]) -> usize
+    ensures { result ≡ count_by (λ w. w.active) warnings.now }
+{
+    let mut count = 0;
+    for warning in warnings {
+        if warning.is_active() {
+            count += 1;
+        }
+    }
+    count
+}
+
+/// How many there are of each thing. It takes no memory.
+pub fn plan_counts(kept: &Kept) -> PlanCounts
+    ensures { (past : Past) → IsKept past kept.now → result ≡ plan_counts past }
+{
+    kept.register.tell_soundness();
+    kept.areas.tell_soundness();
+    PlanCounts {
+        bscs: kept.register.bscs().len(),
+        links_up: links_up(kept.links.as_slice(), kept.register.bscs()),
+        cells: kept.register.cell_count(),
+        areas: kept.areas.as_slice().len(),
+        warnings: kept.book.len(),
+        active: active_count(kept.book.as_slice()),
+    }
+}
