@@ -1,84 +1,37 @@
 #!/usr/bin/env bash
 # Runs `cbc serve` against a real osmo-bsc, and compares each board with what the rules say.
 #
-#   tools/osmo-bsc.sh [PROGRAM]
+#   tools/osmo-bsc.sh [PROGRAM [CASE..]]
 #
 # PROGRAM is the compiled cbc, crates/cbc/out/cbc where none is named; `rt run` in crates/cbc makes it. osmo-bsc has to be
 # installed (Debian: apt-get install osmo-bsc), and python3. Nothing but the loopback address is used. The BSC has cells
 # (100,7) and (100,8), which have a cell broadcast channel, and (100,9), which has none. No radio is needed: without one nothing is
-# broadcast, so nothing is deleted. Status 0: each board is as expected.
+# broadcast, so nothing is deleted. First a warning is issued, updated and stopped, and a BSC is restarted. Then come the cases of
+# tools/osmo_links, in which links are lost; where cases are named, these alone. Status 0: all of it is as expected.
 set -u
 PROGRAM=$(realpath "${1:-crates/cbc/out/cbc}")
-PORT=48049
+LINKS=$(dirname "$0")/osmo_links
+[ $# -gt 0 ] && shift
+[ $# -gt 0 ] && exec "$LINKS" --program "$PROGRAM" "$@"
+# below the ports that Linux hands out
+PORT=26000
 VTY=127.0.1.1
 WORK=$(mktemp -d)
 FAULTS=0
 BSC=
 
-config() {
-    cat <<X
-log stderr
- logging filter all 1
- logging level set-all notice
- logging level lss7 fatal
-line vty
- no login
- bind $VTY 4242
-ctrl
- bind $VTY
-e1_input
- e1_line 0 driver ipa
- ipa bind $VTY
-network
- network country code 001
- mobile network code 01
- encryption a5 0
- neci 1
-X
-    local i=0 ci t0 t1
-    for ci in 7 8 9; do
-        t0=CCCH+SDCCH4+CBCH t1=SDCCH8
-        [ $ci = 8 ] && t0=CCCH t1=SDCCH8+CBCH
-        [ $ci = 9 ] && t0=CCCH+SDCCH4
-        cat <<X
- bts $i
-  type osmo-bts
-  band DCS1800
-  cell_identity $ci
-  location_area_code 100
-  base_station_id_code $((10 + i))
-  ipa unit-id $((6969 + i)) 0
-  oml ipa stream-id 255 line 0
-  gprs mode none
-  trx 0
-   rf_locked 0
-   arfcn $((871 + 2 * i))
-   nominal power 23
-   rsl e1 tei 0
-   timeslot 0
-    phys_chan_config $t0
-   timeslot 1
-    phys_chan_config $t1
-X
-        for t in 2 3 4 5 6 7; do printf '   timeslot %d\n    phys_chan_config TCH/F\n' $t; done
-        i=$((i + 1))
-    done
-    cat <<X
-msc 0
- allow-emergency allow
- mgw remote-ip 127.0.0.1
- mgw remote-port 2427
-cbc
- mode client
- client
-  remote-ip 127.0.0.1
-  remote-port $PORT
-X
-}
-
+# starts the BSC, and waits until its link is up
 start_bsc() {
+    local i before
+    before=$(grep -c ' is up' "$WORK/errors")
     (ulimit -f 102400; cd "$WORK" && exec osmo-bsc -c osmo-bsc.cfg > osmo-bsc.log 2>&1) &
     BSC=$!
+    for i in $(seq 1 300); do
+        [ "$(grep -c ' is up' "$WORK/errors")" -gt "$before" ] && return
+        sleep 0.1
+    done
+    echo "  no link is up after 30 s"
+    FAULTS=$((FAULTS + 1))
 }
 
 # ends the BSC at once, as a power cut does
@@ -124,10 +77,13 @@ for line in read().replace("\r", "").split("\n"):
 X
 }
 
-# types a line, and answers its answer
+# types a line, and answers its answer; without one nothing can be compared any more
 ask() {
-    printf '%s\n' "$1" >&"${CBC[1]}"
-    IFS= read -r -t 10 ANSWER <&"${CBC[0]}"
+    printf '%s\n' "$1" >&4
+    IFS= read -r -t 60 ANSWER <&3 && return
+    echo "  $1: no answer"
+    cat "$WORK/errors"
+    exit 1
 }
 
 # types a line that is answered so
@@ -154,8 +110,8 @@ expect() {
 # compares the keys that the centre knows to be on air with the BSC's own table
 same_tables() {
     local known= own bts line
-    printf 'table 1\n' >&"${CBC[1]}"
-    while IFS= read -r -t 10 line <&"${CBC[0]}"; do
+    printf 'table 1\n' >&4
+    while IFS= read -r -t 60 line <&3; do
         case $line in
             keys*) break ;;
             *onair) known+="$(cut -d' ' -f2-4 <<< "$line")"$'\n' ;;
@@ -173,9 +129,11 @@ same_tables() {
 
 board() { echo "awaited $1 onair $2 failed $3 left $4 broadcasts 0"; }
 
-config > "$WORK/osmo-bsc.cfg"
-coproc CBC { exec "$PROGRAM" serve --links 1 2> "$WORK/errors"; }
+"$LINKS" --config "$VTY" "$PORT" > "$WORK/osmo-bsc.cfg"
+coproc CBC { exec "$PROGRAM" serve --links 1 --base "$PORT" 2> "$WORK/errors"; }
 CENTRE=$CBC_PID
+# these stay where the centre has ended
+exec 3<&"${CBC[0]}" 4>&"${CBC[1]}"
 
 echo "link up"
 type_line "bsc add 1"
@@ -244,18 +202,19 @@ expect "board 3" "$(board 0 0 0 0)"
 expect "pending 1" "groups 0"
 
 echo "1,000 cells in one order, of which the BSC knows three"
-for ci in $(seq 1000 1996); do printf 'cell add 100 %d 1\n' "$ci"; done >&"${CBC[1]}"
-for ci in $(seq 1000 1996); do IFS= read -r -t 10 ANSWER <&"${CBC[0]}"; done
+for ci in $(seq 1000 1996); do printf 'cell add 100 %d 1\n' "$ci"; done >&4
+for ci in $(seq 1000 1996); do IFS= read -r -t 60 ANSWER <&3; done
 expect "board 2" "$(board 0 2 998 0)"
 type_line "issue 4372 3 15 0 30 d4f29c0e Coast"
 expect "board 5" "$(board 0 2 998 0)"
 same_tables
 
-printf 'quit\n' >&"${CBC[1]}"
-IFS= read -r -t 10 ANSWER <&"${CBC[0]}"
+printf 'quit\n' >&4
+IFS= read -r -t 60 ANSWER <&3
 echo "$ANSWER"
 wait "$CENTRE" 2> /dev/null
+end_bsc
 echo "standard error of the centre:"
 cat "$WORK/errors"
 echo "faults: $FAULTS"
-[ "$FAULTS" = 0 ]
+"$LINKS" --program "$PROGRAM" && [ "$FAULTS" = 0 ]

@@ -5,6 +5,7 @@ use console::run;
 use framing::{FromRead, FromWrite};
 use server::serve_words;
 use std::alloc::Global;
+use std::fs::{File, Files};
 use std::io::{BufReader, Eprint, ErrorKind, Read, Write};
 use std::net::{Net, TcpListener, TcpStream};
 use std::process::ExitCode;
@@ -36,7 +37,13 @@ fn main(rt: HostRuntime) -> ExitCode {
 
 /// Runs the server on standard input and output.
 fn serve<
-    R: Wait + Threads + Clock + Sync + Eprint + Net<Stream = TcpStream, Listener = TcpListener>,
+    R: Files<File = File>
+        + Wait
+        + Threads
+        + Clock
+        + Sync
+        + Eprint
+        + Net<Stream = TcpStream, Listener = TcpListener>,
     I: Read + Send + Drop,
     W: Write + Send + Drop,
     E: Write + Send + Drop,

@@ -53,21 +53,53 @@ links_option = record (new_rule (codes "links")) { long = Some (codes "links"); 
 abbrev pub sim_option : Rule
 sim_option = record (new_rule (codes "sim")) { long = Some (codes "sim"); action = Some SetTrue }
 
--- the options by which BSCs connect
+-- the options by which BSCs connect, simulated ones too
 abbrev pub with_ports : App → App
-with_ports a = with_rule (with_rule (with_rule a host_option) base_option) links_option
+with_ports a = with_rule (with_rule (with_rule (with_rule a host_option) base_option) links_option) sim_option
 
 -- after how many entries since the last checkpoint there is another, 1 or more
 abbrev pub fold_option : Rule
 fold_option = record (new_rule (codes "fold")) { long = Some (codes "fold"); value_names = 1; defaults = codes "100000" ∷ []; parser = Some (Unsigned 1 4294967295) }
 
--- `serve`, with its seven options
-abbrev pub serve_command : App
-serve_command = with_rule (with_rule (with_ports (with_common (new_app (codes "serve")))) fold_option) sim_option
+-- whether each BSC that connects is sent a RESET first
+abbrev pub reset_option : Rule
+reset_option = record (new_rule (codes "reset")) { long = Some (codes "reset"); action = Some SetTrue }
 
--- a program that is nothing without a command
+-- a number of seconds, a day at most
+abbrev pub seconds : ValueParser
+seconds = Unsigned 0 86400
+
+-- after how many seconds an order without a reply is said; 0 for never
+abbrev pub reply_option : Rule
+reply_option = record (new_rule (codes "reply-seconds")) { long = Some (codes "reply-seconds"); value_names = 1; defaults = codes "30" ∷ []; parser = Some seconds }
+
+-- after how many seconds an order without a reply ends its link; 0 for never
+abbrev pub cut_option : Rule
+cut_option = record (new_rule (codes "cut-seconds")) { long = Some (codes "cut-seconds"); value_names = 1; defaults = codes "0" ∷ []; parser = Some seconds }
+
+-- the file of the addresses that BSCs may connect from, where one is given; FILE is any text here
+abbrev pub peers_option : Rule
+peers_option = record (new_rule (codes "peers")) { long = Some (codes "peers"); value_names = 1 }
+
+-- the file that the journal is kept in, where one is given; FILE is any text here
+abbrev pub keep_option : Rule
+keep_option = record (new_rule (codes "keep")) { long = Some (codes "keep"); value_names = 1 }
+
+-- the options for links that are lost, taken over, or without replies
+abbrev pub with_link_rules : App → App
+with_link_rules a = with_rule (with_rule (with_rule (with_rule a reset_option) reply_option) cut_option) peers_option
+
+-- the options of the journal
+abbrev pub with_journal : App → App
+with_journal a = with_rule (with_rule a fold_option) keep_option
+
+-- `serve`, with its twelve options
+abbrev pub serve_command : App
+serve_command = with_link_rules (with_journal (with_ports (with_common (new_app (codes "serve")))))
+
+-- a program that is nothing without a command, but for help and for `--version`, which asks for its name and its version
 abbrev pub program : App
-program = let a = new_app (codes "cbc") in record a { top = record a.top { subcommand_required = true } }
+program = let a = new_app (codes "cbc") in record a { top = record a.top { subcommand_required = true; has_version = true } }
 
 -- the program, with its two commands
 abbrev pub command_line : App

@@ -50,7 +50,7 @@ pub fn read_line(alloc: Global, words: &[Octets]) -> Result<Option<Line>, AllocE
 }
 
 /// B, a number from 1.
-fn read_bsc(word: &[u8]) -> Option<BscId>
+pub fn read_bsc(word: &[u8]) -> Option<BscId>
     ensures { result ≡ bsc_of word.now }
 {
     let number = read_number_in(word, 1, 65535)?;
@@ -66,7 +66,7 @@ fn read_two_octets(word: &[u8]) -> Option<u16>
 }
 
 /// W, a number of four octets.
-fn read_warning(word: &[u8]) -> Option<WarningId>
+pub fn read_warning(word: &[u8]) -> Option<WarningId>
     ensures { result ≡ warning_of word.now }
 {
     let number = read_number_in(word, 0, 4294967295)?;
@@ -81,7 +81,7 @@ fn read_generation(word: &[u8]) -> Option<u64>
 }
 
 /// L and C.
-fn read_cell(lac: &[u8], ci: &[u8]) -> Option<Cell>
+pub fn read_cell(lac: &[u8], ci: &[u8]) -> Option<Cell>
     ensures { result ≡ cell_of lac.now ci.now }
 {
     Some(Cell {

@@ -5,7 +5,7 @@ use std::alloc::AllocError;
 /// Why a command line runs no script.
 #[derive(Drop)]
 pub enum NoRun {
-    /// Help was asked for, and this is it.
+    /// Help was asked for, or the version, and this is it.
     Help(String),
     /// The command line was refused, with this text.
     Refused(String),

@@ -3,7 +3,7 @@
 ghost use Rattle.std.specs.Prelude.{◌≡◌, ◌≤◌, false, map, string_bytes, IfOk, IfErr, IfSome};
 ghost use Rattle.clap.specs.Words.{app_of, kind_of, rule_of, subcommand_rows_of};
 ghost use Rattle.clap.specs.declared.builder.command.Command.TheViews.{out-Command as fields_of};
-ghost use Rattle.console_text.specs.CommandLine.{plmn_option, journal_option, host_option, base_option, links_option, fold_option, sim_option, with_common, with_ports, replay_command, serve_command, command_line, most_entries};
+ghost use Rattle.console_text.specs.CommandLine.{plmn_option, journal_option, host_option, base_option, links_option, fold_option, sim_option, reset_option, reply_option, cut_option, peers_option, keep_option, with_common, with_ports, with_journal, with_link_rules, replay_command, serve_command, command_line, most_entries};
 ghost use Rattle.console_text.specs.CommandLine.{meets_serve, replay_rows, network_in, limit_in, Asks, ComesTo, Refuses};
 
 use crate::no_run::NoRun;
@@ -18,6 +18,15 @@ pub const MOST_ENTRIES: u32 = 4_000_000;
 
 /// After how many entries a server folds its journal, where no number is given.
 pub const FOLD: u32 = 100_000;
+
+/// The most seconds that an order may go without a reply before that is said, or its link is cut: a day.
+pub const MOST_SECONDS: u32 = 86_400;
+
+/// After how many seconds an order without a reply is said, where no number is given.
+pub const REPLY_SECONDS: u32 = 30;
+
+/// What `--version` prints after the program's name.
+const VERSION: &str = "1.0.0";
 
 /// What a script is run with.
 #[derive(Clone, Copy, Debug)]
@@ -127,14 +136,86 @@ fn sim_option<'a>(alloc: Global) -> Arg<'a>
         .help("A simulated BSC connects to each port, once its BSC is added")
 }
 
-/// The options by which BSCs connect.
+fn reset_option<'a>(alloc: Global) -> Arg<'a>
+    ensures rule { rule_of result ≡ reset_option }
+    ensures own { result.global ≡ false }
+{
+    Arg::new(alloc, "reset")
+        .long("reset")
+        .action(ArgAction::SetTrue)
+        .help("Each BSC that connects is sent a RESET of all its cells before any order")
+}
+
+fn reply_option<'a>(alloc: Global) -> Arg<'a>
+    ensures rule { rule_of result ≡ reply_option }
+    ensures own { result.global ≡ false }
+{
+    Arg::new(alloc, "reply-seconds")
+        .long("reply-seconds")
+        .value_name("N")
+        .default_value("30")
+        .value_parser(ValueParser::unsigned(0, u64::from(MOST_SECONDS)))
+        .help("After how many seconds an order without a reply is said, 0 for never")
+}
+
+fn cut_option<'a>(alloc: Global) -> Arg<'a>
+    ensures rule { rule_of result ≡ cut_option }
+    ensures own { result.global ≡ false }
+{
+    Arg::new(alloc, "cut-seconds")
+        .long("cut-seconds")
+        .value_name("N")
+        .default_value("0")
+        .value_parser(ValueParser::unsigned(0, u64::from(MOST_SECONDS)))
+        .help("After how many seconds an order without a reply ends its link, 0 for never")
+}
+
+fn peers_option<'a>(alloc: Global) -> Arg<'a>
+    ensures rule { rule_of result ≡ peers_option }
+    ensures own { result.global ≡ false }
+{
+    Arg::new(alloc, "peers")
+        .long("peers")
+        .value_name("FILE")
+        .help("The addresses that each BSC may connect from, a line a BSC: its number, then these")
+}
+
+fn keep_option<'a>(alloc: Global) -> Arg<'a>
+    ensures rule { rule_of result ≡ keep_option }
+    ensures own { result.global ≡ false }
+{
+    Arg::new(alloc, "keep").long("keep").value_name("FILE").help(
+        "The file that the journal is kept in; a start goes on from what stands there",
+    )
+}
+
+/// The options for links that are lost, taken over, or without replies.
+fn with_link_rules<'a>(alloc: Global, command: Command<'a>) -> Result<Command<'a>, AllocError>
+    requires { (fields_of command).has_globals ≡ false }
+    ensures app { IfOk result (λ c. app_of c ≡ with_link_rules (app_of command.entry)) }
+    ensures own { IfOk result (λ c. (fields_of c).has_globals ≡ false) }
+{
+    let command = command.arg(reset_option(alloc))?.arg(reply_option(alloc))?;
+    command.arg(cut_option(alloc))?.arg(peers_option(alloc))
+}
+
+/// The options of the journal: when it is folded, and where it is kept.
+fn with_journal<'a>(alloc: Global, command: Command<'a>) -> Result<Command<'a>, AllocError>
+    requires { (fields_of command).has_globals ≡ false }
+    ensures app { IfOk result (λ c. app_of c ≡ with_journal (app_of command.entry)) }
+    ensures own { IfOk result (λ c. (fields_of c).has_globals ≡ false) }
+{
+    command.arg(fold_option(alloc))?.arg(keep_option(alloc))
+}
+
+/// The options by which BSCs connect, simulated ones too.
 fn with_ports<'a>(alloc: Global, command: Command<'a>) -> Result<Command<'a>, AllocError>
     requires { (fields_of command).has_globals ≡ false }
     ensures app { IfOk result (λ c. app_of c ≡ with_ports (app_of command.entry)) }
     ensures own { IfOk result (λ c. (fields_of c).has_globals ≡ false) }
 {
     let command = command.arg(host_option(alloc))?.arg(base_option(alloc))?;
-    command.arg(links_option(alloc))
+    command.arg(links_option(alloc))?.arg(sim_option(alloc))
 }
 
 fn serve_command<'a>(alloc: Global) -> Result<Command<'a>, AllocError>
@@ -143,7 +224,7 @@ fn serve_command<'a>(alloc: Global) -> Result<Command<'a>, AllocError>
 {
     let command = Command::new(alloc, "serve").about("Keeps warnings on air over TCP");
     let command = with_ports(alloc, with_common(alloc, command)?)?;
-    command.arg(fold_option(alloc))?.arg(sim_option(alloc))
+    with_link_rules(alloc, with_journal(alloc, command)?)
 }
 
 /// The command line that is taken.
@@ -154,6 +235,7 @@ pub fn command_line<'a>(alloc: Global) -> Result<Command<'a>, AllocError>
     let serve = serve_command(alloc)?;
     Command::new(alloc, "cbc")
         .about("A cell broadcast centre")
+        .version(VERSION)
         .subcommand_required(true)
         .subcommand(replay)?
         .subcommand(serve)

@@ -1,5 +1,5 @@
 -- What orders in turn write.
-use Rattle.std.proofs.Common.{◌≡◌, inl, inr, ℕ, ◌+◌, ◌-◌, ◌≤◌, List, [], ◌∷◌, ◌++◌, Option, Some, Result, Ok, Err, OnOk, IfErr, length, take, refl, sym, ap, ◌∙◌, subst, arith, append_assoc, append-nil, length-append}
+use Rattle.std.proofs.Common.{◌≡◌, inl, inr, ℕ, ◌+◌, ◌-◌, List, [], ◌∷◌, ◌++◌, Option, Some, None, unwrap_or, Result, Ok, Err, OnOk, IfErr, length, take, refl, sym, ap, ◌∙◌, subst, append_assoc, append-nil}
 use Rattle.std.specs.Io.KnownBytes.{Appends}
 use Rattle.std.specs.List.{flat_map}
 use Rattle.std.specs.Prelude.{slice_get}
@@ -12,13 +12,18 @@ use Rattle.link_worker.specs.declared.end.End.{End}
 use Rattle.link_worker.specs.declared.end.End.TheVariants as end
 use Rattle.centre_events.specs.declared.refusal.Refusal.{Refusal}
 use Rattle.centre_events.specs.declared.refusal.Refusal.TheVariants as refusal
-use Rattle.link_worker.specs.Ends.{IfShut, IsRefusedEnd, order_end}
-use Rattle.link_worker.specs.Orders.{EndsAsUnsent, EndsWriting, Gets, IsCutAt, IsOrder, IsWaitEnd, StopsAtLast, StopsInFrame, Writes, receipt_frame}
+use Rattle.link_worker.specs.Ends.{IfShut, IsRefusedEnd, unsent_end}
+use Rattle.link_worker.specs.Orders.{EndsAsUnsent, EndsWriting, Gets, IsCutAt, IsOrder, IsRefusedOrder, StopsAtLast, StopsInFrame, Writes, receipt_frame}
 use Rattle.link_worker.proofs.ListLemmas.{AllByRecursion-append, last_put}
 use Rattle.office.specs.Desks.{DeskState}
 use Rattle.office.specs.Helds.{receipt_at}
 use Rattle.office.specs.Offices.{IsRefusedIn, IsRefusedSomewhere, IsSameDesk, IsSubmitted}
+use Rattle.office.specs.Sendings.{IsRefusedDue, IsSent, IsUnsent, event_for}
 use Rattle.office.specs.declared.receipt.Receipt.{Receipt}
+use Rattle.office.specs.declared.unsent.Unsent.{Unsent}
+use Rattle.office.specs.declared.unsent.Unsent.TheVariants as unsent
+use Rattle.office.specs.declared.wake.Wake.{Wake}
+use Rattle.office.specs.declared.wake.Wake.TheVariants as wake
 
 -- no receipt came
 Gets-none : (b generation : ℕ) (d : DeskState) → Gets b generation d [] d
@@ -92,11 +97,6 @@ Ends-more b generation c d e p q r (end.Refused x) one (inl two) = inl (Writes-m
 Ends-more b generation c d e p q r (end.Refused x) one (inr two) = inr (two.0, Stops-more b generation c d e p q r (end.Refused x) one two.1)
 Ends-more b generation c d e p q r end.GateShut one two = Stops-more b generation c d e p q r end.GateShut one two
 
--- an end at which nothing was due
-pub Ends-waited : (b generation : ℕ) (c d : DeskState) (p q : Option (List ℕ)) (x : End) → Writes b generation c d p q → IsWaitEnd b generation x → EndsWriting b generation c d p q x
-Ends-waited b generation c d p q x one (inl over) = subst (EndsWriting b generation c d p q) (sym over.0) (one, inr over.1)
-Ends-waited b generation c d p q x one (inr stale) = subst (EndsWriting b generation c d p q) (sym stale.0) (inl (one, (refusal.Stale, refl, inl (refl, stale.1))))
-
 -- room for receipts bears on no refusal
 refused_in_room : (d e : DeskState) (event : Event) (r : Refusal) → e ≡ record d { spare = e.spare } → IsRefusedIn d event r → IsRefusedIn e event r
 refused_in_room d e event r same why =
@@ -136,16 +136,30 @@ refused_open P end.Superseded p = tt
 refused_open P (end.Refused r) p = tt
 refused_open P end.GateShut p = absurd p
 
--- nor does an end at which nothing was due
-pub waited_open : (P : Type 0) (b generation : ℕ) (x : End) → IsWaitEnd b generation x → IfShut P x
-waited_open P b generation x (inl over) = subst (IfShut P) (sym over.0) tt
-waited_open P b generation x (inr stale) = subst (IfShut P) (sym stale.0) tt
+-- what is entered for what is due is an order or a query over the link
+due_is_order : (b generation : ℕ) (w : Wake) (e : Event) → event_for b generation w ≡ Some e → IsOrder b generation e
+due_is_order b generation wake.Order e is = subst (IsOrder b generation) (ap (λ o. unwrap_or o e) is) (refl, refl)
+due_is_order b generation (wake.Query x cells) e is = subst (IsOrder b generation) (ap (λ o. unwrap_or o e) is) (refl, refl)
+due_is_order b generation wake.Ended e is = let no : None ≡ Some e = is in cc
+due_is_order b generation wake.StaleCentre e is = let no : None ≡ Some e = is in cc
 
--- an order or a query was refused
-pub Ends-refused : (b generation : ℕ) (d e : DeskState) (p : Option (List ℕ)) (event : Event) (r : Refusal) (x : End) → IsOrder b generation event → IsRefusedSomewhere d event r
-    → e ≡ record d { spare = e.spare } → order_end r ≡ Some x → IsRefusedEnd x → EndsWriting b generation d e p p x
-Ends-refused b generation d e p event r x order why same makes refused =
-    ends_unsent b generation d e p p x (Writes-room b generation d e p same) refused (r, makes, inr (event, order, refused_room d e event r same why))
+-- what was due is refused
+refused_due : (b generation : ℕ) (d : DeskState) (r : Refusal) → IsRefusedDue b generation d r → IsRefusedOrder b generation d r
+refused_due b generation d r why = inr (
+  why.event,
+  due_is_order b generation why.wake why.event why.is_event,
+  elim why.cause [
+    | inl memory ↦ inl memory
+    | inr (inl wrong) ↦ inr (inl (length (all_entries why.centre), wrong))
+    | inr (inr refuses) ↦ inr (inr (record { centre = why.centre; meets = refuses.0; refuses = refuses.1 }))
+  ],
+)
+
+-- nothing was sent, and the desk let go of receipts alone
+pub Ends-unsent : (b generation : ℕ) (d e : DeskState) (p : Option (List ℕ)) (u : Unsent) (x : End) → IsSameDesk d e → IsUnsent b generation e u → unsent_end u ≡ Some x → IsRefusedEnd x → EndsWriting b generation d e p p x
+Ends-unsent b generation d e p unsent.Ended x same why makes refused = subst (EndsWriting b generation d e p p) (ap (λ o. unwrap_or o x) makes) (Writes-same b generation d e p same, inr why)
+Ends-unsent b generation d e p unsent.StaleCentre x same why makes refused = subst (EndsWriting b generation d e p p) (ap (λ o. unwrap_or o x) makes) (inl (Writes-same b generation d e p same, (refusal.Stale, refl, inl (refl, why))))
+Ends-unsent b generation d e p (unsent.Refused r) x same why makes refused = ends_unsent b generation d e p p x (Writes-same b generation d e p same) refused (r, makes, refused_due b generation e r why)
 
 -- an order was accepted, and its receipt is the last
 module _ (b generation : ℕ) (d e : DeskState) (event : Event) (r : Receipt) (submitted : IsSubmitted d event e) (order : IsOrder b generation event)
@@ -187,10 +201,18 @@ module _ (b generation : ℕ) (d e : DeskState) (event : Event) (r : Receipt) (s
   Ends-one p q (end.Refused x) part = inr (part.0, stops p q (end.Refused x) 0 refl (subst (λ s. Appends p s []) (sym part.1) (Appends-nil p)))
   Ends-one p q end.GateShut part = stops p q end.GateShut 0 refl (subst (λ s. Appends p s []) (sym part) (Appends-nil p))
 
-  pub written_one : (result : Result Unit End) (p q : Option (List ℕ)) → OnOk result (Appends p q (receipt_frame r)) → OnOk result (Writes b generation d e p q)
-  written_one (Ok done) p q written = Writes-one p q written
-  written_one (Err x) p q written = written
+-- what was due was entered, and its receipt is the last
+module _ (b generation : ℕ) (d e : DeskState) (r : Receipt) (sent : IsSent b generation d e) (last : slice_get e.receipts (length e.receipts - 1) ≡ Some r) where
+  order : IsOrder b generation sent.event
+  order = due_is_order b generation sent.wake sent.event sent.is_event
 
-  pub ended_one : (result : Result Unit End) (p q : Option (List ℕ)) → IfErr result (StopsInFrame p q (receipt_frame r)) → IfErr result (EndsWriting b generation d e p q)
-  ended_one (Ok done) p q part = part
-  ended_one (Err x) p q part = Ends-one p q x part
+  pub sent_fits : AnswerFits r.answer
+  sent_fits = receipt_fits b generation sent.desk e sent.event r sent.submitted order last
+
+  pub sent_written : (result : Result Unit End) (p q : Option (List ℕ)) → OnOk result (Appends p q (receipt_frame r)) → OnOk result (Writes b generation d e p q)
+  sent_written (Ok done) p q written = Writes-more b generation d sent.desk e p p q (Writes-same b generation d sent.desk p sent.same) (Writes-one b generation sent.desk e sent.event r sent.submitted order last p q written)
+  sent_written (Err x) p q written = written
+
+  pub sent_ended : (result : Result Unit End) (p q : Option (List ℕ)) → IfErr result (StopsInFrame p q (receipt_frame r)) → IfErr result (EndsWriting b generation d e p q)
+  sent_ended (Ok done) p q part = part
+  sent_ended (Err x) p q part = Ends-more b generation d sent.desk e p p q x (Writes-same b generation d sent.desk p sent.same) (Ends-one b generation sent.desk e sent.event r sent.submitted order last p q x part)

@@ -27,7 +27,7 @@ use Rattle.framing.proofs.StreamLemmas.{no_frame-nil, pieces_join}
 use Rattle.link_worker.specs.declared.end.End.{End}
 use Rattle.link_worker.specs.declared.end.End.TheVariants as end
 use Rattle.link_worker.specs.Ends.{IfShut, IsRefusedEnd, fault_end, report_end}
-use Rattle.link_worker.specs.Reports.{AreReceiptsFor, BeginsWithRefused, EndsAt, EndsBefore, EndsReading, EndsWithin, IsFirstRefused, IsLastReport, IsPartial, IsRefusedReport, IsReport, IsSubmitEnd, IsTaken, MayGet, Reads, StopsAmong, StopsInPiece, TakesPiece, TakesReports, stream_end}
+use Rattle.link_worker.specs.Reports.{AreReceiptsFor, BeginsWithRefused, EndsAt, EndsBefore, EndsReading, EndsWithin, IsFirstRefused, IsLastReport, IsPartial, IsRefusal, IsRefusedReport, IsReport, IsSubmitEnd, IsTaken, MayGet, Reads, StopsAmong, StopsInPiece, TakesPiece, TakesReports, stream_end}
 use Rattle.link_worker.proofs.ListLemmas.{AllByRecursion-append, AllByRecursion-back, AllByRecursion-front}
 use Rattle.cbsp_messages.specs.declared.message.Message.{Message}
 use Rattle.link_worker.proofs.OrderLemmas.{refused_open, refused_room}
@@ -139,15 +139,15 @@ stream_open P (x ∷ xs) = tt
 
 -- a report was refused
 pub Ends-refused_report : (d e : DeskState) (event : Event) (r : Refusal) (x : End) → IsRefusedSomewhere d event r → e ≡ record d { spare = e.spare } → report_end r ≡ Some x → IsRefusedEnd x
-    → IsSubmitEnd event d e x
-Ends-refused_report d e event r x why same makes refused = inl (record {
+    → IsRefusal event d e x
+Ends-refused_report d e event r x why same makes refused = record {
   cause = r;
   makes = makes;
   refused = refused_room d e event r same why;
   is_refused = refused;
   receipts = ap (λ (s : DeskState). s.receipts) same;
   number = ap (λ (s : DeskState). s.number) same;
-})
+}
 
 -- the side ends before a frame whose report was refused, or behind one at which the gate is shut
 pub Stops-submit : (b generation : ℕ) (frame : Frame) (m : Message) (d e : DeskState) (x : End) → IsReport frame m → MayGet (event.Report b generation m) d e

@@ -6,6 +6,8 @@ use Rattle.centre_events.specs.declared.refusal.Refusal.{Refusal}
 use Rattle.centre_events.specs.declared.refusal.Refusal.TheVariants as refusal
 use Rattle.link_worker.specs.declared.end.End.{End}
 use Rattle.link_worker.specs.declared.end.End.TheVariants as end
+use Rattle.office.specs.declared.unsent.Unsent.{Unsent}
+use Rattle.office.specs.declared.unsent.Unsent.TheVariants as unsent
 
 -- the number by which the end is known
 abbrev pub end_number : End → ℕ
@@ -44,6 +46,12 @@ order_end refusal.NothingPending = None
 order_end refusal.NothingToAsk = None
 order_end refusal.NoSuchWarning = None
 order_end other = Some (ending other)
+
+-- what the end is where nothing was sent; none where the side goes on
+abbrev pub unsent_end : Unsent → Option End
+unsent_end unsent.Ended = Some end.Superseded
+unsent_end unsent.StaleCentre = Some (end.Refused refusal.Stale)
+unsent_end (unsent.Refused r) = order_end r
 
 -- what the refusal of a report ends; nothing where it answers no order in flight
 abbrev pub report_end : Refusal → Option End

@@ -82,10 +82,6 @@ EndsWriting b generation old new before after (end.Refused r) =
     (Writes b generation old new before after × EndsAsUnsent b generation new (end.Refused r)) ⊎ ((r ≡ refusal.Memory) × StopsAtLast b generation old new before after (end.Refused r))
 EndsWriting b generation old new before after other = ⊥
 
--- an end at which nothing was due: the link is over, or the centre stale, in some centre
-abbrev pub IsWaitEnd : ℕ → ℕ → End → Type 0
-IsWaitEnd b generation e = ((e ≡ end.Superseded) × IsDueSomewhere b generation wake.Ended) ⊎ ((e ≡ end.Refused refusal.Stale) × IsDueSomewhere b generation wake.StaleCentre)
-
 -- what was written of a frame at each end
 abbrev pub StopsInFrame : Option (List ℕ) → Option (List ℕ) → List ℕ → End → Type 0
 StopsInFrame before after frame end.WriteFault = AppendsFront before after frame

@@ -1,5 +1,6 @@
 //! Where a caller may hold a link or cut it.
 
+use crate::passage::Passage;
 use cell_register::BscId;
 use std::sync::Wait;
 
@@ -12,18 +13,19 @@ pub enum Step {
     AfterReport,
 }
 
-/// What both sides of a link ask at each step. It may wait before it answers, which holds the link.
+/// What both sides of a link ask at each step, and tell what passes there. It may wait before it answers, which holds the link.
 ///
 /// It may tell at which steps it cuts the link of which BSC. A gate that tells nothing may do so at each.
 pub trait Gate {
     ghost use Rattle.std.specs.Prelude.{◌≡◌, ℕ, false};
+    ghost use Rattle.link_worker.specs.Passages.{step_of};
     ghost use Rattle.link_worker.specs.declared.gate.Step.{Step};
 
     ghost may_cut: { Self → ℕ → Step → Type 0 } = { λ _ _ _. Unit {0} };
 
     /// Whether the link of the BSC goes on. Where it doesn't, the side that asks ends.
-    fn pass<R: Wait>(&self, rt: &R, b: BscId, step: Step) -> bool
-        ensures cut { result ≡ false → may_cut self.now b step };
+    fn pass<R: Wait>(&self, rt: &R, b: BscId, passage: Passage<'_>) -> bool
+        ensures cut { result ≡ false → may_cut self.now b (step_of passage.entry) };
 }
 
 /// A gate that lets everything pass.
@@ -35,7 +37,7 @@ impl Gate for OpenGate {
 
     ghost may_cut = { λ _ _ _. ⊥ };
 
-    fn pass<R: Wait>(&self, _rt: &R, _b: BscId, _step: Step) -> bool
+    fn pass<R: Wait>(&self, _rt: &R, _b: BscId, _passage: Passage<'_>) -> bool
         ensures { result ≡ true }
     {
         true

@@ -7,8 +7,9 @@ ghost use Rattle.link_worker.specs.declared.gate.Step.TheVariants as step;
 ghost use Rattle.link_worker.specs.Reports.{EndsReading, stream_end};
 
 use crate::end::End;
-use crate::gate::{Gate, Step};
+use crate::gate::Gate;
 use crate::link::Link;
+use crate::passage::{Passage, report_passage};
 use cbsp_messages::{Message, MessageType, read_as};
 use cell_register::BscId;
 use centre_events::event::Event;
@@ -24,7 +25,8 @@ use std::sync::ledger::Ledger;
 const PIECE: usize = 4096;
 
 /// Reads frames from the BSC, and submits each report at the desk, in their order; and so on until the side ends. Frames of other
-/// types are passed over by their length. Before each read the desk lets go of its receipts of folded entries. The gate is asked after each report (`Step::AfterReport`). The reads are at most
+/// types are passed over by their length. Before each read the desk lets go of its receipts of folded entries. The gate is asked after
+/// each report (`Step::AfterReport`), and told whether it answered what was in flight (`Passage`). The reads are at most
 /// 1,000,000,000,000.
 ///
 /// It goes on where a report answers no order in flight (`NoOrder`). It ends by any of the ends but `WriteFault`. The frames before
@@ -64,11 +66,12 @@ pub fn read_side<L: Ledger, S: Source, G: Gate, R: Wait>(
 }
 
 impl<'o, 'g, L: Ledger, G: Gate> Link<'o, 'g, L, G> {
-    ghost use Rattle.std.specs.Prelude.{◌≡◌, [], ◌∷◌, IfErr, OnOk};
+    ghost use Rattle.std.specs.Prelude.{◌≡◌, [], ◌∷◌, IfOk, IfErr, OnOk};
     ghost use Rattle.centre_events.specs.declared.event.Event.TheVariants as event;
     ghost use Rattle.framing.specs.Source.{counted, with_failure};
     ghost use Rattle.link_worker.specs.Ends.{fails_to_read};
-    ghost use Rattle.link_worker.specs.Reports.{EndsReading, IsPartial, IsSubmitEnd, MayGet, Reads, StopsAmong, StopsInPiece, TakesPiece, TakesReports};
+    ghost use Rattle.link_worker.specs.Passages.{IsPassageOf, step_of};
+    ghost use Rattle.link_worker.specs.Reports.{EndsReading, IsPartial, IsRefusal, IsSubmitEnd, MayGet, Reads, StopsAmong, StopsInPiece, TakesPiece, TakesReports};
 
     /// Reads once, and takes what was read.
     fn read_once<S: Source, R: Wait>(
@@ -168,15 +171,36 @@ impl<'o, 'g, L: Ledger, G: Gate> Link<'o, 'g, L, G> {
         ensures cut { IfErr result (IfShut (G.may_cut self.now.gate.now self.now.bsc step.AfterReport)) }
     {
         let event = Event::Report(self.bsc, self.generation, message);
-        if let Err(refusal) = self.office.submit(rt, desk, event) {
-            if let Some(end) = report_end(refusal) {
-                return Err(end);
+        match self.enter_report(rt, desk, event) {
+            Ok(passage) => {
+                if self.gate.pass(rt, self.bsc, passage) {
+                    Ok(())
+                } else {
+                    Err(End::GateShut)
+                }
             }
+            Err(end) => Err(end),
         }
-        if self.gate.pass(rt, self.bsc, Step::AfterReport) {
-            Ok(())
-        } else {
-            Err(End::GateShut)
+    }
+
+    /// Submits a report. The answer is what the gate is told of it.
+    fn enter_report<R: Wait>(
+        &self,
+        rt: &R,
+        desk: &mut Desk<L>,
+        event: Event,
+    ) -> Result<Passage<'static>, End>
+        ensures got { MayGet event desk.old desk.new }
+        ensures told { IfOk result (IsPassageOf desk.old desk.new) }
+        ensures step { IfOk result (λ p. step_of p ≡ step.AfterReport) }
+        ensures refused { IfErr result (IsRefusal event desk.old desk.new) }
+    {
+        match self.office.submit(rt, desk, event) {
+            Ok(()) => Ok(report_passage(&desk.latest().answer)),
+            Err(refusal) => match report_end(refusal) {
+                Some(end) => Err(end),
+                None => Ok(Passage::Report),
+            },
         }
     }
 }

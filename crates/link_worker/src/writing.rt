@@ -3,32 +3,34 @@
 ghost use Rattle.std.specs.Prelude.{◌≡◌, IfOk, IfSome};
 ghost use Rattle.centre_past.specs.Fits.{AnswerFits};
 ghost use Rattle.framing.specs.Source.{with_failure};
-ghost use Rattle.link_worker.specs.Ends.{IfShut, IsRefusedEnd, is_write_fault, order_end};
+ghost use Rattle.link_worker.specs.Ends.{IfShut, IsRefusedEnd, is_write_fault, order_end, unsent_end};
 ghost use Rattle.link_worker.specs.Orders.{EndsWriting, answer_frame};
 ghost use Rattle.link_worker.specs.declared.gate.Step.TheVariants as step;
 
 use crate::end::End;
-use crate::gate::{Gate, Step};
+use crate::gate::Gate;
 use crate::link::Link;
+use crate::passage::Passage;
 use cbsp_messages::write;
 use cell_register::BscId;
 use centre_events::answer::Answer;
-use centre_events::event::Event;
 use centre_events::refusal::Refusal;
 use framing::{Sink, write_all};
 use office::desk::Desk;
 use office::office::Office;
 use office::receipt::Receipt;
-use office::wake::Wake;
+use office::unsent::Unsent;
 use std::alloc::{AllocError, Global};
 use std::sync::Wait;
 use std::sync::ledger::Ledger;
 
-/// Waits until an order or a query is due at the BSC, submits it at the desk, and writes the frame of its message; and so on until
-/// the side ends. Before it waits, and each time entries are folded, the desk lets go of its receipts of folded entries. The gate
-/// is asked before each write (`Step::BeforeWrite`), when the entry is in the journal already.
+/// Waits until an order or a query is due at the BSC, enters it at the desk in the same hold of the office's lock, and writes the frame
+/// of its message; and so on until the side ends. Before it waits, and each time entries are folded, the desk lets go of its receipts
+/// of folded entries. The gate is asked before each write (`Step::BeforeWrite`), when the entry is in the journal already, and told
+/// the frame (`Passage::Order`).
 ///
-/// It goes on where by then nothing is to be sent or asked (`InFlight`, `NothingPending`, `NothingToAsk`, `NoSuchWarning`). It ends
+/// It goes on where nothing is to be asked for a wish (`NothingToAsk`, `NoSuchWarning`); `InFlight` and `NothingPending`, after which
+/// it would go on too, don't come. It ends
 /// by `WriteFault`, `Superseded`, `Refused` or `GateShut`, the last only where the gate may cut the link. `Refused` has `Stale`, the refusal of an order or a query over this link,
 /// or `Memory` where there was none for a frame. After `WriteFault`, `GateShut` and `Refused(Memory)` the order of the last
 /// receipt may be in flight though its frame was not written, or not all of it; it is so until the loss of the link is submitted.
@@ -54,62 +56,36 @@ pub fn write_side<L: Ledger, W: Sink, G: Gate, R: Wait>(
         gate,
     };
     for _ in rt.forever() {
-        match link.due(rt, desk) {
-            Ok(event) => {
-                if let Err(end) = link.send_one(rt, desk, event, writer) {
-                    return end;
-                }
-            }
-            Err(end) => return end,
+        if let Err(end) = link.send_one(rt, desk, writer) {
+            return end;
         }
     }
     unreachable!()
 }
 
 impl<'o, 'g, L: Ledger, G: Gate> Link<'o, 'g, L, G> {
-    ghost use Rattle.std.specs.Prelude.{◌≡◌, IfOk, IfErr, OnOk};
+    ghost use Rattle.std.specs.Prelude.{◌≡◌, IfErr, OnOk};
     ghost use Rattle.std.specs.Io.KnownBytes.{Appends};
     ghost use Rattle.centre_past.specs.Fits.{AnswerFits};
     ghost use Rattle.link_worker.specs.Ends.{fails_to_write};
-    ghost use Rattle.office.specs.Offices.{IsSameDesk};
-    ghost use Rattle.link_worker.specs.Orders.{EndsWriting, IsOrder, IsWaitEnd, StopsInFrame, Writes, receipt_frame};
+    ghost use Rattle.link_worker.specs.Orders.{EndsWriting, StopsInFrame, Writes, receipt_frame};
 
-    /// Waits for the next order or query. The desk lets go of receipts of folded entries meanwhile.
-    fn due<R: Wait>(&self, rt: &R, desk: &mut Desk<L>) -> Result<Event, End>
-        ensures same { IsSameDesk desk.old desk.new }
-        ensures order { IfOk result (IsOrder self.now.bsc self.now.generation) }
-        ensures end { IfErr result (IsWaitEnd self.now.bsc self.now.generation) }
-    {
-        match self
-            .office
-            .wait_pending(rt, desk, self.bsc, self.generation)
-        {
-            Wake::Order => Ok(Event::Send(self.bsc, self.generation)),
-            Wake::Query(warning, after) => {
-                Ok(Event::Ask(self.bsc, self.generation, warning, after))
-            }
-            Wake::Ended => Err(End::Superseded),
-            Wake::StaleCentre => Err(End::Refused(Refusal::Stale)),
-        }
-    }
-
-    /// Submits an order or a query and writes its frame, or does nothing where by then nothing is to be sent or asked.
+    /// Waits for the next order or query, enters it and writes its frame, or does nothing where nothing is to be asked. The desk lets
+    /// go of receipts of folded entries meanwhile.
     fn send_one<W: Sink, R: Wait>(
         &self,
         rt: &R,
         desk: &mut Desk<L>,
-        event: Event,
         writer: &mut W,
     ) -> Result<(), End>
-        requires { IsOrder self.now.bsc self.now.generation event }
         ensures sent { OnOk result (Writes self.now.bsc self.now.generation desk.old desk.new (W.written writer.old) (W.written writer.new)) }
         ensures ended { IfErr result (EndsWriting self.now.bsc self.now.generation desk.old desk.new (W.written writer.old) (W.written writer.new)) }
         ensures failed { W.failures writer.new ≡ with_failure (W.failures writer.old) (fails_to_write result) }
         ensures cut { IfErr result (IfShut (G.may_cut self.now.gate.now self.now.bsc step.BeforeWrite)) }
     {
-        match self.office.submit(rt, desk, event) {
+        match self.office.send_due(rt, desk, self.bsc, self.generation) {
             Ok(()) => self.write_receipt(rt, desk.latest(), writer),
-            Err(refusal) => match order_end(refusal) {
+            Err(unsent) => match unsent_end(unsent) {
                 Some(end) => Err(end),
                 None => Ok(()),
             },
@@ -132,7 +108,8 @@ impl<'o, 'g, L: Ledger, G: Gate> Link<'o, 'g, L, G> {
         let Ok(frame) = frame_of(self.alloc, &receipt.answer) else {
             return Err(End::Refused(Refusal::Memory));
         };
-        if !self.gate.pass(rt, self.bsc, Step::BeforeWrite) {
+        let passage = Passage::Order(frame.as_slice());
+        if !self.gate.pass(rt, self.bsc, passage) {
             return Err(End::GateShut);
         }
         match write_all(writer, frame.as_slice()) {
@@ -170,5 +147,17 @@ fn order_end(refusal: Refusal) -> Option<End>
         | Refusal::NothingToAsk
         | Refusal::NoSuchWarning => None,
         _ => Some(End::of(refusal)),
+    }
+}
+
+/// The end that it makes where nothing was sent; none where the side goes on.
+fn unsent_end(unsent: Unsent) -> Option<End>
+    ensures end { result ≡ unsent_end unsent }
+    ensures refused { IfSome result IsRefusedEnd }
+{
+    match unsent {
+        Unsent::Ended => Some(End::Superseded),
+        Unsent::StaleCentre => Some(End::Refused(Refusal::Stale)),
+        Unsent::Refused(refusal) => order_end(refusal),
     }
 }

@@ -9,3 +9,5 @@ pub mod WishLemmas
 pub mod PendingLemmas
 pub mod LawfulLemmas
 pub mod DueLemmas
+pub mod SendingLemmas
+pub mod HandingLemmas

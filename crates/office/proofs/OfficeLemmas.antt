@@ -19,7 +19,7 @@ use Rattle.office.specs.declared.seen.Seen.{Seen}
 use Rattle.office.proofs.HeldLemmas.{IsKnown, known_if}
 
 -- a centre of which a desk is as the office knows it
-meets_if : (centre : Known) (opened : ℕ) (d : DeskState) → Lawful centre.settings (past centre) → PendingGivesPlan (past centre) → fits opened (all_entries centre) d ≡ true → Meets centre d
+pub meets_if : (centre : Known) (opened : ℕ) (d : DeskState) → Lawful centre.settings (past centre) → PendingGivesPlan (past centre) → fits opened (all_entries centre) d ≡ true → Meets centre d
 meets_if centre opened d lawful headline fit =
     let known : IsKnown opened (all_entries centre) d = known_if opened (all_entries centre) d fit in
     record { lawful = lawful; headline = headline; entries = known.entries; place = known.at; later = known.later }

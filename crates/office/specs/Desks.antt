@@ -1,5 +1,5 @@
 -- What contracts see of a desk, what always holds of one, and what it is after it let go of receipts.
-use Rattle.std.specs.Prelude.{◌≡◌, ◌≤◌, ◌<◌, ◌++◌, ℕ, List, [], ◌∷◌, length, take, drop, All}
+use Rattle.std.specs.Prelude.{◌≡◌, ◌≤◌, ◌<◌, ℕ, List, [], ◌∷◌, length, take, drop, All}
 use Rattle.centre_events.specs.Verdict.{last_position}
 use Rattle.office.specs.Receipts.{last_place}
 use Rattle.office.specs.declared.receipt.Receipt.{Receipt}

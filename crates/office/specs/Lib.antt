@@ -6,3 +6,5 @@ pub mod Shuffles
 pub mod Wishes
 pub mod Wakes
 pub mod Affecting
+pub mod Sendings
+pub mod Handing

@@ -1,5 +1,5 @@
 -- What there is to do for the link of a BSC.
-use Rattle.std.specs.Prelude.{◌≡◌, ℕ, Bool, ◌&&◌, List, length, Option, Some, None, is_some, nat_eq, nat_le, if◌then◌else◌}
+use Rattle.std.specs.Prelude.{◌≡◌, ℕ, Bool, ◌&&◌, List, Option, Some, None, is_some, nat_eq, if◌then◌else◌}
 use Rattle.centre_past.specs.Headline.{PendingGivesPlan}
 use Rattle.centre_past.specs.Legal.{Known, Lawful, past}
 use Rattle.centre_past.specs.LinkStates.{link_state}

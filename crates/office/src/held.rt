@@ -3,9 +3,12 @@
 use crate::affected::Affected;
 use crate::affecting::affected_by;
 use crate::auditing::audit;
+use crate::copying::copy_entries;
 use crate::desk::Desk;
 use crate::entering::enter;
+use crate::entries::Entries;
 use crate::fault::{Fault, Unsettled};
+use crate::folded::Folded;
 use crate::row::Row;
 use crate::seen::Seen;
 use crate::settling::{mismatch, missing};
@@ -21,6 +24,7 @@ use centre_laws::headline::pending_gives_plan;
 use centre_questions::asking::ask;
 use centre_questions::question::Question;
 use std::alloc::{AllocError, Global};
+use std::cmp::max;
 use std::marker::Model;
 use std::sync::ledger::{Book, Ledger, Share};
 
@@ -40,6 +44,7 @@ pub struct Held<L: Ledger> {
     book: Book<L>,
     rest: Share<L>,
     wishes: Vec<Wish>,
+    interrupts: u64,
 }
 
 impl<L: Ledger> Model for Held<L> {
@@ -64,6 +69,7 @@ impl<L: Ledger> Held<L> {
     ghost use Rattle.centre_events.specs.Links.{last_link};
     ghost use Rattle.cell_register.specs.Register.{is_place};
     ghost use Rattle.office.specs.Affecting.{affects, includes};
+    ghost use Rattle.office.specs.Handing.{AreAllAfter, AreEntriesAfter};
     ghost use Rattle.office.specs.Helds.{HasEachOnce, IsEntered, IsHeld, RefusesFold, fits, no_row, row_at};
     ghost use Rattle.centre_questions.specs.Questions.{RefusesQuestion, Shows};
     ghost use Rattle.office.specs.Shuffles.{IsFault, IsShuffle};
@@ -93,6 +99,7 @@ impl<L: Ledger> Held<L> {
             book,
             rest,
             wishes: Vec::new(alloc),
+            interrupts: 0,
         }
     }
 
@@ -295,6 +302,17 @@ impl<L: Ledger> Held<L> {
         self.folded
     }
 
+    /// `Stale` where the centre is stale.
+    fn check_whole(&self) -> Result<(), Refusal>
+        ensures whole { OnOk result (self.now.centre.stale ≡ false) }
+        ensures stale { IfErr result (λ r. (r ≡ Refusal.Stale) × (self.now.centre.stale ≡ true)) }
+    {
+        if self.centre.is_stale() {
+            return Err(Refusal::Stale);
+        }
+        Ok(())
+    }
+
     /// Folds the entries of the journal, and answers how many there were. `Stale`, then `Memory`; then nothing changed. Places go
     /// on, and what the past says is as before: the centre is asked and takes events as if nothing had been folded, but that
     /// its journal has room again.
@@ -306,14 +324,62 @@ impl<L: Ledger> Held<L> {
         ensures refused { IfErr result (RefusesFold self.old.centre) }
         ensures unchanged { OnErr result (self.new ≡ self.old) }
     {
-        if self.centre.is_stale() {
-            return Err(Refusal::Stale);
-        }
+        self.check_whole()?;
         let rows = Vec::from_slice(self.alloc, self.rows.as_slice())?;
         let count = self.centre.checkpoint()?;
         self.base_rows = rows;
         self.folded = self.centre.position();
         Ok(count)
+    }
+
+    /// How many entries there are, those counted that are folded.
+    pub fn position(&self) -> u64
+        ensures { result ≡ length (all_entries self.now.centre) }
+    {
+        self.centre.position()
+    }
+
+    /// Copies of the entries behind that place, the oldest first, at most so many, and how many of those behind it can't be handed
+    /// out any more, since they are folded. At an `Err` there was no memory for the copies.
+    pub fn entries(&mut self, after: u64, most: u64) -> Result<Entries, AllocError>
+        ensures entries { IfOk result (AreEntriesAfter after most self.old.centre) }
+        ensures unchanged { self.new ≡ self.old }
+    {
+        let from = max(after, self.folded);
+        let entries = copy_entries(self.alloc, &mut self.centre, from, most)?;
+        Ok(Entries {
+            missed: from - after,
+            entries,
+        })
+    }
+
+    /// Folds the entries of the journal as `checkpoint` does, and hands out copies of all those behind that place. `Stale`, then
+    /// `Memory`, where there is none for the copies or for the fold; then nothing changed.
+    pub fn checkpoint_after(&mut self, after: u64) -> Result<Folded, Refusal>
+        ensures counted { IfOk result (λ f. f.count ≡ length self.old.centre.journal) }
+        ensures entries { IfOk result (λ f. AreAllAfter after self.old.centre f.rest) }
+        ensures folded { OnOk result (self.new ≡ record self.old { centre = checkpointed self.old.centre; base_rows = self.old.rows }) }
+        ensures same { OnOk result (base_of (past self.new.centre) ≡ base_of (past self.old.centre)) }
+        ensures whole { OnOk result (self.old.centre.stale ≡ false) }
+        ensures refused { IfErr result (RefusesFold self.old.centre) }
+        ensures unchanged { OnErr result (self.new ≡ self.old) }
+    {
+        self.check_whole()?;
+        let rest = self.entries(after, self.position())?;
+        let count = self.checkpoint()?;
+        Ok(Folded { count, rest })
+    }
+
+    /// How often `interrupt` was called.
+    pub(crate) fn interrupts(&self) -> u64 {
+        self.interrupts
+    }
+
+    /// Counts an interruption of those who wait for entries.
+    pub(crate) fn interrupt(&mut self)
+        ensures { self.new ≡ self.old }
+    {
+        self.interrupts = self.interrupts.wrapping_add(1);
     }
 
     /// Compares the receipts of the desks with the entries, and hands out the centre where these are a shuffle of them.

@@ -2,16 +2,22 @@
 
 ghost use Rattle.std.specs.Prelude.{◌≡◌, ◌≤◌, ◌<◌, ◌⊎◌, [], IfOk, IfErr, OnOk, OnErr};
 ghost use Rattle.centre_past.specs.Legal.{Lawful, past};
+ghost use Rattle.office.specs.Handing.{AreEntriesSomewhere, IsFoldedAfterSomewhere, IsPositionSomewhere, IsProgressSomewhere};
 ghost use Rattle.office.specs.Offices.{IsFoldedSomewhere, IsRefusedSomewhere, IsReleasedSomewhere, IsSameDesk, IsSeenSomewhere, IsSubmitted, IsUnseenSomewhere};
+ghost use Rattle.office.specs.Sendings.{IsSent, IsUnsent};
 ghost use Rattle.office.specs.Shuffles.{IsSettled, IsUnsettled};
 ghost use Rattle.office.specs.Wakes.{IsDueSomewhere};
 ghost use Rattle.office.specs.Wishes.{IsUnwishedSomewhere, IsWishedSomewhere};
 
 use crate::affected::Affected;
 use crate::desk::Desk;
+use crate::entries::Entries;
 use crate::fault::Unsettled;
+use crate::folded::Folded;
 use crate::held::Held;
+use crate::progress::Progress;
 use crate::seen::Seen;
+use crate::unsent::Unsent;
 use crate::wake::Wake;
 use crate::wish::Wish;
 use cell_register::BscId;
@@ -31,6 +37,7 @@ pub struct Office<L: Ledger> {
     alloc: Global,
     held: Mutex<Held<L>>,
     moved: Condvar,
+    entered: Condvar,
 }
 
 /// Makes room for the receipt of an event that the desk submits, and copies the event for it.
@@ -60,6 +67,7 @@ impl<L: Ledger> Office<L> {
             alloc,
             held: Mutex::new(Held::new(alloc, plmn, journal_limit, book, rest)),
             moved: Condvar::new(),
+            entered: Condvar::new(),
         }
     }
 
@@ -87,6 +95,7 @@ impl<L: Ledger> Office<L> {
         guard.tell_soundness();
         let affected = guard.affected_by(&event);
         let result = guard.submit(desk, event, copy);
+        self.entered.notify_all();
         if guard.has_work(affected) {
             self.moved.notify_all();
         }
@@ -162,6 +171,40 @@ impl<L: Ledger> Office<L> {
         unreachable!()
     }
 
+    /// Waits until there is something to do for the link of that generation, as `wait_pending` does, and enters it in the same hold of
+    /// the lock: an order by a Send of the desk, a query by an Ask, which takes the wish out whatever it is answered. So an order is
+    /// never refused since another was sent meanwhile.
+    ///
+    /// At `Ok` the desk's latest receipt has the message. `Ended` where the link isn't up, `StaleCentre`, or else what the event
+    /// is refused for; `JournalFull` where the journal is full and the link up, `Memory` where there is none for the receipt.
+    pub fn send_due<R: Wait>(
+        &self,
+        rt: &R,
+        desk: &mut Desk<L>,
+        b: BscId,
+        generation: u64,
+    ) -> Result<(), Unsent>
+        ensures sent { OnOk result (IsSent b generation desk.old desk.new) }
+        ensures unsent { IfErr result (IsUnsent b generation desk.new) }
+        ensures same { OnErr result (IsSameDesk desk.old desk.new) }
+    {
+        for _ in rt.forever() {
+            let folded = self.release(rt, desk);
+            let mut guard = self.moved.wait_while(rt, self.held.lock(rt), |held| {
+                held.folded() == folded && held.wake_of(b, generation).is_none()
+            });
+            guard.tell_soundness();
+            if let Some(result) = guard.send_due(desk, b, generation) {
+                self.entered.notify_all();
+                if guard.has_work(Affected::None) {
+                    self.moved.notify_all();
+                }
+                return result;
+            }
+        }
+        unreachable!()
+    }
+
     /// Makes a stale centre whole.
     pub fn rebuild<R: Wait>(&self, rt: &R) -> Result<(), AllocError> {
         self.held.lock(rt).rebuild()
@@ -194,6 +237,65 @@ impl<L: Ledger> Office<L> {
             self.moved.notify_all();
         }
         result
+    }
+
+    /// How many entries there are, those counted that are folded.
+    pub fn position<R: Wait>(&self, rt: &R) -> u64
+        ensures { IsPositionSomewhere result }
+    {
+        let guard = self.held.lock(rt);
+        guard.tell_soundness();
+        guard.position()
+    }
+
+    /// Copies of the entries behind that place, the oldest first, at most so many, and how many of those behind it can't be handed
+    /// out any more, since they are folded. At an `Err` there was no memory for the copies.
+    pub fn entries<R: Wait>(&self, rt: &R, after: u64, most: u64) -> Result<Entries, AllocError>
+        ensures { IfOk result (AreEntriesSomewhere after most) }
+    {
+        let mut guard = self.held.lock(rt);
+        guard.tell_soundness();
+        guard.entries(after, most)
+    }
+
+    /// Folds the entries of the journal as `checkpoint` does, and hands out copies of all those behind that place, in one hold of
+    /// the lock. `Stale`, then `Memory`, where there is none for the copies or for the fold; then nothing is folded.
+    pub fn checkpoint_after<R: Wait>(&self, rt: &R, after: u64) -> Result<Folded, Refusal>
+        ensures folded { IfOk result (IsFoldedAfterSomewhere after) }
+        ensures refused { IfErr result (λ r. (r ≡ Refusal.Stale) ⊎ (r ≡ Refusal.Memory)) }
+    {
+        let mut guard = self.held.lock(rt);
+        guard.tell_soundness();
+        let result = guard.checkpoint_after(after);
+        self.moved.notify_all();
+        result
+    }
+
+    /// Waits until there are more entries than `after`, or until `interrupt` was called since it had been called so often.
+    pub fn wait_entries<R: Wait>(&self, rt: &R, after: u64, interrupts: u64) -> Progress
+        ensures { IsProgressSomewhere after interrupts result }
+    {
+        for _ in rt.forever() {
+            let guard = self.entered.wait_while(rt, self.held.lock(rt), |held| {
+                held.position() <= after && held.interrupts() == interrupts
+            });
+            guard.tell_soundness();
+            let position = guard.position();
+            let now = guard.interrupts();
+            if position > after || now != interrupts {
+                return Progress {
+                    position,
+                    interrupts: now,
+                };
+            }
+        }
+        unreachable!()
+    }
+
+    /// Has all who wait for entries go on.
+    pub fn interrupt<R: Wait>(&self, rt: &R) {
+        self.held.lock(rt).interrupt();
+        self.entered.notify_all();
     }
 
     /// Ends the office, once all desks are handed in: the entries of its centre are a shuffle of their receipts. Else the centre

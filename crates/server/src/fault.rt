@@ -8,6 +8,20 @@ use console_text::{ReplayFault, fault_words};
 /// Why a run ended.
 #[derive(Clone, Copy, Debug, PartialEq, Eq)]
 pub enum ServeFault {
+    /// The file of peers can't be read, or has a line that can't.
+    Peers,
+    /// Another process keeps its journal in the file.
+    JournalInUse,
+    /// The file holds the journal of another network.
+    OtherNetwork,
+    /// The file holds no journal.
+    NotJournal,
+    /// The file has a line that is no event, isn't accepted or is too long. Its number was said.
+    JournalLine,
+    /// The file can't be read.
+    JournalRead,
+    /// The file can't be opened, written or synced.
+    Journal,
     /// A port can't be listened on.
     Listen,
     /// The receipts of the desks aren't the journal's entries.
@@ -22,6 +36,13 @@ impl ServeFault {
         ensures { result.now ≡ words_of self }
     {
         match self {
+            ServeFault::Peers => b"cbc: peers fault\n",
+            ServeFault::JournalInUse => b"cbc: journal in use\n",
+            ServeFault::OtherNetwork => b"cbc: journal of another network\n",
+            ServeFault::NotJournal => b"cbc: not a journal\n",
+            ServeFault::JournalLine => b"",
+            ServeFault::JournalRead => b"cbc: journal read fault\n",
+            ServeFault::Journal => b"cbc: journal fault\n",
             ServeFault::Listen => b"cbc: listen fault\n",
             ServeFault::Settle => b"cbc: settle fault\n",
             ServeFault::Lines(fault) => fault_words(fault),

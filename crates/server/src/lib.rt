@@ -5,7 +5,9 @@
 #![tactic(auto)]
 
 mod fault;
+mod journal;
 mod options;
+mod peers_file;
 mod ports;
 mod running_server;
 mod serving;

@@ -3,8 +3,9 @@
 ghost use Rattle.std.specs.Prelude.{◌≤◌, IfSome};
 
 use clap::ArgMatches;
-use console_text::options::{FOLD, MOST_ENTRIES, command_line};
+use console_text::options::{FOLD, MOST_ENTRIES, MOST_SECONDS, REPLY_SECONDS, command_line};
 use hex::FromHex;
+use server_ports::LinkLimits;
 use std::alloc::{AllocError, Global};
 
 /// What the server is run with. BSC b connects to port `base` + b - 1, for b from 1 to `links`, which is at most 256.
@@ -21,6 +22,18 @@ pub struct ServeOptions {
     pub links: u16,
     /// Whether a simulated BSC connects to each port, once its BSC is registered.
     pub with_simulator: bool,
+    /// Whether a BSC that connects is sent a RESET of all its cells before any order.
+    pub reset: bool,
+    /// After how many seconds an order without a reply is said; 0 for never.
+    pub reply_seconds: u32,
+    /// After how many seconds an order without a reply ends its link; 0 for never.
+    pub cut_seconds: u32,
+    /// The file of the addresses that BSCs may connect from; without it they may connect from any.
+    pub peers: Option<String>,
+    /// The file that the journal is kept in; without it nothing is kept.
+    pub keep: Option<String>,
+    /// How fast a peer is let in.
+    pub limits: LinkLimits,
     ghost few: { journal_limit ≤ 4000000 },
     ghost few_links: { links ≤ 256 },
 }
@@ -82,6 +95,29 @@ fn asked_ports(matches: &ArgMatches<'_>) -> Option<(u16, u16)>
     Some((base, links))
 }
 
+/// A number of seconds.
+fn asked_seconds(matches: &ArgMatches<'_>, name: &str, default: u32) -> u32
+    requires { default ≤ 86400 }
+    ensures { result ≤ 86400 }
+{
+    match matches.get_one::<u32>(name) {
+        Some(seconds) if seconds <= MOST_SECONDS => seconds,
+        _ => default,
+    }
+}
+
+/// The file of that option, where one is given.
+fn asked_file(
+    alloc: Global,
+    matches: &ArgMatches<'_>,
+    option: &str,
+) -> Result<Option<String>, AllocError> {
+    match matches.get_str(option) {
+        Some(name) => Ok(Some(String::from_str(alloc, name)?)),
+        None => Ok(None),
+    }
+}
+
 /// The options of the server in its matches.
 fn options_of(alloc: Global, matches: &ArgMatches<'_>) -> Result<ServeOptions, OptionsFault> {
     let Some(plmn) = asked_plmn(matches) else {
@@ -91,6 +127,8 @@ fn options_of(alloc: Global, matches: &ArgMatches<'_>) -> Result<ServeOptions, O
         return Err(OptionsFault::BadPorts);
     };
     let host = String::from_str(alloc, matches.get_str("host").unwrap_or("127.0.0.1"))?;
+    let peers = asked_file(alloc, matches, "peers")?;
+    let keep = asked_file(alloc, matches, "keep")?;
     Ok(ServeOptions {
         plmn,
         journal_limit: asked_journal(matches),
@@ -99,6 +137,12 @@ fn options_of(alloc: Global, matches: &ArgMatches<'_>) -> Result<ServeOptions, O
         base,
         links,
         with_simulator: matches.get_flag("sim"),
+        reset: matches.get_flag("reset"),
+        reply_seconds: asked_seconds(matches, "reply-seconds", REPLY_SECONDS),
+        cut_seconds: asked_seconds(matches, "cut-seconds", 0),
+        peers,
+        keep,
+        limits: LinkLimits::usual(),
     })
 }
 

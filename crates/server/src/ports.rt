@@ -2,33 +2,45 @@
 
 use crate::fault::ServeFault;
 use crate::options::ServeOptions;
+use crate::peers_file::read_peers;
 use cell_register::BscId;
 use console_text::ReplayFault;
+use link_rules::Peers;
 use office::desk::Desk;
 use office::office::Office;
-use server_links::{Errors, Port, tell};
+use server_errors::{Errors, say_of_centre, tell};
+use server_ports::{Port, PortPace};
 use std::alloc::Global;
+use std::fs::Files;
 use std::io;
 use std::io::Write;
 use std::net::{Net, TcpListener, TcpStream};
 use std::sync::Wait;
 use std::sync::ledger::Ledger;
+use std::time::Clock;
 
 /// Listens on the port of a BSC.
 fn bind<R: Net<Stream = TcpStream, Listener = TcpListener>, L: Ledger>(
     rt: &R,
+    alloc: Global,
     options: &ServeOptions,
     b: BscId,
     port: u16,
 ) -> io::Result<Port<L>> {
     let listener = TcpListener::bind(rt, (options.host.as_str(), port))?;
     let address = listener.local_addr()?;
-    Ok(Port::new(b, listener, address))
+    let pace = PortPace::new(
+        alloc,
+        options.limits,
+        options.reply_seconds,
+        options.cut_seconds,
+    );
+    Ok(Port::new(b, listener, address, pace))
 }
 
 /// Listens on the port of each BSC. What can't be listened on is said.
-pub(crate) fn bind_all<
-    R: Wait + Net<Stream = TcpStream, Listener = TcpListener>,
+fn bind_all<
+    R: Wait + Clock + Net<Stream = TcpStream, Listener = TcpListener>,
     L: Ledger,
     E: Write + Drop,
 >(
@@ -43,7 +55,7 @@ pub(crate) fn bind_all<
             return Err(ServeFault::Listen);
         };
         let port = match options.base.checked_add(k) {
-            Some(number) => bind(rt, options, b, number),
+            Some(number) => bind(rt, alloc, options, b, number),
             None => return Err(ServeFault::Listen),
         };
         match port {
@@ -55,6 +67,50 @@ pub(crate) fn bind_all<
         }
     }
     Ok(ports)
+}
+
+/// Says what is listened on: the address of the first port, and the number of the last.
+fn tell_listening<R: Wait + Clock, L: Ledger, E: Write + Drop>(
+    rt: &R,
+    alloc: Global,
+    ports: &[Port<L>],
+    errors: &Errors<E>,
+) {
+    let (Some(first), Some(last)) = (ports.first(), ports.last()) else {
+        return;
+    };
+    let text = if ports.len() == 1 {
+        format!(in alloc; "listening: {}", first.address)
+    } else {
+        format!(in alloc; "listening: {} to {}", first.address, last.address.port())
+    };
+    if let Ok(text) = text {
+        say_of_centre(rt, alloc, errors, text);
+    }
+}
+
+/// What is there before a server's threads begin.
+#[derive(Drop)]
+pub(crate) struct Opened<L: Ledger> {
+    pub(crate) ports: Vec<Port<L>>,
+    pub(crate) peers: Option<Peers>,
+}
+
+/// Reads the file of peers, and listens on the port of each BSC. What it listens on is said, or what is wrong.
+pub(crate) fn open_ports<
+    R: Files + Wait + Clock + Net<Stream = TcpStream, Listener = TcpListener>,
+    L: Ledger,
+    E: Write + Drop,
+>(
+    rt: &R,
+    alloc: Global,
+    options: &ServeOptions,
+    errors: &Errors<E>,
+) -> Result<Opened<L>, ServeFault> {
+    let peers = read_peers(rt, alloc, options, errors)?;
+    let ports: Vec<Port<L>> = bind_all(rt, alloc, options, errors)?;
+    tell_listening(rt, alloc, ports.as_slice(), errors);
+    Ok(Opened { ports, peers })
 }
 
 pub(crate) fn push<T: Drop>(items: &mut Vec<T>, item: T) -> Result<(), ServeFault> {

@@ -2,11 +2,15 @@
 
 use cell_register::BscId;
 use centre_events::refusal::Refusal;
+use server_errors::say_of_centre;
 use server_links::Shared;
 use server_operator::Server;
+use server_ports::Port;
 use std::io::Write;
 use std::sync::Wait;
 use std::sync::ledger::Ledger;
+use std::time::Clock;
+use warning_book::WarningId;
 
 /// What the threads of a server share, as its operator knows it.
 #[derive(Drop)]
@@ -14,21 +18,70 @@ pub(crate) struct RunningServer<'a, L: Ledger, E: Drop> {
     pub(crate) shared: &'a Shared<L, E>,
 }
 
+impl<'a, L: Ledger, E: Write + Drop> RunningServer<'a, L, E> {
+    /// The port of the BSC.
+    fn port_of(&self, b: BscId) -> Option<&'a Port<L>> {
+        self.shared.ports.iter().find(|port| port.bsc == b)
+    }
+
+    /// Says that the BSC has no port.
+    fn tell_no_port<R: Wait + Clock>(&self, rt: &R, b: BscId) {
+        let number = b.number();
+        let links = self.shared.ports.len();
+        let alloc = self.shared.alloc;
+        if let Ok(text) = format!(in alloc; "BSC {number} has no port: --links is {links}") {
+            say_of_centre(rt, alloc, &self.shared.errors, text);
+        }
+    }
+}
+
 impl<'a, L: Ledger, E: Write + Drop> Server for RunningServer<'a, L, E> {
-    /// Has the simulated BSC of the port connect.
-    fn added<R: Wait>(&self, rt: &R, b: BscId) {
-        for port in self.shared.ports.as_slice() {
-            if port.bsc == b {
-                port.simulate(rt);
-            }
+    /// Has the simulated BSC of the port connect, or says that there is no port.
+    fn added<R: Wait + Clock>(&self, rt: &R, b: BscId) {
+        match self.port_of(b) {
+            Some(port) => port.simulate(rt),
+            None => self.tell_no_port(rt, b),
         }
     }
 
-    fn answered<R: Wait>(&self, rt: &R) {
+    fn answered<R: Wait + Clock>(&self, rt: &R) {
         self.shared.submitted(rt);
+    }
+
+    fn is_kept<R: Wait>(&self, rt: &R) -> bool {
+        self.shared.wait_kept(rt)
     }
 
     fn checkpoint<R: Wait>(&self, rt: &R) -> Result<u64, Refusal> {
         self.shared.checkpoint(rt)
+    }
+
+    fn cut<R: Wait>(&self, rt: &R, b: BscId, generation: u64) {
+        if let Some(port) = self.port_of(b) {
+            port.cut(rt, generation);
+        }
+    }
+
+    fn links(&self) -> u16 {
+        u16::try_from(self.shared.ports.len()).unwrap_or(u16::MAX)
+    }
+
+    fn is_down<R: Wait>(&self, rt: &R, b: BscId) -> bool {
+        match self.port_of(b) {
+            Some(port) => !port.is_up(rt),
+            None => false,
+        }
+    }
+
+    /// Says that the older message stays on air.
+    fn stays_on_air<R: Wait + Clock>(&self, rt: &R, warning: WarningId, b: BscId) {
+        let warning = warning.number();
+        let b = b.number();
+        let alloc = self.shared.alloc;
+        if let Ok(text) = format!(in alloc;
+            "warning {warning}: BSC {b} is down, what it has on air stays until it connects"
+        ) {
+            say_of_centre(rt, alloc, &self.shared.errors, text);
+        }
     }
 }

@@ -1,4 +1,0 @@
-pub mod Allowances
-pub mod FoldPaces
-pub mod Paces
-pub mod Rate

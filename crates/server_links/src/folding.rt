@@ -1,29 +1,44 @@
 //! The journal is folded by itself: in the thread whose event makes that due.
 
-use crate::errors::say_of_centre;
-use crate::fold_pace::FoldPace;
 use crate::shared::Shared;
 use centre_events::refusal::Refusal;
+use link_rules::FoldPace;
+use server_errors::say_of_centre;
 use std::io::Write;
 use std::sync::Wait;
 use std::sync::ledger::Ledger;
+use std::time::Clock;
 
 const NO_MEMORY: &str =
     "the journal isn't folded: out of memory; that is tried again after 1,000 entries more, or once it is full";
 
 impl<L: Ledger, E: Write + Drop> Shared<L, E> {
-    /// An event may have been entered. Folds the journal where that is due: other threads wait that long before they go on. A stale
+    /// An event may have been entered. Folds the journal where that is due and no file is kept: other threads wait that long before they go on. A stale
     /// centre isn't folded.
-    pub fn submitted<R: Wait>(&self, rt: &R) {
+    pub fn submitted<R: Wait + Clock>(&self, rt: &R) {
+        if self.kept.is_some() {
+            return;
+        }
         let mut pace = self.folds.lock(rt);
         if pace.count() && pace.is_due(self.office.unfolded(rt)) {
             self.fold(rt, &mut pace);
         }
     }
 
-    fn fold<R: Wait>(&self, rt: &R, pace: &mut FoldPace) {
+    /// Says how many entries were folded.
+    fn tell_fold<R: Wait + Clock>(&self, rt: &R, count: u64) {
+        if let Ok(text) = format!(in self.alloc; "the journal was folded, entries: {count}") {
+            say_of_centre(rt, self.alloc, &self.errors, text);
+        }
+    }
+
+    /// Folds the journal, and says so.
+    fn fold<R: Wait + Clock>(&self, rt: &R, pace: &mut FoldPace) {
         match self.office.checkpoint(rt) {
-            Ok(_) => pace.fold(),
+            Ok(count) => {
+                pace.fold();
+                self.tell_fold(rt, count);
+            }
             Err(Refusal::Memory) => {
                 if pace.put_off() {
                     say_of_centre(rt, self.alloc, &self.errors, NO_MEMORY);
@@ -35,6 +50,11 @@ impl<L: Ledger, E: Write + Drop> Shared<L, E> {
 
     /// Folds the journal now. The answer is how many entries it had.
     pub fn checkpoint<R: Wait>(&self, rt: &R) -> Result<u64, Refusal> {
+        if let Some(kept) = &self.kept {
+            let number = kept.ask_fold(rt);
+            self.office.interrupt(rt);
+            return kept.wait_fold(rt, number).unwrap_or(Err(Refusal::Stale));
+        }
         let mut pace = self.folds.lock(rt);
         let count = self.office.checkpoint(rt)?;
         pace.fold();

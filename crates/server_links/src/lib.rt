@@ -1,33 +1,35 @@
 //! The links of a server: BSCs connect over TCP, each to a port of its own.
 //!
-//! A port (`port`) has two threads: one accepts a connection and reads from it (`reading`), one writes to it (`writing`). A third
-//! may be a simulated BSC (`simulating`). How many orders may go out is said by `bucket` and `allowance`, and `rate` keeps to it.
-//! When the journal is folded is said by `fold_pace`, and `folding` does it.
-//! What happens to links is said by a thread of its own (`errors`). No clause says what a socket gives or when a thread goes on;
-//! what is promised of the two sides of a link stands in `link_worker`.
+//! A port (`Port` of `server_ports`) has three threads: one accepts connections and decides which gets the link (`accepting`), one
+//! brings up a link and reads from it (`reading`), one writes to it (`writing`). A fourth may be a simulated BSC (`simulating`). `gate`
+//! keeps to how fast reports and orders may pass, and `watching` sees to it that an order without a reply is said. `resetting` has a BSC
+//! forget what it broadcasts when it connects. `folding` folds the journal where that is due, `keeping` keeps it in a file.
+//! What happens to links is said by a thread of its own (`server_errors`). No clause says what a socket gives or when a thread goes
+//! on; what is promised of the two sides of a link stands in `link_worker`, and by which rules a link goes on in `link_rules`.
 #![tactic(auto)]
 
-mod allowance;
-mod bucket;
+mod accepting;
 mod closing;
-mod errors;
-mod fold_pace;
 mod folding;
-mod pace;
-mod port;
-mod rate;
+mod gate;
+mod incoming;
+mod keeping;
+mod options;
+mod orders;
 mod reading;
+mod resetting;
 mod shared;
 mod simulating;
+mod watching;
 mod writing;
 
-pub use allowance::Allowance;
-pub use bucket::Bucket;
+pub use accepting::accept_links;
 pub use closing::{close_all, close_port};
-pub use errors::{Errors, tell};
-pub use fold_pace::FoldPace;
-pub use port::Port;
+pub use keeping::keep;
+pub use options::LinkOptions;
+pub use orders::order_words;
 pub use reading::read_links;
 pub use shared::Shared;
 pub use simulating::simulate;
+pub use watching::watch;
 pub use writing::write_links;

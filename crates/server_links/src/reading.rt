@@ -1,24 +1,28 @@
-//! The thread of a port that takes connections and reads from them.
+//! The thread of a port that brings up its links and reads from them.
 
-use crate::errors::tell;
-use crate::port::{Job, Port};
-use crate::rate::RateGate;
-use crate::shared::Shared;
+use crate::gate::LinkGate;
+use crate::incoming::Incoming;
+use crate::resetting::reset_cells;
+use crate::shared::{Shared, now_of};
 use centre_events::answer::Answer;
 use centre_events::event::Event;
 use centre_events::refusal::Refusal;
 use framing::FromRead;
+use link_resets::ResetWatch;
 use link_worker::{End, read_side};
 use office::desk::Desk;
+use server_errors::tell;
+use server_ports::{Connection, Ended, Job, Port, SideEnd, cause_of};
 use std::io::Write;
-use std::net::{Shutdown, TcpStream};
 use std::sync::Wait;
 use std::sync::ledger::Ledger;
+use std::thread;
 use std::time::{Clock, Duration};
-use std::{io, thread};
 
-/// How long to wait, in milliseconds, where a connection can't be accepted, or memory runs out.
+/// How long to wait, in milliseconds, where memory runs out, or a connection has to wait.
 const PAUSE: u64 = 100;
+
+const HELD: &str = "connections are held back: there were too many";
 
 /// How often the loss of a link is submitted where memory runs out.
 const MOST_TRIES: u32 = 100;
@@ -35,7 +39,7 @@ fn generation_of<L: Ledger>(desk: &Desk<L>) -> Option<u64> {
 }
 
 /// Submits that the link is lost. A refusal is passed over: the link is no longer the latest, or nothing can be entered.
-fn end_link<L: Ledger, E: Write + Drop, R: Wait + Clock>(
+fn submit_loss<L: Ledger, E: Write + Drop, R: Wait + Clock>(
     rt: &R,
     shared: &Shared<L, E>,
     port: &Port<L>,
@@ -53,32 +57,22 @@ fn end_link<L: Ledger, E: Write + Drop, R: Wait + Clock>(
     }
 }
 
-/// The handles of a connection: one to shut it, one for the write side.
-fn handles(stream: &TcpStream, generation: u64) -> io::Result<(TcpStream, Job)> {
-    let kept = stream.try_clone()?;
-    let stream = stream.try_clone()?;
-    Ok((kept, Job { generation, stream }))
-}
-
-/// Says how a link ended: by its write side, where that ended of itself, else by its read side. Nothing is said of the links that
-/// end with the program.
-fn tell_end<L: Ledger, E: Write + Drop, R: Wait>(
+/// Says how a link ended. Nothing is said of the links that end with the program.
+fn tell_end<L: Ledger, E: Write + Drop, R: Wait + Clock>(
     rt: &R,
     shared: &Shared<L, E>,
     port: &Port<L>,
+    connection: &Connection,
     generation: u64,
-    read: End,
-    written: Option<End>,
+    read: SideEnd,
+    ended: Ended,
 ) {
     if port.is_closing(rt) {
         return;
     }
-    let end = match written {
-        Some(End::Superseded) | None => read,
-        Some(end) => end,
-    };
-    if let Ok(text) = format!(in shared.alloc; "link {generation} ended: {end}") {
-        tell(rt, shared.alloc, &shared.errors, port.bsc, text);
+    let cause = cause_of(ended.shut, read, ended.written);
+    if let Ok(text) = format!(in shared.alloc; "link {generation} ended: {cause}") {
+        shared.tell(rt, port, &connection.peer, text);
     }
 }
 
@@ -88,16 +82,29 @@ fn read_link<L: Ledger, E: Write + Drop, R: Wait + Clock>(
     shared: &Shared<L, E>,
     port: &Port<L>,
     desk: &mut Desk<L>,
+    connection: &Connection,
     generation: u64,
-    stream: TcpStream,
-) {
-    let gate = RateGate {
-        clock: rt,
+) -> SideEnd {
+    let gate = LinkGate {
+        rt,
         shared,
         port,
+        peer: connection.peer,
     };
-    let mut source = FromRead::new(stream);
-    let read = read_side(
+    let mut source = FromRead::new(Incoming {
+        rt,
+        shared,
+        port,
+        peer: connection.peer,
+        stream: &connection.stream,
+        broken: None,
+        watch: if shared.options.reset {
+            Some(ResetWatch::new(shared.alloc))
+        } else {
+            None
+        },
+    });
+    let end = read_side(
         rt,
         shared.alloc,
         &shared.office,
@@ -107,94 +114,122 @@ fn read_link<L: Ledger, E: Write + Drop, R: Wait + Clock>(
         &mut source,
         &gate,
     );
-    let _ = source.into_inner().shutdown(Shutdown::Both);
-    end_link(rt, shared, port, desk, generation);
-    let written = port.finish(rt);
-    tell_end(rt, shared, port, generation, read, written);
+    SideEnd {
+        end,
+        broken: source.into_inner().broken,
+    }
 }
 
-/// Says that the link can't be served, since there are no more handles of its connection.
-fn tell_unserved<L: Ledger, E: Write + Drop, R: Wait>(
+/// Has the write side of a link begin, after a RESET where one is to be sent. `Err` is how the link ends.
+fn begin<L: Ledger, E: Write + Drop, R: Wait + Clock>(
     rt: &R,
     shared: &Shared<L, E>,
     port: &Port<L>,
+    desk: &mut Desk<L>,
+    connection: &Connection,
     generation: u64,
-    error: &io::Error,
-) {
-    if let Ok(text) = format!(in shared.alloc;
-        "link {generation} ended: it can't be served: {error}"
-    ) {
-        tell(rt, shared.alloc, &shared.errors, port.bsc, text);
+) -> Result<(), SideEnd> {
+    if shared.options.reset {
+        reset_cells(rt, shared, port, desk, generation, &connection.stream)?;
+    }
+    let Ok(connection) = connection.shared() else {
+        return Err(SideEnd::of(End::Refused(Refusal::Memory)));
+    };
+    let job = Job {
+        generation,
+        connection,
+    };
+    if port.begin(rt, job) {
+        Ok(())
+    } else {
+        Err(SideEnd::of(End::GateShut))
     }
 }
 
-/// Says that no connection can be taken, if it wasn't said since the last one that was.
-fn tell_untaken<L: Ledger, E: Write + Drop, R: Wait>(
+/// Serves a link that has come up, until it ends. The answer is how its read side ended.
+fn run_link<L: Ledger, E: Write + Drop, R: Wait + Clock>(
     rt: &R,
     shared: &Shared<L, E>,
     port: &Port<L>,
-    error: &io::Error,
-    was_told: bool,
-) {
-    if was_told {
-        return;
-    }
-    if let Ok(text) = format!(in shared.alloc; "no connection can be taken: {error}") {
-        tell(rt, shared.alloc, &shared.errors, port.bsc, text);
+    desk: &mut Desk<L>,
+    connection: &Connection,
+    generation: u64,
+) -> SideEnd {
+    match begin(rt, shared, port, desk, connection, generation) {
+        Ok(()) => read_link(rt, shared, port, desk, connection, generation),
+        Err(end) => end,
     }
 }
 
-/// Serves a link that has come up.
+/// Serves a link that has come up, until both its sides have ended and its loss is submitted.
 fn serve_link<L: Ledger, E: Write + Drop, R: Wait + Clock>(
     rt: &R,
     shared: &Shared<L, E>,
     port: &Port<L>,
     desk: &mut Desk<L>,
+    connection: &Connection,
     generation: u64,
-    stream: TcpStream,
 ) {
-    let _ = stream.set_nodelay(true);
-    match handles(&stream, generation) {
-        Ok((kept, job)) => {
-            if port.begin(rt, kept, job) {
-                read_link(rt, shared, port, desk, generation, stream);
-                return;
-            }
-        }
-        Err(error) => tell_unserved(rt, shared, port, generation, &error),
+    port.name_link(rt, generation);
+    if let Ok(text) = format!(in shared.alloc; "link {generation} is up") {
+        shared.tell(rt, port, &connection.peer, text);
     }
-    let _ = stream.shutdown(Shutdown::Both);
-    end_link(rt, shared, port, desk, generation);
+    let read = run_link(rt, shared, port, desk, connection, generation);
+    let ended = port.end_read(rt);
+    port.end_pace(rt);
+    submit_loss(rt, shared, port, desk, generation);
+    tell_end(rt, shared, port, connection, generation, read, ended);
 }
 
 /// Brings up the link of a connection, and serves it.
-fn take_stream<L: Ledger, E: Write + Drop, R: Wait + Clock>(
+fn take_connection<L: Ledger, E: Write + Drop, R: Wait + Clock>(
     rt: &R,
     shared: &Shared<L, E>,
     port: &Port<L>,
     desk: &mut Desk<L>,
-    stream: TcpStream,
+    connection: &Connection,
 ) {
     let result = shared.office.submit(rt, desk, Event::LinkUp(port.bsc));
     shared.submitted(rt);
     match result {
         Ok(()) => {
             if let Some(generation) = generation_of(desk) {
-                if let Ok(text) = format!(in shared.alloc; "link {generation} is up") {
-                    tell(rt, shared.alloc, &shared.errors, port.bsc, text);
-                }
-                serve_link(rt, shared, port, desk, generation, stream);
+                serve_link(rt, shared, port, desk, connection, generation);
             }
         }
         Err(refusal) => {
             if let Ok(text) = format!(in shared.alloc; "link refused: {refusal}") {
-                tell(rt, shared.alloc, &shared.errors, port.bsc, text);
+                shared.tell(rt, port, &connection.peer, text);
             }
         }
     }
+    connection.shut();
+    port.finish(rt);
 }
 
-/// Takes connections to the port, one after another, until it is closing.
+/// Waits until the connection that waits may get the link: 100 get it at once, then one a second. One that is closed doesn't count, so
+/// whoever isn't let in holds nobody back. `false` where the port is closing.
+fn wait_turn<L: Ledger, E: Write + Drop, R: Wait + Clock>(
+    rt: &R,
+    shared: &Shared<L, E>,
+    port: &Port<L>,
+) -> bool {
+    for _ in rt.forever() {
+        if port.is_closing(rt) {
+            return false;
+        }
+        if port.take_connection(rt, now_of(rt)) {
+            return true;
+        }
+        if port.is_first_connection(rt) {
+            tell(rt, shared.alloc, &shared.errors, port.bsc, HELD);
+        }
+        thread::sleep(rt, Duration::from_millis(PAUSE));
+    }
+    false
+}
+
+/// Serves the connections to the port that get the link, one after another, until it is closing.
 pub fn read_links<L: Ledger, E: Write + Drop, R: Wait + Clock>(
     rt: &R,
     shared: &Shared<L, E>,
@@ -203,23 +238,13 @@ pub fn read_links<L: Ledger, E: Write + Drop, R: Wait + Clock>(
     let Some(mut desk) = port.read_desk.lock(rt).take() else {
         return;
     };
-    let mut was_told = false;
     for _ in rt.forever() {
-        let accepted = port.listener.accept();
-        if port.is_closing(rt) {
+        if !port.wait_connection(rt) || !wait_turn(rt, shared, port) {
             break;
         }
-        match accepted {
-            Ok((stream, _)) => {
-                was_told = false;
-                take_stream(rt, shared, port, &mut desk, stream);
-                let _ = shared.office.release(rt, &mut desk);
-            }
-            Err(error) => {
-                tell_untaken(rt, shared, port, &error, was_told);
-                was_told = true;
-                thread::sleep(rt, Duration::from_millis(PAUSE));
-            }
+        if let Some(connection) = port.next_connection(rt) {
+            take_connection(rt, shared, port, &mut desk, &connection);
+            let _ = shared.office.release(rt, &mut desk);
         }
     }
     *port.read_desk.lock(rt) = Some(desk);

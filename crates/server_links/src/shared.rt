@@ -1,13 +1,19 @@
 //! What the threads of a server share.
 
-use crate::bucket::Bucket;
-use crate::errors::Errors;
-use crate::fold_pace::FoldPace;
-use crate::port::Port;
+use crate::options::LinkOptions;
+use centre_events::refusal::Refusal;
+use journal_keeper::Kept;
+use link_rules::FoldPace;
 use office::office::Office;
+use server_errors::{Clearance, Errors, tell_link};
+use server_ports::Port;
 use std::alloc::Global;
-use std::sync::Mutex;
+use std::fmt::Display;
+use std::io::Write;
+use std::net::SocketAddr;
 use std::sync::ledger::Ledger;
+use std::sync::{Condvar, Mutex, Wait};
+use std::time::{Clock, Duration};
 
 /// The office, the ports, and where it is said what happens to them.
 #[derive(Drop)]
@@ -16,10 +22,83 @@ pub struct Shared<L: Ledger, E: Drop> {
     pub office: Office<L>,
     pub ports: Vec<Port<L>>,
     pub errors: Errors<E>,
-    /// How many orders may go out to all BSCs together.
-    pub orders: Mutex<Bucket>,
+    /// By which rules links go on.
+    pub options: LinkOptions,
     /// When the journal is folded. Who holds it folds it, so one thread does at a time.
     pub folds: Mutex<FoldPace>,
+    /// How far the journal is kept in a file, where it is. Then the thread that keeps it folds it, and nobody else.
+    pub kept: Option<Kept<Result<u64, Refusal>>>,
     /// Whether a simulated BSC connects to each port.
     pub with_simulator: bool,
+    /// Whether the server ends.
+    pub closing: Mutex<bool>,
+    pub closed: Condvar,
+}
+
+impl<L: Ledger, E: Write + Drop> Shared<L, E> {
+    /// Has a line of a link said.
+    pub(crate) fn tell<R: Wait + Clock, D: Display + Drop>(
+        &self,
+        rt: &R,
+        port: &Port<L>,
+        peer: &SocketAddr,
+        what: D,
+    ) {
+        tell_link(rt, self.alloc, &self.errors, port.bsc, peer, what);
+    }
+}
+
+impl<L: Ledger, E: Drop> Shared<L, E> {
+    /// Waits until all entries that there are now are kept in the file. The answer is whether they are: `true` where no file is kept,
+    /// `false` where the file has failed.
+    pub fn wait_kept<R: Wait>(&self, rt: &R) -> bool {
+        match &self.kept {
+            Some(kept) => kept.wait_kept(rt, self.office.position(rt)),
+            None => true,
+        }
+    }
+
+    /// Whether the file of the journal has failed.
+    pub fn has_failed<R: Wait>(&self, rt: &R) -> bool {
+        match &self.kept {
+            Some(kept) => kept.has_failed(rt),
+            None => false,
+        }
+    }
+
+    /// Has the thread end that keeps the journal, once all entries are kept.
+    pub fn end_keeping<R: Wait>(&self, rt: &R) {
+        if let Some(kept) = &self.kept {
+            kept.end(rt);
+            self.office.interrupt(rt);
+        }
+    }
+
+    /// The server ends: who waits for that goes on.
+    pub(crate) fn close<R: Wait>(&self, rt: &R) {
+        *self.closing.lock(rt) = true;
+        self.closed.notify_all();
+    }
+
+    /// Waits so long, or until the server ends. The answer is whether it does.
+    pub(crate) fn is_closed_within<R: Wait + Clock>(&self, rt: &R, time: Duration) -> bool {
+        let (closing, _) = self
+            .closed
+            .wait_timeout_while(rt, self.closing.lock(rt), time, |closing| !*closing);
+        *closing
+    }
+}
+
+/// The time, in milliseconds of a clock that goes on; 0 where it can't be read.
+pub(crate) fn now_of<R: Clock>(rt: &R) -> u64 {
+    match rt.monotonic() {
+        Ok(now) => u64::try_from(now.as_millis()).unwrap_or(u64::MAX),
+        Err(_) => 0,
+    }
+}
+
+impl<L: Ledger, E: Drop> Clearance for Shared<L, E> {
+    fn may_tell<R: Wait>(&self, rt: &R) -> bool {
+        self.wait_kept(rt)
+    }
 }

@@ -1,9 +1,9 @@
 //! The thread of a port that is its simulated BSC.
 
-use crate::port::Port;
 use crate::shared::Shared;
 use bsc_sim::{Bsc, Choices};
 use framing::{FromRead, FromWrite};
+use server_ports::Port;
 use std::alloc::Global;
 use std::net::{Net, TcpListener, TcpStream};
 use std::sync::Wait;

@@ -1,44 +1,45 @@
 //! The thread of a port that writes to its links.
 
-use crate::port::{Job, Port};
-use crate::rate::RateGate;
+use crate::gate::LinkGate;
 use crate::shared::Shared;
 use framing::FromWrite;
-use link_worker::{End, write_side};
+use link_worker::write_side;
 use office::desk::Desk;
+use server_ports::{Job, Outgoing, Port, SideEnd};
 use std::io::Write;
-use std::net::Shutdown;
 use std::sync::Wait;
 use std::sync::ledger::Ledger;
 use std::time::Clock;
 
-/// Writes the orders of one link. Once it ends, the connection is shut, so that the other side ends too.
+/// Writes the orders of one link, until it ends.
 fn write_link<L: Ledger, E: Write + Drop, R: Wait + Clock>(
     rt: &R,
     shared: &Shared<L, E>,
     port: &Port<L>,
     desk: &mut Desk<L>,
-    job: Job,
-) -> End {
-    let Job { generation, stream } = job;
-    let gate = RateGate {
-        clock: rt,
+    job: &Job,
+) -> SideEnd {
+    let gate = LinkGate {
+        rt,
         shared,
         port,
+        peer: job.connection.peer,
     };
-    let mut sink = FromWrite::new(stream);
+    let mut sink = FromWrite::new(Outgoing::new(&job.connection.stream));
     let end = write_side(
         rt,
         shared.alloc,
         &shared.office,
         desk,
         port.bsc,
-        generation,
+        job.generation,
         &mut sink,
         &gate,
     );
-    let _ = sink.into_inner().shutdown(Shutdown::Both);
-    end
+    SideEnd {
+        end,
+        broken: sink.into_inner().broken(),
+    }
 }
 
 /// Writes the orders of each link of the port, one link after another, until the port is closing.
@@ -53,9 +54,10 @@ pub fn write_links<L: Ledger, E: Write + Drop, R: Wait + Clock>(
     for _ in rt.forever() {
         match port.next_job(rt) {
             Some(job) => {
-                let end = write_link(rt, shared, port, &mut desk, job);
-                port.end_write(rt, end);
+                let end = write_link(rt, shared, port, &mut desk, &job);
                 let _ = shared.office.release(rt, &mut desk);
+                drop(job);
+                port.end_write(rt, end);
             }
             None => break,
         }

@@ -1,12 +1,21 @@
 //! The operator of a server: lines are read, and each is answered before the next is read.
 //!
-//! Begin with `operator`; the edits that lines ask for are in `edits`, and how lines come in in `terminal`. What is promised of the
-//! office stands in `office`, and what a line and its answer are in `console_text`.
+//! Begin with `operator`; the edits that lines ask for are in `edits`, the events in `submitting`, how lines come in is in `terminal`,
+//! and what is said of BSCs whose link is down in `downs`. What is promised of the office stands in `office`, what a line is in `server_lines`, and what its
+//! answer is in `console_text`.
 #![tactic(auto)]
 
+mod downs;
 mod edits;
+mod identified;
+mod identifiers;
 mod operator;
+mod operator_desk;
+mod sequel;
+mod server;
+mod submitting;
 mod terminal;
 
-pub use operator::{Operator, Server, operate};
+pub use operator::{Operator, operate};
+pub use server::Server;
 pub use terminal::Terminal;

@@ -7,7 +7,7 @@ use areas::Selector;
 use cell_register::BscId;
 use centre_events::event::Event;
 use coverage_plan::Edit;
-use link_worker::{Gate, Step};
+use link_worker::{Gate, Passage, Step};
 use office::desk::Desk;
 use office::office::Office;
 use std::alloc::Global;
@@ -125,7 +125,7 @@ pub(crate) struct ShutAt {
 }
 
 impl Gate for ShutAt {
-    fn pass<R: Wait>(&self, _rt: &R, _b: BscId, step: Step) -> bool {
-        step != self.step
+    fn pass<R: Wait>(&self, _rt: &R, _b: BscId, passage: Passage<'_>) -> bool {
+        passage.step() != self.step
     }
 }

@@ -9,6 +9,8 @@ mod checks;
 #[cfg(test)]
 mod folding_tests;
 #[cfg(test)]
+mod following_tests;
+#[cfg(test)]
 mod given_events;
 #[cfg(test)]
 mod given_link;
@@ -17,7 +19,11 @@ mod office_tests;
 #[cfg(test)]
 mod orders_in_turn_tests;
 #[cfg(test)]
+mod passage_tests;
+#[cfg(test)]
 mod read_side_tests;
+#[cfg(test)]
+mod sending_tests;
 #[cfg(test)]
 mod two_links_tests;
 #[cfg(test)]

@@ -11,7 +11,7 @@ use centre_events::event::Event;
 use coverage_plan::Edit;
 use framing::faulty::FailsAfter;
 use framing::{FromRead, FromWrite};
-use link_worker::{End, Gate, OpenGate, Step, read_side, write_side};
+use link_worker::{End, Gate, OpenGate, Passage, read_side, write_side};
 use office::desk::Desk;
 use office::office::Office;
 use office::question::Question;
@@ -86,7 +86,7 @@ impl<'o, L: Ledger> ServesSecond<'o, L> {
 }
 
 impl<'o, L: Ledger> Gate for ServesSecond<'o, L> {
-    fn pass<R: Wait>(&self, rt: &R, b: BscId, _step: Step) -> bool {
+    fn pass<R: Wait>(&self, rt: &R, b: BscId, _passage: Passage<'_>) -> bool {
         b == self.first && self.serves(rt)
     }
 }

@@ -1,5 +1,5 @@
-//! Tests of the libraries of octets and of texts, of the register, the areas, the book and the serial numbers, and of
-//! the simulated BSC: what their contracts don't say.
+//! Tests of the libraries of octets and of texts, of the register, the areas, the book and the serial numbers, of the
+//! rules of links, and of the simulated BSC: what their contracts don't say.
 //!
 //! A test demands an answer by `expect` and not by `?`, and lets a value of a large enum go by `drop`. Either is a call to
 //! the prover; an early return, or the end of such a value's block, is a case for each value that may be dropped there.
@@ -13,6 +13,10 @@ mod book_tests;
 mod element_tests;
 #[cfg(test)]
 mod frame_tests;
+#[cfg(test)]
+mod journal_file_tests;
+#[cfg(test)]
+mod link_rule_tests;
 #[cfg(test)]
 mod message_tests;
 #[cfg(test)]

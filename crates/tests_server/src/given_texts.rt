@@ -57,6 +57,77 @@ pub(crate) enum Wanted {
     Bounds(&'static str, &'static str),
     /// Any of so many octets at least, and at most.
     Length(usize, usize),
+    /// One that has the first text, and not the second.
+    HasNot(&'static str, &'static str),
+}
+
+/// Whether the part stands in the text.
+fn has(text: &[u8], part: &[u8]) -> bool {
+    for index in 0..text.len() {
+        if text[index..].starts_with(part) {
+            return true;
+        }
+    }
+    false
+}
+
+/// How the time at the beginning of a line is written: a digit for each 0.
+const TIME: &[u8] = b"0000-00-00T00:00:00Z ";
+
+/// Whether the line begins with a time.
+pub(crate) fn has_time(line: &[u8]) -> bool {
+    let mut octets = line.iter();
+    for form in TIME {
+        match octets.next() {
+            Some(octet) if *form == b'0' && octet.is_ascii_digit() => {}
+            Some(octet) if octet == form => {}
+            _ => return false,
+        }
+    }
+    true
+}
+
+/// The line without the time at its beginning.
+fn without_time(line: &[u8]) -> &[u8] {
+    if has_time(line) {
+        line.get(TIME.len()..).unwrap_or(line)
+    } else {
+        line
+    }
+}
+
+/// Adds the line without its time, and without an address in parentheses behind the number of a BSC. What is listened on isn't
+/// added.
+fn add_plain(rt: &impl Abort, plain: &mut Vec<u8>, line: &[u8]) {
+    let line = without_time(line);
+    if line.starts_with(b"cbc: listening: ") {
+        return;
+    }
+    let is_bsc = line.starts_with(b"cbc: BSC ");
+    let mut is_address = false;
+    for octet in line {
+        match *octet {
+            b'(' if is_bsc => {
+                is_address = true;
+                drop(plain.pop());
+            }
+            b')' if is_address => is_address = false,
+            other if !is_address => plain.push(other).expect(rt, "memory"),
+            _ => {}
+        }
+    }
+    plain.push(b'\n').expect(rt, "memory");
+}
+
+/// The lines that a server said, without their times, without what it listens on, and without the addresses of BSCs.
+pub(crate) fn plain(rt: &impl Abort, alloc: Global, said: &[u8]) -> Vec<u8> {
+    let mut plain = Vec::new(alloc);
+    for line in said.split(|octet| *octet == b'\n') {
+        if !line.is_empty() {
+            add_plain(rt, &mut plain, line);
+        }
+    }
+    plain
 }
 
 impl Wanted {
@@ -67,6 +138,9 @@ impl Wanted {
                 text.starts_with(begin.as_bytes()) && text.ends_with(end.as_bytes())
             }
             Wanted::Length(least, most) => *least <= text.len() && text.len() <= *most,
+            Wanted::HasNot(part, other) => {
+                has(text, part.as_bytes()) && !has(text, other.as_bytes())
+            }
         }
     }
 }

@@ -5,16 +5,10 @@
 #![tactic(auto)]
 
 #[cfg(test)]
-mod allowance_tests;
-#[cfg(test)]
 mod checks;
 #[cfg(test)]
 mod command_line_tests;
 #[cfg(test)]
-mod given_server;
-#[cfg(test)]
 mod given_texts;
 #[cfg(test)]
 mod replay_tests;
-#[cfg(test)]
-mod server_tests;

@@ -1,4 +1,4 @@
-use Rattle.std.proofs.Common.{rules, ◌≡◌, ◌≤◌, ◌+◌, length, arith}
+use Rattle.std.proofs.Common.{rules, ◌≡◌, length, arith}
 use Rattle.office.proofs.DeskLemmas.{desk_count}
 use Rattle.office.proofs.desk.Desk.len.Goals as goal
 

@@ -1,0 +1,10 @@
+pub mod Crash
+pub mod File
+pub mod First
+pub mod FirstFault
+pub mod Lines
+pub mod Loading
+pub mod Loads
+pub mod PutFaults
+pub mod Reading
+pub mod Writing

@@ -1,0 +1,142 @@
+//! Reading a journal's file when it is opened.
+
+ghost use Rattle.std.specs.Prelude.{◌≡◌, ◌+◌, ◌^◌, ◌<◌, ◌≤◌, ℕ, List, ◌++◌, false, Option, length, IfOk, IfErr, OnOk};
+ghost use Rattle.std.specs.Io.KnownBytes.{IsAtEnd};
+ghost use Rattle.journal_file.specs.Loads.{Loads, BreaksOff};
+ghost use Rattle.journal_file.specs.Reading.{PassesOne, StopsAt, Passing, Breaking, ReadsOn, Finds, FindsNone};
+
+use crate::first_line::{check_first, is_torn_header};
+use crate::load_fault::LoadFault;
+use crate::loaded::Loaded;
+use crate::loading::{LONGEST_LINE, Loading};
+use crate::take_line::{NotTaken, TakeLine};
+use framing::{MOST_READS, Source};
+use std::alloc::Global;
+
+/// How many octets are read at once, at most.
+const PIECE: usize = 65_536;
+
+/// Takes a line that has ended; `number` is its number.
+fn take_one<T: TakeLine>(
+    plmn: [u8; 3],
+    number: u64,
+    line: &[u8],
+    taker: &mut T,
+) -> Result<(), LoadFault>
+    ensures ok { OnOk result (PassesOne plmn number line.now (T.taken taker.old) (T.taken taker.new)) }
+    ensures err { IfErr result (StopsAt plmn number line.now (T.taken taker.old) (T.taken taker.new)) }
+{
+    if number <= 1 {
+        return check_first(plmn, line);
+    }
+    if line.len() > LONGEST_LINE {
+        return Err(LoadFault::LongLine(number));
+    }
+    match taker.take_line(line) {
+        Ok(()) => Ok(()),
+        Err(NotTaken::BadLine) => Err(LoadFault::BadLine(number)),
+        Err(NotTaken::Memory) => Err(LoadFault::Memory),
+    }
+}
+
+/// Takes the lines that end in the piece.
+fn take_piece<T: TakeLine>(
+    plmn: [u8; 3],
+    loading: &mut Loading,
+    piece: &[u8],
+    taker: &mut T,
+) -> Result<(), LoadFault>
+    requires { loading.old.octets + length piece.now < 2 ^ 64 }
+    ensures ok { OnOk result ((octets : List ℕ) (before : Option (List (List ℕ))) → Passing plmn octets loading.old before (T.taken taker.old) → Passing plmn (octets ++ piece.now) loading.new before (T.taken taker.new)) }
+    ensures err { IfErr result (λ fault. (octets : List ℕ) (before : Option (List (List ℕ))) → Passing plmn octets loading.old before (T.taken taker.old) → Breaking plmn (octets ++ piece.now) before (T.taken taker.new) fault) }
+    ensures count { OnOk result (loading.new.octets ≡ loading.old.octets + length piece.now) }
+{
+    let mut rest = piece;
+    while let Some((line, behind)) = loading.take(rest)? {
+        take_one(plmn, loading.ended(), line.as_slice(), taker)?;
+        rest = behind;
+    }
+    Ok(())
+}
+
+/// What was found, at the end of the file.
+fn found(plmn: [u8; 3], loading: &Loading) -> Result<Loaded, LoadFault>
+    ensures ok { IfOk result (Finds plmn loading.now) }
+    ensures err { IfErr result (FindsNone plmn loading.now) }
+{
+    if loading.ended() == 0
+        && (loading.held().len() > LONGEST_LINE || !is_torn_header(plmn, loading.held()))
+    {
+        return Err(LoadFault::NotJournal);
+    }
+    Ok(Loaded {
+        lines: loading.ended(),
+        whole: loading.whole(),
+        torn: loading.begun(),
+    })
+}
+
+/// Reads once into the piece, and takes the lines that end. The answer is whether more may come.
+fn turn<S: Source, T: TakeLine>(
+    plmn: [u8; 3],
+    loading: &mut Loading,
+    source: &mut S,
+    piece: &mut [u8],
+    taker: &mut T,
+) -> Result<bool, LoadFault>
+    requires room { loading.old.octets + length piece.old < 2 ^ 64 }
+    requires some { 0 < length piece.old }
+    ensures ok { OnOk result ((given : Option (List ℕ)) (before : Option (List (List ℕ))) → ReadsOn plmn given (S.remaining source.old) loading.old before (T.taken taker.old) → ReadsOn plmn given (S.remaining source.new) loading.new before (T.taken taker.new)) }
+    ensures end { IfOk result (λ more. more ≡ false → IsAtEnd (S.remaining source.new)) }
+    ensures err { IfErr result (λ fault. (given : Option (List ℕ)) (before : Option (List (List ℕ))) → ReadsOn plmn given (S.remaining source.old) loading.old before (T.taken taker.old) → BreaksOff plmn given (S.remaining source.new) before (T.taken taker.new) fault) }
+    ensures count { OnOk result (loading.new.octets ≤ loading.old.octets + length piece.old) }
+{
+    match source.read(piece) {
+        Ok(count) => {
+            take_piece(plmn, loading, &piece[..count], taker)?;
+            Ok(count > 0)
+        }
+        Err(_) => Err(LoadFault::ReadFault),
+    }
+}
+
+/// Reads to the end, with room for so many octets at once.
+fn load_all<S: Source, T: TakeLine>(
+    plmn: [u8; 3],
+    loading: &mut Loading,
+    source: &mut S,
+    piece: &mut [u8],
+    taker: &mut T,
+) -> Result<(), LoadFault>
+    requires fresh { loading.old.octets ≡ 0 }
+    requires size { length piece.old ≡ 65536 }
+    ensures ok { OnOk result ((given : Option (List ℕ)) (before : Option (List (List ℕ))) → ReadsOn plmn given (S.remaining source.old) loading.old before (T.taken taker.old) → ReadsOn plmn given (S.remaining source.new) loading.new before (T.taken taker.new)) }
+    ensures end { OnOk result (IsAtEnd (S.remaining source.new)) }
+    ensures err { IfErr result (λ fault. (given : Option (List ℕ)) (before : Option (List (List ℕ))) → ReadsOn plmn given (S.remaining source.old) loading.old before (T.taken taker.old) → BreaksOff plmn given (S.remaining source.new) before (T.taken taker.new) fault) }
+{
+    for _turn in 0..MOST_READS {
+        if !turn(plmn, loading, source, piece, taker)? {
+            return Ok(());
+        }
+    }
+    Err(LoadFault::ReadFault)
+}
+
+/// Reads what the source gives as the journal of the network `plmn`, and has each line but the first taken, one after another.
+///
+/// A file in which no line ends holds no journal yet: it is empty, or holds what a torn write left of the first line. The lines
+/// are the same in whatever pieces the source gives the octets.
+pub fn load<S: Source, T: TakeLine>(
+    alloc: Global,
+    plmn: [u8; 3],
+    source: &mut S,
+    taker: &mut T,
+) -> Result<Loaded, LoadFault>
+    ensures ok { IfOk result (Loads plmn (S.remaining source.old) (S.remaining source.new) (T.taken taker.old) (T.taken taker.new)) }
+    ensures err { IfErr result (BreaksOff plmn (S.remaining source.old) (S.remaining source.new) (T.taken taker.old) (T.taken taker.new)) }
+{
+    let mut loading = Loading::new(alloc);
+    let mut piece = vec![in alloc; 0; PIECE]?;
+    load_all(plmn, &mut loading, source, &mut piece, taker)?;
+    found(plmn, &loading)
+}

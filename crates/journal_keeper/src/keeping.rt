@@ -1,0 +1,110 @@
+//! What the thread does that keeps a journal.
+
+use crate::followed::Followed;
+use crate::keep_fault::KeepFault;
+use crate::kept::Kept;
+use crate::pace::Pace;
+use journal_file::{JournalFile, Writing};
+use std::sync::Wait;
+
+/// What a fold is answered: how many entries it folded, or why it was refused.
+type FoldAnswer<J> = Result<u64, <J as Followed>::Refusal>;
+
+/// A fold that was made: up to which number folds were asked for, where they were, and the answer.
+type Made<J> = Option<(u64, FoldAnswer<J>)>;
+
+/// What the thread has of its own.
+#[derive(Drop)]
+pub struct Keeper<F: Drop> {
+    pub writing: Writing,
+    pub pace: Pace,
+    pub file: F,
+}
+
+/// Folds the journal, and puts what it hands out.
+fn fold<J: Followed, R: Wait>(
+    rt: &R,
+    journal: &J,
+    writing: &mut Writing,
+    pace: &mut Pace,
+) -> Result<FoldAnswer<J>, KeepFault> {
+    let answer = journal.put_fold(rt, writing)?;
+    match &answer {
+        Ok(_) => pace.folded(writing.taken()),
+        Err(_) => pace.refused(writing.taken()),
+    }
+    Ok(answer)
+}
+
+/// Puts the next entries, and folds where that is asked for or due.
+fn put<J: Followed, R: Wait>(
+    rt: &R,
+    journal: &J,
+    wanted: Option<u64>,
+    writing: &mut Writing,
+    pace: &mut Pace,
+) -> Result<Made<J>, KeepFault> {
+    journal.put_entries(rt, writing)?;
+    match wanted {
+        Some(number) => Ok(Some((number, fold(rt, journal, writing, pace)?))),
+        None => {
+            if pace.is_due(writing.taken()) {
+                let _ = fold(rt, journal, writing, pace)?;
+            }
+            Ok(None)
+        }
+    }
+}
+
+/// Puts what there is, writes and syncs it, and then tells those who wait.
+fn turn<J: Followed, F: JournalFile + Drop, R: Wait>(
+    rt: &R,
+    journal: &J,
+    kept: &Kept<FoldAnswer<J>>,
+    wanted: Option<u64>,
+    keeper: &mut Keeper<F>,
+) -> Result<(), KeepFault> {
+    let made = put(rt, journal, wanted, &mut keeper.writing, &mut keeper.pace)?;
+    if keeper.writing.keep(&mut keeper.file).is_err() {
+        return Err(KeepFault::File);
+    }
+    kept.publish(rt, keeper.writing.synced(), made);
+    Ok(())
+}
+
+/// Keeps entries as they come, until it is to end and all are kept.
+fn keep_on<J: Followed, F: JournalFile + Drop, R: Wait>(
+    rt: &R,
+    journal: &J,
+    kept: &Kept<FoldAnswer<J>>,
+    keeper: &mut Keeper<F>,
+) -> Result<(), KeepFault> {
+    let mut interrupts = 0;
+    kept.publish(rt, keeper.writing.synced(), None);
+    for _ in rt.forever() {
+        let seen = journal.wait_entries(rt, keeper.writing.taken(), interrupts);
+        interrupts = seen.interrupts;
+        let (wanted, is_ending) = kept.wanted(rt);
+        turn(rt, journal, kept, wanted, keeper)?;
+        if is_ending && keeper.writing.taken() >= seen.position {
+            break;
+        }
+    }
+    Ok(())
+}
+
+/// Keeps the entries of a journal in the file as they come, and folds the journal where that is asked for or due. Nobody else folds
+/// it. What comes in during one sync goes with the next. It ends once it is told to end and all entries are kept, or at a fault:
+/// then nothing is kept any more, and all who wait go on.
+///
+/// The thread is to be interrupted after `Kept::ask_fold` and `Kept::end`.
+pub fn keep_journal<J: Followed, F: JournalFile + Drop, R: Wait>(
+    rt: &R,
+    journal: &J,
+    kept: &Kept<FoldAnswer<J>>,
+    keeper: &mut Keeper<F>,
+) -> Result<(), KeepFault> {
+    let result = keep_on(rt, journal, kept, keeper);
+    kept.close(rt, result.is_err());
+    result
+}

@@ -1,0 +1,81 @@
+//! What those who wait for a journal to be kept share with the thread that keeps it.
+
+use crate::kept_state::KeptState;
+use std::sync::{Condvar, Mutex, Wait};
+
+/// How far a journal is kept in its file, for those who wait for that. `A` is what a fold is answered.
+#[derive(Drop)]
+pub struct Kept<A: Copy + Drop> {
+    state: Mutex<KeptState<A>>,
+    changed: Condvar,
+}
+
+impl<A: Copy + Drop> Kept<A> {
+    /// All entries up to the place are kept.
+    pub fn new(place: u64) -> Kept<A> {
+        Kept {
+            state: Mutex::new(KeptState::new(place)),
+            changed: Condvar::new(),
+        }
+    }
+
+    /// Waits until all entries up to the place are kept. The answer is whether they are: `false` where the file has failed, or the
+    /// thread that keeps them has ended.
+    pub fn wait_kept<R: Wait>(&self, rt: &R, place: u64) -> bool {
+        let state = self
+            .changed
+            .wait_while(rt, self.state.lock(rt), |state| !state.is_over(place));
+        state.is_kept(place)
+    }
+
+    /// Whether the file has failed.
+    pub fn has_failed<R: Wait>(&self, rt: &R) -> bool {
+        self.state.lock(rt).has_failed()
+    }
+
+    /// Has the thread end once all is kept. It is to be interrupted then.
+    pub fn end<R: Wait>(&self, rt: &R) {
+        self.state.lock(rt).end();
+    }
+
+    /// Asks for a fold. The answer is its number. The thread is to be interrupted then.
+    pub fn ask_fold<R: Wait>(&self, rt: &R) -> u64 {
+        self.state.lock(rt).ask()
+    }
+
+    /// Waits until the fold of that number is made and kept. `None` where it never will be: the file has failed.
+    pub fn wait_fold<R: Wait>(&self, rt: &R, number: u64) -> Option<A> {
+        let state = self
+            .changed
+            .wait_while(rt, self.state.lock(rt), |state| !state.is_made(number));
+        state.answer()
+    }
+
+    /// What is wanted of the thread: the number of the last fold that is asked for and not made, and whether it is to end.
+    pub(crate) fn wanted<R: Wait>(&self, rt: &R) -> (Option<u64>, bool) {
+        let state = self.state.lock(rt);
+        (state.wanted(), state.is_ending())
+    }
+
+    /// All entries up to the place are kept, and folds up to a number are made.
+    pub(crate) fn publish<R: Wait>(&self, rt: &R, place: u64, made: Option<(u64, A)>) {
+        let mut state = self.state.lock(rt);
+        state.keep(place);
+        if let Some((number, answer)) = made {
+            state.make(number, answer);
+        }
+        drop(state);
+        self.changed.notify_all();
+    }
+
+    /// The thread ends, since the file has failed or all is kept.
+    pub(crate) fn close<R: Wait>(&self, rt: &R, failed: bool) {
+        let mut state = self.state.lock(rt);
+        if failed {
+            state.fail();
+        }
+        state.ended();
+        drop(state);
+        self.changed.notify_all();
+    }
+}

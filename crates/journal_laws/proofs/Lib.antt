@@ -1,0 +1,5 @@
+pub mod PastLemmas
+pub mod KeptLemmas
+pub mod StepLemmas
+pub mod FileLemmas
+pub mod ReplayedLemmas

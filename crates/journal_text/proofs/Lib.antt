@@ -1,0 +1,11 @@
+pub mod TextLemmas
+pub mod WordLemmas
+pub mod NumberLemmas
+pub mod HexLemmas
+pub mod NameLemmas
+pub mod LineLemmas
+pub mod ContentLemmas
+pub mod EditLemmas
+pub mod EventLemmas
+pub mod ReportLemmas
+pub mod ReadingLemmas

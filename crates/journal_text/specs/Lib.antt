@@ -1,0 +1,3 @@
+pub mod Texts
+pub mod Sayable
+pub mod Reading

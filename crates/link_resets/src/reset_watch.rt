@@ -1,0 +1,67 @@
+//! The answer to a RESET, among what a BSC sends.
+
+ghost use Rattle.std.specs.Prelude.{◌≡◌, [], IfOk};
+ghost use Rattle.link_resets.specs.Resets.{first_answer};
+
+use crate::reset_answer::ResetAnswer;
+use framing::{FrameFault, Framer};
+use std::alloc::Global;
+use std::marker::Model;
+
+/// Looks for the answer to a RESET among what a BSC sends.
+#[derive(Drop)]
+pub struct ResetWatch {
+    framer: Framer,
+}
+
+impl Model for ResetWatch {
+    ghost use Rattle.std.specs.Prelude.{◌≡◌, ℕ, List, []};
+
+    // the octets of a frame that has begun
+    ghost Value = { List ℕ };
+
+    ghost view = { λ s. s.framer.rest };
+
+    ghost invariant = { λ s. s.framer.frames ≡ [] };
+}
+
+/// The first answer in the frames that the framer has, which are taken out.
+#[tactic(auto, using(crate::proofs::AnswerLemmas::next_answer, crate::proofs::AnswerLemmas::no_answer))]
+fn first_answer(framer: &mut Framer) -> Option<ResetAnswer>
+    ensures answer { result ≡ first_answer framer.old.frames }
+    ensures none { framer.new.frames ≡ [] }
+    ensures rest { framer.new.rest ≡ framer.old.rest }
+{
+    let mut answer = None;
+    while let Some(frame) = framer.next() {
+        answer = answer.or(ResetAnswer::of_type(frame.kind));
+    }
+    answer
+}
+
+impl ResetWatch {
+    ghost use Rattle.std.specs.Prelude.{◌≡◌, [], IfOk};
+    ghost use Rattle.link_resets.specs.Resets.{Sees};
+
+    /// Nothing was sent yet.
+    pub fn new(alloc: Global) -> ResetWatch
+        ensures { result ≡ [] }
+    {
+        ResetWatch {
+            framer: Framer::new(alloc),
+        }
+    }
+
+    /// Takes the next octets that the BSC sent. The answer is the first one in the frames that end in them. `Err` where a frame is
+    /// too long, or memory runs out; nothing is found after that, or in those octets.
+    pub fn see(&mut self, octets: &[u8]) -> Result<Option<ResetAnswer>, FrameFault>
+        ensures seen { IfOk result (λ answer. Sees self.old octets.now answer self.new) }
+    {
+        let fed = self.framer.feed(octets);
+        let answer = first_answer(&mut self.framer);
+        match fed {
+            Ok(()) => Ok(answer),
+            Err(fault) => Err(fault),
+        }
+    }
+}

@@ -1,0 +1,5 @@
+pub mod BucketLemmas
+pub mod PartLemmas
+pub mod NumberLemmas
+pub mod PeerLemmas
+pub mod LineLemmas

@@ -1,0 +1,9 @@
+pub mod Buckets
+pub mod FoldPaces
+pub mod Paces
+pub mod PeerLists
+pub mod RateLimits
+pub mod Repeats
+pub mod Replies
+pub mod Verdicts
+pub mod Words

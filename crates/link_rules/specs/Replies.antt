@@ -1,0 +1,36 @@
+-- When a reply is overdue.
+use Rattle.std.specs.Prelude.{ℕ, ◌+◌, ◌-◌, ◌*◌, ◌/◌, Bool, ◌&&◌, nat_eq, nat_le, nat_lt, not, Some, None, if◌then◌else◌}
+use Rattle.link_rules.specs.declared.overdue.Overdue.{Overdue}
+use Rattle.link_rules.specs.declared.overdue.Overdue.TheVariants.{No, Tell, Cut}
+use Rattle.link_rules.specs.declared.reply_pace.ReplyPace.{ReplyPace}
+
+-- nothing is out, and nothing was
+abbrev pub never_sent : ℕ → ℕ → ReplyPace
+never_sent reply cut = record { reply_seconds = reply; cut_seconds = cut; sent = None; told = 0 }
+
+-- how often it was due to be said after so many milliseconds: after so many seconds, and every 600 seconds after that
+abbrev pub times_due : ℕ → ℕ → ℕ
+times_due reply passed = if nat_eq reply 0 then 0 else (if nat_lt passed (reply * 1000) then 0 else (passed - reply * 1000) / 600000 + 1)
+
+-- the link is to be cut after so many milliseconds
+abbrev pub is_cut_after : ℕ → ℕ → Bool
+is_cut_after cut passed = not (nat_eq cut 0) && nat_le (cut * 1000) passed
+
+-- it is due to be said once more than when that was last looked at
+abbrev pub is_told : ReplyPace → ℕ → Bool
+is_told p passed = nat_lt p.told (times_due p.reply_seconds passed)
+
+-- what is to be done after so many milliseconds
+abbrev pub overdue_after : ReplyPace → ℕ → Overdue
+overdue_after p passed = if is_cut_after p.cut_seconds passed then Cut (passed / 1000) else (if is_told p passed then Tell (passed / 1000) else No)
+
+-- what is to be done at that time
+abbrev pub overdue_at : ℕ → ReplyPace → Overdue
+overdue_at now p = elim p.sent [ None ↦ No | Some sent ↦ overdue_after p (now - sent) ]
+
+-- and what was told then
+abbrev pub told_after : ReplyPace → ℕ → ℕ
+told_after p passed = if is_cut_after p.cut_seconds passed then p.told else (if is_told p passed then times_due p.reply_seconds passed else p.told)
+
+abbrev pub looked : ℕ → ReplyPace → ReplyPace
+looked now p = record p { told = elim p.sent [ None ↦ p.told | Some sent ↦ told_after p (now - sent) ] }

@@ -1,0 +1,33 @@
+//! The rules that a server's links keep: how fast reports and connections are let in, when an order is said to have no reply,
+//! which order is out again and again, which connection gets the link of a BSC, and when the journal is folded.
+//!
+//! Values only: nothing here waits, reads a clock or knows a socket. A time is given in milliseconds of a clock that goes on.
+//! Begin with `rate_limit` and `deciding`. The words of their contracts stand in `specs/`.
+#![tactic(auto)]
+
+mod bucket;
+mod deciding;
+mod fold_pace;
+mod overdue;
+mod pace;
+mod peer;
+mod peers;
+mod peers_fault;
+mod rate_limit;
+mod reading;
+mod repeat;
+mod repeats;
+mod reply_pace;
+mod verdict;
+mod words;
+
+pub use deciding::decide;
+pub use fold_pace::FoldPace;
+pub use overdue::Overdue;
+pub use peers::Peers;
+pub use peers_fault::PeersFault;
+pub use rate_limit::RateLimit;
+pub use repeat::Repeat;
+pub use repeats::Repeats;
+pub use reply_pace::ReplyPace;
+pub use verdict::Verdict;

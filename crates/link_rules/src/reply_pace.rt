@@ -1,0 +1,94 @@
+//! When a reply is overdue.
+
+ghost use Rattle.std.specs.Prelude.{◌≡◌};
+ghost use Rattle.link_rules.specs.Replies.{is_cut_after, looked, never_sent, overdue_at, times_due};
+
+use crate::overdue::Overdue;
+
+/// Milliseconds in a second.
+const SECOND: u64 = 1_000;
+
+/// After how many milliseconds it is said again that there is no reply: ten minutes.
+const AGAIN: u64 = 600_000;
+
+/// For how long an order or a query has been out without a reply.
+#[derive(Clone, Copy, Debug)]
+pub struct ReplyPace {
+    /// After how many seconds it is said, and after how many the link is cut; 0 for never.
+    reply_seconds: u32,
+    cut_seconds: u32,
+    /// Since when something is out, in milliseconds of the clock.
+    sent: Option<u64>,
+    /// How often it was due to be said when that was last looked at.
+    told: u64,
+}
+
+impl ReplyPace {
+    /// Nothing is out. After `reply_seconds` it is said that there is no reply, and every ten minutes after that; after
+    /// `cut_seconds` the link is cut. 0 is never.
+    pub fn new(reply_seconds: u32, cut_seconds: u32) -> ReplyPace
+        ensures { result ≡ never_sent reply_seconds cut_seconds }
+    {
+        ReplyPace {
+            reply_seconds,
+            cut_seconds,
+            sent: None,
+            told: 0,
+        }
+    }
+
+    /// An order or a query goes out. `now_ms` is in milliseconds of the clock.
+    pub fn sent(&mut self, now_ms: u64)
+        ensures { self.new ≡ record self.old { sent = Some now_ms; told = 0 } }
+    {
+        self.sent = Some(now_ms);
+        self.told = 0;
+    }
+
+    /// What was out is answered, or its link has ended: nothing is out.
+    pub fn answered(&mut self)
+        ensures { self.new ≡ record self.old { sent = None } }
+    {
+        self.sent = None;
+    }
+
+    /// How often it has been due to be said after so many milliseconds.
+    fn times_due(&self, passed: u64) -> u64
+        ensures { result ≡ times_due self.now.reply_seconds passed }
+    {
+        let first = u64::from(self.reply_seconds) * SECOND;
+        if self.reply_seconds == 0 || passed < first {
+            0
+        } else {
+            1 + (passed - first) / AGAIN
+        }
+    }
+
+    /// Whether the link is to be cut after so many milliseconds.
+    fn is_cut(&self, passed: u64) -> bool
+        ensures { result ≡ is_cut_after self.now.cut_seconds passed }
+    {
+        self.cut_seconds != 0 && u64::from(self.cut_seconds) * SECOND <= passed
+    }
+
+    /// Whether the reply is overdue. `Cut` goes before `Tell`; `Tell` comes once each time that it is due.
+    pub fn look(&mut self, now_ms: u64) -> Overdue
+        ensures answer { result ≡ overdue_at now_ms self.old }
+        ensures told { self.new ≡ looked now_ms self.old }
+    {
+        let Some(sent) = self.sent else {
+            return Overdue::No;
+        };
+        let passed = now_ms.saturating_sub(sent);
+        let seconds = passed / SECOND;
+        if self.is_cut(passed) {
+            return Overdue::Cut { seconds };
+        }
+        let due = self.times_due(passed);
+        if due <= self.told {
+            return Overdue::No;
+        }
+        self.told = due;
+        Overdue::Tell { seconds }
+    }
+}

@@ -1,0 +1,3 @@
+pub mod ErrorLines
+pub mod Queues
+pub mod UtcTexts

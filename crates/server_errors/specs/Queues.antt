@@ -1,0 +1,6 @@
+-- How many lines were left out.
+use Rattle.std.specs.Prelude.{ℕ, ◌+◌, nat_lt, if◌then◌else◌}
+
+-- one more; it stays at 2 ^ 64 - 1
+abbrev pub one_more : ℕ → ℕ
+one_more n = if nat_lt n 18446744073709551615 then n + 1 else n

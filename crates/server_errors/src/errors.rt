@@ -1,0 +1,102 @@
+//! The lines are said by a thread of its own.
+
+use crate::clearance::Clearance;
+use crate::lines::line_text;
+use crate::queue::Queue;
+use crate::utc::time_of;
+use std::alloc::Global;
+use std::io::Write;
+use std::sync::{Condvar, Mutex, Wait};
+use std::time::Clock;
+
+/// What is to be said on standard error. A thread of its own says it: so where nobody reads standard error, only that thread waits,
+/// and no link or port.
+#[derive(Drop)]
+pub struct Errors<E: Drop> {
+    queue: Mutex<Queue>,
+    changed: Condvar,
+    writer: Mutex<E>,
+}
+
+impl<E: Write + Drop> Errors<E> {
+    pub fn new(alloc: Global, writer: E) -> Errors<E> {
+        Errors {
+            queue: Mutex::new(Queue::new(alloc)),
+            changed: Condvar::new(),
+            writer: Mutex::new(writer),
+        }
+    }
+
+    /// Has the line said by the thread that says lines.
+    fn push<R: Wait>(&self, rt: &R, line: String) {
+        self.queue.lock(rt).push(line);
+        self.changed.notify_all();
+    }
+
+    /// Has a line said in which that is said, with the time at which this is called.
+    pub(crate) fn tell<R: Wait + Clock>(&self, rt: &R, alloc: Global, what: &str) {
+        let time = time_of(rt);
+        if let Ok(line) = line_text(alloc, time.as_ref().map(|time| time.as_str()), what) {
+            self.push(rt, line);
+        }
+    }
+
+    /// Has that thread end once all lines are said.
+    pub fn close<R: Wait>(&self, rt: &R) {
+        self.queue.lock(rt).close();
+        self.changed.notify_all();
+    }
+
+    /// Waits for lines; `None` once none more is to be said.
+    fn next<R: Wait>(&self, rt: &R) -> Option<(Vec<String>, u64)> {
+        let mut queue = self.changed.wait_while(rt, self.queue.lock(rt), |queue| {
+            queue.is_empty() && !queue.is_closing()
+        });
+        if queue.is_empty() {
+            None
+        } else {
+            Some(queue.take())
+        }
+    }
+
+    /// Says the text at once. What can't be said is left out: there is nowhere to say that.
+    pub fn say<R: Wait>(&self, rt: &R, text: &[u8]) {
+        let mut writer = self.writer.lock(rt);
+        let _ = writer.write_all(text);
+    }
+
+    fn say_left_out<R: Wait + Clock>(&self, rt: &R, alloc: Global, left_out: u64) {
+        if left_out == 0 {
+            return;
+        }
+        let time = time_of(rt);
+        let Ok(what) = format!(in alloc; "{left_out} lines were left out") else {
+            return;
+        };
+        if let Ok(line) = line_text(
+            alloc,
+            time.as_ref().map(|time| time.as_str()),
+            what.as_str(),
+        ) {
+            self.say(rt, line.as_bytes());
+        }
+    }
+
+    /// Says lines as they come, each once it may be told, until it is closed and all are said. Those that may never be told are left
+    /// out.
+    pub fn say_lines<C: Clearance, R: Wait + Clock>(&self, rt: &R, alloc: Global, clearance: &C) {
+        for _ in rt.forever() {
+            match self.next(rt) {
+                Some((lines, left_out)) => {
+                    if clearance.may_tell(rt) {
+                        for line in lines.as_slice() {
+                            self.say(rt, line.as_bytes());
+                        }
+                        self.say_left_out(rt, alloc, left_out);
+                    }
+                }
+                None => break,
+            }
+        }
+    }
+}

@@ -1,0 +1,40 @@
+//! The text of a line.
+
+ghost use Rattle.std.specs.Prelude.{◌≡◌, IfOk, option_map, string_bytes};
+ghost use Rattle.std.specs.Net.Text.{socket_text};
+ghost use Rattle.server_errors.specs.ErrorLines.{bsc_text, line_text, link_text};
+
+use cell_register::BscId;
+use std::alloc::{AllocError, Global};
+use std::net::SocketAddr;
+
+/// The line in which that is said, with the time where it is known.
+pub fn line_text(alloc: Global, time: Option<&str>, what: &str) -> Result<String, AllocError>
+    ensures { IfOk result (λ text. string_bytes text ≡ line_text (option_map (λ t. t.now) time.entry) what.now) }
+{
+    match time {
+        Some(time) => format!(in alloc; "{time} cbc: {what}\n"),
+        None => format!(in alloc; "cbc: {what}\n"),
+    }
+}
+
+/// What is said of a BSC.
+pub fn bsc_text(alloc: Global, b: BscId, what: &str) -> Result<String, AllocError>
+    ensures { IfOk result (λ text. string_bytes text ≡ bsc_text b what.now) }
+{
+    let number = b.number();
+    format!(in alloc; "BSC {number}: {what}")
+}
+
+/// What is said of a link of a BSC that came from that address.
+pub fn link_text(
+    alloc: Global,
+    b: BscId,
+    peer: &SocketAddr,
+    what: &str,
+) -> Result<String, AllocError>
+    ensures { IfOk result (λ text. string_bytes text ≡ link_text b (socket_text peer.now) what.now) }
+{
+    let number = b.number();
+    format!(in alloc; "BSC {number} ({peer}): {what}")
+}

@@ -1,0 +1,112 @@
+//! The lines that the operator of a server may write, by their words.
+
+ghost use Rattle.std.specs.Prelude.{◌≡◌, [], ◌∷◌, IfOk, option_map};
+ghost use Rattle.console_text.specs.Grammar.{line_of};
+ghost use Rattle.server_lines.specs.ServerGrammar.{own_line_of, server_line_of, wish, wish_after};
+ghost use Rattle.server_lines.specs.declared.server_line.ServerLine.TheVariants.{Centre};
+
+use crate::server_line::ServerLine;
+use common::{Cell, Octets};
+use console_text::grammar;
+use console_text::grammar::{read_bsc, read_cell, read_warning};
+use console_text::words::is_word;
+use std::alloc::{AllocError, Global};
+
+/// The line of the words; `None` where there is no such line, or a number isn't one or is out of its range.
+pub fn read_server_line(alloc: Global, words: &[Octets]) -> Result<Option<ServerLine>, AllocError>
+    ensures { IfOk result (λ line. line ≡ server_line_of words.now) }
+{
+    match read_own(words) {
+        Some(line) => Ok(Some(line)),
+        None => read_centre(alloc, words),
+    }
+}
+
+/// A line of the console.
+fn read_centre(alloc: Global, words: &[Octets]) -> Result<Option<ServerLine>, AllocError>
+    ensures { IfOk result (λ line. line ≡ option_map Centre (line_of words.now)) }
+{
+    match grammar::read_line(alloc, words)? {
+        Some(line) => Ok(Some(ServerLine::Centre(line))),
+        None => Ok(None),
+    }
+}
+
+/// A line that only a server has.
+fn read_own(words: &[Octets]) -> Option<ServerLine>
+    ensures { result ≡ own_line_of words.now }
+{
+    match words {
+        [verb] => read_one(verb.as_slice()),
+        [verb, x] => read_two(verb.as_slice(), x.as_slice()),
+        [verb, x, y] => read_three(verb.as_slice(), x.as_slice(), y.as_slice()),
+        [verb, x, y, z, t] => read_five(
+            verb.as_slice(),
+            x.as_slice(),
+            y.as_slice(),
+            z.as_slice(),
+            t.as_slice(),
+        ),
+        _ => None,
+    }
+}
+
+/// `quit`
+fn read_one(verb: &[u8]) -> Option<ServerLine>
+    ensures { result ≡ own_line_of (verb.now ∷ []) }
+{
+    if is_word(verb, b"quit") {
+        Some(ServerLine::Quit)
+    } else {
+        None
+    }
+}
+
+/// `cut B`
+fn read_two(verb: &[u8], x: &[u8]) -> Option<ServerLine>
+    ensures { result ≡ own_line_of (verb.now ∷ x.now ∷ []) }
+{
+    if is_word(verb, b"cut") {
+        Some(ServerLine::CutLink(read_bsc(x)?))
+    } else {
+        None
+    }
+}
+
+/// B and W of `wish`.
+fn read_wish(bsc: &[u8], warning: &[u8], after: Option<Cell>) -> Option<ServerLine>
+    ensures { result ≡ wish bsc.now warning.now after }
+{
+    let bsc = read_bsc(bsc)?;
+    Some(ServerLine::Wish(bsc, read_warning(warning)?, after))
+}
+
+/// `wish B W`
+fn read_three(verb: &[u8], x: &[u8], y: &[u8]) -> Option<ServerLine>
+    ensures { result ≡ own_line_of (verb.now ∷ x.now ∷ y.now ∷ []) }
+{
+    if is_word(verb, b"wish") {
+        read_wish(x, y, None)
+    } else {
+        None
+    }
+}
+
+/// `wish B W L C`
+fn read_wish_after(bsc: &[u8], warning: &[u8], lac: &[u8], ci: &[u8]) -> Option<ServerLine>
+    ensures { result ≡ wish_after bsc.now warning.now lac.now ci.now }
+{
+    let after = read_cell(lac, ci)?;
+    read_wish(bsc, warning, Some(after))
+}
+
+/// `wish B W L C`
+fn read_five(verb: &[u8], x: &[u8], y: &[u8], z: &[u8], t: &[u8]) -> Option<ServerLine>
+    ensures { result ≡ own_line_of (verb.now ∷ x.now ∷ y.now ∷ z.now ∷ t.now ∷ []) }
+{
+    if is_word(verb, b"wish") {
+        read_wish_after(x, y, z, t)
+    } else {
+        None
+    }
+}

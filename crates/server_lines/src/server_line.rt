@@ -1,0 +1,19 @@
+//! What the operator of a server may ask for in a line.
+
+use cell_register::BscId;
+use common::Cell;
+use console_text::line::Line;
+use warning_book::WarningId;
+
+/// A line whose words are known and whose numbers are in their ranges.
+#[derive(Drop)]
+pub enum ServerLine {
+    /// `quit`
+    Quit,
+    /// `cut B`
+    CutLink(BscId),
+    /// `wish B W` and `wish B W L C`: after that cell
+    Wish(BscId, WarningId, Option<Cell>),
+    /// A line of the console.
+    Centre(Line),
+}

@@ -1,0 +1,98 @@
+//! The gate of a link: how fast reports and orders pass, and where the journal is folded.
+
+use crate::orders::order_words;
+use crate::shared::{Shared, now_of};
+use cell_register::BscId;
+use link_rules::Repeat;
+use link_worker::{Gate, Passage};
+use server_ports::Port;
+use std::io::Write;
+use std::net::SocketAddr;
+use std::sync::Wait;
+use std::sync::ledger::Ledger;
+use std::thread;
+use std::time::{Clock, Duration};
+
+/// How long a link waits before it is looked again whether it may go on, in milliseconds.
+const PAUSE: u64 = 50;
+
+const HELD: &str = "its reports are held back: there were too many";
+
+/// What both sides of a port's link pass. Reports pass no faster than the port's may come in, and an order that goes out again and
+/// again no faster than it may go out. Both wait where no lock is held, so other links and the operator go on. At each passage an event
+/// may have been entered, so the journal is folded where that is due. An order waits until its
+/// entry is kept. Nothing passes once the link has ended or its port is closing.
+#[derive(Drop)]
+pub(crate) struct LinkGate<'a, L: Ledger, E: Drop, C> {
+    pub(crate) rt: &'a C,
+    pub(crate) shared: &'a Shared<L, E>,
+    pub(crate) port: &'a Port<L>,
+    /// Where the link came from.
+    pub(crate) peer: SocketAddr,
+}
+
+impl<'a, L: Ledger, E: Write + Drop, C: Wait + Clock> LinkGate<'a, L, E, C> {
+    /// Says that an order goes out the third time.
+    fn tell_repeat(&self, frame: &[u8]) {
+        let alloc = self.shared.alloc;
+        let Ok(order) = order_words(alloc, frame) else {
+            return;
+        };
+        if let Ok(text) = format!(in alloc;
+            "the BSC doesn't settle: {order} goes out the third time, and no table changed: look at --plmn"
+        ) {
+            self.shared.tell(self.rt, self.port, &self.peer, text);
+        }
+    }
+
+    /// Whether the order or the query goes out whose frame this is. It waits as long as it has to.
+    fn let_out(&self, frame: &[u8]) -> bool {
+        for _ in self.rt.forever() {
+            if !self.port.is_live(self.rt) {
+                return false;
+            }
+            match self.port.send(self.rt, frame, now_of(self.rt)) {
+                Repeat::Go => return true,
+                Repeat::Tell => {
+                    self.tell_repeat(frame);
+                    return true;
+                }
+                Repeat::Wait { until_ms: _ } => {}
+            }
+            thread::sleep(self.rt, Duration::from_millis(PAUSE));
+        }
+        false
+    }
+
+    /// Whether the link goes on after a report that answered nothing in flight. It waits as long as it has to.
+    fn let_in(&self) -> bool {
+        self.port.table_changed(self.rt);
+        for _ in self.rt.forever() {
+            if !self.port.is_live(self.rt) {
+                return false;
+            }
+            if self.port.take_report(self.rt, now_of(self.rt)) {
+                return true;
+            }
+            if self.port.is_first_report(self.rt) {
+                self.shared.tell(self.rt, self.port, &self.peer, HELD);
+            }
+            thread::sleep(self.rt, Duration::from_millis(PAUSE));
+        }
+        false
+    }
+}
+
+impl<'a, L: Ledger, E: Write + Drop, C: Wait + Clock> Gate for LinkGate<'a, L, E, C> {
+    fn pass<R: Wait>(&self, _rt: &R, _b: BscId, passage: Passage<'_>) -> bool {
+        self.shared.submitted(self.rt);
+        match passage {
+            Passage::Order(frame) => self.shared.wait_kept(self.rt) && self.let_out(frame),
+            Passage::Reply => {
+                self.port.answered(self.rt);
+                self.port.is_live(self.rt)
+            }
+            Passage::Report => self.let_in(),
+        }
+    }
+}

@@ -1,0 +1,33 @@
+//! The journal is kept in a file, by a thread of its own.
+
+use crate::closing::close_all;
+use crate::shared::Shared;
+use journal_file::DiskFile;
+use journal_keeper::{Keeper, keep_journal};
+use journal_office::OfficeJournal;
+use std::io::Write;
+use std::net::{Net, TcpListener, TcpStream};
+use std::sync::Wait;
+use std::sync::ledger::Ledger;
+use std::time::Clock;
+
+/// Keeps the journal in the file until all is kept once it is to end. Where the file fails, this is said at once, and all links end.
+pub fn keep<
+    L: Ledger,
+    E: Write + Drop,
+    R: Wait + Clock + Net<Stream = TcpStream, Listener = TcpListener>,
+>(rt: &R, shared: &Shared<L, E>, mut keeper: Keeper<DiskFile>) {
+    let Some(kept) = &shared.kept else {
+        return;
+    };
+    let journal = OfficeJournal {
+        alloc: shared.alloc,
+        office: &shared.office,
+    };
+    if keep_journal(rt, &journal, kept, &mut keeper).is_err() {
+        shared
+            .errors
+            .say(rt, b"cbc: journal fault: nothing more is answered\n");
+        close_all(rt, shared);
+    }
+}

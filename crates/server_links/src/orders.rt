@@ -1,0 +1,48 @@
+//! An order in words.
+
+use cbsp_ie::{CellIds, Form};
+use cbsp_messages::{Message, read};
+use std::alloc::{AllocError, Global};
+
+/// How many cells there are, in words.
+fn cells_words(alloc: Global, cells: &CellIds) -> Result<String, AllocError> {
+    if cells.form() == Form::All {
+        return String::from_str(alloc, "all cells");
+    }
+    let count = cells.len();
+    if count == 1 {
+        String::from_str(alloc, "one cell")
+    } else {
+        format!(in alloc; "{count} cells")
+    }
+}
+
+/// An order of this kind, about this message in these cells.
+fn words_of(
+    alloc: Global,
+    kind: &str,
+    message_id: u16,
+    serial: u16,
+    cells: &CellIds,
+) -> Result<String, AllocError> {
+    let cells = cells_words(alloc, cells)?;
+    format!(in alloc; "a {kind} of message {message_id}, serial number {serial:04X}, in {cells}")
+}
+
+/// The order in words whose frame this is: its kind, the Message Identifier, the serial number that it names first, and in how
+/// many cells.
+pub fn order_words(alloc: Global, frame: &[u8]) -> Result<String, AllocError> {
+    let (Some(kind), Some(body)) = (frame.first(), frame.get(4..)) else {
+        return String::from_str(alloc, "an order");
+    };
+    match read(alloc, *kind, body) {
+        Ok(Message::WriteReplace(m)) => {
+            words_of(alloc, "WRITE-REPLACE", m.message_id, m.serial, &m.cells)
+        }
+        Ok(Message::WriteEmergency(m)) => {
+            words_of(alloc, "WRITE-REPLACE", m.message_id, m.serial, &m.cells)
+        }
+        Ok(Message::Kill(m)) => words_of(alloc, "KILL", m.message_id, m.serial, &m.cells),
+        _ => String::from_str(alloc, "an order"),
+    }
+}

@@ -1,0 +1,67 @@
+//! The thread that looks for orders without a reply.
+
+use crate::shared::{Shared, now_of};
+use link_rules::Overdue;
+use server_ports::{Port, Shut};
+use std::io::Write;
+use std::net::SocketAddr;
+use std::sync::Wait;
+use std::sync::ledger::Ledger;
+use std::time::{Clock, Duration};
+
+/// How often it is looked, in milliseconds.
+const PERIOD: u64 = 1_000;
+
+/// Sees to an order or a query that has no reply.
+fn look_at_reply<L: Ledger, E: Write + Drop, R: Wait + Clock>(
+    rt: &R,
+    shared: &Shared<L, E>,
+    port: &Port<L>,
+    peer: &SocketAddr,
+) {
+    match port.look(rt, now_of(rt)) {
+        Overdue::No => {}
+        Overdue::Tell { seconds } => {
+            if let Ok(text) = format!(in shared.alloc;
+                "no reply to an order or a query for {seconds} s"
+            ) {
+                shared.tell(rt, port, peer, text);
+            }
+        }
+        Overdue::Cut { seconds } => {
+            port.shut(rt, Shut::Unanswered { seconds });
+        }
+    }
+}
+
+/// Says that a RESET has no answer.
+fn look_at_reset<L: Ledger, E: Write + Drop, R: Wait + Clock>(
+    rt: &R,
+    shared: &Shared<L, E>,
+    port: &Port<L>,
+    peer: &SocketAddr,
+) {
+    if let Overdue::Tell { seconds } = port.look_reset(rt, now_of(rt)) {
+        if let Ok(text) = format!(in shared.alloc;
+            "no answer to the RESET for {seconds} s: old messages may still be on air"
+        ) {
+            shared.tell(rt, port, peer, text);
+        }
+    }
+}
+
+/// Looks at all ports once a second until the server ends: an order, a query or a RESET that has no reply is said, and a link is cut
+/// where it has had none for too long.
+pub fn watch<L: Ledger, E: Write + Drop, R: Wait + Clock>(rt: &R, shared: &Shared<L, E>) {
+    for _ in rt.forever() {
+        if shared.is_closed_within(rt, Duration::from_millis(PERIOD)) {
+            return;
+        }
+        for port in shared.ports.as_slice() {
+            if let Some(peer) = port.peer(rt) {
+                look_at_reply(rt, shared, port, &peer);
+                look_at_reset(rt, shared, port, &peer);
+            }
+        }
+    }
+}

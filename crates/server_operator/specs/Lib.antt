@@ -1,0 +1,3 @@
+pub mod Downs
+pub mod Identifiers
+pub mod Sequels

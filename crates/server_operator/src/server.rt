@@ -1,0 +1,36 @@
+//! The server, as its operator knows it.
+
+use cell_register::BscId;
+use centre_events::refusal::Refusal;
+use std::sync::Wait;
+use std::time::Clock;
+use warning_book::WarningId;
+
+/// The server, as its operator knows it.
+pub trait Server {
+    /// The BSC was registered.
+    fn added<R: Wait + Clock>(&self, rt: &R, b: BscId);
+
+    /// A line was answered, for which an event may have been entered.
+    fn answered<R: Wait + Clock>(&self, rt: &R);
+
+    /// Waits until all entries that there are now are kept, where a file is kept. The answer is whether they are: `false` where the file
+    /// has failed. Nothing is answered then.
+    fn is_kept<R: Wait>(&self, rt: &R) -> bool;
+
+    /// Folds the journal. The answer is how many entries it had.
+    fn checkpoint<R: Wait>(&self, rt: &R) -> Result<u64, Refusal>;
+
+    /// The BSC's link of that generation was ended by the operator: its connection is shut, where it is still there. A link that
+    /// came up since stays.
+    fn cut<R: Wait>(&self, rt: &R, b: BscId, generation: u64);
+
+    /// How many BSCs may connect, from BSC 1 on.
+    fn links(&self) -> u16;
+
+    /// Whether the BSC may connect, and no link of its is up.
+    fn is_down<R: Wait>(&self, rt: &R, b: BscId) -> bool;
+
+    /// The warning was stopped or updated, while the BSC is down and may have an older message of it on air.
+    fn stays_on_air<R: Wait + Clock>(&self, rt: &R, warning: WarningId, b: BscId);
+}

@@ -1,0 +1,35 @@
+//! The ports of a server: one for each BSC, and what the threads of a port tell each other.
+//!
+//! Begin with `port`. `port_state` is what stands under its lock, `port_pace` how fast it goes on. Why a link ended is said by
+//! `link_end`, and found by `causes`. `outgoing` writes to a connection, and keeps why that
+//! failed.
+#![tactic(auto)]
+
+mod broken;
+mod causes;
+mod connection;
+mod ended;
+mod job;
+mod link_end;
+mod link_limits;
+mod outgoing;
+mod port;
+mod port_pace;
+mod port_state;
+mod shut;
+mod side_end;
+mod up_link;
+mod write_state;
+
+pub use broken::Broken;
+pub use causes::cause_of;
+pub use connection::Connection;
+pub use ended::Ended;
+pub use job::Job;
+pub use link_end::LinkEnd;
+pub use link_limits::LinkLimits;
+pub use outgoing::Outgoing;
+pub use port::Port;
+pub use port_pace::PortPace;
+pub use shut::Shut;
+pub use side_end::SideEnd;

@@ -1,0 +1,270 @@
+//! The port of one BSC.
+
+use crate::connection::Connection;
+use crate::ended::Ended;
+use crate::job::Job;
+use crate::port_pace::PortPace;
+use crate::port_state::PortState;
+use crate::shut::Shut;
+use crate::side_end::SideEnd;
+use cell_register::BscId;
+use link_rules::{Overdue, Repeat, Verdict};
+use office::desk::Desk;
+use std::net::{IpAddr, SocketAddr, TcpListener, TcpStream};
+use std::sync::ledger::Ledger;
+use std::sync::{Condvar, Mutex, Wait};
+
+/// A port: where its BSC connects, and the two desks of its links.
+///
+/// Times are in milliseconds of a clock that goes on. No lock is held while somebody waits for a time or a connection.
+#[derive(Drop)]
+pub struct Port<L: Ledger> {
+    pub bsc: BscId,
+    pub listener: TcpListener,
+    /// Where a connection to the port is made from this process.
+    pub address: SocketAddr,
+    pub read_desk: Mutex<Option<Desk<L>>>,
+    pub write_desk: Mutex<Option<Desk<L>>>,
+    pace: Mutex<PortPace>,
+    state: Mutex<PortState>,
+    changed: Condvar,
+}
+
+impl<L: Ledger> Port<L> {
+    pub fn new(bsc: BscId, listener: TcpListener, address: SocketAddr, pace: PortPace) -> Port<L> {
+        Port {
+            bsc,
+            listener,
+            address,
+            read_desk: Mutex::new(None),
+            write_desk: Mutex::new(None),
+            pace: Mutex::new(pace),
+            state: Mutex::new(PortState::new()),
+            changed: Condvar::new(),
+        }
+    }
+
+    pub fn is_closing<R: Wait>(&self, rt: &R) -> bool {
+        self.state.lock(rt).is_closing()
+    }
+
+    /// Whether a link is up that nothing has ended, so that its sides may go on.
+    pub fn is_live<R: Wait>(&self, rt: &R) -> bool {
+        self.state.lock(rt).is_live()
+    }
+
+    /// Whether a link is up.
+    pub fn is_up<R: Wait>(&self, rt: &R) -> bool {
+        self.generation(rt).is_some()
+    }
+
+    /// Where the link came from that is up, or is to come up.
+    pub fn peer<R: Wait>(&self, rt: &R) -> Option<SocketAddr> {
+        self.state.lock(rt).peer()
+    }
+
+    /// The generation of the link that is up.
+    pub fn generation<R: Wait>(&self, rt: &R) -> Option<u64> {
+        self.state.lock(rt).generation()
+    }
+
+    /// What would be done with a connection from that address. `is_named` is whether the list of peers names it; `None` where there
+    /// is no list.
+    pub fn verdict<R: Wait>(&self, rt: &R, from: IpAddr, is_named: Option<bool>) -> Verdict {
+        self.state.lock(rt).verdict(from, is_named)
+    }
+
+    /// Takes a connection as the next that gets the link, and ends the link that is up; or closes it. The answer is what was done.
+    /// Where the port is closing, it is closed.
+    pub fn offer<R: Wait>(
+        &self,
+        rt: &R,
+        connection: Connection,
+        is_named: Option<bool>,
+    ) -> Verdict {
+        let verdict = self.state.lock(rt).offer(connection, is_named);
+        self.changed.notify_all();
+        verdict
+    }
+
+    /// Waits until there is a connection that may get the link; `false` once the port is closing.
+    pub fn wait_connection<R: Wait>(&self, rt: &R) -> bool {
+        let state = self.changed.wait_while(rt, self.state.lock(rt), |state| {
+            !state.has_next() && !state.is_closing()
+        });
+        !state.is_closing()
+    }
+
+    /// The newest connection that may get the link, if there is one; its link begins then.
+    pub fn next_connection<R: Wait>(&self, rt: &R) -> Option<Connection> {
+        self.state.lock(rt).take_next()
+    }
+
+    /// The link has come up with this generation: nothing is out, and no order went out again.
+    pub fn name_link<R: Wait>(&self, rt: &R, generation: u64) {
+        self.state.lock(rt).name(generation);
+        self.pace.lock(rt).begin();
+    }
+
+    /// Has the write side of the link begin. `false` where something has ended the link.
+    pub fn begin<R: Wait>(&self, rt: &R, job: Job) -> bool {
+        let begun = self.state.lock(rt).begin_writing(job);
+        self.changed.notify_all();
+        begun
+    }
+
+    /// The read side has ended: the connection is shut, so that the write side ends too. The answer is what was known before.
+    pub fn end_read<R: Wait>(&self, rt: &R) -> Ended {
+        let ended = self.state.lock(rt).end_read();
+        self.changed.notify_all();
+        ended
+    }
+
+    /// Waits until the write side of the link has ended too, where it had begun, and lets the link go.
+    pub fn finish<R: Wait>(&self, rt: &R) {
+        let mut state = self
+            .changed
+            .wait_while(rt, self.state.lock(rt), |state| state.is_writing());
+        state.end_link();
+    }
+
+    /// Nothing is out any more, since the link has ended.
+    pub fn end_pace<R: Wait>(&self, rt: &R) {
+        self.pace.lock(rt).begin();
+    }
+
+    /// Waits for a link whose write side has to begin; `None` once the port is closing.
+    pub fn next_job<R: Wait>(&self, rt: &R) -> Option<Job> {
+        let mut state = self.changed.wait_while(rt, self.state.lock(rt), |state| {
+            !state.has_job() && !state.is_closing()
+        });
+        state.take_job()
+    }
+
+    /// The write side of the link has ended: the connection is shut, so that the read side ends too.
+    pub fn end_write<R: Wait>(&self, rt: &R, end: SideEnd) {
+        self.state.lock(rt).end_write(end);
+        self.changed.notify_all();
+    }
+
+    /// Ends the link that is up, and says why. `false` where there is none.
+    pub fn shut<R: Wait>(&self, rt: &R, shut: Shut) -> bool {
+        self.state.lock(rt).shut(shut)
+    }
+
+    /// Ends the link that is up, where it has this generation: the operator cut it. `false` where there is none.
+    pub fn cut<R: Wait>(&self, rt: &R, generation: u64) -> bool {
+        self.state.lock(rt).cut(generation)
+    }
+
+    /// A thread begins to take connections. `false` where none is to be taken.
+    pub fn begin_accepting<R: Wait>(&self, rt: &R) -> bool {
+        self.state.lock(rt).begin_accepting()
+    }
+
+    /// No thread takes connections any more.
+    pub fn end_accepting<R: Wait>(&self, rt: &R) {
+        self.state.lock(rt).end_accepting();
+    }
+
+    /// Whether a thread takes connections.
+    pub fn is_accepting<R: Wait>(&self, rt: &R) -> bool {
+        self.state.lock(rt).is_accepting()
+    }
+
+    /// Whether an order or a query may go out whose frame this is, or has to wait. Where it may, it is out from now on.
+    pub fn send<R: Wait>(&self, rt: &R, frame: &[u8], now: u64) -> Repeat {
+        self.pace.lock(rt).send(frame, now)
+    }
+
+    /// What was out is answered.
+    pub fn answered<R: Wait>(&self, rt: &R) {
+        self.pace.lock(rt).answered();
+    }
+
+    /// A report came by which tables may change.
+    pub fn table_changed<R: Wait>(&self, rt: &R) {
+        self.pace.lock(rt).changed();
+    }
+
+    /// A RESET is out from now on.
+    pub fn reset<R: Wait>(&self, rt: &R, now: u64) {
+        self.pace.lock(rt).reset(now);
+    }
+
+    /// The RESET is answered.
+    pub fn reset_done<R: Wait>(&self, rt: &R) {
+        self.pace.lock(rt).reset_done();
+    }
+
+    /// Whether the reply to what is out is overdue.
+    pub fn look<R: Wait>(&self, rt: &R, now: u64) -> Overdue {
+        self.pace.lock(rt).look(now)
+    }
+
+    /// The same, of a RESET.
+    pub fn look_reset<R: Wait>(&self, rt: &R, now: u64) -> Overdue {
+        self.pace.lock(rt).look_reset(now)
+    }
+
+    /// Whether a report may come in now, which is counted then.
+    pub fn take_report<R: Wait>(&self, rt: &R, now: u64) -> bool {
+        self.pace.lock(rt).reports().take(now)
+    }
+
+    /// Whether it is to be said that reports are held back.
+    pub fn is_first_report<R: Wait>(&self, rt: &R) -> bool {
+        self.pace.lock(rt).reports().is_first()
+    }
+
+    /// Whether a connection may get the link now, which is counted then.
+    pub fn take_connection<R: Wait>(&self, rt: &R, now: u64) -> bool {
+        self.pace.lock(rt).connections().take(now)
+    }
+
+    /// Whether it is to be said that connections are held back.
+    pub fn is_first_connection<R: Wait>(&self, rt: &R) -> bool {
+        self.pace.lock(rt).connections().is_first()
+    }
+
+    /// Whether it may be said now that a connection is closed, which is counted then.
+    pub fn take_closed<R: Wait>(&self, rt: &R, now: u64) -> bool {
+        self.pace.lock(rt).closed().take(now)
+    }
+
+    /// Whether it is to be said that more connections are closed than are said.
+    pub fn is_first_closed<R: Wait>(&self, rt: &R) -> bool {
+        self.pace.lock(rt).closed().is_first()
+    }
+
+    /// Has the simulated BSC connect.
+    pub fn simulate<R: Wait>(&self, rt: &R) {
+        self.state.lock(rt).simulate();
+        self.changed.notify_all();
+    }
+
+    /// Waits until the simulated BSC has to connect; `false` once the port is closing.
+    pub fn wait_simulated<R: Wait>(&self, rt: &R) -> bool {
+        let state = self.changed.wait_while(rt, self.state.lock(rt), |state| {
+            !state.is_simulated() && !state.is_closing()
+        });
+        !state.is_closing()
+    }
+
+    /// Keeps the simulated BSC's end of its connection, which `close` shuts from now on. `false` where the port is closing: then
+    /// nobody may take that connection.
+    pub fn keep_simulated<R: Wait>(&self, rt: &R, stream: TcpStream) -> bool {
+        self.state.lock(rt).keep_simulated(stream)
+    }
+
+    /// Lets the simulated BSC's end go.
+    pub fn end_simulated<R: Wait>(&self, rt: &R) {
+        self.state.lock(rt).end_simulated();
+    }
+
+    /// Takes no further connection, and shuts those that are there.
+    pub fn close<R: Wait>(&self, rt: &R) {
+        self.state.lock(rt).close();
+        self.changed.notify_all();
+    }
+}

@@ -1,0 +1,107 @@
+//! How fast the links of a port go on.
+
+use crate::link_limits::LinkLimits;
+use link_rules::{Overdue, RateLimit, Repeat, Repeats, ReplyPace};
+use std::alloc::Global;
+
+/// The first octet of a MESSAGE STATUS QUERY (3GPP TS 48.049, 8.2.3).
+const STATUS_QUERY: u8 = 0x0a;
+
+/// How fast the links of a port go on: what they send and what is sent to them.
+#[derive(Drop)]
+pub struct PortPace {
+    reports: RateLimit,
+    connections: RateLimit,
+    /// Connections that are closed at once, each of which is said.
+    closed: RateLimit,
+    /// Since when an order or a query is out.
+    replies: ReplyPace,
+    /// Since when a RESET is out.
+    resets: ReplyPace,
+    orders: Repeats,
+}
+
+impl PortPace {
+    /// That of a port to which nobody connected yet. What is out is said after `reply_seconds`, and after `cut_seconds` the link
+    /// is cut; 0 is never.
+    pub fn new(
+        alloc: Global,
+        limits: LinkLimits,
+        reply_seconds: u32,
+        cut_seconds: u32,
+    ) -> PortPace {
+        PortPace {
+            reports: limits.reports,
+            connections: limits.connections,
+            closed: RateLimit::for_connections(),
+            replies: ReplyPace::new(reply_seconds, cut_seconds),
+            resets: ReplyPace::new(reply_seconds, 0),
+            orders: Repeats::new(alloc),
+        }
+    }
+
+    /// An order or a query is to go out, whose frame this is. A query is never told or held: it comes of a wish.
+    pub(crate) fn send(&mut self, frame: &[u8], now: u64) -> Repeat {
+        let repeat = if frame.first() == Some(&STATUS_QUERY) {
+            Repeat::Go
+        } else {
+            self.orders.sent(frame, now)
+        };
+        if !matches!(repeat, Repeat::Wait { until_ms: _ }) {
+            self.replies.sent(now);
+        }
+        repeat
+    }
+
+    /// What was out is answered.
+    pub(crate) fn answered(&mut self) {
+        self.replies.answered();
+    }
+
+    /// A report came by which tables may change.
+    pub(crate) fn changed(&mut self) {
+        self.orders.changed();
+    }
+
+    /// A link came up, or ended: nothing is out.
+    pub(crate) fn begin(&mut self) {
+        self.replies.answered();
+        self.resets.answered();
+        self.orders.changed();
+    }
+
+    /// A RESET went out.
+    pub(crate) fn reset(&mut self, now: u64) {
+        self.resets.sent(now);
+    }
+
+    /// The RESET is answered.
+    pub(crate) fn reset_done(&mut self) {
+        self.resets.answered();
+    }
+
+    /// Whether the reply to what is out is overdue.
+    pub(crate) fn look(&mut self, now: u64) -> Overdue {
+        self.replies.look(now)
+    }
+
+    /// The same, of a RESET.
+    pub(crate) fn look_reset(&mut self, now: u64) -> Overdue {
+        self.resets.look(now)
+    }
+
+    /// How fast reports are let in.
+    pub(crate) fn reports(&mut self) -> &mut RateLimit {
+        &mut self.reports
+    }
+
+    /// How fast connections are let in.
+    pub(crate) fn connections(&mut self) -> &mut RateLimit {
+        &mut self.connections
+    }
+
+    /// How fast it is said of connections that they are closed.
+    pub(crate) fn closed(&mut self) -> &mut RateLimit {
+        &mut self.closed
+    }
+}

@@ -1,0 +1,197 @@
+//! What no clause says of the rules of links: that a whole BSC may restart without waiting, that a flood is held back, that a frame is
+//! kept where there is memory for it, and which texts are lists of peers.
+
+use crate::values::{bsc, same, yes};
+use link_rules::{
+    FoldPace, Overdue, Peers, PeersFault, RateLimit, Repeat, Repeats, ReplyPace, Verdict, decide,
+};
+use std::alloc::Global;
+use std::net::{IpAddr, Ipv4Addr};
+use std::process::Abort;
+
+/// How many of so many may come in at that time.
+fn let_in(limit: &mut RateLimit, now_ms: u64, most: u32) -> u32 {
+    for taken in 0..most {
+        if !limit.take(now_ms) {
+            return taken;
+        }
+    }
+    most
+}
+
+/// 65,536 cells that restart one by one, for both types, don't wait. A flood does: 20 reports a second.
+#[test]
+fn a_flood_of_reports_is_held_back(rt: HostRuntime) {
+    let mut limit = RateLimit::for_reports();
+    let cells = let_in(&mut limit, 5_000, 131_072);
+    yes(&rt, cells == 131_072, "a whole BSC");
+    let more = let_in(&mut limit, 5_000, 1_000_000);
+    yes(&rt, more == 8_928, "those that are left");
+    let later = let_in(&mut limit, 65_000, 1_000_000);
+    yes(&rt, later == 1_200, "those of a minute");
+}
+
+/// It is said once, and once more after all could come in again.
+#[test]
+fn a_link_is_said_to_be_held_back_once(rt: HostRuntime) {
+    let mut limit = RateLimit::for_connections();
+    let taken = let_in(&mut limit, 0, 1_000);
+    yes(&rt, taken == 100, "the connections at once");
+    yes(&rt, limit.is_first(), "it is said");
+    yes(&rt, !limit.take(999), "it waits");
+    yes(&rt, limit.take(1_000), "a second later");
+    yes(&rt, !limit.is_first(), "it is not said again");
+    yes(&rt, limit.take(200_000), "all may come in");
+    yes(&rt, limit.is_first(), "it is said again");
+}
+
+fn looks(rt: &impl Abort, pace: &mut ReplyPace, now_ms: u64, want: Overdue) {
+    same(rt, &pace.look(now_ms), &want, "what is overdue");
+}
+
+#[test]
+fn a_reply_is_overdue_after_its_time(rt: HostRuntime) {
+    let mut pace = ReplyPace::new(30, 0);
+    looks(&rt, &mut pace, 90_000, Overdue::No);
+    pace.sent(100_000);
+    looks(&rt, &mut pace, 129_999, Overdue::No);
+    looks(&rt, &mut pace, 130_000, Overdue::Tell { seconds: 30 });
+    looks(&rt, &mut pace, 729_999, Overdue::No);
+    looks(&rt, &mut pace, 730_500, Overdue::Tell { seconds: 630 });
+    pace.answered();
+    looks(&rt, &mut pace, 9_000_000, Overdue::No);
+}
+
+#[test]
+fn a_link_without_a_reply_is_cut(rt: HostRuntime) {
+    let mut pace = ReplyPace::new(30, 60);
+    pace.sent(0);
+    looks(&rt, &mut pace, 30_000, Overdue::Tell { seconds: 30 });
+    looks(&rt, &mut pace, 60_000, Overdue::Cut { seconds: 60 });
+    let mut never = ReplyPace::new(0, 0);
+    never.sent(0);
+    looks(&rt, &mut never, 9_000_000, Overdue::No);
+}
+
+fn goes(rt: &impl Abort, repeats: &mut Repeats, frame: &[u8], now_ms: u64, want: Repeat) {
+    same(rt, &repeats.sent(frame, now_ms), &want, "an order goes out");
+}
+
+/// The third time is said; the tenth waits a second.
+#[test]
+fn an_order_that_comes_back_is_told_and_waits(rt: HostRuntime) {
+    let mut repeats = Repeats::new(rt.alloc());
+    goes(&rt, &mut repeats, b"order", 100, Repeat::Go);
+    goes(&rt, &mut repeats, b"order", 101, Repeat::Go);
+    goes(&rt, &mut repeats, b"order", 102, Repeat::Tell);
+    for now_ms in 103..109 {
+        goes(&rt, &mut repeats, b"order", now_ms, Repeat::Go);
+    }
+    let wait = Repeat::Wait { until_ms: 1_108 };
+    goes(&rt, &mut repeats, b"order", 109, wait);
+    goes(&rt, &mut repeats, b"order", 1_107, wait);
+    goes(&rt, &mut repeats, b"order", 1_108, Repeat::Go);
+    let wait = Repeat::Wait { until_ms: 2_108 };
+    goes(&rt, &mut repeats, b"order", 1_109, wait);
+}
+
+/// Another order, or a table that changed, has the count begin anew.
+#[test]
+fn another_order_or_a_change_begins_anew(rt: HostRuntime) {
+    let mut repeats = Repeats::new(rt.alloc());
+    goes(&rt, &mut repeats, b"one", 0, Repeat::Go);
+    goes(&rt, &mut repeats, b"one", 0, Repeat::Go);
+    goes(&rt, &mut repeats, b"two", 0, Repeat::Go);
+    goes(&rt, &mut repeats, b"one", 0, Repeat::Go);
+    goes(&rt, &mut repeats, b"one", 0, Repeat::Go);
+    repeats.changed();
+    goes(&rt, &mut repeats, b"one", 0, Repeat::Go);
+    goes(&rt, &mut repeats, b"one", 0, Repeat::Go);
+    goes(&rt, &mut repeats, b"one", 0, Repeat::Tell);
+}
+
+/// The address 10.0.0.x.
+fn address(last: u8) -> IpAddr {
+    IpAddr::V4(Ipv4Addr::new(10, 0, 0, last))
+}
+
+#[test]
+fn a_connection_is_taken_or_closed(rt: HostRuntime) {
+    let rows = [
+        (None, None, Verdict::Take),
+        (Some(1), None, Verdict::TakePlace),
+        (Some(2), None, Verdict::CloseOther),
+        (None, Some(true), Verdict::Take),
+        (Some(2), Some(true), Verdict::TakePlace),
+        (None, Some(false), Verdict::CloseUnnamed),
+        (Some(1), Some(false), Verdict::CloseUnnamed),
+    ];
+    for (up, is_named, want) in &rows {
+        let verdict = decide(up.map(address), address(1), *is_named);
+        yes(&rt, verdict == *want, "what is done");
+    }
+}
+
+const LIST: &[u8] =
+    b"# number, addresses\n\n1 10.0.0.1 \t10.0.0.2\r\n  # more\n65535 2001:db8::1\n 1 10.0.0.3";
+
+fn list(rt: &impl Abort, alloc: Global, text: &[u8]) -> Peers {
+    Peers::read(alloc, text).expect(rt, "a list of peers")
+}
+
+fn is_named(rt: &impl Abort, peers: &Peers, number: u16, text: &[u8], want: bool) {
+    let from = IpAddr::parse_ascii(text).expect(rt, "an address");
+    let found = peers.is_named(bsc(rt, number), from);
+    yes(rt, found == want, "whether it is named");
+}
+
+#[test]
+fn peers_are_named_by_their_list(rt: HostRuntime) {
+    let peers = list(&rt, rt.alloc(), LIST);
+    is_named(&rt, &peers, 1, b"10.0.0.1", true);
+    is_named(&rt, &peers, 1, b"10.0.0.2", true);
+    is_named(&rt, &peers, 1, b"10.0.0.3", true);
+    is_named(&rt, &peers, 65_535, b"2001:0db8:0:0::1", true);
+    is_named(&rt, &peers, 1, b"2001:db8::1", false);
+    is_named(&rt, &peers, 65_535, b"10.0.0.1", false);
+    is_named(&rt, &peers, 2, b"10.0.0.1", false);
+    let none = list(&rt, rt.alloc(), b"");
+    is_named(&rt, &none, 1, b"10.0.0.1", false);
+}
+
+/// Texts, and the first line of each that can't be read.
+const FAULTS: [(&[u8], u64); 10] = [
+    (b"1", 1),
+    (b"1 10.0.0.1\n2\n3", 2),
+    (b"0 10.0.0.1", 1),
+    (b"65536 10.0.0.1", 1),
+    (b"+1 10.0.0.1", 1),
+    (b"one 10.0.0.1", 1),
+    (b"1 10.0.0.256", 1),
+    (b"# a\n\n1 10.0.0.1 host", 3),
+    (b"1 10.0.0.1 # a comment", 1),
+    (b"1,10.0.0.1\n", 1),
+];
+
+#[test]
+fn a_text_that_is_no_list_is_refused(rt: HostRuntime) {
+    for (text, line) in &FAULTS {
+        let fault = Peers::read(rt.alloc(), text).err();
+        yes(&rt, fault == Some(PeersFault::Line(*line)), "its line");
+    }
+}
+
+/// A fold is due with so many entries, and again after as many more where there is no memory for it.
+#[test]
+fn a_fold_is_due_with_its_entries(rt: HostRuntime) {
+    let mut pace = FoldPace::new(3, 100_000);
+    yes(&rt, !pace.count(), "one entry");
+    yes(&rt, !pace.count(), "two");
+    yes(&rt, pace.count(), "three");
+    yes(&rt, pace.is_due(3), "it is due");
+    yes(&rt, pace.put_off(), "it is said");
+    yes(&rt, !pace.is_due(1_002), "it is put off");
+    yes(&rt, pace.is_due(1_003), "it is due again");
+    pace.fold();
+    yes(&rt, !pace.is_due(2), "it was folded");
+}
