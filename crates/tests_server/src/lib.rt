@@ -9,20 +9,6 @@ mod checks;
 #[cfg(test)]
 mod command_line_tests;
 #[cfg(test)]
-mod given_links;
-#[cfg(test)]
-mod given_server;
-#[cfg(test)]
 mod given_texts;
 #[cfg(test)]
-mod keep_tests;
-#[cfg(test)]
-mod link_tests;
-#[cfg(test)]
-mod operator_tests;
-#[cfg(test)]
-mod peer;
-#[cfg(test)]
 mod replay_tests;
-#[cfg(test)]
-mod server_tests;
