@@ -4,15 +4,16 @@ ghost use Rattle.std.specs.Prelude.{◌≤◌};
 
 use crate::checks::{same, yes};
 use crate::given_texts::{Wanted, has, has_time, plain};
-use crate::peer::{connected, fails, gets, is_closed, next_frame, sends, waits};
+use crate::peer::{PATIENCE, connected, fails, gets, is_closed, next_frame, sends, waits};
 use console_text::options::{FOLD, MOST_ENTRIES};
 use server::{ServeOptions, serve, serve_words};
 use server_errors::{line_text, utc_text};
 use server_ports::LinkLimits;
 use std::alloc::Global;
 use std::fs::{File, Files};
-use std::io::{BufRead, BufReader, PipeReader, PipeWriter, Read, Write, pipe};
+use std::io::{BufRead, BufReader, Read, Write};
 use std::net::{Net, Shutdown, TcpListener, TcpStream};
+use std::os::unix::net::UnixStream;
 use std::process::Abort;
 use std::sync::Wait;
 use std::thread;
@@ -105,24 +106,22 @@ struct Stage {
     base: u16,
     /// When the server was started, in seconds after 1970-01-01T00:00:00Z.
     begin: u64,
-    lines: Option<PipeWriter>,
-    answers: BufReader<PipeReader>,
-    said: BufReader<PipeReader>,
+    lines: UnixStream,
+    answers: BufReader<UnixStream>,
+    said: BufReader<UnixStream>,
     peers: Vec<TcpStream>,
 }
 
 /// The next line that the reader gives.
-fn next_line(rt: &impl Abort, alloc: Global, reader: &mut BufReader<PipeReader>) -> Vec<u8> {
+fn next_line(rt: &impl Abort, alloc: Global, reader: &mut BufReader<UnixStream>) -> Vec<u8> {
     let mut line = Vec::new(alloc);
     reader.read_until(b'\n', &mut line).expect(rt, "a line");
     line
 }
 
-/// Types the text, where the lines aren't closed.
+/// Types the text.
 fn writes(rt: &impl Abort, stage: &mut Stage, text: &[u8]) {
-    if let Some(lines) = &mut stage.lines {
-        lines.write_all(text).expect(rt, "lines are typed");
-    }
+    stage.lines.write_all(text).expect(rt, "lines are typed");
 }
 
 /// Types the line. The answer is whether what it is answered begins so.
@@ -157,15 +156,21 @@ fn types_all(rt: &impl Abort, alloc: Global, stage: &mut Stage, lines: &str, ans
     }
 }
 
-/// Types a comment of so many octets, without its end.
-fn types_comment(rt: &impl Abort, stage: &mut Stage, octets: u32) {
+/// Types a comment of so many octets, without its end, as far as the server reads it.
+fn types_comment(stage: &mut Stage, octets: u32) {
     let piece = [b'#'; 100];
     for _ in 0..octets / 100 {
-        writes(rt, stage, &piece);
+        let _ = stage.lines.write_all(&piece);
     }
     for _ in 0..octets % 100 {
-        writes(rt, stage, b"#");
+        let _ = stage.lines.write_all(b"#");
     }
+}
+
+/// Types no more.
+fn ends(rt: &impl Abort, stage: &Stage) {
+    let ended = stage.lines.shutdown(Shutdown::Write);
+    ended.expect(rt, "the lines end");
 }
 
 /// Passes over the lines of standard error until one has the text.
@@ -257,8 +262,8 @@ fn does<R: Abort + Clock>(rt: &R, alloc: Global, stage: &mut Stage, act: &Act) {
             yes(rt, !is_answered(rt, alloc, stage, line, answer), answer);
         }
         Act::Lines(lines, answers) => types_all(rt, alloc, stage, lines, *answers),
-        Act::Comment(octets) => types_comment(rt, stage, *octets),
-        Act::Ends => stage.lines = None,
+        Act::Comment(octets) => types_comment(stage, *octets),
+        Act::Ends => ends(rt, stage),
         Act::Says(text) => says(rt, alloc, stage, text),
         Act::Listens(links) => listens(rt, alloc, stage, *links),
         Act::Connects(from, bsc) => connects(rt, stage, *from, *bsc),
@@ -274,7 +279,7 @@ fn does<R: Abort + Clock>(rt: &R, alloc: Global, stage: &mut Stage, act: &Act) {
 }
 
 /// All that the reader still gives.
-fn rest_of(rt: &impl Abort, alloc: Global, reader: &mut BufReader<PipeReader>) -> Vec<u8> {
+fn rest_of(rt: &impl Abort, alloc: Global, reader: &mut BufReader<UnixStream>) -> Vec<u8> {
     let mut rest = Vec::new(alloc);
     reader.read_to_end(&mut rest).expect(rt, "the rest is read");
     rest
@@ -290,7 +295,7 @@ fn acts_all<R: Abort + Clock>(
     for act in acts {
         does(rt, alloc, &mut stage, act);
     }
-    stage.lines = None;
+    ends(rt, &stage);
     let answers = rest_of(rt, alloc, &mut stage.answers);
     let said = rest_of(rt, alloc, &mut stage.said);
     (answers, said)
@@ -391,9 +396,9 @@ fn options_of<R: Abort + Clock>(
 /// The near ends of a server.
 #[derive(Drop)]
 struct Near {
-    typed: BufReader<PipeReader>,
-    written: PipeWriter,
-    errors: PipeWriter,
+    typed: BufReader<UnixStream>,
+    written: UnixStream,
+    errors: UnixStream,
 }
 
 /// Runs the server. The answer is its status.
@@ -417,15 +422,23 @@ fn runs<
     }
 }
 
+/// A stream whose first end waits for what comes no longer than a peer does.
+fn stream<R: Abort + Net>(rt: &R) -> (UnixStream, UnixStream) {
+    let (far, near) = UnixStream::pair(rt).expect(rt, "a stream");
+    let patience = Some(Duration::from_secs(PATIENCE));
+    far.set_read_timeout(patience).expect(rt, "a time");
+    (far, near)
+}
+
 /// The two ends of what the server is typed, answers and says.
-fn staged<R: Abort + Clock + Files>(rt: &R, alloc: Global, base: u16) -> (Stage, Near) {
-    let (typed, lines) = pipe(rt).expect(rt, "a pipe");
-    let (answers, written) = pipe(rt).expect(rt, "a pipe");
-    let (said, errors) = pipe(rt).expect(rt, "a pipe");
+fn staged<R: Abort + Clock + Net>(rt: &R, alloc: Global, base: u16) -> (Stage, Near) {
+    let (lines, typed) = stream(rt);
+    let (answers, written) = stream(rt);
+    let (said, errors) = stream(rt);
     let stage = Stage {
         base,
         begin: second_of(rt),
-        lines: Some(lines),
+        lines,
         answers: BufReader::new(alloc, answers).expect(rt, "memory"),
         said: BufReader::new(alloc, said).expect(rt, "memory"),
         peers: Vec::new(alloc),

@@ -19,8 +19,15 @@ const WRITTEN_8: &[u8] =
 const CONFUSED: &[u8] =
     b"\x03\x00\x00\x12\x0e\x11\x12\x03\xc0\x00\x09\x00\x09\x00\x00\xf1\x20\x00\x64\x00\x07\x0a";
 
-/// A RESTART of all cells, without data, for warnings of Broadcast Message Type 0.
-const RESTART: &[u8] = b"\x13\x00\x00\x08\x04\x00\x01\x06\x16\x00\x0d\x01";
+/// A RESTART of all cells, without data, for warnings of Broadcast Message Type 0, eight times.
+const RESTARTS: &[u8] = b"\x13\x00\x00\x08\x04\x00\x01\x06\x16\x00\x0d\x01\
+\x13\x00\x00\x08\x04\x00\x01\x06\x16\x00\x0d\x01\
+\x13\x00\x00\x08\x04\x00\x01\x06\x16\x00\x0d\x01\
+\x13\x00\x00\x08\x04\x00\x01\x06\x16\x00\x0d\x01\
+\x13\x00\x00\x08\x04\x00\x01\x06\x16\x00\x0d\x01\
+\x13\x00\x00\x08\x04\x00\x01\x06\x16\x00\x0d\x01\
+\x13\x00\x00\x08\x04\x00\x01\x06\x16\x00\x0d\x01\
+\x13\x00\x00\x08\x04\x00\x01\x06\x16\x00\x0d\x01";
 
 /// A BSC with cell 100 7 in an area.
 const ONE_CELL: &str = "bsc add 1\ncell add 100 7 1\narea add Coast\narea put Coast 100\n";
@@ -225,18 +232,20 @@ const TOO_FAST: Play = Play {
     ..USUAL
 };
 
-/// A server ends at once, however much a BSC has sent.
+/// A server ends at once, however much a BSC has sent: what waits in its connection isn't entered.
 #[test]
 fn a_flood_does_not_hold_up_the_end(rt: HostRuntime) {
     played(&rt, rt.alloc(), &FLOOD);
 }
 
 const FLOOD: Play = Play {
+    words: &["--links", "2"],
     acts: &[
-        Act::Types("bsc add 1\n", "ok 1\n"),
+        Act::Lines(CELLS, 35),
+        Act::Lines(ISSUE, 1),
         Act::Connects(1, 1),
-        Act::Says("link 2 is up"),
-        Act::Sends(0, RESTART, 100_000),
+        Act::Says("link 37 is up"),
+        Act::Sends(0, RESTARTS, 12_500),
         Act::Lines("quit\n", 0),
     ],
     answers: Wanted::Settled("90000"),

@@ -7,8 +7,8 @@ use std::net::TcpStream;
 use std::process::Abort;
 use std::time::{Clock, Duration};
 
-/// How long a peer waits for what is to come, in seconds.
-const PATIENCE: u64 = 20;
+/// How long it is waited for what is to come, in seconds.
+pub(crate) const PATIENCE: u64 = 25;
 
 /// The most pieces of what a server sends before it closes a connection.
 const MOST_PIECES: u32 = 100_000;
