@@ -1,5 +1,5 @@
 -- What a line asks for: its numbers are in their ranges, its digits spell octets, and its areas are not a hyphen alone.
-use Rattle.std.proofs.Common.{◌≡◌, ◌∙◌, ℕ, zero, suc, ◌<◌, ◌≤◌, eqb, leb, Bool, true, false, ◌&&◌, ◌||◌, not, List, [], ◌∷◌, ◌++◌, length, Option, Some, None, Result, Ok, Err, if◌then◌else◌, codes, refl, sym, ap, subst, arith}
+use Rattle.std.proofs.Common.{◌≡◌, ◌∙◌, ℕ, zero, suc, ◌<◌, ◌≤◌, eqb, leb, Bool, true, false, ◌&&◌, ◌||◌, not, List, [], ◌∷◌, length, Option, Some, None, Result, Ok, Err, if◌then◌else◌, codes, refl, sym, ap, subst, arith}
 use Rattle.std.specs.Prelude.{IfSome, bytes_eq, option_and_then, replicate}
 use Rattle.std.specs.List.{AllByRecursion, list_any}
 use Rattle.std.specs.Option.{option_map}
@@ -8,10 +8,9 @@ use Rattle.std.proofs.lemmas.Bool.{and_parts, eqb-true, false_from_ne_true, le-l
 use Rattle.std.proofs.lemmas.Slice.Eq.{bytes_eq-Decides}
 use Rattle.areas.specs.Name.{is_name}
 use Rattle.areas.specs.declared.selector.Selector.TheVariants as selector
-use Rattle.cbsp_ie.specs.Frame.{longest_body}
 use Rattle.std.specs.Int.{bytes_high_first}
 use Rattle.cbsp_messages.specs.Message.{type_of}
-use Rattle.cbsp_messages.specs.MessageType.{code_of, is_report, report_type, type_with}
+use Rattle.cbsp_messages.specs.MessageType.{code_of, is_report, type_with}
 use Rattle.cbsp_messages.specs.declared.message.Message.{Message}
 use Rattle.cbsp_messages.specs.declared.message_type.MessageType.{MessageType}
 use Rattle.cbsp_messages.specs.declared.message_type.MessageType.TheVariants as type
@@ -42,7 +41,7 @@ use Rattle.warning_book.specs.Content.{have_pages}
 use Rattle.warning_book.specs.declared.category.Category.{Category}
 use Rattle.warning_book.specs.declared.content.Content.{Content}
 use Rattle.warning_book.specs.declared.content.Content.TheVariants as content
-use Rattle.journal_text.specs.Laws.{AskedHasLine, EditIsWellNamed, IsAsked, IsWellNamed}
+use Rattle.journal_text.specs.Laws.{AskedHasLine, EditIsWellNamed, IsWellNamed}
 use Rattle.journal_text.specs.Reading.{IsSentIn, StandsFor, asked, event_with}
 use Rattle.journal_text.specs.Sayable.{CanBeSaid, EditHasLine, HasFrame, HasLine, IsBsc, IsCell, IsSelector, IsWarning, are_named, is_only_hyphen}
 use Rattle.journal_text.proofs.MessageLemmas.{read_has_frame}
