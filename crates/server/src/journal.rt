@@ -6,7 +6,7 @@ use console_text::ReplayFault;
 use journal_file::{
     DiskFile, JournalFile, LoadFault, Loaded, OpenFault, Writing, append_all, header, load,
 };
-use journal_keeper::{KeepFault, Keeper, Pace};
+use journal_keeper::{KeepFault, Keeper};
 use journal_office::Entering;
 use office::desk::Desk;
 use office::office::Office;
@@ -141,10 +141,5 @@ pub(crate) fn begin<L: Ledger, E: Write + Drop, R: Wait + Clock>(
     if writing.keep(&mut file).is_err() {
         return Err(ServeFault::Journal);
     }
-    let folded = writing.taken().saturating_sub(entering.unfolded());
-    Ok(Keeper {
-        pace: Pace::new(every, folded),
-        writing,
-        file,
-    })
+    Ok(Keeper { writing, file })
 }
