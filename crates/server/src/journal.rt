@@ -35,7 +35,7 @@ pub(crate) fn open_journal<R: Files<File = File>>(
 }
 
 /// What ends a start that can't read the file. The number of a line is said.
-fn unread<E: Write + Drop, R: Wait>(
+fn unread<E: Write + Drop, R: Wait + Clock>(
     rt: &R,
     alloc: Global,
     errors: &Errors<E>,
@@ -48,7 +48,7 @@ fn unread<E: Write + Drop, R: Wait>(
         LoadFault::OtherNetwork => ServeFault::OtherNetwork,
         LoadFault::LongLine(_) | LoadFault::BadLine(_) => {
             if let Ok(text) = format!(in alloc; "cbc: {fault}\n") {
-                errors.say(rt, text.as_bytes());
+                errors.say_last(rt, alloc, text.as_bytes());
             }
             ServeFault::JournalLine
         }

@@ -13,7 +13,7 @@ use journal_keeper::{Keeper, Kept};
 use link_rules::FoldPace;
 use office::desk::Desk;
 use office::office::Office;
-use server_errors::{AtOnce, Errors, say_of_centre};
+use server_errors::{Errors, say_of_centre};
 use server_links::{
     LinkOptions, Shared, accept_links, close_all, close_port, keep, read_links, simulate, watch,
     write_links,
@@ -420,9 +420,7 @@ pub fn serve<
     ) {
         Ok(()) => 0,
         Err((errors, fault)) => {
-            errors.close(rt);
-            errors.say_lines(rt, alloc, &AtOnce);
-            errors.say(rt, fault.words());
+            errors.say_last(rt, alloc, fault.words());
             1
         }
     }

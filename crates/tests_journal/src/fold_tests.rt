@@ -14,7 +14,7 @@ use journal_office::OfficeJournal;
 use link_rules::FoldPace;
 use office::desk::Desk;
 use office::office::Office;
-use server_errors::{AtOnce, Errors};
+use server_errors::Errors;
 use server_links::{LinkOptions, Shared};
 use std::alloc::Global;
 use std::io::{Error, ErrorKind, Write};
@@ -28,6 +28,9 @@ use std::{io, thread};
 
 /// How many entries the journal may hold. It is folded at nine tenths of that.
 const LIMIT: u32 = 40;
+
+/// What is said at the end.
+const LAST: &[u8] = b"cbc: journal fault\n";
 
 /// A file whose syncs take a while.
 #[derive(Drop)]
@@ -220,8 +223,7 @@ fn enters_at_four_desks<L: Ledger + Send + Sync, R: Wait + Clock + Threads + Syn
     same(rt, result, Ok(()), "the thread that keeps the journal ends");
     same(rt, refused, 0, "no event is refused");
     same(rt, shared.office.position(rt), 404, "all are entered");
-    shared.errors.close(rt);
-    shared.errors.say_lines(rt, alloc, &AtOnce);
+    shared.errors.say_last(rt, alloc, LAST);
     drop(shared);
     octets.into_inner()
 }
@@ -242,6 +244,7 @@ fn a_journal_that_is_kept_never_fills_up(rt: HostRuntime) {
             .any(|piece| piece == words),
         "each fold is said",
     );
+    yes(&rt, said.ends_with(LAST), "and the last words after it");
 }
 
 /// Enters an event less than a fold is due with, as a start does, and then that one. The answer is how many entries aren't folded then.
