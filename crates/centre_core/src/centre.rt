@@ -4,6 +4,7 @@ use crate::entering::{enter, make, with_entry};
 use crate::journal::{Journal, tell_over};
 use crate::looking::{prepare_edit, prepare_other};
 use crate::rebuilding::kept_of;
+use crate::telling::{tell_areas, tell_listed, tell_order, tell_tables};
 use areas::Selectors;
 use cell_register::BscId;
 use centre_answers::{lists, questions};
@@ -17,7 +18,7 @@ use centre_past::kept::Kept;
 use centre_past::link_state::LinkState;
 use centre_past::links::up_before;
 use centre_past::lists::{
-    AreaRows, BscRows, CellRows, CentreStatus, FailedRows, WarningRows, WarningSheet,
+    AreaRows, BscRows, CellRows, CentreStatus, FailedRows, PlanCounts, WarningRows, WarningSheet,
 };
 use centre_past::meter::Meter;
 use centre_past::reported::ReportedKeys;
@@ -80,7 +81,7 @@ impl Centre {
     ghost use Rattle.centre_past.specs.Legal.{Lawful, all_entries, new_centre, past};
     ghost use Rattle.centre_past.specs.LinkStates.{has_pending, link_state};
     ghost use Rattle.centre_events.specs.Links.{is_bsc};
-    ghost use Rattle.centre_past.specs.Lists.{area_rows, area_selectors, bsc_rows, cell_rows, failed_of, sheet_of, status, warning_lt, warning_rows};
+    ghost use Rattle.centre_past.specs.Lists.{area_rows, area_selectors, bsc_rows, cell_rows, failed_of, plan_counts, sheet_of, status, warning_lt, warning_rows};
     ghost use Rattle.centre_past.specs.Numbers.{board, area_board};
     ghost use Rattle.centre_events.specs.Pending.{pending};
     ghost use Rattle.centre_events.specs.Places.{place};
@@ -454,6 +455,7 @@ impl Centre {
             return Err(Refusal::Stale);
         }
         tell_over(&self.journal);
+        tell_areas();
         if !self.kept.areas.has_area(area) {
             return Err(Refusal::NoSuchArea);
         }
@@ -472,6 +474,8 @@ impl Centre {
             return Err(Refusal::Stale);
         }
         tell_over(&self.journal);
+        tell_tables();
+        tell_order();
         Ok(lists::warnings::warnings(self.alloc, &self.kept.tables, &self.kept.book)?)
     }
 
@@ -484,9 +488,48 @@ impl Centre {
         if self.stale {
             return Err(Refusal::Stale);
         }
+        self.board_total(number)?;
         tell_over(&self.journal);
-        match lists::warnings::warning(self.alloc, &self.kept.tables, &self.kept.book, number)? {
+        tell_tables();
+        tell_listed();
+        let tables = &self.kept.tables;
+        let Ok(found) = lists::warnings::warning(self.alloc, tables, &self.kept.book, number) else {
+            return Err(Refusal::Memory);
+        };
+        match found {
             Some(sheet) => Ok(sheet),
+            None => Err(Refusal::NoSuchWarning),
+        }
+    }
+
+    /// The registered cells in which the warning failed, in ascending order.
+    fn failed_rows(&mut self, number: WarningId) -> Result<FailedRows, Refusal>
+        ensures rows { IfOk result (λ rows. failed_of (past self.old.known) number ≡ Some rows) }
+        ensures whole { OnOk result (self.old.known.stale ≡ false) }
+        ensures refusal { IfErr result (λ r. ((r ≡ Refusal.Stale) × (self.old.known.stale ≡ true)) ⊎ ((self.old.known.stale ≡ false) × (((r ≡ Refusal.Memory) × IsSome (failed_of (past self.old.known) number)) ⊎ ((r ≡ Refusal.NoSuchWarning) × (failed_of (past self.old.known) number ≡ None))))) }
+        ensures unchanged { self.new.known ≡ self.old.known }
+        ensures entries { self.new.entries ≡ self.old.entries }
+        ensures least { self.old.lines ≤ self.new.lines }
+    {
+        if self.stale {
+            return Err(Refusal::Stale);
+        }
+        self.board_total(number)?;
+        tell_over(&self.journal);
+        tell_tables();
+        tell_listed();
+        let Ok(found) = lists::failed::failed(
+            self.alloc,
+            &self.kept.register,
+            &self.kept.areas,
+            &self.kept.book,
+            &mut self.kept.tables,
+            number,
+        ) else {
+            return Err(Refusal::Memory);
+        };
+        match found {
+            Some(rows) => Ok(rows),
             None => Err(Refusal::NoSuchWarning),
         }
     }
@@ -503,22 +546,19 @@ impl Centre {
         ensures entries { self.new.entries ≡ self.old.entries }
         ensures least { self.old.lines ≤ self.new.lines }
     {
-        if self.stale {
-            return Err(Refusal::Stale);
+        tell_over(&self.journal);
+        self.failed_rows(number)
+    }
+
+    /// How many there are of each thing; `None` where the centre is stale.
+    fn counts(&self) -> Option<PlanCounts>
+        ensures { result ≡ (if self.now.known.stale then None else Some (plan_counts (past self.now.known))) }
+    {
+        if self.is_stale() {
+            return None;
         }
         tell_over(&self.journal);
-        let found = lists::failed::failed(
-            self.alloc,
-            &self.kept.register,
-            &self.kept.areas,
-            &self.kept.book,
-            &mut self.kept.tables,
-            number,
-        )?;
-        match found {
-            Some(rows) => Ok(rows),
-            None => Err(Refusal::NoSuchWarning),
-        }
+        Some(lists::counts::plan_counts(&self.kept))
     }
 
     /// How the centre stands: how many entries there are since the beginning, how many of them were folded, how many the
@@ -527,18 +567,12 @@ impl Centre {
     pub fn status(&self) -> CentreStatus
         ensures { result ≡ status self.now.known }
     {
-        tell_over(&self.journal);
-        let counts = if self.stale {
-            None
-        } else {
-            Some(lists::counts::plan_counts(&self.kept))
-        };
         CentreStatus {
-            entries: self.journal.position(),
+            entries: self.position(),
             folded: self.journal.folded(),
             limit: self.limit,
             is_stale: self.stale,
-            counts,
+            counts: self.counts(),
         }
     }
 

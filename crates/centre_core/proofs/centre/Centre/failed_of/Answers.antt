@@ -1,20 +1,11 @@
-use Rattle.std.proofs.Common.{refl}
-use Rattle.centre_core.proofs.CentreLemmas.{centre_reads}
-use Rattle.centre_past.proofs.ReadLemmas.{as_itself}
-use Rattle.centre_lines.proofs.HoldLemmas.{reads_as}
+use Rattle.std.proofs.Common.{◌++◌}
+use Rattle.centre_core.proofs.ListingLemmas.{failed_count}
+use Rattle.centre_events.specs.Past.{past_of}
+use Rattle.centre_past.specs.Alike.{SaysTheSame}
+use Rattle.centre_past.specs.Legal.{lasting, past}
 use Rattle.centre_core.proofs.centre.Centre.failed_of.Goals as goal
 
-pub invariant_of-self : goal.invariant_of-self
-invariant_of-self c =
-    centre_reads (record { network = c.self.inside.plmn; limit = c.self.inside.limit }) c.self.inside.journal.folded c.self.inside.journal.entries c.self.inside.stale c.self.inside.base c.self.inside.kept _ c.self.invariant
-    (record { register = refl; areas = refl; book = refl; links = refl; flights = refl; tables = reads_as c.self.inside.kept.tables c.failed.new.tables (c.failed.ensures.kept c.self.inside.kept.tables (as_itself c.self.inside.kept.tables)) })
-
-pub invariant_of-self-2 : goal.invariant_of-self-2
-invariant_of-self-2 c =
-    centre_reads (record { network = c.self.inside.plmn; limit = c.self.inside.limit }) c.self.inside.journal.folded c.self.inside.journal.entries c.self.inside.stale c.self.inside.base c.self.inside.kept _ c.self.invariant
-    (record { register = refl; areas = refl; book = refl; links = refl; flights = refl; tables = reads_as c.self.inside.kept.tables c.failed.new.tables (c.failed.ensures.kept c.self.inside.kept.tables (as_itself c.self.inside.kept.tables)) })
-
-pub invariant_of-self-3 : goal.invariant_of-self-3
-invariant_of-self-3 c =
-    centre_reads (record { network = c.self.inside.plmn; limit = c.self.inside.limit }) c.self.inside.journal.folded c.self.inside.journal.entries c.self.inside.stale c.self.inside.base c.self.inside.kept _ c.self.invariant
-    (record { register = refl; areas = refl; book = refl; links = refl; flights = refl; tables = reads_as c.self.inside.kept.tables c.failed.new.tables (c.failed.ensures.kept c.self.inside.kept.tables (as_itself c.self.inside.kept.tables)) })
+pub returns-clause-count : goal.returns-clause-count
+returns-clause-count c =
+    let same : SaysTheSame (past c.args.self.now.known) (past_of (c.self.inside.journal.folded ++ c.self.inside.journal.entries)) = rw (← c.self.view_is) c.tell_over.ensures in
+    failed_count (lasting c.self.inside.plmn) (past c.args.self.now.known) (past_of (c.self.inside.journal.folded ++ c.self.inside.journal.entries)) c.args.number c.failed_rows.result c.self.invariant.legal same c.failed_rows.ensures.rows
