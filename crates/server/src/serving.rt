@@ -31,8 +31,6 @@ use std::thread;
 use std::thread::Threads;
 use std::time::Clock;
 
-const SMALL_JOURNAL: &[u8] = b"cbc: --keep needs a --journal of 20480 or more\n";
-
 const UNWATCHED: &str =
     "no thread can be started: orders without a reply are neither said nor do they cut a link";
 
@@ -428,8 +426,7 @@ pub fn serve<
 
 /// Runs the server with the options in the words of a command line, as `serve` does. The words are to ask for the server:
 /// `console::run` answers `None` for them. Of other words it says `cbc: out of memory`, and the status is 1. The status is 2
-/// where the network or the ports are bad, or the journal that is to be kept may hold fewer than 20,480 entries: `cbc: bad plmn`,
-/// `cbc: bad ports` or `cbc: --keep needs a --journal of 20480 or more` is said then.
+/// where the network or the ports are bad: `cbc: bad plmn` or `cbc: bad ports` is said then.
 pub fn serve_words<
     R: Files<File = File>
         + Wait
@@ -445,7 +442,6 @@ pub fn serve_words<
         Ok(options) => return serve(rt, alloc, &options, reader, writer, errors),
         Err(OptionsFault::BadPlmn) => (2, b"cbc: bad plmn\n".as_slice()),
         Err(OptionsFault::BadPorts) => (2, b"cbc: bad ports\n".as_slice()),
-        Err(OptionsFault::SmallJournal) => (2, SMALL_JOURNAL),
         Err(OptionsFault::Memory) => (1, fault_words(ReplayFault::Memory)),
     };
     let _ = errors.write_all(text);
