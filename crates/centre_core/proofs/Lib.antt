@@ -4,3 +4,4 @@ pub mod CentreLemmas
 pub mod JournalLemmas
 pub mod RebuildLemmas
 pub mod MeterLemmas
+pub mod ListingLemmas

@@ -4,8 +4,10 @@ use crate::entering::{enter, make, with_entry};
 use crate::journal::{Journal, tell_over};
 use crate::looking::{prepare_edit, prepare_other};
 use crate::rebuilding::kept_of;
+use crate::telling::{tell_areas, tell_listed, tell_order, tell_tables};
+use areas::Selectors;
 use cell_register::BscId;
-use centre_answers::questions;
+use centre_answers::{lists, questions};
 use centre_events::answer::Answer;
 use centre_events::entry::Entry;
 use centre_events::event::Event;
@@ -15,6 +17,9 @@ use centre_past::flights::flight_in;
 use centre_past::kept::Kept;
 use centre_past::link_state::LinkState;
 use centre_past::links::up_before;
+use centre_past::lists::{
+    AreaRows, BscRows, CellRows, CentreStatus, FailedRows, PlanCounts, WarningRows, WarningSheet,
+};
 use centre_past::meter::Meter;
 use centre_past::reported::ReportedKeys;
 use centre_past::telling::{tell_known, tell_lines};
@@ -34,7 +39,7 @@ use warning_book::WarningId;
 ///
 /// A centre is stale after memory ran out while an event was entered: its base and its journal are as they were, and what
 /// is kept beside them is of no use until `rebuild` made it anew. While it is stale, every call but `position`, `entry`,
-/// `is_full`, `is_stale`, `meter` and `rebuild` answers `Stale`.
+/// `is_full`, `is_stale`, `meter`, `status` and `rebuild` answers `Stale`.
 #[derive(Drop)]
 pub struct Centre {
     alloc: Global,
@@ -58,7 +63,7 @@ impl Model for Centre {
 }
 
 impl Centre {
-    ghost use Rattle.std.specs.Prelude.{◌≡◌, ◌<◌, ◌≤◌, ◌-◌, ◌+◌, ◌*◌, ◌++◌, ◌∷◌, [], ◌⊎◌, ⊤, length, nat_le, reverse, slice_get, true, false, Ok, Err, IfOk, IfErr, OnOk, OnErr, if◌then◌else◌};
+    ghost use Rattle.std.specs.Prelude.{◌≡◌, ◌<◌, ◌≤◌, ◌-◌, ◌+◌, ◌*◌, ◌++◌, ◌∷◌, [], ◌⊎◌, ⊤, length, nat_le, reverse, slice_get, true, false, Ok, Err, None, Some, IfOk, IfErr, IfSome, IsSome, OnOk, OnErr, if◌then◌else◌};
     ghost use Rattle.std.specs.Borrow.{sem, follows_so};
     ghost use Rattle.std.specs.Option.{option_copied};
     ghost use mathlib.Core.Option.{none};
@@ -68,12 +73,15 @@ impl Centre {
     ghost use Rattle.centre_past.specs.Alike.{SaysTheSame};
     ghost use Rattle.centre_past.specs.Fits.{AnswerFits, IsCarried};
     ghost use Rattle.centre_events.specs.Folding.{base_of};
+    ghost use Rattle.centre_events.specs.Cover.{is_area};
     ghost use Rattle.centre_events.specs.InFlight.{in_flight};
+    ghost use Rattle.common.specs.Order.{is_ascending};
     ghost use Rattle.centre_core.specs.Journal.{counted_by};
     ghost use Rattle.centre_events.specs.Kept.{is_edit};
     ghost use Rattle.centre_past.specs.Legal.{Lawful, all_entries, new_centre, past};
     ghost use Rattle.centre_past.specs.LinkStates.{has_pending, link_state};
     ghost use Rattle.centre_events.specs.Links.{is_bsc};
+    ghost use Rattle.centre_past.specs.Lists.{area_rows, area_selectors, bsc_rows, cell_rows, failed_of, plan_counts, sheet_of, status, warning_lt, warning_rows};
     ghost use Rattle.centre_past.specs.Numbers.{board, area_board};
     ghost use Rattle.centre_events.specs.Pending.{pending};
     ghost use Rattle.centre_events.specs.Places.{place};
@@ -390,6 +398,182 @@ impl Centre {
             warning,
             area,
         )
+    }
+
+    /// The registered BSCs, in ascending order: of each how many cells are registered there, whether its link is up and its
+    /// latest generation, what is in flight to it, and how many orders are pending for it. `Stale`, then `Memory`.
+    pub fn bscs(&self) -> Result<BscRows, Refusal>
+        ensures rows { IfOk result (λ rows. rows ≡ bsc_rows (past self.now.known)) }
+        ensures whole { OnOk result (self.now.known.stale ≡ false) }
+        ensures refusal { IfErr result (λ r. ((r ≡ Refusal.Stale) × (self.now.known.stale ≡ true)) ⊎ ((self.now.known.stale ≡ false) × (r ≡ Refusal.Memory))) }
+    {
+        if self.stale {
+            return Err(Refusal::Stale);
+        }
+        tell_over(&self.journal);
+        Ok(lists::bscs::bscs(self.alloc, &self.kept)?)
+    }
+
+    /// The cells that are registered at the BSC, in ascending order: of each for which kinds of warnings it is down there
+    /// (TS 48.049, 8.1.3). `Stale`, then `NoSuchBsc`, then `Memory`.
+    pub fn cells_of(&self, b: BscId) -> Result<CellRows, Refusal>
+        ensures rows { IfOk result (λ rows. (rows ≡ cell_rows (past self.now.known) b) × (is_bsc (past self.now.known) b ≡ true)) }
+        ensures whole { OnOk result (self.now.known.stale ≡ false) }
+        ensures refusal { IfErr result (λ r. ((r ≡ Refusal.Stale) × (self.now.known.stale ≡ true)) ⊎ ((self.now.known.stale ≡ false) × (((r ≡ Refusal.Memory) × (is_bsc (past self.now.known) b ≡ true)) ⊎ ((r ≡ Refusal.NoSuchBsc) × (is_bsc (past self.now.known) b ≡ false))))) }
+    {
+        if self.stale {
+            return Err(Refusal::Stale);
+        }
+        tell_over(&self.journal);
+        if !self.kept.register.has_bsc(b) {
+            return Err(Refusal::NoSuchBsc);
+        }
+        Ok(lists::cells::cells(self.alloc, &self.kept, b)?)
+    }
+
+    /// The areas, in the order of the octets of their names: of each how many selectors it has. `Stale`, then `Memory`.
+    pub fn areas(&self) -> Result<AreaRows, Refusal>
+        ensures rows { IfOk result (λ rows. rows ≡ area_rows (past self.now.known)) }
+        ensures whole { OnOk result (self.now.known.stale ≡ false) }
+        ensures refusal { IfErr result (λ r. ((r ≡ Refusal.Stale) × (self.now.known.stale ≡ true)) ⊎ ((self.now.known.stale ≡ false) × (r ≡ Refusal.Memory))) }
+    {
+        if self.stale {
+            return Err(Refusal::Stale);
+        }
+        tell_over(&self.journal);
+        Ok(lists::named_areas::areas(self.alloc, &self.kept.areas)?)
+    }
+
+    /// The selectors of the area, by location area; the whole of one comes before the cells in it. `Stale`, then
+    /// `NoSuchArea`, then `Memory`.
+    pub fn selectors_of(&self, area: &Name) -> Result<Selectors, Refusal>
+        ensures selectors { IfOk result (λ all. (all ≡ area_selectors (past self.now.known) area.now) × (is_area (past self.now.known) area.now ≡ true)) }
+        ensures whole { OnOk result (self.now.known.stale ≡ false) }
+        ensures refusal { IfErr result (λ r. ((r ≡ Refusal.Stale) × (self.now.known.stale ≡ true)) ⊎ ((self.now.known.stale ≡ false) × (((r ≡ Refusal.Memory) × (is_area (past self.now.known) area.now ≡ true)) ⊎ ((r ≡ Refusal.NoSuchArea) × (is_area (past self.now.known) area.now ≡ false))))) }
+    {
+        if self.stale {
+            return Err(Refusal::Stale);
+        }
+        tell_over(&self.journal);
+        tell_areas();
+        if !self.kept.areas.has_area(area) {
+            return Err(Refusal::NoSuchArea);
+        }
+        Ok(lists::named_areas::selectors(self.alloc, &self.kept.areas, area)?)
+    }
+
+    /// The warnings in the book, in ascending order of their numbers: of each its message identifier, its current serial
+    /// number, whether it is active, its kind, its areas and its numbers on the board. `Stale`, then `Memory`.
+    pub fn warnings(&self) -> Result<WarningRows, Refusal>
+        ensures rows { IfOk result (λ rows. rows ≡ warning_rows (past self.now.known)) }
+        ensures order { IfOk result (λ rows. is_ascending warning_lt rows ≡ true) }
+        ensures whole { OnOk result (self.now.known.stale ≡ false) }
+        ensures refusal { IfErr result (λ r. ((r ≡ Refusal.Stale) × (self.now.known.stale ≡ true)) ⊎ ((self.now.known.stale ≡ false) × (r ≡ Refusal.Memory))) }
+    {
+        if self.stale {
+            return Err(Refusal::Stale);
+        }
+        tell_over(&self.journal);
+        tell_tables();
+        tell_order();
+        Ok(lists::warnings::warnings(self.alloc, &self.kept.tables, &self.kept.book)?)
+    }
+
+    /// The warning, with what its current version broadcasts. `Stale`, then `NoSuchWarning`, then `Memory`.
+    pub fn warning_of(&self, number: WarningId) -> Result<WarningSheet, Refusal>
+        ensures sheet { IfOk result (λ sheet. sheet_of (past self.now.known) number ≡ Some sheet) }
+        ensures whole { OnOk result (self.now.known.stale ≡ false) }
+        ensures refusal { IfErr result (λ r. ((r ≡ Refusal.Stale) × (self.now.known.stale ≡ true)) ⊎ ((self.now.known.stale ≡ false) × (((r ≡ Refusal.Memory) × IsSome (sheet_of (past self.now.known) number)) ⊎ ((r ≡ Refusal.NoSuchWarning) × (sheet_of (past self.now.known) number ≡ None))))) }
+    {
+        if self.stale {
+            return Err(Refusal::Stale);
+        }
+        self.board_total(number)?;
+        tell_over(&self.journal);
+        tell_tables();
+        tell_listed();
+        let tables = &self.kept.tables;
+        let Ok(found) = lists::warnings::warning(self.alloc, tables, &self.kept.book, number) else {
+            return Err(Refusal::Memory);
+        };
+        match found {
+            Some(sheet) => Ok(sheet),
+            None => Err(Refusal::NoSuchWarning),
+        }
+    }
+
+    /// The registered cells in which the warning failed, in ascending order.
+    fn failed_rows(&mut self, number: WarningId) -> Result<FailedRows, Refusal>
+        ensures rows { IfOk result (λ rows. failed_of (past self.old.known) number ≡ Some rows) }
+        ensures whole { OnOk result (self.old.known.stale ≡ false) }
+        ensures refusal { IfErr result (λ r. ((r ≡ Refusal.Stale) × (self.old.known.stale ≡ true)) ⊎ ((self.old.known.stale ≡ false) × (((r ≡ Refusal.Memory) × IsSome (failed_of (past self.old.known) number)) ⊎ ((r ≡ Refusal.NoSuchWarning) × (failed_of (past self.old.known) number ≡ None))))) }
+        ensures unchanged { self.new.known ≡ self.old.known }
+        ensures entries { self.new.entries ≡ self.old.entries }
+        ensures least { self.old.lines ≤ self.new.lines }
+    {
+        if self.stale {
+            return Err(Refusal::Stale);
+        }
+        self.board_total(number)?;
+        tell_over(&self.journal);
+        tell_tables();
+        tell_listed();
+        let Ok(found) = lists::failed::failed(
+            self.alloc,
+            &self.kept.register,
+            &self.kept.areas,
+            &self.kept.book,
+            &mut self.kept.tables,
+            number,
+        ) else {
+            return Err(Refusal::Memory);
+        };
+        match found {
+            Some(rows) => Ok(rows),
+            None => Err(Refusal::NoSuchWarning),
+        }
+    }
+
+    /// The registered cells in which the warning failed, in ascending order, as many as the board's number says: of each its
+    /// BSC, and whether it is down there, or with which cause the BSC refused the order (TS 48.049, 8.2.13). `Stale`, then
+    /// `NoSuchWarning`, then `Memory`. Lines that are read are counted.
+    pub fn failed_of(&mut self, number: WarningId) -> Result<FailedRows, Refusal>
+        ensures rows { IfOk result (λ rows. failed_of (past self.old.known) number ≡ Some rows) }
+        ensures count { IfOk result (λ rows. IfSome (board (past self.old.known) number) (λ n. length rows ≡ n.failed)) }
+        ensures whole { OnOk result (self.old.known.stale ≡ false) }
+        ensures refusal { IfErr result (λ r. ((r ≡ Refusal.Stale) × (self.old.known.stale ≡ true)) ⊎ ((self.old.known.stale ≡ false) × (((r ≡ Refusal.Memory) × IsSome (failed_of (past self.old.known) number)) ⊎ ((r ≡ Refusal.NoSuchWarning) × (failed_of (past self.old.known) number ≡ None))))) }
+        ensures unchanged { self.new.known ≡ self.old.known }
+        ensures entries { self.new.entries ≡ self.old.entries }
+        ensures least { self.old.lines ≤ self.new.lines }
+    {
+        tell_over(&self.journal);
+        self.failed_rows(number)
+    }
+
+    /// How many there are of each thing; `None` where the centre is stale.
+    fn counts(&self) -> Option<PlanCounts>
+        ensures { result ≡ (if self.now.known.stale then None else Some (plan_counts (past self.now.known))) }
+    {
+        if self.is_stale() {
+            return None;
+        }
+        tell_over(&self.journal);
+        Some(lists::counts::plan_counts(&self.kept))
+    }
+
+    /// How the centre stands: how many entries there are since the beginning, how many of them were folded, how many the
+    /// journal may have, whether the centre is stale, and, where it isn't, how many there are of each thing. It takes no
+    /// memory, and is told of a stale centre too.
+    pub fn status(&self) -> CentreStatus
+        ensures { result ≡ status self.now.known }
+    {
+        CentreStatus {
+            entries: self.position(),
+            folded: self.journal.folded(),
+            limit: self.limit,
+            is_stale: self.stale,
+            counts: self.counts(),
+        }
     }
 
     /// The number of entries, those that were folded away counted.

@@ -13,6 +13,7 @@ mod finishing;
 mod journal;
 mod looking;
 mod rebuilding;
+mod telling;
 
 pub use areas::Selector;
 pub use cell_register::BscId;

@@ -60,9 +60,60 @@ fn in_flight(alloc: Global, centre: &Centre, b: BscId) -> Result<SeenValue, Refu
     }
 }
 
+fn bscs(centre: &Centre) -> Result<SeenValue, Refusal>
+    ensures seen { IfOk result (Shows centre.now.known question_spec.Bscs) }
+    ensures refused { IfErr result (RefusesQuestion centre.now.known question_spec.Bscs) }
+{
+    Ok(SeenValue::Bscs(centre.bscs()?))
+}
+
+fn cells(centre: &Centre, b: BscId) -> Result<SeenValue, Refusal>
+    ensures seen { IfOk result (Shows centre.now.known (question_spec.Cells b)) }
+    ensures refused { IfErr result (RefusesQuestion centre.now.known (question_spec.Cells b)) }
+{
+    Ok(SeenValue::Cells(centre.cells_of(b)?))
+}
+
+fn areas(centre: &Centre) -> Result<SeenValue, Refusal>
+    ensures seen { IfOk result (Shows centre.now.known question_spec.Areas) }
+    ensures refused { IfErr result (RefusesQuestion centre.now.known question_spec.Areas) }
+{
+    Ok(SeenValue::Areas(centre.areas()?))
+}
+
+fn selectors(centre: &Centre, a: &Name) -> Result<SeenValue, Refusal>
+    ensures seen { IfOk result (Shows centre.now.known (question_spec.Selectors a.now)) }
+    ensures refused { IfErr result (RefusesQuestion centre.now.known (question_spec.Selectors a.now)) }
+{
+    Ok(SeenValue::Selectors(centre.selectors_of(a)?))
+}
+
+fn warnings(centre: &Centre) -> Result<SeenValue, Refusal>
+    ensures seen { IfOk result (Shows centre.now.known question_spec.Warnings) }
+    ensures refused { IfErr result (RefusesQuestion centre.now.known question_spec.Warnings) }
+{
+    Ok(SeenValue::Warnings(centre.warnings()?))
+}
+
+fn warning(centre: &Centre, w: WarningId) -> Result<SeenValue, Refusal>
+    ensures seen { IfOk result (Shows centre.now.known (question_spec.Warning w)) }
+    ensures refused { IfErr result (RefusesQuestion centre.now.known (question_spec.Warning w)) }
+{
+    Ok(SeenValue::Warning(centre.warning_of(w)?))
+}
+
+fn failed(centre: &mut Centre, w: WarningId) -> Result<SeenValue, Refusal>
+    ensures seen { IfOk result (Shows centre.old.known (question_spec.Failed w)) }
+    ensures refused { IfErr result (RefusesQuestion centre.old.known (question_spec.Failed w)) }
+    ensures unchanged { centre.new.known ≡ centre.old.known }
+    ensures entries { centre.new.entries ≡ centre.old.entries }
+{
+    Ok(SeenValue::Failed(centre.failed_of(w)?))
+}
+
 /// Puts the question to the centre. What it is answered has memory of its own. `Stale`, then what the answer over the journal
 /// refuses, then `Memory`, which comes only where the answer takes memory. Nothing changes but the meter of lines, and that
-/// only where the question is for a table.
+/// only where the question is for a table or for the cells in which a warning failed.
 pub fn ask(alloc: Global, centre: &mut Centre, question: &Question) -> Result<SeenValue, Refusal>
     ensures seen { IfOk result (Shows centre.old.known question.now) }
     ensures refused { IfErr result (RefusesQuestion centre.old.known question.now) }
@@ -77,5 +128,12 @@ pub fn ask(alloc: Global, centre: &mut Centre, question: &Question) -> Result<Se
         Question::Pending(b) => pending(centre, *b),
         Question::Table(b) => table(centre, *b),
         Question::InFlight(b) => in_flight(alloc, centre, *b),
+        Question::Bscs => bscs(centre),
+        Question::Cells(b) => cells(centre, *b),
+        Question::Areas => areas(centre),
+        Question::Selectors(a) => selectors(centre, a),
+        Question::Warnings => warnings(centre),
+        Question::Warning(w) => warning(centre, *w),
+        Question::Failed(w) => failed(centre, *w),
     }
 }

@@ -19,4 +19,18 @@ pub enum Question {
     Table(BscId),
     /// What is in flight to a BSC.
     InFlight(BscId),
+    /// The registered BSCs.
+    Bscs,
+    /// The cells that are registered at a BSC.
+    Cells(BscId),
+    /// The areas.
+    Areas,
+    /// The selectors of an area.
+    Selectors(Name),
+    /// The warnings in the book.
+    Warnings,
+    /// A warning with its content.
+    Warning(WarningId),
+    /// The cells in which a warning failed.
+    Failed(WarningId),
 }

@@ -43,10 +43,9 @@ bsc_in_line false found v listed is = absurd (cc is)
 pub in_line : (past : Past) (q : Question) (v : SeenValue) → HasLine q → value_of past q ≡ Ok v → IsToldInLine v
 in_line past (question.Total w) v has is = warning_in_line (board past w) v is
 in_line past (question.Area w a) v has is = area_in_line (area_board past w a) v is
-in_line past (question.Place c) v has is = absurd has
 in_line past (question.Pending b) v has is = bsc_in_line (is_bsc past b) (value.Pending (pending past b)) v tt is
 in_line past (question.Table b) v has is = bsc_in_line (is_bsc past b) (value.Table (table past b)) v tt is
-in_line past (question.InFlight b) v has is = absurd has
+in_line past other v has is = absurd has
 
 asks_stale : (old : SessionState) (q : Question) (r : Response) (new : SessionState) → old.centre.stale ≡ true → Says old (response.Refused refusal.Stale) r new → Asks old q r new
 asks_stale old q r new stale says =

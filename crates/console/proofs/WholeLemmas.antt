@@ -4,6 +4,9 @@ use Rattle.std.specs.Bool.{MatchBool}
 use Rattle.std.specs.Prelude.{MatchOption}
 use Rattle.cbsp_messages.specs.declared.message_type.MessageType.{MessageType}
 use Rattle.centre_past.specs.Legal.{past}
+use Rattle.centre_past.specs.Lists.{area_selectors, cell_rows, failed_of, sheet_of}
+use Rattle.centre_past.specs.declared.lists.failed_row.FailedRow.{FailedRow}
+use Rattle.centre_past.specs.declared.lists.warning_sheet.WarningSheet.{WarningSheet}
 use Rattle.centre_events.specs.InFlight.{in_flight}
 use Rattle.centre_events.specs.Links.{is_bsc}
 use Rattle.centre_events.specs.Cover.{is_area}
@@ -19,7 +22,7 @@ use Rattle.centre_events.specs.declared.event.Event.{Event}
 use Rattle.centre_events.specs.declared.event.Event.TheVariants as event
 use Rattle.centre_events.specs.declared.refusal.Refusal.{Refusal}
 use Rattle.centre_events.specs.declared.refusal.Refusal.TheVariants as refusal
-use Rattle.centre_questions.specs.Questions.{of_area, of_bsc, of_warning, value_of}
+use Rattle.centre_questions.specs.Questions.{of_area, of_bsc, of_failed, of_known_area, of_sheet, of_warning, value_of}
 use Rattle.centre_questions.specs.declared.question.Question.{Question}
 use Rattle.centre_questions.specs.declared.question.Question.TheVariants as question
 use Rattle.centre_questions.specs.declared.seen_value.SeenValue.{SeenValue}
@@ -127,6 +130,18 @@ of_bsc_stale : (there : Bool) (v : SeenValue) → of_bsc there v ≡ Err refusal
 of_bsc_stale true v h = cc h
 of_bsc_stale false v h = cc h
 
+of_known_area_stale : (there : Bool) (v : SeenValue) → of_known_area there v ≡ Err refusal.Stale → ⊥
+of_known_area_stale true v h = cc h
+of_known_area_stale false v h = cc h
+
+of_sheet_stale : (sheet : Option WarningSheet) → of_sheet sheet ≡ Err refusal.Stale → ⊥
+of_sheet_stale None h = cc h
+of_sheet_stale (Some s) h = cc h
+
+of_failed_stale : (rows : Option (List FailedRow)) → of_failed rows ≡ Err refusal.Stale → ⊥
+of_failed_stale None h = cc h
+of_failed_stale (Some rows) h = cc h
+
 -- no question is refused as stale by what the journal says
 value_stale : (past : Past) (q : Question) → value_of past q ≡ Err refusal.Stale → ⊥
 value_stale past (question.Total w) h = of_warning_stale (board past w) h
@@ -135,6 +150,13 @@ value_stale past (question.Place c) h = cc h
 value_stale past (question.Pending b) h = of_bsc_stale (is_bsc past b) (value.Pending (pending past b)) h
 value_stale past (question.Table b) h = of_bsc_stale (is_bsc past b) (value.Table (table past b)) h
 value_stale past (question.InFlight b) h = of_bsc_stale (is_bsc past b) (value.InFlight (in_flight past b)) h
+value_stale past question.Bscs h = cc h
+value_stale past (question.Cells b) h = of_bsc_stale (is_bsc past b) (value.Cells (cell_rows past b)) h
+value_stale past question.Areas h = cc h
+value_stale past (question.Selectors a) h = of_known_area_stale (is_area past a) (value.Selectors (area_selectors past a)) h
+value_stale past question.Warnings h = cc h
+value_stale past (question.Warning w) h = of_sheet_stale (sheet_of past w) h
+value_stale past (question.Failed w) h = of_failed_stale (failed_of past w) h
 
 told_whole : (v : SeenValue) → told v ≡ response.Refused refusal.Stale → ⊥
 told_whole (value.Numbers n) h = cc h

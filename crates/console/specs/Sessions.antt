@@ -83,7 +83,8 @@ BringsUp old b other new = ⊥
 abbrev pub AsksWhole : SessionState → Response → SessionState → Type 0 → Type 0
 AsksWhole old r new asked = MatchBool old.centre.stale (Says old (response.Refused refusal.Stale) r new) asked
 
--- what a question is answered, as a line tells it; no line asks where a cell is, nor what is in flight
+-- what a question is answered, as a line tells it; no line asks where a cell is, nor what is in flight, nor for another
+-- list
 abbrev pub told : SeenValue → Response
 told (value.Numbers numbers) = response.Board numbers
 told (value.Pending orders) = response.Pending orders
@@ -92,15 +93,18 @@ told other = response.Silence
 
 -- there is a line for the question
 abbrev pub HasLine : Question → Type 0
-HasLine (question.Place c) = ⊥
-HasLine (question.InFlight b) = ⊥
-HasLine other = Unit {0}
+HasLine (question.Total w) = Unit {0}
+HasLine (question.Area w a) = Unit {0}
+HasLine (question.Pending b) = Unit {0}
+HasLine (question.Table b) = Unit {0}
+HasLine other = ⊥
 
 -- a question for which there is a line is answered so
 abbrev pub IsToldInLine : SeenValue → Type 0
-IsToldInLine (value.Place p) = ⊥
-IsToldInLine (value.InFlight f) = ⊥
-IsToldInLine other = Unit {0}
+IsToldInLine (value.Numbers numbers) = Unit {0}
+IsToldInLine (value.Pending orders) = Unit {0}
+IsToldInLine (value.Table keys) = Unit {0}
+IsToldInLine other = ⊥
 
 -- the answer to a question, or why there is none
 abbrev pub SaysValue : SessionState → Result SeenValue Refusal → Response → SessionState → Type 0

@@ -403,6 +403,14 @@ fn told(value: SeenValue) -> Response
         SeenValue::Numbers(numbers) => Response::Board(numbers),
         SeenValue::Pending(orders) => Response::Pending(orders),
         SeenValue::Table(keys) => Response::Table(keys),
-        SeenValue::Place(_) | SeenValue::InFlight(_) => unreachable!(),
+        SeenValue::Place(_)
+        | SeenValue::InFlight(_)
+        | SeenValue::Bscs(_)
+        | SeenValue::Cells(_)
+        | SeenValue::Areas(_)
+        | SeenValue::Selectors(_)
+        | SeenValue::Warnings(_)
+        | SeenValue::Warning(_)
+        | SeenValue::Failed(_) => unreachable!(),
     }
 }
