@@ -10,9 +10,12 @@ const WRITE: u8 = 0x01;
 const WRITTEN: &[u8] =
     b"\x02\x00\x00\x10\x0e\x11\x12\x03\xc0\x00\x04\x00\x05\x01\x00\x64\x00\x07\x12\x00";
 
-/// The same in cell 100 8.
+/// The same in cell 100 8, and of message 4371 there.
 const WRITTEN_8: &[u8] =
     b"\x02\x00\x00\x10\x0e\x11\x12\x03\xc0\x00\x04\x00\x05\x01\x00\x64\x00\x08\x12\x00";
+
+const OTHER_8: &[u8] =
+    b"\x02\x00\x00\x10\x0e\x11\x13\x03\xc0\x00\x04\x00\x05\x01\x00\x64\x00\x08\x12\x00";
 
 /// A WRITE-REPLACE FAILURE of message 4370 with serial number C000 that names no cell of the centre: its cell is one of another
 /// network.
@@ -113,7 +116,7 @@ const WITHOUT_REPLY: Play = Play {
 };
 
 /// A BSC whose replies settle nothing gets the same order again and again: that is said the third time, and from the tenth time on
-/// the order waits for a second. Meanwhile another BSC goes on, and the first one does once it settles.
+/// the order waits for a second. Meanwhile another BSC and the operator go on, and the first BSC does once it settles.
 #[test]
 fn a_bsc_that_never_settles_holds_up_no_other(rt: HostRuntime) {
     played(&rt, rt.alloc(), &NEVER_SETTLES);
@@ -146,7 +149,11 @@ const NEVER_SETTLES: Play = Play {
             "board 1\n",
             "awaited 1 onair 1 failed 0 left 0 broadcasts 0\n",
         ),
-        Act::WaitsFor(0, 500),
+        Act::Lines("area add Hills\narea put Hills 100 8\n", 2),
+        Act::Types("issue 4371 3 15 0 30 d4f29c0e Hills\n", "ok "),
+        Act::Answers(1, WRITE, OTHER_8),
+        Act::Repeats("board 2\n", ON_AIR),
+        Act::WaitsFor(0, 200),
         Act::Sends(0, WRITTEN, 1),
         Act::Repeats(
             "board 1\n",
