@@ -1,7 +1,7 @@
 //! A thread that keeps a journal in a file, and those who wait for it. Generic over the journal that is followed: `Followed` is an
 //! office, as the thread sees it.
 //!
-//! Begin with `keeping`, which is what the thread does; `kept` is what it shares with those who wait, and `progress` what stands
+//! Begin with `keeping`, which is what the thread does; `kept` is what it shares with those who wait, and `kept_state` what stands
 //! under its lock. Nothing is to be told of an entry before `Kept::wait_kept` answers that it is kept.
 #![tactic(auto)]
 
