@@ -20,6 +20,7 @@ use Rattle.centre_past.specs.Legal.{HasWhole, Known, Lawful, all_entries, checkp
 use Rattle.centre_past.proofs.LawfulLemmas.{lawful_folded, legal_lawful, whole}
 use Rattle.centre_questions.specs.Questions.{value_of}
 use Rattle.centre_questions.specs.declared.question.Question.{Question}
+use Rattle.centre_questions.specs.declared.question.Question.TheVariants as question
 use Rattle.centre_questions.specs.declared.seen_value.SeenValue.{SeenValue}
 use Rattle.console.specs.Generations.{generation_of}
 use Rattle.console.specs.Replays.{new_session}
@@ -53,6 +54,9 @@ Holds s = HasLines s.centre
 
 -- ---- what becomes of them
 
+staled : (is_stale : Bool) (s : SessionState) → Holds s → Holds (with_stale is_stale s)
+staled is_stale s h = record { lawful = h.lawful; lines = h.lines }
+
 unchanged : (old : SessionState) (said r : Response) (new : SessionState) → Holds old → Says old said r new → Holds new
 unchanged old said r new h says = subst Holds (sym says.1) h
 
@@ -62,9 +66,9 @@ all_more P [] (y ∷ ys) e h is = (h.0, all_more P [] ys e h.1 is)
 all_more P (x ∷ xs) ys e h is = (h.0, all_more P xs ys e h.1 is)
 
 one_more : (centre : Known) (e : Entry) → verdict centre.settings (past centre) e.event ≡ Ok e.answer → IsAsked e.event → HasLines centre → HasLines (with_entry e centre)
-one_more centre e is asked h = record {
+one_more centre e is given h = record {
   lawful = subst (Lawful centre.settings) (sym (past_more e centre)) (is, h.lawful);
-  lines = all_more (λ (x : Entry). HasLine x.event) centre.folded centre.journal e h.lines (accepted_has_line centre.settings (past centre) e.event e.answer h.lawful is (inl asked));
+  lines = all_more (λ (x : Entry). HasLine x.event) centre.folded centre.journal e h.lines (accepted_has_line centre.settings (past centre) e.event e.answer h.lawful is (inl given));
 }
 
 folded_lines : (centre : Known) → HasLines centre → HasLines (checkpointed centre)
@@ -84,26 +88,26 @@ given_by_past old e a is = step old.centre.stale is
     step false some = some
 
 entered_lines : (old : SessionState) (e : Event) (a : Answer) → Holds old → IsAsked e → verdict_in old e ≡ Ok a → Holds (entered old e a)
-entered_lines old e a h asked is = one_more old.centre (entry_of e a) (given_by_past old e a is) asked h
+entered_lines old e a h given is = one_more old.centre (entry_of e a) (given_by_past old e a is) given h
 
 submitted : (old : SessionState) (e : Event) (r : Response) (new : SessionState) → Holds old → IsAsked e → Submits old e r new → Holds new
-submitted old e (response.Accepted number a) new h asked done = subst Holds (sym done.1) (entered_lines old e a h asked done.0.0)
-submitted old e (response.Refused r) new h asked done = subst Holds (sym done.1) h
-submitted old e _ new h asked done = absurd done
+submitted old e (response.Accepted number a) new h given done = subst Holds (sym done.1) (entered_lines old e a h given done.0.0)
+submitted old e (response.Refused r) new h given done = subst Holds (sym done.1) h
+submitted old e _ new h given done = absurd done
 
 linked : (b : ℕ) (a : Answer) (s : SessionState) → Holds s → Holds (with_link b a s)
 linked b (answer.Link generation) s h = h
 linked b _ s h = h
 
 brought_up : (old : SessionState) (b : ℕ) (r : Response) (new : SessionState) → Holds old → IsAsked (event.LinkUp b) → BringsUp old b r new → Holds new
-brought_up old b (response.Accepted number a) new h asked done =
-    subst Holds (sym done.1) (linked b a (entered old (event.LinkUp b) a) (entered_lines old (event.LinkUp b) a h asked done.0.0))
-brought_up old b (response.Refused r) new h asked done = subst Holds (sym done.1) h
-brought_up old b _ new h asked done = absurd done
+brought_up old b (response.Accepted number a) new h given done =
+    subst Holds (sym done.1) (linked b a (entered old (event.LinkUp b) a) (entered_lines old (event.LinkUp b) a h given done.0.0))
+brought_up old b (response.Refused r) new h given done = subst Holds (sym done.1) h
+brought_up old b _ new h given done = absurd done
 
 submitted_line : (old : SessionState) (o : Option Event) (r : Response) (new : SessionState) → Holds old → ((e : Event) → o ≡ Some e → IsAsked e) → SubmitsLine old o r new → Holds new
-submitted_line old None r new h asked done = unchanged old response.BadHex r new h done
-submitted_line old (Some e) r new h asked done = submitted old e r new h (asked e refl) done
+submitted_line old None r new h given done = unchanged old response.BadHex r new h done
+submitted_line old (Some e) r new h given done = submitted old e r new h (given e refl) done
 
 -- a question
 asked_whole : (old : SessionState) (r : Response) (new : SessionState) (whole_asked : Type 0) → Holds old → (whole_asked → Holds new) → AsksWhole old r new whole_asked → Holds new
@@ -118,16 +122,16 @@ valued old (Ok v) r new h says = unchanged old (told v) r new h says
 valued old (Err e) r new h says = unchanged old (response.Refused e) r new h says
 
 questioned : (old : SessionState) (q : Question) (r : Response) (new : SessionState) → Holds old → Asks old q r new → Holds new
-questioned old q r new h done = asked_whole old r new _ h (valued old (value_of (past old.centre) q) r new h) done
+questioned old q r new h done = asked_whole old r new (SaysValue old (value_of (past old.centre) q) r new) h (valued old (value_of (past old.centre) q) r new h) done
 
 -- ---- the message of a frame
 
 module _ (old : SessionState) (b : ℕ) (text : List ℕ) (r : Response) (new : SessionState) (h : Holds old)
-    (asked : (e : Event) → StandsFor (generation_of old.kept) (line.Report b text) e → IsAsked e) where
+    (given : (e : Event) → StandsFor (generation_of old.kept) (line.Report b text) e → IsAsked e) where
   body_reported : (octets : List ℕ) (frame : Frame) (t : MessageType) → octets_of text ≡ Some octets → IsFrame octets frame → report_type frame.kind ≡ Some t → ReportsBody old b t frame.body r new → Holds new
   body_reported octets frame t spelled whole_frame kind (inl done) =
       submitted old (event.Report b (generation_of old.kept b) done.0) r new h
-      (asked (event.Report b (generation_of old.kept b) done.0)
+      (given (event.Report b (generation_of old.kept b) done.0)
       (done.0, record { octets = octets; frame = frame; kind = t; spelled = spelled; whole = whole_frame; report = kind; encoded = done.1 }, refl)) done.2
   body_reported octets frame t spelled whole_frame kind (inr done) = unchanged old (response.BadMessage done.0) r new h done.2
 
@@ -150,22 +154,22 @@ module _ (old : SessionState) (b : ℕ) (text : List ℕ) (r : Response) (new : 
 -- ---- a line that asks for something
 
 responded : (old : SessionState) (l : Line) (r : Response) (new : SessionState) → Holds old → ((e : Event) → StandsFor (generation_of old.kept) l e → IsAsked e) → Responds old l r new → Holds new
-responded old (line.Up b) r new h asked done = brought_up old b r new h (asked (event.LinkUp b) refl) done
-responded old (line.Keep b generation) r new h asked done = subst Holds (sym done.1) h
-responded old (line.Report b text) r new h asked done = reported old b text r new h asked done
-responded old (line.Board n) r new h asked done = questioned old _ r new h done
-responded old (line.AreaBoard n a) r new h asked done = questioned old _ r new h done
-responded old (line.Pending b) r new h asked done = questioned old _ r new h done
-responded old (line.Table b) r new h asked done = questioned old _ r new h done
-responded old line.Rebuild r new h asked done = subst Holds (sym done.1) h
-responded old line.Checkpoint r new h asked done = asked_whole old r new _ h (λ folds. subst Holds (sym folds.1) (folded_lines old.centre h)) done
-responded old l r new h asked done = submitted_line old (event_of old l) r new h asked done
+responded old (line.Up b) r new h given done = brought_up old b r new h (given (event.LinkUp b) refl) done
+responded old (line.Keep b generation) r new h given done = subst Holds (sym done.1) h
+responded old (line.Report b text) r new h given done = reported old b text r new h given done
+responded old (line.Board n) r new h given done = questioned old (question.Total n) r new h done
+responded old (line.AreaBoard n a) r new h given done = questioned old (question.Area n a) r new h done
+responded old (line.Pending b) r new h given done = questioned old (question.Pending b) r new h done
+responded old (line.Table b) r new h given done = questioned old (question.Table b) r new h done
+responded old line.Rebuild r new h given done = subst Holds (sym done.1) (staled false old h)
+responded old line.Checkpoint r new h given done = asked_whole old r new (Folds old r new) h (λ folds. subst Holds (sym folds.1) (folded_lines old.centre h)) done
+responded old l r new h given done = submitted_line old (event_of old l) r new h given done
 
 -- ---- where memory ran out
 
 starved_at : (old : SessionState) (e : Event) (r : Response) (new : SessionState) → Holds old → StarvesAt old e r new → Holds new
 starved_at old e r new h (may, inl same) = unchanged old (response.Refused refusal.Memory) r new h same
-starved_at old e r new h (may, inr stale) = subst Holds (sym stale.1) h
+starved_at old e r new h (may, inr stale) = subst Holds (sym stale.1) (staled true old h)
 
 starved_line : (old : SessionState) (o : Option Event) (r : Response) (new : SessionState) → Holds old → IsSomeAnd o (λ e. StarvesAt old e r new) → Holds new
 starved_line old None r new h done = absurd done
