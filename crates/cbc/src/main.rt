@@ -4,10 +4,12 @@
 use console::run;
 use framing::{FromRead, FromWrite};
 use server::serve_words;
+use server_operator::TimedInput;
 use std::alloc::Global;
 use std::fs::{File, Files};
 use std::io::{BufReader, Eprint, ErrorKind, Read, Write};
 use std::net::{Net, TcpListener, TcpStream};
+use std::os::fd::AsRawFd;
 use std::process::ExitCode;
 use std::sync::Wait;
 use std::thread::Threads;
@@ -35,7 +37,7 @@ fn main(rt: HostRuntime) -> ExitCode {
     }
 }
 
-/// Runs the server on standard input and output.
+/// Runs the server on standard input and output. It looks now and then whether to go on, while nothing comes.
 fn serve<
     R: Files<File = File>
         + Wait
@@ -44,11 +46,11 @@ fn serve<
         + Sync
         + Eprint
         + Net<Stream = TcpStream, Listener = TcpListener>,
-    I: Read + Send + Drop,
+    I: Read + AsRawFd + Send + Drop,
     W: Write + Send + Drop,
     E: Write + Send + Drop,
 >(rt: &R, alloc: Global, words: &[String], input: I, output: W, errors: E) -> ExitCode {
-    match BufReader::new(alloc, input) {
+    match BufReader::new(alloc, TimedInput::new(input)) {
         Ok(reader) => ExitCode::from(serve_words(rt, alloc, words, reader, output, errors)),
         Err(_) => no_memory(rt),
     }

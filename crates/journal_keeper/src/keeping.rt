@@ -3,7 +3,6 @@
 use crate::followed::Followed;
 use crate::keep_fault::KeepFault;
 use crate::kept::Kept;
-use crate::pace::Pace;
 use journal_file::{JournalFile, Writing};
 use std::sync::Wait;
 
@@ -17,42 +16,20 @@ type Made<J> = Option<(u64, FoldAnswer<J>)>;
 #[derive(Drop)]
 pub struct Keeper<F: Drop> {
     pub writing: Writing,
-    pub pace: Pace,
     pub file: F,
 }
 
-/// Folds the journal, and puts what it hands out.
-fn fold<J: Followed, R: Wait>(
-    rt: &R,
-    journal: &J,
-    writing: &mut Writing,
-    pace: &mut Pace,
-) -> Result<FoldAnswer<J>, KeepFault> {
-    let answer = journal.put_fold(rt, writing)?;
-    match &answer {
-        Ok(_) => pace.folded(writing.taken()),
-        Err(_) => pace.refused(writing.taken()),
-    }
-    Ok(answer)
-}
-
-/// Puts the next entries, and folds where that is asked for or due.
+/// Puts the next entries, and folds where that is asked for.
 fn put<J: Followed, R: Wait>(
     rt: &R,
     journal: &J,
     wanted: Option<u64>,
     writing: &mut Writing,
-    pace: &mut Pace,
 ) -> Result<Made<J>, KeepFault> {
     journal.put_entries(rt, writing)?;
     match wanted {
-        Some(number) => Ok(Some((number, fold(rt, journal, writing, pace)?))),
-        None => {
-            if pace.is_due(writing.taken()) {
-                let _ = fold(rt, journal, writing, pace)?;
-            }
-            Ok(None)
-        }
+        Some(number) => Ok(Some((number, journal.put_fold(rt, writing)?))),
+        None => Ok(None),
     }
 }
 
@@ -64,7 +41,7 @@ fn turn<J: Followed, F: JournalFile + Drop, R: Wait>(
     wanted: Option<u64>,
     keeper: &mut Keeper<F>,
 ) -> Result<(), KeepFault> {
-    let made = put(rt, journal, wanted, &mut keeper.writing, &mut keeper.pace)?;
+    let made = put(rt, journal, wanted, &mut keeper.writing)?;
     if keeper.writing.keep(&mut keeper.file).is_err() {
         return Err(KeepFault::File);
     }
@@ -93,8 +70,8 @@ fn keep_on<J: Followed, F: JournalFile + Drop, R: Wait>(
     Ok(())
 }
 
-/// Keeps the entries of a journal in the file as they come, and folds the journal where that is asked for or due. Nobody else folds
-/// it. What comes in during one sync goes with the next. It ends once it is told to end and all entries are kept, or at a fault:
+/// Keeps the entries of a journal in the file as they come, and folds the journal where that is asked for. Nobody else folds it. What
+/// comes in during one sync goes with the next. It ends once it is told to end and all entries are kept, or at a fault:
 /// then nothing is kept any more, and all who wait go on.
 ///
 /// The thread is to be interrupted after `Kept::ask_fold` and `Kept::end`.

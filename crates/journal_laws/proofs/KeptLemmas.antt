@@ -26,11 +26,11 @@ abbrev pub KeepsLinks : Past → List Kept → Type 0
 KeepsLinks past kept = (b : ℕ) → is_up past b ≡ true → generation_of kept b ≡ last_link past b
 
 -- a check that an accepted event passes, and those after it
-passed : (check : Bool) (r : Refusal) (rest : Result Answer Refusal) (a : Answer) → (if check then Err r else rest) ≡ Ok a → (check ≡ false) × (rest ≡ Ok a)
+pub passed : (check : Bool) (r : Refusal) (rest : Result Answer Refusal) (a : Answer) → (if check then Err r else rest) ≡ Ok a → (check ≡ false) × (rest ≡ Ok a)
 passed true r rest a is = absurd (cc is)
 passed false r rest a is = (refl, is)
 
-not_false : (b : Bool) → not b ≡ false → b ≡ true
+pub not_false : (b : Bool) → not b ≡ false → b ≡ true
 not_false true h = refl
 not_false false h = sym h
 

@@ -3,3 +3,5 @@ pub mod KeptLemmas
 pub mod StepLemmas
 pub mod FileLemmas
 pub mod ReplayedLemmas
+pub mod GivenLemmas
+pub mod EnteredLemmas

@@ -1,6 +1,24 @@
 //! Laws of journals and their lines, each the contract of a function that does nothing.
 
+ghost use Rattle.journal_laws.specs.Given.{AcceptedHasLine, AllEnteredHaveLines, EntriesHaveLines};
 ghost use Rattle.journal_laws.specs.Replayed.{JournalIsReplayed};
+
+/// Lemma: an event that a lawful centre accepts has a line, however it came in: asked for by a line of the console, as the
+/// report of a message that was read of a frame and that a BSC sends, as the RESTART that a server enters for a BSC, or as
+/// an event of a link.
+pub fn accepted_has_line()
+    ensures { AcceptedHasLine }
+{}
+
+/// Lemma: so every entry of a centre has a line, where the events of its entries came in so.
+pub fn entries_have_lines()
+    ensures { EntriesHaveLines }
+{}
+
+/// Lemma: every entry that the console made has a line, whatever it read, and also where memory ran out for some lines.
+pub fn all_entered_have_lines()
+    ensures { AllEnteredHaveLines }
+{}
 
 /// Lemma: a legal journal, with checkpoints between its entries, whose events have lines, is made again by `replay` of
 /// these lines. Each line is accepted, an entry with the same number and answer, a checkpoint with the number of entries

@@ -80,11 +80,6 @@ impl<'a, L: Ledger, R: Wait> Entering<'a, L, R> {
         }
     }
 
-    /// How many entries aren't folded.
-    pub fn unfolded(&self) -> u64 {
-        self.unfolded
-    }
-
     /// Folds the journal, and lets go of the receipts of its entries.
     fn fold(&mut self) -> Result<(), NotTaken> {
         match self.office.checkpoint(self.rt) {

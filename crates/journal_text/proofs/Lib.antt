@@ -9,3 +9,7 @@ pub mod EditLemmas
 pub mod EventLemmas
 pub mod ReportLemmas
 pub mod ReadingLemmas
+pub mod OctetLemmas
+pub mod ElementLemmas
+pub mod MessageLemmas
+pub mod AskedLemmas

@@ -1,3 +1,4 @@
 pub mod Texts
 pub mod Sayable
 pub mod Reading
+pub mod Laws

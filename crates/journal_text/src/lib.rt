@@ -8,6 +8,7 @@ mod checks;
 mod contents;
 mod edits;
 mod events;
+mod laws;
 mod names;
 mod numbers;
 mod reading;
@@ -15,5 +16,6 @@ mod reports;
 mod words;
 mod writing;
 
+pub use laws::{asked_has_line, link_event_has_line, read_has_frame, restart_has_frame};
 pub use reading::{event_of, request_of};
 pub use writing::{checkpoint_line, line_of};

@@ -6,7 +6,7 @@ use console_text::ReplayFault;
 use journal_file::{
     DiskFile, JournalFile, LoadFault, Loaded, OpenFault, Writing, append_all, header, load,
 };
-use journal_keeper::{KeepFault, Keeper, Pace};
+use journal_keeper::{KeepFault, Keeper};
 use journal_office::Entering;
 use office::desk::Desk;
 use office::office::Office;
@@ -35,7 +35,7 @@ pub(crate) fn open_journal<R: Files<File = File>>(
 }
 
 /// What ends a start that can't read the file. The number of a line is said.
-fn unread<E: Write + Drop, R: Wait>(
+fn unread<E: Write + Drop, R: Wait + Clock>(
     rt: &R,
     alloc: Global,
     errors: &Errors<E>,
@@ -48,7 +48,7 @@ fn unread<E: Write + Drop, R: Wait>(
         LoadFault::OtherNetwork => ServeFault::OtherNetwork,
         LoadFault::LongLine(_) | LoadFault::BadLine(_) => {
             if let Ok(text) = format!(in alloc; "cbc: {fault}\n") {
-                errors.say(rt, text.as_bytes());
+                errors.say_last(rt, alloc, text.as_bytes());
             }
             ServeFault::JournalLine
         }
@@ -141,10 +141,5 @@ pub(crate) fn begin<L: Ledger, E: Write + Drop, R: Wait + Clock>(
     if writing.keep(&mut file).is_err() {
         return Err(ServeFault::Journal);
     }
-    let folded = writing.taken().saturating_sub(entering.unfolded());
-    Ok(Keeper {
-        pace: Pace::new(every, folded),
-        writing,
-        file,
-    })
+    Ok(Keeper { writing, file })
 }

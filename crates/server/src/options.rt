@@ -1,6 +1,6 @@
 //! What the server is run with.
 
-ghost use Rattle.std.specs.Prelude.{◌≤◌, IfSome};
+ghost use Rattle.std.specs.Prelude.{◌≡◌, ◌≤◌, ◌&&◌, IfSome, nat_lt};
 
 use clap::ArgMatches;
 use console_text::options::{FOLD, MOST_ENTRIES, MOST_SECONDS, REPLY_SECONDS, command_line};
@@ -13,6 +13,8 @@ use std::alloc::{AllocError, Global};
 pub struct ServeOptions {
     /// The network code, as TS 24.008 writes it in three octets.
     pub plmn: [u8; 3],
+    /// How many entries the journal may have since the last checkpoint. With `keep` at least 20,480, else it may be full before it is
+    /// folded.
     pub journal_limit: u32,
     /// After how many entries the journal is folded, or at nine tenths of it, whichever is less.
     pub fold: u32,
@@ -45,6 +47,8 @@ pub(crate) enum OptionsFault {
     BadPlmn,
     /// A port would be past 65,535, or a value is none that the parser takes.
     BadPorts,
+    /// The journal is to be kept in a file, and might fill up before it is folded.
+    SmallJournal,
     Memory,
 }
 
@@ -66,6 +70,29 @@ fn asked_journal(matches: &ArgMatches<'_>) -> u32
     match matches.get_one::<u32>("journal") {
         Some(limit @ 1..=MOST_ENTRIES) => limit,
         _ => MOST_ENTRIES,
+    }
+}
+
+/// The least that a journal may hold that is kept in a file. It is folded at nine tenths of that at the latest, and the fold waits for
+/// the disk. Meanwhile 513 threads may enter two events each before they wait for the fold, so a tenth has to have room for these.
+const LEAST_KEPT: u32 = 20_480;
+
+/// Whether the journal is kept in a file, and may hold so few entries that it fills up before it is folded.
+fn is_small(is_kept: bool, limit: u32) -> bool
+    ensures { result ≡ (is_kept && nat_lt limit 20480) }
+{
+    is_kept && limit < LEAST_KEPT
+}
+
+/// How many entries the journal may hold; `None` where that is too few.
+fn asked_limit(matches: &ArgMatches<'_>) -> Option<u32>
+    ensures { IfSome result (λ limit. limit ≤ 4000000) }
+{
+    let limit = asked_journal(matches);
+    if is_small(matches.get_str("keep").is_some(), limit) {
+        None
+    } else {
+        Some(limit)
     }
 }
 
@@ -126,12 +153,15 @@ fn options_of(alloc: Global, matches: &ArgMatches<'_>) -> Result<ServeOptions, O
     let Some((base, links)) = asked_ports(matches) else {
         return Err(OptionsFault::BadPorts);
     };
+    let Some(journal_limit) = asked_limit(matches) else {
+        return Err(OptionsFault::SmallJournal);
+    };
     let host = String::from_str(alloc, matches.get_str("host").unwrap_or("127.0.0.1"))?;
     let peers = asked_file(alloc, matches, "peers")?;
     let keep = asked_file(alloc, matches, "keep")?;
     Ok(ServeOptions {
         plmn,
-        journal_limit: asked_journal(matches),
+        journal_limit,
         fold: asked_fold(matches),
         host,
         base,

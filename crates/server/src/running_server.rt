@@ -52,6 +52,10 @@ impl<'a, L: Ledger, E: Write + Drop> Server for RunningServer<'a, L, E> {
         self.shared.wait_kept(rt)
     }
 
+    fn is_ending<R: Wait>(&self, rt: &R) -> bool {
+        self.shared.has_failed(rt)
+    }
+
     fn checkpoint<R: Wait>(&self, rt: &R) -> Result<u64, Refusal> {
         self.shared.checkpoint(rt)
     }

@@ -13,7 +13,7 @@ use journal_keeper::{Keeper, Kept};
 use link_rules::FoldPace;
 use office::desk::Desk;
 use office::office::Office;
-use server_errors::{AtOnce, Errors, say_of_centre};
+use server_errors::{Errors, say_of_centre};
 use server_links::{
     LinkOptions, Shared, accept_links, close_all, close_port, keep, read_links, simulate, watch,
     write_links,
@@ -30,6 +30,8 @@ use std::sync::{Condvar, Mutex, Wait};
 use std::thread;
 use std::thread::Threads;
 use std::time::Clock;
+
+const SMALL_JOURNAL: &[u8] = b"cbc: --keep needs a --journal of 20480 or more\n";
 
 const UNWATCHED: &str =
     "no thread can be started: orders without a reply are neither said nor do they cut a link";
@@ -267,6 +269,7 @@ fn run_desks<
         )?),
         None => None,
     };
+    shared.count_entered(rt);
     terminal.lock(rt).desk = Some(desk);
     open_desks(rt, &shared.office, ports)?;
     match run_keeper(rt, shared, keeper, terminal) {
@@ -417,9 +420,7 @@ pub fn serve<
     ) {
         Ok(()) => 0,
         Err((errors, fault)) => {
-            errors.close(rt);
-            errors.say_lines(rt, alloc, &AtOnce);
-            errors.say(rt, fault.words());
+            errors.say_last(rt, alloc, fault.words());
             1
         }
     }
@@ -427,7 +428,8 @@ pub fn serve<
 
 /// Runs the server with the options in the words of a command line, as `serve` does. The words are to ask for the server:
 /// `console::run` answers `None` for them. Of other words it says `cbc: out of memory`, and the status is 1. The status is 2
-/// where the network or the ports are bad: `cbc: bad plmn` or `cbc: bad ports` is said then.
+/// where the network or the ports are bad, or the journal that is to be kept may hold fewer than 20,480 entries: `cbc: bad plmn`,
+/// `cbc: bad ports` or `cbc: --keep needs a --journal of 20480 or more` is said then.
 pub fn serve_words<
     R: Files<File = File>
         + Wait
@@ -443,6 +445,7 @@ pub fn serve_words<
         Ok(options) => return serve(rt, alloc, &options, reader, writer, errors),
         Err(OptionsFault::BadPlmn) => (2, b"cbc: bad plmn\n".as_slice()),
         Err(OptionsFault::BadPorts) => (2, b"cbc: bad ports\n".as_slice()),
+        Err(OptionsFault::SmallJournal) => (2, SMALL_JOURNAL),
         Err(OptionsFault::Memory) => (1, fault_words(ReplayFault::Memory)),
     };
     let _ = errors.write_all(text);

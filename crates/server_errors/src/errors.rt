@@ -1,6 +1,6 @@
 //! The lines are said by a thread of its own.
 
-use crate::clearance::Clearance;
+use crate::clearance::{AtOnce, Clearance};
 use crate::lines::line_text;
 use crate::queue::Queue;
 use crate::utc::time_of;
@@ -98,5 +98,12 @@ impl<E: Write + Drop> Errors<E> {
                 None => break,
             }
         }
+    }
+
+    /// Says the lines that wait, and then the text. No line is said after it.
+    pub fn say_last<R: Wait + Clock>(&self, rt: &R, alloc: Global, text: &[u8]) {
+        self.close(rt);
+        self.say_lines(rt, alloc, &AtOnce);
+        self.say(rt, text);
     }
 }

@@ -1,5 +1,9 @@
 //! The thread of a port that takes connections.
 
+ghost use Rattle.std.specs.Prelude.{◌≡◌};
+ghost use Rattle.std.specs.Net.Addr.{IsCanonicalOf, MatchIp};
+ghost use Rattle.std.specs.Net.Socket.{socket_ip, socket_port};
+
 use crate::shared::{Shared, now_of};
 use link_rules::Verdict;
 use server_errors::{tell, tell_link};
@@ -87,7 +91,7 @@ fn offer<L: Ledger, E: Write + Drop, R: Wait + Clock>(
     stream: TcpStream,
     from: &SocketAddr,
 ) {
-    let is_named = shared.options.is_named(port.bsc, from.ip().to_canonical());
+    let is_named = shared.options.is_named(port.bsc, from.ip());
     match Connection::new(shared.alloc, stream, *from) {
         Ok(connection) => {
             let verdict = port.offer(rt, connection, is_named);
@@ -109,15 +113,24 @@ fn take_stream<L: Ledger, E: Write + Drop, R: Wait + Clock>(
     from: &SocketAddr,
 ) {
     let _ = stream.set_nodelay(true);
-    let from_ip = from.ip().to_canonical();
-    let is_named = shared.options.is_named(port.bsc, from_ip);
-    let verdict = port.verdict(rt, from_ip, is_named);
+    let is_named = shared.options.is_named(port.bsc, from.ip());
+    let verdict = port.verdict(rt, from.ip(), is_named);
     if is_refused(verdict) {
         drop(stream);
         tell_closed(rt, shared, port, from, verdict);
     } else {
         offer(rt, shared, port, stream, from);
     }
+}
+
+/// Where a connection came from. A BSC that comes over IPv4 to a port that listens on `::` has an IPv4-mapped IPv6 address: that
+/// counts as the IPv4 address, so that the BSC is known when it comes back, and may be named by it.
+fn plain_address(mut from: SocketAddr) -> SocketAddr
+    ensures ip { MatchIp (socket_ip from) (λ _. socket_ip result ≡ socket_ip from) (λ ip. IsCanonicalOf ip (socket_ip result)) }
+    ensures port { socket_port result ≡ socket_port from }
+{
+    from.set_ip(from.ip().to_canonical());
+    from
 }
 
 /// Takes connections to the port until it is closing.
@@ -135,7 +148,7 @@ fn accept_until_closed<L: Ledger, E: Write + Drop, R: Wait + Clock>(
         match accepted {
             Ok((stream, from)) => {
                 was_told = false;
-                take_stream(rt, shared, port, stream, &from);
+                take_stream(rt, shared, port, stream, &plain_address(from));
             }
             Err(error) => {
                 tell_untaken(rt, shared, port, &error, was_told);

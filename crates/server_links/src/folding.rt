@@ -1,4 +1,4 @@
-//! The journal is folded by itself: in the thread whose event makes that due.
+//! The journal is folded by itself: where the event of a thread makes that due.
 
 use crate::shared::Shared;
 use centre_events::refusal::Refusal;
@@ -13,16 +13,19 @@ const NO_MEMORY: &str =
     "the journal isn't folded: out of memory; that is tried again after 1,000 entries more, or once it is full";
 
 impl<L: Ledger, E: Write + Drop> Shared<L, E> {
-    /// An event may have been entered. Folds the journal where that is due and no file is kept: other threads wait that long before they go on. A stale
-    /// centre isn't folded.
+    /// An event may have been entered. Folds the journal where that is due: other threads that submit wait that long before they go on. So
+    /// the journal doesn't fill up meanwhile, where a file is kept and the fold waits for it. A stale centre isn't folded.
     pub fn submitted<R: Wait + Clock>(&self, rt: &R) {
-        if self.kept.is_some() {
-            return;
-        }
         let mut pace = self.folds.lock(rt);
         if pace.count() && pace.is_due(self.office.unfolded(rt)) {
             self.fold(rt, &mut pace);
         }
+    }
+
+    /// The entries that there are already, from the file of the journal, count for the next fold.
+    pub fn count_entered<R: Wait>(&self, rt: &R) {
+        let mut pace = self.folds.lock(rt);
+        let _ = pace.is_due(self.office.unfolded(rt));
     }
 
     /// Says how many entries were folded.
@@ -32,9 +35,19 @@ impl<L: Ledger, E: Write + Drop> Shared<L, E> {
         }
     }
 
+    /// Folds the journal. Where a file is kept, the thread that keeps it does, and this waits until the fold is kept too.
+    fn fold_now<R: Wait>(&self, rt: &R) -> Result<u64, Refusal> {
+        let Some(kept) = &self.kept else {
+            return self.office.checkpoint(rt);
+        };
+        let number = kept.ask_fold(rt);
+        self.office.interrupt(rt);
+        kept.wait_fold(rt, number).unwrap_or(Err(Refusal::Stale))
+    }
+
     /// Folds the journal, and says so.
     fn fold<R: Wait + Clock>(&self, rt: &R, pace: &mut FoldPace) {
-        match self.office.checkpoint(rt) {
+        match self.fold_now(rt) {
             Ok(count) => {
                 pace.fold();
                 self.tell_fold(rt, count);
@@ -50,13 +63,8 @@ impl<L: Ledger, E: Write + Drop> Shared<L, E> {
 
     /// Folds the journal now. The answer is how many entries it had.
     pub fn checkpoint<R: Wait>(&self, rt: &R) -> Result<u64, Refusal> {
-        if let Some(kept) = &self.kept {
-            let number = kept.ask_fold(rt);
-            self.office.interrupt(rt);
-            return kept.wait_fold(rt, number).unwrap_or(Err(Refusal::Stale));
-        }
         let mut pace = self.folds.lock(rt);
-        let count = self.office.checkpoint(rt)?;
+        let count = self.fold_now(rt)?;
         pace.fold();
         Ok(count)
     }

@@ -3,13 +3,21 @@
 use crate::closing::close_all;
 use crate::shared::Shared;
 use journal_file::DiskFile;
-use journal_keeper::{Keeper, keep_journal};
+use journal_keeper::{KeepFault, Keeper, keep_journal};
 use journal_office::OfficeJournal;
 use std::io::Write;
 use std::net::{Net, TcpListener, TcpStream};
 use std::sync::Wait;
 use std::sync::ledger::Ledger;
 use std::time::Clock;
+
+/// What is said at once where the journal isn't kept any more.
+fn words_of(fault: KeepFault) -> &'static [u8] {
+    match fault {
+        KeepFault::File | KeepFault::Entry => b"cbc: journal fault: nothing more is answered\n",
+        KeepFault::Memory => b"cbc: out of memory: nothing more is answered\n",
+    }
+}
 
 /// Keeps the journal in the file until all is kept once it is to end. Where the file fails, this is said at once, and all links end.
 pub fn keep<
@@ -24,10 +32,8 @@ pub fn keep<
         alloc: shared.alloc,
         office: &shared.office,
     };
-    if keep_journal(rt, &journal, kept, &mut keeper).is_err() {
-        shared
-            .errors
-            .say(rt, b"cbc: journal fault: nothing more is answered\n");
+    if let Err(fault) = keep_journal(rt, &journal, kept, &mut keeper) {
+        shared.errors.say(rt, words_of(fault));
         close_all(rt, shared);
     }
 }

@@ -26,7 +26,7 @@ pub struct Shared<L: Ledger, E: Drop> {
     pub options: LinkOptions,
     /// When the journal is folded. Who holds it folds it, so one thread does at a time.
     pub folds: Mutex<FoldPace>,
-    /// How far the journal is kept in a file, where it is. Then the thread that keeps it folds it, and nobody else.
+    /// How far the journal is kept in a file, where it is. Then the thread that keeps it folds it, where another asks for that.
     pub kept: Option<Kept<Result<u64, Refusal>>>,
     /// Whether a simulated BSC connects to each port.
     pub with_simulator: bool,

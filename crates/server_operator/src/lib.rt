@@ -17,7 +17,9 @@ mod sequel;
 mod server;
 mod submitting;
 mod terminal;
+mod timed_input;
 
 pub use operator::{Operator, operate};
 pub use server::Server;
 pub use terminal::Terminal;
+pub use timed_input::TimedInput;

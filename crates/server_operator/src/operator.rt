@@ -246,7 +246,7 @@ fn turn<L: Ledger, S: Server, R: Wait + Clock, I: BufRead + Drop, W: Write + Dro
     terminal: &mut Terminal<L, I, W>,
     desk: &mut OperatorDesk<L>,
 ) -> Result<bool, ReplayFault> {
-    let Some(line) = terminal.read_line(operator.alloc)? else {
+    let Some(line) = terminal.read_line(rt, operator.alloc, operator.server)? else {
         return Ok(false);
     };
     match hear(rt, operator, desk, line.as_slice())? {
@@ -271,7 +271,7 @@ fn answer_lines<L: Ledger, S: Server, R: Wait + Clock, I: BufRead + Drop, W: Wri
 }
 
 /// Answers the lines of the operator, each before the next is read, until `quit` or the end of the input, or where the journal isn't
-/// kept any more.
+/// kept any more. A reader that answers `WouldBlock` where nothing has come for a while has the last noticed without a line.
 pub fn operate<L: Ledger, S: Server, R: Wait + Clock, I: BufRead + Drop, W: Write + Drop>(
     rt: &R,
     operator: &Operator<'_, L, S>,

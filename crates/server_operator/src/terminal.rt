@@ -1,11 +1,13 @@
 //! The lines that come in, and where their answers go.
 
+use crate::server::Server;
 use console_text::ReplayFault;
 use console_text::lines::LONGEST_LINE;
 use framing::MOST_READS;
 use office::desk::Desk;
 use std::alloc::Global;
 use std::io::{BufRead, Error, ErrorKind, Write};
+use std::sync::Wait;
 use std::sync::ledger::Ledger;
 
 /// The most octets that are kept of a line: those that it may have, and its end.
@@ -19,12 +21,24 @@ pub struct Terminal<L: Ledger, I: Drop, W: Drop> {
     pub desk: Option<Desk<L>>,
 }
 
-/// The fault of a read.
-fn fault_of(error: &Error) -> ReplayFault {
-    if error.kind() == ErrorKind::OutOfMemory {
-        ReplayFault::Memory
-    } else {
-        ReplayFault::ReadFault
+/// What a read of a line came to.
+#[derive(Clone, Copy, Debug, PartialEq, Eq)]
+enum Step {
+    /// The line goes on.
+    More,
+    /// The line or the input has ended.
+    Ended,
+    /// Nothing has come for a while.
+    Nothing,
+}
+
+/// What a read that failed comes to, or its fault.
+fn step_of(error: &Error) -> Result<Step, ReplayFault> {
+    match error.kind() {
+        ErrorKind::Interrupted => Ok(Step::More),
+        ErrorKind::WouldBlock => Ok(Step::Nothing),
+        ErrorKind::OutOfMemory => Err(ReplayFault::Memory),
+        _ => Err(ReplayFault::ReadFault),
     }
 }
 
@@ -47,30 +61,55 @@ fn up_to_end(piece: &[u8]) -> &[u8] {
 }
 
 impl<L: Ledger, I: BufRead + Drop, W: Write + Drop> Terminal<L, I, W> {
-    /// Reads once, and puts what was read of the line behind the rest of it. The answer is whether the line or the input has ended.
-    fn read_on(&mut self, line: &mut Vec<u8>) -> Result<bool, ReplayFault> {
+    /// Reads once, and puts what was read of the line behind the rest of it.
+    fn read_on(&mut self, line: &mut Vec<u8>) -> Result<Step, ReplayFault> {
         let (count, has_ended) = match self.reader.fill_buf() {
             Ok(piece) => {
                 let front = up_to_end(piece);
                 line.extend_from_slice(front)?;
                 (front.len(), piece.is_empty() || front.ends_with(b"\n"))
             }
-            Err(error) if error.kind() == ErrorKind::Interrupted => return Ok(false),
-            Err(error) => return Err(fault_of(&error)),
+            Err(error) => return step_of(&error),
         };
         self.reader.consume(count);
-        Ok(has_ended)
+        Ok(if has_ended { Step::Ended } else { Step::More })
     }
 
-    /// The next line without its end; `None` at the end of the input. Of a line that is too long no more is read.
-    pub(crate) fn read_line(&mut self, alloc: Global) -> Result<Option<Vec<u8>>, ReplayFault> {
-        let mut line = Vec::new(alloc);
+    /// Reads to the end of a line or of the input. The answer is whether lines are answered still. Of a line that is too long no more
+    /// is read.
+    fn read_to_end<S: Server, R: Wait>(
+        &mut self,
+        rt: &R,
+        server: &S,
+        line: &mut Vec<u8>,
+    ) -> Result<bool, ReplayFault> {
         for _turn in 0..MOST_READS {
-            if self.read_on(&mut line)? || line.len() > MOST_KEPT {
+            match self.read_on(line)? {
+                Step::More => {}
+                Step::Ended => break,
+                Step::Nothing => {
+                    if server.is_ending(rt) {
+                        return Ok(false);
+                    }
+                }
+            }
+            if line.len() > MOST_KEPT {
                 break;
             }
         }
-        if line.is_empty() {
+        Ok(true)
+    }
+
+    /// The next line without its end; `None` at the end of the input, and where no line is answered any more: that is asked each time
+    /// that the reader answers that nothing has come (`WouldBlock`).
+    pub(crate) fn read_line<S: Server, R: Wait>(
+        &mut self,
+        rt: &R,
+        alloc: Global,
+        server: &S,
+    ) -> Result<Option<Vec<u8>>, ReplayFault> {
+        let mut line = Vec::new(alloc);
+        if !self.read_to_end(rt, server, &mut line)? || line.is_empty() {
             return Ok(None);
         }
         let front = without_end(line.as_slice());

@@ -4,7 +4,7 @@
 use crate::checks::{same, yes};
 use crate::given_journal::{Journal, Refused};
 use journal_file::{MemoryFile, Writing};
-use journal_keeper::{Followed, KeepFault, Keeper, Kept, Pace, keep_journal};
+use journal_keeper::{Followed, KeepFault, Keeper, Kept, keep_journal};
 use std::alloc::Global;
 use std::process::Abort;
 use std::sync::Wait;
@@ -13,10 +13,9 @@ use std::thread::Threads;
 
 type Answer = Result<u64, Refused>;
 
-fn keeper(alloc: Global, room: usize, syncs: usize, every: u64) -> Keeper<MemoryFile> {
+fn keeper(alloc: Global, room: usize, syncs: usize) -> Keeper<MemoryFile> {
     Keeper {
         writing: Writing::new(alloc, 0),
-        pace: Pace::new(every, 0),
         file: MemoryFile::new(Vec::new(alloc), room, syncs),
     }
 }
@@ -77,7 +76,7 @@ fn entries_and_folds_stand_in_their_order(rt: HostRuntime) {
     let (journal, kept) = (Journal::new(alloc, 1), Kept::new(0));
     let (shared, waiting) = (&journal, &kept);
     let host = &rt;
-    let given = keeper(alloc, 1000, 1000, 100);
+    let given = keeper(alloc, 1000, 1000);
     let ((result, keeper), answers) = thread::join(
         &rt,
         move || keeps(host, shared, waiting, given),
@@ -110,7 +109,7 @@ fn all_are_kept_before_the_end(rt: HostRuntime) {
     let (journal, kept) = (Journal::new(alloc, 0), Kept::new(0));
     let (shared, waiting) = (&journal, &kept);
     let host = &rt;
-    let given = keeper(alloc, 100_000, 100_000, 1000);
+    let given = keeper(alloc, 100_000, 100_000);
     let ((result, keeper), ()) = thread::join(
         &rt,
         move || keeps(host, shared, waiting, given),
@@ -153,7 +152,7 @@ fn fails_after<R: Wait + Threads + Abort + Sync>(
 ) {
     let (journal, kept) = (Journal::new(alloc, 0), Kept::new(0));
     let (shared, waiting) = (&journal, &kept);
-    let given = keeper(alloc, room, syncs, 1000);
+    let given = keeper(alloc, room, syncs);
     let ((result, keeper), count) = thread::join(
         rt,
         move || keeps(rt, shared, waiting, given),
@@ -191,7 +190,7 @@ fn a_fold_of_a_file_that_failed_is_not_answered(rt: HostRuntime) {
     let (journal, kept) = (Journal::new(alloc, 0), Kept::new(0));
     let (shared, waiting) = (&journal, &kept);
     let host = &rt;
-    let given = keeper(alloc, 1000, 0, 1000);
+    let given = keeper(alloc, 1000, 0);
     let ((result, keeper), answer) = thread::join(
         &rt,
         move || keeps(host, shared, waiting, given),
@@ -204,29 +203,5 @@ fn a_fold_of_a_file_that_failed_is_not_answered(rt: HostRuntime) {
         "the thread ends by the file",
     );
     same(&rt, answer, None, "the fold isn't answered");
-    drop(keeper);
-}
-
-#[test]
-fn the_thread_folds_of_itself(rt: HostRuntime) {
-    let alloc = rt.alloc();
-    let (journal, kept) = (Journal::new(alloc, 1), Kept::new(0));
-    let (shared, waiting) = (&journal, &kept);
-    let host = &rt;
-    let given = keeper(alloc, 1000, 1000, 2);
-    let ((result, keeper), count) = thread::join(
-        &rt,
-        move || keeps(host, shared, waiting, given),
-        move || kept_before(host, shared, waiting, 5),
-    );
-    same(&rt, result, Ok(()), "the thread ends");
-    same(&rt, count, 5, "all are kept");
-    let text = b"up 1\nup 1\nup 1\ncheckpoint\nup 1\nup 1\ncheckpoint\n".as_slice();
-    same(
-        &rt,
-        keeper.file.octets(),
-        text,
-        "a fold that was refused is tried again behind the next entry",
-    );
     drop(keeper);
 }

@@ -1,4 +1,5 @@
-//! Tests of a journal in a file: files of the system, and the thread that keeps a journal.
+//! Tests of a journal in a file: files of the system, the thread that keeps a journal, folds meanwhile, and how an operator's lines end
+//! where the file fails.
 #![tactic(auto)]
 
 #[cfg(test)]
@@ -6,8 +7,14 @@ mod checks;
 #[cfg(test)]
 mod disk_file_tests;
 #[cfg(test)]
+mod fold_tests;
+#[cfg(test)]
 mod given_journal;
 #[cfg(test)]
 mod keeper_tests;
 #[cfg(test)]
+mod operator_tests;
+#[cfg(test)]
 mod restart_tests;
+#[cfg(test)]
+mod timed_input_tests;

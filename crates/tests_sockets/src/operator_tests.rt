@@ -1,0 +1,95 @@
+//! What no clause says of a server's operator: that a link is cut, and what is said of BSCs that are down or have no port.
+
+use crate::given_plays::{Act, Play, USUAL, played};
+use crate::given_texts::Wanted;
+
+/// A link that is up is cut, and one that isn't is not. The BSC connects once more and its next link is cut too.
+#[test]
+fn links_are_cut(rt: HostRuntime) {
+    played(&rt, rt.alloc(), &CUTS);
+}
+
+const CUTS: Play = Play {
+    words: &["--links", "2"],
+    acts: &[
+        Act::Types("cut 1\n", "no 3 NoSuchBsc\n"),
+        Act::Types("cut 0\n", "bad line\n"),
+        Act::Types("cut\n", "bad line\n"),
+        Act::Types("cut 1 1\n", "bad line\n"),
+        Act::Types("cut 65536\n", "bad line\n"),
+        Act::Types("bsc add 1\n", "ok 1\n"),
+        Act::Types("cut 1\n", "no 30 LinkNotUp\n"),
+        Act::Connects(1, 1),
+        Act::Repeats("cut 1\n", "ok 3\n"),
+        Act::IsClosed(0),
+        Act::Types("cut 1\n", "no 30 LinkNotUp\n"),
+        Act::Connects(1, 1),
+        Act::Repeats("cut 1\n", "ok 5\n"),
+        Act::IsClosed(1),
+        Act::Lines("quit\n", 0),
+    ],
+    answers: Wanted::Is("settled 5\n"),
+    said: Wanted::Bounds("cbc: BSC 1: link 2 is up\n", ""),
+    ..USUAL
+};
+
+/// A warning over a cell of BSC 1, and another over one of BSC 2, which never connects.
+const WARNINGS: &str =
+    "bsc add 1\nbsc add 2\ncell add 100 7 1\ncell add 100 8 2\narea add Coast\narea put Coast 100 7\narea add Hills\narea put Hills 100 8\nissue 4370 3 15 0 30 d4f29c0e Coast\nissue 4371 3 15 0 30 d4f29c0e Hills\n";
+
+const ON_AIR: &str = "awaited 0 onair 1 failed 0 left 0 broadcasts 0\n";
+
+const STAYS: &str = "cbc: warning 1: BSC 1 is down, what it has on air stays until it connects\n";
+
+/// A warning is on air at a BSC that is cut. That is said of the warning that is changed, and of no other warning or BSC.
+#[test]
+fn what_stays_on_air_after_a_stop_is_said(rt: HostRuntime) {
+    played(&rt, rt.alloc(), &AFTER_A_STOP);
+}
+
+const AFTER_A_STOP: Play = Play {
+    words: &["--sim"],
+    acts: &[
+        Act::Lines(WARNINGS, 10),
+        Act::Repeats("board 1\n", ON_AIR),
+        Act::Lines("cut 1\nstop 1\nstop 2\nquit\n", 3),
+    ],
+    answers: Wanted::Settled("40"),
+    said: Wanted::HasNot(STAYS, "warning 2"),
+    ..USUAL
+};
+
+#[test]
+fn what_stays_on_air_after_an_update_is_said(rt: HostRuntime) {
+    played(&rt, rt.alloc(), &AFTER_AN_UPDATE);
+}
+
+const AFTER_AN_UPDATE: Play = Play {
+    words: &["--sim"],
+    acts: &[
+        Act::Lines(WARNINGS, 10),
+        Act::Repeats("board 1\n", ON_AIR),
+        Act::Lines("cut 1\nupdate 1 15 0 30 d4\nupdate 2 15 0 30 d4\nquit\n", 3),
+    ],
+    answers: Wanted::Settled("40"),
+    said: Wanted::HasNot(STAYS, "warning 2"),
+    ..USUAL
+};
+
+/// A warning that is stopped while its BSC is up.
+#[test]
+fn nothing_is_said_of_a_bsc_that_is_up(rt: HostRuntime) {
+    played(&rt, rt.alloc(), &UP);
+}
+
+const UP: Play = Play {
+    words: &["--sim"],
+    acts: &[
+        Act::Lines(WARNINGS, 10),
+        Act::Repeats("board 1\n", ON_AIR),
+        Act::Lines("stop 1\nstop 2\nquit\n", 2),
+    ],
+    answers: Wanted::Settled("40"),
+    said: Wanted::HasNot("cbc: BSC 2 has no port: --links is 1\n", "warning"),
+    ..USUAL
+};

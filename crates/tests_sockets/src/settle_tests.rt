@@ -1,0 +1,52 @@
+//! What no run of a server comes to.
+
+ghost use Rattle.std.specs.Prelude.{◌≡◌};
+
+use crate::checks::same;
+use office::office::Office;
+use server::{ServeFault, settle};
+use std::alloc::Global;
+use std::marker::Brand;
+use std::process::Abort;
+use std::sync::Wait;
+use std::sync::ledger::{Blank, Ledger};
+
+/// What becomes of an office of two desks, both of which are handed in, or the first alone; and what is written.
+fn settles<L: Ledger, R: Wait + Abort>(
+    rt: &R,
+    alloc: Global,
+    blank: Blank,
+    both: bool,
+) -> (Result<(), ServeFault>, Vec<u8>)
+    requires name { blank.name ≡ L.name }
+    requires parts { blank.parts ≡ L.parts }
+    requires desks { blank.parts ≡ 1025 }
+{
+    let office = Office::<L>::new(alloc, blank, [0x00, 0xf1, 0x10], 10);
+    let first = office.open_desk(rt).expect(rt, "a desk is opened");
+    let second = office.open_desk(rt).expect(rt, "a desk is opened");
+    let mut desks = vec![in alloc; first].expect(rt, "memory");
+    if both {
+        desks.push(second).expect(rt, "memory");
+    }
+    let mut written = Vec::new(alloc);
+    let settled = settle(alloc, office, desks, &mut written);
+    (settled, written)
+}
+
+/// The fault of a server of whose desks one is not handed in.
+#[test]
+fn a_desk_that_is_missing_is_a_settle_fault(rt: HostRuntime) {
+    let fault = ServeFault::Settle;
+    let rows = [
+        (true, Ok(()), b"settled 0\n".as_slice()),
+        (false, Err(fault), b"".as_slice()),
+    ];
+    for (both, want, text) in rows {
+        let (settled, written) = settles::<Brand, _>(&rt, rt.alloc(), Blank::new(1025), both);
+        same(&rt, settled, want, "another end");
+        same(&rt, written.as_slice(), text, "another number");
+    }
+    let words = b"cbc: settle fault\n".as_slice();
+    same(&rt, fault.words(), words, "other words");
+}
