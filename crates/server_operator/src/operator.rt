@@ -47,7 +47,7 @@ pub struct Operator<'a, L: Ledger, S> {
 enum Heard {
     Quit,
     Answered(String),
-    Listed(Vec<u8>),
+    Listed(Octets),
 }
 
 /// What was seen, as an answer; no line asks for anything else.

@@ -36,6 +36,10 @@ impl Server for Alone {
         true
     }
 
+    fn is_ending<R: Wait>(&self, _rt: &R) -> bool {
+        false
+    }
+
     fn checkpoint<R: Wait>(&self, _rt: &R) -> Result<u64, Refusal> {
         Err(Refusal::Memory)
     }
