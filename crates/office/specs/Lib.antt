@@ -8,3 +8,4 @@ pub mod Wakes
 pub mod Affecting
 pub mod Sendings
 pub mod Handing
+pub mod Statuses

@@ -21,6 +21,7 @@ use centre_core::centre::Centre;
 use centre_events::event::Event;
 use centre_events::refusal::{Limit, Refusal};
 use centre_laws::headline::pending_gives_plan;
+use centre_past::lists::CentreStatus;
 use centre_questions::asking::ask;
 use centre_questions::question::Question;
 use std::alloc::{AllocError, Global};
@@ -65,6 +66,7 @@ impl<L: Ledger> Held<L> {
     ghost use Rattle.centre_core.specs.Centre.{Leaves, Refuses};
     ghost use Rattle.centre_past.specs.Headline.{PendingGivesPlan};
     ghost use Rattle.centre_past.specs.Legal.{Lawful, all_entries, checkpointed, new_centre, past};
+    ghost use Rattle.centre_past.specs.Lists.{status};
     ghost use Rattle.centre_events.specs.Folding.{base_of};
     ghost use Rattle.centre_events.specs.Links.{last_link};
     ghost use Rattle.cell_register.specs.Register.{is_place};
@@ -193,6 +195,13 @@ impl<L: Ledger> Held<L> {
         }
         let value = ask(self.alloc, &mut self.centre, &question)?;
         Ok(Seen { position, value })
+    }
+
+    /// How the centre stands, also where it is stale. It takes no memory.
+    pub fn status(&self) -> CentreStatus
+        ensures { result ≡ status self.now.centre }
+    {
+        self.centre.status()
     }
 
     /// How many entries there are that aren't folded.

@@ -6,6 +6,7 @@ ghost use Rattle.office.specs.Handing.{AreEntriesSomewhere, IsFoldedAfterSomewhe
 ghost use Rattle.office.specs.Offices.{IsFoldedSomewhere, IsRefusedSomewhere, IsReleasedSomewhere, IsSameDesk, IsSeenSomewhere, IsSubmitted, IsUnseenSomewhere};
 ghost use Rattle.office.specs.Sendings.{IsSent, IsUnsent};
 ghost use Rattle.office.specs.Shuffles.{IsSettled, IsUnsettled};
+ghost use Rattle.office.specs.Statuses.{IsStatusSomewhere};
 ghost use Rattle.office.specs.Wakes.{IsDueSomewhere};
 ghost use Rattle.office.specs.Wishes.{IsUnwishedSomewhere, IsWishedSomewhere};
 
@@ -24,6 +25,7 @@ use cell_register::BscId;
 use centre_core::centre::Centre;
 use centre_events::event::Event;
 use centre_events::refusal::{Limit, Refusal};
+use centre_past::lists::CentreStatus;
 use centre_questions::question::Question;
 use common::Cell;
 use std::alloc::{AllocError, Global};
@@ -110,6 +112,15 @@ impl<L: Ledger> Office<L> {
         let mut guard = self.held.lock(rt);
         guard.tell_soundness();
         guard.look(desk, question)
+    }
+
+    /// How the centre stands, also where it is stale. It takes no memory.
+    pub fn status<R: Wait>(&self, rt: &R) -> CentreStatus
+        ensures { IsStatusSomewhere result }
+    {
+        let guard = self.held.lock(rt);
+        guard.tell_soundness();
+        guard.status()
     }
 
     /// How many entries there are that aren't folded.

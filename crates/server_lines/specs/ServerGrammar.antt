@@ -3,8 +3,10 @@ use Rattle.std.specs.Prelude.{ℕ, List, [], ◌∷◌, Option, Some, None, byte
 use Rattle.std.specs.Option.{option_map}
 use Rattle.common.specs.declared.cell.Cell.{Cell}
 use Rattle.console_text.specs.Grammar.{bsc_of, cell_of, if_some, line_of, warning_of}
+use Rattle.server_lines.specs.declared.list_line.ListLine.{ListLine}
+use Rattle.server_lines.specs.declared.list_line.ListLine.TheVariants as list
 use Rattle.server_lines.specs.declared.server_line.ServerLine.{ServerLine}
-use Rattle.server_lines.specs.declared.server_line.ServerLine.TheVariants.{Quit, CutLink, Wish, Centre}
+use Rattle.server_lines.specs.declared.server_line.ServerLine.TheVariants.{Quit, CutLink, Wish, Status, Help, List as ListOf, Centre}
 
 -- B and W of `wish`, where that cell is given or none
 abbrev pub wish : List ℕ → List ℕ → Option Cell → Option ServerLine
@@ -16,8 +18,22 @@ wish_after bsc warning lac ci = if_some (cell_of lac ci) (λ c. wish bsc warning
 
 -- the line that only a server has, by how many words it has; there is no other such line
 abbrev pub own_line_of : List (List ℕ) → Option ServerLine
-own_line_of (verb ∷ []) = if bytes_eq verb (codes "quit") then Some Quit else None
-own_line_of (verb ∷ x ∷ []) = if bytes_eq verb (codes "cut") then option_map CutLink (bsc_of x) else None
+own_line_of (verb ∷ []) =
+    if bytes_eq verb (codes "quit") then Some Quit
+    else if bytes_eq verb (codes "bscs") then Some (ListOf list.Bscs)
+    else if bytes_eq verb (codes "links") then Some (ListOf list.Links)
+    else if bytes_eq verb (codes "areas") then Some (ListOf list.Areas)
+    else if bytes_eq verb (codes "warnings") then Some (ListOf list.Warnings)
+    else if bytes_eq verb (codes "status") then Some Status
+    else if bytes_eq verb (codes "help") then Some Help
+    else None
+own_line_of (verb ∷ x ∷ []) =
+    if bytes_eq verb (codes "cut") then option_map CutLink (bsc_of x)
+    else if bytes_eq verb (codes "cells") then option_map (λ b. ListOf (list.Cells b)) (bsc_of x)
+    else if bytes_eq verb (codes "area") then Some (ListOf (list.Area x))
+    else if bytes_eq verb (codes "warning") then option_map (λ w. ListOf (list.Warning w)) (warning_of x)
+    else if bytes_eq verb (codes "failed") then option_map (λ w. ListOf (list.Failed w)) (warning_of x)
+    else None
 own_line_of (verb ∷ x ∷ y ∷ []) = if bytes_eq verb (codes "wish") then wish x y None else None
 own_line_of (verb ∷ x ∷ y ∷ z ∷ t ∷ []) = if bytes_eq verb (codes "wish") then wish_after x y z t else None
 own_line_of words = None

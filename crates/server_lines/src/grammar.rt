@@ -1,12 +1,14 @@
 //! The lines that the operator of a server may write, by their words.
 
 ghost use Rattle.std.specs.Prelude.{◌≡◌, [], ◌∷◌, IfOk, option_map};
-ghost use Rattle.console_text.specs.Grammar.{line_of};
+ghost use Rattle.console_text.specs.Grammar.{bsc_of, line_of, warning_of};
 ghost use Rattle.server_lines.specs.ServerGrammar.{own_line_of, server_line_of, wish, wish_after};
-ghost use Rattle.server_lines.specs.declared.server_line.ServerLine.TheVariants.{Centre};
+ghost use Rattle.server_lines.specs.declared.list_line.ListLine.TheVariants as list;
+ghost use Rattle.server_lines.specs.declared.server_line.ServerLine.TheVariants.{Centre, CutLink, List as ListOf};
 
+use crate::list_line::ListLine;
 use crate::server_line::ServerLine;
-use common::{Cell, Octets};
+use common::{Cell, Name, Octets};
 use console_text::grammar;
 use console_text::grammar::{read_bsc, read_cell, read_warning};
 use console_text::words::is_word;
@@ -16,7 +18,7 @@ use std::alloc::{AllocError, Global};
 pub fn read_server_line(alloc: Global, words: &[Octets]) -> Result<Option<ServerLine>, AllocError>
     ensures { IfOk result (λ line. line ≡ server_line_of words.now) }
 {
-    match read_own(words) {
+    match read_own(alloc, words)? {
         Some(line) => Ok(Some(line)),
         None => read_centre(alloc, words),
     }
@@ -33,44 +35,100 @@ fn read_centre(alloc: Global, words: &[Octets]) -> Result<Option<ServerLine>, Al
 }
 
 /// A line that only a server has.
-fn read_own(words: &[Octets]) -> Option<ServerLine>
-    ensures { result ≡ own_line_of words.now }
+fn read_own(alloc: Global, words: &[Octets]) -> Result<Option<ServerLine>, AllocError>
+    ensures { IfOk result (λ line. line ≡ own_line_of words.now) }
 {
     match words {
-        [verb] => read_one(verb.as_slice()),
-        [verb, x] => read_two(verb.as_slice(), x.as_slice()),
-        [verb, x, y] => read_three(verb.as_slice(), x.as_slice(), y.as_slice()),
-        [verb, x, y, z, t] => read_five(
+        [verb] => Ok(read_one(verb.as_slice())),
+        [verb, x] => read_two(alloc, verb.as_slice(), x.as_slice()),
+        [verb, x, y] => Ok(read_three(verb.as_slice(), x.as_slice(), y.as_slice())),
+        [verb, x, y, z, t] => Ok(read_five(
             verb.as_slice(),
             x.as_slice(),
             y.as_slice(),
             z.as_slice(),
             t.as_slice(),
-        ),
-        _ => None,
+        )),
+        _ => Ok(None),
     }
 }
 
-/// `quit`
+/// `quit`, `bscs`, `links`, `areas`, `warnings`, `status`, `help`
 fn read_one(verb: &[u8]) -> Option<ServerLine>
     ensures { result ≡ own_line_of (verb.now ∷ []) }
 {
     if is_word(verb, b"quit") {
         Some(ServerLine::Quit)
+    } else if is_word(verb, b"bscs") {
+        Some(ServerLine::List(ListLine::Bscs))
+    } else if is_word(verb, b"links") {
+        Some(ServerLine::List(ListLine::Links))
+    } else if is_word(verb, b"areas") {
+        Some(ServerLine::List(ListLine::Areas))
+    } else if is_word(verb, b"warnings") {
+        Some(ServerLine::List(ListLine::Warnings))
+    } else if is_word(verb, b"status") {
+        Some(ServerLine::Status)
+    } else if is_word(verb, b"help") {
+        Some(ServerLine::Help)
     } else {
         None
     }
 }
 
-/// `cut B`
-fn read_two(verb: &[u8], x: &[u8]) -> Option<ServerLine>
-    ensures { result ≡ own_line_of (verb.now ∷ x.now ∷ []) }
+/// `cut B`, `cells B`, `area N`, `warning W`, `failed W`
+fn read_two(alloc: Global, verb: &[u8], x: &[u8]) -> Result<Option<ServerLine>, AllocError>
+    ensures { IfOk result (λ line. line ≡ own_line_of (verb.now ∷ x.now ∷ [])) }
 {
     if is_word(verb, b"cut") {
-        Some(ServerLine::CutLink(read_bsc(x)?))
+        Ok(read_cut(x))
+    } else if is_word(verb, b"cells") {
+        Ok(read_cells(x))
+    } else if is_word(verb, b"area") {
+        Ok(Some(read_area(alloc, x)?))
+    } else if is_word(verb, b"warning") {
+        Ok(read_warning_sheet(x))
+    } else if is_word(verb, b"failed") {
+        Ok(read_failed(x))
     } else {
-        None
+        Ok(None)
     }
+}
+
+/// B of `cut B`.
+fn read_cut(x: &[u8]) -> Option<ServerLine>
+    ensures { result ≡ option_map CutLink (bsc_of x.now) }
+{
+    Some(ServerLine::CutLink(read_bsc(x)?))
+}
+
+/// B of `cells B`.
+fn read_cells(x: &[u8]) -> Option<ServerLine>
+    ensures { result ≡ option_map (λ b. ListOf (list.Cells b)) (bsc_of x.now) }
+{
+    Some(ServerLine::List(ListLine::Cells(read_bsc(x)?)))
+}
+
+/// N of `area N`.
+fn read_area(alloc: Global, x: &[u8]) -> Result<ServerLine, AllocError>
+    ensures { IfOk result (λ line. line ≡ ListOf (list.Area x.now)) }
+{
+    let name = Name::from_vec(Vec::from_slice(alloc, x)?);
+    Ok(ServerLine::List(ListLine::Area(name)))
+}
+
+/// W of `warning W`.
+fn read_warning_sheet(x: &[u8]) -> Option<ServerLine>
+    ensures { result ≡ option_map (λ w. ListOf (list.Warning w)) (warning_of x.now) }
+{
+    Some(ServerLine::List(ListLine::Warning(read_warning(x)?)))
+}
+
+/// W of `failed W`.
+fn read_failed(x: &[u8]) -> Option<ServerLine>
+    ensures { result ≡ option_map (λ w. ListOf (list.Failed w)) (warning_of x.now) }
+{
+    Some(ServerLine::List(ListLine::Failed(read_warning(x)?)))
 }
 
 /// B and W of `wish`.

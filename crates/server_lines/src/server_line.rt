@@ -1,5 +1,6 @@
 //! What the operator of a server may ask for in a line.
 
+use crate::list_line::ListLine;
 use cell_register::BscId;
 use common::Cell;
 use console_text::line::Line;
@@ -14,6 +15,12 @@ pub enum ServerLine {
     CutLink(BscId),
     /// `wish B W` and `wish B W L C`: after that cell
     Wish(BscId, WarningId, Option<Cell>),
+    /// `status`
+    Status,
+    /// `help`
+    Help,
+    /// A line that asks for a list.
+    List(ListLine),
     /// A line of the console.
     Centre(Line),
 }

@@ -1,3 +1,4 @@
 pub mod Downs
 pub mod Identifiers
+pub mod Listing
 pub mod Sequels

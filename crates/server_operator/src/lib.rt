@@ -1,7 +1,7 @@
 //! The operator of a server: lines are read, and each is answered before the next is read.
 //!
-//! Begin with `operator`; the edits that lines ask for are in `edits`, the events in `submitting`, how lines come in is in `terminal`,
-//! and what is said of BSCs whose link is down in `downs`. What is promised of the office stands in `office`, what a line is in `server_lines`, and what its
+//! Begin with `operator`; the edits that lines ask for are in `edits`, the events in `submitting`, the lists in `listing`, how lines
+//! come in is in `terminal`, and what is said of BSCs whose link is down in `downs`. What is promised of the office stands in `office`, what a line is in `server_lines`, and what its
 //! answer is in `console_text`.
 #![tactic(auto)]
 
@@ -9,6 +9,8 @@ mod downs;
 mod edits;
 mod identified;
 mod identifiers;
+mod listed;
+mod listing;
 mod operator;
 mod operator_desk;
 mod sequel;

@@ -5,6 +5,7 @@ ghost use Rattle.console_text.specs.Texts.{ResponseFits};
 
 use crate::edits::{Asked, asked_of};
 use crate::identifiers::Identifiers;
+use crate::listing::{list, status};
 use crate::operator_desk::OperatorDesk;
 use crate::server::Server;
 use crate::submitting::{cut, edit, submit};
@@ -23,6 +24,8 @@ use office::office::Office;
 use office::question::Question;
 use office::seen::SeenValue;
 use server_lines::grammar::read_server_line;
+use server_lines::help::help_text;
+use server_lines::list_line::ListLine;
 use server_lines::server_line::ServerLine;
 use std::alloc::{AllocError, Global};
 use std::io::{BufRead, Write};
@@ -44,6 +47,7 @@ pub struct Operator<'a, L: Ledger, S> {
 enum Heard {
     Quit,
     Answered(String),
+    Listed(Octets),
 }
 
 /// What was seen, as an answer; no line asks for anything else.
@@ -148,6 +152,22 @@ fn wish<L: Ledger, S: Server, R: Wait>(
     }
 }
 
+/// What a line is answered that asks for a list. Where memory runs out for its text, it is refused.
+fn hear_list<L: Ledger, S: Server, R: Wait>(
+    rt: &R,
+    operator: &Operator<'_, L, S>,
+    desk: &Desk<L>,
+    line: &ListLine,
+) -> Result<Heard, AllocError> {
+    match list(rt, operator, desk, line) {
+        Ok(text) => Ok(Heard::Listed(text)),
+        Err(_) => Ok(Heard::Answered(response_text(
+            operator.alloc,
+            Response::Refused(Refusal::Memory),
+        )?)),
+    }
+}
+
 /// What a line is answered, in text.
 fn hear_line<L: Ledger, S: Server, R: Wait + Clock>(
     rt: &R,
@@ -160,6 +180,9 @@ fn hear_line<L: Ledger, S: Server, R: Wait + Clock>(
         ServerLine::Wish(b, warning, after) => {
             return Ok(Heard::Answered(wish(rt, operator, b, warning, after)?));
         }
+        ServerLine::Status => return Ok(Heard::Answered(status(rt, operator)?)),
+        ServerLine::Help => return Ok(Heard::Answered(help_text(operator.alloc)?)),
+        ServerLine::List(line) => return hear_list(rt, operator, &desk.desk, &line),
         ServerLine::CutLink(b) => cut(rt, operator, desk, b),
         ServerLine::Centre(line) => respond(rt, operator, desk, line)?,
     };
@@ -198,7 +221,25 @@ fn hear<L: Ledger, S: Server, R: Wait + Clock>(
     heard
 }
 
-/// Reads one line and answers it; the desk lets go of its receipts of folded entries. The answer is whether more lines are read.
+/// Writes an answer, unless the journal isn't kept any more; the desk lets go of its receipts of folded entries. The answer is whether
+/// more lines are read.
+fn answer<L: Ledger, S: Server, R: Wait + Clock, I: BufRead + Drop, W: Write + Drop>(
+    rt: &R,
+    operator: &Operator<'_, L, S>,
+    terminal: &mut Terminal<L, I, W>,
+    desk: &mut OperatorDesk<L>,
+    text: &[u8],
+) -> Result<bool, ReplayFault> {
+    if !operator.server.is_kept(rt) {
+        return Ok(false);
+    }
+    terminal.write(text)?;
+    operator.server.answered(rt);
+    let _ = operator.office.release(rt, &mut desk.desk);
+    Ok(true)
+}
+
+/// Reads one line and answers it. The answer is whether more lines are read.
 fn turn<L: Ledger, S: Server, R: Wait + Clock, I: BufRead + Drop, W: Write + Drop>(
     rt: &R,
     operator: &Operator<'_, L, S>,
@@ -210,15 +251,8 @@ fn turn<L: Ledger, S: Server, R: Wait + Clock, I: BufRead + Drop, W: Write + Dro
     };
     match hear(rt, operator, desk, line.as_slice())? {
         Heard::Quit => Ok(false),
-        Heard::Answered(text) => {
-            if !operator.server.is_kept(rt) {
-                return Ok(false);
-            }
-            terminal.write(text.as_bytes())?;
-            operator.server.answered(rt);
-            let _ = operator.office.release(rt, &mut desk.desk);
-            Ok(true)
-        }
+        Heard::Answered(text) => answer(rt, operator, terminal, desk, text.as_bytes()),
+        Heard::Listed(text) => answer(rt, operator, terminal, desk, text.as_slice()),
     }
 }
 

@@ -15,6 +15,8 @@ mod given_events;
 #[cfg(test)]
 mod given_link;
 #[cfg(test)]
+mod list_tests;
+#[cfg(test)]
 mod office_tests;
 #[cfg(test)]
 mod orders_in_turn_tests;

@@ -1,0 +1,101 @@
+//! The list of warnings, and one warning with its content.
+
+ghost use Rattle.std.specs.Prelude.{◌≡◌, ◌++◌, IfOk, OnOk, string_bytes};
+ghost use Rattle.lists_text.specs.ListTexts.{kind_name, serial_text, sheet_text, state_name, warning_head, warning_line, warning_numbers, warnings_text};
+
+use crate::contents::push_content;
+use crate::digits::{four_digits, identifier_text};
+use crate::lines::{push_count, push_line};
+use crate::names::push_names;
+use centre_past::lists::{WarningRow, WarningSheet};
+use coverage_board::Numbers;
+use serials::Serial;
+use std::alloc::{AllocError, Global};
+use warning_book::Kind;
+
+/// The serial number of the current version.
+fn serial_text(alloc: Global, serial: Option<Serial>) -> Result<String, AllocError>
+    ensures { IfOk result (λ text. string_bytes text ≡ serial_text serial) }
+{
+    match serial {
+        Some(serial) => four_digits(alloc, serial.to_u16()),
+        None => String::from_str(alloc, "none"),
+    }
+}
+
+fn state_name(is_active: bool) -> &'static str
+    ensures { result.now ≡ state_name is_active }
+{
+    if is_active { "active" } else { "stopped" }
+}
+
+/// The name of a kind of warnings.
+fn kind_name(kind: Kind) -> &'static str
+    ensures { result.now ≡ kind_name kind }
+{
+    match kind {
+        Kind::Cbs => "cbs",
+        Kind::Emergency => "emergency",
+    }
+}
+
+/// What stands in front of a warning's areas.
+fn warning_head(alloc: Global, row: &WarningRow) -> Result<String, AllocError>
+    ensures { IfOk result (λ text. string_bytes text ≡ warning_head row.now) }
+{
+    let number = row.number.number();
+    let identifier = identifier_text(alloc, row.message_id)?;
+    let serial = serial_text(alloc, row.serial)?;
+    let state = state_name(row.is_active);
+    let kind = kind_name(row.kind);
+    format!(in alloc; "warning {number} {identifier} {serial} {state} {kind} areas ")
+}
+
+/// What stands behind them: its numbers on the board.
+fn warning_numbers(alloc: Global, numbers: Numbers) -> Result<String, AllocError>
+    ensures { IfOk result (λ text. string_bytes text ≡ warning_numbers numbers) }
+{
+    let Numbers {
+        awaited,
+        on_air,
+        failed,
+        left,
+        broadcasts,
+    } = numbers;
+    format!(in alloc;
+        " awaited {awaited} onair {on_air} failed {failed} left {left} broadcasts {broadcasts}\n"
+    )
+}
+
+/// Puts the line of a warning behind the text.
+fn push_warning(alloc: Global, text: &mut Vec<u8>, row: &WarningRow) -> Result<(), AllocError>
+    ensures { OnOk result (text.new.items ≡ text.old.items ++ warning_line row.now) }
+{
+    let head = warning_head(alloc, row)?;
+    let numbers = warning_numbers(alloc, row.numbers)?;
+    push_line(text, head.as_str())?;
+    push_names(text, row.areas.as_slice())?;
+    push_line(text, numbers.as_str())
+}
+
+/// A line for each warning, and their number.
+pub fn warnings_text(alloc: Global, rows: &[WarningRow]) -> Result<Vec<u8>, AllocError>
+    ensures { IfOk result (λ text. text.items ≡ warnings_text rows.now) }
+{
+    let mut text = Vec::new(alloc);
+    for row in rows {
+        push_warning(alloc, &mut text, row)?;
+    }
+    push_count(alloc, &mut text, "warnings", rows.len())?;
+    Ok(text)
+}
+
+/// A warning with its content.
+pub fn sheet_text(alloc: Global, sheet: &WarningSheet) -> Result<Vec<u8>, AllocError>
+    ensures { IfOk result (λ text. text.items ≡ sheet_text sheet.now) }
+{
+    let mut text = Vec::new(alloc);
+    push_warning(alloc, &mut text, &sheet.row)?;
+    push_content(alloc, &mut text, &sheet.content)?;
+    Ok(text)
+}

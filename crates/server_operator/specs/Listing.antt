@@ -1,0 +1,88 @@
+-- What a line that asks for a list is answered.
+use Rattle.std.specs.Prelude.{◌≡◌, ◌⊎◌, ℕ, List, [], Option, Some, None}
+use Rattle.areas.specs.declared.selector.Selector.{Selector}
+use Rattle.centre_events.specs.declared.refusal.Refusal.{Refusal}
+use Rattle.centre_past.specs.declared.lists.area_row.AreaRow.{AreaRow}
+use Rattle.centre_past.specs.declared.lists.bsc_row.BscRow.{BscRow}
+use Rattle.centre_past.specs.declared.lists.cell_row.CellRow.{CellRow}
+use Rattle.centre_past.specs.declared.lists.failed_row.FailedRow.{FailedRow}
+use Rattle.centre_past.specs.declared.lists.warning_row.WarningRow.{WarningRow}
+use Rattle.centre_past.specs.declared.lists.warning_sheet.WarningSheet.{WarningSheet}
+use Rattle.centre_questions.specs.declared.question.Question.{Question}
+use Rattle.centre_questions.specs.declared.question.Question.TheVariants as question
+use Rattle.centre_questions.specs.declared.seen_value.SeenValue.{SeenValue}
+use Rattle.centre_questions.specs.declared.seen_value.SeenValue.TheVariants as value
+use Rattle.console_text.specs.Texts.{refused_text}
+use Rattle.lists_text.specs.ListTexts.{area_text, areas_text, bscs_text, cells_text, failed_text, links_text, sheet_text, warnings_text}
+use Rattle.office.specs.Desks.{DeskState}
+use Rattle.office.specs.Offices.{IsSeenSomewhere, IsUnseenSomewhere}
+use Rattle.office.specs.declared.seen.Seen.{Seen}
+use Rattle.server_lines.specs.declared.list_line.ListLine.{ListLine}
+use Rattle.server_lines.specs.declared.list_line.ListLine.TheVariants as line
+
+-- what the line asks of the centre
+abbrev pub question_of : ListLine → Question
+question_of line.Bscs = question.Bscs
+question_of line.Links = question.Bscs
+question_of (line.Cells b) = question.Cells b
+question_of line.Areas = question.Areas
+question_of (line.Area a) = question.Selectors a
+question_of line.Warnings = question.Warnings
+question_of (line.Warning w) = question.Warning w
+question_of (line.Failed w) = question.Failed w
+
+-- the rows of what was seen; none where the question was another one
+abbrev pub bscs_in : SeenValue → List BscRow
+bscs_in (value.Bscs rows) = rows
+bscs_in other = []
+
+abbrev pub cells_in : SeenValue → List CellRow
+cells_in (value.Cells rows) = rows
+cells_in other = []
+
+abbrev pub areas_in : SeenValue → List AreaRow
+areas_in (value.Areas rows) = rows
+areas_in other = []
+
+abbrev pub selectors_in : SeenValue → List Selector
+selectors_in (value.Selectors selectors) = selectors
+selectors_in other = []
+
+abbrev pub warnings_in : SeenValue → List WarningRow
+warnings_in (value.Warnings rows) = rows
+warnings_in other = []
+
+abbrev pub sheet_in : SeenValue → List ℕ
+sheet_in (value.Warning sheet) = sheet_text sheet
+sheet_in other = []
+
+abbrev pub failed_in : SeenValue → List FailedRow
+failed_in (value.Failed rows) = rows
+failed_in other = []
+
+-- how the line is answered, where that was seen
+abbrev pub list_text : ListLine → SeenValue → List ℕ
+list_text line.Bscs v = bscs_text (bscs_in v)
+list_text line.Links v = links_text (bscs_in v)
+list_text (line.Cells b) v = cells_text b (cells_in v)
+list_text line.Areas v = areas_text (areas_in v)
+list_text (line.Area a) v = area_text a (selectors_in v)
+list_text line.Warnings v = warnings_text (warnings_in v)
+list_text (line.Warning w) v = sheet_in v
+list_text (line.Failed w) v = failed_text (failed_in v)
+
+-- the text is that of what was seen in one centre, that is at one moment
+pub record IsListed (d : DeskState) (line : ListLine) (text : List ℕ) : Type 0 where
+  pub seen : Seen
+  pub somewhere : IsSeenSomewhere d (question_of line) seen
+  pub is : text ≡ list_text line seen.value
+
+-- the text is the cause for which the centre refuses the question
+pub record IsUnlisted (d : DeskState) (line : ListLine) (text : List ℕ) : Type 0 where
+  pub cause : Refusal
+  pub somewhere : IsUnseenSomewhere d (question_of line) cause
+  pub is : text ≡ refused_text cause
+
+-- what the line is answered
+abbrev pub IsListAnswer : DeskState → ListLine → List ℕ → Type 0
+IsListAnswer d line text = IsListed d line text ⊎ IsUnlisted d line text

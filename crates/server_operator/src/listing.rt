@@ -1,0 +1,67 @@
+//! Lists that an operator asks for. What a list shows is a picture of one moment: the question is put under the office's lock, and its
+//! answer is printed when the lock is free again.
+
+ghost use Rattle.std.specs.Prelude.{◌≡◌, IfOk};
+ghost use Rattle.console_text.specs.Texts.{refused_text};
+ghost use Rattle.server_operator.specs.Listing.{IsListAnswer, list_text};
+
+use crate::listed::{list_text, question_of};
+use crate::operator::Operator;
+use crate::server::Server;
+use centre_events::refusal::Refusal;
+use common::Octets;
+use console_text::answer_text::response_text;
+use console_text::response::Response;
+use lists_text::status_text;
+use office::desk::Desk;
+use office::seen::Seen;
+use server_lines::list_line::ListLine;
+use std::alloc::{AllocError, Global};
+use std::sync::Wait;
+use std::sync::ledger::Ledger;
+
+/// The text of what was seen.
+fn seen_octets(alloc: Global, line: &ListLine, seen: &Seen) -> Result<Octets, AllocError>
+    ensures { IfOk result (λ text. text ≡ list_text line.now seen.now.value) }
+{
+    let text = list_text(alloc, line, &seen.value)?;
+    Ok(Octets::from_vec(text))
+}
+
+/// The text of a refusal.
+fn refused_octets(alloc: Global, refusal: Refusal) -> Result<Octets, AllocError>
+    ensures { IfOk result (λ text. text ≡ refused_text refusal) }
+{
+    let text = response_text(alloc, Response::Refused(refusal))?;
+    Ok(Octets::from_vec(text.into_bytes()))
+}
+
+/// What a line is answered that asks for a list.
+#[tactic(auto, using(crate::proofs::ListingLemmas::listed, crate::proofs::ListingLemmas::unlisted))]
+pub(crate) fn list<L: Ledger, S: Server, R: Wait>(
+    rt: &R,
+    operator: &Operator<'_, L, S>,
+    desk: &Desk<L>,
+    line: &ListLine,
+) -> Result<Octets, AllocError>
+    ensures { IfOk result (IsListAnswer desk.now line.now) }
+{
+    let question = question_of(operator.alloc, line)?;
+    match operator.office.look(rt, desk, question) {
+        Ok(seen) => {
+            let text = seen_octets(operator.alloc, line, &seen);
+            drop(seen);
+            text
+        }
+        Err(refusal) => refused_octets(operator.alloc, refusal),
+    }
+}
+
+/// What `status` is answered.
+pub(crate) fn status<L: Ledger, S: Server, R: Wait>(
+    rt: &R,
+    operator: &Operator<'_, L, S>,
+) -> Result<String, AllocError> {
+    let status = operator.office.status(rt);
+    status_text(operator.alloc, &status)
+}
