@@ -1,13 +1,10 @@
 -- Every entry that the console makes of lines has a line.
-use Rattle.std.proofs.Common.{◌≡◌, ◌∙◌, ℕ, Bool, true, false, List, [], ◌∷◌, ◌++◌, Option, Some, None, Result, Ok, Err, ◌⊎◌, inl, inr, if◌then◌else◌, refl, sym, ap, subst, append-nil}
+use Rattle.std.proofs.Common.{◌≡◌, ◌∙◌, ℕ, Bool, true, false, List, [], ◌∷◌, ◌++◌, Option, Some, None, Result, Ok, Err, inl, inr, if◌then◌else◌, refl, sym, ap, subst, append-nil}
 use Rattle.std.specs.Bool.{MatchBool}
 use Rattle.std.specs.List.{AllByRecursion}
 use Rattle.std.specs.Prelude.{IsSomeAnd, MatchOption}
 use Rattle.cbsp_messages.specs.MessageType.{report_type}
 use Rattle.cbsp_messages.specs.declared.message_type.MessageType.{MessageType}
-use Rattle.centre_events.specs.Base.{Base}
-use Rattle.centre_events.specs.Folding.{base_of}
-use Rattle.centre_events.specs.Past.{From, After, past_of}
 use Rattle.centre_events.specs.Verdict.{verdict}
 use Rattle.centre_events.specs.declared.answer.Answer.{Answer}
 use Rattle.centre_events.specs.declared.answer.Answer.TheVariants as answer
@@ -16,15 +13,15 @@ use Rattle.centre_events.specs.declared.event.Event.{Event}
 use Rattle.centre_events.specs.declared.event.Event.TheVariants as event
 use Rattle.centre_events.specs.declared.refusal.Refusal.{Refusal}
 use Rattle.centre_events.specs.declared.refusal.Refusal.TheVariants as refusal
-use Rattle.centre_past.specs.Legal.{HasWhole, Known, Lawful, all_entries, checkpointed, new_centre, past}
-use Rattle.centre_past.proofs.LawfulLemmas.{lawful_folded, legal_lawful, whole}
+use Rattle.centre_past.specs.Legal.{Known, Lawful, all_entries, checkpointed, new_centre, past}
+use Rattle.centre_past.proofs.LawfulLemmas.{legal_lawful, whole}
 use Rattle.centre_questions.specs.Questions.{value_of}
 use Rattle.centre_questions.specs.declared.question.Question.{Question}
 use Rattle.centre_questions.specs.declared.question.Question.TheVariants as question
 use Rattle.centre_questions.specs.declared.seen_value.SeenValue.{SeenValue}
 use Rattle.console.specs.Generations.{generation_of}
 use Rattle.console.specs.Replays.{new_session}
-use Rattle.console.specs.Sessions.{Answers, AnswersLine, AnswersOrStarves, AnswersWords, Asks, AsksWhole, BodyStarves, BringsUp, Folds, FrameStarves, OctetsStarve, Reports, ReportsBody, ReportsOctets, Responds, RespondsOrStarves, Says, SaysValue, SessionState, Starves, StarvesAt, Submits, SubmitsLine, entered, entry_of, event_of, told, verdict_in, with_all_folded, with_link, with_stale}
+use Rattle.console.specs.Sessions.{AnswersLine, AnswersWords, Asks, AsksWhole, BodyStarves, BringsUp, Folds, OctetsStarve, Reports, ReportsBody, ReportsOctets, Responds, RespondsOrStarves, Says, SaysValue, SessionState, Starves, StarvesAt, Submits, SubmitsLine, entered, entry_of, event_of, told, verdict_in, with_link, with_stale}
 use Rattle.console.specs.Text.{IsTextOrStarves}
 use Rattle.console_text.specs.Frames.{IsFrame}
 use Rattle.console_text.specs.Grammar.{line_of}
@@ -37,7 +34,7 @@ use Rattle.console_text.specs.declared.response.Response.{Response}
 use Rattle.console_text.specs.declared.response.Response.TheVariants as response
 use Rattle.framing.specs.declared.frame.Frame.{Frame}
 use Rattle.journal_text.specs.Laws.{IsAsked}
-use Rattle.journal_text.specs.Reading.{IsSentIn, StandsFor, asked, event_with}
+use Rattle.journal_text.specs.Reading.{StandsFor, asked}
 use Rattle.journal_text.specs.Sayable.{HasLine}
 use Rattle.journal_laws.specs.Files.{with_entry}
 use Rattle.journal_laws.specs.Given.{AllEnteredHaveLines}

@@ -1,6 +1,6 @@
 -- The areas of a lawful past have names of areas. So have the areas that an accepted event names, its pages can be broadcast,
 -- and it has a line.
-use Rattle.std.proofs.Common.{◌≡◌, ◌∙◌, ℕ, ◌+◌, ◌<◌, ◌≤◌, ltb, Bool, true, false, not, List, [], ◌∷◌, Option, Some, None, Result, Ok, Err, ◌⊎◌, inl, inr, if◌then◌else◌, length, unwrap_or, refl, sym, ap, subst, arith}
+use Rattle.std.proofs.Common.{◌≡◌, ◌∙◌, ℕ, ◌+◌, ◌≤◌, ltb, Bool, true, false, not, List, [], ◌∷◌, Some, None, Result, Ok, ◌⊎◌, inl, inr, if◌then◌else◌, length, unwrap_or, refl, sym, ap, subst, arith}
 use Rattle.std.specs.Prelude.{bytes_eq}
 use Rattle.std.specs.List.{AllByRecursion, list_any}
 use Rattle.std.proofs.lemmas.Bool.{or_parts}
@@ -30,7 +30,7 @@ use Rattle.journal_text.specs.Laws.{EditIsWellNamed, IsWellNamed}
 use Rattle.journal_text.specs.Sayable.{HasFrame, HasLine}
 use Rattle.journal_text.proofs.AskedLemmas.{asked_has_line}
 use Rattle.journal_text.proofs.MessageLemmas.{read_has_frame, restart_has_frame}
-use Rattle.journal_laws.specs.Given.{AcceptedHasLine, AllEvents, EntriesHaveLines, IsGiven, IsRead, IsReported, IsRestart}
+use Rattle.journal_laws.specs.Given.{AcceptedHasLine, EntriesHaveLines, IsRead, IsReported, IsRestart}
 use Rattle.journal_laws.proofs.KeptLemmas.{not_false, passed}
 
 -- an event that is accepted passes every check
