@@ -138,13 +138,14 @@ fn brings_up<L: Ledger, E: Write + Drop, R: Wait>(
     refused
 }
 
-/// The same at a desk of its own, and has the journal folded after each event where that is due.
-fn brings_up_and_folds<L: Ledger, E: Write + Drop, R: Wait + Clock>(
+/// The same at a desk of its own for the BSC of that number, and has the journal folded after each event where that is due.
+fn brings_up_and_folds<L: Ledger, E: Write + Drop, R: Wait + Clock + Abort>(
     rt: &R,
     shared: &Shared<L, E>,
-    b: BscId,
+    number: u16,
     times: u32,
 ) -> u32 {
+    let b = bsc(rt, number);
     let Ok(mut desk) = shared.office.open_desk(rt) else {
         return u32::MAX;
     };
@@ -160,13 +161,11 @@ fn brings_up_and_folds<L: Ledger, E: Write + Drop, R: Wait + Clock>(
 }
 
 /// The same for two BSCs at once.
-fn two_at_once<L: Ledger + Send + Sync, E: Write + Drop + Send, R: Wait + Clock + Threads + Sync>(
-    rt: &R,
-    shared: &Shared<L, E>,
-    first: BscId,
-    second: BscId,
-    times: u32,
-) -> u32 {
+fn two_at_once<
+    L: Ledger + Send + Sync,
+    E: Write + Drop + Send,
+    R: Wait + Clock + Threads + Sync + Abort,
+>(rt: &R, shared: &Shared<L, E>, first: u16, second: u16, times: u32) -> u32 {
     let (of_first, of_second) = thread::join(
         rt,
         move || brings_up_and_folds(rt, shared, first, times),
@@ -176,17 +175,15 @@ fn two_at_once<L: Ledger + Send + Sync, E: Write + Drop + Send, R: Wait + Clock 
 }
 
 /// The same for four BSCs at once. Then the thread that keeps the journal is to end.
-fn four_at_once<L: Ledger + Send + Sync, E: Write + Drop + Send, R: Wait + Clock + Threads + Sync>(
-    rt: &R,
-    shared: &Shared<L, E>,
-    bscs: [BscId; 4],
-    times: u32,
-) -> u32 {
-    let [first, second, third, fourth] = bscs;
+fn four_at_once<
+    L: Ledger + Send + Sync,
+    E: Write + Drop + Send,
+    R: Wait + Clock + Threads + Sync + Abort,
+>(rt: &R, shared: &Shared<L, E>, times: u32) -> u32 {
     let (of_two, of_others) = thread::join(
         rt,
-        move || two_at_once(rt, shared, first, second, times),
-        move || two_at_once(rt, shared, third, fourth, times),
+        move || two_at_once(rt, shared, 1, 2, times),
+        move || two_at_once(rt, shared, 3, 4, times),
     );
     shared.end_keeping(rt);
     of_two.saturating_add(of_others)
@@ -214,11 +211,10 @@ fn enters_at_four_desks<L: Ledger + Send + Sync, R: Wait + Clock + Threads + Syn
     let office: Office<L> = Office::new(alloc, blank, [0x00, 0xf1, 0x10], LIMIT);
     let shared = shared_of(alloc, office, said);
     let lent = &shared;
-    let bscs = [bsc(rt, 1), bsc(rt, 2), bsc(rt, 3), bsc(rt, 4)];
     let (result, refused) = thread::join(
         rt,
         move || keeps(rt, lent),
-        move || four_at_once(rt, lent, bscs, 100),
+        move || four_at_once(rt, lent, 100),
     );
     same(rt, result, Ok(()), "the thread that keeps the journal ends");
     same(rt, refused, 0, "no event is refused");
@@ -248,11 +244,11 @@ fn a_journal_that_is_kept_never_fills_up(rt: HostRuntime) {
 }
 
 /// Enters an event less than a fold is due with, as a start does, and then that one. The answer is how many entries aren't folded then.
-fn one_more<L: Ledger, E: Write + Drop, R: Wait + Clock>(
+fn one_more<L: Ledger, E: Write + Drop, R: Wait + Clock + Abort>(
     rt: &R,
     shared: &Shared<L, E>,
-    b: BscId,
 ) -> u64 {
+    let b = bsc(rt, 1);
     let left = match shared.office.open_desk(rt) {
         Ok(mut desk) => {
             let _ = brings_up(rt, shared, &mut desk, b, 34);
@@ -280,8 +276,7 @@ fn enters_one_more<L: Ledger + Send + Sync, R: Wait + Clock + Threads + Sync + A
     let office: Office<L> = Office::new(alloc, blank, [0x00, 0xf1, 0x10], LIMIT);
     let shared = shared_of(alloc, office, Vec::new(alloc));
     let lent = &shared;
-    let b = bsc(rt, 1);
-    let (result, left) = thread::join(rt, move || keeps(rt, lent), move || one_more(rt, lent, b));
+    let (result, left) = thread::join(rt, move || keeps(rt, lent), move || one_more(rt, lent));
     same(rt, result, Ok(()), "the thread that keeps the journal ends");
     left
 }
