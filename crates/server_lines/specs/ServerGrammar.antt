@@ -3,7 +3,6 @@ use Rattle.std.specs.Prelude.{ℕ, List, [], ◌∷◌, Option, Some, None, byte
 use Rattle.std.specs.Option.{option_map}
 use Rattle.common.specs.declared.cell.Cell.{Cell}
 use Rattle.console_text.specs.Grammar.{bsc_of, cell_of, if_some, line_of, warning_of}
-use Rattle.server_lines.specs.declared.list_line.ListLine.{ListLine}
 use Rattle.server_lines.specs.declared.list_line.ListLine.TheVariants as list
 use Rattle.server_lines.specs.declared.server_line.ServerLine.{ServerLine}
 use Rattle.server_lines.specs.declared.server_line.ServerLine.TheVariants.{Quit, CutLink, Wish, Status, Help, List as ListOf, Centre}

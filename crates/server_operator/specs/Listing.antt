@@ -1,5 +1,5 @@
 -- What a line that asks for a list is answered.
-use Rattle.std.specs.Prelude.{◌≡◌, ◌⊎◌, ℕ, List, [], Option, Some, None}
+use Rattle.std.specs.Prelude.{◌≡◌, ◌⊎◌, ℕ, List, []}
 use Rattle.areas.specs.declared.selector.Selector.{Selector}
 use Rattle.centre_events.specs.declared.refusal.Refusal.{Refusal}
 use Rattle.centre_past.specs.declared.lists.area_row.AreaRow.{AreaRow}
@@ -7,7 +7,6 @@ use Rattle.centre_past.specs.declared.lists.bsc_row.BscRow.{BscRow}
 use Rattle.centre_past.specs.declared.lists.cell_row.CellRow.{CellRow}
 use Rattle.centre_past.specs.declared.lists.failed_row.FailedRow.{FailedRow}
 use Rattle.centre_past.specs.declared.lists.warning_row.WarningRow.{WarningRow}
-use Rattle.centre_past.specs.declared.lists.warning_sheet.WarningSheet.{WarningSheet}
 use Rattle.centre_questions.specs.declared.question.Question.{Question}
 use Rattle.centre_questions.specs.declared.question.Question.TheVariants as question
 use Rattle.centre_questions.specs.declared.seen_value.SeenValue.{SeenValue}
