@@ -176,7 +176,7 @@ expect "board 2" "$(board 0 2 1 0)"
 same_tables
 
 echo "an emergency warning is on air in all three cells"
-type_line "alert 4352 1 1 1408 0 - Coast"
+type_line "alert 4354 1 1 1408 0 - Coast"
 expect "board 3" "$(board 0 3 0 0)"
 
 echo "another one is refused: a cell has one emergency message"

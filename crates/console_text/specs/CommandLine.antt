@@ -85,6 +85,26 @@ peers_option = record (new_rule (codes "peers")) { long = Some (codes "peers"); 
 abbrev pub keep_option : Rule
 keep_option = record (new_rule (codes "keep")) { long = Some (codes "keep"); value_names = 1 }
 
+-- the socket file of consoles, where one is given; PATH is any text here
+abbrev pub console_option : Rule
+console_option = record (new_rule (codes "console")) { long = Some (codes "console"); value_names = 1 }
+
+-- how many consoles there may be at once, a number from 1 to 64
+abbrev pub consoles_option : Rule
+consoles_option = record (new_rule (codes "consoles")) { long = Some (codes "consoles"); value_names = 1; defaults = codes "16" ∷ []; parser = Some (Unsigned 1 64) }
+
+-- the options by which operators connect
+abbrev pub with_consoles : App → App
+with_consoles a = with_rule (with_rule a console_option) consoles_option
+
+-- the address of the page for those who only look, where one is given; HOST:PORT is any text here
+abbrev pub http_option : Rule
+http_option = record (new_rule (codes "http")) { long = Some (codes "http"); value_names = 1 }
+
+-- the option by which those connect who only look
+abbrev pub with_watchers : App → App
+with_watchers a = with_rule a http_option
+
 -- the options for links that are lost, taken over, or without replies
 abbrev pub with_link_rules : App → App
 with_link_rules a = with_rule (with_rule (with_rule (with_rule a reset_option) reply_option) cut_option) peers_option
@@ -93,9 +113,9 @@ with_link_rules a = with_rule (with_rule (with_rule (with_rule a reset_option) r
 abbrev pub with_journal : App → App
 with_journal a = with_rule (with_rule a fold_option) keep_option
 
--- `serve`, with its twelve options
+-- `serve`, with its fifteen options
 abbrev pub serve_command : App
-serve_command = with_link_rules (with_journal (with_ports (with_common (new_app (codes "serve")))))
+serve_command = with_watchers (with_consoles (with_link_rules (with_journal (with_ports (with_common (new_app (codes "serve")))))))
 
 -- a program that is nothing without a command, but for help and for `--version`, which asks for its name and its version
 abbrev pub program : App

@@ -122,7 +122,8 @@ fn limit_name(limit: Limit) -> &'static str
     }
 }
 
-fn refusal_name(refusal: Refusal) -> &'static str
+/// The name of a refusal, as operators see it behind its number.
+pub fn refusal_name(refusal: Refusal) -> &'static str
     ensures { result.now ≡ refusal_name refusal }
 {
     match refusal {

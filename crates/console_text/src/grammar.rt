@@ -58,7 +58,7 @@ pub fn read_bsc(word: &[u8]) -> Option<BscId>
 }
 
 /// L, C, M and PERIOD, a number of two octets.
-fn read_two_octets(word: &[u8]) -> Option<u16>
+pub fn read_two_octets(word: &[u8]) -> Option<u16>
     ensures { result ≡ two_octets_of word.now }
 {
     let number = read_number_in(word, 0, 65535)?;
@@ -91,7 +91,7 @@ pub fn read_cell(lac: &[u8], ci: &[u8]) -> Option<Cell>
 }
 
 /// SCOPE, 0 to 3.
-fn read_scope(word: &[u8]) -> Option<Scope>
+pub fn read_scope(word: &[u8]) -> Option<Scope>
     ensures { result ≡ scope_of word.now }
 {
     let number = read_number_in(word, 0, 3)?;
@@ -99,7 +99,7 @@ fn read_scope(word: &[u8]) -> Option<Scope>
 }
 
 /// CAT, 0 high priority, 1 background, 2 normal.
-fn read_category(word: &[u8]) -> Option<Category>
+pub fn read_category(word: &[u8]) -> Option<Category>
     ensures { result ≡ category_of word.now }
 {
     let number = read_number_in(word, 0, 255)?;
@@ -107,7 +107,7 @@ fn read_category(word: &[u8]) -> Option<Category>
 }
 
 /// AREAS, names joined by `,`, or `-` for none.
-fn read_names(alloc: Global, word: &[u8]) -> Result<Names, AllocError>
+pub fn read_names(alloc: Global, word: &[u8]) -> Result<Names, AllocError>
     ensures { IfOk result (λ names. names ≡ names_of word.now) }
 {
     let mut names = Vec::new(alloc);

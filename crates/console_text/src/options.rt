@@ -3,7 +3,7 @@
 ghost use Rattle.std.specs.Prelude.{◌≡◌, ◌≤◌, false, map, string_bytes, IfOk, IfErr, IfSome};
 ghost use Rattle.clap.specs.Words.{app_of, kind_of, rule_of, subcommand_rows_of};
 ghost use Rattle.clap.specs.declared.builder.command.Command.TheViews.{out-Command as fields_of};
-ghost use Rattle.console_text.specs.CommandLine.{plmn_option, journal_option, host_option, base_option, links_option, fold_option, sim_option, reset_option, reply_option, cut_option, peers_option, keep_option, with_common, with_ports, with_journal, with_link_rules, replay_command, serve_command, command_line, most_entries};
+ghost use Rattle.console_text.specs.CommandLine.{plmn_option, journal_option, host_option, base_option, links_option, fold_option, sim_option, reset_option, reply_option, cut_option, peers_option, keep_option, console_option, consoles_option, http_option, with_watchers, with_consoles, with_common, with_ports, with_journal, with_link_rules, replay_command, serve_command, command_line, most_entries};
 ghost use Rattle.console_text.specs.CommandLine.{meets_serve, replay_rows, network_in, limit_in, Asks, ComesTo, Refuses};
 
 use crate::no_run::NoRun;
@@ -24,6 +24,12 @@ pub const MOST_SECONDS: u32 = 86_400;
 
 /// After how many seconds an order without a reply is said, where no number is given.
 pub const REPLY_SECONDS: u32 = 30;
+
+/// The most consoles that there may be at once.
+pub const MOST_CONSOLES: u32 = 64;
+
+/// How many consoles there may be at once, where no number is given.
+pub const CONSOLES: u32 = 16;
 
 /// What `--version` prints after the program's name.
 const VERSION: &str = "1.0.0";
@@ -189,6 +195,38 @@ fn keep_option<'a>(alloc: Global) -> Arg<'a>
     )
 }
 
+fn console_option<'a>(alloc: Global) -> Arg<'a>
+    ensures rule { rule_of result ≡ console_option }
+    ensures own { result.global ≡ false }
+{
+    Arg::new(alloc, "console")
+        .long("console")
+        .value_name("PATH")
+        .help("The socket file at which each connection is a console")
+}
+
+fn consoles_option<'a>(alloc: Global) -> Arg<'a>
+    ensures rule { rule_of result ≡ consoles_option }
+    ensures own { result.global ≡ false }
+{
+    Arg::new(alloc, "consoles")
+        .long("consoles")
+        .value_name("N")
+        .default_value("16")
+        .value_parser(ValueParser::unsigned(1, u64::from(MOST_CONSOLES)))
+        .help("How many consoles there may be at once")
+}
+
+fn http_option<'a>(alloc: Global) -> Arg<'a>
+    ensures rule { rule_of result ≡ http_option }
+    ensures own { result.global ≡ false }
+{
+    Arg::new(alloc, "http")
+        .long("http")
+        .value_name("HOST:PORT")
+        .help("The address of a page that shows the centre, and of figures for monitoring")
+}
+
 /// The options for links that are lost, taken over, or without replies.
 fn with_link_rules<'a>(alloc: Global, command: Command<'a>) -> Result<Command<'a>, AllocError>
     requires { (fields_of command).has_globals ≡ false }
@@ -208,6 +246,26 @@ fn with_journal<'a>(alloc: Global, command: Command<'a>) -> Result<Command<'a>, 
     command.arg(fold_option(alloc))?.arg(keep_option(alloc))
 }
 
+/// The options by which operators connect.
+fn with_consoles<'a>(alloc: Global, command: Command<'a>) -> Result<Command<'a>, AllocError>
+    requires { (fields_of command).has_globals ≡ false }
+    ensures app { IfOk result (λ c. app_of c ≡ with_consoles (app_of command.entry)) }
+    ensures own { IfOk result (λ c. (fields_of c).has_globals ≡ false) }
+{
+    command
+        .arg(console_option(alloc))?
+        .arg(consoles_option(alloc))
+}
+
+/// The option by which those connect who only look.
+fn with_watchers<'a>(alloc: Global, command: Command<'a>) -> Result<Command<'a>, AllocError>
+    requires { (fields_of command).has_globals ≡ false }
+    ensures app { IfOk result (λ c. app_of c ≡ with_watchers (app_of command.entry)) }
+    ensures own { IfOk result (λ c. (fields_of c).has_globals ≡ false) }
+{
+    command.arg(http_option(alloc))
+}
+
 /// The options by which BSCs connect, simulated ones too.
 fn with_ports<'a>(alloc: Global, command: Command<'a>) -> Result<Command<'a>, AllocError>
     requires { (fields_of command).has_globals ≡ false }
@@ -224,7 +282,8 @@ fn serve_command<'a>(alloc: Global) -> Result<Command<'a>, AllocError>
 {
     let command = Command::new(alloc, "serve").about("Keeps warnings on air over TCP");
     let command = with_ports(alloc, with_common(alloc, command)?)?;
-    with_link_rules(alloc, with_journal(alloc, command)?)
+    let command = with_link_rules(alloc, with_journal(alloc, command)?)?;
+    with_watchers(alloc, with_consoles(alloc, command)?)
 }
 
 /// The command line that is taken.

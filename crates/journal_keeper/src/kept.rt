@@ -28,6 +28,11 @@ impl<A: Copy + Drop> Kept<A> {
         state.is_kept(place)
     }
 
+    /// Up to which place all entries are kept.
+    pub fn place<R: Wait>(&self, rt: &R) -> u64 {
+        self.state.lock(rt).place()
+    }
+
     /// Whether the file has failed.
     pub fn has_failed<R: Wait>(&self, rt: &R) -> bool {
         self.state.lock(rt).has_failed()

@@ -53,6 +53,13 @@ impl<A: Copy + Drop> KeptState<A> {
         self.place = self.place.max(place);
     }
 
+    /// Up to which place all entries are kept.
+    pub fn place(&self) -> u64
+        ensures { result ≡ self.now.place }
+    {
+        self.place
+    }
+
     /// The file has failed: nothing more is kept.
     pub fn fail(&mut self)
         ensures { self.new ≡ record self.old { failed = true; ended = true } }

@@ -1,7 +1,7 @@
 //! When a reply is overdue.
 
 ghost use Rattle.std.specs.Prelude.{◌≡◌};
-ghost use Rattle.link_rules.specs.Replies.{is_cut_after, looked, never_sent, overdue_at, times_due};
+ghost use Rattle.link_rules.specs.Replies.{is_cut_after, looked, never_sent, out_since, overdue_at, times_due, with_end, with_order, with_reply};
 
 use crate::overdue::Overdue;
 
@@ -11,14 +11,18 @@ const SECOND: u64 = 1_000;
 /// After how many milliseconds it is said again that there is no reply: ten minutes.
 const AGAIN: u64 = 600_000;
 
-/// For how long an order or a query has been out without a reply.
+/// For how long an order or a query has been out without a reply. One goes out once the one before is answered, but a thread may tell
+/// of a reply only after another told of the order behind it. So both are counted: the last order is out while fewer were answered.
 #[derive(Clone, Copy, Debug)]
 pub struct ReplyPace {
     /// After how many seconds it is said, and after how many the link is cut; 0 for never.
     reply_seconds: u32,
     cut_seconds: u32,
-    /// Since when something is out, in milliseconds of the clock.
-    sent: Option<u64>,
+    /// How many went out over this link, and how many were answered.
+    orders: u64,
+    replies: u64,
+    /// When the last went out, in milliseconds of the clock.
+    sent: u64,
     /// How often it was due to be said when that was last looked at.
     told: u64,
 }
@@ -32,24 +36,46 @@ impl ReplyPace {
         ReplyPace {
             reply_seconds,
             cut_seconds,
-            sent: None,
+            orders: 0,
+            replies: 0,
+            sent: 0,
             told: 0,
         }
     }
 
     /// An order or a query goes out. `now_ms` is in milliseconds of the clock.
     pub fn sent(&mut self, now_ms: u64)
-        ensures { self.new ≡ record self.old { sent = Some now_ms; told = 0 } }
+        ensures { self.new ≡ with_order now_ms self.old }
     {
-        self.sent = Some(now_ms);
+        self.orders = self.orders.saturating_add(1);
+        self.sent = now_ms;
         self.told = 0;
     }
 
-    /// What was out is answered, or its link has ended: nothing is out.
+    /// The next of those that went out, or are to go out, is answered.
     pub fn answered(&mut self)
-        ensures { self.new ≡ record self.old { sent = None } }
+        ensures { self.new ≡ with_reply self.old }
     {
-        self.sent = None;
+        self.replies = self.replies.saturating_add(1);
+    }
+
+    /// The link has ended, or another begins: nothing is out.
+    pub fn ended(&mut self)
+        ensures { self.new ≡ with_end self.old }
+    {
+        self.orders = 0;
+        self.replies = 0;
+    }
+
+    /// Since when something is out, in milliseconds of the clock.
+    pub fn since(&self) -> Option<u64>
+        ensures { result ≡ out_since self.now }
+    {
+        if self.replies < self.orders {
+            Some(self.sent)
+        } else {
+            None
+        }
     }
 
     /// How often it has been due to be said after so many milliseconds.
@@ -76,7 +102,7 @@ impl ReplyPace {
         ensures answer { result ≡ overdue_at now_ms self.old }
         ensures told { self.new ≡ looked now_ms self.old }
     {
-        let Some(sent) = self.sent else {
+        let Some(sent) = self.since() else {
             return Overdue::No;
         };
         let passed = now_ms.saturating_sub(sent);

@@ -9,3 +9,5 @@ pub mod Affecting
 pub mod Sendings
 pub mod Handing
 pub mod Statuses
+pub mod Kinds
+pub mod Counts

@@ -24,6 +24,8 @@ use centre_laws::headline::pending_gives_plan;
 use centre_past::lists::CentreStatus;
 use centre_questions::asking::ask;
 use centre_questions::question::Question;
+use centre_questions::survey::Survey;
+use centre_questions::surveying::survey;
 use std::alloc::{AllocError, Global};
 use std::cmp::max;
 use std::marker::Model;
@@ -74,6 +76,7 @@ impl<L: Ledger> Held<L> {
     ghost use Rattle.office.specs.Handing.{AreAllAfter, AreEntriesAfter};
     ghost use Rattle.office.specs.Helds.{HasEachOnce, IsEntered, IsHeld, RefusesFold, fits, no_row, row_at};
     ghost use Rattle.centre_questions.specs.Questions.{RefusesQuestion, Shows};
+    ghost use Rattle.centre_questions.specs.Surveys.{survey};
     ghost use Rattle.office.specs.Shuffles.{IsFault, IsShuffle};
     ghost use Rattle.office.specs.Wakes.{due, is_full, left_by};
     ghost use Rattle.office.specs.Wishes.{CanWish, RefusesWish, with_wish};
@@ -202,6 +205,13 @@ impl<L: Ledger> Held<L> {
         ensures { result ≡ status self.now.centre }
     {
         self.centre.status()
+    }
+
+    /// What is seen of the whole centre. At an `Err` there was no memory for it.
+    pub fn survey(&self) -> Result<Survey, AllocError>
+        ensures { IfOk result (λ s. s ≡ survey self.now.centre) }
+    {
+        survey(self.alloc, &self.centre)
     }
 
     /// How many entries there are that aren't folded.

@@ -6,18 +6,22 @@ ghost use Rattle.office.specs.Handing.{AreEntriesSomewhere, IsFoldedAfterSomewhe
 ghost use Rattle.office.specs.Offices.{IsFoldedSomewhere, IsRefusedSomewhere, IsReleasedSomewhere, IsSameDesk, IsSeenSomewhere, IsSubmitted, IsUnseenSomewhere};
 ghost use Rattle.office.specs.Sendings.{IsSent, IsUnsent};
 ghost use Rattle.office.specs.Shuffles.{IsSettled, IsUnsettled};
-ghost use Rattle.office.specs.Statuses.{IsStatusSomewhere};
+ghost use Rattle.office.specs.Statuses.{IsStatusSomewhere, IsSurveySomewhere};
 ghost use Rattle.office.specs.Wakes.{IsDueSomewhere};
 ghost use Rattle.office.specs.Wishes.{IsUnwishedSomewhere, IsWishedSomewhere};
 
 use crate::affected::Affected;
+use crate::counting::count_sent;
+use crate::counts::Counts;
 use crate::desk::Desk;
 use crate::entries::Entries;
+use crate::event_kind::EventKind;
 use crate::fault::Unsettled;
 use crate::folded::Folded;
 use crate::held::Held;
 use crate::progress::Progress;
 use crate::seen::Seen;
+use crate::surveyed::Surveyed;
 use crate::unsent::Unsent;
 use crate::wake::Wake;
 use crate::wish::Wish;
@@ -40,6 +44,8 @@ pub struct Office<L: Ledger> {
     held: Mutex<Held<L>>,
     moved: Condvar,
     entered: Condvar,
+    /// Whoever holds this and the lock took the lock first.
+    counts: Mutex<Counts>,
 }
 
 /// Makes room for the receipt of an event that the desk submits, and copies the event for it.
@@ -70,6 +76,7 @@ impl<L: Ledger> Office<L> {
             held: Mutex::new(Held::new(alloc, plmn, journal_limit, book, rest)),
             moved: Condvar::new(),
             entered: Condvar::new(),
+            counts: Mutex::new(Counts::new()),
         }
     }
 
@@ -91,12 +98,14 @@ impl<L: Ledger> Office<L> {
     {
         let Ok(copy) = prepared(self.alloc, desk, &event) else {
             drop(event);
-            return Err(Refusal::Memory);
+            return Err(self.refuse(rt, Refusal::Memory));
         };
+        let kind = EventKind::of(&event);
         let mut guard = self.held.lock(rt);
         guard.tell_soundness();
         let affected = guard.affected_by(&event);
         let result = guard.submit(desk, event, copy);
+        self.counts.lock(rt).count(kind, result);
         self.entered.notify_all();
         if guard.has_work(affected) {
             self.moved.notify_all();
@@ -111,7 +120,36 @@ impl<L: Ledger> Office<L> {
     {
         let mut guard = self.held.lock(rt);
         guard.tell_soundness();
-        guard.look(desk, question)
+        let look = guard.look(desk, question);
+        self.count_refused(rt, &look);
+        look
+    }
+
+    /// The refusal, which is counted.
+    fn refuse<R: Wait>(&self, rt: &R, refusal: Refusal) -> Refusal
+        ensures { result ≡ refusal }
+    {
+        self.counts.lock(rt).refuse(refusal);
+        refusal
+    }
+
+    /// Counts the refusal, if the answer is one.
+    fn count_refused<T, R: Wait>(&self, rt: &R, answer: &Result<T, Refusal>) {
+        if let Err(refusal) = answer {
+            self.counts.lock(rt).refuse(*refusal);
+        }
+    }
+
+    /// What is seen of the whole centre now, and what was counted by then, in one hold of the lock. At an `Err` there was no memory
+    /// for it.
+    pub fn survey<R: Wait>(&self, rt: &R) -> Result<Surveyed, AllocError>
+        ensures { IfOk result (λ s. IsSurveySomewhere s.survey) }
+    {
+        let guard = self.held.lock(rt);
+        guard.tell_soundness();
+        let survey = guard.survey()?;
+        let counts = *self.counts.lock(rt);
+        Ok(Surveyed { survey, counts })
     }
 
     /// How the centre stands, also where it is stale. It takes no memory.
@@ -150,6 +188,7 @@ impl<L: Ledger> Office<L> {
         if guard.has_work(Affected::These(Some(b), None)) {
             self.moved.notify_all();
         }
+        self.count_refused(rt, &result);
         result
     }
 
@@ -206,6 +245,7 @@ impl<L: Ledger> Office<L> {
             });
             guard.tell_soundness();
             if let Some(result) = guard.send_due(desk, b, generation) {
+                count_sent(&mut self.counts.lock(rt), desk, &result);
                 self.entered.notify_all();
                 if guard.has_work(Affected::None) {
                     self.moved.notify_all();
@@ -230,8 +270,18 @@ impl<L: Ledger> Office<L> {
         guard.tell_soundness();
         let folded = guard.folded();
         drop(guard);
+        let count = desk.receipts().len();
         let _ = desk.release(folded);
+        self.count_released(rt, count, desk.receipts().len());
         folded
+    }
+
+    /// Counts the receipts that a desk let go of: it had so many, and has so many now.
+    fn count_released<R: Wait>(&self, rt: &R, before: usize, now: usize) {
+        let gone = before.saturating_sub(now);
+        if gone > 0 {
+            self.counts.lock(rt).let_go(gone as u64);
+        }
     }
 
     /// Folds the entries of the journal, and answers how many there were: `Stale`, then `Memory`, or else the journal is empty, and

@@ -2,6 +2,7 @@
 
 use crate::fault::ServeFault;
 use crate::options::ServeOptions;
+use crate::ports::open_desk;
 use console_text::ReplayFault;
 use journal_file::{
     DiskFile, JournalFile, LoadFault, Loaded, OpenFault, Writing, append_all, header, load,
@@ -9,14 +10,15 @@ use journal_file::{
 use journal_keeper::{KeepFault, Keeper};
 use journal_office::Entering;
 use office::desk::Desk;
-use office::office::Office;
 use server_errors::{Errors, say_of_centre};
+use server_links::Shared;
+use server_operator::Terminal;
 use std::alloc::Global;
 use std::cmp::min;
 use std::fs::{File, Files};
-use std::io::Write;
-use std::sync::Wait;
+use std::io::{BufRead, Write};
 use std::sync::ledger::Ledger;
+use std::sync::{Mutex, Wait};
 use std::time::Clock;
 
 /// Opens and locks the file of the journal, where one is given.
@@ -110,36 +112,98 @@ fn tell_torn<E: Write + Drop, R: Wait + Clock>(
     }
 }
 
-/// Enters what stands in the file into the office, at the desk, and then the loss of each link that was up, which is synced. What is
-/// torn is cut off. Nothing in the file is changed where it can't be read or entered.
-pub(crate) fn begin<L: Ledger, E: Write + Drop, R: Wait + Clock>(
+/// Enters what stands in the file. What is torn is cut off. Nothing in the file is changed where it can't be read or entered.
+fn enter_lines<L: Ledger, E: Write + Drop, R: Wait + Clock>(
     rt: &R,
     alloc: Global,
     options: &ServeOptions,
-    office: &Office<L>,
-    desk: &mut Desk<L>,
     errors: &Errors<E>,
-    mut file: DiskFile,
-) -> Result<Keeper<DiskFile>, ServeFault> {
-    let every = fold_every(options);
-    let mut entering = Entering::new(rt, alloc, office, desk, every);
+    entering: &mut Entering<'_, L, R>,
+    file: &mut DiskFile,
+) -> Result<(), ServeFault> {
     let read = {
         let mut source = file.source();
-        load(alloc, options.plmn, &mut source, &mut entering)
+        load(alloc, options.plmn, &mut source, entering)
     };
-    let loaded = match read {
-        Ok(loaded) => loaded,
-        Err(fault) => return Err(unread(rt, alloc, errors, fault)),
-    };
-    mend(&mut file, options.plmn, loaded)?;
-    tell_torn(rt, alloc, errors, loaded);
-    let mut writing = Writing::new(alloc, office.position(rt));
-    match entering.lose_links(&mut writing) {
+    match read {
+        Ok(loaded) => {
+            mend(file, options.plmn, loaded)?;
+            tell_torn(rt, alloc, errors, loaded);
+            Ok(())
+        }
+        Err(fault) => Err(unread(rt, alloc, errors, fault)),
+    }
+}
+
+/// Enters the loss of each link that was up, which is synced.
+fn enter_losses<L: Ledger, R: Wait>(
+    entering: &mut Entering<'_, L, R>,
+    writing: &mut Writing,
+    file: &mut DiskFile,
+) -> Result<(), ServeFault> {
+    match entering.lose_links(writing) {
         Ok(()) => {}
         Err(fault) => return Err(unkept(fault)),
     }
-    if writing.keep(&mut file).is_err() {
+    if writing.keep(file).is_err() {
         return Err(ServeFault::Journal);
     }
-    Ok(Keeper { writing, file })
+    Ok(())
+}
+
+/// Enters what stands in the file into the office, at the desk, and then the loss of each link that was up. The answer is what follows
+/// the journal into the file.
+fn enter_all<L: Ledger, E: Write + Drop, R: Wait + Clock>(
+    rt: &R,
+    options: &ServeOptions,
+    shared: &Shared<L, E>,
+    desk: &mut Desk<L>,
+    file: &mut DiskFile,
+) -> Result<Writing, ServeFault> {
+    let alloc = shared.alloc;
+    let mut entering = Entering::new(rt, alloc, &shared.office, desk, fold_every(options));
+    enter_lines(rt, alloc, options, &shared.errors, &mut entering, file)?;
+    let mut writing = Writing::new(alloc, shared.office.position(rt));
+    match enter_losses(&mut entering, &mut writing, file) {
+        Ok(()) => Ok(writing),
+        Err(fault) => Err(fault),
+    }
+}
+
+/// Goes on from the file at the desk, where one is given.
+fn begin_kept<L: Ledger, E: Write + Drop, R: Wait + Clock>(
+    rt: &R,
+    options: &ServeOptions,
+    shared: &Shared<L, E>,
+    desk: &mut Desk<L>,
+    file: Option<DiskFile>,
+) -> Result<Option<Keeper<DiskFile>>, ServeFault> {
+    let Some(mut file) = file else {
+        return Ok(None);
+    };
+    match enter_all(rt, options, shared, desk, &mut file) {
+        Ok(writing) => Ok(Some(Keeper { writing, file })),
+        Err(fault) => Err(fault),
+    }
+}
+
+/// Opens the first desk, that of standard input, and goes on from the file of the journal, where one is given.
+pub(crate) fn begin_journal<
+    L: Ledger,
+    I: BufRead + Drop,
+    W: Write + Drop,
+    E: Write + Drop,
+    R: Wait + Clock,
+>(
+    rt: &R,
+    options: &ServeOptions,
+    shared: &Shared<L, E>,
+    file: Option<DiskFile>,
+    terminal: &Mutex<Terminal<L, I, W>>,
+) -> Result<Option<Keeper<DiskFile>>, ServeFault> {
+    let mut desk = open_desk(rt, &shared.office)?;
+    let begun = begin_kept(rt, options, shared, &mut desk, file);
+    shared.count_entered(rt);
+    terminal.lock(rt).desk = Some(desk);
+    begun
 }

@@ -1,16 +1,23 @@
-//! The cell broadcast centre as a server: BSCs connect over TCP, each to a port of its own, while an operator types lines.
+//! The cell broadcast centre as a server: BSCs connect over TCP, each to a port of its own, while operators type lines.
 //!
-//! Begin with `serving`. The threads of a port are in `server_links`, the lines of the operator in `server_operator`; what is
-//! promised of the office stands in `office`. No clause says what a socket gives or when a thread goes on.
+//! Begin with `serving`, then `threads` and `operators`. What the threads of a port do is in `server_links`, those of consoles in
+//! `server_consoles`, that of the page for those who only look in `server_http` (`looking`, `picturing`), the lines of an operator in
+//! `server_operator`; what is promised of the office stands in `office`. No clause says what a socket gives or when a thread goes on.
 #![tactic(auto)]
 
+mod consoles;
+mod desks;
 mod fault;
 mod journal;
+mod looking;
+mod operators;
 mod options;
 mod peers_file;
+mod picturing;
 mod ports;
 mod running_server;
 mod serving;
+mod threads;
 
 pub use fault::ServeFault;
 pub use options::ServeOptions;

@@ -3,7 +3,9 @@
 ghost use Rattle.std.specs.Prelude.{◌≡◌, ◌≤◌, ◌&&◌, IfSome, if◌then◌else◌, nat_lt};
 
 use clap::ArgMatches;
-use console_text::options::{FOLD, MOST_ENTRIES, MOST_SECONDS, REPLY_SECONDS, command_line};
+use console_text::options::{
+    CONSOLES, FOLD, MOST_CONSOLES, MOST_ENTRIES, MOST_SECONDS, REPLY_SECONDS, command_line,
+};
 use hex::FromHex;
 use server_ports::LinkLimits;
 use std::alloc::{AllocError, Global};
@@ -34,10 +36,17 @@ pub struct ServeOptions {
     pub peers: Option<String>,
     /// The file that the journal is kept in; without it nothing is kept.
     pub keep: Option<String>,
+    /// The socket file at which each connection is a console; without it only standard input is one.
+    pub console: Option<String>,
+    /// How many consoles there may be at once, at most 64.
+    pub consoles: u32,
+    /// The address, `HOST:PORT`, of the page for those who only look; without it there is none.
+    pub http: Option<String>,
     /// How fast a peer is let in.
     pub limits: LinkLimits,
     ghost few: { journal_limit ≤ 4000000 },
     ghost few_links: { links ≤ 256 },
+    ghost few_consoles: { consoles ≤ 64 },
 }
 
 /// Why the words are no options of the server.
@@ -45,7 +54,7 @@ pub struct ServeOptions {
 pub(crate) enum OptionsFault {
     /// The network code isn't six hexadecimal digits.
     BadPlmn,
-    /// A port would be past 65,535, or a value is none that the parser takes.
+    /// A port would be past 65,535, an address has no host or no port, or a value is none that the parser takes.
     BadPorts,
     Memory,
 }
@@ -72,7 +81,7 @@ fn asked_journal(matches: &ArgMatches<'_>) -> u32
 }
 
 /// The least that a journal may hold that is kept in a file. It is folded at nine tenths of that at the latest, and the fold waits for
-/// the disk. Meanwhile 513 threads may enter two events each before they wait for the fold, so a tenth has to have room for these.
+/// the disk. Meanwhile 577 threads may enter two events each before they wait for the fold, so a tenth has to have room for these.
 const LEAST_KEPT: u32 = 20_480;
 
 /// How many entries the journal holds for which that is asked: no fewer than it needs where it is kept in a file.
@@ -86,13 +95,6 @@ fn held(is_kept: bool, asked: u32) -> u32
     } else {
         asked
     }
-}
-
-/// How many entries the journal may hold: with a file no fewer than it needs.
-fn asked_limit(matches: &ArgMatches<'_>) -> u32
-    ensures { result ≤ 4000000 }
-{
-    held(matches.get_str("keep").is_some(), asked_journal(matches))
 }
 
 /// After how many entries the journal is folded.
@@ -121,6 +123,16 @@ fn asked_ports(matches: &ArgMatches<'_>) -> Option<(u16, u16)>
     Some((base, links))
 }
 
+/// How many consoles there may be at once.
+fn asked_consoles(matches: &ArgMatches<'_>) -> u32
+    ensures { result ≤ 64 }
+{
+    match matches.get_one::<u32>("consoles") {
+        Some(count @ 1..=MOST_CONSOLES) => count,
+        _ => CONSOLES,
+    }
+}
+
 /// A number of seconds.
 fn asked_seconds(matches: &ArgMatches<'_>, name: &str, default: u32) -> u32
     requires { default ≤ 86400 }
@@ -144,6 +156,49 @@ fn asked_file(
     }
 }
 
+/// Whether the text is a host and the number of a port.
+fn is_address(text: &str) -> bool {
+    match text.rsplit_once(':') {
+        Some((host, port)) => !host.is_empty() && port.parse::<u16>().is_ok(),
+        None => false,
+    }
+}
+
+/// The address of the page, where one is given.
+fn asked_http(alloc: Global, matches: &ArgMatches<'_>) -> Result<Option<String>, OptionsFault> {
+    match matches.get_str("http") {
+        Some(address) if !is_address(address) => Err(OptionsFault::BadPorts),
+        Some(address) => Ok(Some(String::from_str(alloc, address)?)),
+        None => Ok(None),
+    }
+}
+
+/// The names among the options.
+#[derive(Drop)]
+struct Names {
+    host: String,
+    peers: Option<String>,
+    keep: Option<String>,
+    console: Option<String>,
+    http: Option<String>,
+}
+
+/// The names in the matches.
+fn names_of(alloc: Global, matches: &ArgMatches<'_>) -> Result<Names, OptionsFault> {
+    let http = asked_http(alloc, matches)?;
+    let peers = asked_file(alloc, matches, "peers")?;
+    let keep = asked_file(alloc, matches, "keep")?;
+    let console = asked_file(alloc, matches, "console")?;
+    let host = String::from_str(alloc, matches.get_str("host").unwrap_or("127.0.0.1"))?;
+    Ok(Names {
+        host,
+        peers,
+        keep,
+        console,
+        http,
+    })
+}
+
 /// The options of the server in its matches.
 fn options_of(alloc: Global, matches: &ArgMatches<'_>) -> Result<ServeOptions, OptionsFault> {
     let Some(plmn) = asked_plmn(matches) else {
@@ -152,12 +207,16 @@ fn options_of(alloc: Global, matches: &ArgMatches<'_>) -> Result<ServeOptions, O
     let Some((base, links)) = asked_ports(matches) else {
         return Err(OptionsFault::BadPorts);
     };
-    let host = String::from_str(alloc, matches.get_str("host").unwrap_or("127.0.0.1"))?;
-    let peers = asked_file(alloc, matches, "peers")?;
-    let keep = asked_file(alloc, matches, "keep")?;
+    let Names {
+        host,
+        peers,
+        keep,
+        console,
+        http,
+    } = names_of(alloc, matches)?;
     Ok(ServeOptions {
         plmn,
-        journal_limit: asked_limit(matches),
+        journal_limit: held(keep.is_some(), asked_journal(matches)),
         fold: asked_fold(matches),
         host,
         base,
@@ -168,6 +227,9 @@ fn options_of(alloc: Global, matches: &ArgMatches<'_>) -> Result<ServeOptions, O
         cut_seconds: asked_seconds(matches, "cut-seconds", 0),
         peers,
         keep,
+        console,
+        consoles: asked_consoles(matches),
+        http,
         limits: LinkLimits::usual(),
     })
 }

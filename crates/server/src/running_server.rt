@@ -2,6 +2,7 @@
 
 use cell_register::BscId;
 use centre_events::refusal::Refusal;
+use server_consoles::Program;
 use server_errors::say_of_centre;
 use server_links::Shared;
 use server_operator::Server;
@@ -53,7 +54,7 @@ impl<'a, L: Ledger, E: Write + Drop> Server for RunningServer<'a, L, E> {
     }
 
     fn is_ending<R: Wait>(&self, rt: &R) -> bool {
-        self.shared.has_failed(rt)
+        self.shared.is_closing(rt) || self.shared.has_failed(rt)
     }
 
     fn checkpoint<R: Wait>(&self, rt: &R) -> Result<u64, Refusal> {
@@ -87,5 +88,15 @@ impl<'a, L: Ledger, E: Write + Drop> Server for RunningServer<'a, L, E> {
         ) {
             say_of_centre(rt, alloc, &self.shared.errors, text);
         }
+    }
+}
+
+impl<'a, L: Ledger, E: Write + Drop> Program for RunningServer<'a, L, E> {
+    fn end<R: Wait>(&self, rt: &R) {
+        self.shared.close(rt);
+    }
+
+    fn tell<R: Wait + Clock>(&self, rt: &R, what: &str) {
+        say_of_centre(rt, self.shared.alloc, &self.shared.errors, what);
     }
 }

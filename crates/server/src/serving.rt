@@ -2,24 +2,23 @@
 
 ghost use Rattle.std.specs.Prelude.{◌≡◌};
 
+use crate::consoles::{close_consoles_file, open_console_desks, open_consoles};
+use crate::desks::desks_of;
 use crate::fault::ServeFault;
-use crate::journal::{begin, open_journal};
+use crate::journal::{begin_journal, open_journal};
+use crate::looking::{Looking, open_looking, run_looking};
 use crate::options::{OptionsFault, ServeOptions, read_options};
-use crate::ports::{Opened, hand_in, open_desk, open_desks, open_ports, push};
-use crate::running_server::RunningServer;
+use crate::ports::{Opened, open_desks, open_ports};
 use console_text::{ReplayFault, fault_words};
 use journal_file::DiskFile;
 use journal_keeper::{Keeper, Kept};
 use link_rules::FoldPace;
 use office::desk::Desk;
 use office::office::Office;
-use server_errors::{Errors, say_of_centre};
-use server_links::{
-    LinkOptions, Shared, accept_links, close_all, close_port, keep, read_links, simulate, watch,
-    write_links,
-};
-use server_operator::{Operator, Terminal, operate};
-use server_ports::Port;
+use server_consoles::Consoles;
+use server_errors::Errors;
+use server_links::{LinkOptions, Shared};
+use server_operator::Terminal;
 use std::alloc::Global;
 use std::fs::{File, Files};
 use std::io::{BufRead, Write};
@@ -27,189 +26,8 @@ use std::marker::Brand;
 use std::net::{Net, TcpListener, TcpStream};
 use std::sync::ledger::{Blank, Ledger};
 use std::sync::{Condvar, Mutex, Wait};
-use std::thread;
 use std::thread::Threads;
 use std::time::Clock;
-
-const UNWATCHED: &str =
-    "no thread can be started: orders without a reply are neither said nor do they cut a link";
-
-/// Answers the lines of the operator while simulated BSCs answer the centre, and has all ports close.
-fn run_simulators<
-    'x,
-    L: Ledger + Send + Sync,
-    R: Wait + Threads + Clock + Sync + Net<Stream = TcpStream, Listener = TcpListener>,
-    I: BufRead + Send + Drop,
-    W: Write + Send + Drop,
-    E: Write + Send + Drop,
->(
-    rt: &'x R,
-    shared: &'x Shared<L, E>,
-    ports: &'x [Port<L>],
-    terminal: &'x Mutex<Terminal<L, I, W>>,
-) -> Result<(), ReplayFault> {
-    thread::scope(thread::scope_env(), rt, move |scope| {
-        for port in ports {
-            if scope.spawn(move || simulate(rt, shared, port)).is_err() {
-                close_port(rt, shared, port);
-            }
-        }
-        let operator = Operator {
-            alloc: shared.alloc,
-            office: &shared.office,
-            server: &RunningServer { shared },
-        };
-        let result = operate(rt, &operator, terminal);
-        close_all(rt, shared);
-        result
-    })
-}
-
-/// Answers the lines of the operator while a thread looks for orders without a reply, and ends these threads. Where that thread can't
-/// be started, this is said.
-fn run_watch<
-    'x,
-    L: Ledger + Send + Sync,
-    R: Wait + Threads + Clock + Sync + Net<Stream = TcpStream, Listener = TcpListener>,
-    I: BufRead + Send + Drop,
-    W: Write + Send + Drop,
-    E: Write + Send + Drop,
->(
-    rt: &'x R,
-    shared: &'x Shared<L, E>,
-    ports: &'x [Port<L>],
-    terminal: &'x Mutex<Terminal<L, I, W>>,
-) -> Result<(), ReplayFault> {
-    thread::scope(thread::scope_env(), rt, move |scope| {
-        if scope.spawn(move || watch(rt, shared)).is_err() {
-            say_of_centre(rt, shared.alloc, &shared.errors, UNWATCHED);
-        }
-        run_simulators(rt, shared, ports, terminal)
-    })
-}
-
-/// Answers the lines of the operator while the ports take connections, and ends these threads.
-fn run_acceptors<
-    'x,
-    L: Ledger + Send + Sync,
-    R: Wait + Threads + Clock + Sync + Net<Stream = TcpStream, Listener = TcpListener>,
-    I: BufRead + Send + Drop,
-    W: Write + Send + Drop,
-    E: Write + Send + Drop,
->(
-    rt: &'x R,
-    shared: &'x Shared<L, E>,
-    ports: &'x [Port<L>],
-    terminal: &'x Mutex<Terminal<L, I, W>>,
-) -> Result<(), ReplayFault> {
-    thread::scope(thread::scope_env(), rt, move |scope| {
-        for port in ports {
-            if scope.spawn(move || accept_links(rt, shared, port)).is_err() {
-                close_port(rt, shared, port);
-            }
-        }
-        run_watch(rt, shared, ports, terminal)
-    })
-}
-
-/// Answers the lines of the operator while the ports write to their links, and ends these threads.
-fn run_writers<
-    'x,
-    L: Ledger + Send + Sync,
-    R: Wait + Threads + Clock + Sync + Net<Stream = TcpStream, Listener = TcpListener>,
-    I: BufRead + Send + Drop,
-    W: Write + Send + Drop,
-    E: Write + Send + Drop,
->(
-    rt: &'x R,
-    shared: &'x Shared<L, E>,
-    ports: &'x [Port<L>],
-    terminal: &'x Mutex<Terminal<L, I, W>>,
-) -> Result<(), ReplayFault> {
-    thread::scope(thread::scope_env(), rt, move |scope| {
-        for port in ports {
-            if scope.spawn(move || write_links(rt, shared, port)).is_err() {
-                close_port(rt, shared, port);
-            }
-        }
-        run_acceptors(rt, shared, ports, terminal)
-    })
-}
-
-/// Answers the lines of the operator while the ports serve their links, and ends these threads.
-fn run_readers<
-    'x,
-    L: Ledger + Send + Sync,
-    R: Wait + Threads + Clock + Sync + Net<Stream = TcpStream, Listener = TcpListener>,
-    I: BufRead + Send + Drop,
-    W: Write + Send + Drop,
-    E: Write + Send + Drop,
->(
-    rt: &'x R,
-    shared: &'x Shared<L, E>,
-    ports: &'x [Port<L>],
-    terminal: &'x Mutex<Terminal<L, I, W>>,
-) -> Result<(), ReplayFault> {
-    thread::scope(thread::scope_env(), rt, move |scope| {
-        for port in ports {
-            if scope.spawn(move || read_links(rt, shared, port)).is_err() {
-                close_port(rt, shared, port);
-            }
-        }
-        run_writers(rt, shared, ports, terminal)
-    })
-}
-
-/// Answers the lines of the operator while the ports serve their links, and what happens to links is said by a thread of its own,
-/// or at the end, where that can't be started. Ends all threads.
-fn run_threads<
-    'x,
-    L: Ledger + Send + Sync,
-    R: Wait + Threads + Clock + Sync + Net<Stream = TcpStream, Listener = TcpListener>,
-    I: BufRead + Send + Drop,
-    W: Write + Send + Drop,
-    E: Write + Send + Drop,
->(
-    rt: &'x R,
-    shared: &'x Shared<L, E>,
-    ports: &'x [Port<L>],
-    terminal: &'x Mutex<Terminal<L, I, W>>,
-) -> Result<(), ReplayFault> {
-    thread::scope(thread::scope_env(), rt, move |scope| {
-        let _ = scope.spawn(move || shared.errors.say_lines(rt, shared.alloc, shared));
-        let result = run_readers(rt, shared, ports, terminal);
-        shared.errors.close(rt);
-        result
-    })
-}
-
-/// Answers the lines of the operator while the journal is kept in its file, where it is, and ends all threads. Where no thread can be
-/// started for that, nothing is answered.
-fn run_keeper<
-    'x,
-    L: Ledger + Send + Sync,
-    R: Wait + Threads + Clock + Sync + Net<Stream = TcpStream, Listener = TcpListener>,
-    I: BufRead + Send + Drop,
-    W: Write + Send + Drop,
-    E: Write + Send + Drop,
->(
-    rt: &'x R,
-    shared: &'x Shared<L, E>,
-    keeper: Option<Keeper<DiskFile>>,
-    terminal: &'x Mutex<Terminal<L, I, W>>,
-) -> Result<(), ReplayFault> {
-    let Some(keeper) = keeper else {
-        return run_threads(rt, shared, shared.ports.as_slice(), terminal);
-    };
-    thread::scope(thread::scope_env(), rt, move |scope| {
-        if scope.spawn(move || keep(rt, shared, keeper)).is_err() {
-            return Err(ReplayFault::Memory);
-        }
-        let result = run_threads(rt, shared, shared.ports.as_slice(), terminal);
-        shared.end_keeping(rt);
-        result
-    })
-}
 
 /// Writes how many entries there are.
 fn write_settled<W: Write>(alloc: Global, writer: &mut W, entries: u64) -> Result<(), ServeFault> {
@@ -238,7 +56,34 @@ pub fn settle<L: Ledger, W: Write>(
     }
 }
 
-/// Opens the desks, goes on from the file of the journal, where one is given, serves until the lines of the operator end, and hands in
+/// Serves until the lines of the operators end, from desks of the ports and the consoles.
+fn run_from_desks<
+    L: Ledger + Send + Sync,
+    R: Wait + Threads + Clock + Sync + Net<Stream = TcpStream, Listener = TcpListener>,
+    I: BufRead + Send + Drop,
+    W: Write + Send + Drop,
+    E: Write + Send + Drop,
+>(
+    rt: &R,
+    shared: &Shared<L, E>,
+    keeper: Option<Keeper<DiskFile>>,
+    looking: Option<&Looking>,
+    consoles: Option<&Consoles<L>>,
+    terminal: &Mutex<Terminal<L, I, W>>,
+) -> Result<(), ServeFault> {
+    open_desks(rt, &shared.office, shared.ports.as_slice())?;
+    open_console_desks(rt, &shared.office, consoles)?;
+    match run_looking(rt, shared, looking, keeper, consoles, terminal) {
+        Ok(()) => {}
+        Err(fault) => return Err(ServeFault::Lines(fault)),
+    }
+    if shared.has_failed(rt) {
+        return Err(ServeFault::Journal);
+    }
+    Ok(())
+}
+
+/// Opens the desks, goes on from the file of the journal, where one is given, serves until the lines of the operators end, and hands in
 /// the desks.
 fn run_desks<
     L: Ledger + Send + Sync,
@@ -251,38 +96,136 @@ fn run_desks<
     options: &ServeOptions,
     shared: &Shared<L, E>,
     file: Option<DiskFile>,
+    looking: Option<&Looking>,
+    consoles: Option<&Consoles<L>>,
     terminal: &Mutex<Terminal<L, I, W>>,
 ) -> Result<Vec<Desk<L>>, ServeFault> {
-    let ports = shared.ports.as_slice();
-    let mut desk = open_desk(rt, &shared.office)?;
-    let keeper = match file {
-        Some(file) => Some(begin(
-            rt,
-            shared.alloc,
-            options,
-            &shared.office,
-            &mut desk,
-            &shared.errors,
-            file,
-        )?),
-        None => None,
+    let keeper = begin_journal(rt, options, shared, file, terminal)?;
+    run_from_desks(rt, shared, keeper, looking, consoles, terminal)?;
+    desks_of(rt, shared, consoles, terminal)
+}
+
+/// What is open before the threads of a run begin.
+#[derive(Drop)]
+struct Begun<L: Ledger> {
+    file: Option<DiskFile>,
+    opened: Opened<L>,
+    looking: Option<Looking>,
+    consoles: Option<Consoles<L>>,
+}
+
+/// Opens the file of the journal, the ports, that of the page and the socket file of the consoles, in this order.
+fn open_all<
+    L: Ledger,
+    R: Files<File = File> + Wait + Clock + Net<Stream = TcpStream, Listener = TcpListener>,
+    E: Write + Drop,
+>(
+    rt: &R,
+    alloc: Global,
+    options: &ServeOptions,
+    errors: &Errors<E>,
+) -> Result<Begun<L>, ServeFault> {
+    let file = open_journal(rt, options)?;
+    let opened = open_ports(rt, alloc, options, errors)?;
+    let looking = open_looking(rt, alloc, options, errors)?;
+    let consoles = open_consoles(rt, alloc, options, errors)?;
+    Ok(Begun {
+        file,
+        opened,
+        looking,
+        consoles,
+    })
+}
+
+/// Settles the office once its threads have ended, and writes how many entries there are. Where there are consoles, nothing comes of a
+/// standard output that can't be written. At a fault it hands back where to say it.
+fn end<L: Ledger, R: Wait, I: BufRead + Drop, W: Write + Drop, E: Write + Drop>(
+    rt: &R,
+    options: &ServeOptions,
+    shared: Shared<L, E>,
+    terminal: &Mutex<Terminal<L, I, W>>,
+    ended: Result<Vec<Desk<L>>, ServeFault>,
+) -> Result<(), (Errors<E>, ServeFault)> {
+    let Shared {
+        alloc,
+        office,
+        ports,
+        errors,
+        options: _,
+        folds: _,
+        kept: _,
+        with_simulator: _,
+        closing: _,
+        closed: _,
+    } = shared;
+    drop(ports);
+    let settled = match ended {
+        Ok(desks) => settle(alloc, office, desks, &mut terminal.lock(rt).writer),
+        Err(fault) => Err(fault),
     };
-    shared.count_entered(rt);
-    terminal.lock(rt).desk = Some(desk);
-    open_desks(rt, &shared.office, ports)?;
-    match run_keeper(rt, shared, keeper, terminal) {
-        Ok(()) => {}
-        Err(fault) => return Err(ServeFault::Lines(fault)),
+    match settled {
+        Ok(()) => Ok(()),
+        Err(ServeFault::Lines(ReplayFault::WriteFault)) if options.console.is_some() => Ok(()),
+        Err(fault) => Err((errors, fault)),
     }
-    if shared.has_failed(rt) {
-        return Err(ServeFault::Journal);
-    }
-    let mut desks = Vec::new(shared.alloc);
-    if let Some(desk) = terminal.lock(rt).desk.take() {
-        push(&mut desks, desk)?;
-    }
-    hand_in(rt, ports, &mut desks)?;
-    Ok(desks)
+}
+
+/// Serves over an office of what is open, and settles it.
+fn run_begun<
+    L: Ledger + Send + Sync,
+    R: Files + Wait + Threads + Clock + Sync + Net<Stream = TcpStream, Listener = TcpListener>,
+    I: BufRead + Send + Drop,
+    W: Write + Send + Drop,
+    E: Write + Send + Drop,
+>(
+    rt: &R,
+    blank: Blank,
+    options: &ServeOptions,
+    begun: Begun<L>,
+    reader: I,
+    writer: W,
+    errors: Errors<E>,
+    alloc: Global,
+) -> Result<(), (Errors<E>, ServeFault)>
+    requires name { blank.name ≡ L.name }
+    requires parts { blank.parts ≡ L.parts }
+    requires desks { blank.parts ≡ 1025 }
+{
+    let Begun {
+        file,
+        opened,
+        looking,
+        consoles,
+    } = begun;
+    let Opened { ports, peers } = opened;
+    let shared = Shared {
+        alloc,
+        office: Office::new(alloc, blank, options.plmn, options.journal_limit),
+        ports,
+        errors,
+        options: LinkOptions {
+            reset: options.reset,
+            reply_seconds: options.reply_seconds,
+            cut_seconds: options.cut_seconds,
+            peers,
+        },
+        folds: Mutex::new(FoldPace::new(options.fold, options.journal_limit)),
+        kept: options.keep.as_ref().map(|_file| Kept::new(0)),
+        with_simulator: options.with_simulator,
+        closing: Mutex::new(false),
+        closed: Condvar::new(),
+    };
+    let terminal: Mutex<Terminal<L, I, W>> = Mutex::new(Terminal {
+        reader,
+        writer,
+        desk: None,
+    });
+    let (looked, consoled) = (looking.as_ref(), consoles.as_ref());
+    let ended = run_desks(rt, options, &shared, file, looked, consoled, &terminal);
+    close_consoles_file(rt, options);
+    drop(looking);
+    drop(consoles);
+    end(rt, options, shared, &terminal, ended)
 }
 
 /// Serves over an office, settles it, and writes how many entries there are. At a fault it hands back where to say it.
@@ -310,57 +253,9 @@ fn run<
     requires parts { blank.parts ≡ L.parts }
     requires desks { blank.parts ≡ 1025 }
 {
-    let file = match open_journal(rt, options) {
-        Ok(file) => file,
-        Err(fault) => return Err((errors, fault)),
-    };
-    let opened: Opened<L> = match open_ports(rt, alloc, options, &errors) {
-        Ok(opened) => opened,
-        Err(fault) => return Err((errors, fault)),
-    };
-    let Opened { ports, peers } = opened;
-    let shared = Shared {
-        alloc,
-        office: Office::new(alloc, blank, options.plmn, options.journal_limit),
-        ports,
-        errors,
-        options: LinkOptions {
-            reset: options.reset,
-            reply_seconds: options.reply_seconds,
-            cut_seconds: options.cut_seconds,
-            peers,
-        },
-        folds: Mutex::new(FoldPace::new(options.fold, options.journal_limit)),
-        kept: options.keep.as_ref().map(|_file| Kept::new(0)),
-        with_simulator: options.with_simulator,
-        closing: Mutex::new(false),
-        closed: Condvar::new(),
-    };
-    let terminal: Mutex<Terminal<L, I, W>> = Mutex::new(Terminal {
-        reader,
-        writer,
-        desk: None,
-    });
-    let ended = run_desks(rt, options, &shared, file, &terminal);
-    let Shared {
-        alloc: _,
-        office,
-        ports,
-        errors,
-        options: _,
-        folds: _,
-        kept: _,
-        with_simulator: _,
-        closing: _,
-        closed: _,
-    } = shared;
-    drop(ports);
-    let settled = match ended {
-        Ok(desks) => settle(alloc, office, desks, &mut terminal.lock(rt).writer),
-        Err(fault) => Err(fault),
-    };
-    match settled {
-        Ok(()) => Ok(()),
+    let begun: Result<Begun<L>, ServeFault> = open_all(rt, alloc, options, &errors);
+    match begun {
+        Ok(begun) => run_begun(rt, blank, options, begun, reader, writer, errors, alloc),
         Err(fault) => Err((errors, fault)),
     }
 }

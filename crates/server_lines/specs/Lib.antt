@@ -1,1 +1,3 @@
+pub mod Rest
 pub mod ServerGrammar
+pub mod TextGrammar

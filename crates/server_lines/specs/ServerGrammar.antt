@@ -3,9 +3,11 @@ use Rattle.std.specs.Prelude.{ℕ, List, [], ◌∷◌, Option, Some, None, byte
 use Rattle.std.specs.Option.{option_map}
 use Rattle.common.specs.declared.cell.Cell.{Cell}
 use Rattle.console_text.specs.Grammar.{bsc_of, cell_of, if_some, line_of, warning_of}
+use Rattle.server_lines.specs.TextGrammar.{text_line_of}
 use Rattle.server_lines.specs.declared.list_line.ListLine.TheVariants as list
 use Rattle.server_lines.specs.declared.server_line.ServerLine.{ServerLine}
-use Rattle.server_lines.specs.declared.server_line.ServerLine.TheVariants.{Quit, CutLink, Wish, Status, Help, List as ListOf, Centre}
+use Rattle.server_lines.specs.declared.text_line.TextLine.{TextLine}
+use Rattle.server_lines.specs.declared.server_line.ServerLine.TheVariants.{Quit, Shutdown, Watch, CutLink, Wish, Status, Help, List as ListOf, Text, Centre}
 
 -- B and W of `wish`, where that cell is given or none
 abbrev pub wish : List ℕ → List ℕ → Option Cell → Option ServerLine
@@ -19,6 +21,8 @@ wish_after bsc warning lac ci = if_some (cell_of lac ci) (λ c. wish bsc warning
 abbrev pub own_line_of : List (List ℕ) → Option ServerLine
 own_line_of (verb ∷ []) =
     if bytes_eq verb (codes "quit") then Some Quit
+    else if bytes_eq verb (codes "shutdown") then Some Shutdown
+    else if bytes_eq verb (codes "watch") then Some Watch
     else if bytes_eq verb (codes "bscs") then Some (ListOf list.Bscs)
     else if bytes_eq verb (codes "links") then Some (ListOf list.Links)
     else if bytes_eq verb (codes "areas") then Some (ListOf list.Areas)
@@ -42,6 +46,11 @@ abbrev pub or_centre : Option ServerLine → List (List ℕ) → Option ServerLi
 or_centre (Some line) words = Some line
 or_centre None words = option_map Centre (line_of words)
 
--- the line of the words
-abbrev pub server_line_of : List (List ℕ) → Option ServerLine
-server_line_of words = or_centre (own_line_of words) words
+-- the line without a text, where there is none that has one
+abbrev pub or_textless : Option TextLine → List (List ℕ) → Option ServerLine
+or_textless (Some line) words = Some (Text line)
+or_textless None words = or_centre (own_line_of words) words
+
+-- the line, by its octets and its words
+abbrev pub server_line_of : List ℕ → List (List ℕ) → Option ServerLine
+server_line_of line words = or_textless (text_line_of line words) words

@@ -2,21 +2,36 @@
 
 ghost use Rattle.std.specs.Prelude.{◌≡◌, [], ◌∷◌, IfOk, option_map};
 ghost use Rattle.console_text.specs.Grammar.{bsc_of, line_of, warning_of};
-ghost use Rattle.server_lines.specs.ServerGrammar.{own_line_of, server_line_of, wish, wish_after};
+ghost use Rattle.server_lines.specs.ServerGrammar.{or_centre, own_line_of, server_line_of, wish, wish_after};
 ghost use Rattle.server_lines.specs.declared.list_line.ListLine.TheVariants as list;
 ghost use Rattle.server_lines.specs.declared.server_line.ServerLine.TheVariants.{Centre, CutLink, List as ListOf};
 
 use crate::list_line::ListLine;
 use crate::server_line::ServerLine;
+use crate::text_grammar::read_text_line;
 use common::{Cell, Name, Octets};
 use console_text::grammar;
 use console_text::grammar::{read_bsc, read_cell, read_warning};
 use console_text::words::is_word;
 use std::alloc::{AllocError, Global};
 
-/// The line of the words; `None` where there is no such line, or a number isn't one or is out of its range.
-pub fn read_server_line(alloc: Global, words: &[Octets]) -> Result<Option<ServerLine>, AllocError>
-    ensures { IfOk result (λ line. line ≡ server_line_of words.now) }
+/// The line, by its octets and its words; `None` where there is no such line, or a number isn't one or is out of its range.
+pub fn read_server_line(
+    alloc: Global,
+    line: &[u8],
+    words: &[Octets],
+) -> Result<Option<ServerLine>, AllocError>
+    ensures { IfOk result (λ found. found ≡ server_line_of line.now words.now) }
+{
+    match read_text_line(alloc, line, words)? {
+        Some(line) => Ok(Some(ServerLine::Text(line))),
+        None => read_textless(alloc, words),
+    }
+}
+
+/// A line that has no text.
+fn read_textless(alloc: Global, words: &[Octets]) -> Result<Option<ServerLine>, AllocError>
+    ensures { IfOk result (λ line. line ≡ or_centre (own_line_of words.now) words.now) }
 {
     match read_own(alloc, words)? {
         Some(line) => Ok(Some(line)),
@@ -53,12 +68,16 @@ fn read_own(alloc: Global, words: &[Octets]) -> Result<Option<ServerLine>, Alloc
     }
 }
 
-/// `quit`, `bscs`, `links`, `areas`, `warnings`, `status`, `help`
+/// `quit`, `shutdown`, `watch`, `bscs`, `links`, `areas`, `warnings`, `status`, `help`
 fn read_one(verb: &[u8]) -> Option<ServerLine>
     ensures { result ≡ own_line_of (verb.now ∷ []) }
 {
     if is_word(verb, b"quit") {
         Some(ServerLine::Quit)
+    } else if is_word(verb, b"shutdown") {
+        Some(ServerLine::Shutdown)
+    } else if is_word(verb, b"watch") {
+        Some(ServerLine::Watch)
     } else if is_word(verb, b"bscs") {
         Some(ServerLine::List(ListLine::Bscs))
     } else if is_word(verb, b"links") {

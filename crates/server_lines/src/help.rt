@@ -24,6 +24,8 @@ help                            these lines
 const WARNINGS: &str = "\
 issue M SCOPE DCS CAT PERIOD PAGES AREAS        issues a warning with pages
 update W DCS CAT PERIOD PAGES                   gives it a new version
+say M SCOPE CAT PERIOD AREAS TEXT               issues a warning with a text, in which \\n is a new line
+resay W CAT PERIOD TEXT                         gives it a new version
 alert M SCOPE I T P SEC AREAS                   issues an emergency warning
 realert W I T P SEC                             gives it a new version
 widen W N, narrow W N                           an area more, or an area less
@@ -43,7 +45,9 @@ retry B                         orders again what BSC B has refused
 cut B                           ends the link of BSC B
 checkpoint                      folds the journal
 rebuild                         makes a stale centre whole
-quit                            ends the program
+watch                           at the socket file: shows each entry as it comes
+quit                            ends the program; at the socket file this console alone
+shutdown                        ends the program
 ";
 
 /// All lines, each once.

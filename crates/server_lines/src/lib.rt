@@ -2,10 +2,19 @@
 //!
 //! Begin with `server_line`; which words are which line stands in `specs/ServerGrammar`. A line that only a server has is added
 //! as a variant of `ServerLine`, as a line of `own_line_of` there, in the function of `grammar` for its number of words, and in
-//! `help`; a line that asks for a list is a variant of `ListLine`.
+//! `help`; a line that asks for a list is a variant of `ListLine`, and one that has a text a variant of `TextLine`, which
+//! `specs/TextGrammar` and `text_grammar` read.
 #![tactic(auto)]
 
 pub mod grammar;
 pub mod help;
+mod laws;
 pub mod list_line;
+mod rest;
+pub mod said_heading;
 pub mod server_line;
+mod text_grammar;
+pub mod text_heading;
+pub mod text_line;
+
+pub use laws::other_words_stand_behind;

@@ -1,6 +1,7 @@
 //! What the operator of a server may ask for in a line.
 
 use crate::list_line::ListLine;
+use crate::text_line::TextLine;
 use cell_register::BscId;
 use common::Cell;
 use console_text::line::Line;
@@ -11,6 +12,10 @@ use warning_book::WarningId;
 pub enum ServerLine {
     /// `quit`
     Quit,
+    /// `shutdown`
+    Shutdown,
+    /// `watch`
+    Watch,
     /// `cut B`
     CutLink(BscId),
     /// `wish B W` and `wish B W L C`: after that cell
@@ -21,6 +26,8 @@ pub enum ServerLine {
     Help,
     /// A line that asks for a list.
     List(ListLine),
+    /// A line that has a text.
+    Text(TextLine),
     /// A line of the console.
     Centre(Line),
 }

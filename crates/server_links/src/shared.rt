@@ -58,6 +58,11 @@ impl<L: Ledger, E: Drop> Shared<L, E> {
         }
     }
 
+    /// The last entry that is kept in the file; `None` where no file is kept.
+    pub fn kept_place<R: Wait>(&self, rt: &R) -> Option<u64> {
+        self.kept.as_ref().map(|kept| kept.place(rt))
+    }
+
     /// Whether the file of the journal has failed.
     pub fn has_failed<R: Wait>(&self, rt: &R) -> bool {
         match &self.kept {
@@ -75,9 +80,20 @@ impl<L: Ledger, E: Drop> Shared<L, E> {
     }
 
     /// The server ends: who waits for that goes on.
-    pub(crate) fn close<R: Wait>(&self, rt: &R) {
+    pub fn close<R: Wait>(&self, rt: &R) {
         *self.closing.lock(rt) = true;
         self.closed.notify_all();
+    }
+
+    /// Whether the server ends.
+    pub fn is_closing<R: Wait>(&self, rt: &R) -> bool {
+        *self.closing.lock(rt)
+    }
+
+    /// Waits until the server ends.
+    pub fn wait_closed<R: Wait>(&self, rt: &R) {
+        let closing = self.closing.lock(rt);
+        drop(self.closed.wait_while(rt, closing, |closing| !*closing));
     }
 
     /// Waits so long, or until the server ends. The answer is whether it does.

@@ -5,8 +5,11 @@ ghost use Rattle.console_text.specs.Texts.{ResponseFits};
 
 use crate::edits::{Asked, asked_of};
 use crate::identifiers::Identifiers;
+use crate::leaving::{Leaving, leaving_of};
 use crate::listing::{list, status};
 use crate::operator_desk::OperatorDesk;
+use crate::said::Said;
+use crate::saying::said_of;
 use crate::server::Server;
 use crate::submitting::{cut, edit, submit};
 use crate::terminal::Terminal;
@@ -27,6 +30,7 @@ use server_lines::grammar::read_server_line;
 use server_lines::help::help_text;
 use server_lines::list_line::ListLine;
 use server_lines::server_line::ServerLine;
+use server_lines::text_line::TextLine;
 use std::alloc::{AllocError, Global};
 use std::io::{BufRead, Write};
 use std::sync::ledger::Ledger;
@@ -40,12 +44,14 @@ pub struct Operator<'a, L: Ledger, S> {
     pub alloc: Global,
     pub office: &'a Office<L>,
     pub server: &'a S,
+    /// Whether `watch` is a line of this operator.
+    pub may_watch: bool,
 }
 
 /// What comes of a line.
 #[derive(Drop)]
 enum Heard {
-    Quit,
+    Left(Leaving),
     Answered(String),
     Listed(Octets),
 }
@@ -168,6 +174,19 @@ fn hear_list<L: Ledger, S: Server, R: Wait>(
     }
 }
 
+/// Answers a line that has a text.
+fn say<L: Ledger, S: Server, R: Wait + Clock>(
+    rt: &R,
+    operator: &Operator<'_, L, S>,
+    desk: &mut OperatorDesk<L>,
+    line: TextLine,
+) -> Result<String, AllocError> {
+    match said_of(operator.alloc, line)? {
+        Said::Edit(change) => response_text(operator.alloc, edit(rt, operator, desk, change)),
+        Said::BadText => String::from_str(operator.alloc, "bad text\n"),
+    }
+}
+
 /// What a line is answered, in text.
 fn hear_line<L: Ledger, S: Server, R: Wait + Clock>(
     rt: &R,
@@ -175,25 +194,31 @@ fn hear_line<L: Ledger, S: Server, R: Wait + Clock>(
     desk: &mut OperatorDesk<L>,
     line: ServerLine,
 ) -> Result<Heard, AllocError> {
+    if let Some(leaving) = leaving_of(&line, operator.may_watch) {
+        drop(line);
+        return Ok(Heard::Left(leaving));
+    }
     let response = match line {
-        ServerLine::Quit => return Ok(Heard::Quit),
         ServerLine::Wish(b, warning, after) => {
             return Ok(Heard::Answered(wish(rt, operator, b, warning, after)?));
         }
         ServerLine::Status => return Ok(Heard::Answered(status(rt, operator)?)),
         ServerLine::Help => return Ok(Heard::Answered(help_text(operator.alloc)?)),
         ServerLine::List(line) => return hear_list(rt, operator, &desk.desk, &line),
+        ServerLine::Text(line) => return Ok(Heard::Answered(say(rt, operator, desk, line)?)),
         ServerLine::CutLink(b) => cut(rt, operator, desk, b),
         ServerLine::Centre(line) => respond(rt, operator, desk, line)?,
+        ServerLine::Quit | ServerLine::Shutdown | ServerLine::Watch => Response::BadLine,
     };
     Ok(Heard::Answered(response_text(operator.alloc, response)?))
 }
 
-/// Answers the words of a line.
+/// Answers a line that has these words.
 fn hear_words<L: Ledger, S: Server, R: Wait + Clock>(
     rt: &R,
     operator: &Operator<'_, L, S>,
     desk: &mut OperatorDesk<L>,
+    line: &[u8],
     words: &[Octets],
 ) -> Result<Heard, AllocError> {
     let Some(first) = words.first() else {
@@ -202,7 +227,7 @@ fn hear_words<L: Ledger, S: Server, R: Wait + Clock>(
     if is_comment(first.as_slice()) {
         return Ok(Heard::Answered(String::new(operator.alloc)));
     }
-    match read_server_line(operator.alloc, words)? {
+    match read_server_line(operator.alloc, line, words)? {
         Some(line) => hear_line(rt, operator, desk, line),
         None => Ok(Heard::Answered(response_text(operator.alloc, Response::BadLine)?)),
     }
@@ -216,7 +241,7 @@ fn hear<L: Ledger, S: Server, R: Wait + Clock>(
     line: &[u8],
 ) -> Result<Heard, AllocError> {
     let words = split_words(operator.alloc, line)?;
-    let heard = hear_words(rt, operator, desk, words.as_slice());
+    let heard = hear_words(rt, operator, desk, line, words.as_slice());
     drop(words);
     heard
 }
@@ -239,21 +264,25 @@ fn answer<L: Ledger, S: Server, R: Wait + Clock, I: BufRead + Drop, W: Write + D
     Ok(true)
 }
 
-/// Reads one line and answers it. The answer is whether more lines are read.
+/// Reads one line and answers it, unless the server ends. The answer is how the lines end, where they do.
 fn turn<L: Ledger, S: Server, R: Wait + Clock, I: BufRead + Drop, W: Write + Drop>(
     rt: &R,
     operator: &Operator<'_, L, S>,
     terminal: &mut Terminal<L, I, W>,
     desk: &mut OperatorDesk<L>,
-) -> Result<bool, ReplayFault> {
+) -> Result<Option<Leaving>, ReplayFault> {
     let Some(line) = terminal.read_line(rt, operator.alloc, operator.server)? else {
-        return Ok(false);
+        return Ok(Some(Leaving::Ended));
     };
-    match hear(rt, operator, desk, line.as_slice())? {
-        Heard::Quit => Ok(false),
-        Heard::Answered(text) => answer(rt, operator, terminal, desk, text.as_bytes()),
-        Heard::Listed(text) => answer(rt, operator, terminal, desk, text.as_slice()),
+    if operator.server.is_ending(rt) {
+        return Ok(Some(Leaving::Ended));
     }
+    let goes_on = match hear(rt, operator, desk, line.as_slice())? {
+        Heard::Left(leaving) => return Ok(Some(leaving)),
+        Heard::Answered(text) => answer(rt, operator, terminal, desk, text.as_bytes())?,
+        Heard::Listed(text) => answer(rt, operator, terminal, desk, text.as_slice())?,
+    };
+    Ok(if goes_on { None } else { Some(Leaving::Ended) })
 }
 
 fn answer_lines<L: Ledger, S: Server, R: Wait + Clock, I: BufRead + Drop, W: Write + Drop>(
@@ -261,25 +290,25 @@ fn answer_lines<L: Ledger, S: Server, R: Wait + Clock, I: BufRead + Drop, W: Wri
     operator: &Operator<'_, L, S>,
     terminal: &mut Terminal<L, I, W>,
     desk: &mut OperatorDesk<L>,
-) -> Result<(), ReplayFault> {
+) -> Result<Leaving, ReplayFault> {
     for _ in rt.forever() {
-        if !turn(rt, operator, terminal, desk)? {
-            break;
+        if let Some(leaving) = turn(rt, operator, terminal, desk)? {
+            return Ok(leaving);
         }
     }
-    Ok(())
+    Ok(Leaving::Ended)
 }
 
-/// Answers the lines of the operator, each before the next is read, until `quit` or the end of the input, or where the journal isn't
-/// kept any more. A reader that answers `WouldBlock` where nothing has come for a while has the last noticed without a line.
+/// Answers the lines of the operator, each before the next is read, until one ends them, the input ends, or the server does: a reader
+/// that answers `WouldBlock` where nothing has come for a while has the last noticed without a line. The answer is how they ended.
 pub fn operate<L: Ledger, S: Server, R: Wait + Clock, I: BufRead + Drop, W: Write + Drop>(
     rt: &R,
     operator: &Operator<'_, L, S>,
     terminal: &Mutex<Terminal<L, I, W>>,
-) -> Result<(), ReplayFault> {
+) -> Result<Leaving, ReplayFault> {
     let mut terminal = terminal.lock(rt);
     let Some(desk) = terminal.desk.take() else {
-        return Ok(());
+        return Ok(Leaving::Ended);
     };
     let mut desk = OperatorDesk {
         desk,

@@ -18,7 +18,7 @@ pub trait Server {
     /// has failed. Nothing is answered then.
     fn is_kept<R: Wait>(&self, rt: &R) -> bool;
 
-    /// Whether no line is answered any more, since the file of the journal has failed.
+    /// Whether no line is answered any more, since the server ends, or the file of the journal has failed.
     fn is_ending<R: Wait>(&self, rt: &R) -> bool;
 
     /// Folds the journal. The answer is how many entries it had.

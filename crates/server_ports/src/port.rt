@@ -202,7 +202,12 @@ impl<L: Ledger> Port<L> {
         self.pace.lock(rt).look(now)
     }
 
-    /// The same, of a RESET.
+    /// Since when an order or a query is out; `None` where nothing is.
+    pub fn out_since<R: Wait>(&self, rt: &R) -> Option<u64> {
+        self.pace.lock(rt).out_since()
+    }
+
+    /// Whether the answer to a RESET is overdue.
     pub fn look_reset<R: Wait>(&self, rt: &R, now: u64) -> Overdue {
         self.pace.lock(rt).look_reset(now)
     }

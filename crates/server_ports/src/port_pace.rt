@@ -65,9 +65,14 @@ impl PortPace {
 
     /// A link came up, or ended: nothing is out.
     pub(crate) fn begin(&mut self) {
-        self.replies.answered();
-        self.resets.answered();
+        self.replies.ended();
+        self.resets.ended();
         self.orders.changed();
+    }
+
+    /// Since when an order or a query is out.
+    pub(crate) fn out_since(&self) -> Option<u64> {
+        self.replies.since()
     }
 
     /// A RESET went out.
@@ -77,7 +82,7 @@ impl PortPace {
 
     /// The RESET is answered.
     pub(crate) fn reset_done(&mut self) {
-        self.resets.answered();
+        self.resets.ended();
     }
 
     /// Whether the reply to what is out is overdue.

@@ -7,7 +7,7 @@ use cell_register::BscId;
 use centre_events::refusal::Refusal;
 use console_text::ReplayFault;
 use office::office::Office;
-use server_operator::{Operator, Server, Terminal, operate};
+use server_operator::{Leaving, Operator, Server, Terminal, operate};
 use std::alloc::Global;
 use std::io::{BufRead, Error, ErrorKind, Read};
 use std::marker::Brand;
@@ -103,7 +103,7 @@ fn answers<L: Ledger, R: Wait + Clock + Abort>(
     blank: Blank,
     pieces: &[&[u8]],
     asks: u64,
-) -> (Result<(), ReplayFault>, Vec<u8>)
+) -> (Result<Leaving, ReplayFault>, Vec<u8>)
     requires name { blank.name ≡ L.name }
     requires parts { blank.parts ≡ L.parts }
     requires desks { blank.parts ≡ 1025 }
@@ -126,6 +126,7 @@ fn answers<L: Ledger, R: Wait + Clock + Abort>(
         alloc,
         office: &office,
         server: &server,
+        may_watch: false,
     };
     let result = operate(rt, &operator, &terminal);
     let written = mem::replace(&mut terminal.lock(rt).writer, Vec::new(alloc));
@@ -143,7 +144,7 @@ fn found_answers<R: Wait + Clock + Abort>(
     alloc: Global,
     pieces: &[&[u8]],
     asks: u64,
-) -> (Result<(), ReplayFault>, Vec<u8>) {
+) -> (Result<Leaving, ReplayFault>, Vec<u8>) {
     answers::<Brand, R>(rt, alloc, Blank::new(1025), pieces, asks)
 }
 
@@ -153,13 +154,15 @@ fn lines_end_where_the_file_fails_though_none_comes(rt: HostRuntime) {
     let pieces: [&[u8]; 3] = [b"bsc add 1\nbsc a", b"dd 2\nbsc add", b" 3\n"];
     for (asks, wanted) in [
         (0, b"".as_slice()),
-        (1, b"ok 1\n".as_slice()),
-        (2, b"ok 1\nok 2\n".as_slice()),
-        (3, b"ok 1\nok 2\nok 3\n".as_slice()),
-        (9, b"ok 1\nok 2\nok 3\n".as_slice()),
+        (1, b"".as_slice()),
+        (2, b"ok 1\n".as_slice()),
+        (3, b"ok 1\n".as_slice()),
+        (5, b"ok 1\nok 2\n".as_slice()),
+        (6, b"ok 1\nok 2\nok 3\n".as_slice()),
+        (12, b"ok 1\nok 2\nok 3\n".as_slice()),
     ] {
         let (result, written) = found_answers(&rt, alloc, &pieces, asks);
-        same(&rt, result, Ok(()), "no line is at fault");
+        same(&rt, result, Ok(Leaving::Ended), "no line is at fault");
         same(&rt, written.as_slice(), wanted, "what is answered before");
     }
 }

@@ -25,6 +25,8 @@ mod passage_tests;
 #[cfg(test)]
 mod read_side_tests;
 #[cfg(test)]
+mod saying_tests;
+#[cfg(test)]
 mod sending_tests;
 #[cfg(test)]
 mod two_links_tests;

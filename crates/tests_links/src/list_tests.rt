@@ -146,7 +146,7 @@ status entries 14 folded 0 limit 1000 whole bscs 2 up 1 cells 3 areas 1 warnings
 ";
 
 /// The lines are answered so.
-fn is_answered<L: Ledger, R: Wait + Clock + Abort>(
+pub(crate) fn is_answered<L: Ledger, R: Wait + Clock + Abort>(
     rt: &R,
     alloc: Global,
     office: &Office<L>,
@@ -162,10 +162,11 @@ fn is_answered<L: Ledger, R: Wait + Clock + Abort>(
         alloc,
         office,
         server: &Alone,
+        may_watch: false,
     };
     yes(rt, operate(rt, &operator, &terminal).is_ok(), "an operator");
     let guard = terminal.lock(rt);
-    yes(rt, guard.writer.as_slice() == answers, "the lists");
+    yes(rt, guard.writer.as_slice() == answers, "the answers");
 }
 
 fn lists<L: Ledger, R: Wait + Clock + Abort>(rt: &R, alloc: Global, blank: Blank)

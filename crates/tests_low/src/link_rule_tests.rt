@@ -62,6 +62,19 @@ fn a_reply_is_overdue_after_its_time(rt: HostRuntime) {
     looks(&rt, &mut pace, 9_000_000, Overdue::No);
 }
 
+/// The next order is told before the reply to the one before.
+#[test]
+fn a_reply_that_is_told_late_leaves_the_next_order_out(rt: HostRuntime) {
+    let mut pace = ReplyPace::new(30, 0);
+    pace.sent(100_000);
+    pace.sent(101_000);
+    pace.answered();
+    looks(&rt, &mut pace, 130_999, Overdue::No);
+    looks(&rt, &mut pace, 131_000, Overdue::Tell { seconds: 30 });
+    pace.answered();
+    looks(&rt, &mut pace, 9_000_000, Overdue::No);
+}
+
 #[test]
 fn a_link_without_a_reply_is_cut(rt: HostRuntime) {
     let mut pace = ReplyPace::new(30, 60);

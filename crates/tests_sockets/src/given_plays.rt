@@ -3,6 +3,7 @@
 ghost use Rattle.std.specs.Prelude.{◌≤◌};
 
 use crate::checks::{same, yes};
+use crate::console::is_told;
 use crate::given_texts::{Wanted, has, has_time, plain};
 use crate::peer::{PATIENCE, connected, fails, gets, is_closed, next_frame, sends, waits};
 use console_text::options::{FOLD, MOST_ENTRIES};
@@ -37,6 +38,8 @@ pub(crate) enum Act {
     Comment(u32),
     /// The operator types no more.
     Ends,
+    /// A console at that socket file is typed the line. Its answer is this.
+    Asks(&'static str, &'static str, &'static str),
     /// A line with this text comes on standard error. The lines before it are passed over.
     Says(&'static str),
     /// The next line on standard error says that so many ports are listened on.
@@ -252,7 +255,7 @@ fn plays<R: Abort + Clock>(rt: &R, peer: &mut TcpStream, act: &Act) {
 }
 
 /// Does the act.
-fn does<R: Abort + Clock>(rt: &R, alloc: Global, stage: &mut Stage, act: &Act) {
+fn does<R: Abort + Clock + Net>(rt: &R, alloc: Global, stage: &mut Stage, act: &Act) {
     match act {
         Act::Types(line, answer) => {
             yes(rt, is_answered(rt, alloc, stage, line, answer), answer);
@@ -264,6 +267,7 @@ fn does<R: Abort + Clock>(rt: &R, alloc: Global, stage: &mut Stage, act: &Act) {
         Act::Lines(lines, answers) => types_all(rt, alloc, stage, lines, *answers),
         Act::Comment(octets) => types_comment(stage, *octets),
         Act::Ends => ends(rt, stage),
+        Act::Asks(path, line, answer) => yes(rt, is_told(rt, path, line, answer), answer),
         Act::Says(text) => says(rt, alloc, stage, text),
         Act::Listens(links) => listens(rt, alloc, stage, *links),
         Act::Connects(from, bsc) => connects(rt, stage, *from, *bsc),
@@ -286,7 +290,7 @@ fn rest_of(rt: &impl Abort, alloc: Global, reader: &mut BufReader<UnixStream>) -
 }
 
 /// Does the acts one after another, and types no more. The answer is what the server still answers and says.
-fn acts_all<R: Abort + Clock>(
+fn acts_all<R: Abort + Clock + Net>(
     rt: &R,
     alloc: Global,
     mut stage: Stage,
@@ -373,6 +377,9 @@ fn limited(rt: &impl Abort, alloc: Global, base: u16, limits: LinkLimits) -> Ser
         cut_seconds: 0,
         peers: None,
         keep: None,
+        console: None,
+        http: None,
+        consoles: 16,
         limits,
     }
 }

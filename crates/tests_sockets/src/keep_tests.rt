@@ -87,6 +87,56 @@ const GOES_ON: &[Kept] = &[
     },
 ];
 
+/// A text that is said stands there as pages, and the next run shows the text.
+#[test]
+fn texts_stand_in_the_file_as_pages(rt: HostRuntime) {
+    for kept in SAID {
+        keeps(&rt, kept);
+    }
+}
+
+/// The file after both runs.
+const SAID_PAGES: &str = "\
+# cbc journal, network 00f110
+area add Coast
+issue 4370 3 15 0 30 d4f29c0e Coast
+update 1 72 0 30 0141
+update 1 15 1 60 618578f302
+";
+
+const SAID: &[Kept] = &[
+    Kept {
+        path: "said-journal",
+        before: None,
+        after: SAID_PAGES,
+        play: Play {
+            words: &["--keep", "said-journal"],
+            acts: &[Act::Lines(
+                "area add Coast\nsay 4370 3 0 30 Coast Test\nresay 1 0 30 Ł\nresay 1 1 60 a\\nb\\\\\n",
+                0,
+            )],
+            answers: Wanted::Is(
+                "ok 1\nok 2 warning 1 serial C000\nok 3 serial C001\nok 4 serial C002\nsettled 4\n",
+            ),
+            ..USUAL
+        },
+    },
+    Kept {
+        path: "said-journal",
+        before: Some(SAID_PAGES),
+        after: SAID_PAGES,
+        play: Play {
+            words: &["--keep", "said-journal"],
+            acts: &[Act::Lines("warning 1\n", 0)],
+            answers: Wanted::Is(
+                "warning 1 4370 0x1112 C002 active cbs areas Coast awaited 0 onair 0 failed 0 left 0 broadcasts 0\n\
+                 dcs 15 category 1 period 60\ntext a\ntext b\\\npages 1\nsettled 4\n",
+            ),
+            ..USUAL
+        },
+    },
+];
+
 #[test]
 fn a_link_that_was_up_is_lost_and_a_torn_line_is_cut(rt: HostRuntime) {
     keeps(&rt, &TORN);

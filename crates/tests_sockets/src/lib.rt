@@ -9,6 +9,10 @@
 #[cfg(test)]
 mod checks;
 #[cfg(test)]
+mod console;
+#[cfg(test)]
+mod console_tests;
+#[cfg(test)]
 mod given_plays;
 #[cfg(test)]
 mod given_texts;

@@ -3,7 +3,7 @@ use Rattle.office.proofs.OfficeLemmas.{seen_if, unseen_if}
 use Rattle.office.proofs.office.Office.look.Goals as goal
 
 pub returns-clause-seen : goal.returns-clause-seen
-returns-clause-seen g c = seen_if c.look.result c.deref_mut.result.now.centre (length c.deref_mut.result.now.rows) c.args.desk.now c.args.question (search rules) (search rules) c.look.ensures.fitted c.look.ensures.position c.look.ensures.seen
+returns-clause-seen g c = seen_if c.look-look.result c.deref_mut.result.now.centre (length c.deref_mut.result.now.rows) c.args.desk.now c.args.question (search rules) (search rules) c.look-look.ensures.fitted c.look-look.ensures.position c.look-look.ensures.seen
 
 pub returns-clause-refused : goal.returns-clause-refused
-returns-clause-refused g c = unseen_if c.look.result c.deref_mut.result.now.centre (length c.deref_mut.result.now.rows) c.args.desk.now c.args.question (search rules) (search rules) c.look.ensures.wrong c.look.ensures.refused
+returns-clause-refused g c = unseen_if c.look-look.result c.deref_mut.result.now.centre (length c.deref_mut.result.now.rows) c.args.desk.now c.args.question (search rules) (search rules) c.look-look.ensures.wrong c.look-look.ensures.refused

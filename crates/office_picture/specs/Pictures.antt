@@ -1,0 +1,88 @@
+-- A picture of an office, by what one survey of it shows.
+use Rattle.std.specs.Prelude.{ℕ, ◌-◌, List, [], ◌∷◌, Option, None, is_some, map, slice_index_or, if◌then◌else◌}
+use Rattle.centre_events.specs.declared.refusal.Limit.TheVariants as limit
+use Rattle.centre_events.specs.declared.refusal.Refusal.{Refusal}
+use Rattle.centre_events.specs.declared.refusal.Refusal.TheVariants as cause
+use Rattle.centre_past.specs.declared.lists.bsc_row.BscRow.{BscRow}
+use Rattle.centre_questions.specs.declared.area_numbers.AreaNumbers.{AreaNumbers}
+use Rattle.centre_questions.specs.declared.surveyed_warning.SurveyedWarning.{SurveyedWarning}
+use Rattle.console_text.specs.Texts.{refusal_name}
+use Rattle.office.specs.Counts.{cause_count, kind_count}
+use Rattle.office.specs.Kinds.{kind_name}
+use Rattle.office.specs.declared.counts.Counts.{Counts}
+use Rattle.office.specs.declared.event_kind.EventKind.{EventKind}
+use Rattle.office.specs.declared.event_kind.EventKind.TheVariants as kind
+use Rattle.office.specs.declared.surveyed.Surveyed.{Surveyed}
+use Rattle.office_picture.specs.declared.moments.Moments.{Moments}
+use Rattle.status_figures.specs.declared.area_board.AreaBoard.{AreaBoard}
+use Rattle.status_figures.specs.declared.bsc_figures.BscFigures.{BscFigures}
+use Rattle.status_figures.specs.declared.picture.Picture.{Picture}
+use Rattle.status_figures.specs.declared.tally.Tally.{Tally}
+use Rattle.status_figures.specs.declared.warning_figures.WarningFigures.{WarningFigures}
+
+-- BSCs.
+
+-- since when what is in flight to the BSC is out, where that is known
+abbrev pub since_of : List (Option ℕ) → BscRow → Option ℕ
+since_of sinces row = if is_some row.flight then slice_index_or sinces (row.bsc - 1) None else None
+
+-- a BSC
+abbrev pub figures_of : List (Option ℕ) → BscRow → BscFigures
+figures_of sinces row = record { row = row; since = since_of sinces row }
+
+-- Warnings.
+
+-- an area of a warning
+abbrev pub board_of : AreaNumbers → AreaBoard
+board_of area = record { name = area.name; numbers = area.numbers }
+
+-- a warning
+abbrev pub warning_of : SurveyedWarning → WarningFigures
+warning_of warning = record { sheet = warning.sheet; areas = map board_of warning.areas }
+
+-- What was counted.
+
+-- a name and a count
+abbrev pub tally : List ℕ → ℕ → Tally
+tally name count = record { name = name; count = count }
+
+-- every kind of event
+abbrev pub all_kinds : List EventKind
+all_kinds =
+    kind.AddBsc ∷ kind.RemoveBsc ∷ kind.AddCell ∷ kind.MoveCell ∷ kind.RemoveCell ∷ kind.AddArea ∷ kind.DropArea ∷
+    kind.Put ∷ kind.Cut ∷ kind.Issue ∷ kind.Update ∷ kind.Widen ∷ kind.Narrow ∷ kind.Stop ∷
+    kind.Forget ∷ kind.Retry ∷ kind.LinkUp ∷ kind.LinkDown ∷ kind.Send ∷ kind.Ask ∷ kind.Report ∷ []
+
+-- how many events of that kind were entered
+abbrev pub entry_tally : Counts → EventKind → Tally
+entry_tally counts k = tally (kind_name k) (kind_count counts k)
+
+-- every cause of a refusal, with any number in it
+abbrev pub all_causes : List Refusal
+all_causes =
+    cause.Stale ∷ cause.JournalFull ∷ cause.NoSuchBsc ∷ cause.BscExists ∷ cause.BscHasCells ∷ cause.LinkIsUp ∷
+    cause.CellExists ∷ cause.NoSuchCell ∷ cause.SameBsc ∷ cause.BadName ∷ cause.AreaExists ∷ cause.NoSuchArea ∷
+    cause.AreaInUse ∷ cause.SelectorThere ∷ cause.SelectorNotThere ∷ cause.NoSuchWarning ∷ cause.NotActive ∷ cause.StillActive ∷
+    cause.StillReported ∷ cause.StillInFlight ∷ cause.NoAreas ∷ cause.AreaThere ∷ cause.AreaNotThere ∷ cause.LastArea ∷
+    cause.BadPages ∷ cause.BadPeriod ∷ cause.WrongKind ∷ cause.StaleLink 0 ∷ cause.LinkNotUp ∷ cause.InFlight ∷
+    cause.NothingPending ∷ cause.NothingToAsk ∷ cause.NoOrder ∷ cause.Limit limit.Bscs ∷ cause.Memory ∷ cause.WrongDesk 0 ∷ []
+
+-- how many events and questions were refused for that cause
+abbrev pub refusal_tally : Counts → Refusal → Tally
+refusal_tally counts r = tally (refusal_name r) (cause_count counts r)
+
+-- The picture.
+
+-- what one survey shows, and what is known beside it
+abbrev pub picture : Surveyed → Moments → Picture
+picture s m = record {
+  taken = m.taken;
+  status = s.survey.status;
+  bscs = map (figures_of m.sinces.items) s.survey.bscs;
+  warnings = map warning_of s.survey.warnings;
+  kept = m.kept;
+  receipts = s.counts.receipts;
+  refusals = map (refusal_tally s.counts) all_causes;
+  entries = map (entry_tally s.counts) all_kinds;
+  memory = m.memory;
+}

@@ -1,0 +1,14 @@
+//! A picture of an office, from one survey of it.
+//!
+//! Begin with `picturing`. What stands in the picture is defined in `specs/Pictures.antt`; what a survey shows in
+//! `centre_questions`, and what the picture becomes in `status_figures`.
+#![tactic(auto)]
+
+mod bscs;
+mod moments;
+mod picturing;
+mod tallying;
+mod warnings;
+
+pub use moments::Moments;
+pub use picturing::picture;

@@ -1,0 +1,14 @@
+//! What is known beside a survey.
+
+/// What is known of a server beside a survey of its office.
+#[derive(Debug, Drop)]
+pub struct Moments {
+    /// When the survey was made, in seconds after 1970-01-01T00:00:00Z.
+    pub taken: u64,
+    /// Since when something is out to each BSC, that of BSC 1 first, in seconds after 1970-01-01T00:00:00Z.
+    pub sinces: Vec<Option<u64>>,
+    /// The last entry that stands in the kept file.
+    pub kept: Option<u64>,
+    /// How much memory the program takes, in octets.
+    pub memory: Option<u64>,
+}

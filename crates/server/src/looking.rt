@@ -1,0 +1,114 @@
+//! The page for those who only look: opened, and its thread.
+
+use crate::fault::ServeFault;
+use crate::options::ServeOptions;
+use crate::picturing::RunningPictures;
+use crate::threads::run_keeper;
+use console_text::ReplayFault;
+use journal_file::DiskFile;
+use journal_keeper::Keeper;
+use server_consoles::Consoles;
+use server_errors::{Errors, say_of_centre};
+use server_http::{HttpPort, serve_http};
+use server_links::Shared;
+use server_operator::Terminal;
+use std::alloc::Global;
+use std::fs::{File, Files, OpenOptions};
+use std::io::{BufRead, Write};
+use std::net::{Net, TcpListener, TcpStream};
+use std::sync::ledger::Ledger;
+use std::sync::{Mutex, Wait};
+use std::thread;
+use std::thread::Threads;
+use std::time::Clock;
+
+/// Where Linux says how much memory the program takes.
+const STATM: &str = "/proc/self/statm";
+
+const UNSERVED: &str = "no thread can be started: the page isn't served";
+
+/// The page, where it is asked for.
+#[derive(Drop)]
+pub(crate) struct Looking {
+    pub(crate) port: HttpPort,
+    /// Where the system says how much memory the program takes.
+    pub(crate) statm: Mutex<Option<File>>,
+}
+
+/// Listens for those who look, where they are asked for. It is said where, or what is wrong.
+pub(crate) fn open_looking<
+    R: Files<File = File> + Wait + Clock + Net<Stream = TcpStream, Listener = TcpListener>,
+    E: Write + Drop,
+>(
+    rt: &R,
+    alloc: Global,
+    options: &ServeOptions,
+    errors: &Errors<E>,
+) -> Result<Option<Looking>, ServeFault> {
+    let Some(address) = &options.http else {
+        return Ok(None);
+    };
+    match HttpPort::open(rt, address.as_str()) {
+        Ok(port) => {
+            if let Ok(text) = format!(in alloc; "page: http://{}/", port.address) {
+                say_of_centre(rt, alloc, errors, text);
+            }
+            let statm = OpenOptions::new().read(true).open(rt, STATM).ok();
+            Ok(Some(Looking {
+                port,
+                statm: Mutex::new(statm),
+            }))
+        }
+        Err(error) => {
+            if let Ok(text) = format!(in alloc; "no page at {address}: {error}") {
+                say_of_centre(rt, alloc, errors, text);
+            }
+            Err(ServeFault::Listen)
+        }
+    }
+}
+
+/// Answers the lines of the operators while the page is served, where it is, and ends all threads.
+pub(crate) fn run_looking<
+    'x,
+    L: Ledger + Send + Sync,
+    R: Wait + Threads + Clock + Sync + Net<Stream = TcpStream, Listener = TcpListener>,
+    I: BufRead + Send + Drop,
+    W: Write + Send + Drop,
+    E: Write + Send + Drop,
+>(
+    rt: &'x R,
+    shared: &'x Shared<L, E>,
+    looking: Option<&'x Looking>,
+    keeper: Option<Keeper<DiskFile>>,
+    consoles: Option<&'x Consoles<L>>,
+    terminal: &'x Mutex<Terminal<L, I, W>>,
+) -> Result<(), ReplayFault> {
+    let Some(looking) = looking else {
+        return run_keeper(rt, shared, keeper, consoles, terminal);
+    };
+    thread::scope(thread::scope_env(), rt, move |scope| {
+        if scope
+            .spawn(move || serve_page(rt, shared, looking))
+            .is_err()
+        {
+            say_of_centre(rt, shared.alloc, &shared.errors, UNSERVED);
+        }
+        let result = run_keeper(rt, shared, keeper, consoles, terminal);
+        looking.port.close();
+        result
+    })
+}
+
+/// Serves the page until its port is closing.
+fn serve_page<L: Ledger, E: Write + Drop, R: Wait + Clock>(
+    rt: &R,
+    shared: &Shared<L, E>,
+    looking: &Looking,
+) {
+    let pictures = RunningPictures {
+        shared,
+        statm: &looking.statm,
+    };
+    serve_http(rt, shared.alloc, &looking.port, &pictures);
+}

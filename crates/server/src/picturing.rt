@@ -1,0 +1,103 @@
+//! Pictures of a running server.
+
+use office::surveyed::Surveyed;
+use office_picture::{Moments, picture};
+use server_errors::say_of_centre;
+use server_http::Pictures;
+use server_links::Shared;
+use server_ports::Port;
+use status_figures::Picture;
+use std::alloc::AllocError;
+use std::fs::File;
+use std::io::{Read, Seek, SeekFrom, Write};
+use std::sync::ledger::Ledger;
+use std::sync::{Mutex, Wait};
+use std::time::{Clock, SystemTime};
+
+/// How many octets a page of memory has.
+const PAGE: u64 = 4_096;
+
+/// How many octets are read of what the system says of memory.
+const MOST_TEXT: usize = 128;
+
+/// What the threads of a server share, as its page knows it.
+#[derive(Drop)]
+pub(crate) struct RunningPictures<'a, L: Ledger, E: Drop> {
+    pub(crate) shared: &'a Shared<L, E>,
+    pub(crate) statm: &'a Mutex<Option<File>>,
+}
+
+/// The second, after 1970-01-01T00:00:00Z; 0 where it can't be read.
+fn second_of<R: Clock>(rt: &R) -> u64 {
+    let Ok(now) = SystemTime::now(rt) else {
+        return 0;
+    };
+    match now.duration_since(SystemTime::UNIX_EPOCH) {
+        Ok(since) => since.as_secs(),
+        Err(_) => 0,
+    }
+}
+
+/// The time, in milliseconds of a clock that goes on; 0 where it can't be read.
+fn moment_of<R: Clock>(rt: &R) -> u64 {
+    match rt.monotonic() {
+        Ok(now) => u64::try_from(now.as_millis()).unwrap_or(u64::MAX),
+        Err(_) => 0,
+    }
+}
+
+/// The second at which something went out to the BSC of the port that is out still, where the clock shows those two times.
+fn since_of<L: Ledger, R: Wait>(rt: &R, port: &Port<L>, second: u64, moment: u64) -> Option<u64> {
+    let out = port.out_since(rt)?;
+    let passed = moment.saturating_sub(out) / 1_000;
+    Some(second.saturating_sub(passed))
+}
+
+/// The second of the numbers that the system says: how many pages the program takes (proc_pid_statm(5)).
+fn pages_in(text: &[u8]) -> Option<u64> {
+    let words = str::from_utf8(text).ok()?;
+    let word = words.split_ascii_whitespace().nth(1)?;
+    word.parse::<u64>().ok()
+}
+
+/// How much memory the program takes, in octets, where the system says it.
+fn memory_of(statm: &mut File) -> Option<u64> {
+    let mut text = [0u8; MOST_TEXT];
+    statm.seek(SeekFrom::Start(0)).ok()?;
+    let count = statm.read(&mut text).ok()?;
+    pages_in(&text[..count])?.checked_mul(PAGE)
+}
+
+impl<'a, L: Ledger, E: Write + Drop> RunningPictures<'a, L, E> {
+    fn memory<R: Wait>(&self, rt: &R) -> Option<u64> {
+        memory_of(self.statm.lock(rt).as_mut()?)
+    }
+
+    /// What is known beside a survey, which is made next.
+    fn moments<R: Wait + Clock>(&self, rt: &R) -> Result<Moments, AllocError> {
+        let taken = second_of(rt);
+        let moment = moment_of(rt);
+        let mut sinces = Vec::new(self.shared.alloc);
+        for port in &self.shared.ports {
+            sinces.push(since_of(rt, port, taken, moment))?;
+        }
+        Ok(Moments {
+            taken,
+            sinces,
+            kept: self.shared.kept_place(rt),
+            memory: self.memory(rt),
+        })
+    }
+}
+
+impl<'a, L: Ledger, E: Write + Drop> Pictures for RunningPictures<'a, L, E> {
+    fn take<R: Wait + Clock>(&self, rt: &R) -> Result<Picture, AllocError> {
+        let moments = self.moments(rt)?;
+        let surveyed: Surveyed = self.shared.office.survey(rt)?;
+        picture(self.shared.alloc, surveyed, &moments)
+    }
+
+    fn tell<R: Wait + Clock>(&self, rt: &R, what: &str) {
+        say_of_centre(rt, self.shared.alloc, &self.shared.errors, what);
+    }
+}

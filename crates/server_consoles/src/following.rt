@@ -1,0 +1,60 @@
+//! A console that follows the journal.
+
+use crate::connection::Connection;
+use crate::entry_text::watch_text;
+use crate::program::Program;
+use server_operator::Operator;
+use std::io::Write;
+use std::os::unix::net::UnixStream;
+use std::sync::Wait;
+use std::sync::ledger::Ledger;
+
+/// How many entries are handed on at once.
+const MOST_ENTRIES: u64 = 100;
+
+fn write_to(mut stream: &UnixStream, text: &[u8]) -> bool {
+    stream.write_all(text).is_ok()
+}
+
+/// Hands on the next entries behind the place, once they are kept. The answer is the place of the last; `None` where nothing more is
+/// handed on.
+fn hand_on<L: Ledger, P: Program, R: Wait>(
+    rt: &R,
+    operator: &Operator<'_, L, P>,
+    stream: &UnixStream,
+    place: u64,
+) -> Option<u64> {
+    let entries = operator.office.entries(rt, place, MOST_ENTRIES).ok()?;
+    let made = watch_text(operator.alloc, place, &entries);
+    drop(entries);
+    let (text, last) = made.ok()?;
+    if operator.server.is_kept(rt) && write_to(stream, text.as_slice()) {
+        Some(last)
+    } else {
+        None
+    }
+}
+
+/// Writes each entry of the journal to the connection as it comes, from now on, until the connection or the program ends. Of the
+/// entries that are there when the program is told to end none is left out.
+pub(crate) fn follow<L: Ledger, P: Program, R: Wait>(
+    rt: &R,
+    operator: &Operator<'_, L, P>,
+    connection: &Connection,
+) {
+    let mut place = operator.office.position(rt);
+    let mut interrupts = 0;
+    connection.watch();
+    for _ in rt.forever() {
+        let progress = operator.office.wait_entries(rt, place, interrupts);
+        interrupts = progress.interrupts;
+        let is_done = progress.position <= place && operator.server.is_ending(rt);
+        if is_done || connection.has_ended() {
+            break;
+        }
+        match hand_on(rt, operator, &connection.stream, place) {
+            Some(last) => place = last,
+            None => break,
+        }
+    }
+}

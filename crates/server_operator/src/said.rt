@@ -1,0 +1,11 @@
+//! What a line with a text comes to.
+
+use coverage_plan::Edit;
+
+/// What a line with a text comes to.
+#[derive(Drop)]
+pub(crate) enum Said {
+    Edit(Edit),
+    /// No page can have its text.
+    BadText,
+}

@@ -1,0 +1,5 @@
+pub mod Health
+pub mod Labels
+pub mod Metrics
+pub mod Tables
+pub mod Words

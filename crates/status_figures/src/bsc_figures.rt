@@ -1,0 +1,12 @@
+//! A BSC in a picture.
+
+use centre_past::lists::BscRow;
+
+/// A registered BSC.
+#[derive(Clone, Copy, Debug, PartialEq, Eq)]
+pub struct BscFigures {
+    pub row: BscRow,
+    /// When what is in flight to it went out, in seconds after 1970-01-01T00:00:00Z; `None` where nothing is in flight, or where
+    /// that isn't known.
+    pub since: Option<u64>,
+}

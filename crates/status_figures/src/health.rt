@@ -1,0 +1,29 @@
+//! Whether a centre is whole.
+
+ghost use Rattle.std.specs.Prelude.{◌≡◌};
+
+/// What keeps a centre from taking events.
+#[derive(Clone, Copy, Debug, PartialEq, Eq)]
+pub enum Health {
+    /// Nothing does.
+    Whole,
+    /// It is stale, and has to be rebuilt.
+    Stale,
+    /// Its journal is full, and has to be folded.
+    JournalFull,
+    StaleAndFull,
+}
+
+impl Health {
+    ghost use Rattle.status_figures.specs.Health.{is_whole};
+
+    /// Whether nothing is wrong.
+    pub fn is_whole(self) -> bool
+        ensures { result ≡ is_whole self }
+    {
+        match self {
+            Health::Whole => true,
+            Health::Stale | Health::JournalFull | Health::StaleAndFull => false,
+        }
+    }
+}

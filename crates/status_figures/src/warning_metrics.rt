@@ -1,0 +1,181 @@
+//! The metrics of warnings.
+
+ghost use Rattle.std.specs.Prelude.{◌≡◌, ◌++◌, OnOk};
+ghost use Rattle.std.specs.List.{flat_map};
+ghost use Rattle.status_figures.specs.Metrics.{cells_head, cells_line, cells_lines, cells_of, cells_text, warning_line, warning_metric_help, warning_metric_name, warning_metric_text, warning_metric_value, warnings_text};
+
+use crate::samples::{flag, push_head};
+use crate::warning_figures::WarningFigures;
+use coverage_board::Numbers;
+use std::alloc::{AllocError, Global};
+
+/// A metric that has one sample for each warning.
+#[derive(Clone, Copy, Debug, PartialEq, Eq)]
+pub(crate) enum WarningMetric {
+    Active,
+    Left,
+    Broadcasts,
+}
+
+impl WarningMetric {
+    fn name(self) -> &'static str
+        ensures { result.now ≡ warning_metric_name self }
+    {
+        match self {
+            WarningMetric::Active => "cbc_warning_active",
+            WarningMetric::Left => "cbc_left_places",
+            WarningMetric::Broadcasts => "cbc_broadcasts",
+        }
+    }
+
+    fn help(self) -> &'static str
+        ensures { result.now ≡ warning_metric_help self }
+    {
+        match self {
+            WarningMetric::Active => "Whether a warning was not stopped.",
+            WarningMetric::Left => {
+                "Places where an old or unwanted version of a warning is on air or may be."
+            }
+            WarningMetric::Broadcasts => {
+                "How often a warning was broadcast in the cells that its areas cover, as reported."
+            }
+        }
+    }
+
+    fn value(self, warning: &WarningFigures) -> u64
+        ensures { result ≡ warning_metric_value self warning.now }
+    {
+        match self {
+            WarningMetric::Active => flag(warning.sheet.row.is_active),
+            WarningMetric::Left => warning.sheet.row.numbers.left,
+            WarningMetric::Broadcasts => warning.sheet.row.numbers.broadcasts,
+        }
+    }
+}
+
+/// Appends the samples of the cells of a warning.
+#[tactic(auto, unfolding(crate::specs::Metrics::cells_lines))]
+fn push_cells_lines(
+    alloc: Global,
+    out: &mut Vec<u8>,
+    warning: u32,
+    numbers: Numbers,
+) -> Result<(), AllocError>
+    ensures { OnOk result (out.new.items ≡ out.old.items ++ cells_lines warning numbers) }
+{
+    push_cells_line(alloc, out, warning, "awaited", numbers.awaited)?;
+    push_cells_line(alloc, out, warning, "on_air", numbers.on_air)?;
+    push_cells_line(alloc, out, warning, "failed", numbers.failed)
+}
+
+#[tactic(auto, unfolding(crate::specs::Metrics::cells_line))]
+fn push_cells_line(
+    alloc: Global,
+    out: &mut Vec<u8>,
+    warning: u32,
+    state: &str,
+    count: u64,
+) -> Result<(), AllocError>
+    ensures { OnOk result (out.new.items ≡ out.old.items ++ cells_line warning state.now count) }
+{
+    let line = format!(in alloc; "cbc_cells{{warning=\"{warning}\",state=\"{state}\"}} {count}\n")?;
+    out.extend_from_slice(line.as_bytes())
+}
+
+fn push_all_cells(
+    alloc: Global,
+    out: &mut Vec<u8>,
+    warnings: &[WarningFigures],
+) -> Result<(), AllocError>
+    ensures { OnOk result (out.new.items ≡ out.old.items ++ flat_map cells_of warnings.now) }
+{
+    for warning in warnings {
+        let row = &warning.sheet.row;
+        push_cells_lines(alloc, out, row.number.number(), row.numbers)?;
+    }
+    Ok(())
+}
+
+#[tactic(auto, unfolding(crate::specs::Metrics::cells_head))]
+fn push_cells_head(alloc: Global, out: &mut Vec<u8>) -> Result<(), AllocError>
+    ensures { OnOk result (out.new.items ≡ out.old.items ++ cells_head) }
+{
+    push_head(
+        alloc,
+        out,
+        "cbc_cells",
+        "Registered cells that an active warning covers, by how it stands there.",
+        "gauge",
+    )
+}
+
+/// Appends the cells of all warnings.
+#[tactic(auto, unfolding(crate::specs::Metrics::cells_text))]
+fn push_cells(
+    alloc: Global,
+    out: &mut Vec<u8>,
+    warnings: &[WarningFigures],
+) -> Result<(), AllocError>
+    ensures { OnOk result (out.new.items ≡ out.old.items ++ cells_text warnings.now) }
+{
+    push_cells_head(alloc, out)?;
+    push_all_cells(alloc, out, warnings)
+}
+
+fn push_line(
+    alloc: Global,
+    out: &mut Vec<u8>,
+    metric: WarningMetric,
+    warning: &WarningFigures,
+) -> Result<(), AllocError>
+    ensures { OnOk result (out.new.items ≡ out.old.items ++ warning_line metric warning.now) }
+{
+    let name = metric.name();
+    let number = warning.sheet.row.number.number();
+    let value = metric.value(warning);
+    let line = format!(in alloc; "{name}{{warning=\"{number}\"}} {value}\n")?;
+    out.extend_from_slice(line.as_bytes())
+}
+
+fn push_lines(
+    alloc: Global,
+    out: &mut Vec<u8>,
+    metric: WarningMetric,
+    warnings: &[WarningFigures],
+) -> Result<(), AllocError>
+    ensures { OnOk result (out.new.items ≡ out.old.items ++ flat_map (warning_line metric) warnings.now) }
+{
+    for warning in warnings {
+        push_line(alloc, out, metric, warning)?;
+    }
+    Ok(())
+}
+
+/// Appends the metric, of all warnings.
+#[tactic(auto, unfolding(crate::specs::Metrics::warning_metric_text))]
+fn push_metric(
+    alloc: Global,
+    out: &mut Vec<u8>,
+    metric: WarningMetric,
+    warnings: &[WarningFigures],
+) -> Result<(), AllocError>
+    ensures { OnOk result (out.new.items ≡ out.old.items ++ warning_metric_text metric warnings.now) }
+{
+    push_head(alloc, out, metric.name(), metric.help(), "gauge")?;
+    push_lines(alloc, out, metric, warnings)
+}
+
+/// Appends all metrics of the warnings.
+#[tactic(auto, unfolding(crate::specs::Metrics::warnings_text))]
+pub(crate) fn push_warnings(
+    alloc: Global,
+    out: &mut Vec<u8>,
+    warnings: &[WarningFigures],
+) -> Result<(), AllocError>
+    ensures { OnOk result (out.new.items ≡ out.old.items ++ warnings_text warnings.now) }
+{
+    push_cells(alloc, out, warnings)?;
+    push_metric(alloc, out, WarningMetric::Active, warnings)?;
+    push_metric(alloc, out, WarningMetric::Left, warnings)?;
+    push_metric(alloc, out, WarningMetric::Broadcasts, warnings)
+}

@@ -1,0 +1,82 @@
+-- A BSC on the page.
+use Rattle.std.specs.Prelude.{ℕ, ◌-◌, List, [], ◌++◌, Option, Some, None, codes, count_by, decimal, if◌then◌else◌}
+use Rattle.std.specs.List.{flat_map}
+use Rattle.centre_past.specs.declared.lists.bsc_row.BscRow.{BscRow}
+use Rattle.centre_past.specs.declared.lists.flight_row.FlightRow.{FlightRow}
+use Rattle.status_figures.specs.Words.{flight_name, four_digits, link_name}
+use Rattle.status_figures.specs.declared.bsc_figures.BscFigures.{BscFigures}
+use Rattle.status_pages.specs.Standings.{bsc_standing, bsc_stands}
+use Rattle.status_pages.specs.WarningParts.{section_front, section_if, standing_class}
+use Rattle.status_pages.specs.declared.standing.Standing.{Standing}
+use Rattle.status_pages.specs.declared.standing.Standing.TheVariants.{Wrong, UnderWay, InOrder, Stopped}
+use Rattle.status_pages.specs.Pieces.{piece_html}
+use Rattle.status_pages.specs.declared.piece.Piece.TheVariants as piece
+
+-- what a list of BSCs that stand so is called
+abbrev pub bscs_title : Standing → List ℕ
+bscs_title Wrong = codes "BSCs to look at"
+bscs_title UnderWay = codes "BSCs under way"
+bscs_title InOrder = codes "BSCs in order"
+bscs_title Stopped = codes "Other BSCs"
+
+-- where a BSC of that number and that class begins
+unfoldable pub front_with : ℕ → List ℕ → List ℕ
+front_with number class =
+    codes "<article id=\"b" ++ (decimal number
+    ++ (codes "\" class=\"b " ++ (class ++ (codes "\"><h3>BSC " ++ (decimal number ++ codes "</h3>")))))
+
+-- where a BSC begins
+unfoldable pub bsc_front : ℕ → BscFigures → List ℕ
+bsc_front taken b = front_with b.row.bsc (standing_class (bsc_standing taken b))
+
+-- its link, its cells, and how many orders are pending for it
+unfoldable pub link_html : BscRow → List ℕ
+link_html r =
+    codes "<p class=\"" ++ (link_name r.is_up
+    ++ (codes "\">link " ++ (link_name r.is_up
+    ++ (codes "</p><p>cells <b>" ++ (decimal r.cells ++ (codes "</b></p><p>pending <b>" ++ (decimal r.pending ++ codes "</b></p>")))))))
+
+-- a number of seconds
+unfoldable pub seconds_html : ℕ → List ℕ
+seconds_html n = codes ", out for <b>" ++ (decimal n ++ codes "</b> s</p>")
+
+-- for how long what is in flight is out
+abbrev pub out_for : ℕ → Option ℕ → List ℕ
+out_for taken None = piece_html piece.ParagraphEnd
+out_for taken (Some since) = seconds_html (taken - since)
+
+-- what is in flight
+unfoldable pub flight_html : FlightRow → List ℕ
+flight_html f =
+    codes "<p class=\"flight\">in flight: " ++ (flight_name f.kind
+    ++ (codes " " ++ (decimal f.message_id ++ (codes " serial " ++ four_digits f.serial))))
+
+-- what is in flight, and for how long it is out, if anything is
+abbrev pub flight_if : ℕ → Option FlightRow → Option ℕ → List ℕ
+flight_if taken None since = []
+flight_if taken (Some f) since = flight_html f ++ out_for taken since
+
+-- a BSC
+unfoldable pub bsc_html : ℕ → BscFigures → List ℕ
+bsc_html taken b = bsc_front taken b ++ (link_html b.row ++ (flight_if taken b.row.flight b.since ++ piece_html piece.ArticleEnd))
+
+-- a BSC, if it stands so
+abbrev pub bsc_if : ℕ → Standing → BscFigures → List ℕ
+bsc_if taken s b = if bsc_stands taken s b then bsc_html taken b else []
+
+-- the BSCs that stand so, where there are so many of them
+unfoldable pub some_bscs : ℕ → List BscFigures → Standing → ℕ → List ℕ
+some_bscs taken bscs s count =
+    section_front s (bscs_title s) count
+    ++ (flat_map (bsc_if taken s) bscs ++ piece_html piece.SectionEnd)
+
+-- the BSCs that stand so, as a section
+unfoldable pub bscs_section : ℕ → List BscFigures → Standing → List ℕ
+bscs_section taken bscs s = section_if (some_bscs taken bscs s) (count_by (bsc_stands taken s) bscs)
+
+-- all BSCs, the most urgent first
+unfoldable pub bscs_html : ℕ → List BscFigures → List ℕ
+bscs_html taken bscs =
+    piece_html piece.BscsFront
+    ++ (bscs_section taken bscs Wrong
+    ++ (bscs_section taken bscs UnderWay ++ (bscs_section taken bscs InOrder ++ piece_html piece.BlockEnd)))

@@ -1,0 +1,9 @@
+pub mod Boards
+pub mod BscParts
+pub mod Escapes
+pub mod Fixed
+pub mod Laws
+pub mod Pages
+pub mod Pieces
+pub mod Standings
+pub mod WarningParts

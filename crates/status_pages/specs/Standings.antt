@@ -1,0 +1,74 @@
+-- How urgent a warning or a BSC is to somebody who looks.
+use Rattle.std.specs.Prelude.{ℕ, Bool, true, false, ◌-◌, ◌==◌, ◌&&◌, ◌||◌, not, nat_le, List, Option, Some, None, count_by, if◌then◌else◌}
+use Rattle.std.specs.List.{filter}
+use Rattle.std.specs.Option.{is_some}
+use Rattle.centre_past.specs.declared.lists.bsc_row.BscRow.{BscRow}
+use Rattle.centre_past.specs.declared.lists.warning_row.WarningRow.{WarningRow}
+use Rattle.coverage_board.specs.declared.numbers.Numbers.{Numbers}
+use Rattle.status_figures.specs.declared.bsc_figures.BscFigures.{BscFigures}
+use Rattle.status_figures.specs.declared.warning_figures.WarningFigures.{WarningFigures}
+use Rattle.status_pages.specs.declared.standing.Standing.{Standing}
+use Rattle.status_pages.specs.declared.standing.Standing.TheVariants.{Wrong, UnderWay, InOrder, Stopped}
+
+-- the warning is wanted in no registered cell
+abbrev pub is_nowhere : Numbers → Bool
+is_nowhere n = n.awaited == 0 && (n.on_air == 0 && n.failed == 0)
+
+-- a warning that failed in some cell, or is active and wanted in none, has somebody look at it
+abbrev pub is_wrong : WarningRow → Bool
+is_wrong w = not (w.numbers.failed == 0) || (w.is_active && is_nowhere w.numbers)
+
+-- one that is still to go on air or off it somewhere is under way
+abbrev pub is_under_way : WarningRow → Bool
+is_under_way w = not (w.numbers.awaited == 0) || not (w.numbers.left == 0)
+
+-- one that is still to go on air or off it somewhere while no BSC is under way is stuck: a BSC refused its orders, its cells or a link are
+-- down, or a BSC doesn't answer
+abbrev pub is_stuck : Bool → WarningRow → Bool
+is_stuck moving w = is_under_way w && not moving
+
+-- how a warning stands, where some BSC is under way or none is
+unfoldable pub warning_standing : Bool → WarningRow → Standing
+warning_standing moving w =
+    if is_wrong w || is_stuck moving w then Wrong
+    else (if is_under_way w then UnderWay
+    else (if w.is_active then InOrder else Stopped))
+
+-- for how many seconds an order may be out before somebody has to look
+abbrev pub long_out : ℕ
+long_out = 30
+
+-- what is in flight has been out for that long
+abbrev pub is_long_out : ℕ → Option ℕ → Bool
+is_long_out taken None = false
+is_long_out taken (Some since) = nat_le long_out (taken - since)
+
+-- something is in flight to the BSC, or pending for it
+abbrev pub is_busy : BscRow → Bool
+is_busy r = is_some r.flight || not (r.pending == 0)
+
+-- how a BSC stands in a picture that was taken then
+unfoldable pub bsc_standing : ℕ → BscFigures → Standing
+bsc_standing taken b =
+    if not b.row.is_up || is_long_out taken b.since then Wrong
+    else (if is_busy b.row then UnderWay else InOrder)
+
+-- the two are the same
+abbrev pub is_same : Standing → Standing → Bool
+is_same Wrong Wrong = true
+is_same UnderWay UnderWay = true
+is_same InOrder InOrder = true
+is_same Stopped Stopped = true
+is_same other another = false
+
+-- whether a warning stands so
+abbrev pub warning_stands : Bool → Standing → WarningFigures → Bool
+warning_stands moving s w = is_same (warning_standing moving w.sheet.row) s
+
+-- whether a BSC stands so
+abbrev pub bsc_stands : ℕ → Standing → BscFigures → Bool
+bsc_stands taken s b = is_same (bsc_standing taken b) s
+
+-- some BSC is under way: its link is up, and it has orders to take or a reply to give
+abbrev pub are_moving : ℕ → List BscFigures → Bool
+are_moving taken bscs = not (count_by (bsc_stands taken UnderWay) bscs == 0)

@@ -1,0 +1,172 @@
+-- A warning on the page.
+use Rattle.std.specs.Prelude.{ℕ, Bool, ◌==◌, ◌&&◌, ◌/◌, List, [], ◌∷◌, ◌++◌, Option, Some, None, codes, count_by, decimal, if◌then◌else◌}
+use Rattle.std.specs.List.{flat_map}
+use Rattle.std.specs.Option.{option_map}
+use Rattle.std.specs.Str.{encode_utf8_all}
+use Rattle.hex.specs.Hex.{encode_lower}
+use Rattle.centre_past.specs.declared.lists.warning_row.WarningRow.{WarningRow}
+use Rattle.message_text.specs.Reading.{read_text}
+use Rattle.status_figures.specs.Words.{four_digits, kind_name, state_name}
+use Rattle.status_figures.specs.declared.warning_figures.WarningFigures.{WarningFigures}
+use Rattle.status_pages.specs.Boards.{areas_html, board_html}
+use Rattle.status_pages.specs.Escapes.{escaped}
+use Rattle.status_pages.specs.Standings.{is_nowhere, is_stuck, warning_standing, warning_stands}
+use Rattle.status_pages.specs.declared.standing.Standing.{Standing}
+use Rattle.status_pages.specs.declared.standing.Standing.TheVariants.{Wrong, UnderWay, InOrder, Stopped}
+use Rattle.warning_book.specs.declared.cbs_content.CbsContent.{CbsContent}
+use Rattle.warning_book.specs.declared.content.Content.{Content}
+use Rattle.warning_book.specs.declared.content.Content.TheVariants.{Cbs, Emergency}
+use Rattle.warning_book.specs.declared.emergency_content.EmergencyContent.{EmergencyContent}
+use Rattle.status_pages.specs.Pieces.{piece_html}
+use Rattle.status_pages.specs.declared.piece.Piece.TheVariants as piece
+
+-- the class of what stands so
+abbrev pub standing_class : Standing → List ℕ
+standing_class Wrong = codes "bad"
+standing_class UnderWay = codes "busy"
+standing_class InOrder = codes "good"
+standing_class Stopped = codes "off"
+
+-- what a list of warnings that stand so is called
+abbrev pub warnings_title : Standing → List ℕ
+warnings_title Wrong = codes "Warnings to look at"
+warnings_title UnderWay = codes "Warnings under way"
+warnings_title InOrder = codes "Warnings on air"
+warnings_title Stopped = codes "Stopped warnings"
+
+-- the octets of a page
+unfoldable pub page_digits : List ℕ → List ℕ
+page_digits page = encode_lower page ++ codes " "
+
+-- the octets of pages whose text can't be read: 8-bit data, compressed text, or text that isn't whole
+unfoldable pub octets_html : List (List ℕ) → List ℕ
+octets_html pages = piece_html piece.OctetsFront ++ (flat_map page_digits pages ++ piece_html piece.ParagraphEnd)
+
+-- a text
+unfoldable pub text_html : List ℕ → List ℕ
+text_html text = piece_html piece.TextFront ++ (escaped text ++ piece_html piece.ParagraphEnd)
+
+-- the text, where it can be read, or else the octets of the pages
+abbrev pub shown : Option (List ℕ) → List (List ℕ) → List ℕ
+shown (Some text) pages = text_html text
+shown None pages = octets_html pages
+
+-- the text of pages
+unfoldable pub cbs_html : CbsContent → List ℕ
+cbs_html c = shown (option_map encode_utf8_all (read_text c.dcs c.pages)) c.pages
+
+-- what a warning type warns of (TS 23.041, 9.3.24): its upper seven bits
+abbrev pub hazard : ℕ → List ℕ
+hazard kind =
+    if kind == 0 then codes "earthquake"
+    else (if kind == 1 then codes "tsunami"
+    else (if kind == 2 then codes "earthquake and tsunami"
+    else (if kind == 3 then codes "test" else codes "other")))
+
+-- an emergency warning has no text
+unfoldable pub emergency_html : EmergencyContent → List ℕ
+emergency_html e =
+    codes "<p class=\"text\">Emergency: " ++ (hazard (e.warning_type / 512) ++ (codes " (warning type " ++ (four_digits e.warning_type ++ codes ")</p>")))
+
+-- what the current version broadcasts
+abbrev pub content_html : Option Content → List ℕ
+content_html None = codes "<p class=\"octets\">No content.</p>"
+content_html (Some (Cbs c)) = cbs_html c
+content_html (Some (Emergency e)) = emergency_html e
+
+-- a serial number, or a dash
+abbrev pub serial_html : Option ℕ → List ℕ
+serial_html None = codes "-"
+serial_html (Some s) = four_digits s
+
+-- a number of a warning
+unfoldable pub number_html : ℕ → List ℕ
+number_html number = codes "<h3><b>Warning " ++ (decimal number ++ codes "</b>")
+
+-- a message identifier, in decimal and in hexadecimal digits
+unfoldable pub message_html : ℕ → List ℕ → List ℕ
+message_html id digits = codes " <span>message " ++ (decimal id ++ (codes " (hex " ++ (digits ++ codes ")</span>")))
+
+-- those of a warning
+unfoldable pub name_html : WarningRow → List ℕ
+name_html w = number_html w.number ++ message_html w.message_id (four_digits w.message_id)
+
+-- a serial number, a kind and a state
+unfoldable pub version_with : List ℕ → List ℕ → List ℕ → List ℕ
+version_with serial kind state =
+    codes " <span>serial " ++ (serial ++ (codes "</span> <span>" ++ (kind ++ (codes "</span> <span>" ++ (state ++ codes "</span></h3>")))))
+
+-- its serial number, its kind, and whether it was stopped
+unfoldable pub version_html : WarningRow → List ℕ
+version_html w = version_with (serial_html w.serial) (kind_name w.kind) (state_name w.is_active)
+
+-- where a warning of that number and that class begins
+unfoldable pub front_with : ℕ → List ℕ → List ℕ
+front_with number class = codes "<article id=\"w" ++ (decimal number ++ (codes "\" class=\"w " ++ (class ++ codes "\">")))
+
+-- where a warning begins
+unfoldable pub warning_front : Bool → WarningRow → List ℕ
+warning_front moving w = front_with w.number (standing_class (warning_standing moving w))
+
+-- it is said of an active warning that it is wanted in no registered cell
+unfoldable pub nowhere_html : WarningRow → List ℕ
+nowhere_html w = if w.is_active && is_nowhere w.numbers then codes "<p class=\"none\">Its areas cover no registered cell.</p>" else []
+
+-- it is said of a stuck warning that it is, and what there is to do
+unfoldable pub stuck_html : Bool → WarningRow → List ℕ
+stuck_html moving w = if is_stuck moving w then piece_html piece.Stuck else []
+
+-- what is said of a warning
+unfoldable pub notes_html : Bool → WarningRow → List ℕ
+notes_html moving w = nowhere_html w ++ stuck_html moving w
+
+-- what stands above its content
+unfoldable pub warning_head : Bool → WarningRow → List ℕ
+warning_head moving w = warning_front moving w ++ (name_html w ++ version_html w)
+
+-- its board and those of its areas
+unfoldable pub warning_boards : WarningFigures → List ℕ
+warning_boards w = board_html w.sheet.row.numbers ++ (areas_html w.areas ++ piece_html piece.ArticleEnd)
+
+-- a warning
+unfoldable pub warning_html : Bool → WarningFigures → List ℕ
+warning_html moving w =
+    warning_head moving w.sheet.row ++ (content_html w.sheet.content ++ (notes_html moving w.sheet.row ++ warning_boards w))
+
+-- where a section begins
+unfoldable pub section_class : Standing → List ℕ
+section_class s = codes "<section class=\"" ++ (standing_class s ++ codes "\">")
+
+-- what it is called, and how many there are
+unfoldable pub section_title : List ℕ → ℕ → List ℕ
+section_title title count = codes "<h2>" ++ (title ++ (codes " <b>" ++ (decimal count ++ codes "</b></h2><div>")))
+
+-- both
+unfoldable pub section_front : Standing → List ℕ → ℕ → List ℕ
+section_front s title count = section_class s ++ section_title title count
+
+-- a warning, if it stands so
+abbrev pub warning_if : Bool → Standing → WarningFigures → List ℕ
+warning_if moving s w = if warning_stands moving s w then warning_html moving w else []
+
+-- the warnings that stand so, where there are so many of them
+unfoldable pub some_warnings : Bool → List WarningFigures → Standing → ℕ → List ℕ
+some_warnings moving warnings s count =
+    section_front s (warnings_title s) count
+    ++ (flat_map (warning_if moving s) warnings ++ piece_html piece.SectionEnd)
+
+-- a section, or nothing where there are none
+abbrev pub section_if : (ℕ → List ℕ) → ℕ → List ℕ
+section_if section count = if count == 0 then [] else section count
+
+-- the warnings that stand so, as a section
+unfoldable pub warnings_section : Bool → List WarningFigures → Standing → List ℕ
+warnings_section moving warnings s = section_if (some_warnings moving warnings s) (count_by (warning_stands moving s) warnings)
+
+-- all warnings, the most urgent first
+unfoldable pub warnings_html : Bool → List WarningFigures → List ℕ
+warnings_html moving warnings =
+    piece_html piece.WarningsFront
+    ++ (warnings_section moving warnings Wrong
+    ++ (warnings_section moving warnings UnderWay
+    ++ (warnings_section moving warnings InOrder ++ (warnings_section moving warnings Stopped ++ piece_html piece.BlockEnd))))

@@ -1,0 +1,214 @@
+//! BSCs on the page.
+
+ghost use Rattle.std.specs.Prelude.{◌≡◌, ◌++◌, OnOk};
+ghost use Rattle.std.specs.List.{flat_map};
+ghost use Rattle.status_pages.specs.BscParts.{bsc_front, bsc_html, bsc_if, bscs_html, bscs_section, bscs_title, flight_html, flight_if, front_with, link_html, out_for, seconds_html, some_bscs};
+
+use crate::piece::{Piece, push_piece};
+use crate::standing::Standing;
+use crate::standings::{bsc_standing, bsc_stands, count_bscs};
+use crate::warnings::{push_section_front, standing_class};
+use centre_past::lists::{BscRow, FlightRow};
+use status_figures::{BscFigures, flight_name, four_digits, link_name};
+use std::alloc::{AllocError, Global};
+
+fn title(standing: Standing) -> &'static str
+    ensures { result.now ≡ bscs_title standing }
+{
+    match standing {
+        Standing::Wrong => "BSCs to look at",
+        Standing::UnderWay => "BSCs under way",
+        Standing::InOrder => "BSCs in order",
+        Standing::Stopped => "Other BSCs",
+    }
+}
+
+#[tactic(auto, unfolding(crate::specs::BscParts::front_with))]
+fn push_front_with(
+    alloc: Global,
+    out: &mut Vec<u8>,
+    number: u16,
+    class: &str,
+) -> Result<(), AllocError>
+    ensures { OnOk result (out.new.items ≡ out.old.items ++ front_with number class.now) }
+{
+    let text = format!(in alloc;
+        "<article id=\"b{number}\" class=\"b {class}\"><h3>BSC {number}</h3>"
+    )?;
+    out.extend_from_slice(text.as_bytes())
+}
+
+#[tactic(auto, unfolding(crate::specs::BscParts::bsc_front))]
+fn push_front(
+    alloc: Global,
+    out: &mut Vec<u8>,
+    taken: u64,
+    bsc: &BscFigures,
+) -> Result<(), AllocError>
+    ensures { OnOk result (out.new.items ≡ out.old.items ++ bsc_front taken bsc.now) }
+{
+    let class = standing_class(bsc_standing(taken, bsc));
+    push_front_with(alloc, out, bsc.row.bsc.number(), class)
+}
+
+#[tactic(auto, unfolding(crate::specs::BscParts::link_html))]
+fn push_link(alloc: Global, out: &mut Vec<u8>, row: &BscRow) -> Result<(), AllocError>
+    ensures { OnOk result (out.new.items ≡ out.old.items ++ link_html row.now) }
+{
+    let link = link_name(row.is_up);
+    let cells = row.cells;
+    let pending = row.pending;
+    let text = format!(in alloc;
+        "<p class=\"{link}\">link {link}</p><p>cells <b>{cells}</b></p><p>pending <b>{pending}</b></p>"
+    )?;
+    out.extend_from_slice(text.as_bytes())
+}
+
+fn push_out_for(
+    alloc: Global,
+    out: &mut Vec<u8>,
+    taken: u64,
+    since: Option<u64>,
+) -> Result<(), AllocError>
+    ensures { OnOk result (out.new.items ≡ out.old.items ++ out_for taken since) }
+{
+    match since {
+        None => push_piece(out, Piece::ParagraphEnd),
+        Some(since) => push_seconds(alloc, out, taken.saturating_sub(since)),
+    }
+}
+
+#[tactic(auto, unfolding(crate::specs::BscParts::seconds_html))]
+fn push_seconds(alloc: Global, out: &mut Vec<u8>, seconds: u64) -> Result<(), AllocError>
+    ensures { OnOk result (out.new.items ≡ out.old.items ++ seconds_html seconds) }
+{
+    let text = format!(in alloc; ", out for <b>{seconds}</b> s</p>")?;
+    out.extend_from_slice(text.as_bytes())
+}
+
+#[tactic(auto, unfolding(crate::specs::BscParts::flight_html))]
+fn push_flight(alloc: Global, out: &mut Vec<u8>, flight: FlightRow) -> Result<(), AllocError>
+    ensures { OnOk result (out.new.items ≡ out.old.items ++ flight_html flight) }
+{
+    let kind = flight_name(flight.kind);
+    let id = flight.message_id;
+    let serial = four_digits(alloc, flight.serial.to_u16())?;
+    let text = format!(in alloc; "<p class=\"flight\">in flight: {kind} {id} serial {serial}")?;
+    out.extend_from_slice(text.as_bytes())
+}
+
+fn push_flight_if(
+    alloc: Global,
+    out: &mut Vec<u8>,
+    taken: u64,
+    flight: Option<FlightRow>,
+    since: Option<u64>,
+) -> Result<(), AllocError>
+    ensures { OnOk result (out.new.items ≡ out.old.items ++ flight_if taken flight since) }
+{
+    match flight {
+        None => Ok(()),
+        Some(flight) => {
+            push_flight(alloc, out, flight)?;
+            push_out_for(alloc, out, taken, since)
+        }
+    }
+}
+
+#[tactic(auto, unfolding(crate::specs::BscParts::bsc_html))]
+fn push_bsc(
+    alloc: Global,
+    out: &mut Vec<u8>,
+    taken: u64,
+    bsc: &BscFigures,
+) -> Result<(), AllocError>
+    ensures { OnOk result (out.new.items ≡ out.old.items ++ bsc_html taken bsc.now) }
+{
+    push_front(alloc, out, taken, bsc)?;
+    push_link(alloc, out, &bsc.row)?;
+    push_flight_if(alloc, out, taken, bsc.row.flight, bsc.since)?;
+    push_piece(out, Piece::ArticleEnd)
+}
+
+/// Appends a BSC, if it stands so.
+fn push_if(
+    alloc: Global,
+    out: &mut Vec<u8>,
+    taken: u64,
+    standing: Standing,
+    bsc: &BscFigures,
+) -> Result<(), AllocError>
+    ensures { OnOk result (out.new.items ≡ out.old.items ++ bsc_if taken standing bsc.now) }
+{
+    if bsc_stands(taken, standing, bsc) {
+        push_bsc(alloc, out, taken, bsc)
+    } else {
+        Ok(())
+    }
+}
+
+/// Appends the BSCs that stand so.
+fn push_standing(
+    alloc: Global,
+    out: &mut Vec<u8>,
+    taken: u64,
+    bscs: &[BscFigures],
+    standing: Standing,
+) -> Result<(), AllocError>
+    ensures { OnOk result (out.new.items ≡ out.old.items ++ flat_map (bsc_if taken standing) bscs.now) }
+{
+    for bsc in bscs {
+        push_if(alloc, out, taken, standing, bsc)?;
+    }
+    Ok(())
+}
+
+/// Appends the BSCs that stand so, where there are so many of them.
+#[tactic(auto, unfolding(crate::specs::BscParts::some_bscs))]
+fn push_some(
+    alloc: Global,
+    out: &mut Vec<u8>,
+    taken: u64,
+    bscs: &[BscFigures],
+    standing: Standing,
+    count: u64,
+) -> Result<(), AllocError>
+    ensures { OnOk result (out.new.items ≡ out.old.items ++ some_bscs taken bscs.now standing count) }
+{
+    push_section_front(alloc, out, standing, title(standing), count)?;
+    push_standing(alloc, out, taken, bscs, standing)?;
+    push_piece(out, Piece::SectionEnd)
+}
+
+#[tactic(auto, unfolding(crate::specs::BscParts::bscs_section))]
+fn push_section(
+    alloc: Global,
+    out: &mut Vec<u8>,
+    taken: u64,
+    bscs: &[BscFigures],
+    standing: Standing,
+) -> Result<(), AllocError>
+    ensures { OnOk result (out.new.items ≡ out.old.items ++ bscs_section taken bscs.now standing) }
+{
+    match count_bscs(taken, standing, bscs) {
+        0 => Ok(()),
+        count => push_some(alloc, out, taken, bscs, standing, count as u64),
+    }
+}
+
+/// Appends all BSCs, the most urgent first.
+#[tactic(auto, unfolding(crate::specs::BscParts::bscs_html))]
+pub(crate) fn push_bscs(
+    alloc: Global,
+    out: &mut Vec<u8>,
+    taken: u64,
+    bscs: &[BscFigures],
+) -> Result<(), AllocError>
+    ensures { OnOk result (out.new.items ≡ out.old.items ++ bscs_html taken bscs.now) }
+{
+    push_piece(out, Piece::BscsFront)?;
+    push_section(alloc, out, taken, bscs, Standing::Wrong)?;
+    push_section(alloc, out, taken, bscs, Standing::UnderWay)?;
+    push_section(alloc, out, taken, bscs, Standing::InOrder)?;
+    push_piece(out, Piece::BlockEnd)
+}

@@ -1,0 +1,76 @@
+//! Parts of the page that are always the same.
+
+ghost use Rattle.std.specs.Prelude.{◌≡◌, ◌++◌, OnOk};
+ghost use Rattle.status_pages.specs.Pieces.{piece_html};
+
+use std::alloc::AllocError;
+
+/// A part of the page that is always the same.
+#[derive(Clone, Copy, Debug, PartialEq, Eq)]
+pub(crate) enum Piece {
+    BarFront,
+    NumbersFront,
+    AreaFront,
+    AreaMiddle,
+    AreasFront,
+    OctetsFront,
+    /// A warning is stuck, and what there is to do.
+    Stuck,
+    TextFront,
+    MomentFront,
+    MomentEnd,
+    SumsFront,
+    SumsEnd,
+    ColumnsFront,
+    ColumnsEnd,
+    WarningsFront,
+    BscsFront,
+    SectionEnd,
+    ArticleEnd,
+    BlockEnd,
+    ParagraphEnd,
+    ItemEnd,
+    ListEnd,
+}
+
+impl Piece {
+    #[tactic(auto, unfolding(crate::specs::Pieces::piece_html))]
+    fn text(self) -> &'static str
+        ensures { result.now ≡ piece_html self }
+    {
+        match self {
+            Piece::BarFront => "<div class=\"bar\" aria-hidden=\"true\">",
+            Piece::NumbersFront => "<p class=\"nums\">",
+            Piece::AreaFront => "<li><h4><bdi>",
+            Piece::AreaMiddle => "</bdi></h4>",
+            Piece::AreasFront => "<ul class=\"areas\">",
+            Piece::OctetsFront =>
+                "<p class=\"octets\">The text cannot be read. Octets of its pages: ",
+            Piece::Stuck => {
+                "<p class=\"none\">Cells are awaited or left, but no BSC is under way. If a BSC refused an order, type retry B. Else a cell or a link is down, or a BSC does not answer.</p>"
+            }
+            Piece::TextFront => "<p class=\"text\" dir=\"auto\">",
+            Piece::MomentFront => "<p class=\"when\">Picture of ",
+            Piece::MomentEnd => " UTC<span id=\"age\"></span></p>",
+            Piece::SumsFront => "<ul class=\"sums\">",
+            Piece::SumsEnd => "</ul></header>",
+            Piece::ColumnsFront => "<div class=\"cols\">",
+            Piece::ColumnsEnd => "</div></main>",
+            Piece::WarningsFront => "<div class=\"col warnings\">",
+            Piece::BscsFront => "<div class=\"col bscs\">",
+            Piece::SectionEnd => "</div></section>",
+            Piece::ArticleEnd => "</article>",
+            Piece::BlockEnd => "</div>",
+            Piece::ParagraphEnd => "</p>",
+            Piece::ItemEnd => "</li>",
+            Piece::ListEnd => "</ul>",
+        }
+    }
+}
+
+/// Appends the part.
+pub(crate) fn push_piece(out: &mut Vec<u8>, piece: Piece) -> Result<(), AllocError>
+    ensures { OnOk result (out.new.items ≡ out.old.items ++ piece_html piece) }
+{
+    out.extend_from_slice(piece.text().as_bytes())
+}

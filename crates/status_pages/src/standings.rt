@@ -1,0 +1,136 @@
+//! How warnings and BSCs stand.
+
+ghost use Rattle.std.specs.Prelude.{◌≡◌, count_by};
+ghost use Rattle.status_pages.specs.Standings.{are_moving, bsc_standing, bsc_stands, is_busy, is_long_out, is_nowhere, is_same, is_stuck, is_under_way, is_wrong, warning_standing, warning_stands};
+
+use crate::standing::Standing;
+use centre_past::lists::{BscRow, WarningRow};
+use coverage_board::Numbers;
+use status_figures::{BscFigures, WarningFigures};
+
+/// For how many seconds an order may be out before somebody has to look.
+const LONG_OUT: u64 = 30;
+
+/// Whether the warning is wanted in no registered cell.
+pub(crate) fn is_nowhere(numbers: Numbers) -> bool
+    ensures { result ≡ is_nowhere numbers }
+{
+    numbers.awaited == 0 && (numbers.on_air == 0 && numbers.failed == 0)
+}
+
+fn is_wrong(warning: &WarningRow) -> bool
+    ensures { result ≡ is_wrong warning.now }
+{
+    warning.numbers.failed != 0 || (warning.is_active && is_nowhere(warning.numbers))
+}
+
+fn is_under_way(warning: &WarningRow) -> bool
+    ensures { result ≡ is_under_way warning.now }
+{
+    warning.numbers.awaited != 0 || warning.numbers.left != 0
+}
+
+/// Whether it is still to go on air or off it somewhere while no BSC is under way.
+pub(crate) fn is_stuck(moving: bool, warning: &WarningRow) -> bool
+    ensures { result ≡ is_stuck moving warning.now }
+{
+    is_under_way(warning) && !moving
+}
+
+/// How a warning stands, where some BSC is under way or none is.
+#[tactic(auto, unfolding(crate::specs::Standings::warning_standing))]
+pub(crate) fn warning_standing(moving: bool, warning: &WarningRow) -> Standing
+    ensures { result ≡ warning_standing moving warning.now }
+{
+    if is_wrong(warning) || is_stuck(moving, warning) {
+        Standing::Wrong
+    } else if is_under_way(warning) {
+        Standing::UnderWay
+    } else if warning.is_active {
+        Standing::InOrder
+    } else {
+        Standing::Stopped
+    }
+}
+
+/// Whether what went out then has been out for too long.
+fn is_long_out(taken: u64, since: Option<u64>) -> bool
+    ensures { result ≡ is_long_out taken since }
+{
+    match since {
+        None => false,
+        Some(since) => taken.saturating_sub(since) >= LONG_OUT,
+    }
+}
+
+fn is_busy(bsc: &BscRow) -> bool
+    ensures { result ≡ is_busy bsc.now }
+{
+    bsc.flight.is_some() || bsc.pending != 0
+}
+
+/// How a BSC stands in a picture that was taken then.
+#[tactic(auto, unfolding(crate::specs::Standings::bsc_standing))]
+pub(crate) fn bsc_standing(taken: u64, bsc: &BscFigures) -> Standing
+    ensures { result ≡ bsc_standing taken bsc.now }
+{
+    if !bsc.row.is_up || is_long_out(taken, bsc.since) {
+        Standing::Wrong
+    } else if is_busy(&bsc.row) {
+        Standing::UnderWay
+    } else {
+        Standing::InOrder
+    }
+}
+
+fn is_same(found: Standing, wanted: Standing) -> bool
+    ensures { result ≡ is_same found wanted }
+{
+    match (found, wanted) {
+        (Standing::Wrong, Standing::Wrong)
+        | (Standing::UnderWay, Standing::UnderWay)
+        | (Standing::InOrder, Standing::InOrder)
+        | (Standing::Stopped, Standing::Stopped) => true,
+        _ => false,
+    }
+}
+
+/// Whether a warning stands so.
+pub(crate) fn warning_stands(moving: bool, standing: Standing, warning: &WarningFigures) -> bool
+    ensures { result ≡ warning_stands moving standing warning.now }
+{
+    is_same(warning_standing(moving, &warning.sheet.row), standing)
+}
+
+/// Whether a BSC stands so.
+pub(crate) fn bsc_stands(taken: u64, standing: Standing, bsc: &BscFigures) -> bool
+    ensures { result ≡ bsc_stands taken standing bsc.now }
+{
+    is_same(bsc_standing(taken, bsc), standing)
+}
+
+/// How many warnings stand so.
+pub(crate) fn count_warnings(moving: bool, standing: Standing, warnings: &[WarningFigures]) -> usize
+    ensures { result ≡ count_by (warning_stands moving standing) warnings.now }
+{
+    warnings
+        .iter()
+        .filter(|warning| warning_stands(moving, standing, warning))
+        .count()
+}
+
+/// How many BSCs stand so.
+pub(crate) fn count_bscs(taken: u64, standing: Standing, bscs: &[BscFigures]) -> usize
+    ensures { result ≡ count_by (bsc_stands taken standing) bscs.now }
+{
+    bscs.iter()
+        .filter(|bsc| bsc_stands(taken, standing, bsc))
+        .count()
+}
+
+/// Whether some BSC is under way: its link is up, and it has orders to take or a reply to give.
+pub(crate) fn are_moving(taken: u64, bscs: &[BscFigures]) -> bool
+    ensures { result ≡ are_moving taken bscs.now }
+{
+    count_bscs(taken, Standing::UnderWay, bscs) != 0
+}

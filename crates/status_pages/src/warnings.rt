@@ -1,0 +1,327 @@
+//! Warnings on the page.
+
+ghost use Rattle.std.specs.Prelude.{◌≡◌, ◌++◌, IfOk, OnOk, string_bytes};
+ghost use Rattle.std.specs.List.{flat_map};
+ghost use Rattle.status_pages.specs.WarningParts.{front_with, message_html, name_html, notes_html, nowhere_html, number_html, section_class, section_front, section_title, serial_html, some_warnings, standing_class, stuck_html, version_html, version_with, warning_boards, warning_front, warning_head, warning_html, warning_if, warnings_html, warnings_section, warnings_title};
+
+use crate::boards::{push_areas, push_board};
+use crate::contents::push_content;
+use crate::piece::{Piece, push_piece};
+use crate::standing::Standing;
+use crate::standings::{count_warnings, is_nowhere, is_stuck, warning_standing, warning_stands};
+use centre_past::lists::WarningRow;
+use serials::Serial;
+use status_figures::{WarningFigures, four_digits, kind_name, state_name};
+use std::alloc::{AllocError, Global};
+
+pub(crate) fn standing_class(standing: Standing) -> &'static str
+    ensures { result.now ≡ standing_class standing }
+{
+    match standing {
+        Standing::Wrong => "bad",
+        Standing::UnderWay => "busy",
+        Standing::InOrder => "good",
+        Standing::Stopped => "off",
+    }
+}
+
+fn title(standing: Standing) -> &'static str
+    ensures { result.now ≡ warnings_title standing }
+{
+    match standing {
+        Standing::Wrong => "Warnings to look at",
+        Standing::UnderWay => "Warnings under way",
+        Standing::InOrder => "Warnings on air",
+        Standing::Stopped => "Stopped warnings",
+    }
+}
+
+fn serial_text(alloc: Global, serial: Option<Serial>) -> Result<String, AllocError>
+    ensures { IfOk result (λ text. string_bytes text ≡ serial_html serial) }
+{
+    match serial {
+        None => String::from_str(alloc, "-"),
+        Some(serial) => four_digits(alloc, serial.to_u16()),
+    }
+}
+
+#[tactic(auto, unfolding(crate::specs::WarningParts::number_html))]
+fn push_number(alloc: Global, out: &mut Vec<u8>, number: u32) -> Result<(), AllocError>
+    ensures { OnOk result (out.new.items ≡ out.old.items ++ number_html number) }
+{
+    let text = format!(in alloc; "<h3><b>Warning {number}</b>")?;
+    out.extend_from_slice(text.as_bytes())
+}
+
+#[tactic(auto, unfolding(crate::specs::WarningParts::message_html))]
+fn push_message(alloc: Global, out: &mut Vec<u8>, id: u16, digits: &str) -> Result<(), AllocError>
+    ensures { OnOk result (out.new.items ≡ out.old.items ++ message_html id digits.now) }
+{
+    let text = format!(in alloc; " <span>message {id} (hex {digits})</span>")?;
+    out.extend_from_slice(text.as_bytes())
+}
+
+#[tactic(auto, unfolding(crate::specs::WarningParts::name_html))]
+fn push_name(alloc: Global, out: &mut Vec<u8>, row: &WarningRow) -> Result<(), AllocError>
+    ensures { OnOk result (out.new.items ≡ out.old.items ++ name_html row.now) }
+{
+    let digits = four_digits(alloc, row.message_id)?;
+    push_number(alloc, out, row.number.number())?;
+    push_message(alloc, out, row.message_id, digits.as_str())
+}
+
+#[tactic(auto, unfolding(crate::specs::WarningParts::version_with))]
+fn push_version_with(
+    alloc: Global,
+    out: &mut Vec<u8>,
+    serial: &str,
+    kind: &str,
+    state: &str,
+) -> Result<(), AllocError>
+    ensures { OnOk result (out.new.items ≡ out.old.items ++ version_with serial.now kind.now state.now) }
+{
+    let text = format!(in alloc;
+        " <span>serial {serial}</span> <span>{kind}</span> <span>{state}</span></h3>"
+    )?;
+    out.extend_from_slice(text.as_bytes())
+}
+
+#[tactic(auto, unfolding(crate::specs::WarningParts::version_html))]
+fn push_version(alloc: Global, out: &mut Vec<u8>, row: &WarningRow) -> Result<(), AllocError>
+    ensures { OnOk result (out.new.items ≡ out.old.items ++ version_html row.now) }
+{
+    let serial = serial_text(alloc, row.serial)?;
+    push_version_with(
+        alloc,
+        out,
+        serial.as_str(),
+        kind_name(row.kind),
+        state_name(row.is_active),
+    )
+}
+
+#[tactic(auto, unfolding(crate::specs::WarningParts::front_with))]
+fn push_front_with(
+    alloc: Global,
+    out: &mut Vec<u8>,
+    number: u32,
+    class: &str,
+) -> Result<(), AllocError>
+    ensures { OnOk result (out.new.items ≡ out.old.items ++ front_with number class.now) }
+{
+    let text = format!(in alloc; "<article id=\"w{number}\" class=\"w {class}\">")?;
+    out.extend_from_slice(text.as_bytes())
+}
+
+#[tactic(auto, unfolding(crate::specs::WarningParts::warning_front))]
+fn push_front(
+    alloc: Global,
+    out: &mut Vec<u8>,
+    moving: bool,
+    row: &WarningRow,
+) -> Result<(), AllocError>
+    ensures { OnOk result (out.new.items ≡ out.old.items ++ warning_front moving row.now) }
+{
+    let class = standing_class(warning_standing(moving, row));
+    push_front_with(alloc, out, row.number.number(), class)
+}
+
+/// Says of an active warning that it is wanted in no registered cell.
+#[tactic(auto, unfolding(crate::specs::WarningParts::nowhere_html))]
+fn push_nowhere(out: &mut Vec<u8>, row: &WarningRow) -> Result<(), AllocError>
+    ensures { OnOk result (out.new.items ≡ out.old.items ++ nowhere_html row.now) }
+{
+    if row.is_active && is_nowhere(row.numbers) {
+        out.extend_from_slice(b"<p class=\"none\">Its areas cover no registered cell.</p>")
+    } else {
+        Ok(())
+    }
+}
+
+/// Says of a stuck warning that it is, and what there is to do.
+#[tactic(auto, unfolding(crate::specs::WarningParts::stuck_html))]
+fn push_stuck(out: &mut Vec<u8>, moving: bool, row: &WarningRow) -> Result<(), AllocError>
+    ensures { OnOk result (out.new.items ≡ out.old.items ++ stuck_html moving row.now) }
+{
+    if is_stuck(moving, row) {
+        push_piece(out, Piece::Stuck)
+    } else {
+        Ok(())
+    }
+}
+
+#[tactic(auto, unfolding(crate::specs::WarningParts::notes_html))]
+fn push_notes(out: &mut Vec<u8>, moving: bool, row: &WarningRow) -> Result<(), AllocError>
+    ensures { OnOk result (out.new.items ≡ out.old.items ++ notes_html moving row.now) }
+{
+    push_nowhere(out, row)?;
+    push_stuck(out, moving, row)
+}
+
+/// Appends what stands above a warning's content.
+#[tactic(auto, unfolding(crate::specs::WarningParts::warning_head))]
+fn push_head(
+    alloc: Global,
+    out: &mut Vec<u8>,
+    moving: bool,
+    row: &WarningRow,
+) -> Result<(), AllocError>
+    ensures { OnOk result (out.new.items ≡ out.old.items ++ warning_head moving row.now) }
+{
+    push_front(alloc, out, moving, row)?;
+    push_name(alloc, out, row)?;
+    push_version(alloc, out, row)
+}
+
+/// Appends a warning's board and those of its areas.
+#[tactic(auto, unfolding(crate::specs::WarningParts::warning_boards))]
+fn push_boards(alloc: Global, out: &mut Vec<u8>, warning: &WarningFigures) -> Result<(), AllocError>
+    ensures { OnOk result (out.new.items ≡ out.old.items ++ warning_boards warning.now) }
+{
+    push_board(alloc, out, warning.sheet.row.numbers)?;
+    push_areas(alloc, out, warning.areas.as_slice())?;
+    push_piece(out, Piece::ArticleEnd)
+}
+
+/// Appends a warning.
+#[tactic(auto, unfolding(crate::specs::WarningParts::warning_html))]
+fn push_warning(
+    alloc: Global,
+    out: &mut Vec<u8>,
+    moving: bool,
+    warning: &WarningFigures,
+) -> Result<(), AllocError>
+    ensures { OnOk result (out.new.items ≡ out.old.items ++ warning_html moving warning.now) }
+{
+    push_head(alloc, out, moving, &warning.sheet.row)?;
+    push_content(alloc, out, &warning.sheet.content)?;
+    push_notes(out, moving, &warning.sheet.row)?;
+    push_boards(alloc, out, warning)
+}
+
+/// Appends where a section begins.
+#[tactic(auto, unfolding(crate::specs::WarningParts::section_class))]
+fn push_section_class(
+    alloc: Global,
+    out: &mut Vec<u8>,
+    standing: Standing,
+) -> Result<(), AllocError>
+    ensures { OnOk result (out.new.items ≡ out.old.items ++ section_class standing) }
+{
+    let class = standing_class(standing);
+    let text = format!(in alloc; "<section class=\"{class}\">")?;
+    out.extend_from_slice(text.as_bytes())
+}
+
+/// Appends what a section is called, and how many there are.
+#[tactic(auto, unfolding(crate::specs::WarningParts::section_title))]
+fn push_section_title(
+    alloc: Global,
+    out: &mut Vec<u8>,
+    title: &str,
+    count: u64,
+) -> Result<(), AllocError>
+    ensures { OnOk result (out.new.items ≡ out.old.items ++ section_title title.now count) }
+{
+    let text = format!(in alloc; "<h2>{title} <b>{count}</b></h2><div>")?;
+    out.extend_from_slice(text.as_bytes())
+}
+
+/// Appends what stands above the warnings or the BSCs of a section.
+#[tactic(auto, unfolding(crate::specs::WarningParts::section_front))]
+pub(crate) fn push_section_front(
+    alloc: Global,
+    out: &mut Vec<u8>,
+    standing: Standing,
+    title: &str,
+    count: u64,
+) -> Result<(), AllocError>
+    ensures { OnOk result (out.new.items ≡ out.old.items ++ section_front standing title.now count) }
+{
+    push_section_class(alloc, out, standing)?;
+    push_section_title(alloc, out, title, count)
+}
+
+/// Appends a warning, if it stands so.
+fn push_if(
+    alloc: Global,
+    out: &mut Vec<u8>,
+    moving: bool,
+    standing: Standing,
+    warning: &WarningFigures,
+) -> Result<(), AllocError>
+    ensures { OnOk result (out.new.items ≡ out.old.items ++ warning_if moving standing warning.now) }
+{
+    if warning_stands(moving, standing, warning) {
+        push_warning(alloc, out, moving, warning)
+    } else {
+        Ok(())
+    }
+}
+
+/// Appends the warnings that stand so.
+fn push_standing(
+    alloc: Global,
+    out: &mut Vec<u8>,
+    moving: bool,
+    warnings: &[WarningFigures],
+    standing: Standing,
+) -> Result<(), AllocError>
+    ensures { OnOk result (out.new.items ≡ out.old.items ++ flat_map (warning_if moving standing) warnings.now) }
+{
+    for warning in warnings {
+        push_if(alloc, out, moving, standing, warning)?;
+    }
+    Ok(())
+}
+
+/// Appends the warnings that stand so, where there are so many of them.
+#[tactic(auto, unfolding(crate::specs::WarningParts::some_warnings))]
+fn push_some(
+    alloc: Global,
+    out: &mut Vec<u8>,
+    moving: bool,
+    warnings: &[WarningFigures],
+    standing: Standing,
+    count: u64,
+) -> Result<(), AllocError>
+    ensures { OnOk result (out.new.items ≡ out.old.items ++ some_warnings moving warnings.now standing count) }
+{
+    push_section_front(alloc, out, standing, title(standing), count)?;
+    push_standing(alloc, out, moving, warnings, standing)?;
+    push_piece(out, Piece::SectionEnd)
+}
+
+#[tactic(auto, unfolding(crate::specs::WarningParts::warnings_section))]
+fn push_section(
+    alloc: Global,
+    out: &mut Vec<u8>,
+    moving: bool,
+    warnings: &[WarningFigures],
+    standing: Standing,
+) -> Result<(), AllocError>
+    ensures { OnOk result (out.new.items ≡ out.old.items ++ warnings_section moving warnings.now standing) }
+{
+    match count_warnings(moving, standing, warnings) {
+        0 => Ok(()),
+        count => push_some(alloc, out, moving, warnings, standing, count as u64),
+    }
+}
+
+/// Appends all warnings, the most urgent first.
+#[tactic(auto, unfolding(crate::specs::WarningParts::warnings_html))]
+pub(crate) fn push_warnings(
+    alloc: Global,
+    out: &mut Vec<u8>,
+    moving: bool,
+    warnings: &[WarningFigures],
+) -> Result<(), AllocError>
+    ensures { OnOk result (out.new.items ≡ out.old.items ++ warnings_html moving warnings.now) }
+{
+    push_piece(out, Piece::WarningsFront)?;
+    push_section(alloc, out, moving, warnings, Standing::Wrong)?;
+    push_section(alloc, out, moving, warnings, Standing::UnderWay)?;
+    push_section(alloc, out, moving, warnings, Standing::InOrder)?;
+    push_section(alloc, out, moving, warnings, Standing::Stopped)?;
+    push_piece(out, Piece::BlockEnd)
+}

@@ -1,0 +1,173 @@
+//! Consoles that are served while a script is played.
+
+ghost use Rattle.std.specs.Prelude.{◌≡◌};
+
+use crate::checks::yes;
+use crate::given_program::GivenProgram;
+use crate::scripts::{Step, plays};
+use office::desk::Desk;
+use office::fault::Fault;
+use office::office::Office;
+use server_consoles::{
+    Consoles, Program, accept_consoles, close_socket, open_socket, serve_console,
+};
+use server_operator::Operator;
+use std::alloc::Global;
+use std::fs::Files;
+use std::marker::Brand;
+use std::net::Net;
+use std::process::Abort;
+use std::sync::Wait;
+use std::sync::ledger::{Blank, Ledger};
+use std::thread::Threads;
+use std::time::Clock;
+use std::{fs, thread};
+
+const PLMN: [u8; 3] = [0x00, 0xf1, 0x10];
+
+/// Serves one of the consoles.
+fn serves<L: Ledger, R: Wait + Clock>(
+    rt: &R,
+    alloc: Global,
+    office: &Office<L>,
+    program: &GivenProgram,
+    consoles: &Consoles<L>,
+    slot: usize,
+) {
+    let operator = Operator {
+        alloc,
+        office,
+        server: program,
+        may_watch: true,
+    };
+    serve_console(rt, &operator, consoles, slot);
+}
+
+/// Takes their connections.
+fn accepts<L: Ledger, R: Wait + Clock>(
+    rt: &R,
+    alloc: Global,
+    office: &Office<L>,
+    program: &GivenProgram,
+    consoles: &Consoles<L>,
+) {
+    let operator = Operator {
+        alloc,
+        office,
+        server: program,
+        may_watch: true,
+    };
+    accept_consoles(rt, &operator, consoles);
+}
+
+/// Serves the consoles while the script is played.
+fn runs<'x, L: Ledger + Send + Sync, R: Wait + Threads + Clock + Net + Abort + Sync>(
+    rt: &'x R,
+    alloc: Global,
+    office: &'x Office<L>,
+    program: &'x GivenProgram,
+    consoles: &'x Consoles<L>,
+    path: &'x str,
+    steps: &'x [Step],
+) {
+    thread::scope(thread::scope_env(), rt, move |scope| {
+        for slot in 0..consoles.consoles.len() {
+            let is_started = scope
+                .spawn(move || serves(rt, alloc, office, program, consoles, slot))
+                .is_ok();
+            yes(
+                rt,
+                is_started && consoles.begin(rt).is_ok(),
+                "a console begins",
+            );
+        }
+        let is_started = scope
+            .spawn(move || accepts(rt, alloc, office, program, consoles))
+            .is_ok();
+        yes(rt, is_started, "connections are taken");
+        plays(rt, path, steps);
+        program.end(rt);
+        consoles.close(rt);
+        office.interrupt(rt);
+        consoles.finish(rt);
+    });
+}
+
+/// Takes the desks of the consoles.
+fn desks_of<L: Ledger, R: Wait + Abort>(
+    rt: &R,
+    alloc: Global,
+    consoles: &Consoles<L>,
+) -> Vec<Desk<L>> {
+    let mut desks = Vec::new(alloc);
+    for console in &consoles.consoles {
+        let desk = console.desk.lock(rt).take();
+        desks
+            .push(desk.expect(rt, "the desk is there again"))
+            .expect(rt, "memory");
+    }
+    desks
+}
+
+/// The number of entries, where the desks settle; else the fault.
+fn settled<L: Ledger>(office: Office<L>, desks: Vec<Desk<L>>) -> Result<u64, Fault> {
+    match office.settle(desks) {
+        Ok(centre) => Ok(centre.position()),
+        Err(unsettled) => Err(unsettled.fault),
+    }
+}
+
+/// So many consoles at that socket file, each with its desk.
+fn opened<L: Ledger, R: Wait + Files + Net + Abort>(
+    rt: &R,
+    alloc: Global,
+    office: &Office<L>,
+    path: &str,
+    count: u32,
+) -> Consoles<L> {
+    let _ = fs::remove_file(rt, path);
+    let listener = open_socket(rt, path).expect(rt, "the socket file is made");
+    let consoles = Consoles::new(alloc, listener, count).expect(rt, "memory");
+    for console in &consoles.consoles {
+        let desk = office.open_desk(rt).expect(rt, "a desk");
+        *console.desk.lock(rt) = Some(desk);
+    }
+    consoles
+}
+
+/// So many consoles are served while the script is played. The answer is how many entries there are once the desks are settled.
+fn served<L: Ledger + Send + Sync, R: Wait + Threads + Clock + Files + Net + Abort + Sync>(
+    rt: &R,
+    alloc: Global,
+    blank: Blank,
+    path: &str,
+    count: u32,
+    steps: &[Step],
+) -> u64
+    requires name { blank.name ≡ L.name }
+    requires parts { blank.parts ≡ L.parts }
+    requires desks { blank.parts ≡ 1025 }
+{
+    let office: Office<L> = Office::new(alloc, blank, PLMN, 1000);
+    let consoles = opened(rt, alloc, &office, path, count);
+    let program = GivenProgram::new();
+    runs(rt, alloc, &office, &program, &consoles, path, steps);
+    close_socket(rt, path);
+    let desks = desks_of(rt, alloc, &consoles);
+    drop(consoles);
+    settled(office, desks).expect(
+        rt,
+        "the receipts of the desks are the entries of the journal",
+    )
+}
+
+/// The same at an office of its own.
+pub(crate) fn entries_of<R: Wait + Threads + Clock + Files + Net + Abort + Sync>(
+    rt: &R,
+    alloc: Global,
+    path: &str,
+    count: u32,
+    steps: &[Step],
+) -> u64 {
+    served::<Brand, R>(rt, alloc, Blank::new(1025), path, count, steps)
+}

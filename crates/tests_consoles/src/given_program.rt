@@ -1,0 +1,62 @@
+//! A program without links.
+
+use cell_register::BscId;
+use centre_events::refusal::Refusal;
+use server_consoles::Program;
+use server_operator::Server;
+use std::sync::Wait;
+use std::sync::atomic::{AtomicBool, Ordering};
+use std::time::Clock;
+use warning_book::WarningId;
+
+/// A program without links, which keeps no file.
+#[derive(Drop)]
+pub(crate) struct GivenProgram {
+    is_ending: AtomicBool,
+}
+
+impl GivenProgram {
+    pub(crate) fn new() -> GivenProgram {
+        GivenProgram {
+            is_ending: AtomicBool::new(false),
+        }
+    }
+}
+
+impl Server for GivenProgram {
+    fn added<R: Wait + Clock>(&self, _rt: &R, _b: BscId) {}
+
+    fn answered<R: Wait + Clock>(&self, _rt: &R) {}
+
+    fn is_kept<R: Wait>(&self, _rt: &R) -> bool {
+        true
+    }
+
+    fn is_ending<R: Wait>(&self, _rt: &R) -> bool {
+        self.is_ending.load(Ordering::SeqCst)
+    }
+
+    fn checkpoint<R: Wait>(&self, _rt: &R) -> Result<u64, Refusal> {
+        Ok(0)
+    }
+
+    fn cut<R: Wait>(&self, _rt: &R, _b: BscId, _generation: u64) {}
+
+    fn links(&self) -> u16 {
+        0
+    }
+
+    fn is_down<R: Wait>(&self, _rt: &R, _b: BscId) -> bool {
+        false
+    }
+
+    fn stays_on_air<R: Wait + Clock>(&self, _rt: &R, _warning: WarningId, _b: BscId) {}
+}
+
+impl Program for GivenProgram {
+    fn end<R: Wait>(&self, _rt: &R) {
+        self.is_ending.store(true, Ordering::SeqCst);
+    }
+
+    fn tell<R: Wait + Clock>(&self, _rt: &R, _what: &str) {}
+}

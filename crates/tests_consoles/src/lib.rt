@@ -1,0 +1,19 @@
+//! Tests of consoles over a socket file: what no clause says of them.
+//!
+//! A script (`scripts`) is played by several connections while the consoles are served (`given_consoles`), and at the end the desks settle.
+#![tactic(auto)]
+
+#[cfg(test)]
+mod checks;
+#[cfg(test)]
+mod console_tests;
+#[cfg(test)]
+mod given_consoles;
+#[cfg(test)]
+mod given_program;
+#[cfg(test)]
+mod scripts;
+#[cfg(test)]
+mod socket_tests;
+#[cfg(test)]
+mod watch_tests;

@@ -1,0 +1,110 @@
+//! What connections to consoles do and read, step by step.
+
+use crate::checks::{same, yes};
+use std::io::{Read, Write};
+use std::net::Net;
+use std::os::unix::net::UnixStream;
+use std::process::Abort;
+use std::thread;
+use std::time::{Clock, Duration};
+
+/// How many connections there may be at once.
+const MOST: usize = 4;
+
+/// How long an answer may take, in seconds.
+const MOST_TIME: u64 = 20;
+
+/// The most octets of an answer.
+const MOST_OCTETS: usize = 200;
+
+/// What a connection does or reads.
+#[derive(Clone, Copy)]
+pub(crate) enum Step {
+    Connect(usize),
+    Sends(usize, &'static [u8]),
+    /// These octets come next.
+    Reads(usize, &'static [u8]),
+    /// The other end has closed it.
+    IsClosed(usize),
+    Closes(usize),
+    /// Half a second goes by.
+    Pause,
+}
+
+/// A connection, which is there.
+fn stream_of<'a, R: Abort>(
+    rt: &R,
+    streams: &'a [Option<UnixStream>; MOST],
+    number: usize,
+) -> &'a UnixStream {
+    streams
+        .get(number)
+        .expect(rt, "there are so many connections")
+        .as_ref()
+        .expect(rt, "it is connected")
+}
+
+/// Puts a connection there, or takes it away.
+fn puts<R: Abort>(
+    rt: &R,
+    streams: &mut [Option<UnixStream>; MOST],
+    number: usize,
+    stream: Option<UnixStream>,
+) {
+    let place = streams
+        .get_mut(number)
+        .expect(rt, "there are so many connections");
+    *place = stream;
+}
+
+fn connects<R: Net + Abort>(rt: &R, path: &str) -> UnixStream {
+    let stream = UnixStream::connect(rt, path).expect(rt, "it is connected");
+    stream
+        .set_read_timeout(Some(Duration::from_secs(MOST_TIME)))
+        .expect(rt, "a timeout");
+    stream
+}
+
+/// These octets come next.
+fn reads<R: Abort>(rt: &R, mut stream: &UnixStream, wanted: &[u8]) {
+    let mut octets = [0u8; MOST_OCTETS];
+    let place = octets.get_mut(..wanted.len()).expect(rt, "a short answer");
+    let is_read = stream.read_exact(place).is_ok();
+    yes(rt, is_read, "the answer comes");
+    yes(rt, octets.starts_with(wanted), "it is as wanted");
+}
+
+/// Nothing more comes.
+fn is_closed<R: Abort>(rt: &R, mut stream: &UnixStream) {
+    let mut octets = [0u8; 1];
+    let count = stream.read(&mut octets).expect(rt, "the end comes");
+    same(rt, count, 0, "nothing comes before it");
+}
+
+fn sends<R: Abort>(rt: &R, mut stream: &UnixStream, octets: &[u8]) {
+    stream.write_all(octets).expect(rt, "it is sent");
+}
+
+fn takes<R: Net + Clock + Abort>(
+    rt: &R,
+    path: &str,
+    streams: &mut [Option<UnixStream>; MOST],
+    step: Step,
+) {
+    match step {
+        Step::Connect(number) => puts(rt, streams, number, Some(connects(rt, path))),
+        Step::Sends(number, octets) => sends(rt, stream_of(rt, streams, number), octets),
+        Step::Reads(number, octets) => reads(rt, stream_of(rt, streams, number), octets),
+        Step::IsClosed(number) => is_closed(rt, stream_of(rt, streams, number)),
+        Step::Closes(number) => puts(rt, streams, number, None),
+        Step::Pause => thread::sleep(rt, Duration::from_millis(500)),
+    }
+}
+
+/// Connections to the socket file take these steps.
+pub(crate) fn plays<R: Net + Clock + Abort>(rt: &R, path: &str, steps: &[Step]) {
+    let mut streams = [None, None, None, None];
+    for step in steps {
+        takes(rt, path, &mut streams, *step);
+    }
+}

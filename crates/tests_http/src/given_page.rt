@@ -1,0 +1,61 @@
+//! A page that is served while a client asks.
+
+use crate::answer_tests::{Row, asks, asks_for_health};
+use crate::checks::yes;
+use crate::given_pictures::GivenPictures;
+use crate::visitor_tests::{ask_often, stay};
+use server_http::{HttpPort, serve_http};
+use std::alloc::Global;
+use std::net::{Net, SocketAddr, TcpListener, TcpStream};
+use std::process::Abort;
+use std::sync::Wait;
+use std::sync::atomic::Ordering;
+use std::thread;
+use std::thread::Threads;
+use std::time::Clock;
+
+/// What a client does.
+#[derive(Drop)]
+pub(crate) enum Client {
+    /// It asks so.
+    Asks(&'static [Row]),
+    /// It asks a stale centre for its health.
+    AsksForHealth,
+    /// It asks often.
+    AsksOften,
+    /// Many stay.
+    Stays,
+}
+
+/// The client does so.
+fn plays<R: Abort + Net<Stream = TcpStream, Listener = TcpListener>>(
+    rt: &R,
+    alloc: Global,
+    address: &SocketAddr,
+    client: Client,
+) {
+    match client {
+        Client::Asks(rows) => asks(rt, alloc, address, rows),
+        Client::AsksForHealth => asks_for_health(rt, alloc, address),
+        Client::AsksOften => ask_often(rt, alloc, address),
+        Client::Stays => stay(rt, alloc, address),
+    }
+}
+
+/// Serves the page of those pictures while the client asks. The answer is how many pictures were taken.
+pub(crate) fn served<
+    R: Wait + Threads + Clock + Sync + Abort + Net<Stream = TcpStream, Listener = TcpListener>,
+>(rt: &R, alloc: Global, is_stale: bool, client: Client) -> u64 {
+    let port = HttpPort::open(rt, "127.0.0.1:0").expect(rt, "a free port");
+    let pictures = GivenPictures::new(alloc, is_stale);
+    let (rt, port, pictures) = (rt, &port, &pictures);
+    thread::scope(thread::scope_env(), rt, move |scope| {
+        let is_started = scope
+            .spawn(move || serve_http(rt, alloc, port, pictures))
+            .is_ok();
+        yes(rt, is_started, "the page is served");
+        plays(rt, alloc, &port.address, client);
+        port.close();
+    });
+    pictures.count.load(Ordering::SeqCst)
+}

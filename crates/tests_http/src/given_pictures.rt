@@ -1,0 +1,79 @@
+//! Pictures of a centre that has nothing.
+
+use centre_past::lists::{CentreStatus, PlanCounts};
+use server_http::Pictures;
+use status_figures::{BscList, Picture, Tallies, WarningList};
+use std::alloc::{AllocError, Global};
+use std::sync::Wait;
+use std::sync::atomic::{AtomicU64, Ordering};
+use std::time::{Clock, SystemTime};
+
+/// How a centre stands that has nothing.
+const STATUS: CentreStatus = CentreStatus {
+    entries: 3,
+    folded: 1,
+    limit: 1000,
+    is_stale: false,
+    counts: Some(PlanCounts {
+        bscs: 0,
+        links_up: 0,
+        cells: 0,
+        areas: 0,
+        warnings: 0,
+        active: 0,
+    }),
+};
+
+/// Pictures of a centre that has nothing, and how many were taken.
+#[derive(Drop)]
+pub(crate) struct GivenPictures {
+    pub(crate) alloc: Global,
+    /// Whether the centre is stale.
+    pub(crate) is_stale: bool,
+    pub(crate) count: AtomicU64,
+}
+
+impl GivenPictures {
+    pub(crate) fn new(alloc: Global, is_stale: bool) -> GivenPictures {
+        GivenPictures {
+            alloc,
+            is_stale,
+            count: AtomicU64::new(0),
+        }
+    }
+}
+
+/// The second, after 1970-01-01T00:00:00Z.
+fn second_of<R: Clock>(rt: &R) -> u64 {
+    let Ok(now) = SystemTime::now(rt) else {
+        return 0;
+    };
+    match now.duration_since(SystemTime::UNIX_EPOCH) {
+        Ok(since) => since.as_secs(),
+        Err(_) => 0,
+    }
+}
+
+impl Pictures for GivenPictures {
+    fn take<R: Wait + Clock>(&self, rt: &R) -> Result<Picture, AllocError> {
+        self.count.fetch_add(1, Ordering::SeqCst);
+        let mut status = STATUS;
+        if self.is_stale {
+            status.is_stale = true;
+            status.counts = None;
+        }
+        Ok(Picture {
+            taken: second_of(rt),
+            status,
+            bscs: BscList::from_vec(Vec::new(self.alloc)),
+            warnings: WarningList::from_vec(Vec::new(self.alloc)),
+            kept: None,
+            receipts: 2,
+            refusals: Tallies::from_vec(Vec::new(self.alloc)),
+            entries: Tallies::from_vec(Vec::new(self.alloc)),
+            memory: None,
+        })
+    }
+
+    fn tell<R: Wait + Clock>(&self, _rt: &R, _what: &str) {}
+}

@@ -1,0 +1,17 @@
+//! Tests of the page, the tables and the metrics of a picture: what their contracts don't say.
+#![tactic(auto)]
+
+#[cfg(test)]
+mod checks;
+#[cfg(test)]
+mod escape_tests;
+#[cfg(test)]
+mod figure_tests;
+#[cfg(test)]
+mod page_tests;
+#[cfg(test)]
+mod pictures;
+#[cfg(test)]
+mod standing_tests;
+#[cfg(test)]
+mod values;

@@ -1,0 +1,129 @@
+//! Under which heading the page shows a warning, and what it says of the centre, by what the BSCs do.
+
+use crate::checks::{has, yes};
+use crate::pictures::picture_of_one;
+use crate::values::{TAKEN, bsc, numbers};
+use centre_past::lists::{FlightKind, FlightRow};
+use coverage_board::Numbers;
+use serials::Serial;
+use status_figures::BscFigures;
+use status_pages::page;
+use std::alloc::Global;
+use std::process::Abort;
+
+/// What a page of a stuck warning says.
+const STUCK: &[u8] =
+    b"</p><p class=\"none\">Cells are awaited or left, but no BSC is under way. If a BSC refused an order, type retry B. Else a cell or a link is down, or a BSC does not answer.</p>";
+
+/// What a page has to say of a warning, and whether that it is stuck.
+#[derive(Clone, Copy)]
+struct Wanted {
+    word: &'static [u8],
+    title: &'static [u8],
+    stuck: bool,
+}
+
+const IS_STUCK: Wanted = Wanted {
+    word: b"<header class=\"bad\"><h1>ATTENTION</h1><p>Somebody has to look at what stands first below.</p>",
+    title: b"<section class=\"bad\"><h2>Warnings to look at <b>1</b></h2>",
+    stuck: true,
+};
+
+const UNDER_WAY: Wanted = Wanted {
+    word: b"<header class=\"busy\"><h1>UNDER WAY</h1><p>Every link is up, and no warning failed in any cell. If this stays, look at what is awaited or left.</p>",
+    title: b"<section class=\"busy\"><h2>Warnings under way <b>1</b></h2>",
+    stuck: false,
+};
+
+const IN_ORDER: Wanted = Wanted {
+    word: b"<header class=\"good\"><h1>ALL IN ORDER</h1><p>Every link is up, no warning failed in any cell, and no order is to come.</p>",
+    title: b"<section class=\"good\"><h2>Warnings on air <b>1</b></h2>",
+    stuck: false,
+};
+
+const NO_BSCS: Wanted = Wanted {
+    word: b"<header class=\"busy\"><h1>NO BSCS</h1><p>No BSC is registered. The centre knows nothing of what is on air.</p>",
+    title: b"<section class=\"off\"><h2>Stopped warnings <b>1</b></h2>",
+    stuck: false,
+};
+
+const FAILED: Wanted = Wanted {
+    word: b"<header class=\"bad\"><h1>ATTENTION</h1>",
+    title: b"<section class=\"bad\"><h2>Warnings to look at <b>1</b></h2>",
+    stuck: false,
+};
+
+/// The page says that of the warning.
+fn says(
+    rt: &impl Abort,
+    alloc: Global,
+    serial: Option<u16>,
+    numbers: Numbers,
+    bscs: &[BscFigures],
+    want: Wanted,
+    at: &str,
+) {
+    let picture = picture_of_one(rt, alloc, serial, numbers, bscs);
+    let found = page(alloc, &picture).expect(rt, "memory");
+    yes(rt, has(found.as_slice(), want.word), at);
+    yes(rt, has(found.as_slice(), want.title), at);
+    yes(rt, has(found.as_slice(), STUCK) == want.stuck, at);
+}
+
+/// A BSC that is up, to which a KILL has been out for so long, if one is, and for which so many messages are pending.
+fn up(rt: &impl Abort, seconds: Option<u64>, pending: usize) -> BscFigures {
+    let flight = FlightRow {
+        kind: FlightKind::Kill,
+        message_id: 4370,
+        serial: Serial::from_u16(0x4031),
+    };
+    let since = seconds.map(|seconds| TAKEN.saturating_sub(seconds));
+    bsc(rt, 1, true, since.map(|_| flight), since, pending)
+}
+
+/// A BSC whose link is down, for which so many messages are pending.
+fn down(rt: &impl Abort, pending: usize) -> BscFigures {
+    bsc(rt, 12, false, None, None, pending)
+}
+
+/// A stopped warning that is left in one place.
+#[test]
+fn a_stop_that_was_refused_is_shown_first(rt: HostRuntime) {
+    let alloc = rt.alloc();
+    let left = numbers(0, 0, 0, 1);
+    let bscs = [up(&rt, None, 0)];
+    says(&rt, alloc, None, left, &bscs, IS_STUCK, "refused");
+    let bscs = [up(&rt, None, 0), down(&rt, 2)];
+    says(&rt, alloc, None, left, &bscs, IS_STUCK, "link down");
+    let bscs = [up(&rt, Some(30), 1)];
+    says(&rt, alloc, None, left, &bscs, IS_STUCK, "no reply");
+    let bscs = [up(&rt, Some(29), 1)];
+    says(&rt, alloc, None, left, &bscs, UNDER_WAY, "out");
+    let bscs = [up(&rt, None, 1)];
+    says(&rt, alloc, None, left, &bscs, UNDER_WAY, "pending");
+}
+
+/// A warning that is active.
+#[test]
+fn an_active_warning_stands_by_its_numbers(rt: HostRuntime) {
+    let alloc = rt.alloc();
+    let serial = Some(0x4031);
+    let idle = [up(&rt, None, 0)];
+    let busy = [up(&rt, None, 1)];
+    let cut = [down(&rt, 1)];
+    let on_air = numbers(0, 7, 0, 0);
+    says(&rt, alloc, serial, on_air, &idle, IN_ORDER, "on air");
+    let awaited = numbers(1, 6, 0, 0);
+    says(&rt, alloc, serial, awaited, &busy, UNDER_WAY, "awaited");
+    says(&rt, alloc, serial, awaited, &cut, IS_STUCK, "link down");
+    let old = numbers(0, 6, 1, 1);
+    says(&rt, alloc, serial, old, &busy, FAILED, "failed");
+    says(&rt, alloc, serial, old, &idle, IS_STUCK, "failed, left");
+}
+
+#[test]
+fn a_centre_without_bscs_is_not_in_order(rt: HostRuntime) {
+    let alloc = rt.alloc();
+    let none = numbers(0, 0, 0, 0);
+    says(&rt, alloc, None, none, &[], NO_BSCS, "a stopped warning");
+}

@@ -1,0 +1,57 @@
+//! What no clause says of a server's consoles: that it goes on with them, and what ends it.
+
+use crate::given_plays::{Act, Play, USUAL, played};
+use crate::given_texts::Wanted;
+
+/// Standard input ends at once. Consoles are answered all the same, one after another, until one has the program end.
+#[test]
+fn consoles_outlive_standard_input(rt: HostRuntime) {
+    played(&rt, rt.alloc(), &OUTLIVES);
+}
+
+const OUTLIVES: Play = Play {
+    words: &["--console", "consoles-of-a-server", "--consoles", "2"],
+    acts: &[
+        Act::Listens(1),
+        Act::Says("cbc: consoles: consoles-of-a-server\n"),
+        Act::Ends,
+        Act::Asks("consoles-of-a-server", "bsc add 1\nquit\n", "ok 1\nbye\n"),
+        Act::Asks("consoles-of-a-server", "bsc add 1\n", "no 4 BscExists\n"),
+        Act::Asks("consoles-of-a-server", "area add Coast\n", "ok 2\n"),
+        Act::Asks("consoles-of-a-server", "shutdown\n", "bye\n"),
+    ],
+    answers: Wanted::Is("settled 2\n"),
+    said: Wanted::Is(""),
+    ..USUAL
+};
+
+/// `quit` at standard input ends the program, and `watch` is no line there.
+#[test]
+fn standard_input_ends_consoles(rt: HostRuntime) {
+    played(&rt, rt.alloc(), &QUITS);
+}
+
+const QUITS: Play = Play {
+    words: &["--console", "consoles-of-another"],
+    acts: &[
+        Act::Types("watch\n", "bad line\n"),
+        Act::Asks("consoles-of-another", "bsc add 1\n", "ok 1\n"),
+        Act::Lines("quit\n", 0),
+    ],
+    answers: Wanted::Is("settled 1\n"),
+    ..USUAL
+};
+
+/// A socket file that can't be made.
+#[test]
+fn no_folder_is_refused(rt: HostRuntime) {
+    played(&rt, rt.alloc(), &NO_FOLDER);
+}
+
+const NO_FOLDER: Play = Play {
+    words: &["--console", "no-folder/console"],
+    status: 1,
+    answers: Wanted::Is(""),
+    said: Wanted::HasNot("cbc: listen fault\n", "consoles: no-folder"),
+    ..USUAL
+};
