@@ -1,11 +1,13 @@
 -- Where an edit leaves the areas that cover a cell, those that were read of its lines are those that cover it.
-use Rattle.std.proofs.Common.{◌≡◌, ℕ, Bool, true, false, List, [], ◌∷◌, Option, Some, None, filter, map, refl, sym, ◌∙◌, ap, subst, zero, suc, ◌<◌, length, get_or, nat_eq, arith}
+use Rattle.std.proofs.Common.{◌≡◌, ℕ, Bool, true, false, not, List, [], ◌∷◌, Option, Some, None, filter, map, refl, sym, ◌∙◌, ap, subst, zero, suc, ◌<◌, length, get_or, nat_eq, arith}
 use Rattle.std.specs.Prelude.{find, if◌then◌else◌}
+use Rattle.std.proofs.lemmas.Bool.Decides.{nat_tests}
 use Rattle.std.specs.Option.{option_map}
 use Rattle.areas.specs.Areas as kept
 use Rattle.areas.specs.declared.area.Area.{Area}
 use Rattle.cell_register.specs.Register as register
 use Rattle.common.specs.declared.cell.Cell.{Cell}
+use Rattle.coverage_board.specs.Parts.{has_areas}
 use Rattle.kept_tables.specs.Tables.{Tables}
 use Rattle.kept_tables.specs.declared.spot.Spot.{Spot}
 use Rattle.mirror.specs.Table.{down_at}
@@ -30,6 +32,11 @@ use Rattle.centre_lines.specs.Following.{AreCovered, Bears, Happens, change_of, 
 use Rattle.centre_past.specs.State.{AreCovering, covered_facts, facts_from}
 use Rattle.centre_lines.specs.declared.held.Held.{Held}
 use Rattle.centre_past.proofs.FactsLemmas.{covers_same, filter_pointwise, wanted_there}
+
+-- there are areas just where their number isn't 0
+pub some_areas : (areas : List (List ℕ)) → has_areas areas ≡ not (nat_eq (length areas) 0)
+some_areas [] = refl
+some_areas (a ∷ rest) = let some : nat_eq (length (a ∷ rest)) 0 ≡ false = grind (arith, nat_tests) in ap not (sym some)
 
 -- what is read of a line by the areas that cover its cell
 

@@ -7,7 +7,6 @@ pub mod OutsideWarningLemmas
 pub mod OutsideLemmas
 pub mod NamingLemmas
 pub mod CoverageLemmas
-pub mod MarksLemmas
 pub mod FlightLemmas
 pub mod FollowLemmas
 pub mod WasLemmas

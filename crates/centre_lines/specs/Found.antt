@@ -1,8 +1,11 @@
 -- What is read once of a warning, for all its lines on which an event bears.
-use Rattle.std.specs.Prelude.{◌≡◌, ℕ, ◌⊎◌, List, [], ◌∷◌, Option, Some, None, IfSome, true, map, nat_eq}
-use Rattle.areas.specs.Areas.{areas_of, selectors_of}
+use Rattle.std.specs.Prelude.{◌≡◌, ℕ, List, [], ◌∷◌, Option, Some, None, IfSome, true, map, nat_eq}
+use Rattle.areas.specs.Areas.{areas_of, selects, selectors_of}
 use Rattle.areas.specs.declared.area.Area.{Area}
 use Rattle.areas.specs.declared.selector.Selector.{Selector}
+use Rattle.common.specs.declared.cell.Cell.{Cell}
+use Rattle.coverage_board.specs.AreaSets.{mask}
+use Rattle.coverage_board.specs.declared.area_bits.AreaBits.{AreaBits}
 use Rattle.warning_book.specs.Book as book
 use Rattle.warning_book.specs.Book.{warning_of}
 use Rattle.warning_book.specs.declared.warning.Warning.{Warning}
@@ -15,10 +18,6 @@ pub record Found : Type 0 where
   pub serials : List ℕ
   pub names : List (List ℕ)
   pub selectors : List (List Selector)
-
--- the areas were not looked for, or these are the selectors of each
-abbrev pub AreSelected : List Area → List (List ℕ) → List (List Selector) → Type 0
-AreSelected l names xs = (xs ≡ []) ⊎ (xs ≡ map (selectors_of l) names)
 
 -- what was found is what the warning has, if there is one
 abbrev pub IsOf : List Area → Option Warning → Found → Type 0
@@ -35,10 +34,9 @@ abbrev pub IsFound : List Area → Warning → ℕ → List Found → Type 0
 IsFound l w n [] = Unit {0}
 IsFound l w n (x ∷ xs) = (nat_eq n x.warning ≡ true → IsOf l (Some w) x) × IsFound l w n xs
 
--- so of a warning, if there is one
-abbrev pub IsFoundOf : List Area → Option Warning → ℕ → List Found → Type 0
-IsFoundOf l None n xs = Unit {0}
-IsFoundOf l (Some w) n xs = IsFound l w n xs
+-- if there are digits, they are those of each cell of the location area, by what selects it
+abbrev pub AreOfLac : List (List Selector) → ℕ → Option AreaBits → Type 0
+AreOfLac xs lac found = IfSome found (λ n. (c : Cell) → c.lac ≡ lac → n.bits ≡ mask (λ s. selects s c) xs)
 
 -- if the areas that cover the cell are known, they are all of those
 abbrev pub IsKnown : List Area → KnownSpot → Type 0

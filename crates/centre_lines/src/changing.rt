@@ -147,7 +147,7 @@ fn hold_changing_line(
     if stays(h, plan.areas, at, warning, &line, &then, stepped, down) {
         return Ok(());
     }
-    let before = facts_from(plan, found, at, n, down, line, warning)?;
+    let before = facts_from(plan, found, spot, n, down, line, warning)?;
     out.push(step_of(h, kind, spot, n, before, then))?;
     Ok(())
 }

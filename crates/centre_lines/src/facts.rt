@@ -1,48 +1,29 @@
 //! What is read of one line, from what a centre keeps.
 
-ghost use Rattle.std.specs.Prelude.{◌≡◌, ◌<◌, ◌&&◌, true, List, length, Some, None, filter, map, IfOk, if◌then◌else◌};
-ghost use Rattle.std.specs.List.{list_any, slice_index_or};
+ghost use Rattle.std.specs.Prelude.{◌≡◌, ◌&&◌, Some, None, IfOk, if◌then◌else◌};
+ghost use Rattle.std.specs.List.{list_any};
 ghost use Rattle.std.specs.Option.{option_copied};
-ghost use Rattle.areas.specs.Areas.{covers, selectors_of};
-ghost use Rattle.areas.specs.declared.selector.Selector.{Selector};
-ghost use Rattle.cell_register.specs.Register.{place_in, is_place};
+ghost use Rattle.areas.specs.Areas.{covers};
 ghost use Rattle.coverage_board.specs.Parts.{has_area};
-ghost use Rattle.warning_book.specs.Book.{current_of};
-ghost use Rattle.centre_lines.specs.Found.{IsFound, IsFoundOf, IsKnown};
+ghost use Rattle.warning_book.specs.Book.{current_of, warning_of};
+ghost use Rattle.centre_lines.specs.Found.{AreFound, IsKnown};
 ghost use Rattle.centre_past.specs.State.{covered_facts, facts_from};
 ghost use Rattle.centre_events.specs.Warnings.{kind_in, serials};
 
 use crate::found_warnings::FoundWarnings;
 use crate::known_spot::KnownSpot;
 use crate::plan_parts::PlanParts;
-use areas::{Areas, Coverage};
+use areas::Areas;
 use cell_register::Register;
-use common::{Cell, Name};
-use kept_tables::{AreaNames, LineFacts, Serials, Spot};
+use common::Name;
+use kept_tables::{CoveringAreas, LineFacts, Serials, Spot};
 use mirror::Line;
 use serials::Serial;
 use std::alloc::AllocError;
 use warning_book::{Kind, Warning, WarningId};
 
-/// Whether the area covers the cell, by what was found of it, if anything was.
-pub(crate) fn covers_at(
-    areas: &Areas,
-    name: &Name,
-    coverages: &[Coverage<'_>],
-    i: usize,
-    c: Cell,
-) -> bool
-    requires { i < length coverages.now → (x : List Selector) → x ≡ slice_index_or coverages.now i x → x ≡ selectors_of areas.now name.now }
-    ensures { result ≡ covers areas.now name.now c }
-{
-    if i < coverages.len() {
-        return coverages[i].covers(c);
-    }
-    areas.covers(name, c)
-}
-
 /// Whether the name is among all these.
-pub(crate) fn is_among(all: &[Name], name: &Name) -> bool
+fn is_among(all: &[Name], name: &Name) -> bool
     ensures { result ≡ has_area all.now name.now }
 {
     all.iter().any(|other| *other == *name)
@@ -98,7 +79,7 @@ pub(crate) fn covered_facts(
     down: bool,
     line: Line,
     w: &Warning,
-    covering: AreaNames,
+    covering: CoveringAreas,
     versions: Serials,
 ) -> Result<LineFacts, AllocError>
     requires { versions ≡ serials w.now }
@@ -106,7 +87,7 @@ pub(crate) fn covered_facts(
     ensures same { found.new ≡ found.old }
 {
     let here = found.is_here(register, spot);
-    let wanted = wanted(w, here, !covering.as_slice().is_empty());
+    let wanted = wanted(w, here, covering.is_some());
     Ok(LineFacts {
         line,
         message_id: w.message_id(),
@@ -123,21 +104,22 @@ pub(crate) fn covered_facts(
 fn facts_of(
     plan: &PlanParts<'_>,
     found: &mut FoundWarnings<'_>,
-    at: &KnownSpot<'_>,
+    spot: &Spot,
     n: WarningId,
     down: bool,
     line: Line,
     w: &Warning,
 ) -> Result<LineFacts, AllocError>
-    requires found { IsFound plan.now.areas.now w.now n found.old }
-    requires known { IsKnown plan.now.areas.now at.now }
-    ensures facts { IfOk result (λ f. f ≡ facts_from plan.now.register.now plan.now.areas.now down at.now.spot.bsc at.now.spot.cell line (Some w.now)) }
+    requires there { Some w.now ≡ warning_of plan.now.book.now n }
+    requires found { AreFound plan.now.areas.now plan.now.book.now found.old }
+    ensures facts { IfOk result (λ f. f ≡ facts_from plan.now.register.now plan.now.areas.now down spot.now.bsc spot.now.cell line (Some w.now)) }
     ensures same { found.new ≡ found.old }
 {
+    plan.book.tell_soundness();
     let register = plan.register;
-    let covering = found.covering(plan.areas, n, w, at)?;
+    let covering = found.covering(plan.areas, n, w, spot.cell)?;
     let versions = found.serials_of(n, w)?;
-    let facts = covered_facts(register, found, &at.spot, down, line, w, covering, versions)?;
+    let facts = covered_facts(register, found, spot, down, line, w, covering, versions)?;
     Ok(facts)
 }
 
@@ -145,19 +127,19 @@ fn facts_of(
 pub(crate) fn facts_from(
     plan: &PlanParts<'_>,
     found: &mut FoundWarnings<'_>,
-    at: &KnownSpot<'_>,
+    spot: &Spot,
     n: WarningId,
     down: bool,
     line: Line,
     warning: Option<&Warning>,
 ) -> Result<LineFacts, AllocError>
-    requires found { IsFoundOf plan.now.areas.now (option_copied warning) n found.old }
-    requires known { IsKnown plan.now.areas.now at.now }
-    ensures facts { IfOk result (λ f. f ≡ facts_from plan.now.register.now plan.now.areas.now down at.now.spot.bsc at.now.spot.cell line (option_copied warning.entry)) }
+    requires there { option_copied warning ≡ warning_of plan.now.book.now n }
+    requires found { AreFound plan.now.areas.now plan.now.book.now found.old }
+    ensures facts { IfOk result (λ f. f ≡ facts_from plan.now.register.now plan.now.areas.now down spot.now.bsc spot.now.cell line (option_copied warning.entry)) }
     ensures same { found.new ≡ found.old }
 {
     match warning {
-        Some(w) => facts_of(plan, found, at, n, down, line, w),
-        None => Ok(LineFacts::none(down, found.is_here(plan.register, &at.spot))),
+        Some(w) => facts_of(plan, found, spot, n, down, line, w),
+        None => Ok(LineFacts::none(down, found.is_here(plan.register, spot))),
     }
 }

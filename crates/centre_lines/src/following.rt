@@ -20,7 +20,6 @@ use crate::facts::{covered_facts, facts_from, kind_in};
 use crate::found_warnings::{FoundWarnings, find};
 use crate::held::Held;
 use crate::held_lines::HeldLines;
-use crate::known_spot::KnownSpot;
 use crate::plan_parts::PlanParts;
 use centre_events::event::Event;
 use centre_events::stepping::{Happening, step_line};
@@ -82,16 +81,13 @@ fn facts_then(
     ensures same { found.new ≡ found.old }
 {
     let LineKey { bsc, cell, warning } = held.key;
-    let at = KnownSpot {
-        spot: Spot { bsc, cell },
-        covering: None,
-    };
+    let spot = Spot { bsc, cell };
     let n = warning;
     let warning = plan.book.find(n);
     let mut line = held.before.line;
-    line_now(h, plan.book.as_slice(), &at.spot, warning, &mut line);
+    line_now(h, plan.book.as_slice(), &spot, warning, &mut line);
     let down = tables.is_down(kind_in(warning), bsc, cell);
-    facts_from(plan, found, &at, n, down, line, warning)
+    facts_from(plan, found, &spot, n, down, line, warning)
 }
 
 /// What is read of a line after an edit that leaves the areas that cover its cell.

@@ -1,15 +1,16 @@
 //! What is read once of the warnings on whose lines an event bears.
 
-ghost use Rattle.std.specs.Prelude.{◌≡◌, ◌<◌, nat_eq, true, length, IfOk, IfSome};
+ghost use Rattle.std.specs.Prelude.{◌≡◌, ◌<◌, Some, nat_eq, true, length, IfOk, IfSome, OnOk};
 ghost use Rattle.std.specs.List.{slice_index_or};
+ghost use Rattle.warning_book.specs.Book.{warning_of};
 ghost use Rattle.centre_lines.specs.Found.{AreFound, Found};
 
-use crate::found_warning::{FoundWarning, own_covering_by, own_serials_of};
-use crate::known_spot::KnownSpot;
+use crate::found_warning::{FoundWarning, own_serials_of};
 use crate::plan_parts::PlanParts;
 use areas::Areas;
 use cell_register::Register;
-use kept_tables::{AreaNames, Serials, Spot};
+use common::Cell;
+use kept_tables::{CoveringAreas, Serials, Spot};
 use std::alloc::{AllocError, Global};
 use std::marker::Model;
 use warning_book::{Warning, WarningId};
@@ -63,8 +64,25 @@ impl<'a> Model for FoundWarnings<'a> {
     ghost view = { λ t. t.found.items };
 }
 
-/// What is read once of the warnings, where they are no more than the cells on which the event bears.
+/// Puts what is read once of the warning of that number last, if the book has it.
 #[tactic(auto, using(crate::proofs::CoverageLemmas::found_more))]
+fn find_one<'a>(
+    found: &mut Vec<FoundWarning<'a>>,
+    alloc: Global,
+    plan: &PlanParts<'a>,
+    number: WarningId,
+) -> Result<(), AllocError>
+    requires { AreFound plan.now.areas.now plan.now.book.now found.old.items }
+    ensures { OnOk result (AreFound plan.now.areas.now plan.now.book.now found.new.items) }
+{
+    plan.book.tell_soundness();
+    if let Some(warning) = plan.book.find(number) {
+        found.push(FoundWarning::of(alloc, plan.areas, number, warning)?)?;
+    }
+    Ok(())
+}
+
+/// What is read once of the warnings, where they are no more than the cells on which the event bears.
 pub(crate) fn find<'a>(
     alloc: Global,
     plan: &PlanParts<'a>,
@@ -76,8 +94,7 @@ pub(crate) fn find<'a>(
     let mut found = Vec::new(alloc);
     if warnings.len() <= cells {
         for warning in warnings {
-            let it = plan.book.find(*warning);
-            found.push(FoundWarning::of(alloc, plan.areas, *warning, it)?)?;
+            find_one(&mut found, alloc, plan, *warning)?;
         }
     }
     Ok(FoundWarnings {
@@ -89,12 +106,13 @@ pub(crate) fn find<'a>(
 }
 
 impl FoundWarnings<'_> {
-    ghost use Rattle.std.specs.Prelude.{◌≡◌, List, filter, IfOk};
+    ghost use Rattle.std.specs.Prelude.{◌≡◌, List, true, filter, IfOk};
     ghost use Rattle.areas.specs.Areas.{covers};
     ghost use Rattle.areas.specs.declared.area.Area.{Area};
     ghost use Rattle.cell_register.specs.Register.{place_in, is_place};
     ghost use Rattle.centre_events.specs.Warnings.{serials};
-    ghost use Rattle.centre_lines.specs.Found.{IsFound, IsKnown};
+    ghost use Rattle.warning_book.specs.Sound.{has_areas};
+    ghost use Rattle.centre_lines.specs.Found.{IsFound};
 
     /// The serial numbers of the versions of the warning, which has that number.
     pub(crate) fn serials_of(&mut self, n: WarningId, w: &Warning) -> Result<Serials, AllocError>
@@ -115,19 +133,19 @@ impl FoundWarnings<'_> {
         areas: &Areas,
         n: WarningId,
         w: &Warning,
-        at: &KnownSpot<'_>,
-    ) -> Result<AreaNames, AllocError>
+        c: Cell,
+    ) -> Result<CoveringAreas, AllocError>
         requires found { IsFound areas.now w.now n self.old }
-        requires known { IsKnown areas.now at.now }
-        ensures covering { IfOk result (λ names. names ≡ filter (λ a. covers areas.now a at.now.spot.cell) w.now.areas) }
+        requires areas { has_areas w.now ≡ true }
+        ensures covering { IfOk result (λ names. names ≡ filter (λ a. covers areas.now a c) w.now.areas) }
         ensures same { self.new ≡ self.old }
     {
         let Some(place) = place_of(&self.found, self.last, n) else {
-            return own_covering_by(self.alloc, areas, w.areas(), at);
+            let mut found = FoundWarning::of(self.alloc, areas, n, w)?;
+            return found.covering(c);
         };
-        let cell = at.spot.cell;
         self.last = place;
-        self.found[place].covering(areas, cell)
+        self.found[place].covering(c)
     }
 
     /// Whether the cell is registered at the BSC.

@@ -120,7 +120,7 @@ fn hold_line(
         return Ok(());
     }
     let down = tables.is_down(kind_in(warning), at.spot.bsc, at.spot.cell);
-    let before = facts_from(plan, found, at, n, down, line, warning)?;
+    let before = facts_from(plan, found, &at.spot, n, down, line, warning)?;
     out.push(held_of(&at.spot, n, before))?;
     Ok(())
 }

@@ -18,7 +18,6 @@ pub mod held_lines;
 mod hold_lemmas;
 mod holding;
 mod known_spot;
-mod marked_names;
 mod outside_lemmas;
 pub mod plan_parts;
 mod reach;

@@ -1,24 +1,23 @@
 -- How the numbers of one area change, and those of no other.
-use Rattle.std.proofs.Common.{◌≡◌, ℕ, zero, suc, ◌+◌, ◌<◌, Bool, true, false, ◌||◌, ◌&&◌, not, cond, List, [], ◌∷◌, Some, None, slice_get, bytes_eq, if◌then◌else◌, refl, sym, ap, ◌∙◌, unwrap_or, length, take, get_or, arith}
-use Rattle.std.proofs.lemmas.Bool.{or_right}
-use Rattle.std.proofs.lemmas.List.{take_more}
-use Rattle.std.proofs.lemmas.List.Folds.{list_any-append}
+use Rattle.std.proofs.Common.{eq-eqb, ◌≡◌, ℕ, ◌+◌, ◌/◌, ◌%◌, ◌<◌, Bool, true, false, ◌==◌, ◌||◌, ◌&&◌, not, cond, List, [], ◌∷◌, Some, None, slice_get, bytes_eq, if◌then◌else◌, refl, sym, ap, ◌∙◌, unwrap_or, length, drop, get_or}
+use Rattle.std.proofs.lemmas.Bool.{and_parts, not-true, or_parts, or_right}
+use Rattle.std.proofs.lemmas.List.{drop_more}
 use Rattle.std.specs.Bool.{Decides}
 use Rattle.std.specs.Cmp.{unsigned_Decides}
 use Rattle.std.specs.Cmp.Lexicographic.{pointwise_decides}
+use Rattle.std.specs.List.{list_any}
 use Rattle.std.specs.Map.{lookup, lookup_key}
+use Rattle.common.specs.Order.{each_once}
+use Rattle.coverage_board.specs.AreaSets.{names_at}
 use Rattle.coverage_board.specs.Board.{area_in}
-use Rattle.coverage_board.specs.Numbers.{zero_numbers}
-use Rattle.coverage_board.specs.Parts.{has_area}
+use Rattle.coverage_board.specs.Numbers.{moved, zero_numbers}
+use Rattle.coverage_board.specs.Parts.{has_area, part_where}
 use Rattle.coverage_board.specs.declared.numbers.Numbers.{Numbers}
+use Rattle.coverage_board.proofs.NumbersLemmas.{moved_none}
 
 -- the test of two names is true where they are one name, and nowhere else
 pub names_decide : (a b : List ℕ) → Decides (bytes_eq a b) (a ≡ b)
 names_decide = pointwise_decides unsigned_Decides
-
-or_none : (t : Bool) → (t || false) ≡ t
-or_none true = refl
-or_none false = refl
 
 -- the numbers of an area that is there
 pub area_found : (k : List ℕ) (old : List (List ℕ × Numbers)) (n : Numbers) → lookup (bytes_eq k) old ≡ Some n → area_in old k ≡ n
@@ -36,56 +35,6 @@ area_changed f k w old new is h a = step (bytes_eq k a) refl (h a)
     step true e g = ap (λ o. unwrap_or o zero_numbers) g ∙ is ∙ ap (λ b. f (area_in old b)) ((names_decide k a).0 e)
     step false e g = ap (λ o. unwrap_or o zero_numbers) g
 
--- the same where an area that is among the earlier ones keeps its numbers, and this one isn't
-pub area_first : (f : Numbers → Numbers) (k : List ℕ) (earlier : List (List ℕ)) (w : Numbers) (old new : List (List ℕ × Numbers)) → has_area earlier k ≡ false → w ≡ f (area_in old k) → ((q : List ℕ) → lookup (bytes_eq q) new ≡ cond (bytes_eq k q) (Some w) (lookup (bytes_eq q) old)) → (a : List ℕ) → area_in new a ≡ (if bytes_eq k a && not (has_area earlier a) then f (area_in old a) else area_in old a)
-area_first f k earlier w old new absent is h a =
-    area_changed f k w old new is h a ∙ ap (λ t. if t then f (area_in old a) else area_in old a) (sym (step (bytes_eq k a) refl))
-  where
-    step : (t : Bool) → bytes_eq k a ≡ t → (t && not (has_area earlier a)) ≡ t
-    step true e = ap (λ b. not (has_area earlier b)) (sym ((names_decide k a).0 e)) ∙ ap not absent
-    step false e = refl
-
--- an area is among one more where it is among those before, or is the last
-pub has_next : (xs : List (List ℕ)) (i : ℕ) (x : List ℕ) → x ≡ get_or xs i x → i < length xs → (a : List ℕ) → has_area (take (i + 1) xs) a ≡ (has_area (take i xs) a || bytes_eq x a)
-has_next xs i x is h a =
-    ap (λ ys. has_area ys a) (take_more xs i x h)
-    ∙ list_any-append (λ b. bytes_eq b a) (take i xs) (get_or xs i x ∷ [])
-    ∙ ap (λ t. has_area (take i xs) a || t) (or_none (bytes_eq (get_or xs i x) a))
-    ∙ ap (λ b. has_area (take i xs) a || bytes_eq b a) (sym is)
-
--- where each area of the first has what g makes of its numbers, and one more has it too unless it is among them, so has
--- each area of one more
-pub part_next : (g : List ℕ → Numbers → Bool → Numbers) → ((b : List ℕ) (n : Numbers) → g b n false ≡ n) → (f : Numbers → Numbers) (xs : List (List ℕ)) (i : ℕ) (x : List ℕ) (old mid new : List (List ℕ × Numbers)) → ((n : Numbers) → f n ≡ g x n true) → x ≡ get_or xs i x → i < length xs → ((b : List ℕ) → area_in mid b ≡ g b (area_in old b) (has_area (take i xs) b)) → ((b : List ℕ) → area_in new b ≡ (if bytes_eq x b && not (has_area (take i xs) b) then f (area_in mid b) else area_in mid b)) → (a : List ℕ) → area_in new a ≡ g a (area_in old a) (has_area (take (i + 1) xs) a)
-part_next g none f xs i x old mid new same is h before change a =
-    step (bytes_eq x a) refl (has_area (take i xs) a) (change a) (before a) ∙ ap (g a (area_in old a)) (sym (has_next xs i x is h a))
-  where
-    step : (t : Bool) → bytes_eq x a ≡ t → (u : Bool) → area_in new a ≡ (if t && not u then f (area_in mid a) else area_in mid a) → area_in mid a ≡ g a (area_in old a) u → area_in new a ≡ g a (area_in old a) (u || t)
-    step true e true c k = c ∙ k
-    step true e false c k =
-        c ∙ ap f (k ∙ none a (area_in old a)) ∙ same (area_in old a) ∙ ap (λ b. g b (area_in old a) true) ((names_decide x a).0 e)
-    step false e u c k = c ∙ k ∙ ap (g a (area_in old a)) (sym (or_none u))
-
--- where g leaves the numbers of one more as they are, nothing changes
-pub part_kept : (g : List ℕ → Numbers → Bool → Numbers) → ((b : List ℕ) (n : Numbers) → g b n false ≡ n) → (xs : List (List ℕ)) (i : ℕ) (x : List ℕ) (old mid : List (List ℕ × Numbers)) → ((n : Numbers) → g x n true ≡ n) → x ≡ get_or xs i x → i < length xs → ((b : List ℕ) → area_in mid b ≡ g b (area_in old b) (has_area (take i xs) b)) → (a : List ℕ) → area_in mid a ≡ g a (area_in old a) (has_area (take (i + 1) xs) a)
-part_kept g none xs i x old mid same is h before a =
-    before a ∙ step (bytes_eq x a) refl (has_area (take i xs) a) ∙ ap (g a (area_in old a)) (sym (has_next xs i x is h a))
-  where
-    step : (t : Bool) → bytes_eq x a ≡ t → (u : Bool) → g a (area_in old a) u ≡ g a (area_in old a) (u || t)
-    step true e true = refl
-    step true e false = none a (area_in old a) ∙ sym (same (area_in old a)) ∙ ap (λ b. g b (area_in old a) true) ((names_decide x a).0 e)
-    step false e u = ap (g a (area_in old a)) (sym (or_none u))
-
--- an area that isn't among the first has the numbers that it had
-pub part_first : (g : List ℕ → Numbers → Bool → Numbers) → ((b : List ℕ) (n : Numbers) → g b n false ≡ n) → (xs : List (List ℕ)) (i : ℕ) (x : List ℕ) (old mid : List (List ℕ × Numbers)) → has_area (take i xs) x ≡ false → ((b : List ℕ) → area_in mid b ≡ g b (area_in old b) (has_area (take i xs) b)) → area_in mid x ≡ area_in old x
-part_first g none xs i x old mid absent before =
-    before x ∙ ap (g x (area_in old x)) absent ∙ none x (area_in old x)
-
--- the name at an index is among the names
-pub has_at : (xs : List (List ℕ)) (i : ℕ) (x : List ℕ) → x ≡ get_or xs i x → i < length xs → has_area xs x ≡ true
-has_at [] i x is h = absurd (omega arith)
-has_at (y ∷ xs) zero x is h = rw ((names_decide y x).1 (sym is)) refl
-has_at (y ∷ xs) (suc i) x is h = or_right (bytes_eq y x) (has_area xs x) (has_at xs i x is (omega arith))
-
 -- a key that is found is the one that was sought
 pub key_found : {K X : Type 0} (same : K → K → Bool) → ((a b : K) → Decides (same a b) (a ≡ b)) → (k : K) (entries : List (K × X)) (x : K) → lookup_key (same k) entries ≡ Some x → x ≡ k
 key_found same d k [] x h = cc
@@ -100,3 +49,106 @@ pub entry_is : (k : List ℕ) (entries : List (List ℕ × Numbers)) (i : ℕ) (
 entry_is k entries i x n h g =
     let both : ◌≡◌ {A = List ℕ × Numbers} (x, n) (k, area_in entries k) = cc in
     (λ j. (both j).0, λ j. (both j).1)
+
+-- the names from one place on
+pub has_next : (bits : ℕ) (names : List (List ℕ)) (i : ℕ) (d a : List ℕ) → i < length names → has_area (names_at bits (drop i names)) a ≡ (((bits % 2 == 1) && bytes_eq (get_or names i d) a) || has_area (names_at (bits / 2) (drop (i + 1) names)) a)
+has_next bits names i d a h = ap (λ s. has_area (names_at bits s) a) (drop_more names i d h) ∙ step (bits % 2 == 1)
+  where
+    rest : List (List ℕ)
+    rest = names_at (bits / 2) (drop (i + 1) names)
+
+    step : (t : Bool) → has_area (if t then get_or names i d ∷ rest else rest) a ≡ ((t && bytes_eq (get_or names i d) a) || has_area rest a)
+    step true = refl
+    step false = refl
+
+turned : (a b : List ℕ) → bytes_eq a b ≡ false → bytes_eq b a ≡ false
+turned a b e = step (bytes_eq b a) refl
+  where
+    step : (t : Bool) → bytes_eq b a ≡ t → t ≡ false
+    step true f = let yes = (names_decide a b).1 (sym ((names_decide b a).0 f)) in let no : true ≡ false = sym yes ∙ e in cc
+    step false f = refl
+
+-- a name that isn't among these isn't among those with digits
+absent_at : (bits : ℕ) (x : List ℕ) (names : List (List ℕ)) → list_any (bytes_eq x) names ≡ false → has_area (names_at bits names) x ≡ false
+absent_at bits x [] h = refl
+absent_at bits x (y ∷ rest) h =
+    let parts = or_parts (bytes_eq x y) (list_any (bytes_eq x) rest) h in
+    step (bits % 2 == 1) (turned x y parts.0) (absent_at (bits / 2) x rest parts.1)
+  where
+    step : (t : Bool) → bytes_eq y x ≡ false → has_area (names_at (bits / 2) rest) x ≡ false → has_area (if t then y ∷ names_at (bits / 2) rest else names_at (bits / 2) rest) x ≡ false
+    step true e none = rw e none
+    step false e none = none
+
+-- of names that stand once each, the one at a place isn't among those behind it, and those stand once each
+pub once_next : (names : List (List ℕ)) (i : ℕ) (d : List ℕ) → i < length names → each_once bytes_eq (drop i names) ≡ true → ((bits : ℕ) → has_area (names_at bits (drop (i + 1) names)) (get_or names i d) ≡ false) × (each_once bytes_eq (drop (i + 1) names) ≡ true)
+once_next names i d h once =
+    let parts = and_parts (not (list_any (bytes_eq (get_or names i d)) (drop (i + 1) names))) (each_once bytes_eq (drop (i + 1) names)) (ap (each_once bytes_eq) (sym (drop_more names i d h)) ∙ once) in
+    (λ bits. absent_at bits (get_or names i d) (drop (i + 1) names) (not-true (list_any (bytes_eq (get_or names i d)) (drop (i + 1) names)) parts.0), parts.1)
+
+-- the name at a place whose digit is 1 is there
+pub has_here : (bits : ℕ) (names : List (List ℕ)) (i : ℕ) (x : List ℕ) → x ≡ get_or names i x → i < length names → bits % 2 ≡ 1 → has_area (names_at bits (drop i names)) x ≡ true
+has_here bits names i x is h odd =
+    let one : (bits % 2 == 1) ≡ true = eq-eqb (bits % 2) 1 odd in
+    let here : bytes_eq (get_or names i x) x ≡ true = (names_decide (get_or names i x) x).1 (sym is) in
+    has_next bits names i x x h ∙ (λ j. (one j && here j) || has_area (names_at (bits / 2) (drop (i + 1) names)) x)
+
+-- one that is there from the next place on is there from this one on
+pub has_later : (bits : ℕ) (names : List (List ℕ)) (i : ℕ) (a : List ℕ) → i < length names → has_area (names_at (bits / 2) (drop (i + 1) names)) a ≡ true → has_area (names_at bits (drop i names)) a ≡ true
+has_later bits names i a h later =
+    has_next bits names i a a h ∙ or_right ((bits % 2 == 1) && bytes_eq (get_or names i a) a) (has_area (names_at (bits / 2) (drop (i + 1) names)) a) later
+
+-- the numbers of an area whose part is still to be moved
+abbrev pub moved_where : Numbers → Numbers → Bool → Numbers → Numbers
+moved_where p q t n = moved n (part_where t p) (part_where t q)
+
+-- where the part of one name is moved, if its digit is 1, what the others come to is what all come to
+pub digit_moved : (p q : Numbers) (d : Bool) (x : List ℕ) (hs rs : List ℕ → Bool) (cur new : List ℕ → Numbers) → ((a : List ℕ) → hs a ≡ ((d && bytes_eq x a) || rs a)) → rs x ≡ false → ((a : List ℕ) → new a ≡ (if d && bytes_eq x a then moved (cur a) p q else cur a)) → (a : List ℕ) → moved_where p q (rs a) (new a) ≡ moved_where p q (hs a) (cur a)
+digit_moved p q d x hs rs cur new next absent change a = step d (bytes_eq x a) refl (next a) (change a)
+  where
+    off : bytes_eq x a ≡ true → rs a ≡ false
+    off e = ap rs (sym ((names_decide x a).0 e)) ∙ absent
+
+    stays : hs a ≡ rs a → new a ≡ cur a → moved_where p q (rs a) (new a) ≡ moved_where p q (hs a) (cur a)
+    stays h n = rw (h, n) refl
+
+    step : (d t : Bool) → bytes_eq x a ≡ t → hs a ≡ ((d && t) || rs a) → new a ≡ (if d && t then moved (cur a) p q else cur a) → moved_where p q (rs a) (new a) ≡ moved_where p q (hs a) (cur a)
+    step true true e h n = rw (h, off e, n) (moved_none (moved (cur a) p q))
+    step true false e h n = stays h n
+    step false true e h n = stays h n
+    step false false e h n = stays h n
+
+-- the numbers of each of the others stay
+pub digit_kept : (p q : Numbers) (d : Bool) (x : List ℕ) (rs : List ℕ → Bool) (cur new : List ℕ → Numbers) → rs x ≡ false → ((a : List ℕ) → new a ≡ (if d && bytes_eq x a then moved (cur a) p q else cur a)) → (a : List ℕ) → rs a ≡ true → new a ≡ cur a
+digit_kept p q d x rs cur new absent change a h = step d (bytes_eq x a) refl (change a)
+  where
+    step : (d t : Bool) → bytes_eq x a ≡ t → new a ≡ (if d && t then moved (cur a) p q else cur a) → new a ≡ cur a
+    step true true e n = let no : true ≡ false = sym h ∙ ap rs (sym ((names_decide x a).0 e)) ∙ absent in cc
+    step true false e n = n
+    step false true e n = n
+    step false false e n = n
+
+-- where the part of the name at one place is moved, if its digit is 1, moving the parts of those behind it comes to what
+-- moving all from there on comes to, and the numbers of those behind it stay
+pub record Moves (p q : Numbers) (bits : ℕ) (names : List (List ℕ)) (i : ℕ) (cur new : List (List ℕ × Numbers)) : Type 0 where
+  pub once : each_once bytes_eq (drop (i + 1) names) ≡ true
+  pub kept : (a : List ℕ) → has_area (names_at (bits / 2) (drop (i + 1) names)) a ≡ true → area_in new a ≡ area_in cur a
+  pub numbers : (a : List ℕ) → moved_where p q (has_area (names_at (bits / 2) (drop (i + 1) names)) a) (area_in new a) ≡ moved_where p q (has_area (names_at bits (drop i names)) a) (area_in cur a)
+
+pub moves : (p q : Numbers) (bits : ℕ) (names : List (List ℕ)) (i : ℕ) (x : List ℕ) (t : Bool) (cur new : List (List ℕ × Numbers)) → x ≡ get_or names i x → i < length names → each_once bytes_eq (drop i names) ≡ true → (bits % 2 == 1) ≡ t → ((a : List ℕ) → area_in new a ≡ (if t && bytes_eq x a then moved (area_in cur a) p q else area_in cur a)) → Moves p q bits names i cur new
+moves p q bits names i x t cur new is h once odd change = record {
+  once = (once_next names i x h once).1;
+  kept = digit_kept p q t x rs (λ a. area_in cur a) (λ a. area_in new a) absent change;
+  numbers = digit_moved p q t x hs rs (λ a. area_in cur a) (λ a. area_in new a) next absent change;
+}
+  where
+    hs : List ℕ → Bool
+    hs = λ a. has_area (names_at bits (drop i names)) a
+
+    rs : List ℕ → Bool
+    rs = λ a. has_area (names_at (bits / 2) (drop (i + 1) names)) a
+
+    absent : rs x ≡ false
+    absent = ap rs is ∙ (once_next names i x h once).0 (bits / 2)
+
+    next : (a : List ℕ) → hs a ≡ ((t && bytes_eq x a) || rs a)
+    next a = has_next bits names i x a h ∙ (λ j. (odd j && bytes_eq (sym is j) a) || rs a)

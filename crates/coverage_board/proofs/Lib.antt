@@ -1,4 +1,3 @@
 pub mod NumbersLemmas
 pub mod AreaLemmas
-pub mod PlaceLemmas
 pub mod RowLemmas

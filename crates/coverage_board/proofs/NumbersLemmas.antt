@@ -1,7 +1,6 @@
 -- What numbers come to where nothing is taken out of them or added to them.
-use Rattle.std.proofs.Common.{◌≡◌, ℕ, ◌+◌, ◌-◌, ◌≤◌, Bool, true, false, refl, ap, ◌∙◌, arith}
-use Rattle.coverage_board.specs.Numbers.{zero_numbers, less, added, moved, Holds}
-use Rattle.coverage_board.specs.Parts.{part_where}
+use Rattle.std.proofs.Common.{◌≡◌, ℕ, ◌+◌, ◌-◌, ap, ◌∙◌, arith}
+use Rattle.coverage_board.specs.Numbers.{zero_numbers, less, added, moved}
 use Rattle.coverage_board.specs.declared.numbers.Numbers.{Numbers}
 
 none_less : (n : ℕ) → 0 - n ≡ 0
@@ -31,18 +30,6 @@ added_zero n = λ i. record { awaited = added_none n.awaited i; on_air = added_n
 pub moved_none : (n : Numbers) → moved n zero_numbers zero_numbers ≡ n
 moved_none n = ap (λ m. added m zero_numbers) (less_zero n) ∙ added_zero n
 
--- a part that is taken out and added again
-back : (n p : ℕ) → p ≤ n → (n - p) + p ≡ n
-back n p h = omega (arith, h)
-
-pub moved_back : (n p : Numbers) → Holds n p → moved n p p ≡ n
-moved_back n p h = λ i. record { awaited = back n.awaited p.awaited h.awaited i; on_air = back n.on_air p.on_air h.on_air i; failed = back n.failed p.failed h.failed i; left = back n.left p.left h.left i; broadcasts = back n.broadcasts p.broadcasts h.broadcasts i }
-
 -- what is added where nothing was counted
 pub moved_to : (p q : Numbers) → moved zero_numbers p q ≡ q
 moved_to p q = ap (λ m. added m q) (zero_less p) ∙ zero_added q
-
--- nothing is nothing, whether or not an area has it
-pub nothing_where : (t : Bool) → part_where t zero_numbers ≡ zero_numbers
-nothing_where true = refl
-nothing_where false = refl

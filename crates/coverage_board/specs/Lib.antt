@@ -3,7 +3,8 @@ pub mod Numbers
 pub mod Parts
 pub mod Reading
 pub mod Board
-pub mod Marks
+pub mod AreaSets
+pub mod AreaSetLaws
 pub mod SumLaws
 pub mod Counting
 pub mod CountingLaws

@@ -9,7 +9,7 @@ abbrev pub stand_of : Kept → Stand
 stand_of t = record {
   seen = seen t.sight;
   counts = λ s. (state_of t.sight.line s).count;
-  areas = t.areas.now;
+  areas = t.areas;
   here = t.here;
   active = t.active;
 }

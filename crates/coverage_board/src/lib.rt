@@ -5,16 +5,19 @@
 //! adds to the numbers in `Parts`, and the numbers that a board keeps in `Board`.
 #![tactic(auto)]
 
+mod area_bits;
 mod area_numbers;
+mod area_set;
 mod board;
 mod numbers;
 mod parts;
-mod place_marks;
 mod row;
 mod stand;
 mod standing;
 mod way;
 
+pub use area_bits::AreaBits;
+pub use area_set::AreaSet;
 pub use board::Board;
 pub use numbers::Numbers;
 pub use stand::Stand;

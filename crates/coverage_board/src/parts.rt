@@ -50,7 +50,7 @@ pub(crate) fn total_part(stand: &Stand<'_>) -> Numbers
     ensures { result ≡ total_part (stand_of stand.now) }
 {
     let VersionsPart { left, broadcasts } = part_of_versions(stand);
-    let is_counted = stand.here && !stand.areas.is_empty();
+    let is_counted = stand.here && stand.areas.is_some();
     let stands = standing(&stand.sight);
     Numbers {
         awaited: one(is_way(Way::Awaited, stands)),

@@ -75,8 +75,7 @@ impl Row {
         self.total = self.total.less(out).added(part);
     }
 
-    /// Moves the numbers from what a line added as it was to what it adds as it is. Where that is the same, the total stays,
-    /// and no area is looked up that covers the cell before and after.
+    /// Moves the numbers from what a line added as it was to what it adds as it is.
     #[inline(always)]
     pub(crate) fn shift(&mut self, before: &Stand<'_>, after: &Stand<'_>) -> Result<(), AllocError>
         requires total_there { Holds self.old.total (total_part (stand_of before.now)) }
@@ -90,13 +89,10 @@ impl Row {
         let _broadcasts = self.total.broadcasts;
         let part_before = total_part(before);
         let part_after = total_part(after);
-        let out = part_before.without_left();
-        if part_after.same(part_before) {
-            return self.areas.move_part(before.areas, after.areas, out);
-        }
         self.move_total(part_before, part_after);
-        self.areas
-            .shift(before.areas, out, after.areas, part_after.without_left())
+        let out = part_before.without_left();
+        let part = part_after.without_left();
+        self.areas.shift(&before.areas, out, &after.areas, part)
     }
 
     /// The same, where the same areas cover the cell before and after, so that their names need not be compared.
@@ -123,6 +119,6 @@ impl Row {
         self.move_total(part_before, part_after);
         let out = part_before.without_left();
         self.areas
-            .exchange_in(after.areas, out, part_after.without_left())
+            .exchange(&after.areas, out, part_after.without_left())
     }
 }

@@ -7,6 +7,7 @@
 #![tactic(auto)]
 
 mod area_names;
+mod covering_areas;
 mod kept_tables;
 mod line_facts;
 mod serial_list;
@@ -15,6 +16,7 @@ mod stays;
 mod step;
 
 pub use area_names::AreaNames;
+pub use covering_areas::CoveringAreas;
 pub use kept_tables::KeptTables;
 pub use line_facts::LineFacts;
 pub use serial_list::Serials;

@@ -5,7 +5,7 @@ ghost use Rattle.coverage_board.specs.Reading.{stand_of as stand_kept};
 ghost use Rattle.kept_tables.specs.Facts.{no_facts, seen_of, stand_of};
 ghost use Rattle.mirror.specs.Seen.{seen};
 
-use crate::area_names::AreaNames;
+use crate::covering_areas::CoveringAreas;
 use crate::serial_list::Serials;
 use coverage_board::Stand;
 use mirror::{Line, Sight};
@@ -25,7 +25,7 @@ pub struct LineFacts {
     /// The cell is down: its BSC reported that it failed.
     pub down: bool,
     /// Those of the warning's areas that cover the cell.
-    pub areas: AreaNames,
+    pub areas: CoveringAreas,
     /// The cell is registered at this BSC.
     pub here: bool,
     /// The warning is active.
@@ -43,7 +43,7 @@ impl LineFacts {
             versions: Serials::none(),
             wanted: None,
             down,
-            areas: AreaNames::none(),
+            areas: CoveringAreas::none(),
             here,
             active: false,
         }
@@ -70,7 +70,7 @@ impl LineFacts {
     {
         Stand {
             sight: self.sight_with(line, down),
-            areas: self.areas.as_slice(),
+            areas: self.areas.as_set(),
             here: self.here,
             active: self.active,
         }

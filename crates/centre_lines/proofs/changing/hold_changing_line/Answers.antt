@@ -13,11 +13,7 @@ use Rattle.warning_book.specs.Book.{warning_of}
 use Rattle.centre_lines.specs.Following.{Happens, happens, is_idle, keeps_down, line_now}
 use Rattle.centre_past.specs.State.{facts_from}
 use Rattle.centre_lines.proofs.ChangingLemmas.{changing_held, step_to}
-use Rattle.centre_lines.proofs.CoverageLemmas.{found_here}
 use Rattle.centre_lines.proofs.changing.hold_changing_line.Goals as goal
-
-pub facts_from-requires : goal.facts_from-requires
-facts_from-requires c = record { found = found_here c.args.plan.now.areas.now c.args.plan.now.book.now c.args.n (option_copied c.find-warning.result) c.find-warning.ensures c.args.found.now c.requires.found; known = c.requires.known }
 
 pub returns-clause-held : goal.returns-clause-held
 returns-clause-held c =
