@@ -1,11 +1,10 @@
 -- The names whose digits are those of a test are the names that pass it.
-use Rattle.std.proofs.Common.{◌≡◌, ◌<◌, ◌≤◌, ℕ, zero, suc, ◌+◌, ◌*◌, ◌/◌, ◌%◌, Bool, true, false, not, ◌==◌, List, [], ◌∷◌, bytes_eq, length, drop, filter, map, nat_eq, eqb-true, refl, ◌∙◌, ap, arith, if◌then◌else◌}
+use Rattle.std.proofs.Common.{◌≡◌, ◌<◌, ◌≤◌, ℕ, zero, suc, ◌+◌, ◌*◌, ◌/◌, ◌%◌, Bool, true, false, not, ◌==◌, List, [], ◌∷◌, length, drop, filter, map, nat_eq, eqb-true, refl, ◌∙◌, ap, arith, if◌then◌else◌}
 use Rattle.std.proofs.lemmas.Bool.Decides.{nat_tests}
 use Rattle.std.proofs.lemmas.Grind.{common_steps}
 use Rattle.std.proofs.lemmas.List.{length-drop}
-use Rattle.common.specs.Order.{each_once}
 use Rattle.common.specs.Sums.{one}
-use Rattle.coverage_board.specs.AreaSets.{AreDigits, mask, names_at, power}
+use Rattle.coverage_board.specs.AreaSets.{mask, names_at, power}
 use Rattle.coverage_board.specs.Parts.{has_areas}
 
 half : (b : Bool) (m : ℕ) → (one b + 2 * m) / 2 ≡ m
@@ -33,19 +32,10 @@ pub mask_below : {A : Type 0} (p : A → Bool) (xs : List A) → mask p xs < pow
 mask_below p [] = omega arith
 mask_below p (x ∷ rest) = let here = one_few (p x) in omega (arith, here, mask_below p rest)
 
--- the digits of a test are digits of the names
-pub mask_digits : (p : List ℕ → Bool) (names : List (List ℕ)) → each_once bytes_eq names ≡ true → AreDigits (mask p names) names
-mask_digits p names once = record { few = mask_below p names; once = once }
-
 -- the digits of what is made of the elements
 pub mask_map : {A B : Type 0} (p : B → Bool) (f : A → B) (xs : List A) → mask p (map f xs) ≡ mask (λ x. p (f x)) xs
 mask_map p f [] = refl
 mask_map p f (x ∷ rest) = ap (λ m. one (p (f x)) + 2 * m) (mask_map p f rest)
-
--- those of two tests that agree
-pub mask_same : {A : Type 0} (p q : A → Bool) → ((x : A) → p x ≡ q x) → (xs : List A) → mask p xs ≡ mask q xs
-mask_same p q same [] = refl
-mask_same p q same (x ∷ rest) = ap (λ b. one b + 2 * mask p rest) (same x) ∙ ap (λ m. one (q x) + 2 * m) (mask_same p q same rest)
 
 grows : (n k : ℕ) → n ≤ k → power n ≤ power k
 grows zero zero h = omega arith

@@ -35,13 +35,6 @@ impl Numbers {
         }
     }
 
-    /// Whether nothing is counted.
-    pub(crate) fn is_zero(self) -> bool
-        ensures { IsTrue result ↔ (self ≡ zero_numbers) }
-    {
-        self == Numbers::zero()
-    }
-
     /// Whether the two are the same numbers.
     pub(crate) fn same(self, other: Numbers) -> bool
         ensures { IsTrue result ↔ (self ≡ other) }
