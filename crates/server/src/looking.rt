@@ -23,7 +23,7 @@ use std::thread::Threads;
 use std::time::Clock;
 
 /// Where Linux says how much memory the program takes.
-const STATM: &str = "/proc/self/statm";
+const STATUS: &str = "/proc/self/status";
 
 const UNSERVED: &str = "no thread can be started: the page isn't served";
 
@@ -32,7 +32,7 @@ const UNSERVED: &str = "no thread can be started: the page isn't served";
 pub(crate) struct Looking {
     pub(crate) port: HttpPort,
     /// Where the system says how much memory the program takes.
-    pub(crate) statm: Mutex<Option<File>>,
+    pub(crate) status: Mutex<Option<File>>,
 }
 
 /// Listens for those who look, where they are asked for. It is said where, or what is wrong.
@@ -53,10 +53,10 @@ pub(crate) fn open_looking<
             if let Ok(text) = format!(in alloc; "page: http://{}/", port.address) {
                 say_of_centre(rt, alloc, errors, text);
             }
-            let statm = OpenOptions::new().read(true).open(rt, STATM).ok();
+            let status = OpenOptions::new().read(true).open(rt, STATUS).ok();
             Ok(Some(Looking {
                 port,
-                statm: Mutex::new(statm),
+                status: Mutex::new(status),
             }))
         }
         Err(error) => {
@@ -108,7 +108,7 @@ fn serve_page<L: Ledger, E: Write + Drop, R: Wait + Clock>(
 ) {
     let pictures = RunningPictures {
         shared,
-        statm: &looking.statm,
+        status: &looking.status,
     };
     serve_http(rt, shared.alloc, &looking.port, &pictures);
 }

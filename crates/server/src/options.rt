@@ -54,8 +54,10 @@ pub struct ServeOptions {
 pub(crate) enum OptionsFault {
     /// The network code isn't six hexadecimal digits.
     BadPlmn,
-    /// A port would be past 65,535, an address has no host or no port, or a value is none that the parser takes.
+    /// A port would be past 65,535, or a value is none that the parser takes.
     BadPorts,
+    /// The address of the page has no host or no port.
+    BadHttp,
     Memory,
 }
 
@@ -167,7 +169,7 @@ fn is_address(text: &str) -> bool {
 /// The address of the page, where one is given.
 fn asked_http(alloc: Global, matches: &ArgMatches<'_>) -> Result<Option<String>, OptionsFault> {
     match matches.get_str("http") {
-        Some(address) if !is_address(address) => Err(OptionsFault::BadPorts),
+        Some(address) if !is_address(address) => Err(OptionsFault::BadHttp),
         Some(address) => Ok(Some(String::from_str(alloc, address)?)),
         None => Ok(None),
     }

@@ -14,17 +14,14 @@ use std::sync::ledger::Ledger;
 use std::sync::{Mutex, Wait};
 use std::time::{Clock, SystemTime};
 
-/// How many octets a page of memory has.
-const PAGE: u64 = 4_096;
-
-/// How many octets are read of what the system says of memory.
-const MOST_TEXT: usize = 128;
+/// How many octets are read of what the system says of the program.
+const MOST_TEXT: usize = 2_048;
 
 /// What the threads of a server share, as its page knows it.
 #[derive(Drop)]
 pub(crate) struct RunningPictures<'a, L: Ledger, E: Drop> {
     pub(crate) shared: &'a Shared<L, E>,
-    pub(crate) statm: &'a Mutex<Option<File>>,
+    pub(crate) status: &'a Mutex<Option<File>>,
 }
 
 /// The second, after 1970-01-01T00:00:00Z; 0 where it can't be read.
@@ -53,24 +50,25 @@ fn since_of<L: Ledger, R: Wait>(rt: &R, port: &Port<L>, second: u64, moment: u64
     Some(second.saturating_sub(passed))
 }
 
-/// The second of the numbers that the system says: how many pages the program takes (proc_pid_statm(5)).
-fn pages_in(text: &[u8]) -> Option<u64> {
-    let words = str::from_utf8(text).ok()?;
-    let word = words.split_ascii_whitespace().nth(1)?;
+/// How much memory the program takes, in kibibytes, by the line `VmRSS` of what the system says of it (proc_pid_status(5)).
+fn kibibytes_in(text: &[u8]) -> Option<u64> {
+    let text = str::from_utf8(text).ok()?;
+    let (_, rest) = text.split_once("VmRSS:")?;
+    let word = rest.split_ascii_whitespace().next()?;
     word.parse::<u64>().ok()
 }
 
 /// How much memory the program takes, in octets, where the system says it.
-fn memory_of(statm: &mut File) -> Option<u64> {
+fn memory_of(status: &mut File) -> Option<u64> {
     let mut text = [0u8; MOST_TEXT];
-    statm.seek(SeekFrom::Start(0)).ok()?;
-    let count = statm.read(&mut text).ok()?;
-    pages_in(&text[..count])?.checked_mul(PAGE)
+    status.seek(SeekFrom::Start(0)).ok()?;
+    let count = status.read(&mut text).ok()?;
+    kibibytes_in(&text[..count])?.checked_mul(1_024)
 }
 
 impl<'a, L: Ledger, E: Write + Drop> RunningPictures<'a, L, E> {
     fn memory<R: Wait>(&self, rt: &R) -> Option<u64> {
-        memory_of(self.statm.lock(rt).as_mut()?)
+        memory_of(self.status.lock(rt).as_mut()?)
     }
 
     /// What is known beside a survey, which is made next.

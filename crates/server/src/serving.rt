@@ -321,7 +321,7 @@ pub fn serve<
 
 /// Runs the server with the options in the words of a command line, as `serve` does. The words are to ask for the server:
 /// `console::run` answers `None` for them. Of other words it says `cbc: out of memory`, and the status is 1. The status is 2
-/// where the network or the ports are bad: `cbc: bad plmn` or `cbc: bad ports` is said then.
+/// where the network, the ports or the address of the page are bad: `cbc: bad plmn`, `cbc: bad ports` or `cbc: bad http` is said then.
 pub fn serve_words<
     R: Files<File = File>
         + Wait
@@ -337,6 +337,7 @@ pub fn serve_words<
         Ok(options) => return serve(rt, alloc, &options, reader, writer, errors),
         Err(OptionsFault::BadPlmn) => (2, b"cbc: bad plmn\n".as_slice()),
         Err(OptionsFault::BadPorts) => (2, b"cbc: bad ports\n".as_slice()),
+        Err(OptionsFault::BadHttp) => (2, b"cbc: bad http\n".as_slice()),
         Err(OptionsFault::Memory) => (1, fault_words(ReplayFault::Memory)),
     };
     let _ = errors.write_all(text);

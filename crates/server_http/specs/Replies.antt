@@ -12,7 +12,7 @@ use Rattle.server_http.specs.declared.contents.Contents.{Contents}
 use Rattle.server_http.specs.declared.reply.Reply.{Reply}
 use Rattle.server_http.specs.declared.reply.Reply.TheVariants as reply
 use Rattle.server_http.specs.declared.site.Site.{Site}
-use Rattle.status_figures.specs.Health.{health_of, health_text, is_whole}
+use Rattle.status_figures.specs.Health.{has_numbers, health_of, health_text, is_whole}
 use Rattle.status_figures.specs.Metrics.{metrics_text}
 use Rattle.status_figures.specs.Tables.{boards_csv, bscs_csv}
 use Rattle.status_figures.specs.declared.picture.Picture.{Picture}
@@ -38,12 +38,16 @@ is_old now taken = nat_lt 10 (now - taken)
 abbrev pub health_reply : ℕ → Contents → Reply
 health_reply now c = if is_old now c.taken then reply.NoNewPicture else (if is_whole c.health then reply.Whole else reply.NotWhole)
 
+-- what a table is answered: there is none of an old picture, or where the centre has no numbers
+abbrev pub table_reply : ℕ → Contents → Reply → Reply
+table_reply now c table = if is_old now c.taken then reply.NoNewPicture else (if has_numbers c.health then table else reply.NotWhole)
+
 -- what stands at a path where something does, if there is a picture
 abbrev pub picture_reply : ℕ → Contents → List ℕ → Reply
 picture_reply now c path =
     if bytes_eq path (codes "/") then reply.Page
-    else (if bytes_eq path (codes "/boards.csv") then reply.Boards
-    else (if bytes_eq path (codes "/bscs.csv") then reply.Bscs
+    else (if bytes_eq path (codes "/boards.csv") then table_reply now c reply.Boards
+    else (if bytes_eq path (codes "/bscs.csv") then table_reply now c reply.Bscs
     else (if bytes_eq path (codes "/metrics") then reply.Metrics
     else health_reply now c)))
 

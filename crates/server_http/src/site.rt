@@ -1,7 +1,7 @@
 //! What stands at the paths of the server.
 
 ghost use Rattle.std.specs.Prelude.{◌≡◌, None, Some, bytes_eq};
-ghost use Rattle.server_http.specs.Replies.{IsAnswered, health_reply, is_looking, is_old, is_there, picture_reply, reply_at, reply_to};
+ghost use Rattle.server_http.specs.Replies.{IsAnswered, health_reply, is_looking, is_old, is_there, picture_reply, reply_at, reply_to, table_reply};
 
 use crate::contents::Contents;
 use crate::reply::Reply;
@@ -43,6 +43,19 @@ fn health_reply(now: u64, contents: &Contents) -> Reply
     }
 }
 
+/// What a table is answered: there is none of an old picture, or where the centre has no numbers.
+fn table_reply(now: u64, contents: &Contents, table: Reply) -> Reply
+    ensures { result ≡ table_reply now contents.now table }
+{
+    if is_old(now, contents.taken) {
+        Reply::NoNewPicture
+    } else if contents.health.has_numbers() {
+        table
+    } else {
+        Reply::NotWhole
+    }
+}
+
 fn is_same(found: &[u8], text: &[u8]) -> bool
     ensures { result ≡ bytes_eq found.now text.now }
 {
@@ -56,9 +69,9 @@ fn picture_reply(now: u64, contents: &Contents, path: &[u8]) -> Reply
     if is_same(path, b"/") {
         Reply::Page
     } else if is_same(path, b"/boards.csv") {
-        Reply::Boards
+        table_reply(now, contents, Reply::Boards)
     } else if is_same(path, b"/bscs.csv") {
-        Reply::Bscs
+        table_reply(now, contents, Reply::Bscs)
     } else if is_same(path, b"/metrics") {
         Reply::Metrics
     } else {

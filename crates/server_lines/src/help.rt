@@ -29,7 +29,7 @@ resay W CAT PERIOD TEXT                         gives it a new version
 alert M SCOPE I T P SEC AREAS                   issues an emergency warning
 realert W I T P SEC                             gives it a new version
 widen W N, narrow W N                           an area more, or an area less
-stop W                                          takes warning W off the air
+stop W                                          ends warning W: BSCs are to take it off the air
 forget W                                        takes a stopped warning out of the book
 wish B W, wish B W L C                          asks BSC B how often warning W was broadcast
 ";

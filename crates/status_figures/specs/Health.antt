@@ -27,6 +27,13 @@ is_whole Stale = false
 is_whole JournalFull = false
 is_whole StaleAndFull = false
 
+-- that it has numbers: it has none while it is stale
+abbrev pub has_numbers : Health → Bool
+has_numbers Whole = true
+has_numbers Stale = false
+has_numbers JournalFull = true
+has_numbers StaleAndFull = false
+
 -- a line for each thing that is wrong
 abbrev pub health_text : Health → List ℕ
 health_text Whole = codes "ok" ++ newline

@@ -15,7 +15,7 @@ pub enum Health {
 }
 
 impl Health {
-    ghost use Rattle.status_figures.specs.Health.{is_whole};
+    ghost use Rattle.status_figures.specs.Health.{has_numbers, is_whole};
 
     /// Whether nothing is wrong.
     pub fn is_whole(self) -> bool
@@ -24,6 +24,16 @@ impl Health {
         match self {
             Health::Whole => true,
             Health::Stale | Health::JournalFull | Health::StaleAndFull => false,
+        }
+    }
+
+    /// Whether the centre has numbers: it has none while it is stale.
+    pub fn has_numbers(self) -> bool
+        ensures { result ≡ has_numbers self }
+    {
+        match self {
+            Health::Whole | Health::JournalFull => true,
+            Health::Stale | Health::StaleAndFull => false,
         }
     }
 }

@@ -131,6 +131,37 @@ const BAD: &[Row] = &[
     },
 ];
 
+const STALE: &[Row] = &[
+    Row {
+        request: &[b"GET /health HTTP/1.1\r\nHost: h\r\n\r\n"],
+        times: &[1],
+        begin: b"HTTP/1.1 503 Service Unavailable\r\n",
+        part: b"\r\ncontent-length: 6\r\n",
+        end: b"\r\n\r\nstale\n",
+    },
+    Row {
+        request: &[b"GET /boards.csv HTTP/1.1\r\nHost: h\r\n\r\n"],
+        times: &[1],
+        begin: b"HTTP/1.1 503 Service Unavailable\r\n",
+        part: b"\r\ncontent-type: text/plain; charset=utf-8\r\n",
+        end: b"\r\n\r\nstale\n",
+    },
+    Row {
+        request: &[b"GET /bscs.csv HTTP/1.1\r\nHost: h\r\n\r\n"],
+        times: &[1],
+        begin: b"HTTP/1.1 503 Service Unavailable\r\n",
+        part: b"\r\ncontent-type: text/plain; charset=utf-8\r\n",
+        end: b"\r\n\r\nstale\n",
+    },
+    Row {
+        request: &[b"GET / HTTP/1.1\r\nHost: h\r\n\r\n"],
+        times: &[1],
+        begin: b"HTTP/1.1 200 OK\r\n",
+        part: b"stale",
+        end: b"</html>\n",
+    },
+];
+
 pub(crate) fn asks<R: Abort + Net<Stream = TcpStream, Listener = TcpListener>>(
     rt: &R,
     alloc: Global,
@@ -149,22 +180,6 @@ pub(crate) fn asks<R: Abort + Net<Stream = TcpStream, Listener = TcpListener>>(
     }
 }
 
-pub(crate) fn asks_for_health<R: Abort + Net<Stream = TcpStream, Listener = TcpListener>>(
-    rt: &R,
-    alloc: Global,
-    address: &SocketAddr,
-) {
-    let request: &[u8] = b"GET /health HTTP/1.1\r\nHost: h\r\n\r\n";
-    let answer = answer_to(rt, alloc, address, &[request], &[1]);
-    let text = answer.as_slice();
-    yes(
-        rt,
-        text.starts_with(b"HTTP/1.1 503 Service Unavailable\r\n"),
-        "a stale centre isn't whole",
-    );
-    yes(rt, text.ends_with(b"\r\n\r\nstale\n"), "why it isn't");
-}
-
 #[test]
 fn each_path_is_answered(rt: HostRuntime) {
     let _ = served(&rt, rt.alloc(), false, Client::Asks(GOOD));
@@ -177,5 +192,5 @@ fn bad_requests_are_refused(rt: HostRuntime) {
 
 #[test]
 fn a_stale_centre_is_told(rt: HostRuntime) {
-    let _ = served(&rt, rt.alloc(), true, Client::AsksForHealth);
+    let _ = served(&rt, rt.alloc(), true, Client::Asks(STALE));
 }

@@ -1,6 +1,6 @@
 //! A page that is served while a client asks.
 
-use crate::answer_tests::{Row, asks, asks_for_health};
+use crate::answer_tests::{Row, asks};
 use crate::checks::yes;
 use crate::given_pictures::GivenPictures;
 use crate::visitor_tests::{ask_often, stay};
@@ -19,8 +19,6 @@ use std::time::Clock;
 pub(crate) enum Client {
     /// It asks so.
     Asks(&'static [Row]),
-    /// It asks a stale centre for its health.
-    AsksForHealth,
     /// It asks often.
     AsksOften,
     /// Many stay.
@@ -36,7 +34,6 @@ fn plays<R: Abort + Net<Stream = TcpStream, Listener = TcpListener>>(
 ) {
     match client {
         Client::Asks(rows) => asks(rt, alloc, address, rows),
-        Client::AsksForHealth => asks_for_health(rt, alloc, address),
         Client::AsksOften => ask_often(rt, alloc, address),
         Client::Stays => stay(rt, alloc, address),
     }

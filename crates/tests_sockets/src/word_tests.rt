@@ -35,6 +35,13 @@ const BAD_WORDS: &[Play] = &[
         said: Wanted::Is("cbc: bad plmn\n"),
         ..USUAL
     },
+    Play {
+        words: &["--http", "127.0.0.1"],
+        status: 2,
+        answers: Wanted::Is(""),
+        said: Wanted::Is("cbc: bad http\n"),
+        ..USUAL
+    },
 ];
 
 /// A journal of one entry is folded after each.
