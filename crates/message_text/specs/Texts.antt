@@ -57,6 +57,10 @@ pub record AreCut (coding : Coding) (letters : List ℕ) (pieces : List (List �
   pub whole : flat_map (λ piece. piece) pieces ≡ letters
   pub each : AllByRecursion (λ piece. sum_by (width coding) piece ≤ room coding) pieces
 
+-- however the letters are cut, so many pages are needed
+abbrev pub Needs : Coding → List ℕ → ℕ → Type 0
+Needs coding letters count = (pieces : List (List ℕ)) → AreCut coding letters pieces → count ≤ length pieces
+
 -- however the letters are cut, more than fifteen pages are needed
 abbrev pub NeedsMore : List ℕ → Type 0
 NeedsMore letters = (pieces : List (List ℕ)) → AreCut (coding_for letters) letters pieces → 15 < length pieces

@@ -4,7 +4,7 @@ ghost use Rattle.std.specs.Prelude.{◌≡◌, ◌<◌, ◌≤◌, ◌+◌, ℕ,
 ghost use Rattle.std.specs.Option.{IfSome, IfNone};
 ghost use Rattle.std.specs.List.{AllByRecursion, sum_by};
 ghost use Rattle.message_text.specs.Reading.{read_pages};
-ghost use Rattle.message_text.specs.Texts.{CanCode, AreCut, HasRoom};
+ghost use Rattle.message_text.specs.Texts.{CanCode, AreCut, HasRoom, Needs};
 ghost use Rattle.message_text.specs.Writing as written;
 
 use crate::coding::Coding;
@@ -40,6 +40,7 @@ pub(crate) fn pages(
     ensures read { IfOk result (λ all. IfSome all (λ pages. read_pages coding pages.items ≡ Some letters.now)) }
     ensures count { IfOk result (λ all. IfSome all (λ pages. length pages.items ≤ 15)) }
     ensures sizes { IfOk result (λ all. IfSome all (λ pages. AllByRecursion HasRoom pages.items)) }
+    ensures fewest { IfOk result (λ all. IfSome all (λ pages. Needs coding letters.now (length pages.items))) }
     ensures none { IfOk result (λ all. IfNone all ((pieces : List (List ℕ)) → AreCut coding letters.now pieces → 15 < length pieces)) }
 {
     let mut pages = Vec::new(alloc);

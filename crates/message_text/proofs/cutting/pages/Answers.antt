@@ -4,7 +4,7 @@ use Rattle.std.specs.List.{AllByRecursion, sum_by}
 use Rattle.message_text.specs.Reading.{read_pages}
 use Rattle.message_text.specs.Texts.{HasRoom}
 use Rattle.message_text.specs.Writing.{room, width}
-use Rattle.message_text.proofs.CuttingLemmas.{Reaches, count_some, read_more, reach_more, sizes_push}
+use Rattle.message_text.proofs.CuttingLemmas.{Reaches, count_some, read_more, reach_end, reach_more, sizes_push}
 use Rattle.message_text.proofs.cutting.pages.Goals as goal
 
 pub page_of-requires-clause-some : goal.page_of-requires-clause-some
@@ -46,4 +46,7 @@ loop-written-preserved c =
           (sizes_push c.loop-written.pages.items page i.sizes c.in_ok-page_of.ensures.some c.in_ok-page_of.ensures.room);
       reach = subst (λ (k : ℕ). Reaches c.args.coding letters k (w + count)) (sym c.in_ok-push.ensures.len)
           (reach_more c.args.coding letters _ w count i.reach most);
+      fewest = λ pieces cut. (
+          let more = reach_end c.args.coding letters _ w i.reach (omega arith) pieces cut in
+          omega (arith, c.in_ok-push.ensures.len, more));
     }

@@ -1,7 +1,7 @@
 use Rattle.std.proofs.Common.{◌≡◌, ◌-◌, ◌≤◌, length, take, Some, vec_len}
 use Rattle.std.specs.List.{AllByRecursion}
 use Rattle.message_text.specs.Reading.{read_pages}
-use Rattle.message_text.specs.Texts.{HasRoom}
+use Rattle.message_text.specs.Texts.{HasRoom, Needs}
 use Rattle.message_text.proofs.CuttingLemmas.{Reaches}
 use Rattle.message_text.proofs.cutting.pages.Given as goal
 
@@ -16,4 +16,5 @@ invariant-loop-written l = record {
   count : vec_len l.pages ≤ 15;
   sizes : AllByRecursion HasRoom l.pages.items;
   reach : Reaches l.coding l.letters (vec_len l.pages) l.written;
+  fewest : Needs l.coding l.letters (vec_len l.pages);
 }
