@@ -1,5 +1,8 @@
 //! What is shown is made anew.
 
+ghost use Rattle.std.specs.Prelude.{◌≡◌, false};
+ghost use Rattle.server_http.specs.Renewals.{is_due, tried_at};
+
 use crate::contents::Contents;
 use crate::pictures::Pictures;
 use crate::site::Site;
@@ -56,7 +59,9 @@ impl Renewed {
     }
 
     /// Whether another picture may be taken.
-    fn is_due(&self, now: u64) -> bool {
+    fn is_due(&self, now: u64) -> bool
+        ensures { result ≡ is_due self.now.tried now }
+    {
         match self.tried {
             None => true,
             Some(tried) => now.saturating_sub(tried) >= PERIOD,
@@ -70,7 +75,10 @@ impl Renewed {
         alloc: Global,
         pictures: &P,
         now: u64,
-    ) {
+    )
+        ensures tried { self.new.tried ≡ tried_at self.old.tried now }
+        ensures same { is_due self.old.tried now ≡ false → self.new.site.contents ≡ self.old.site.contents }
+    {
         if self.is_due(now) {
             self.tried = Some(now);
             if let Ok(contents) = contents(rt, alloc, pictures) {
