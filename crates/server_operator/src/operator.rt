@@ -1,13 +1,15 @@
 //! What the lines of an operator are answered.
 
-ghost use Rattle.std.specs.Prelude.{IfOk};
+ghost use Rattle.std.specs.Prelude.{◌≡◌, ◌⊎◌, IfOk};
 ghost use Rattle.console_text.specs.Texts.{ResponseFits};
+ghost use Rattle.console_text.specs.declared.response.Response.TheVariants as response_spec;
+ghost use Rattle.server_operator.specs.Responding.{IsAnswer, IsOtherAnswer};
 
-use crate::edits::{Asked, asked_of};
-use crate::identifiers::Identifiers;
+use crate::asked::Asked;
+use crate::asking::ask;
+use crate::edits::asked_of;
 use crate::leaving::{Leaving, leaving_of};
 use crate::listing::{list, status};
-use crate::operator_desk::OperatorDesk;
 use crate::said::Said;
 use crate::saying::said_of;
 use crate::server::Server;
@@ -25,7 +27,6 @@ use console_text::words::{is_comment, split_words};
 use office::desk::Desk;
 use office::office::Office;
 use office::question::Question;
-use office::seen::SeenValue;
 use server_lines::grammar::read_server_line;
 use server_lines::help::help_text;
 use server_lines::list_line::ListLine;
@@ -56,37 +57,8 @@ enum Heard {
     Listed(Octets),
 }
 
-/// What was seen, as an answer; no line asks for anything else.
-fn told(value: SeenValue) -> Response
-    ensures { ResponseFits result }
-{
-    match value {
-        SeenValue::Numbers(numbers) => Response::Board(numbers),
-        SeenValue::Pending(orders) => Response::Pending(orders),
-        SeenValue::Table(keys) => Response::Table(keys),
-        other => {
-            drop(other);
-            Response::Silence
-        }
-    }
-}
-
-fn ask<L: Ledger, S: Server, R: Wait>(
-    rt: &R,
-    operator: &Operator<'_, L, S>,
-    desk: &Desk<L>,
-    question: Question,
-) -> Response
-    ensures { ResponseFits result }
-{
-    match operator.office.look(rt, desk, question) {
-        Ok(seen) => told(seen.value),
-        Err(refusal) => Response::Refused(refusal),
-    }
-}
-
 fn rebuild<L: Ledger, S: Server, R: Wait>(rt: &R, operator: &Operator<'_, L, S>) -> Response
-    ensures { ResponseFits result }
+    ensures { (result ≡ response_spec.Rebuilt) ⊎ (result ≡ response_spec.Refused Refusal.Memory) }
 {
     match operator.office.rebuild(rt) {
         Ok(()) => Response::Rebuilt,
@@ -111,7 +83,8 @@ fn respond_other<L: Ledger, S: Server, R: Wait>(
     desk: &mut Desk<L>,
     line: Line,
 ) -> Response
-    ensures { ResponseFits result }
+    ensures answer { IsOtherAnswer desk.old line desk.new result }
+    ensures fits { ResponseFits result }
 {
     match line {
         Line::Retry(b) => submit(rt, operator, desk, Event::Retry(b)),
@@ -132,15 +105,16 @@ fn respond_other<L: Ledger, S: Server, R: Wait>(
 fn respond<L: Ledger, S: Server, R: Wait + Clock>(
     rt: &R,
     operator: &Operator<'_, L, S>,
-    desk: &mut OperatorDesk<L>,
+    desk: &mut Desk<L>,
     line: Line,
 ) -> Result<Response, AllocError>
-    ensures { IfOk result ResponseFits }
+    ensures answer { IfOk result (IsAnswer desk.old line desk.new) }
+    ensures fits { IfOk result ResponseFits }
 {
     match asked_of(operator.alloc, line)? {
         Asked::Edit(change) => Ok(edit(rt, operator, desk, change)),
         Asked::BadHex => Ok(Response::BadHex),
-        Asked::Other(line) => Ok(respond_other(rt, operator, &mut desk.desk, line)),
+        Asked::Other(line) => Ok(respond_other(rt, operator, desk, line)),
     }
 }
 
@@ -178,7 +152,7 @@ fn hear_list<L: Ledger, S: Server, R: Wait>(
 fn say<L: Ledger, S: Server, R: Wait + Clock>(
     rt: &R,
     operator: &Operator<'_, L, S>,
-    desk: &mut OperatorDesk<L>,
+    desk: &mut Desk<L>,
     line: TextLine,
 ) -> Result<String, AllocError> {
     match said_of(operator.alloc, line)? {
@@ -191,7 +165,7 @@ fn say<L: Ledger, S: Server, R: Wait + Clock>(
 fn hear_line<L: Ledger, S: Server, R: Wait + Clock>(
     rt: &R,
     operator: &Operator<'_, L, S>,
-    desk: &mut OperatorDesk<L>,
+    desk: &mut Desk<L>,
     line: ServerLine,
 ) -> Result<Heard, AllocError> {
     if let Some(leaving) = leaving_of(&line, operator.may_watch) {
@@ -204,7 +178,7 @@ fn hear_line<L: Ledger, S: Server, R: Wait + Clock>(
         }
         ServerLine::Status => return Ok(Heard::Answered(status(rt, operator)?)),
         ServerLine::Help => return Ok(Heard::Answered(help_text(operator.alloc)?)),
-        ServerLine::List(line) => return hear_list(rt, operator, &desk.desk, &line),
+        ServerLine::List(line) => return hear_list(rt, operator, desk, &line),
         ServerLine::Text(line) => return Ok(Heard::Answered(say(rt, operator, desk, line)?)),
         ServerLine::CutLink(b) => cut(rt, operator, desk, b),
         ServerLine::Centre(line) => respond(rt, operator, desk, line)?,
@@ -217,7 +191,7 @@ fn hear_line<L: Ledger, S: Server, R: Wait + Clock>(
 fn hear_words<L: Ledger, S: Server, R: Wait + Clock>(
     rt: &R,
     operator: &Operator<'_, L, S>,
-    desk: &mut OperatorDesk<L>,
+    desk: &mut Desk<L>,
     line: &[u8],
     words: &[Octets],
 ) -> Result<Heard, AllocError> {
@@ -237,7 +211,7 @@ fn hear_words<L: Ledger, S: Server, R: Wait + Clock>(
 fn hear<L: Ledger, S: Server, R: Wait + Clock>(
     rt: &R,
     operator: &Operator<'_, L, S>,
-    desk: &mut OperatorDesk<L>,
+    desk: &mut Desk<L>,
     line: &[u8],
 ) -> Result<Heard, AllocError> {
     let words = split_words(operator.alloc, line)?;
@@ -252,7 +226,7 @@ fn answer<L: Ledger, S: Server, R: Wait + Clock, I: BufRead + Drop, W: Write + D
     rt: &R,
     operator: &Operator<'_, L, S>,
     terminal: &mut Terminal<L, I, W>,
-    desk: &mut OperatorDesk<L>,
+    desk: &mut Desk<L>,
     text: &[u8],
 ) -> Result<bool, ReplayFault> {
     if !operator.server.is_kept(rt) {
@@ -260,7 +234,7 @@ fn answer<L: Ledger, S: Server, R: Wait + Clock, I: BufRead + Drop, W: Write + D
     }
     terminal.write(text)?;
     operator.server.answered(rt);
-    let _ = operator.office.release(rt, &mut desk.desk);
+    let _ = operator.office.release(rt, desk);
     Ok(true)
 }
 
@@ -269,7 +243,7 @@ fn turn<L: Ledger, S: Server, R: Wait + Clock, I: BufRead + Drop, W: Write + Dro
     rt: &R,
     operator: &Operator<'_, L, S>,
     terminal: &mut Terminal<L, I, W>,
-    desk: &mut OperatorDesk<L>,
+    desk: &mut Desk<L>,
 ) -> Result<Option<Leaving>, ReplayFault> {
     let Some(line) = terminal.read_line(rt, operator.alloc, operator.server)? else {
         return Ok(Some(Leaving::Ended));
@@ -289,7 +263,7 @@ fn answer_lines<L: Ledger, S: Server, R: Wait + Clock, I: BufRead + Drop, W: Wri
     rt: &R,
     operator: &Operator<'_, L, S>,
     terminal: &mut Terminal<L, I, W>,
-    desk: &mut OperatorDesk<L>,
+    desk: &mut Desk<L>,
 ) -> Result<Leaving, ReplayFault> {
     for _ in rt.forever() {
         if let Some(leaving) = turn(rt, operator, terminal, desk)? {
@@ -307,18 +281,10 @@ pub fn operate<L: Ledger, S: Server, R: Wait + Clock, I: BufRead + Drop, W: Writ
     terminal: &Mutex<Terminal<L, I, W>>,
 ) -> Result<Leaving, ReplayFault> {
     let mut terminal = terminal.lock(rt);
-    let Some(desk) = terminal.desk.take() else {
+    let Some(mut desk) = terminal.desk.take() else {
         return Ok(Leaving::Ended);
     };
-    let mut desk = OperatorDesk {
-        desk,
-        identifiers: Identifiers::new(operator.alloc),
-    };
     let result = answer_lines(rt, operator, &mut terminal, &mut desk);
-    let OperatorDesk {
-        desk,
-        identifiers: _,
-    } = desk;
     terminal.desk = Some(desk);
     result
 }
