@@ -1,2 +1,4 @@
+pub mod AskingLemmas
 pub mod ListingLemmas
+pub mod SubmittingLemmas
 pub mod TypingLemmas

@@ -150,7 +150,7 @@ pub(crate) fn cut<L: Ledger, S: Server, R: Wait>(
         Ok(latest) => latest,
         Err(refusal) => return Response::Refused(refusal),
     };
-    for _ in 1..MOST_TRIES {
+    for _attempt in 1..MOST_TRIES {
         match cut_link(rt, operator, desk, b, generation) {
             Response::Refused(Refusal::StaleLink { now }) => generation = now,
             response => return response,
