@@ -1,6 +1,7 @@
 pub mod Asking
 pub mod Downs
 pub mod Edits
+pub mod Hearing
 pub mod Leavings
 pub mod Listing
 pub mod Responding

@@ -30,6 +30,7 @@ fn told(value: SeenValue) -> Response
 }
 
 /// What a line is answered that asks a question.
+#[tactic(auto, using(crate::proofs::AskingLemmas::seen_told, crate::proofs::AskingLemmas::unseen_told))]
 pub(crate) fn ask<L: Ledger, S: Server, R: Wait>(
     rt: &R,
     operator: &Operator<'_, L, S>,

@@ -50,6 +50,7 @@ fn accepted(receipt: &Receipt) -> Response
 }
 
 /// Submits an event.
+#[tactic(auto, using(crate::proofs::SubmittingLemmas::accepted_by, crate::proofs::SubmittingLemmas::refused_by))]
 pub(crate) fn submit<L: Ledger, S: Server, R: Wait>(
     rt: &R,
     operator: &Operator<'_, L, S>,
@@ -137,6 +138,7 @@ fn cut_link<L: Ledger, S: Server, R: Wait>(
 
 /// Ends the link of the BSC that is up, by hand: its loss is entered, and its connection is shut. The refusals are those of a loss
 /// of the latest link, and of a question for the BSCs.
+#[tactic(auto, using(crate::proofs::SubmittingLemmas::cut_by, crate::proofs::SubmittingLemmas::uncut_by))]
 pub(crate) fn cut<L: Ledger, S: Server, R: Wait>(
     rt: &R,
     operator: &Operator<'_, L, S>,
