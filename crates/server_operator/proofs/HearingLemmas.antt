@@ -1,5 +1,5 @@
 -- From what a line is answered to the text of its answer.
-use Rattle.std.proofs.Common.{◌≡◌, ◌++◌, ℕ, [], ◌∷◌, inl, inr, codes, List, Result, Ok, Err, IfOk}
+use Rattle.std.proofs.Common.{◌≡◌, ◌++◌, ℕ, Bool, false, [], ◌∷◌, inl, inr, codes, List, Option, Some, None, MatchBool, MatchOption, Result, Ok, Err, IfOk, subst, sym}
 use Rattle.centre_events.specs.declared.event.Event.TheVariants as event
 use Rattle.centre_events.specs.declared.refusal.Refusal.{Refusal}
 use Rattle.centre_past.specs.declared.lists.centre_status.CentreStatus.{CentreStatus}
@@ -10,11 +10,20 @@ use Rattle.lists_text.specs.ListTexts.{status_text}
 use Rattle.office.specs.Desks.{DeskState}
 use Rattle.office.specs.Statuses.{IsStatusSomewhere}
 use Rattle.office.specs.Wishes.{IsUnwishedSomewhere, IsWishedSomewhere}
+use Rattle.console_text.specs.Words.{is_comment}
+use Rattle.server_lines.specs.ServerGrammar.{server_line_of}
+use Rattle.server_lines.specs.declared.list_line.ListLine.{ListLine}
+use Rattle.server_lines.specs.declared.server_line.ServerLine.{ServerLine}
+use Rattle.server_lines.specs.declared.server_line.ServerLine.TheVariants as line
 use Rattle.server_lines.specs.declared.text_line.TextLine.{TextLine}
-use Rattle.server_operator.specs.Hearing.{IsSayAnswer, IsTextOf, IsWishAnswer}
+use Rattle.server_operator.specs.Hearing.{IsHeard, IsHeardAs, IsHeardIf, IsHeardIn, IsLeft, IsListed, IsSayAnswer, IsTextOf, IsUnheard, IsWishAnswer}
+use Rattle.server_operator.specs.Leavings.{leaving_of}
 use Rattle.server_operator.specs.Listing.{IsStatusAnswer}
 use Rattle.server_operator.specs.Saying.{IsSaid}
 use Rattle.server_operator.specs.Submitting.{IsSubmitAnswer}
+use Rattle.server_operator.specs.declared.heard.Heard.{Heard}
+use Rattle.server_operator.specs.declared.heard.Heard.TheVariants as heard
+use Rattle.server_operator.specs.declared.leaving.Leaving.{Leaving}
 use Rattle.server_operator.specs.declared.said.Said.TheVariants as said
 
 -- the text of a response
@@ -49,3 +58,25 @@ unwished_text bytes b w cause (Err e) somewhere is = tt
 pub standing_text : {S E : Type 0} (bytes : S → List ℕ) (s : CentreStatus) (o : Result S E) → IsStatusSomewhere s → IfOk o (λ t. bytes t ≡ status_text s) → IfOk o (λ t. IsStatusAnswer (bytes t))
 standing_text bytes s (Ok t) somewhere is = record { status = s; somewhere = somewhere; is = is }
 standing_text bytes s (Err e) somewhere is = tt
+
+-- a list is printed
+pub heard_list : {E : Type 0} (d d' : DeskState) (l : ListLine) (o : Result Heard E) → IfOk o (IsListed d l) → d' ≡ d → IfOk o (IsHeardAs d (line.List l) d')
+heard_list d d' l (Ok h) is same = (is, same)
+heard_list d d' l (Err e) is same = tt
+
+-- a line ends the lines
+pub heard_left : (d d' : DeskState) (m : Bool) (l : ServerLine) (x : Leaving) (h : Heard) → leaving_of l m ≡ Some x → h ≡ heard.Left x → d' ≡ d → IsHeard d m l d' h
+heard_left d d' m l x h leaves is same = subst (λ o. MatchOption o (IsHeardAs d l d' h) (IsLeft d d' h)) (sym leaves) (is, same)
+
+-- or it doesn't
+pub heard_request : {E : Type 0} (d d' : DeskState) (m : Bool) (l : ServerLine) (o : Result Heard E) → leaving_of l m ≡ None → IfOk o (IsHeardAs d l d') → IfOk o (IsHeard d m l d')
+heard_request d d' m l (Ok h) stays is = subst (λ x. MatchOption x (IsHeardAs d l d' h) (IsLeft d d' h)) (sym stays) is
+heard_request d d' m l (Err e) stays is = tt
+
+-- the words are a line
+pub heard_line : {E : Type 0} (d d' : DeskState) (m : Bool) (octets first : List ℕ) (words : List (List ℕ)) (l : ServerLine) (o : Result Heard E) → is_comment first ≡ false
+    → server_line_of octets (first ∷ words) ≡ Some l → IfOk o (IsHeard d m l d') → IfOk o (IsHeardIn d m octets (first ∷ words) d')
+heard_line d d' m octets first words l (Ok h) counts known is =
+    subst (λ b. MatchBool b (IsUnheard d d' h) (IsHeardIf d m (server_line_of octets (first ∷ words)) d' h)) (sym counts)
+    (subst (λ x. IsHeardIf d m x d' h) (sym known) is)
+heard_line d d' m octets first words l (Err e) counts known is = tt

@@ -1,5 +1,5 @@
 -- What comes of a line of an operator.
-use Rattle.std.specs.Prelude.{◌≡◌, ◌⊎◌, ◌++◌, ℕ, Bool, List, [], ◌∷◌, Option, Some, None, MatchOption, codes, string_bytes, if◌then◌else◌}
+use Rattle.std.specs.Prelude.{◌≡◌, ◌⊎◌, ◌++◌, ℕ, Bool, List, [], ◌∷◌, Option, Some, None, MatchBool, MatchOption, codes, string_bytes}
 use Rattle.centre_events.specs.declared.event.Event.TheVariants as event
 use Rattle.centre_events.specs.declared.refusal.Refusal.{Refusal}
 use Rattle.centre_events.specs.declared.refusal.Refusal.TheVariants as refusal
@@ -93,7 +93,7 @@ IsUnheard before after h = IsAnswered (λ text. text ≡ []) h × (after ≡ bef
 abbrev pub IsHeardIn : DeskState → Bool → List ℕ → List (List ℕ) → DeskState → Heard → Type 0
 IsHeardIn before may_watch octets [] after h = IsUnheard before after h
 IsHeardIn before may_watch octets (first ∷ words) after h =
-    if is_comment first then IsUnheard before after h else IsHeardIf before may_watch (server_line_of octets (first ∷ words)) after h
+    MatchBool (is_comment first) (IsUnheard before after h) (IsHeardIf before may_watch (server_line_of octets (first ∷ words)) after h)
 
 -- what comes of a line of these octets
 abbrev pub IsHeardOf : DeskState → Bool → List ℕ → DeskState → Heard → Type 0

@@ -112,6 +112,7 @@ fn console_line<L: Ledger, S: Server, R: Wait + Clock>(
 }
 
 /// What comes of a line that ends nothing.
+#[tactic(auto, using(crate::proofs::HearingLemmas::heard_list))]
 fn hear_request<L: Ledger, S: Server, R: Wait + Clock>(
     rt: &R,
     operator: &Operator<'_, L, S>,
@@ -120,22 +121,24 @@ fn hear_request<L: Ledger, S: Server, R: Wait + Clock>(
 ) -> Result<Heard, AllocError>
     ensures { IfOk result (IsHeardAs desk.old line desk.new) }
 {
-    let text = match line {
-        ServerLine::List(line) => return hear_list(rt, operator, desk, &line),
-        ServerLine::Wish(b, warning, after) => wish(rt, operator, b, warning, after)?,
-        ServerLine::Status => status(rt, operator)?,
-        ServerLine::Help => help_text(operator.alloc)?,
-        ServerLine::Text(line) => say(rt, operator, desk, line)?,
-        ServerLine::CutLink(b) => cut_line(rt, operator, desk, b)?,
-        ServerLine::Centre(line) => console_line(rt, operator, desk, line)?,
-        ServerLine::Quit | ServerLine::Shutdown | ServerLine::Watch => {
-            response_text(operator.alloc, Response::BadLine)?
+    match line {
+        ServerLine::List(line) => hear_list(rt, operator, desk, &line),
+        ServerLine::Wish(b, warning, after) => {
+            Ok(Heard::Answered(wish(rt, operator, b, warning, after)?))
         }
-    };
-    Ok(Heard::Answered(text))
+        ServerLine::Status => Ok(Heard::Answered(status(rt, operator)?)),
+        ServerLine::Help => Ok(Heard::Answered(help_text(operator.alloc)?)),
+        ServerLine::Text(line) => Ok(Heard::Answered(say(rt, operator, desk, line)?)),
+        ServerLine::CutLink(b) => Ok(Heard::Answered(cut_line(rt, operator, desk, b)?)),
+        ServerLine::Centre(line) => Ok(Heard::Answered(console_line(rt, operator, desk, line)?)),
+        ServerLine::Quit | ServerLine::Shutdown | ServerLine::Watch => {
+            Ok(Heard::Answered(response_text(operator.alloc, Response::BadLine)?))
+        }
+    }
 }
 
 /// What comes of a line.
+#[tactic(auto, using(crate::proofs::HearingLemmas::heard_left, crate::proofs::HearingLemmas::heard_request))]
 fn hear_line<L: Ledger, S: Server, R: Wait + Clock>(
     rt: &R,
     operator: &Operator<'_, L, S>,
@@ -152,6 +155,7 @@ fn hear_line<L: Ledger, S: Server, R: Wait + Clock>(
 }
 
 /// What comes of a line that has these words.
+#[tactic(auto, using(crate::proofs::HearingLemmas::heard_line))]
 fn hear_words<L: Ledger, S: Server, R: Wait + Clock>(
     rt: &R,
     operator: &Operator<'_, L, S>,

@@ -2,5 +2,5 @@ use Rattle.std.proofs.Common.{◌≡◌}
 use Rattle.server_operator.proofs.submitting.cut.Given as goal
 
 -- what was submitted before was refused: the desk is as it was, but for its room
-abbrev pub invariant-loop-_attempt : goal.invariant-loop-_attempt
-invariant-loop-_attempt g l = l.desk ≡ record l.fn.desk { spare = l.desk.spare }
+abbrev pub invariant-loop-attempt : goal.invariant-loop-attempt
+invariant-loop-attempt g l = l.desk ≡ record l.fn.desk { spare = l.desk.spare }
