@@ -1,5 +1,5 @@
 -- From what a line is answered to the text of its answer.
-use Rattle.std.proofs.Common.{◌≡◌, ◌++◌, ℕ, Bool, false, [], ◌∷◌, inl, inr, codes, List, Option, Some, None, MatchBool, MatchOption, Result, Ok, Err, IfOk, subst, sym}
+use Rattle.std.proofs.Common.{◌≡◌, ◌++◌, ℕ, Bool, false, [], ◌∷◌, inl, inr, codes, List, Some, None, MatchBool, MatchOption, Result, Ok, Err, IfOk, subst, sym}
 use Rattle.centre_events.specs.declared.event.Event.TheVariants as event
 use Rattle.centre_events.specs.declared.refusal.Refusal.{Refusal}
 use Rattle.centre_past.specs.declared.lists.centre_status.CentreStatus.{CentreStatus}
