@@ -60,6 +60,41 @@ fn accepts<L: Ledger, R: Wait + Clock>(
     accept_consoles(rt, &operator, consoles);
 }
 
+/// The script is played, and then all threads are to end.
+fn plays_on<L: Ledger, R: Wait + Clock + Net + Abort>(
+    rt: &R,
+    office: &Office<L>,
+    program: &GivenProgram,
+    consoles: &Consoles<L>,
+    path: &str,
+    steps: &[Step],
+) {
+    plays(rt, path, steps);
+    program.end(rt);
+    consoles.close(rt);
+    office.interrupt(rt);
+    consoles.finish(rt);
+}
+
+/// Takes the connections of the consoles while the script is played.
+fn runs_acceptor<'x, L: Ledger + Send + Sync, R: Wait + Threads + Clock + Net + Abort + Sync>(
+    rt: &'x R,
+    alloc: Global,
+    office: &'x Office<L>,
+    program: &'x GivenProgram,
+    consoles: &'x Consoles<L>,
+    path: &'x str,
+    steps: &'x [Step],
+) {
+    thread::scope(thread::scope_env(), rt, move |scope| {
+        let is_started = scope
+            .spawn(move || accepts(rt, alloc, office, program, consoles))
+            .is_ok();
+        yes(rt, is_started, "connections are taken");
+        plays_on(rt, office, program, consoles, path, steps);
+    });
+}
+
 /// Serves the consoles while the script is played.
 fn runs<'x, L: Ledger + Send + Sync, R: Wait + Threads + Clock + Net + Abort + Sync>(
     rt: &'x R,
@@ -75,21 +110,10 @@ fn runs<'x, L: Ledger + Send + Sync, R: Wait + Threads + Clock + Net + Abort + S
             let is_started = scope
                 .spawn(move || serves(rt, alloc, office, program, consoles, slot))
                 .is_ok();
-            yes(
-                rt,
-                is_started && consoles.begin(rt).is_ok(),
-                "a console begins",
-            );
+            yes(rt, is_started, "a console is served");
+            yes(rt, consoles.begin(rt).is_ok(), "a console begins");
         }
-        let is_started = scope
-            .spawn(move || accepts(rt, alloc, office, program, consoles))
-            .is_ok();
-        yes(rt, is_started, "connections are taken");
-        plays(rt, path, steps);
-        program.end(rt);
-        consoles.close(rt);
-        office.interrupt(rt);
-        consoles.finish(rt);
+        runs_acceptor(rt, alloc, office, program, consoles, path, steps);
     });
 }
 
