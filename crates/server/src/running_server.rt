@@ -67,10 +67,6 @@ impl<'a, L: Ledger, E: Write + Drop> Server for RunningServer<'a, L, E> {
         }
     }
 
-    fn links(&self) -> u16 {
-        u16::try_from(self.shared.ports.len()).unwrap_or(u16::MAX)
-    }
-
     fn is_down<R: Wait>(&self, rt: &R, b: BscId) -> bool {
         match self.port_of(b) {
             Some(port) => !port.is_up(rt),

@@ -1,2 +1,5 @@
+pub mod AskingLemmas
+pub mod HearingLemmas
 pub mod ListingLemmas
+pub mod SubmittingLemmas
 pub mod TypingLemmas

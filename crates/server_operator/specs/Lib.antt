@@ -1,6 +1,10 @@
+pub mod Asking
 pub mod Downs
-pub mod Identifiers
+pub mod Edits
+pub mod Hearing
 pub mod Leavings
 pub mod Listing
+pub mod Responding
 pub mod Saying
 pub mod Sequels
+pub mod Submitting

@@ -1,10 +1,11 @@
--- What a line that asks for a list is answered.
+-- What a line that asks for a list is answered, and `status`.
 use Rattle.std.specs.Prelude.{◌≡◌, ◌⊎◌, ℕ, List, []}
 use Rattle.areas.specs.declared.selector.Selector.{Selector}
 use Rattle.centre_events.specs.declared.refusal.Refusal.{Refusal}
 use Rattle.centre_past.specs.declared.lists.area_row.AreaRow.{AreaRow}
 use Rattle.centre_past.specs.declared.lists.bsc_row.BscRow.{BscRow}
 use Rattle.centre_past.specs.declared.lists.cell_row.CellRow.{CellRow}
+use Rattle.centre_past.specs.declared.lists.centre_status.CentreStatus.{CentreStatus}
 use Rattle.centre_past.specs.declared.lists.failed_row.FailedRow.{FailedRow}
 use Rattle.centre_past.specs.declared.lists.warning_row.WarningRow.{WarningRow}
 use Rattle.centre_questions.specs.declared.question.Question.{Question}
@@ -12,9 +13,10 @@ use Rattle.centre_questions.specs.declared.question.Question.TheVariants as ques
 use Rattle.centre_questions.specs.declared.seen_value.SeenValue.{SeenValue}
 use Rattle.centre_questions.specs.declared.seen_value.SeenValue.TheVariants as value
 use Rattle.console_text.specs.Texts.{refused_text}
-use Rattle.lists_text.specs.ListTexts.{area_text, areas_text, bscs_text, cells_text, failed_text, links_text, sheet_text, warnings_text}
+use Rattle.lists_text.specs.ListTexts.{area_text, areas_text, bscs_text, cells_text, failed_text, links_text, sheet_text, status_text, warnings_text}
 use Rattle.office.specs.Desks.{DeskState}
 use Rattle.office.specs.Offices.{IsSeenSomewhere, IsUnseenSomewhere}
+use Rattle.office.specs.Statuses.{IsStatusSomewhere}
 use Rattle.office.specs.declared.seen.Seen.{Seen}
 use Rattle.server_lines.specs.declared.list_line.ListLine.{ListLine}
 use Rattle.server_lines.specs.declared.list_line.ListLine.TheVariants as line
@@ -85,3 +87,9 @@ pub record IsUnlisted (d : DeskState) (line : ListLine) (text : List ℕ) : Type
 -- what the line is answered
 abbrev pub IsListAnswer : DeskState → ListLine → List ℕ → Type 0
 IsListAnswer d line text = IsListed d line text ⊎ IsUnlisted d line text
+
+-- the text says how some centre with a lawful history stands
+pub record IsStatusAnswer (text : List ℕ) : Type 0 where
+  pub status : CentreStatus
+  pub somewhere : IsStatusSomewhere status
+  pub is : text ≡ status_text status

@@ -1,19 +1,22 @@
 //! The operator of a server: lines are read, and each is answered before the next is read.
 //!
-//! Begin with `operator`; the edits that lines ask for are in `edits`, those of lines with a text in `saying`, the events in
-//! `submitting`, the lists in `listing`, how lines come in is in `terminal`, and what is said of BSCs whose link is down in `downs`.
-//! What is promised of the office stands in `office`, what a line is in `server_lines`, and what its answer is in `console_text`.
+//! Begin with `operator`, then `hearing`: what comes of a line by its octets. What a line of the console is answered is in `responding`:
+//! its edit in `edits`, its event in `submitting`, its question in `asking`. The edits of lines with a text are in `saying`, the lists in
+//! `listing`, how lines come in is in `terminal`, and what is said of BSCs whose link is down in `downs`. What is promised of the office
+//! stands in `office`, what a line is in `server_lines`, and what its answer is in `console_text`.
 #![tactic(auto)]
 
+mod asked;
+mod asking;
 mod downs;
 mod edits;
-mod identified;
-mod identifiers;
+mod heard;
+mod hearing;
 mod leaving;
 mod listed;
 mod listing;
 mod operator;
-mod operator_desk;
+mod responding;
 mod said;
 mod saying;
 mod sequel;

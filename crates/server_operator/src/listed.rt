@@ -29,7 +29,8 @@ pub(crate) fn question_of(alloc: Global, line: &ListLine) -> Result<Question, Al
     })
 }
 
-fn bscs_in(value: &SeenValue) -> &[BscRow]
+/// The rows of BSCs that were seen, if BSCs were.
+pub(crate) fn bscs_in(value: &SeenValue) -> &[BscRow]
     ensures { result.now ≡ bscs_in value.now }
 {
     match value {

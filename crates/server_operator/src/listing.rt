@@ -1,9 +1,9 @@
 //! Lists that an operator asks for. What a list shows is a picture of one moment: the question is put under the office's lock, and its
 //! answer is printed when the lock is free again.
 
-ghost use Rattle.std.specs.Prelude.{◌≡◌, IfOk};
+ghost use Rattle.std.specs.Prelude.{◌≡◌, IfOk, string_bytes};
 ghost use Rattle.console_text.specs.Texts.{refused_text};
-ghost use Rattle.server_operator.specs.Listing.{IsListAnswer, list_text};
+ghost use Rattle.server_operator.specs.Listing.{IsListAnswer, IsStatusAnswer, list_text};
 
 use crate::listed::{list_text, question_of};
 use crate::operator::Operator;
@@ -58,10 +58,13 @@ pub(crate) fn list<L: Ledger, S: Server, R: Wait>(
 }
 
 /// What `status` is answered.
+#[tactic(auto, using(crate::proofs::HearingLemmas::standing_text))]
 pub(crate) fn status<L: Ledger, S: Server, R: Wait>(
     rt: &R,
     operator: &Operator<'_, L, S>,
-) -> Result<String, AllocError> {
+) -> Result<String, AllocError>
+    ensures { IfOk result (λ text. IsStatusAnswer (string_bytes text)) }
+{
     let status = operator.office.status(rt);
     status_text(operator.alloc, &status)
 }

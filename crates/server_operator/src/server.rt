@@ -28,9 +28,6 @@ pub trait Server {
     /// came up since stays.
     fn cut<R: Wait>(&self, rt: &R, b: BscId, generation: u64);
 
-    /// How many BSCs may connect, from BSC 1 on.
-    fn links(&self) -> u16;
-
     /// Whether the BSC may connect, and no link of its is up.
     fn is_down<R: Wait>(&self, rt: &R, b: BscId) -> bool;
 

@@ -42,10 +42,6 @@ impl Server for GivenProgram {
 
     fn cut<R: Wait>(&self, _rt: &R, _b: BscId, _generation: u64) {}
 
-    fn links(&self) -> u16 {
-        0
-    }
-
     fn is_down<R: Wait>(&self, _rt: &R, _b: BscId) -> bool {
         false
     }

@@ -76,6 +76,25 @@ const AFTER_AN_UPDATE: Play = Play {
     ..USUAL
 };
 
+/// A warning is on air at a BSC that is cut. Another of the same identifier is wanted elsewhere alone.
+#[test]
+fn a_bsc_is_named_by_its_own_warnings(rt: HostRuntime) {
+    played(&rt, rt.alloc(), &OF_ONE_IDENTIFIER);
+}
+
+const OF_ONE_IDENTIFIER: Play = Play {
+    words: &["--sim"],
+    acts: &[
+        Act::Lines(WARNINGS, 10),
+        Act::Lines("issue 4370 3 15 0 30 d4f29c0e Hills\n", 1),
+        Act::Repeats("board 1\n", ON_AIR),
+        Act::Lines("cut 1\nstop 1\nstop 3\nquit\n", 3),
+    ],
+    answers: Wanted::Settled("40"),
+    said: Wanted::HasNot(STAYS, "warning 3"),
+    ..USUAL
+};
+
 /// A warning that is stopped while its BSC is up.
 #[test]
 fn nothing_is_said_of_a_bsc_that_is_up(rt: HostRuntime) {

@@ -1,0 +1,82 @@
+-- From what a line is answered to the text of its answer.
+use Rattle.std.proofs.Common.{◌≡◌, ◌++◌, ℕ, Bool, false, [], ◌∷◌, inl, inr, codes, List, Some, None, MatchBool, MatchOption, Result, Ok, Err, IfOk, subst, sym}
+use Rattle.centre_events.specs.declared.event.Event.TheVariants as event
+use Rattle.centre_events.specs.declared.refusal.Refusal.{Refusal}
+use Rattle.centre_past.specs.declared.lists.centre_status.CentreStatus.{CentreStatus}
+use Rattle.console_text.specs.Texts.{refused_text, response_text}
+use Rattle.console_text.specs.declared.response.Response.{Response}
+use Rattle.coverage_plan.specs.declared.edit.Edit.{Edit as EditOf}
+use Rattle.lists_text.specs.ListTexts.{status_text}
+use Rattle.office.specs.Desks.{DeskState}
+use Rattle.office.specs.Statuses.{IsStatusSomewhere}
+use Rattle.office.specs.Wishes.{IsUnwishedSomewhere, IsWishedSomewhere}
+use Rattle.console_text.specs.Words.{is_comment}
+use Rattle.server_lines.specs.ServerGrammar.{server_line_of}
+use Rattle.server_lines.specs.declared.list_line.ListLine.{ListLine}
+use Rattle.server_lines.specs.declared.server_line.ServerLine.{ServerLine}
+use Rattle.server_lines.specs.declared.server_line.ServerLine.TheVariants as line
+use Rattle.server_lines.specs.declared.text_line.TextLine.{TextLine}
+use Rattle.server_operator.specs.Hearing.{IsHeard, IsHeardAs, IsHeardIf, IsHeardIn, IsLeft, IsListed, IsSayAnswer, IsTextOf, IsUnheard, IsWishAnswer}
+use Rattle.server_operator.specs.Leavings.{leaving_of}
+use Rattle.server_operator.specs.Listing.{IsStatusAnswer}
+use Rattle.server_operator.specs.Saying.{IsSaid}
+use Rattle.server_operator.specs.Submitting.{IsSubmitAnswer}
+use Rattle.server_operator.specs.declared.heard.Heard.{Heard}
+use Rattle.server_operator.specs.declared.heard.Heard.TheVariants as heard
+use Rattle.server_operator.specs.declared.leaving.Leaving.{Leaving}
+use Rattle.server_operator.specs.declared.said.Said.TheVariants as said
+
+-- the text of a response
+pub text_of : {S E : Type 0} (bytes : S → List ℕ) (P : Response → Type 0) (r : Response) (o : Result S E) → P r → IfOk o (λ s. bytes s ≡ response_text r) → IfOk o (λ s. IsTextOf P (bytes s))
+text_of bytes P r (Ok s) such is = record { response = r; such = such; is = is }
+text_of bytes P r (Err e) such is = tt
+
+-- a text that was typed is said
+pub said_text : {S E : Type 0} (bytes : S → List ℕ) (d d' : DeskState) (l : TextLine) (change : EditOf) (r : Response) (o : Result S E) → IsSaid l (said.Edit change)
+    → IsSubmitAnswer d (event.Edit change) d' r → IfOk o (λ s. bytes s ≡ response_text r) → IfOk o (λ s. IsSayAnswer d l d' (bytes s))
+said_text bytes d d' l change r (Ok s) asks answer is = inl (record { change = change; asks = asks; answered = record { response = r; such = answer; is = is } })
+said_text bytes d d' l change r (Err e) asks answer is = tt
+
+-- or it is bad
+pub bad_text : {S E : Type 0} (bytes : S → List ℕ) (d d' : DeskState) (l : TextLine) (o : Result S E) → IsSaid l said.BadText → d' ≡ d → IfOk o (λ s. bytes s ≡ codes "bad text" ++ 10 ∷ [])
+    → IfOk o (λ s. IsSayAnswer d l d' (bytes s))
+bad_text bytes d d' l (Ok s) bad same is = inr (bad, is, same)
+bad_text bytes d d' l (Err e) bad same is = tt
+
+-- a wish is kept
+pub wished_text : {S E : Type 0} (bytes : S → List ℕ) (b w : ℕ) (o : Result S E) → IsWishedSomewhere b w → IfOk o (λ s. bytes s ≡ codes "wished" ++ 10 ∷ []) → IfOk o (λ s. IsWishAnswer b w (bytes s))
+wished_text bytes b w (Ok s) kept is = inl (kept, is)
+wished_text bytes b w (Err e) kept is = tt
+
+-- or refused
+pub unwished_text : {S E : Type 0} (bytes : S → List ℕ) (b w : ℕ) (cause : Refusal) (o : Result S E) → IsUnwishedSomewhere b w cause → IfOk o (λ s. bytes s ≡ refused_text cause)
+    → IfOk o (λ s. IsWishAnswer b w (bytes s))
+unwished_text bytes b w cause (Ok s) somewhere is = inr (record { cause = cause; somewhere = somewhere; is = is })
+unwished_text bytes b w cause (Err e) somewhere is = tt
+
+-- how a centre stands
+pub standing_text : {S E : Type 0} (bytes : S → List ℕ) (s : CentreStatus) (o : Result S E) → IsStatusSomewhere s → IfOk o (λ t. bytes t ≡ status_text s) → IfOk o (λ t. IsStatusAnswer (bytes t))
+standing_text bytes s (Ok t) somewhere is = record { status = s; somewhere = somewhere; is = is }
+standing_text bytes s (Err e) somewhere is = tt
+
+-- a list is printed
+pub heard_list : {E : Type 0} (d d' : DeskState) (l : ListLine) (o : Result Heard E) → IfOk o (IsListed d l) → d' ≡ d → IfOk o (IsHeardAs d (line.List l) d')
+heard_list d d' l (Ok h) is same = (is, same)
+heard_list d d' l (Err e) is same = tt
+
+-- a line ends the lines
+pub heard_left : (d d' : DeskState) (m : Bool) (l : ServerLine) (x : Leaving) (h : Heard) → leaving_of l m ≡ Some x → h ≡ heard.Left x → d' ≡ d → IsHeard d m l d' h
+heard_left d d' m l x h leaves is same = subst (λ o. MatchOption o (IsHeardAs d l d' h) (IsLeft d d' h)) (sym leaves) (is, same)
+
+-- or it doesn't
+pub heard_request : {E : Type 0} (d d' : DeskState) (m : Bool) (l : ServerLine) (o : Result Heard E) → leaving_of l m ≡ None → IfOk o (IsHeardAs d l d') → IfOk o (IsHeard d m l d')
+heard_request d d' m l (Ok h) stays is = subst (λ x. MatchOption x (IsHeardAs d l d' h) (IsLeft d d' h)) (sym stays) is
+heard_request d d' m l (Err e) stays is = tt
+
+-- the words are a line
+pub heard_line : {E : Type 0} (d d' : DeskState) (m : Bool) (octets first : List ℕ) (words : List (List ℕ)) (l : ServerLine) (o : Result Heard E) → is_comment first ≡ false
+    → server_line_of octets (first ∷ words) ≡ Some l → IfOk o (IsHeard d m l d') → IfOk o (IsHeardIn d m octets (first ∷ words) d')
+heard_line d d' m octets first words l (Ok h) counts known is =
+    subst (λ b. MatchBool b (IsUnheard d d' h) (IsHeardIf d m (server_line_of octets (first ∷ words)) d' h)) (sym counts)
+    (subst (λ x. IsHeardIf d m x d' h) (sym known) is)
+heard_line d d' m octets first words l (Err e) counts known is = tt

@@ -1,0 +1,100 @@
+-- What comes of a line of an operator.
+use Rattle.std.specs.Prelude.{◌≡◌, ◌⊎◌, ◌++◌, ℕ, Bool, List, [], ◌∷◌, Option, Some, None, MatchBool, MatchOption, codes, string_bytes}
+use Rattle.centre_events.specs.declared.event.Event.TheVariants as event
+use Rattle.centre_events.specs.declared.refusal.Refusal.{Refusal}
+use Rattle.centre_events.specs.declared.refusal.Refusal.TheVariants as refusal
+use Rattle.console_text.specs.Texts.{refused_text, response_text}
+use Rattle.console_text.specs.Words.{is_comment, words_of}
+use Rattle.console_text.specs.declared.response.Response.{Response}
+use Rattle.console_text.specs.declared.response.Response.TheVariants as response
+use Rattle.coverage_plan.specs.declared.edit.Edit.{Edit as EditOf}
+use Rattle.office.specs.Desks.{DeskState}
+use Rattle.office.specs.Wishes.{IsUnwishedSomewhere, IsWishedSomewhere}
+use Rattle.server_lines.specs.ServerGrammar.{server_line_of}
+use Rattle.server_lines.specs.declared.list_line.ListLine.{ListLine}
+use Rattle.server_lines.specs.declared.server_line.ServerLine.{ServerLine}
+use Rattle.server_lines.specs.declared.server_line.ServerLine.TheVariants as line
+use Rattle.server_lines.specs.declared.text_line.TextLine.{TextLine}
+use Rattle.server_operator.specs.Leavings.{leaving_of}
+use Rattle.server_operator.specs.Listing.{IsListAnswer, IsStatusAnswer}
+use Rattle.server_operator.specs.Responding.{IsAnswer}
+use Rattle.server_operator.specs.Saying.{IsSaid}
+use Rattle.server_operator.specs.Submitting.{IsCutAnswer, IsSubmitAnswer}
+use Rattle.server_operator.specs.declared.heard.Heard.{Heard}
+use Rattle.server_operator.specs.declared.heard.Heard.TheVariants as heard
+use Rattle.server_operator.specs.declared.said.Said.TheVariants as said
+use Rattle.server_operator.specs.declared.leaving.Leaving.{Leaving}
+
+-- the text is that of such a response
+pub record IsTextOf (P : Response → Type 0) (text : List ℕ) : Type 0 where
+  pub response : Response
+  pub such : P response
+  pub is : text ≡ response_text response
+
+-- a line with a text is answered as the edit is that it asks for
+pub record IsSayText (before : DeskState) (l : TextLine) (after : DeskState) (text : List ℕ) : Type 0 where
+  pub change : EditOf
+  pub asks : IsSaid l (said.Edit change)
+  pub answered : IsTextOf (IsSubmitAnswer before (event.Edit change) after) text
+
+-- or its text is bad
+abbrev pub IsSayAnswer : DeskState → TextLine → DeskState → List ℕ → Type 0
+IsSayAnswer before l after text = IsSayText before l after text ⊎ (IsSaid l said.BadText × (text ≡ codes "bad text" ++ 10 ∷ []) × (after ≡ before))
+
+-- the wish is kept, or the text is the cause for which it isn't
+pub record IsUnwished (b w : ℕ) (text : List ℕ) : Type 0 where
+  pub cause : Refusal
+  pub somewhere : IsUnwishedSomewhere b w cause
+  pub is : text ≡ refused_text cause
+
+abbrev pub IsWishAnswer : ℕ → ℕ → List ℕ → Type 0
+IsWishAnswer b w text = (IsWishedSomewhere b w × (text ≡ codes "wished" ++ 10 ∷ [])) ⊎ IsUnwished b w text
+
+-- the line is answered with such a text
+abbrev pub IsAnswered : (List ℕ → Type 0) → Heard → Type 0
+IsAnswered P (heard.Answered text) = P (string_bytes text)
+IsAnswered P other = ⊥
+
+-- a list is printed; where memory runs out for its text, the line is refused
+abbrev pub IsListed : DeskState → ListLine → Heard → Type 0
+IsListed before l (heard.Listed text) = IsListAnswer before l text
+IsListed before l (heard.Answered text) = string_bytes text ≡ refused_text refusal.Memory
+IsListed before l (heard.Left leaving) = ⊥
+
+-- what comes of a line that ends nothing
+abbrev pub IsHeardAs : DeskState → ServerLine → DeskState → Heard → Type 0
+IsHeardAs before (line.Wish b w after_cell) after h = IsAnswered (IsWishAnswer b w) h × (after ≡ before)
+IsHeardAs before line.Status after h = IsAnswered IsStatusAnswer h × (after ≡ before)
+IsHeardAs before line.Help after h = IsAnswered (λ text. Unit {0}) h × (after ≡ before)
+IsHeardAs before (line.List l) after h = IsListed before l h × (after ≡ before)
+IsHeardAs before (line.Text l) after h = IsAnswered (IsSayAnswer before l after) h
+IsHeardAs before (line.CutLink b) after h = IsAnswered (IsTextOf (IsCutAnswer before b after)) h
+IsHeardAs before (line.Centre l) after h = IsAnswered (IsTextOf (IsAnswer before l after)) h
+IsHeardAs before other after h = IsAnswered (λ text. text ≡ response_text response.BadLine) h × (after ≡ before)
+
+-- the line ends the lines so
+abbrev pub IsLeft : DeskState → DeskState → Heard → Leaving → Type 0
+IsLeft before after h leaving = (h ≡ heard.Left leaving) × (after ≡ before)
+
+-- what comes of the line, where the operator may follow the journal or not
+abbrev pub IsHeard : DeskState → Bool → ServerLine → DeskState → Heard → Type 0
+IsHeard before may_watch l after h = MatchOption (leaving_of l may_watch) (IsHeardAs before l after h) (IsLeft before after h)
+
+-- what comes of octets that are that line, or a bad one
+abbrev pub IsHeardIf : DeskState → Bool → Option ServerLine → DeskState → Heard → Type 0
+IsHeardIf before may_watch None after h = IsAnswered (λ text. text ≡ response_text response.BadLine) h × (after ≡ before)
+IsHeardIf before may_watch (Some l) after h = IsHeard before may_watch l after h
+
+-- nothing is answered
+abbrev pub IsUnheard : DeskState → DeskState → Heard → Type 0
+IsUnheard before after h = IsAnswered (λ text. text ≡ []) h × (after ≡ before)
+
+-- what comes of octets that have these words; a line without words and a comment are answered nothing
+abbrev pub IsHeardIn : DeskState → Bool → List ℕ → List (List ℕ) → DeskState → Heard → Type 0
+IsHeardIn before may_watch octets [] after h = IsUnheard before after h
+IsHeardIn before may_watch octets (first ∷ words) after h =
+    MatchBool (is_comment first) (IsUnheard before after h) (IsHeardIf before may_watch (server_line_of octets (first ∷ words)) after h)
+
+-- what comes of a line of these octets
+abbrev pub IsHeardOf : DeskState → Bool → List ℕ → DeskState → Heard → Type 0
+IsHeardOf before may_watch octets after h = IsHeardIn before may_watch octets (words_of octets) after h

@@ -1,0 +1,41 @@
+-- What an operator is answered whose line is one of the console.
+use Rattle.std.specs.Prelude.{◌≡◌, ◌⊎◌}
+use Rattle.centre_events.specs.declared.event.Event.TheVariants as event
+use Rattle.centre_events.specs.declared.refusal.Refusal.TheVariants as refusal
+use Rattle.centre_questions.specs.declared.question.Question.{Question}
+use Rattle.centre_questions.specs.declared.question.Question.TheVariants as question
+use Rattle.console_text.specs.declared.line.Line.{Line}
+use Rattle.console_text.specs.declared.line.Line.TheVariants as line
+use Rattle.console_text.specs.declared.response.Response.{Response}
+use Rattle.console_text.specs.declared.response.Response.TheVariants as response
+use Rattle.office.specs.Desks.{DeskState}
+use Rattle.server_operator.specs.Asking.{IsAskAnswer}
+use Rattle.server_operator.specs.Edits.{asked_of}
+use Rattle.server_operator.specs.Submitting.{IsSubmitAnswer}
+use Rattle.server_operator.specs.declared.asked.Asked.{Asked}
+use Rattle.server_operator.specs.declared.asked.Asked.TheVariants as asked
+
+-- the desk is as it was, and the question is answered so
+abbrev pub IsAsked : DeskState → Question → DeskState → Response → Type 0
+IsAsked before q after r = IsAskAnswer before q r × (after ≡ before)
+
+-- how a line is answered that is no edit: a `retry`, a question, a `rebuild` or a `checkpoint`; any other is a bad line
+abbrev pub IsOtherAnswer : DeskState → Line → DeskState → Response → Type 0
+IsOtherAnswer before (line.Retry b) after r = IsSubmitAnswer before (event.Retry b) after r
+IsOtherAnswer before (line.Board w) after r = IsAsked before (question.Total w) after r
+IsOtherAnswer before (line.AreaBoard w a) after r = IsAsked before (question.Area w a) after r
+IsOtherAnswer before (line.Pending b) after r = IsAsked before (question.Pending b) after r
+IsOtherAnswer before (line.Table b) after r = IsAsked before (question.Table b) after r
+IsOtherAnswer before line.Rebuild after r = ((r ≡ response.Rebuilt) ⊎ (r ≡ response.Refused refusal.Memory)) × (after ≡ before)
+IsOtherAnswer before line.Checkpoint after r = after ≡ before
+IsOtherAnswer before other after r = (r ≡ response.BadLine) × (after ≡ before)
+
+-- how a line is answered that comes to that
+abbrev pub IsAnswerFor : DeskState → Asked → DeskState → Response → Type 0
+IsAnswerFor before (asked.Edit change) after r = IsSubmitAnswer before (event.Edit change) after r
+IsAnswerFor before asked.BadHex after r = (r ≡ response.BadHex) × (after ≡ before)
+IsAnswerFor before (asked.Other l) after r = IsOtherAnswer before l after r
+
+-- how the line is answered
+abbrev pub IsAnswer : DeskState → Line → DeskState → Response → Type 0
+IsAnswer before l after r = IsAnswerFor before (asked_of l) after r

@@ -1,0 +1,193 @@
+//! What lines are answered, by their octets.
+
+ghost use Rattle.std.specs.Prelude.{◌≡◌, IfOk, string_bytes};
+ghost use Rattle.server_operator.specs.Hearing.{IsHeard, IsHeardAs, IsHeardIn, IsHeardOf, IsListed, IsSayAnswer, IsTextOf, IsWishAnswer};
+ghost use Rattle.server_operator.specs.Responding.{IsAnswer};
+ghost use Rattle.server_operator.specs.Submitting.{IsCutAnswer};
+
+use crate::heard::Heard;
+use crate::leaving::leaving_of;
+use crate::listing::{list, status};
+use crate::operator::Operator;
+use crate::responding::respond;
+use crate::said::Said;
+use crate::saying::said_of;
+use crate::server::Server;
+use crate::submitting::{cut, edit};
+use cell_register::BscId;
+use centre_events::refusal::Refusal;
+use common::{Cell, Octets};
+use console_text::answer_text::response_text;
+use console_text::line::Line;
+use console_text::response::Response;
+use console_text::words::{is_comment, split_words};
+use office::desk::Desk;
+use server_lines::grammar::read_server_line;
+use server_lines::help::help_text;
+use server_lines::list_line::ListLine;
+use server_lines::server_line::ServerLine;
+use server_lines::text_line::TextLine;
+use std::alloc::AllocError;
+use std::sync::Wait;
+use std::sync::ledger::Ledger;
+use std::time::Clock;
+use warning_book::WarningId;
+
+/// Keeps a wish for a query.
+#[tactic(auto, using(crate::proofs::HearingLemmas::wished_text, crate::proofs::HearingLemmas::unwished_text))]
+fn wish<L: Ledger, S: Server, R: Wait>(
+    rt: &R,
+    operator: &Operator<'_, L, S>,
+    b: BscId,
+    warning: WarningId,
+    after: Option<Cell>,
+) -> Result<String, AllocError>
+    ensures { IfOk result (λ text. IsWishAnswer b warning (string_bytes text)) }
+{
+    match operator.office.wish(rt, b, warning, after) {
+        Ok(()) => String::from_str(operator.alloc, "wished\n"),
+        Err(refusal) => response_text(operator.alloc, Response::Refused(refusal)),
+    }
+}
+
+/// What a line is answered that asks for a list. Where memory runs out for its text, it is refused.
+fn hear_list<L: Ledger, S: Server, R: Wait>(
+    rt: &R,
+    operator: &Operator<'_, L, S>,
+    desk: &Desk<L>,
+    line: &ListLine,
+) -> Result<Heard, AllocError>
+    ensures { IfOk result (IsListed desk.now line.now) }
+{
+    match list(rt, operator, desk, line) {
+        Ok(text) => Ok(Heard::Listed(text)),
+        Err(_) => {
+            let text = response_text(operator.alloc, Response::Refused(Refusal::Memory))?;
+            Ok(Heard::Answered(text))
+        }
+    }
+}
+
+/// Answers a line that has a text.
+#[tactic(auto, using(crate::proofs::HearingLemmas::said_text, crate::proofs::HearingLemmas::bad_text))]
+fn say<L: Ledger, S: Server, R: Wait + Clock>(
+    rt: &R,
+    operator: &Operator<'_, L, S>,
+    desk: &mut Desk<L>,
+    line: TextLine,
+) -> Result<String, AllocError>
+    ensures { IfOk result (λ text. IsSayAnswer desk.old line desk.new (string_bytes text)) }
+{
+    match said_of(operator.alloc, line)? {
+        Said::Edit(change) => response_text(operator.alloc, edit(rt, operator, desk, change)),
+        Said::BadText => String::from_str(operator.alloc, "bad text\n"),
+    }
+}
+
+/// Answers a line that ends the link of a BSC.
+#[tactic(auto, using(crate::proofs::HearingLemmas::text_of))]
+fn cut_line<L: Ledger, S: Server, R: Wait>(
+    rt: &R,
+    operator: &Operator<'_, L, S>,
+    desk: &mut Desk<L>,
+    b: BscId,
+) -> Result<String, AllocError>
+    ensures { IfOk result (λ text. IsTextOf (IsCutAnswer desk.old b desk.new) (string_bytes text)) }
+{
+    response_text(operator.alloc, cut(rt, operator, desk, b))
+}
+
+/// Answers a line of the console.
+#[tactic(auto, using(crate::proofs::HearingLemmas::text_of))]
+fn console_line<L: Ledger, S: Server, R: Wait + Clock>(
+    rt: &R,
+    operator: &Operator<'_, L, S>,
+    desk: &mut Desk<L>,
+    line: Line,
+) -> Result<String, AllocError>
+    ensures { IfOk result (λ text. IsTextOf (IsAnswer desk.old line desk.new) (string_bytes text)) }
+{
+    let response = respond(rt, operator, desk, line)?;
+    response_text(operator.alloc, response)
+}
+
+/// What comes of a line that ends nothing.
+#[tactic(auto, using(crate::proofs::HearingLemmas::heard_list))]
+fn hear_request<L: Ledger, S: Server, R: Wait + Clock>(
+    rt: &R,
+    operator: &Operator<'_, L, S>,
+    desk: &mut Desk<L>,
+    line: ServerLine,
+) -> Result<Heard, AllocError>
+    ensures { IfOk result (IsHeardAs desk.old line desk.new) }
+{
+    match line {
+        ServerLine::List(line) => hear_list(rt, operator, desk, &line),
+        ServerLine::Wish(b, warning, after) => {
+            Ok(Heard::Answered(wish(rt, operator, b, warning, after)?))
+        }
+        ServerLine::Status => Ok(Heard::Answered(status(rt, operator)?)),
+        ServerLine::Help => Ok(Heard::Answered(help_text(operator.alloc)?)),
+        ServerLine::Text(line) => Ok(Heard::Answered(say(rt, operator, desk, line)?)),
+        ServerLine::CutLink(b) => Ok(Heard::Answered(cut_line(rt, operator, desk, b)?)),
+        ServerLine::Centre(line) => Ok(Heard::Answered(console_line(rt, operator, desk, line)?)),
+        ServerLine::Quit | ServerLine::Shutdown | ServerLine::Watch => {
+            Ok(Heard::Answered(response_text(operator.alloc, Response::BadLine)?))
+        }
+    }
+}
+
+/// What comes of a line.
+#[tactic(auto, using(crate::proofs::HearingLemmas::heard_left, crate::proofs::HearingLemmas::heard_request))]
+fn hear_line<L: Ledger, S: Server, R: Wait + Clock>(
+    rt: &R,
+    operator: &Operator<'_, L, S>,
+    desk: &mut Desk<L>,
+    line: ServerLine,
+) -> Result<Heard, AllocError>
+    ensures { IfOk result (IsHeard desk.old operator.now.may_watch line desk.new) }
+{
+    if let Some(leaving) = leaving_of(&line, operator.may_watch) {
+        drop(line);
+        return Ok(Heard::Left(leaving));
+    }
+    hear_request(rt, operator, desk, line)
+}
+
+/// What comes of a line that has these words.
+#[tactic(auto, using(crate::proofs::HearingLemmas::heard_line))]
+fn hear_words<L: Ledger, S: Server, R: Wait + Clock>(
+    rt: &R,
+    operator: &Operator<'_, L, S>,
+    desk: &mut Desk<L>,
+    line: &[u8],
+    words: &[Octets],
+) -> Result<Heard, AllocError>
+    ensures { IfOk result (IsHeardIn desk.old operator.now.may_watch line.now words.now desk.new) }
+{
+    let [first, ..] = words else {
+        return Ok(Heard::Answered(String::new(operator.alloc)));
+    };
+    if is_comment(first.as_slice()) {
+        return Ok(Heard::Answered(String::new(operator.alloc)));
+    }
+    match read_server_line(operator.alloc, line, words)? {
+        Some(line) => hear_line(rt, operator, desk, line),
+        None => Ok(Heard::Answered(response_text(operator.alloc, Response::BadLine)?)),
+    }
+}
+
+/// What comes of a line of these octets.
+pub(crate) fn hear<L: Ledger, S: Server, R: Wait + Clock>(
+    rt: &R,
+    operator: &Operator<'_, L, S>,
+    desk: &mut Desk<L>,
+    line: &[u8],
+) -> Result<Heard, AllocError>
+    ensures { IfOk result (IsHeardOf desk.old operator.now.may_watch line.now desk.new) }
+{
+    let words = split_words(operator.alloc, line)?;
+    let heard = hear_words(rt, operator, desk, line, words.as_slice());
+    drop(words);
+    heard
+}

@@ -1,0 +1,86 @@
+//! What the lines of the console are answered.
+
+ghost use Rattle.std.specs.Prelude.{◌≡◌, ◌⊎◌, IfOk};
+ghost use Rattle.console_text.specs.Texts.{ResponseFits};
+ghost use Rattle.console_text.specs.declared.response.Response.TheVariants as response_spec;
+ghost use Rattle.server_operator.specs.Responding.{IsAnswer, IsOtherAnswer};
+
+use crate::asked::Asked;
+use crate::asking::ask;
+use crate::edits::asked_of;
+use crate::operator::Operator;
+use crate::server::Server;
+use crate::submitting::{edit, submit};
+use centre_events::event::Event;
+use centre_events::refusal::Refusal;
+use console_text::line::Line;
+use console_text::response::Response;
+use office::desk::Desk;
+use office::question::Question;
+use std::alloc::AllocError;
+use std::sync::Wait;
+use std::sync::ledger::Ledger;
+use std::time::Clock;
+
+/// Makes a stale centre whole.
+fn rebuild<L: Ledger, S: Server, R: Wait>(rt: &R, operator: &Operator<'_, L, S>) -> Response
+    ensures { (result ≡ response_spec.Rebuilt) ⊎ (result ≡ response_spec.Refused Refusal.Memory) }
+{
+    match operator.office.rebuild(rt) {
+        Ok(()) => Response::Rebuilt,
+        Err(_) => Response::Refused(Refusal::Memory),
+    }
+}
+
+/// Folds the journal.
+fn checkpoint<L: Ledger, S: Server, R: Wait>(rt: &R, operator: &Operator<'_, L, S>) -> Response
+    ensures { ResponseFits result }
+{
+    match operator.server.checkpoint(rt) {
+        Ok(count) => Response::Folded(count),
+        Err(refusal) => Response::Refused(refusal),
+    }
+}
+
+/// What a line that is no edit is answered. The lines by which a script plays the part of a link are bad lines here: the links
+/// are those of the ports.
+fn respond_other<L: Ledger, S: Server, R: Wait>(
+    rt: &R,
+    operator: &Operator<'_, L, S>,
+    desk: &mut Desk<L>,
+    line: Line,
+) -> Response
+    ensures answer { IsOtherAnswer desk.old line desk.new result }
+    ensures fits { ResponseFits result }
+{
+    match line {
+        Line::Retry(b) => submit(rt, operator, desk, Event::Retry(b)),
+        Line::Board(warning) => ask(rt, operator, desk, Question::Total(warning)),
+        Line::AreaBoard(warning, area) => ask(rt, operator, desk, Question::Area(warning, area)),
+        Line::Pending(b) => ask(rt, operator, desk, Question::Pending(b)),
+        Line::Table(b) => ask(rt, operator, desk, Question::Table(b)),
+        Line::Rebuild => rebuild(rt, operator),
+        Line::Checkpoint => checkpoint(rt, operator),
+        other => {
+            drop(other);
+            Response::BadLine
+        }
+    }
+}
+
+/// What a line of the console is answered.
+pub(crate) fn respond<L: Ledger, S: Server, R: Wait + Clock>(
+    rt: &R,
+    operator: &Operator<'_, L, S>,
+    desk: &mut Desk<L>,
+    line: Line,
+) -> Result<Response, AllocError>
+    ensures answer { IfOk result (IsAnswer desk.old line desk.new) }
+    ensures fits { IfOk result ResponseFits }
+{
+    match asked_of(operator.alloc, line)? {
+        Asked::Edit(change) => Ok(edit(rt, operator, desk, change)),
+        Asked::BadHex => Ok(Response::BadHex),
+        Asked::Other(line) => Ok(respond_other(rt, operator, desk, line)),
+    }
+}

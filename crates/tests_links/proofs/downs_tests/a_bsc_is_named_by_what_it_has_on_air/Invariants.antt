@@ -1,0 +1,4 @@
+use Rattle.tests_links.proofs.downs_tests.a_bsc_is_named_by_what_it_has_on_air.Given as goal
+
+abbrev pub ghosts-downs : goal.ghosts-downs
+ghosts-downs g a = record { name = a.blank.name; parts = a.blank.parts }
