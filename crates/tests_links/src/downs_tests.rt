@@ -129,7 +129,7 @@ fn on_air<L: Ledger, R: Wait + Abort>(rt: &R, alloc: Global, blank: Blank) -> Of
     office
 }
 
-fn downs<L: Ledger, R: Wait + Clock + Abort>(rt: &R, alloc: Global, blank: Blank)
+fn names_bscs<L: Ledger, R: Wait + Clock + Abort>(rt: &R, alloc: Global, blank: Blank)
     requires name { blank.name ≡ L.name }
     requires parts { blank.parts ≡ L.parts }
     requires desks { blank.parts ≡ 1025 }
@@ -165,5 +165,5 @@ fn downs<L: Ledger, R: Wait + Clock + Abort>(rt: &R, alloc: Global, blank: Blank
 /// A BSC is named by the warnings that it has on air, and by no other of the same identifier, at whatever desk they were issued.
 #[test]
 fn a_bsc_is_named_by_what_it_has_on_air(rt: HostRuntime) {
-    downs::<Brand, _>(&rt, rt.alloc(), Blank::new(1025));
+    names_bscs::<Brand, _>(&rt, rt.alloc(), Blank::new(1025));
 }
