@@ -95,6 +95,12 @@ fn runs_acceptor<'x, L: Ledger + Send + Sync, R: Wait + Threads + Clock + Net + 
     });
 }
 
+/// A console begins, whose thread was started.
+fn begins<L: Ledger, R: Wait + Abort>(rt: &R, consoles: &Consoles<L>, is_started: bool) {
+    yes(rt, is_started, "a console is served");
+    yes(rt, consoles.begin(rt).is_ok(), "a console begins");
+}
+
 /// Serves the consoles while the script is played.
 fn runs<'x, L: Ledger + Send + Sync, R: Wait + Threads + Clock + Net + Abort + Sync>(
     rt: &'x R,
@@ -110,8 +116,7 @@ fn runs<'x, L: Ledger + Send + Sync, R: Wait + Threads + Clock + Net + Abort + S
             let is_started = scope
                 .spawn(move || serves(rt, alloc, office, program, consoles, slot))
                 .is_ok();
-            yes(rt, is_started, "a console is served");
-            yes(rt, consoles.begin(rt).is_ok(), "a console begins");
+            begins(rt, consoles, is_started);
         }
         runs_acceptor(rt, alloc, office, program, consoles, path, steps);
     });
