@@ -76,29 +76,25 @@ fn plays_on<L: Ledger, R: Wait + Clock + Net + Abort>(
     consoles.finish(rt);
 }
 
-/// Takes the connections of the consoles while the script is played.
-fn runs_acceptor<'x, L: Ledger + Send + Sync, R: Wait + Threads + Clock + Net + Abort + Sync>(
+/// Serves the consoles, and takes their connections, until they are closed.
+fn serves_all<'x, L: Ledger + Send + Sync, R: Wait + Threads + Clock + Sync>(
     rt: &'x R,
     alloc: Global,
     office: &'x Office<L>,
     program: &'x GivenProgram,
     consoles: &'x Consoles<L>,
-    path: &'x str,
-    steps: &'x [Step],
 ) {
     thread::scope(thread::scope_env(), rt, move |scope| {
-        let is_started = scope
-            .spawn(move || accepts(rt, alloc, office, program, consoles))
-            .is_ok();
-        yes(rt, is_started, "connections are taken");
-        plays_on(rt, office, program, consoles, path, steps);
+        for slot in 0..consoles.consoles.len() {
+            let is_started = scope
+                .spawn(move || serves(rt, alloc, office, program, consoles, slot))
+                .is_ok();
+            if !is_started || consoles.begin(rt).is_err() {
+                break;
+            }
+        }
+        accepts(rt, alloc, office, program, consoles);
     });
-}
-
-/// A console begins, whose thread was started.
-fn begins<L: Ledger, R: Wait + Abort>(rt: &R, consoles: &Consoles<L>, is_started: bool) {
-    yes(rt, is_started, "a console is served");
-    yes(rt, consoles.begin(rt).is_ok(), "a console begins");
 }
 
 /// Serves the consoles while the script is played.
@@ -112,13 +108,11 @@ fn runs<'x, L: Ledger + Send + Sync, R: Wait + Threads + Clock + Net + Abort + S
     steps: &'x [Step],
 ) {
     thread::scope(thread::scope_env(), rt, move |scope| {
-        for slot in 0..consoles.consoles.len() {
-            let is_started = scope
-                .spawn(move || serves(rt, alloc, office, program, consoles, slot))
-                .is_ok();
-            begins(rt, consoles, is_started);
-        }
-        runs_acceptor(rt, alloc, office, program, consoles, path, steps);
+        let is_started = scope
+            .spawn(move || serves_all(rt, alloc, office, program, consoles))
+            .is_ok();
+        yes(rt, is_started, "consoles are served");
+        plays_on(rt, office, program, consoles, path, steps);
     });
 }
 
@@ -164,6 +158,31 @@ fn opened<L: Ledger, R: Wait + Files + Net + Abort>(
     consoles
 }
 
+/// So many consoles are served while the script is played. The answer is their desks.
+fn desks_after<L: Ledger + Send + Sync, R: Wait + Threads + Clock + Files + Net + Abort + Sync>(
+    rt: &R,
+    alloc: Global,
+    office: &Office<L>,
+    path: &str,
+    count: u32,
+    steps: &[Step],
+) -> Vec<Desk<L>> {
+    let consoles = opened(rt, alloc, office, path, count);
+    runs(
+        rt,
+        alloc,
+        office,
+        &GivenProgram::new(),
+        &consoles,
+        path,
+        steps,
+    );
+    close_socket(rt, path);
+    let desks = desks_of(rt, alloc, &consoles);
+    drop(consoles);
+    desks
+}
+
 /// So many consoles are served while the script is played. The answer is how many entries there are once the desks are settled.
 fn served<L: Ledger + Send + Sync, R: Wait + Threads + Clock + Files + Net + Abort + Sync>(
     rt: &R,
@@ -178,13 +197,9 @@ fn served<L: Ledger + Send + Sync, R: Wait + Threads + Clock + Files + Net + Abo
     requires desks { blank.parts ≡ 1025 }
 {
     let office: Office<L> = Office::new(alloc, blank, PLMN, 1000);
-    let consoles = opened(rt, alloc, &office, path, count);
-    let program = GivenProgram::new();
-    runs(rt, alloc, &office, &program, &consoles, path, steps);
-    close_socket(rt, path);
-    let desks = desks_of(rt, alloc, &consoles);
-    drop(consoles);
-    settled(office, desks).expect(
+    let desks = desks_after(rt, alloc, &office, path, count, steps);
+    let entries = settled(office, desks);
+    entries.expect(
         rt,
         "the receipts of the desks are the entries of the journal",
     )
