@@ -100,8 +100,16 @@ fn both_register<L: Ledger + Send + Sync, R: Threads + Wait + Abort + Sync>(
 /// The number of entries, where the desks settle; else the fault.
 fn settled<L: Ledger>(office: Office<L>, desks: Vec<Desk<L>>) -> Result<u64, Fault> {
     match office.settle(desks) {
-        Ok(centre) => Ok(centre.position()),
-        Err(unsettled) => Err(unsettled.fault),
+        Ok(centre) => {
+            let position = centre.position();
+            drop(centre);
+            Ok(position)
+        }
+        Err(unsettled) => {
+            let fault = unsettled.fault;
+            drop(unsettled);
+            Err(fault)
+        }
     }
 }
 
