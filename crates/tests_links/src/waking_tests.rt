@@ -399,8 +399,15 @@ fn reads<L: Ledger, R: Wait + Abort>(rt: &R, alloc: Global, blank: Blank, is_reb
     }
     let desks = vec![in alloc; desk].expect(rt, "memory");
     match office.settle(desks) {
-        Ok(centre) => centre.meter().entries,
-        Err(_) => 0,
+        Ok(centre) => {
+            let entries = centre.meter().entries;
+            drop(centre);
+            entries
+        }
+        Err(unsettled) => {
+            drop(unsettled);
+            0
+        }
     }
 }
 

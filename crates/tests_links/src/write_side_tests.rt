@@ -250,8 +250,15 @@ fn writes<L: Ledger, R: Wait>(
 /// After how many entries the desks settle, 0 where they don't.
 fn entries<L: Ledger>(office: Office<L>, desks: Vec<Desk<L>>) -> u64 {
     match office.settle(desks) {
-        Ok(centre) => centre.position(),
-        Err(_) => 0,
+        Ok(centre) => {
+            let position = centre.position();
+            drop(centre);
+            position
+        }
+        Err(unsettled) => {
+            drop(unsettled);
+            0
+        }
     }
 }
 
