@@ -2,8 +2,8 @@
 
 use crate::checks::same;
 use crate::given_consoles::entries_of;
-use crate::scripts::Step;
 use crate::scripts::Step::{Closes, Connect, IsClosed, Pause, Reads, Sends};
+use crate::scripts::{Script, Step};
 
 /// Two consoles beside each other: `quit` ends one of them, and whoever sees that end can connect again, to its desk.
 const TWO: &[Step] = &[
@@ -88,14 +88,19 @@ const SHUTDOWN: &[Step] = &[
 
 #[test]
 fn consoles_are_answered(rt: HostRuntime) {
-    let scripts: [(&[Step], u64, &str); 4] = [
+    let scripts: [(&'static [Step], u64, &str); 4] = [
         (TWO, 4, "two consoles"),
         (EACH, 2, "each line"),
         (FEW, 2, "more than there may be"),
         (SHUTDOWN, 1, "the end of the program"),
     ];
     for (steps, entries, at) in scripts {
-        let found = entries_of(&rt, rt.alloc(), "consoles-of-lines", 2, steps);
+        let script = Script {
+            path: "consoles-of-lines",
+            count: 2,
+            steps,
+        };
+        let found = entries_of(&rt, rt.alloc(), &script);
         same(&rt, found, entries, at);
     }
 }

@@ -4,7 +4,7 @@ ghost use Rattle.std.specs.Prelude.{◌≡◌};
 
 use crate::checks::yes;
 use crate::given_program::GivenProgram;
-use crate::scripts::{Step, plays};
+use crate::scripts::{Script, Step, plays};
 use office::desk::Desk;
 use office::fault::Fault;
 use office::office::Office;
@@ -166,46 +166,43 @@ fn opened<L: Ledger, R: Wait + Files + Net + Abort>(
     consoles
 }
 
-/// So many consoles are served while the script is played. The answer is their desks.
+/// Consoles are served while the script is played. The answer is their desks.
 fn desks_after<L: Ledger + Send + Sync, R: Wait + Threads + Clock + Files + Net + Abort + Sync>(
     rt: &R,
     alloc: Global,
     office: &Office<L>,
-    path: &str,
-    count: u32,
-    steps: &[Step],
+    script: &Script,
 ) -> Vec<Desk<L>> {
-    let consoles = opened(rt, alloc, office, path, count);
+    let consoles = opened(rt, alloc, office, script.path, script.count);
+    let program = GivenProgram::new();
     runs(
         rt,
         alloc,
         office,
-        &GivenProgram::new(),
+        &program,
         &consoles,
-        path,
-        steps,
+        script.path,
+        script.steps,
     );
-    close_socket(rt, path);
+    close_socket(rt, script.path);
     let desks = desks_of(rt, alloc, &consoles);
     drop(consoles);
     desks
 }
 
-/// So many consoles are served while the script is played. The answer is how many entries there are once the desks are settled.
+/// Consoles are served while the script is played. The answer is how many entries there are once the desks are settled.
 fn served<L: Ledger + Send + Sync, R: Wait + Threads + Clock + Files + Net + Abort + Sync>(
     rt: &R,
     alloc: Global,
     blank: Blank,
-    path: &str,
-    count: u32,
-    steps: &[Step],
+    script: &Script,
 ) -> u64
     requires name { blank.name ≡ L.name }
     requires parts { blank.parts ≡ L.parts }
     requires desks { blank.parts ≡ 1025 }
 {
     let office: Office<L> = Office::new(alloc, blank, PLMN, 1000);
-    let desks = desks_after(rt, alloc, &office, path, count, steps);
+    let desks = desks_after(rt, alloc, &office, script);
     let entries = settled(office, desks);
     entries.expect(
         rt,
@@ -217,9 +214,7 @@ fn served<L: Ledger + Send + Sync, R: Wait + Threads + Clock + Files + Net + Abo
 pub(crate) fn entries_of<R: Wait + Threads + Clock + Files + Net + Abort + Sync>(
     rt: &R,
     alloc: Global,
-    path: &str,
-    count: u32,
-    steps: &[Step],
+    script: &Script,
 ) -> u64 {
-    served::<Brand, R>(rt, alloc, Blank::new(1025), path, count, steps)
+    served::<Brand, R>(rt, alloc, Blank::new(1025), script)
 }

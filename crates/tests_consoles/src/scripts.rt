@@ -31,6 +31,14 @@ pub(crate) enum Step {
     Pause,
 }
 
+/// What connections do, at which socket file, and how many consoles it has.
+#[derive(Clone, Copy)]
+pub(crate) struct Script {
+    pub(crate) path: &'static str,
+    pub(crate) count: u32,
+    pub(crate) steps: &'static [Step],
+}
+
 /// A connection, which is there.
 fn stream_of<'a, R: Abort>(
     rt: &R,

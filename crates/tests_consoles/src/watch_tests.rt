@@ -2,8 +2,8 @@
 
 use crate::checks::same;
 use crate::given_consoles::entries_of;
-use crate::scripts::Step;
 use crate::scripts::Step::{Closes, Connect, Pause, Reads, Sends};
+use crate::scripts::{Script, Step};
 
 /// Two follow what two others enter, each at a desk of its own. What is entered before isn't handed on, and one that goes makes room for
 /// the next.
@@ -41,6 +41,11 @@ const FOLLOWED: &[Step] = &[
 
 #[test]
 fn entries_are_handed_on(rt: HostRuntime) {
-    let found = entries_of(&rt, rt.alloc(), "consoles-that-watch", 4, FOLLOWED);
+    let script = Script {
+        path: "consoles-that-watch",
+        count: 4,
+        steps: FOLLOWED,
+    };
+    let found = entries_of(&rt, rt.alloc(), &script);
     same(&rt, found, 6, "what a watch reads is no entry");
 }
