@@ -5,4 +5,5 @@ pub mod cells;
 pub mod counts;
 pub mod failed;
 pub mod named_areas;
+mod wanted_version;
 pub mod warnings;

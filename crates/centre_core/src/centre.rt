@@ -1,5 +1,6 @@
 //! The centre: its journal, what is kept beside it, and the questions that are answered from there.
 
+use crate::before_entry::BeforeEntry;
 use crate::entering::{enter, make, with_entry};
 use crate::journal::{Journal, tell_over};
 use crate::looking::{prepare_edit, prepare_other};
@@ -129,15 +130,12 @@ impl Centre {
         self.stale = true;
         let (entry, answer) = with_entry(self.alloc, desk, Event::Edit(edit), answer)?;
         let place = self.journal.position() + 1;
-        enter(
-            self.alloc,
-            &mut self.journal,
-            &mut self.kept,
+        let before = BeforeEntry {
             place,
-            false,
+            up: false,
             reached,
-            entry,
-        )?;
+        };
+        enter(self.alloc, &mut self.journal, &mut self.kept, before, entry)?;
         self.stale = false;
         Ok(answer)
     }
@@ -172,16 +170,13 @@ impl Centre {
         let (entry, given) = with_entry(self.alloc, desk, event, found.answer)?;
         let up = up_before(self.kept.links.as_slice(), &entry.event);
         let place = self.journal.position() + 1;
-        self.stale = true;
-        enter(
-            self.alloc,
-            &mut self.journal,
-            &mut self.kept,
+        let before = BeforeEntry {
             place,
             up,
-            found.reached,
-            entry,
-        )?;
+            reached: found.reached,
+        };
+        self.stale = true;
+        enter(self.alloc, &mut self.journal, &mut self.kept, before, entry)?;
         self.stale = false;
         Ok(given)
     }

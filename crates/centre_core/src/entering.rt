@@ -8,13 +8,13 @@ ghost use Rattle.coverage_plan.specs.Edited.{register_after, areas_after, book_a
 ghost use Rattle.centre_events.specs.Past.{Past, After};
 ghost use Rattle.centre_events.specs.Verdict.{edit_answered};
 
+use crate::before_entry::BeforeEntry;
 use crate::finishing::finish;
 use crate::journal::Journal;
 use centre_answers::events::{Verdict, make_edit};
 use centre_events::answer::Answer;
 use centre_events::entry::Entry;
 use centre_events::event::Event;
-use centre_lines::reached::Reached;
 use centre_past::kept::Kept;
 use coverage_plan::Edit;
 use std::alloc::{AllocError, Global};
@@ -63,29 +63,27 @@ pub(crate) fn with_entry(
     }
 }
 
-/// Follows an accepted event and enters it in the journal, which has room for it, as the entry of that number. An edit has
+/// Follows an accepted event from how it stood before it, and enters it in the journal, which has room for it. An edit has
 /// been made. At an `Err` memory ran out, and what is kept is of no use any more.
 pub(crate) fn enter(
     alloc: Global,
     journal: &mut Journal,
     kept: &mut Kept,
-    place: u64,
-    up: bool,
-    reached: Reached,
+    before: BeforeEntry,
     entry: Entry,
 ) -> Result<(), AllocError>
     requires room { 1 ≤ journal.old.room }
     requires number { length journal.old.folded + length journal.old.entries < 2 ^ 64 - 1 }
-    requires finishes { Finishes kept.old entry.event entry.answer place up reached.spots.items reached.lines }
+    requires finishes { Finishes kept.old entry.event entry.answer before.place before.up before.reached.spots.items before.reached.lines }
     ensures folded { journal.new.folded ≡ journal.old.folded }
     ensures entry { OnOk result (journal.new.entries ≡ journal.old.entries ++ entry ∷ []) }
     ensures entries_stay { OnErr result (journal.new.entries ≡ journal.old.entries) }
     ensures unread { journal.new.reads ≡ journal.old.reads }
-    ensures kept { OnOk result ((x : Finishes kept.old entry.event entry.answer place up reached.spots.items reached.lines) → IsKept (After (record { desk = x.desk; event = entry.event; answer = entry.answer }) x.past) kept.new) }
-    ensures meter { kept.new.tables.lines.meter ≤ kept.old.tables.lines.meter + length (held_in reached.lines) }
+    ensures kept { OnOk result ((x : Finishes kept.old entry.event entry.answer before.place before.up before.reached.spots.items before.reached.lines) → IsKept (After (record { desk = x.desk; event = entry.event; answer = entry.answer }) x.past) kept.new) }
+    ensures meter { kept.new.tables.lines.meter ≤ kept.old.tables.lines.meter + length (held_in before.reached.lines) }
     ensures least { kept.old.tables.lines.meter ≤ kept.new.tables.lines.meter }
 {
-    let done = finish(alloc, kept, &entry.event, &entry.answer, place, up, reached);
+    let done = finish(alloc, kept, &entry.event, &entry.answer, before);
     match done {
         Ok(()) => journal.push(entry),
         Err(_) => drop(entry),

@@ -11,6 +11,7 @@ ghost use Rattle.centre_events.specs.Past.{After, past_of};
 ghost use Rattle.centre_past.specs.Reach.{reach_of, size};
 ghost use Rattle.centre_events.specs.declared.event.Event.TheVariants as event;
 
+use crate::before_entry::BeforeEntry;
 use crate::entering::make_again;
 use crate::finishing::finish;
 use crate::journal::Journal;
@@ -39,15 +40,12 @@ fn follow_edit(
     tell_reads();
     let reached = reached_by_edit(alloc, kept, edit)?;
     make_again(kept, edit)?;
-    finish(
-        alloc,
-        kept,
-        &entry.event,
-        &entry.answer,
+    let before = BeforeEntry {
         place,
-        false,
+        up: false,
         reached,
-    )
+    };
+    finish(alloc, kept, &entry.event, &entry.answer, before)
 }
 
 /// Follows an entry of an event that is no edit.
@@ -60,7 +58,8 @@ fn follow_other(alloc: Global, kept: &mut Kept, entry: &Entry, place: u64) -> Re
     tell_reads();
     let up = up_before(kept.links.as_slice(), &entry.event);
     let reached = reached_by_other(alloc, kept, &entry.event, &entry.answer)?;
-    finish(alloc, kept, &entry.event, &entry.answer, place, up, reached)
+    let before = BeforeEntry { place, up, reached };
+    finish(alloc, kept, &entry.event, &entry.answer, before)
 }
 
 /// Follows an entry of the journal, which has that number, from what the entries before it come to.

@@ -6,11 +6,17 @@ use Rattle.areas.specs.declared.selector.Selector.{Selector}
 use Rattle.common.specs.declared.cell.Cell.{Cell}
 use Rattle.coverage_board.specs.AreaSets.{mask}
 use Rattle.coverage_board.specs.declared.area_bits.AreaBits.{AreaBits}
+use Rattle.coverage_plan.specs.Plan as plan
 use Rattle.warning_book.specs.Book as book
 use Rattle.warning_book.specs.Book.{warning_of}
 use Rattle.warning_book.specs.declared.warning.Warning.{Warning}
 use Rattle.centre_events.specs.Warnings.{serials}
 use Rattle.centre_lines.specs.declared.known_spot.KnownSpot.{KnownSpot}
+use Rattle.centre_lines.specs.declared.plan_parts.PlanParts.{PlanParts}
+
+-- the plan of these parts
+abbrev pub plan_from : PlanParts → plan.State
+plan_from parts = record { register = parts.register.now; areas = parts.areas.now; book = parts.book.now }
 
 -- a warning's number, the serial numbers of its versions, its areas and the selectors of each
 pub record Found : Type 0 where

@@ -14,14 +14,14 @@ ghost use Rattle.centre_events.specs.Warnings.{kind_in};
 ghost use Rattle.centre_events.specs.Down.{down_mark};
 ghost use Rattle.centre_lines.specs.Following.{AreInBook, LinesAreOf, bearing, happens, is_idle, keeps_down, leaves_blank, line_now, may_change, changing_line, changing_at, changing_lines};
 ghost use Rattle.centre_past.specs.Idle.{AsBefore};
-ghost use Rattle.centre_lines.specs.Found.{AreFound, IsKnown};
+ghost use Rattle.centre_lines.specs.Found.{IsKnown};
 
 use crate::facts::{facts_from, kind_in};
 use crate::following::line_now;
-use crate::found_warnings::FoundWarnings;
+use crate::found_plan::FoundPlan;
 use crate::holding::{is_idle, near};
 use crate::known_spot::KnownSpot;
-use crate::plan_parts::PlanParts;
+use crate::line_in_cell::LineInCell;
 use areas::Areas;
 use centre_events::answer::Answer;
 use centre_events::effects::down_mark;
@@ -30,7 +30,7 @@ use centre_events::stepping::Happening;
 use centre_past::keys::key_at;
 use kept_tables::{KeptTables, LineFacts, Spot, Step};
 use mirror::Line;
-use std::alloc::{AllocError, Global};
+use std::alloc::AllocError;
 use warning_book::{Kind, Warning, WarningId};
 
 /// Whether what happens leaves the cell down for warnings of the kind, or up, as it was.
@@ -79,24 +79,19 @@ fn is_left(line: &Line, then: &Line, stepped: bool) -> bool
     true
 }
 
-/// Whether what happens leaves the line, which becomes that one, as it is, and the cell down, or up, as it was; an idle line
-/// stays so in any case.
-fn stays(
+/// Whether a line that stays itself has the same part after what happens: its cell stays down, or up, or the line is idle.
+fn keeps_part(
     h: &Happening<'_, '_>,
     areas: &Areas,
     at: &KnownSpot<'_>,
     warning: Option<&Warning>,
     line: &Line,
-    then: &Line,
-    stepped: bool,
     down: bool,
 ) -> bool
-    requires stepped { stepped ≡ false → then.now ≡ line.now }
-    requires known { IsKnown areas.now at.now }
-    ensures { result ≡ (line_eq then.now line.now && (keeps_down (down_mark (kind_in (option_copied warning.entry)) at.now.spot.bsc at.now.spot.cell h.now.event.now h.now.answer.now) down || is_idle areas.now (option_copied warning.entry) at.now.spot.cell line.now)) }
+    requires { IsKnown areas.now at.now }
+    ensures { result ≡ (keeps_down (down_mark (kind_in (option_copied warning.entry)) at.now.spot.bsc at.now.spot.cell h.now.event.now h.now.answer.now) down || is_idle areas.now (option_copied warning.entry) at.now.spot.cell line.now) }
 {
-    is_left(line, then, stepped)
-        && (keeps_down(h, kind_in(warning), &at.spot, down) || is_idle(areas, at, warning, line))
+    keeps_down(h, kind_in(warning), &at.spot, down) || is_idle(areas, at, warning, line)
 }
 
 /// The step from how a line of a warning of the kind stood to the line after what happens.
@@ -124,30 +119,35 @@ fn step_of(
 fn hold_changing_line(
     out: &mut Vec<Step>,
     h: &Happening<'_, '_>,
-    plan: &PlanParts<'_>,
-    found: &mut FoundWarnings<'_>,
+    plan: &mut FoundPlan<'_>,
     tables: &mut KeptTables,
     at: &KnownSpot<'_>,
     n: WarningId,
 ) -> Result<(), AllocError>
-    requires found { AreFound plan.now.areas.now plan.now.book.now found.old }
-    requires known { IsKnown plan.now.areas.now at.now }
-    ensures held { (t : Tables) → AsBefore t tables.old → OnOk result (out.new.items ≡ out.old.items ++ changing_line (happens h.now) plan.now.register.now plan.now.areas.now plan.now.book.now t (key_at at.now.spot n)) }
+    requires known { IsKnown plan.old.areas at.now }
+    ensures held { (t : Tables) → AsBefore t tables.old → OnOk result (out.new.items ≡ out.old.items ++ changing_line (happens h.now) plan.old.register plan.old.areas plan.old.book t (key_at at.now.spot n)) }
     ensures kept { (t : Tables) → AsBefore t tables.old → AsBefore t tables.new }
     ensures meter { tables.new.lines.meter ≤ tables.old.lines.meter + 1 }
-    ensures same { found.new ≡ found.old }
+    ensures same { plan.new ≡ plan.old }
 {
     let spot = &at.spot;
     let line = tables.read_line(key_at(spot, n));
-    let warning = plan.book.find(n);
+    let book = plan.book();
+    let warning = book.find(n);
     let kind = kind_in(warning);
     let down = tables.is_down(kind, spot.bsc, spot.cell);
     let mut then = line;
-    let stepped = line_now(h, plan.book.as_slice(), spot, warning, &mut then);
-    if stays(h, plan.areas, at, warning, &line, &then, stepped, down) {
+    let stepped = line_now(h, book.as_slice(), spot, warning, &mut then);
+    let is_left = is_left(&line, &then, stepped);
+    if is_left && keeps_part(h, plan.areas(), at, warning, &line, down) {
         return Ok(());
     }
-    let before = facts_from(plan, found, spot, n, down, line, warning)?;
+    let there = LineInCell {
+        spot: *spot,
+        line,
+        down,
+    };
+    let before = facts_from(plan, &there, n, warning)?;
     out.push(step_of(h, kind, spot, n, before, then))?;
     Ok(())
 }
@@ -156,21 +156,19 @@ fn hold_changing_line(
 fn hold_changing_spot(
     out: &mut Vec<Step>,
     h: &Happening<'_, '_>,
-    plan: &PlanParts<'_>,
-    found: &mut FoundWarnings<'_>,
+    plan: &mut FoundPlan<'_>,
     tables: &mut KeptTables,
     at: &KnownSpot<'_>,
     warnings: &[WarningId],
 ) -> Result<(), AllocError>
-    requires found { AreFound plan.now.areas.now plan.now.book.now found.old }
-    requires known { IsKnown plan.now.areas.now at.now }
-    ensures held { (t : Tables) → AsBefore t tables.old → OnOk result (out.new.items ≡ out.old.items ++ changing_at (happens h.now) plan.now.register.now plan.now.areas.now plan.now.book.now t warnings.now at.now.spot) }
+    requires known { IsKnown plan.old.areas at.now }
+    ensures held { (t : Tables) → AsBefore t tables.old → OnOk result (out.new.items ≡ out.old.items ++ changing_at (happens h.now) plan.old.register plan.old.areas plan.old.book t warnings.now at.now.spot) }
     ensures kept { (t : Tables) → AsBefore t tables.old → AsBefore t tables.new }
     ensures meter { tables.new.lines.meter ≤ tables.old.lines.meter + length warnings.now }
-    ensures same { found.new ≡ found.old }
+    ensures same { plan.new ≡ plan.old }
 {
     for warning in warnings {
-        hold_changing_line(out, h, plan, found, tables, at, *warning)?;
+        hold_changing_line(out, h, plan, tables, at, *warning)?;
     }
     Ok(())
 }
@@ -179,25 +177,22 @@ fn hold_changing_spot(
 /// does not leave as they are. What leaves a blank line blank leaves the lines of the others as they are: they are idle.
 fn hold_changing_near(
     out: &mut Vec<Step>,
-    alloc: Global,
     h: &Happening<'_, '_>,
-    plan: &PlanParts<'_>,
-    found: &mut FoundWarnings<'_>,
+    plan: &mut FoundPlan<'_>,
     tables: &mut KeptTables,
     spot: &Spot,
     warnings: &[WarningId],
 ) -> Result<(), AllocError>
     requires blank { leaves_blank h.now.event.now h.now.answer.now ≡ true }
-    requires found { AreFound plan.now.areas.now plan.now.book.now found.old }
-    ensures held { (t : Tables) → AsBefore t tables.old → OnOk result (out.new.items ≡ out.old.items ++ changing_at (happens h.now) plan.now.register.now plan.now.areas.now plan.now.book.now t warnings.now spot.now) }
+    ensures held { (t : Tables) → AsBefore t tables.old → OnOk result (out.new.items ≡ out.old.items ++ changing_at (happens h.now) plan.old.register plan.old.areas plan.old.book t warnings.now spot.now) }
     ensures kept { (t : Tables) → AsBefore t tables.old → AsBefore t tables.new }
     ensures meter { LinesAreOf warnings.now tables.old → tables.new.lines.meter ≤ tables.old.lines.meter + 2 * length warnings.now }
-    ensures same { found.new ≡ found.old }
+    ensures same { plan.new ≡ plan.old }
 {
-    let near = near(alloc, plan, tables, spot, warnings)?;
+    let near = near(plan, tables, spot, warnings)?;
     let at = KnownSpot::covered(*spot, near.covering.as_slice());
     let near = near.warnings.as_slice();
-    hold_changing_spot(out, h, plan, found, tables, &at, near)?;
+    hold_changing_spot(out, h, plan, tables, &at, near)?;
     Ok(())
 }
 
@@ -225,25 +220,22 @@ fn indicated(
 /// Where it brings the cell down, or up, the lines of all warnings that are near the cell are read.
 fn hold_indicated_spot(
     out: &mut Vec<Step>,
-    alloc: Global,
     h: &Happening<'_, '_>,
-    plan: &PlanParts<'_>,
-    found: &mut FoundWarnings<'_>,
+    plan: &mut FoundPlan<'_>,
     tables: &mut KeptTables,
     spot: &Spot,
     all: &[WarningId],
 ) -> Result<(), AllocError>
     requires blank { leaves_blank h.now.event.now h.now.answer.now ≡ true }
-    requires all { all.now ≡ numbers plan.now.book.now.warnings }
-    requires found { AreFound plan.now.areas.now plan.now.book.now found.old }
-    ensures held { (t : Tables) → AsBefore t tables.old → OnOk result (out.new.items ≡ out.old.items ++ changing_at (happens h.now) plan.now.register.now plan.now.areas.now plan.now.book.now t all.now spot.now) }
+    requires all { all.now ≡ numbers plan.old.book.warnings }
+    ensures held { (t : Tables) → AsBefore t tables.old → OnOk result (out.new.items ≡ out.old.items ++ changing_at (happens h.now) plan.old.register plan.old.areas plan.old.book t all.now spot.now) }
     ensures kept { (t : Tables) → AsBefore t tables.old → AsBefore t tables.new }
-    ensures meter { AreInBook plan.now.book.now tables.old → tables.new.lines.meter ≤ tables.old.lines.meter + 2 * length all.now }
-    ensures same { found.new ≡ found.old }
+    ensures meter { AreInBook plan.old.book tables.old → tables.new.lines.meter ≤ tables.old.lines.meter + 2 * length all.now }
+    ensures same { plan.new ≡ plan.old }
 {
-    plan.book.tell_soundness();
+    plan.book().tell_soundness();
     if !keeps_downs(h, spot, tables) {
-        return hold_changing_near(out, alloc, h, plan, found, tables, spot, all);
+        return hold_changing_near(out, h, plan, tables, spot, all);
     }
     let indicated = indicated(h, tables, spot)?;
     let indicated = indicated.as_slice();
@@ -251,31 +243,28 @@ fn hold_indicated_spot(
         spot: *spot,
         covering: None,
     };
-    hold_changing_spot(out, h, plan, found, tables, &at, indicated)?;
+    hold_changing_spot(out, h, plan, tables, &at, indicated)?;
     Ok(())
 }
 
 /// Reads the lines at each of the spots that an indication or a Retry may change, and holds those that it does not leave as
 /// they are.
 fn hold_indicated(
-    alloc: Global,
     h: &Happening<'_, '_>,
-    plan: &PlanParts<'_>,
-    found: &mut FoundWarnings<'_>,
+    plan: &mut FoundPlan<'_>,
     tables: &mut KeptTables,
     spots: &[Spot],
 ) -> Result<Vec<Step>, AllocError>
     requires blank { leaves_blank h.now.event.now h.now.answer.now ≡ true }
-    requires found { AreFound plan.now.areas.now plan.now.book.now found.old }
-    ensures held { (t : Tables) → AsBefore t tables.old → IfOk result (λ v. v.items ≡ changing_lines (happens h.now) plan.now.register.now plan.now.areas.now plan.now.book.now t spots.now (numbers plan.now.book.now.warnings)) }
+    ensures held { (t : Tables) → AsBefore t tables.old → IfOk result (λ v. v.items ≡ changing_lines (happens h.now) plan.old.register plan.old.areas plan.old.book t spots.now (numbers plan.old.book.warnings)) }
     ensures kept { (t : Tables) → AsBefore t tables.old → AsBefore t tables.new }
-    ensures meter { AreInBook plan.now.book.now tables.old → tables.new.lines.meter ≤ tables.old.lines.meter + 2 * (length spots.now * length (numbers plan.now.book.now.warnings)) }
+    ensures meter { AreInBook plan.old.book tables.old → tables.new.lines.meter ≤ tables.old.lines.meter + 2 * (length spots.now * length (numbers plan.old.book.warnings)) }
 {
-    let all = plan.book.warnings()?;
-    let mut out = Vec::with_capacity(alloc, spots.len())?;
+    let all = plan.book().warnings()?;
+    let mut out = Vec::with_capacity(plan.alloc(), spots.len())?;
     for spot in spots {
         let all = all.as_slice();
-        hold_indicated_spot(&mut out, alloc, h, plan, found, tables, spot, all)?;
+        hold_indicated_spot(&mut out, h, plan, tables, spot, all)?;
     }
     Ok(out)
 }
@@ -283,26 +272,23 @@ fn hold_indicated(
 /// Reads the lines of each of the warnings at each of the spots, and holds those that what happens does not leave as they
 /// are.
 fn hold_named(
-    alloc: Global,
     h: &Happening<'_, '_>,
-    plan: &PlanParts<'_>,
-    found: &mut FoundWarnings<'_>,
+    plan: &mut FoundPlan<'_>,
     tables: &mut KeptTables,
     spots: &[Spot],
     warnings: &[WarningId],
 ) -> Result<Vec<Step>, AllocError>
-    requires found { AreFound plan.now.areas.now plan.now.book.now found.old }
-    ensures held { (t : Tables) → AsBefore t tables.old → IfOk result (λ v. v.items ≡ changing_lines (happens h.now) plan.now.register.now plan.now.areas.now plan.now.book.now t spots.now warnings.now) }
+    ensures held { (t : Tables) → AsBefore t tables.old → IfOk result (λ v. v.items ≡ changing_lines (happens h.now) plan.old.register plan.old.areas plan.old.book t spots.now warnings.now) }
     ensures kept { (t : Tables) → AsBefore t tables.old → AsBefore t tables.new }
     ensures meter { tables.new.lines.meter ≤ tables.old.lines.meter + length spots.now * length warnings.now }
 {
-    let mut out = Vec::with_capacity(alloc, spots.len())?;
+    let mut out = Vec::with_capacity(plan.alloc(), spots.len())?;
     for spot in spots {
         let at = KnownSpot {
             spot: *spot,
             covering: None,
         };
-        hold_changing_spot(&mut out, h, plan, found, tables, &at, warnings)?;
+        hold_changing_spot(&mut out, h, plan, tables, &at, warnings)?;
     }
     Ok(out)
 }
@@ -310,23 +296,20 @@ fn hold_named(
 /// Reads the lines at the spots on which what happens bears, and holds those that it does not leave as they are. The
 /// warnings are those that were found; an indication and a Retry bear on all.
 pub(crate) fn hold_changing(
-    alloc: Global,
     h: &Happening<'_, '_>,
-    plan: &PlanParts<'_>,
-    found: &mut FoundWarnings<'_>,
+    plan: &mut FoundPlan<'_>,
     tables: &mut KeptTables,
     spots: &[Spot],
     warnings: &[WarningId],
 ) -> Result<Vec<Step>, AllocError>
-    requires found { AreFound plan.now.areas.now plan.now.book.now found.old }
-    ensures held { (t : Tables) → AsBefore t tables.old → IfOk result (λ v. v.items ≡ changing_lines (happens h.now) plan.now.register.now plan.now.areas.now plan.now.book.now t spots.now (bearing h.now.event.now h.now.answer.now plan.now.book.now warnings.now)) }
+    ensures held { (t : Tables) → AsBefore t tables.old → IfOk result (λ v. v.items ≡ changing_lines (happens h.now) plan.old.register plan.old.areas plan.old.book t spots.now (bearing h.now.event.now h.now.answer.now plan.old.book warnings.now)) }
     ensures kept { (t : Tables) → AsBefore t tables.old → AsBefore t tables.new }
-    ensures meter { AreInBook plan.now.book.now tables.old → tables.new.lines.meter ≤ tables.old.lines.meter + 2 * (length spots.now * length (bearing h.now.event.now h.now.answer.now plan.now.book.now warnings.now)) }
+    ensures meter { AreInBook plan.old.book tables.old → tables.new.lines.meter ≤ tables.old.lines.meter + 2 * (length spots.now * length (bearing h.now.event.now h.now.answer.now plan.old.book warnings.now)) }
 {
     if leaves_blank(h) {
-        let held = hold_indicated(alloc, h, plan, found, tables, spots)?;
+        let held = hold_indicated(h, plan, tables, spots)?;
         return Ok(held);
     }
-    let held = hold_named(alloc, h, plan, found, tables, spots, warnings)?;
+    let held = hold_named(h, plan, tables, spots, warnings)?;
     Ok(held)
 }

@@ -6,18 +6,16 @@ ghost use Rattle.std.specs.Option.{option_copied};
 ghost use Rattle.areas.specs.Areas.{covers};
 ghost use Rattle.coverage_board.specs.Parts.{has_area};
 ghost use Rattle.warning_book.specs.Book.{current_of, warning_of};
-ghost use Rattle.centre_lines.specs.Found.{AreFound, IsKnown};
+ghost use Rattle.centre_lines.specs.Found.{IsKnown};
 ghost use Rattle.centre_past.specs.State.{covered_facts, facts_from};
 ghost use Rattle.centre_events.specs.Warnings.{kind_in, serials};
 
-use crate::found_warnings::FoundWarnings;
+use crate::found_plan::FoundPlan;
 use crate::known_spot::KnownSpot;
-use crate::plan_parts::PlanParts;
+use crate::line_in_cell::LineInCell;
 use areas::Areas;
-use cell_register::Register;
 use common::Name;
-use kept_tables::{CoveringAreas, LineFacts, Serials, Spot};
-use mirror::Line;
+use kept_tables::{CoveringAreas, LineFacts, Serials};
 use serials::Serial;
 use std::alloc::AllocError;
 use warning_book::{Kind, Warning, WarningId};
@@ -69,77 +67,64 @@ fn wanted(w: &Warning, here: bool, covered: bool) -> Option<Serial>
     }
 }
 
-/// What is read of the line of a warning in a cell that is down or not, where these are those of its areas that cover the
-/// cell, and the serial numbers of its versions.
+/// What is read of the line of a warning in its cell, where these are those of its areas that cover the cell, and the serial
+/// numbers of its versions.
 #[inline(always)]
 pub(crate) fn covered_facts(
-    register: &Register,
-    found: &mut FoundWarnings<'_>,
-    spot: &Spot,
-    down: bool,
-    line: Line,
+    plan: &mut FoundPlan<'_>,
+    there: &LineInCell,
     w: &Warning,
     covering: CoveringAreas,
     versions: Serials,
 ) -> Result<LineFacts, AllocError>
     requires { versions ≡ serials w.now }
-    ensures facts { IfOk result (λ f. f ≡ covered_facts register.now down spot.now.bsc spot.now.cell line covering (Some w.now)) }
-    ensures same { found.new ≡ found.old }
+    ensures facts { IfOk result (λ f. f ≡ covered_facts plan.old.register there.now.down there.now.spot.bsc there.now.spot.cell there.now.line covering (Some w.now)) }
+    ensures same { plan.new ≡ plan.old }
 {
-    let here = found.is_here(register, spot);
+    let here = plan.is_here(&there.spot);
     let wanted = wanted(w, here, covering.is_some());
     Ok(LineFacts {
-        line,
+        line: there.line,
         message_id: w.message_id(),
         versions,
         wanted,
-        down,
+        down: there.down,
         areas: covering,
         here,
         active: w.is_active(),
     })
 }
 
-/// What is read of the line of a warning, which has that number, in a cell that is down or not.
+/// What is read of the line of a warning, which has that number, in its cell.
 fn facts_of(
-    plan: &PlanParts<'_>,
-    found: &mut FoundWarnings<'_>,
-    spot: &Spot,
+    plan: &mut FoundPlan<'_>,
+    there: &LineInCell,
     n: WarningId,
-    down: bool,
-    line: Line,
     w: &Warning,
 ) -> Result<LineFacts, AllocError>
-    requires there { Some w.now ≡ warning_of plan.now.book.now n }
-    requires found { AreFound plan.now.areas.now plan.now.book.now found.old }
-    ensures facts { IfOk result (λ f. f ≡ facts_from plan.now.register.now plan.now.areas.now down spot.now.bsc spot.now.cell line (Some w.now)) }
-    ensures same { found.new ≡ found.old }
+    requires { Some w.now ≡ warning_of plan.old.book n }
+    ensures facts { IfOk result (λ f. f ≡ facts_from plan.old.register plan.old.areas there.now.down there.now.spot.bsc there.now.spot.cell there.now.line (Some w.now)) }
+    ensures same { plan.new ≡ plan.old }
 {
-    plan.book.tell_soundness();
-    let register = plan.register;
-    let covering = found.covering(plan.areas, n, w, spot.cell)?;
-    let versions = found.serials_of(n, w)?;
-    let facts = covered_facts(register, found, spot, down, line, w, covering, versions)?;
+    let covering = plan.covering(n, w, there.spot.cell)?;
+    let versions = plan.serials_of(n, w)?;
+    let facts = covered_facts(plan, there, w, covering, versions)?;
     Ok(facts)
 }
 
-/// What is read of the line of a warning of that number, if the book has it, in a cell that is down or not.
+/// What is read of the line of a warning of that number, if the book has it, in its cell.
 pub(crate) fn facts_from(
-    plan: &PlanParts<'_>,
-    found: &mut FoundWarnings<'_>,
-    spot: &Spot,
+    plan: &mut FoundPlan<'_>,
+    there: &LineInCell,
     n: WarningId,
-    down: bool,
-    line: Line,
     warning: Option<&Warning>,
 ) -> Result<LineFacts, AllocError>
-    requires there { option_copied warning ≡ warning_of plan.now.book.now n }
-    requires found { AreFound plan.now.areas.now plan.now.book.now found.old }
-    ensures facts { IfOk result (λ f. f ≡ facts_from plan.now.register.now plan.now.areas.now down spot.now.bsc spot.now.cell line (option_copied warning.entry)) }
-    ensures same { found.new ≡ found.old }
+    requires { option_copied warning ≡ warning_of plan.old.book n }
+    ensures facts { IfOk result (λ f. f ≡ facts_from plan.old.register plan.old.areas there.now.down there.now.spot.bsc there.now.spot.cell there.now.line (option_copied warning.entry)) }
+    ensures same { plan.new ≡ plan.old }
 {
     match warning {
-        Some(w) => facts_of(plan, found, spot, n, down, line, w),
-        None => Ok(LineFacts::none(down, found.is_here(plan.register, spot))),
+        Some(w) => facts_of(plan, there, n, w),
+        None => Ok(LineFacts::none(there.down, plan.is_here(&there.spot))),
     }
 }

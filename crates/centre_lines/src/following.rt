@@ -10,24 +10,25 @@ ghost use Rattle.centre_past.specs.Facts.{facts};
 ghost use Rattle.centre_events.specs.Past.{After};
 ghost use Rattle.std.specs.Option.{option_copied};
 ghost use Rattle.centre_lines.specs.Following.{AreCovered, AreSteps, Bears, entry_of, happens, held_in, line_now, facts_then, change_of, covered_change, leaves_areas_then, leaves_lines};
-ghost use Rattle.centre_lines.specs.Found.{AreFound};
 ghost use Rattle.centre_past.specs.State.{AreCovering};
 ghost use Rattle.warning_book.specs.Book.{warning_of};
 ghost use Rattle.warning_book.specs.declared.kind.Kind.{Kind};
 
 use crate::downs::mark_downs;
 use crate::facts::{covered_facts, facts_from, kind_in};
-use crate::found_warnings::{FoundWarnings, find};
+use crate::found_plan::{FoundPlan, find};
 use crate::held::Held;
 use crate::held_lines::HeldLines;
+use crate::line_in_cell::LineInCell;
 use crate::plan_parts::PlanParts;
+use crate::reached::Reached;
 use centre_events::event::Event;
 use centre_events::stepping::{Happening, step_line};
 use coverage_plan::Edit;
 use kept_tables::{KeptTables, LineFacts, Spot, Stays};
 use mirror::{Line, LineKey};
 use std::alloc::{AllocError, Global};
-use warning_book::{Warning, WarningId};
+use warning_book::Warning;
 
 /// Whether what happens is an edit that leaves every line as it is: each but the end of a BSC, an Update and a Forget.
 fn leaves_lines(h: &Happening<'_, '_>) -> bool
@@ -71,52 +72,51 @@ pub(crate) fn line_now(
 /// What is read of a line after what happens.
 fn facts_then(
     h: &Happening<'_, '_>,
-    plan: &PlanParts<'_>,
-    found: &mut FoundWarnings<'_>,
+    plan: &mut FoundPlan<'_>,
     tables: &KeptTables,
     held: &Held,
 ) -> Result<LineFacts, AllocError>
-    requires found { AreFound plan.now.areas.now plan.now.book.now found.old }
-    ensures facts { IfOk result (λ f. f ≡ facts_then (happens h.now) plan.now.register.now plan.now.areas.now plan.now.book.now tables.now held.now.key held.now.before.line) }
-    ensures same { found.new ≡ found.old }
+    ensures facts { IfOk result (λ f. f ≡ facts_then (happens h.now) plan.old.register plan.old.areas plan.old.book tables.now held.now.key held.now.before.line) }
+    ensures same { plan.new ≡ plan.old }
 {
     let LineKey { bsc, cell, warning } = held.key;
     let spot = Spot { bsc, cell };
     let n = warning;
-    let warning = plan.book.find(n);
+    let book = plan.book();
+    let warning = book.find(n);
     let mut line = held.before.line;
-    line_now(h, plan.book.as_slice(), &spot, warning, &mut line);
+    line_now(h, book.as_slice(), &spot, warning, &mut line);
     let down = tables.is_down(kind_in(warning), bsc, cell);
-    facts_from(plan, found, &spot, n, down, line, warning)
+    let there = LineInCell { spot, line, down };
+    facts_from(plan, &there, n, warning)
 }
 
 /// What is read of a line after an edit that leaves the areas that cover its cell.
 fn covered_then(
     h: &Happening<'_, '_>,
-    plan: &PlanParts<'_>,
-    found: &mut FoundWarnings<'_>,
+    plan: &mut FoundPlan<'_>,
     tables: &KeptTables,
     held: &Held,
 ) -> Result<LineFacts, AllocError>
-    requires found { AreFound plan.now.areas.now plan.now.book.now found.old }
-    ensures facts { IfOk result (λ f. f ≡ (covered_change (happens h.now) plan.now.register.now plan.now.book.now tables.now held.now).after) }
-    ensures same { found.new ≡ found.old }
+    ensures facts { IfOk result (λ f. f ≡ (covered_change (happens h.now) plan.old.register plan.old.book tables.now held.now).after) }
+    ensures same { plan.new ≡ plan.old }
 {
     let LineKey { bsc, cell, warning } = held.key;
     let spot = Spot { bsc, cell };
     let n = warning;
-    let warning = plan.book.find(n);
+    let book = plan.book();
+    let warning = book.find(n);
     let mut line = held.before.line;
-    line_now(h, plan.book.as_slice(), &spot, warning, &mut line);
+    line_now(h, book.as_slice(), &spot, warning, &mut line);
     let down = tables.is_down(kind_in(warning), bsc, cell);
-    let register = plan.register;
+    let there = LineInCell { spot, line, down };
     match warning {
         Some(w) => {
             let covering = held.before.areas.shared()?;
-            let versions = found.serials_of(n, w)?;
-            covered_facts(register, found, &spot, down, line, w, covering, versions)
+            let versions = plan.serials_of(n, w)?;
+            covered_facts(plan, &there, w, covering, versions)
         }
-        None => Ok(LineFacts::none(down, found.is_here(register, &spot))),
+        None => Ok(LineFacts::none(down, plan.is_here(&spot))),
     }
 }
 
@@ -141,21 +141,19 @@ fn leaves_areas(h: &Happening<'_, '_>) -> bool
 /// What is read of a line after an edit, from how it stood.
 fn then_of(
     h: &Happening<'_, '_>,
-    plan: &PlanParts<'_>,
-    found: &mut FoundWarnings<'_>,
+    plan: &mut FoundPlan<'_>,
     tables: &KeptTables,
     held: &Held,
 ) -> Result<LineFacts, AllocError>
-    requires found { AreFound plan.now.areas.now plan.now.book.now found.old }
-    requires covered { leaves_areas_then h.now.event.now ≡ true → AreCovering plan.now.areas.now held.now.key.cell held.now.before.areas (warning_of plan.now.book.now held.now.key.warning) }
-    ensures facts { IfOk result (λ f. f ≡ facts_then (happens h.now) plan.now.register.now plan.now.areas.now plan.now.book.now tables.now held.now.key held.now.before.line) }
-    ensures same { found.new ≡ found.old }
+    requires covered { leaves_areas_then h.now.event.now ≡ true → AreCovering plan.old.areas held.now.key.cell held.now.before.areas (warning_of plan.old.book held.now.key.warning) }
+    ensures facts { IfOk result (λ f. f ≡ facts_then (happens h.now) plan.old.register plan.old.areas plan.old.book tables.now held.now.key held.now.before.line) }
+    ensures same { plan.new ≡ plan.old }
 {
     if leaves_areas(h) {
-        let facts = covered_then(h, plan, found, tables, held)?;
+        let facts = covered_then(h, plan, tables, held)?;
         return Ok(facts);
     }
-    facts_then(h, plan, found, tables, held)
+    facts_then(h, plan, tables, held)
 }
 
 /// Whether the line itself is known to stay: what happens leaves every line as it is, and the warning is in the book, since
@@ -177,21 +175,19 @@ fn areas_stay(h: &Happening<'_, '_>, after: &LineFacts) -> bool
 /// Changes a line by an edit, from how it stood. It is the next of the lines that the edit changes.
 fn change_line(
     h: &Happening<'_, '_>,
-    plan: &PlanParts<'_>,
-    found: &mut FoundWarnings<'_>,
+    plan: &mut FoundPlan<'_>,
     tables: &mut KeptTables,
     held: &Held,
 ) -> Result<(), AllocError>
-    requires found { AreFound plan.now.areas.now plan.now.book.now found.old }
-    requires covered { leaves_areas_then h.now.event.now ≡ true → AreCovering plan.now.areas.now held.now.key.cell held.now.before.areas (warning_of plan.now.book.now held.now.key.warning) }
-    requires next { IsNext tables.old (change_of (happens h.now) plan.now.register.now plan.now.areas.now plan.now.book.now tables.old held.now) }
-    ensures made { OnOk result ((n : IsNext tables.old (change_of (happens h.now) plan.now.register.now plan.now.areas.now plan.now.book.now tables.old held.now)) → Consistent tables.new (mixed n.begins.from n.begins.to (n.done ++ change_of (happens h.now) plan.now.register.now plan.now.areas.now plan.now.book.now tables.old held.now ∷ []))) }
+    requires covered { leaves_areas_then h.now.event.now ≡ true → AreCovering plan.old.areas held.now.key.cell held.now.before.areas (warning_of plan.old.book held.now.key.warning) }
+    requires next { IsNext tables.old (change_of (happens h.now) plan.old.register plan.old.areas plan.old.book tables.old held.now) }
+    ensures made { OnOk result ((n : IsNext tables.old (change_of (happens h.now) plan.old.register plan.old.areas plan.old.book tables.old held.now)) → Consistent tables.new (mixed n.begins.from n.begins.to (n.done ++ change_of (happens h.now) plan.old.register plan.old.areas plan.old.book tables.old held.now ∷ []))) }
     ensures downs { tables.new.lines.downs ≡ tables.old.lines.downs }
     ensures meter { tables.new.lines.meter ≤ tables.old.lines.meter + 1 }
     ensures least { tables.old.lines.meter ≤ tables.new.lines.meter }
-    ensures same { found.new ≡ found.old }
+    ensures same { plan.new ≡ plan.old }
 {
-    let after = then_of(h, plan, found, tables, held)?;
+    let after = then_of(h, plan, tables, held)?;
     let stays = Stays {
         line: line_stays(h, &after),
         areas: areas_stay(h, &after),
@@ -202,21 +198,19 @@ fn change_line(
 /// Changes the lines by an edit, from how they stood.
 fn change_lines(
     h: &Happening<'_, '_>,
-    plan: &PlanParts<'_>,
-    found: &mut FoundWarnings<'_>,
+    plan: &mut FoundPlan<'_>,
     tables: &mut KeptTables,
     held: &[Held],
 ) -> Result<(), AllocError>
-    requires found { AreFound plan.now.areas.now plan.now.book.now found.old }
-    requires covered { leaves_areas_then h.now.event.now ≡ true → AreCovered plan.now.areas.now plan.now.book.now held.now }
-    requires begins { Begins tables.old (map (change_of (happens h.now) plan.now.register.now plan.now.areas.now plan.now.book.now tables.old) held.now) }
-    ensures made { OnOk result ((b : Begins tables.old (map (change_of (happens h.now) plan.now.register.now plan.now.areas.now plan.now.book.now tables.old) held.now)) → Consistent tables.new (mixed b.from b.to (map (change_of (happens h.now) plan.now.register.now plan.now.areas.now plan.now.book.now tables.old) held.now))) }
+    requires covered { leaves_areas_then h.now.event.now ≡ true → AreCovered plan.old.areas plan.old.book held.now }
+    requires begins { Begins tables.old (map (change_of (happens h.now) plan.old.register plan.old.areas plan.old.book tables.old) held.now) }
+    ensures made { OnOk result ((b : Begins tables.old (map (change_of (happens h.now) plan.old.register plan.old.areas plan.old.book tables.old) held.now)) → Consistent tables.new (mixed b.from b.to (map (change_of (happens h.now) plan.old.register plan.old.areas plan.old.book tables.old) held.now))) }
     ensures downs { tables.new.lines.downs ≡ tables.old.lines.downs }
     ensures meter { tables.new.lines.meter ≤ tables.old.lines.meter + length held.now }
     ensures least { tables.old.lines.meter ≤ tables.new.lines.meter }
 {
     for line in held {
-        change_line(h, plan, found, tables, line)?;
+        change_line(h, plan, tables, line)?;
     }
     Ok(())
 }
@@ -226,24 +220,27 @@ fn change_lines(
 pub fn bear(
     alloc: Global,
     h: &Happening<'_, '_>,
-    plan: &PlanParts<'_>,
+    parts: &PlanParts<'_>,
     tables: &mut KeptTables,
-    spots: &[Spot],
-    warnings: &[WarningId],
-    lines: HeldLines,
+    reached: Reached,
 ) -> Result<(), AllocError>
-    requires bears { Bears plan.now.register.now plan.now.areas.now plan.now.book.now tables.old (happens h.now) spots.now (held_in lines) }
-    requires steps { AreSteps (happens h.now) plan.now.book.now lines }
-    ensures tables { OnOk result ((x : Bears plan.now.register.now plan.now.areas.now plan.now.book.now tables.old (happens h.now) spots.now (held_in lines)) → Consistent tables.new (facts (After (entry_of x.desk (happens h.now)) x.past))) }
-    ensures downs { OnOk result ((x : Bears plan.now.register.now plan.now.areas.now plan.now.book.now tables.old (happens h.now) spots.now (held_in lines)) → (k : Kind) (b : ℕ) (c : Cell) → down_at tables.new.lines k b c ≡ is_down (After (entry_of x.desk (happens h.now)) x.past) k b c) }
-    ensures meter { tables.new.lines.meter ≤ tables.old.lines.meter + length (held_in lines) }
+    requires bears { Bears parts.now.register.now parts.now.areas.now parts.now.book.now tables.old (happens h.now) reached.spots.items (held_in reached.lines) }
+    requires steps { AreSteps (happens h.now) parts.now.book.now reached.lines }
+    ensures tables { OnOk result ((x : Bears parts.now.register.now parts.now.areas.now parts.now.book.now tables.old (happens h.now) reached.spots.items (held_in reached.lines)) → Consistent tables.new (facts (After (entry_of x.desk (happens h.now)) x.past))) }
+    ensures downs { OnOk result ((x : Bears parts.now.register.now parts.now.areas.now parts.now.book.now tables.old (happens h.now) reached.spots.items (held_in reached.lines)) → (k : Kind) (b : ℕ) (c : Cell) → down_at tables.new.lines k b c ≡ is_down (After (entry_of x.desk (happens h.now)) x.past) k b c) }
+    ensures meter { tables.new.lines.meter ≤ tables.old.lines.meter + length (held_in reached.lines) }
     ensures least { tables.old.lines.meter ≤ tables.new.lines.meter }
 {
-    mark_downs(tables, spots, h.event, h.answer)?;
+    let Reached {
+        spots,
+        warnings,
+        lines,
+    } = reached;
+    mark_downs(tables, spots.as_slice(), h.event, h.answer)?;
     match lines {
         HeldLines::Whole(held) => {
-            let mut found = find(alloc, plan, warnings, spots.len())?;
-            change_lines(h, plan, &mut found, tables, held.as_slice())
+            let mut plan = find(alloc, parts, &warnings, spots.len())?;
+            change_lines(h, &mut plan, tables, held.as_slice())
         }
         HeldLines::Steps(steps) => tables.take_steps(steps.as_slice()),
     }

@@ -9,20 +9,20 @@ ghost use Rattle.kept_tables.specs.View.{key_at};
 ghost use Rattle.centre_past.specs.Idle.{AsBefore};
 ghost use Rattle.centre_lines.specs.Following.{LinesAreOf, held_unless, held_at, held_lines, is_idle, is_near, leaves_cover, passed_over};
 ghost use Rattle.centre_past.specs.Reaching.{is_forget};
-ghost use Rattle.centre_lines.specs.Found.{AreFound, IsKnown};
+ghost use Rattle.centre_lines.specs.Found.{IsKnown};
 
 use crate::facts::{facts_from, is_covered, kind_in};
-use crate::found_warnings::FoundWarnings;
+use crate::found_plan::FoundPlan;
 use crate::held::Held;
 use crate::known_spot::KnownSpot;
-use crate::plan_parts::PlanParts;
+use crate::line_in_cell::LineInCell;
 use areas::Areas;
 use centre_past::keys::key_at;
 use common::Names;
 use coverage_plan::Edit;
 use kept_tables::{KeptTables, LineFacts, Spot};
 use mirror::{Line, LineKey};
-use std::alloc::{AllocError, Global};
+use std::alloc::AllocError;
 use warning_book::{Warning, WarningId};
 
 /// Room for as many lines as most cells have.
@@ -100,27 +100,30 @@ fn is_passed_over(
 #[tactic(auto, using(crate::proofs::FollowLemmas::facts_as, centre_past::proofs::ReadLemmas::as_read))]
 fn hold_line(
     out: &mut Vec<Held>,
-    plan: &PlanParts<'_>,
-    found: &mut FoundWarnings<'_>,
+    plan: &mut FoundPlan<'_>,
     tables: &mut KeptTables,
     at: &KnownSpot<'_>,
     n: WarningId,
     edit: &Edit,
 ) -> Result<(), AllocError>
-    requires found { AreFound plan.now.areas.now plan.now.book.now found.old }
-    requires known { IsKnown plan.now.areas.now at.now }
-    ensures held { (t : Tables) → AsBefore t tables.old → OnOk result (out.new.items ≡ out.old.items ++ held_unless edit.now plan.now.register.now plan.now.areas.now plan.now.book.now t (key_at at.now.spot n)) }
+    requires known { IsKnown plan.old.areas at.now }
+    ensures held { (t : Tables) → AsBefore t tables.old → OnOk result (out.new.items ≡ out.old.items ++ held_unless edit.now plan.old.register plan.old.areas plan.old.book t (key_at at.now.spot n)) }
     ensures kept { (t : Tables) → AsBefore t tables.old → AsBefore t tables.new }
     ensures meter { tables.new.lines.meter ≤ tables.old.lines.meter + 1 }
-    ensures same { found.new ≡ found.old }
+    ensures same { plan.new ≡ plan.old }
 {
     let line = tables.read_line(key_at(&at.spot, n));
-    let warning = plan.book.find(n);
-    if is_passed_over(edit, plan.areas, at, warning, &line) {
+    let warning = plan.book().find(n);
+    if is_passed_over(edit, plan.areas(), at, warning, &line) {
         return Ok(());
     }
     let down = tables.is_down(kind_in(warning), at.spot.bsc, at.spot.cell);
-    let before = facts_from(plan, found, &at.spot, n, down, line, warning)?;
+    let there = LineInCell {
+        spot: at.spot,
+        line,
+        down,
+    };
+    let before = facts_from(plan, &there, n, warning)?;
     out.push(held_of(&at.spot, n, before))?;
     Ok(())
 }
@@ -128,22 +131,20 @@ fn hold_line(
 /// Reads the lines of the warnings at the spot.
 fn hold_spot(
     out: &mut Vec<Held>,
-    plan: &PlanParts<'_>,
-    found: &mut FoundWarnings<'_>,
+    plan: &mut FoundPlan<'_>,
     tables: &mut KeptTables,
     at: &KnownSpot<'_>,
     warnings: &[WarningId],
     edit: &Edit,
 ) -> Result<(), AllocError>
-    requires found { AreFound plan.now.areas.now plan.now.book.now found.old }
-    requires known { IsKnown plan.now.areas.now at.now }
-    ensures held { (t : Tables) → AsBefore t tables.old → OnOk result (out.new.items ≡ out.old.items ++ held_at edit.now plan.now.register.now plan.now.areas.now plan.now.book.now t warnings.now at.now.spot) }
+    requires known { IsKnown plan.old.areas at.now }
+    ensures held { (t : Tables) → AsBefore t tables.old → OnOk result (out.new.items ≡ out.old.items ++ held_at edit.now plan.old.register plan.old.areas plan.old.book t warnings.now at.now.spot) }
     ensures kept { (t : Tables) → AsBefore t tables.old → AsBefore t tables.new }
     ensures meter { tables.new.lines.meter ≤ tables.old.lines.meter + length warnings.now }
-    ensures same { found.new ≡ found.old }
+    ensures same { plan.new ≡ plan.old }
 {
     for warning in warnings {
-        hold_line(out, plan, found, tables, at, *warning, edit)?;
+        hold_line(out, plan, tables, at, *warning, edit)?;
     }
     Ok(())
 }
@@ -159,21 +160,20 @@ pub(crate) struct NearCell {
 /// something is kept are counted.
 #[tactic(auto, using(centre_past::proofs::ReadLemmas::as_read))]
 pub(crate) fn near(
-    alloc: Global,
-    plan: &PlanParts<'_>,
+    plan: &FoundPlan<'_>,
     tables: &mut KeptTables,
     spot: &Spot,
     warnings: &[WarningId],
 ) -> Result<NearCell, AllocError>
-    ensures warnings { IfOk result (λ v. v.warnings.items ≡ filter (is_near plan.now.areas.now plan.now.book.now tables.new.lines spot.now.bsc spot.now.cell) warnings.now) }
-    ensures covering { IfOk result (λ v. v.covering ≡ areas_of plan.now.areas.now spot.now.cell) }
+    ensures warnings { IfOk result (λ v. v.warnings.items ≡ filter (is_near plan.now.areas plan.now.book tables.new.lines spot.now.bsc spot.now.cell) warnings.now) }
+    ensures covering { IfOk result (λ v. v.covering ≡ areas_of plan.now.areas spot.now.cell) }
     ensures kept { (t : Tables) → AsBefore t tables.old → AsBefore t tables.new }
     ensures meter { LinesAreOf warnings.now tables.old → tables.new.lines.meter ≤ tables.old.lines.meter + length warnings.now }
 {
     let kept = tables.warnings_at(spot.bsc, spot.cell)?;
-    let covering = plan.areas.areas_of(spot.cell)?;
-    let named = plan.book.naming_one_of(covering.as_slice())?;
-    let mut near = Vec::with_capacity(alloc, warnings.len())?;
+    let covering = plan.areas().areas_of(spot.cell)?;
+    let named = plan.book().naming_one_of(covering.as_slice())?;
+    let mut near = Vec::with_capacity(plan.alloc(), warnings.len())?;
     for warning in warnings {
         if is_listed(*warning, kept.as_slice()) || is_listed(*warning, named.as_slice()) {
             near.push(*warning)?;
@@ -189,99 +189,87 @@ pub(crate) fn near(
 /// lines of the others are idle.
 fn hold_near(
     out: &mut Vec<Held>,
-    alloc: Global,
-    plan: &PlanParts<'_>,
-    found: &mut FoundWarnings<'_>,
+    plan: &mut FoundPlan<'_>,
     tables: &mut KeptTables,
     spot: &Spot,
     warnings: &[WarningId],
     edit: &Edit,
 ) -> Result<(), AllocError>
     requires cover { leaves_cover edit.now ≡ true }
-    requires found { AreFound plan.now.areas.now plan.now.book.now found.old }
-    ensures held { (t : Tables) → AsBefore t tables.old → OnOk result (out.new.items ≡ out.old.items ++ held_at edit.now plan.now.register.now plan.now.areas.now plan.now.book.now t warnings.now spot.now) }
+    ensures held { (t : Tables) → AsBefore t tables.old → OnOk result (out.new.items ≡ out.old.items ++ held_at edit.now plan.old.register plan.old.areas plan.old.book t warnings.now spot.now) }
     ensures kept { (t : Tables) → AsBefore t tables.old → AsBefore t tables.new }
     ensures meter { LinesAreOf warnings.now tables.old → tables.new.lines.meter ≤ tables.old.lines.meter + 2 * length warnings.now }
-    ensures same { found.new ≡ found.old }
+    ensures same { plan.new ≡ plan.old }
 {
-    let near = near(alloc, plan, tables, spot, warnings)?;
+    let near = near(plan, tables, spot, warnings)?;
     let at = KnownSpot::covered(*spot, near.covering.as_slice());
     let near = near.warnings.as_slice();
-    hold_spot(out, plan, found, tables, &at, near, edit)?;
+    hold_spot(out, plan, tables, &at, near, edit)?;
     Ok(())
 }
 
 /// Reads the lines at the spot, and holds those that are not passed over.
 fn hold_there(
     out: &mut Vec<Held>,
-    alloc: Global,
-    plan: &PlanParts<'_>,
-    found: &mut FoundWarnings<'_>,
+    plan: &mut FoundPlan<'_>,
     tables: &mut KeptTables,
     spot: &Spot,
     warnings: &[WarningId],
     edit: &Edit,
 ) -> Result<(), AllocError>
-    requires found { AreFound plan.now.areas.now plan.now.book.now found.old }
-    ensures held { (t : Tables) → AsBefore t tables.old → OnOk result (out.new.items ≡ out.old.items ++ held_at edit.now plan.now.register.now plan.now.areas.now plan.now.book.now t warnings.now spot.now) }
+    ensures held { (t : Tables) → AsBefore t tables.old → OnOk result (out.new.items ≡ out.old.items ++ held_at edit.now plan.old.register plan.old.areas plan.old.book t warnings.now spot.now) }
     ensures kept { (t : Tables) → AsBefore t tables.old → AsBefore t tables.new }
     ensures meter { (leaves_cover edit.now ≡ true → LinesAreOf warnings.now tables.old) → tables.new.lines.meter ≤ tables.old.lines.meter + 2 * length warnings.now }
-    ensures same { found.new ≡ found.old }
+    ensures same { plan.new ≡ plan.old }
 {
     if leaves_cover(edit) {
-        return hold_near(out, alloc, plan, found, tables, spot, warnings, edit);
+        return hold_near(out, plan, tables, spot, warnings, edit);
     }
     let at = KnownSpot {
         spot: *spot,
         covering: None,
     };
-    hold_spot(out, plan, found, tables, &at, warnings, edit)
+    hold_spot(out, plan, tables, &at, warnings, edit)
 }
 
 /// Reads the lines of each of the warnings at each of the spots, and holds those that are not passed over.
 pub(crate) fn hold(
-    alloc: Global,
-    plan: &PlanParts<'_>,
-    found: &mut FoundWarnings<'_>,
+    plan: &mut FoundPlan<'_>,
     tables: &mut KeptTables,
     spots: &[Spot],
     warnings: &[WarningId],
     edit: &Edit,
 ) -> Result<Vec<Held>, AllocError>
-    requires found { AreFound plan.now.areas.now plan.now.book.now found.old }
-    ensures held { (t : Tables) → AsBefore t tables.old → IfOk result (λ v. v.items ≡ held_lines edit.now plan.now.register.now plan.now.areas.now plan.now.book.now t spots.now warnings.now) }
+    ensures held { (t : Tables) → AsBefore t tables.old → IfOk result (λ v. v.items ≡ held_lines edit.now plan.old.register plan.old.areas plan.old.book t spots.now warnings.now) }
     ensures kept { (t : Tables) → AsBefore t tables.old → AsBefore t tables.new }
     ensures meter { (leaves_cover edit.now ≡ true → LinesAreOf warnings.now tables.old) → tables.new.lines.meter ≤ tables.old.lines.meter + 2 * (length spots.now * length warnings.now) }
 {
-    let mut out = Vec::with_capacity(alloc, spots.len().max(FEW))?;
+    let mut out = Vec::with_capacity(plan.alloc(), spots.len().max(FEW))?;
     for spot in spots {
-        hold_there(&mut out, alloc, plan, found, tables, spot, warnings, edit)?;
+        hold_there(&mut out, plan, tables, spot, warnings, edit)?;
     }
     Ok(out)
 }
 
 /// Reads these lines, and holds those that are not passed over.
 pub(crate) fn hold_keys(
-    alloc: Global,
-    plan: &PlanParts<'_>,
-    found: &mut FoundWarnings<'_>,
+    plan: &mut FoundPlan<'_>,
     tables: &mut KeptTables,
     keys: &[LineKey],
     edit: &Edit,
 ) -> Result<Vec<Held>, AllocError>
-    requires found { AreFound plan.now.areas.now plan.now.book.now found.old }
-    ensures held { (t : Tables) → AsBefore t tables.old → IfOk result (λ v. v.items ≡ flat_map (held_unless edit.now plan.now.register.now plan.now.areas.now plan.now.book.now t) keys.now) }
+    ensures held { (t : Tables) → AsBefore t tables.old → IfOk result (λ v. v.items ≡ flat_map (held_unless edit.now plan.old.register plan.old.areas plan.old.book t) keys.now) }
     ensures kept { (t : Tables) → AsBefore t tables.old → AsBefore t tables.new }
     ensures meter { tables.new.lines.meter ≤ tables.old.lines.meter + length keys.now }
 {
-    let mut out = Vec::with_capacity(alloc, keys.len())?;
+    let mut out = Vec::with_capacity(plan.alloc(), keys.len())?;
     for key in keys {
         let LineKey { bsc, cell, warning } = *key;
         let at = KnownSpot {
             spot: Spot { bsc, cell },
             covering: None,
         };
-        hold_line(&mut out, plan, found, tables, &at, warning, edit)?;
+        hold_line(&mut out, plan, tables, &at, warning, edit)?;
     }
     Ok(out)
 }

@@ -15,7 +15,7 @@ ghost use Rattle.centre_events.specs.declared.event.Event.TheVariants as event;
 ghost use Rattle.coverage_plan.specs.declared.edit.Edit.TheVariants as edit_spec;
 
 use crate::changing::hold_changing;
-use crate::found_warnings::find;
+use crate::found_plan::find;
 use crate::held_lines::HeldLines;
 use crate::holding::{hold, hold_keys};
 use crate::plan_parts::PlanParts;
@@ -49,17 +49,15 @@ fn reached_at_spots(alloc: Global, kept: &mut Kept, edit: &Edit) -> Result<Reach
     ensures reads { OnlyReadsIn kept.old kept.new }
     ensures meter { (settings : Settings) (past : Past) (a : answer_spec.Answer) → Legal settings past → IsKept past kept.old → edit_answered past edit.now ≡ Ok a → kept.new.tables.lines.meter ≤ kept.old.tables.lines.meter + 2 * size (edit_reach past edit.now) }
 {
-    let plan = PlanParts {
+    let parts = PlanParts {
         register: &kept.register,
         areas: &kept.areas,
         book: &kept.book,
     };
-    let reach = reach_of_edit(alloc, &plan, kept.tables.lines(), edit)?;
-    let mut found = find(alloc, &plan, &reach.warnings, reach.spots.len())?;
+    let reach = reach_of_edit(alloc, &parts, kept.tables.lines(), edit)?;
+    let mut plan = find(alloc, &parts, &reach.warnings, reach.spots.len())?;
     let held = hold(
-        alloc,
-        &plan,
-        &mut found,
+        &mut plan,
         &mut kept.tables,
         reach.spots.as_slice(),
         reach.warnings.as_slice(),
@@ -87,20 +85,13 @@ fn reached_by_forget(
     tell_lines(kept.tables.lines());
     let keys = kept.tables.places_of(n)?;
     let warnings = of_edit(alloc, &kept.book, edit)?;
-    let plan = PlanParts {
+    let parts = PlanParts {
         register: &kept.register,
         areas: &kept.areas,
         book: &kept.book,
     };
-    let mut found = find(alloc, &plan, &warnings, keys.len())?;
-    let held = hold_keys(
-        alloc,
-        &plan,
-        &mut found,
-        &mut kept.tables,
-        keys.as_slice(),
-        edit,
-    )?;
+    let mut plan = find(alloc, &parts, &warnings, keys.len())?;
+    let held = hold_keys(&mut plan, &mut kept.tables, keys.as_slice(), edit)?;
     Ok(Reached {
         spots: Vec::new(alloc),
         warnings,
@@ -134,32 +125,22 @@ pub fn reached_by_other<'x>(
     ensures reads { OnlyReadsIn kept.old kept.new }
     ensures meter { (settings : Settings) (past : Past) → Legal settings past → IsKept past kept.old → answered settings.network past event.now ≡ Ok answer.now → kept.new.tables.lines.meter ≤ kept.old.tables.lines.meter + 2 * size (reach_of past event.now answer.now) }
 {
-    let reach = reach_of_other(
-        alloc,
-        &kept.register,
-        &kept.book,
-        kept.tables.lines(),
-        event,
-        answer,
-        flight_of(kept.flights.as_slice(), event),
-    )?;
     let h = Happening {
         event,
         answer,
         up: up_before(kept.links.as_slice(), event),
         flight: flight_of(kept.flights.as_slice(), event),
     };
-    let plan = PlanParts {
+    let parts = PlanParts {
         register: &kept.register,
         areas: &kept.areas,
         book: &kept.book,
     };
-    let mut found = find(alloc, &plan, &reach.warnings, reach.spots.len())?;
+    let reach = reach_of_other(alloc, &parts, kept.tables.lines(), &h)?;
+    let mut plan = find(alloc, &parts, &reach.warnings, reach.spots.len())?;
     let steps = hold_changing(
-        alloc,
         &h,
-        &plan,
-        &mut found,
+        &mut plan,
         &mut kept.tables,
         reach.spots.as_slice(),
         reach.warnings.as_slice(),

@@ -18,6 +18,7 @@ ghost use Rattle.centre_events.specs.Warnings.{book_of};
 ghost use Rattle.centre_past.specs.Idle.{AsBefore};
 ghost use Rattle.centre_past.specs.Lists.{failed_at, failed_in, failed_of, failed_rows, failure_if};
 
+use crate::lists::wanted_version::WantedVersion;
 use areas::{Areas, Coverage};
 use cell_register::{BscId, Register};
 use centre_past::keys::key_of;
@@ -87,17 +88,16 @@ fn failure(tables: &mut KeptTables, key: LineKey, kind: Kind, serial: Serial) ->
 /// The row of the cell at its BSC, if the warning failed there.
 fn failed_at(
     tables: &mut KeptTables,
-    w: &Warning,
-    serial: Serial,
-    coverages: &[Coverage<'_>],
+    wanted: &WantedVersion<'_, '_>,
     b: BscId,
     c: Cell,
 ) -> Option<FailedRow>
-    ensures row { (past : Past) (t : Tables) → Tells past t → AreDownsOf past t → AsBefore t tables.old → IsWanted past w.now serial coverages.now → place past c ≡ Some b → result ≡ failed_at past w.now c b }
+    ensures row { (past : Past) (t : Tables) → Tells past t → AreDownsOf past t → AsBefore t tables.old → IsWanted past wanted.now.warning.now wanted.now.serial wanted.now.coverages.now → place past c ≡ Some b → result ≡ failed_at past wanted.now.warning.now c b }
     ensures kept { (t : Tables) → AsBefore t tables.old → AsBefore t tables.new }
 {
-    let why = failure(tables, key_of(b, c, w.number()), w.kind(), serial)?;
-    if !is_covered(coverages, c) {
+    let w = wanted.warning;
+    let why = failure(tables, key_of(b, c, w.number()), w.kind(), wanted.serial)?;
+    if !is_covered(wanted.coverages, c) {
         return None;
     }
     Some(FailedRow {
@@ -121,19 +121,17 @@ fn push_row(out: &mut Vec<FailedRow>, row: Option<FailedRow>) -> Result<(), Allo
 fn add_failed(
     out: &mut Vec<FailedRow>,
     tables: &mut KeptTables,
-    w: &Warning,
-    serial: Serial,
-    coverages: &[Coverage<'_>],
+    wanted: &WantedVersion<'_, '_>,
     at: Option<BscId>,
     c: Cell,
 ) -> Result<(), AllocError>
-    ensures row { (past : Past) (t : Tables) → Tells past t → AreDownsOf past t → AsBefore t tables.old → IsWanted past w.now serial coverages.now → place past c ≡ at → OnOk result (out.new.items ≡ out.old.items ++ failed_in past w.now c) }
+    ensures row { (past : Past) (t : Tables) → Tells past t → AreDownsOf past t → AsBefore t tables.old → IsWanted past wanted.now.warning.now wanted.now.serial wanted.now.coverages.now → place past c ≡ at → OnOk result (out.new.items ≡ out.old.items ++ failed_in past wanted.now.warning.now c) }
     ensures kept { (t : Tables) → AsBefore t tables.old → AsBefore t tables.new }
 {
     let Some(b) = at else {
         return Ok(());
     };
-    let row = failed_at(tables, w, serial, coverages, b, c);
+    let row = failed_at(tables, wanted, b, c);
     push_row(out, row)
 }
 
@@ -142,19 +140,17 @@ fn failed_among(
     alloc: Global,
     register: &Register,
     tables: &mut KeptTables,
-    w: &Warning,
-    serial: Serial,
-    coverages: &[Coverage<'_>],
+    wanted: &WantedVersion<'_, '_>,
     cells: &[Cell],
 ) -> Result<Vec<FailedRow>, AllocError>
-    ensures rows { (past : Past) (t : Tables) → Tells past t → AreDownsOf past t → IsRegisterOf past register.now → AsBefore t tables.old → IsWanted past w.now serial coverages.now → IfOk result (λ v. v.items ≡ flat_map (failed_in past w.now) cells.now) }
+    ensures rows { (past : Past) (t : Tables) → Tells past t → AreDownsOf past t → IsRegisterOf past register.now → AsBefore t tables.old → IsWanted past wanted.now.warning.now wanted.now.serial wanted.now.coverages.now → IfOk result (λ v. v.items ≡ flat_map (failed_in past wanted.now.warning.now) cells.now) }
     ensures kept { (t : Tables) → AsBefore t tables.old → AsBefore t tables.new }
 {
     let mut out = Vec::new(alloc);
     let mut near = 0;
     for cell in cells {
         let at = register.bsc_near(*cell, &mut near);
-        add_failed(&mut out, tables, w, serial, coverages, at, *cell)?;
+        add_failed(&mut out, tables, wanted, at, *cell)?;
     }
     Ok(out)
 }
@@ -176,15 +172,12 @@ fn failed_rows(
     register.tell_soundness();
     let coverages = coverages_of(alloc, areas, w.areas())?;
     let cells = register.all_cells()?;
-    let rows = failed_among(
-        alloc,
-        register,
-        tables,
-        w,
+    let wanted = WantedVersion {
+        warning: w,
         serial,
-        coverages.as_slice(),
-        cells.as_slice(),
-    )?;
+        coverages: coverages.as_slice(),
+    };
+    let rows = failed_among(alloc, register, tables, &wanted, cells.as_slice())?;
     Ok(FailedRows::from_vec(rows))
 }
 

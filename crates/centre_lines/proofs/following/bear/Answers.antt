@@ -14,13 +14,13 @@ use Rattle.centre_lines.proofs.following.bear.Goals as goal
 
 pub change_lines-requires-clause-covered : goal.change_lines-requires-clause-covered
 change_lines-requires-clause-covered c =
-    λ leaves. subst (AreCovered c.args.plan.now.areas.now c.args.plan.now.book.now) (ap held_in c.in-Whole.is ∙ sym c.as_slice.ensures.value) (bears_covered c.requires.bears leaves)
+    λ leaves. subst (AreCovered c.args.parts.now.areas.now c.args.parts.now.book.now) (ap held_in c.in-Whole.is ∙ sym c.as_slice.ensures.value) (bears_covered c.requires.bears leaves)
 
 pub change_lines-requires-clause-begins : goal.change_lines-requires-clause-begins
 change_lines-requires-clause-begins c =
     let h : Happens = happens c.args.h.now in
     subst (Begins c.mark_downs.new.tables)
-    (ap (map (change_of h c.args.plan.now.register.now c.args.plan.now.areas.now c.args.plan.now.book.now c.mark_downs.new.tables)) (ap held_in c.in-Whole.is ∙ sym c.as_slice.ensures.value))
+    (ap (map (change_of h c.args.parts.now.register.now c.args.parts.now.areas.now c.args.parts.now.book.now c.mark_downs.new.tables)) (ap held_in c.in-Whole.is ∙ sym c.as_slice.ensures.value))
     (begins c.requires.bears c.mark_downs.new.tables c.in_ok-mark_downs.ensures.lines c.in_ok-mark_downs.ensures.downs)
 
 pub returns-in_ok-found-in-Whole-clause-tables : goal.returns-in_ok-found-in-Whole-clause-tables
@@ -28,8 +28,8 @@ returns-in_ok-found-in-Whole-clause-tables c =
     let h : Happens = happens c.args.h.now in
     on_ok_weaker c.change_lines.result
     (λ done x.
-    settled x c.mark_downs.new.tables c.change_lines.new.tables (map (change_of h c.args.plan.now.register.now c.args.plan.now.areas.now c.args.plan.now.book.now c.mark_downs.new.tables) c.as_slice.result.now)
-    (ap (map (change_of h c.args.plan.now.register.now c.args.plan.now.areas.now c.args.plan.now.book.now c.mark_downs.new.tables)) (c.as_slice.ensures.value ∙ sym (ap held_in c.in-Whole.is)))
+    settled x c.mark_downs.new.tables c.change_lines.new.tables (map (change_of h c.args.parts.now.register.now c.args.parts.now.areas.now c.args.parts.now.book.now c.mark_downs.new.tables) c.as_slice.result.now)
+    (ap (map (change_of h c.args.parts.now.register.now c.args.parts.now.areas.now c.args.parts.now.book.now c.mark_downs.new.tables)) (c.as_slice.ensures.value ∙ sym (ap held_in c.in-Whole.is)))
     c.in_ok-mark_downs.ensures.lines c.in_ok-mark_downs.ensures.downs done)
     c.change_lines.ensures.made
 
@@ -41,19 +41,19 @@ returns-in_ok-found-in-Whole-clause-downs c = on_ok_weaker c.change_lines.result
 pub take_steps-requires : goal.take_steps-requires
 take_steps-requires c =
     let h : Happens = happens c.args.h.now in
-    let steps : (is_edit h.event ≡ false) × (c.in-Steps.steps.items ≡ map (step_of h c.args.plan.now.book.now) (map held_of c.in-Steps.steps.items)) = subst (AreSteps h c.args.plan.now.book.now) c.in-Steps.is c.requires.steps in
+    let steps : (is_edit h.event ≡ false) × (c.in-Steps.steps.items ≡ map (step_of h c.args.parts.now.book.now) (map held_of c.in-Steps.steps.items)) = subst (AreSteps h c.args.parts.now.book.now) c.in-Steps.is c.requires.steps in
     subst (Begins c.mark_downs.new.tables)
-    (sym (ap (map change_of_step) c.as_slice-in-Steps.ensures.value ∙ steps_change c.in-Steps.steps.items c.requires.bears c.mark_downs.new.tables (λ k b d. c.in_ok-mark_downs.ensures.downs k b d ∙ downs_then c.requires.bears k b d) steps.0 (steps.1 ∙ ap (map (step_of h c.args.plan.now.book.now)) (sym (ap held_in c.in-Steps.is)))))
+    (sym (ap (map change_of_step) c.as_slice-in-Steps.ensures.value ∙ steps_change c.in-Steps.steps.items c.requires.bears c.mark_downs.new.tables (λ k b d. c.in_ok-mark_downs.ensures.downs k b d ∙ downs_then c.requires.bears k b d) steps.0 (steps.1 ∙ ap (map (step_of h c.args.parts.now.book.now)) (sym (ap held_in c.in-Steps.is)))))
     (begins c.requires.bears c.mark_downs.new.tables c.in_ok-mark_downs.ensures.lines c.in_ok-mark_downs.ensures.downs)
 
 pub returns-in-Steps-clause-tables : goal.returns-in-Steps-clause-tables
 returns-in-Steps-clause-tables c =
     let h : Happens = happens c.args.h.now in
-    let steps : (is_edit h.event ≡ false) × (c.in-Steps.steps.items ≡ map (step_of h c.args.plan.now.book.now) (map held_of c.in-Steps.steps.items)) = subst (AreSteps h c.args.plan.now.book.now) c.in-Steps.is c.requires.steps in
+    let steps : (is_edit h.event ≡ false) × (c.in-Steps.steps.items ≡ map (step_of h c.args.parts.now.book.now) (map held_of c.in-Steps.steps.items)) = subst (AreSteps h c.args.parts.now.book.now) c.in-Steps.is c.requires.steps in
     on_ok_weaker c.take_steps.result
     (λ done x.
     settled x c.mark_downs.new.tables c.take_steps.new.self (map change_of_step c.as_slice-in-Steps.result.now)
-    (ap (map change_of_step) c.as_slice-in-Steps.ensures.value ∙ steps_change c.in-Steps.steps.items x c.mark_downs.new.tables (λ k b d. c.in_ok-mark_downs.ensures.downs k b d ∙ downs_then x k b d) steps.0 (steps.1 ∙ ap (map (step_of h c.args.plan.now.book.now)) (sym (ap held_in c.in-Steps.is))))
+    (ap (map change_of_step) c.as_slice-in-Steps.ensures.value ∙ steps_change c.in-Steps.steps.items x c.mark_downs.new.tables (λ k b d. c.in_ok-mark_downs.ensures.downs k b d ∙ downs_then x k b d) steps.0 (steps.1 ∙ ap (map (step_of h c.args.parts.now.book.now)) (sym (ap held_in c.in-Steps.is))))
     c.in_ok-mark_downs.ensures.lines c.in_ok-mark_downs.ensures.downs done)
     c.take_steps.ensures.settled
 

@@ -1,12 +1,9 @@
-use Rattle.std.proofs.Common.{[], ◌∙◌, arith, sym, subst}
+use Rattle.std.proofs.Common.{[], ◌++◌, ◌∙◌, ap, arith}
+use Rattle.coverage_plan.specs.Plan.{State}
 use Rattle.centre_lines.specs.Following.{held_at}
-use Rattle.centre_lines.specs.Found.{AreFound}
 use Rattle.centre_past.proofs.ReadLemmas.{as_itself, added_more}
 use Rattle.centre_lines.proofs.IndicatedLemmas.{lines_of_as}
 use Rattle.centre_lines.proofs.holding.hold.Goals as goal
-
-pub hold_there-requires : goal.hold_there-requires
-hold_there-requires c = record { found = subst (AreFound c.args.plan.now.areas.now c.args.plan.now.book.now) (sym c.loop-spot.invariant.1.1) c.requires.found }
 
 pub returns-in_err-hold_there-clause-meter : goal.returns-in_err-hold_there-clause-meter
 returns-in_err-hold_there-clause-meter c =
@@ -21,8 +18,8 @@ loop-spot-preserved c = (
   λ t same.
       let before = c.loop-spot.invariant.0 t same in (
         c.hold_there.ensures.kept t before.0,
-        added_more (held_at c.args.edit.now c.args.plan.now.register.now c.args.plan.now.areas.now c.args.plan.now.book.now t c.args.warnings.now) c.args.spots.now c.loop-spot.spot-index c.spot-item.result c.spot-item.result [] c.loop-spot.out.items c.hold_there.new.out.items c.loop-spot-test.true c.spot-item.is before.1
-            (c.in_ok-hold_there.ensures.held t before.0),
+        added_more (held_at c.args.edit.now c.args.plan.now.register c.args.plan.now.areas c.args.plan.now.book t c.args.warnings.now) c.args.spots.now c.loop-spot.spot-index c.spot-item.result c.spot-item.result [] c.loop-spot.out.items c.hold_there.new.out.items c.loop-spot-test.true c.spot-item.is before.1
+            (c.in_ok-hold_there.ensures.held t before.0 ∙ ap (λ (p : State). c.loop-spot.out.items ++ held_at c.args.edit.now p.register p.areas p.book t c.args.warnings.now c.spot-item.result) c.loop-spot.invariant.1.1),
       ),
   (
     λ of.

@@ -10,20 +10,20 @@ returns-clause-held c =
     let before = c.near.ensures.kept t same in
     c.in_ok-hold_spot.ensures.held t before
     ∙ ap (λ xs. c.args.out.now.items ++ xs)
-    (ap (held_at c.args.edit.now c.args.plan.now.register.now c.args.plan.now.areas.now c.args.plan.now.book.now t c.as_slice-near.result.now) c.covered-at.ensures.spot
-    ∙ ap (λ ns. held_at c.args.edit.now c.args.plan.now.register.now c.args.plan.now.areas.now c.args.plan.now.book.now t ns c.args.spot.now) (c.as_slice-near.ensures.value ∙ c.in_ok-near.ensures.warnings)
-    ∙ near_held c.args.edit.now c.args.plan.now.register.now c.args.plan.now.areas.now c.args.plan.now.book.now t c.near.new.tables c.args.spot.now c.args.warnings.now before c.requires.cover)
+    (ap (held_at c.args.edit.now c.args.plan.now.register c.args.plan.now.areas c.args.plan.now.book t c.as_slice-near.result.now) c.covered-at.ensures.spot
+    ∙ ap (λ ns. held_at c.args.edit.now c.args.plan.now.register c.args.plan.now.areas c.args.plan.now.book t ns c.args.spot.now) (c.as_slice-near.ensures.value ∙ c.in_ok-near.ensures.warnings)
+    ∙ near_held c.args.edit.now c.args.plan.now.register c.args.plan.now.areas c.args.plan.now.book t c.near.new.tables c.args.spot.now c.args.warnings.now before c.requires.cover)
 
 pub returns-clause-meter : goal.returns-clause-meter
 returns-clause-meter c =
     λ of.
-    let few = length_filter (is_near c.args.plan.now.areas.now c.args.plan.now.book.now c.near.new.tables.lines c.args.spot.now.bsc c.args.spot.now.cell) c.args.warnings.now in
+    let few = length_filter (is_near c.args.plan.now.areas c.args.plan.now.book c.near.new.tables.lines c.args.spot.now.bsc c.args.spot.now.cell) c.args.warnings.now in
     let told = c.near.ensures.meter of in
     grind (arith, few, told, c.hold_spot.ensures.meter, c.as_slice-near.ensures.value, c.in_ok-near.ensures.warnings)
 
 pub returns-in_err-hold_spot-clause-meter : goal.returns-in_err-hold_spot-clause-meter
 returns-in_err-hold_spot-clause-meter c =
     λ of.
-    let few = length_filter (is_near c.args.plan.now.areas.now c.args.plan.now.book.now c.near.new.tables.lines c.args.spot.now.bsc c.args.spot.now.cell) c.args.warnings.now in
+    let few = length_filter (is_near c.args.plan.now.areas c.args.plan.now.book c.near.new.tables.lines c.args.spot.now.bsc c.args.spot.now.cell) c.args.warnings.now in
     let told = c.near.ensures.meter of in
     grind (arith, few, told, c.hold_spot.ensures.meter, c.as_slice-near.ensures.value, c.in_ok-near.ensures.warnings)

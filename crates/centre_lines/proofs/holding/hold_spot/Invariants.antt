@@ -6,4 +6,4 @@ use Rattle.centre_lines.proofs.holding.hold_spot.Given as goal
 
 -- the lines of the warnings passed are read, and nothing of them changes
 abbrev pub invariant-loop-warning : goal.invariant-loop-warning
-invariant-loop-warning l = ((t : Tables) → AsBefore t l.initial.tables → (AsBefore t l.tables × (l.out.items ≡ l.initial.out.items ++ held_at l.edit l.plan.register.now l.plan.areas.now l.plan.book.now t (take l.warning-index l.warnings) l.at.spot))) × ((l.tables.lines.meter ≤ l.initial.tables.lines.meter + l.warning-index) × (l.found ≡ l.initial.found))
+invariant-loop-warning l = ((t : Tables) → AsBefore t l.initial.tables → (AsBefore t l.tables × (l.out.items ≡ l.initial.out.items ++ held_at l.edit l.initial.plan.register l.initial.plan.areas l.initial.plan.book t (take l.warning-index l.warnings) l.at.spot))) × ((l.tables.lines.meter ≤ l.initial.tables.lines.meter + l.warning-index) × (l.plan ≡ l.initial.plan))

@@ -3,4 +3,4 @@ use Rattle.centre_lines.specs.Following.{is_near}
 use Rattle.centre_lines.proofs.holding.near.Given as goal
 
 abbrev pub invariant-loop-warning : goal.invariant-loop-warning
-invariant-loop-warning l = l.near.items ≡ filter (is_near l.plan.areas.now l.plan.book.now l.tables.lines l.spot.bsc l.spot.cell) (take l.warning-index l.warnings)
+invariant-loop-warning l = l.near.items ≡ filter (is_near l.plan.areas l.plan.book l.tables.lines l.spot.bsc l.spot.cell) (take l.warning-index l.warnings)

@@ -1,4 +1,5 @@
 use Rattle.std.proofs.Common.{refl, ◌∙◌, ap}
+use Rattle.coverage_plan.specs.Plan.{State}
 use Rattle.centre_lines.specs.Following.{held_lines}
 use Rattle.centre_past.specs.Reach.{edit_reach}
 use Rattle.centre_lines.specs.declared.held_lines.HeldLines.TheVariants as lines
@@ -23,6 +24,7 @@ returns-clause-reached c =
     }))
     tt
     (c.in_ok-held.ensures.held c.args.kept.now.tables (as_itself c.args.kept.now.tables)
+    ∙ ap (λ (p : State). held_lines c.args.edit.now p.register p.areas p.book c.args.kept.now.tables c.as_slice.result.now c.as_slice-2.result.now) c.in_ok-plan.ensures
     ∙ ap (λ ps. held_lines c.args.edit.now c.args.kept.now.register c.args.kept.now.areas c.args.kept.now.book c.args.kept.now.tables ps c.as_slice-2.result.now) c.as_slice.ensures.value
     ∙ ap (held_lines c.args.edit.now c.args.kept.now.register c.args.kept.now.areas c.args.kept.now.book c.args.kept.now.tables c.in_ok-reach.reach.spots.items) c.as_slice-2.ensures.value)
 

@@ -1,5 +1,6 @@
 use Rattle.std.proofs.Common.{refl, ◌∙◌, ap, subst}
 use Rattle.std.specs.List.{flat_map}
+use Rattle.coverage_plan.specs.Plan.{State}
 use Rattle.coverage_plan.specs.declared.edit.Edit.TheVariants as edit
 use Rattle.centre_lines.specs.Following.{held_unless}
 use Rattle.centre_past.specs.Idle.{AsBefore}
@@ -24,8 +25,8 @@ returns-in_err-warnings-clause-meter c = λ settings past a legal kept accepted.
     rw (c.requires)
     (forgotten_told settings past c.args.kept.now c.args.n c.places_of.new.self.lines.meter legal kept (subst TellsLines c.lines.ensures c.tell_lines.ensures) c.in_ok-keys.keys.items c.in_ok-keys.ensures.few c.in_ok-keys.ensures.most)
 
-pub returns-in_err-found-clause-meter : goal.returns-in_err-found-clause-meter
-returns-in_err-found-clause-meter c = λ settings past a legal kept accepted.
+pub returns-in_err-plan-clause-meter : goal.returns-in_err-plan-clause-meter
+returns-in_err-plan-clause-meter c = λ settings past a legal kept accepted.
     rw (c.requires)
     (forgotten_told settings past c.args.kept.now c.args.n c.places_of.new.self.lines.meter legal kept (subst TellsLines c.lines.ensures c.tell_lines.ensures) c.in_ok-keys.keys.items c.in_ok-keys.ensures.few c.in_ok-keys.ensures.most)
 
@@ -46,4 +47,6 @@ returns-clause-reached c = λ settings past a legal kept accepted.
     (forgotten_was_reached past c.args.kept.now c.args.n a c.in_ok-keys.keys.items (lines.Whole c.in_ok-held.held) kept c.in_ok-keys.ensures.which c.in_ok-keys.ensures.order
     (forgotten_few settings past c.args.kept.now c.args.n legal kept (subst TellsLines c.lines.ensures c.tell_lines.ensures) c.in_ok-keys.keys.items c.in_ok-keys.ensures.few)
     tt
-    (rw (c.requires) at (c.in_ok-held.ensures.held c.args.kept.now.tables told) ∙ ap (flat_map (held_unless (edit.Forget c.args.n) c.args.kept.now.register c.args.kept.now.areas c.args.kept.now.book c.args.kept.now.tables)) c.as_slice.ensures.value))
+    (rw (c.requires) at (c.in_ok-held.ensures.held c.args.kept.now.tables told)
+    ∙ ap (λ (p : State). flat_map (held_unless (edit.Forget c.args.n) p.register p.areas p.book c.args.kept.now.tables) c.as_slice.result.now) c.in_ok-plan.ensures
+    ∙ ap (flat_map (held_unless (edit.Forget c.args.n) c.args.kept.now.register c.args.kept.now.areas c.args.kept.now.book c.args.kept.now.tables)) c.as_slice.ensures.value))

@@ -11,4 +11,4 @@ use Rattle.centre_answers.proofs.lists.failed.failed_among.Given as goal
 
 -- the rows of the cells passed are there, and nothing kept changes
 abbrev pub invariant-loop-cell : goal.invariant-loop-cell
-invariant-loop-cell l = ((t : Tables) → AsBefore t l.initial.tables → AsBefore t l.tables) × ((past : Past) (t : Tables) → Tells past t → AreDownsOf past t → IsRegisterOf past l.register → AsBefore t l.initial.tables → IsWanted past l.w l.serial l.coverages → l.out.items ≡ flat_map (failed_in past l.w) (take l.cell-index l.cells))
+invariant-loop-cell l = ((t : Tables) → AsBefore t l.initial.tables → AsBefore t l.tables) × ((past : Past) (t : Tables) → Tells past t → AreDownsOf past t → IsRegisterOf past l.register → AsBefore t l.initial.tables → IsWanted past l.wanted.warning.now l.wanted.serial l.wanted.coverages.now → l.out.items ≡ flat_map (failed_in past l.wanted.warning.now) (take l.cell-index l.cells))

@@ -1,19 +1,17 @@
-//! What is read once of the warnings on whose lines an event bears.
+//! The plan, with what is read once of the warnings on whose lines an event bears.
 
-ghost use Rattle.std.specs.Prelude.{◌≡◌, ◌<◌, Some, nat_eq, true, length, IfOk, IfSome, OnOk};
+ghost use Rattle.std.specs.Prelude.{◌≡◌, ◌<◌, nat_eq, true, length, IfOk, IfSome, OnOk};
 ghost use Rattle.std.specs.List.{slice_index_or};
-ghost use Rattle.warning_book.specs.Book.{warning_of};
-ghost use Rattle.centre_lines.specs.Found.{AreFound, Found};
+ghost use Rattle.centre_lines.specs.Found.{AreFound, Found, plan_from};
 
 use crate::found_warning::{FoundWarning, own_serials_of};
 use crate::plan_parts::PlanParts;
 use areas::Areas;
-use cell_register::Register;
 use common::Cell;
 use kept_tables::{CoveringAreas, Serials, Spot};
 use std::alloc::{AllocError, Global};
 use std::marker::Model;
-use warning_book::{Warning, WarningId};
+use warning_book::{Book, Warning, WarningId};
 
 /// Whether the warning of that number stands at that place.
 fn is_at(found: &[FoundWarning<'_>], place: usize, n: WarningId) -> bool
@@ -46,22 +44,26 @@ fn place_of(found: &[FoundWarning<'_>], last: usize, n: WarningId) -> Option<usi
     None
 }
 
-/// What was read once of some warnings, and where the last one and the last cell were found.
+/// The plan, with what was read once of some warnings, and where the last one and the last cell were found. Contracts see
+/// the plan.
 #[derive(Drop)]
-pub(crate) struct FoundWarnings<'a> {
+pub(crate) struct FoundPlan<'a> {
     alloc: Global,
+    parts: PlanParts<'a>,
     found: Vec<FoundWarning<'a>>,
     last: usize,
     near: usize,
 }
 
-impl<'a> Model for FoundWarnings<'a> {
-    ghost use Rattle.std.specs.Prelude.{List};
-    ghost use Rattle.centre_lines.specs.Found.{Found};
+impl<'a> Model for FoundPlan<'a> {
+    ghost use Rattle.coverage_plan.specs.Plan.{State};
+    ghost use Rattle.centre_lines.specs.Found.{AreFound, plan_from};
 
-    ghost Value = { List Found };
+    ghost Value = { State };
 
-    ghost view = { λ t. t.found.items };
+    ghost view = { λ p. plan_from p.parts };
+
+    ghost invariant = { λ p. AreFound p.parts.areas.now p.parts.book.now p.found.items };
 }
 
 /// Puts what is read once of the warning of that number last, if the book has it.
@@ -69,54 +71,70 @@ impl<'a> Model for FoundWarnings<'a> {
 fn find_one<'a>(
     found: &mut Vec<FoundWarning<'a>>,
     alloc: Global,
-    plan: &PlanParts<'a>,
+    parts: &PlanParts<'a>,
     number: WarningId,
 ) -> Result<(), AllocError>
-    requires { AreFound plan.now.areas.now plan.now.book.now found.old.items }
-    ensures { OnOk result (AreFound plan.now.areas.now plan.now.book.now found.new.items) }
+    requires { AreFound parts.now.areas.now parts.now.book.now found.old.items }
+    ensures { OnOk result (AreFound parts.now.areas.now parts.now.book.now found.new.items) }
 {
-    plan.book.tell_soundness();
-    if let Some(warning) = plan.book.find(number) {
-        found.push(FoundWarning::of(alloc, plan.areas, number, warning)?)?;
+    parts.book.tell_soundness();
+    if let Some(warning) = parts.book.find(number) {
+        found.push(FoundWarning::of(alloc, parts.areas, number, warning)?)?;
     }
     Ok(())
 }
 
-/// What is read once of the warnings, where they are no more than the cells on which the event bears.
+/// The plan, with what is read once of the warnings, where they are no more than the cells on which the event bears.
 pub(crate) fn find<'a>(
     alloc: Global,
-    plan: &PlanParts<'a>,
+    parts: &PlanParts<'a>,
     warnings: &[WarningId],
     cells: usize,
-) -> Result<FoundWarnings<'a>, AllocError>
-    ensures { IfOk result (AreFound plan.now.areas.now plan.now.book.now) }
+) -> Result<FoundPlan<'a>, AllocError>
+    ensures { IfOk result (λ p. p ≡ plan_from parts.now) }
 {
     let mut found = Vec::new(alloc);
     if warnings.len() <= cells {
         for warning in warnings {
-            find_one(&mut found, alloc, plan, *warning)?;
+            find_one(&mut found, alloc, parts, *warning)?;
         }
     }
-    Ok(FoundWarnings {
+    Ok(FoundPlan {
         alloc,
+        parts: *parts,
         found,
         last: 0,
         near: 0,
     })
 }
 
-impl FoundWarnings<'_> {
-    ghost use Rattle.std.specs.Prelude.{◌≡◌, List, true, filter, IfOk};
+impl<'a> FoundPlan<'a> {
+    ghost use Rattle.std.specs.Prelude.{◌≡◌, Some, filter, IfOk};
     ghost use Rattle.areas.specs.Areas.{covers};
-    ghost use Rattle.areas.specs.declared.area.Area.{Area};
     ghost use Rattle.cell_register.specs.Register.{place_in, is_place};
     ghost use Rattle.centre_events.specs.Warnings.{serials};
-    ghost use Rattle.warning_book.specs.Sound.{has_areas};
-    ghost use Rattle.centre_lines.specs.Found.{IsFound};
+    ghost use Rattle.warning_book.specs.Book.{warning_of};
+
+    /// The allocator of what is read.
+    pub(crate) fn alloc(&self) -> Global {
+        self.alloc
+    }
+
+    pub(crate) fn areas(&self) -> &'a Areas
+        ensures { result.now ≡ self.now.areas }
+    {
+        self.parts.areas
+    }
+
+    pub(crate) fn book(&self) -> &'a Book
+        ensures { result.now ≡ self.now.book }
+    {
+        self.parts.book
+    }
 
     /// The serial numbers of the versions of the warning, which has that number.
     pub(crate) fn serials_of(&mut self, n: WarningId, w: &Warning) -> Result<Serials, AllocError>
-        requires { (l : List Area) × IsFound l w.now n self.old }
+        requires { Some w.now ≡ warning_of self.old.book n }
         ensures serials { IfOk result (λ s. s ≡ serials w.now) }
         ensures same { self.new ≡ self.old }
     {
@@ -130,18 +148,17 @@ impl FoundWarnings<'_> {
     /// Those of the areas of the warning, which has that number, that cover the cell.
     pub(crate) fn covering(
         &mut self,
-        areas: &Areas,
         n: WarningId,
         w: &Warning,
         c: Cell,
     ) -> Result<CoveringAreas, AllocError>
-        requires found { IsFound areas.now w.now n self.old }
-        requires areas { has_areas w.now ≡ true }
-        ensures covering { IfOk result (λ names. names ≡ filter (λ a. covers areas.now a c) w.now.areas) }
+        requires { Some w.now ≡ warning_of self.old.book n }
+        ensures covering { IfOk result (λ names. names ≡ filter (λ a. covers self.old.areas a c) w.now.areas) }
         ensures same { self.new ≡ self.old }
     {
+        self.parts.book.tell_soundness();
         let Some(place) = place_of(&self.found, self.last, n) else {
-            let mut found = FoundWarning::of(self.alloc, areas, n, w)?;
+            let mut found = FoundWarning::of(self.alloc, self.parts.areas, n, w)?;
             return found.covering(c);
         };
         self.last = place;
@@ -149,11 +166,11 @@ impl FoundWarnings<'_> {
     }
 
     /// Whether the cell is registered at the BSC.
-    pub(crate) fn is_here(&mut self, register: &Register, spot: &Spot) -> bool
-        ensures here { result ≡ is_place (place_in register.now spot.now.cell) spot.now.bsc }
+    pub(crate) fn is_here(&mut self, spot: &Spot) -> bool
+        ensures here { result ≡ is_place (place_in self.old.register spot.now.cell) spot.now.bsc }
         ensures same { self.new ≡ self.old }
     {
-        match register.bsc_near(spot.cell, &mut self.near) {
+        match self.parts.register.bsc_near(spot.cell, &mut self.near) {
             Some(other) => other == spot.bsc,
             None => false,
         }
