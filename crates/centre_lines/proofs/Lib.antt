@@ -28,3 +28,4 @@ pub mod PlainLemmas
 pub mod NearLemmas
 pub mod CoveredLemmas
 pub mod MakingLemmas
+mod ListedLemmas

@@ -1,9 +1,10 @@
 //! The lines on which an edit bears, read before it.
 
-ghost use Rattle.std.specs.Prelude.{◌≡◌, ◌≤◌, ◌+◌, ◌*◌, ◌++◌, true, length, nat_eq, IfOk, OnOk};
+ghost use Rattle.std.specs.Prelude.{◌≡◌, ◌≤◌, ◌+◌, ◌*◌, ◌++◌, true, length, ltb, nat_eq, IfOk, OnOk};
 ghost use Rattle.std.specs.List.{filter, flat_map, list_any};
 ghost use Rattle.std.specs.Option.{option_copied};
 ghost use Rattle.areas.specs.Areas.{areas_of};
+ghost use Rattle.common.specs.Order.{is_ascending};
 ghost use Rattle.kept_tables.specs.Tables.{Tables};
 ghost use Rattle.kept_tables.specs.View.{key_at};
 ghost use Rattle.centre_past.specs.Idle.{AsBefore};
@@ -54,11 +55,13 @@ pub(crate) fn is_idle(
     }
 }
 
-/// Whether the warning is one of those.
+/// Whether the warning is one of those, which stand in ascending order.
 fn is_listed(n: WarningId, warnings: &[WarningId]) -> bool
+    requires { is_ascending ltb warnings.now ≡ true }
     ensures { result ≡ list_any (nat_eq n) warnings.now }
 {
-    warnings.iter().any(|other| n == *other)
+    let place = warnings.partition_point(|other| other.number() < n.number());
+    place < warnings.len() && n == warnings[place]
 }
 
 /// Whether the edit leaves what each area covers, and which areas a warning has.
