@@ -1,5 +1,5 @@
 -- What was found of the areas of warnings.
-use Rattle.std.proofs.Common.{◌≡◌, ℕ, zero, suc, ◌+◌, ◌*◌, ◌<◌, Bool, drop, true, bytes_eq, nat_eq, List, [], ◌∷◌, ◌++◌, Option, Some, None, map, filter, length, get_or, sym, ◌∙◌, ap, subst, arith}
+use Rattle.std.proofs.Common.{◌≡◌, ℕ, zero, suc, ◌+◌, ◌*◌, ◌<◌, Bool, drop, true, bytes_eq, nat_eq, List, [], ◌∷◌, ◌++◌, Some, map, filter, length, get_or, sym, ◌∙◌, ap, subst, arith}
 use Rattle.std.proofs.lemmas.Bool.Decides.{nat_tests}
 use Rattle.std.proofs.lemmas.List.{drop_more}
 use Rattle.std.specs.List.{list_all, list_any}

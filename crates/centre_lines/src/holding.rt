@@ -173,9 +173,11 @@ pub(crate) fn near(
     ensures kept { (t : Tables) → AsBefore t tables.old → AsBefore t tables.new }
     ensures meter { LinesAreOf warnings.now tables.old → tables.new.lines.meter ≤ tables.old.lines.meter + length warnings.now }
 {
+    let areas = plan.areas();
+    let book = plan.book();
     let kept = tables.warnings_at(spot.bsc, spot.cell)?;
-    let covering = plan.areas().areas_of(spot.cell)?;
-    let named = plan.book().naming_one_of(covering.as_slice())?;
+    let covering = areas.areas_of(spot.cell)?;
+    let named = book.naming_one_of(covering.as_slice())?;
     let mut near = Vec::with_capacity(plan.alloc(), warnings.len())?;
     for warning in warnings {
         if is_listed(*warning, kept.as_slice()) || is_listed(*warning, named.as_slice()) {

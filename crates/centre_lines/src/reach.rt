@@ -147,15 +147,18 @@ fn event_spots(
     alloc: Global,
     parts: &PlanParts<'_>,
     tables: &LineTable,
-    h: &Happening<'_, '_>,
+    event: &Event,
+    answer: &Answer,
+    flight: Option<&InFlight>,
 ) -> Result<Vec<Spot>, AllocError>
-    ensures { (settings : Settings) (past : Past) → EventTold settings past parts.now.register.now parts.now.book.now tables.now (option_copied h.now.flight) h.now.event.now h.now.answer.now → IfOk result (λ spots. AreThose spots.items (reach_of past h.now.event.now h.now.answer.now).spots) }
+    ensures { (settings : Settings) (past : Past) → EventTold settings past parts.now.register.now parts.now.book.now tables.now (option_copied flight.entry) event.now answer.now → IfOk result (λ spots. AreThose spots.items (reach_of past event.now answer.now).spots) }
 {
     tell_lines(tables);
-    let spots = match h.event {
-        Event::Retry(b) => known_at(alloc, parts.register, tables, *b)?,
-        Event::LinkUp(b) | Event::LinkDown(b, _) => flight_spots(alloc, *b, h.flight)?,
-        Event::Report(b, _, _) => report_spots(alloc, *b, h.answer, h.flight)?,
+    let register = parts.register;
+    let spots = match event {
+        Event::Retry(b) => known_at(alloc, register, tables, *b)?,
+        Event::LinkUp(b) | Event::LinkDown(b, _) => flight_spots(alloc, *b, flight)?,
+        Event::Report(b, _, _) => report_spots(alloc, *b, answer, flight)?,
         Event::Send(_, _) | Event::Ask(_, _, _, _) | Event::Edit(_) => Vec::new(alloc),
     };
     Ok(spots)
@@ -185,7 +188,7 @@ pub(crate) fn reach_of_other(
 ) -> Result<Reach, AllocError>
     ensures { (settings : Settings) (past : Past) → EventTold settings past parts.now.register.now parts.now.book.now tables.now (option_copied h.now.flight) h.now.event.now h.now.answer.now → IfOk result (λ r. IsReach (record { spots = r.spots.items; warnings = r.warnings.items }) (reach_of past h.now.event.now h.now.answer.now)) }
 {
-    let spots = event_spots(alloc, parts, tables, h)?;
+    let spots = event_spots(alloc, parts, tables, h.event, h.answer, h.flight)?;
     let warnings = reached_warnings::of_event(alloc, parts.book, h.event, h.answer, h.flight)?;
     Ok(Reach { spots, warnings })
 }

@@ -1,4 +1,4 @@
-use Rattle.std.proofs.Common.{◌≡◌, ◌∙◌, IfSome, ap, refl, subst, sym}
+use Rattle.std.proofs.Common.{◌≡◌, ◌∙◌, IfSome, ap, subst, sym}
 use Rattle.areas.specs.Areas.{selects}
 use Rattle.common.specs.declared.cell.Cell.{Cell}
 use Rattle.coverage_board.specs.AreaSets.{mask}

@@ -8,8 +8,8 @@ use Rattle.centre_lines.proofs.CoverageLemmas.{areas_in_book, found_in, found_of
 use Rattle.centre_lines.proofs.found_plan.FoundPlan.covering.Goals as goal
 use Rattle.centre_lines.proofs.found_plan.FoundPlan.covering.Goals.{After-index_mut}
 
-pub of-found-requires : goal.of-found-requires
-of-found-requires c =
+pub of-requires : goal.of-requires
+of-requires c =
     areas_in_book c.self.inside.parts.book.now c.args.n c.args.w.now (c.requires ∙ ap (λ (p : State). warning_of p.book c.args.n) (sym c.self.view_is)) c.tell_soundness.ensures.areas
 
 -- what was found of the warning
