@@ -113,7 +113,21 @@ impl<'a> FoundPlan<'a> {
     ghost use Rattle.areas.specs.Areas.{covers};
     ghost use Rattle.cell_register.specs.Register.{place_in, is_place};
     ghost use Rattle.centre_events.specs.Warnings.{serials};
+    ghost use Rattle.centre_lines.specs.Found.{plan_from};
     ghost use Rattle.warning_book.specs.Book.{warning_of};
+
+    /// The plan, where nothing was read of any warning.
+    pub(crate) fn new(alloc: Global, parts: &PlanParts<'a>) -> FoundPlan<'a>
+        ensures { result ≡ plan_from parts.now }
+    {
+        FoundPlan {
+            alloc,
+            parts: *parts,
+            found: Vec::new(alloc),
+            last: 0,
+            near: 0,
+        }
+    }
 
     /// The allocator of what is read.
     pub(crate) fn alloc(&self) -> Global {
@@ -145,7 +159,8 @@ impl<'a> FoundPlan<'a> {
         self.found[place].serials()
     }
 
-    /// Those of the areas of the warning, which has that number, that cover the cell.
+    /// Those of the areas of the warning, which has that number, that cover the cell. What is read of the warning is kept for its
+    /// other lines.
     pub(crate) fn covering(
         &mut self,
         n: WarningId,
@@ -159,7 +174,10 @@ impl<'a> FoundPlan<'a> {
         self.parts.book.tell_soundness();
         let Some(place) = place_of(&self.found, self.last, n) else {
             let mut found = FoundWarning::of(self.alloc, self.parts.areas, n, w)?;
-            return found.covering(c);
+            let covering = found.covering(c)?;
+            self.last = self.found.len();
+            self.found.push(found)?;
+            return Ok(covering);
         };
         self.last = place;
         self.found[place].covering(c)

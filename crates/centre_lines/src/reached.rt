@@ -15,7 +15,7 @@ ghost use Rattle.centre_events.specs.declared.event.Event.TheVariants as event;
 ghost use Rattle.coverage_plan.specs.declared.edit.Edit.TheVariants as edit_spec;
 
 use crate::changing::hold_changing;
-use crate::found_plan::find;
+use crate::found_plan::{FoundPlan, find};
 use crate::held_lines::HeldLines;
 use crate::holding::{hold, hold_keys};
 use crate::plan_parts::PlanParts;
@@ -137,7 +137,7 @@ pub fn reached_by_other<'x>(
         book: &kept.book,
     };
     let reach = reach_of_other(alloc, &parts, kept.tables.lines(), &h)?;
-    let mut plan = find(alloc, &parts, &reach.warnings, reach.spots.len())?;
+    let mut plan = FoundPlan::new(alloc, &parts);
     let steps = hold_changing(
         &h,
         &mut plan,

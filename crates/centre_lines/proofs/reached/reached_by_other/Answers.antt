@@ -35,7 +35,7 @@ returns-clause-reached c =
       accepted = accepted;
     })))
     (c.in_ok-steps.ensures.held c.args.kept.now.tables (as_itself c.args.kept.now.tables)
-    ∙ ap (λ (p : State). changing_lines h p.register p.areas p.book c.args.kept.now.tables c.as_slice-3.result.now (bearing c.args.event.now c.args.answer.now p.book c.as_slice-4.result.now)) c.in_ok-plan.ensures
+    ∙ ap (λ (p : State). changing_lines h p.register p.areas p.book c.args.kept.now.tables c.as_slice-3.result.now (bearing c.args.event.now c.args.answer.now p.book c.as_slice-4.result.now)) c.new-plan.ensures
     ∙ ap (λ ps. changing_lines h c.args.kept.now.register c.args.kept.now.areas c.args.kept.now.book c.args.kept.now.tables ps (bearing c.args.event.now c.args.answer.now c.args.kept.now.book c.as_slice-4.result.now)) c.as_slice-3.ensures.value
     ∙ ap (λ ns. changing_lines h c.args.kept.now.register c.args.kept.now.areas c.args.kept.now.book c.args.kept.now.tables c.in_ok-reach.reach.spots.items (bearing c.args.event.now c.args.answer.now c.args.kept.now.book ns)) c.as_slice-4.ensures.value)
     refl
@@ -45,7 +45,7 @@ pub returns-in_err-steps-clause-meter : goal.returns-in_err-steps-clause-meter
 returns-in_err-steps-clause-meter c =
     λ settings past legal kept accepted.
     let bears = bearing c.args.event.now c.args.answer.now c.args.kept.now.book in
-    reads_within c.args.kept.now.tables.lines.meter c.hold_changing.new.tables.lines.meter c.as_slice-3.result.now c.in_ok-reach.reach.spots.items (bears c.as_slice-4.result.now) (bears c.in_ok-reach.reach.warnings.items) (reach_of past c.args.event.now c.args.answer.now) c.as_slice-3.ensures.value (ap bears c.as_slice-4.ensures.value) (subst (λ (p : State). AreInBook p.book c.args.kept.now.tables → c.hold_changing.new.tables.lines.meter ≤ c.args.kept.now.tables.lines.meter + 2 * (length c.as_slice-3.result.now * length (bearing c.args.event.now c.args.answer.now p.book c.as_slice-4.result.now))) c.in_ok-plan.ensures c.hold_changing.ensures.meter (in_book past c.args.kept.now kept))
+    reads_within c.args.kept.now.tables.lines.meter c.hold_changing.new.tables.lines.meter c.as_slice-3.result.now c.in_ok-reach.reach.spots.items (bears c.as_slice-4.result.now) (bears c.in_ok-reach.reach.warnings.items) (reach_of past c.args.event.now c.args.answer.now) c.as_slice-3.ensures.value (ap bears c.as_slice-4.ensures.value) (subst (λ (p : State). AreInBook p.book c.args.kept.now.tables → c.hold_changing.new.tables.lines.meter ≤ c.args.kept.now.tables.lines.meter + 2 * (length c.as_slice-3.result.now * length (bearing c.args.event.now c.args.answer.now p.book c.as_slice-4.result.now))) c.new-plan.ensures c.hold_changing.ensures.meter (in_book past c.args.kept.now kept))
     (bears_on_all settings past legal c.args.kept.now kept c.args.event.now c.args.answer.now c.in_ok-reach.reach.spots.items c.in_ok-reach.reach.warnings.items
     (c.in_ok-reach.ensures settings past (record {
       told = rw (c.lines.ensures) (told_kept settings past c.args.kept.now legal kept);
@@ -57,7 +57,7 @@ pub returns-clause-meter : goal.returns-clause-meter
 returns-clause-meter c =
     λ settings past legal kept accepted.
     let bears = bearing c.args.event.now c.args.answer.now c.args.kept.now.book in
-    reads_within c.args.kept.now.tables.lines.meter c.hold_changing.new.tables.lines.meter c.as_slice-3.result.now c.in_ok-reach.reach.spots.items (bears c.as_slice-4.result.now) (bears c.in_ok-reach.reach.warnings.items) (reach_of past c.args.event.now c.args.answer.now) c.as_slice-3.ensures.value (ap bears c.as_slice-4.ensures.value) (subst (λ (p : State). AreInBook p.book c.args.kept.now.tables → c.hold_changing.new.tables.lines.meter ≤ c.args.kept.now.tables.lines.meter + 2 * (length c.as_slice-3.result.now * length (bearing c.args.event.now c.args.answer.now p.book c.as_slice-4.result.now))) c.in_ok-plan.ensures c.hold_changing.ensures.meter (in_book past c.args.kept.now kept))
+    reads_within c.args.kept.now.tables.lines.meter c.hold_changing.new.tables.lines.meter c.as_slice-3.result.now c.in_ok-reach.reach.spots.items (bears c.as_slice-4.result.now) (bears c.in_ok-reach.reach.warnings.items) (reach_of past c.args.event.now c.args.answer.now) c.as_slice-3.ensures.value (ap bears c.as_slice-4.ensures.value) (subst (λ (p : State). AreInBook p.book c.args.kept.now.tables → c.hold_changing.new.tables.lines.meter ≤ c.args.kept.now.tables.lines.meter + 2 * (length c.as_slice-3.result.now * length (bearing c.args.event.now c.args.answer.now p.book c.as_slice-4.result.now))) c.new-plan.ensures c.hold_changing.ensures.meter (in_book past c.args.kept.now kept))
     (bears_on_all settings past legal c.args.kept.now kept c.args.event.now c.args.answer.now c.in_ok-reach.reach.spots.items c.in_ok-reach.reach.warnings.items
     (c.in_ok-reach.ensures settings past (record {
       told = rw (c.lines.ensures) (told_kept settings past c.args.kept.now legal kept);
