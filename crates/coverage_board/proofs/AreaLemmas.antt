@@ -117,6 +117,17 @@ digit_moved p q d x hs rs cur new next absent change a = step d (bytes_eq x a) r
     step false true e h n = stays h n
     step false false e h n = stays h n
 
+-- where no digit is left there is no name
+names_none : (names : List (List ℕ)) → names_at 0 names ≡ []
+names_none [] = refl
+names_none (a ∷ rest) = names_none rest
+
+-- where no digit is left nothing is to be moved
+pub none_left : (p q : Numbers) (left : ℕ) (names : List (List ℕ)) (a : List ℕ) (n : Numbers) → left ≡ 0 → n ≡ moved_where p q (has_area (names_at left names) a) n
+none_left p q left names a n none =
+    let has : has_area (names_at left names) a ≡ false = (λ j. has_area (names_at (none j) names) a) ∙ ap (λ ns. has_area ns a) (names_none names) in
+    sym (moved_none n) ∙ sym (ap (λ h. moved_where p q h n) has)
+
 -- the numbers of each of the others stay
 pub digit_kept : (p q : Numbers) (d : Bool) (x : List ℕ) (rs : List ℕ → Bool) (cur new : List ℕ → Numbers) → rs x ≡ false → ((a : List ℕ) → new a ≡ (if d && bytes_eq x a then moved (cur a) p q else cur a)) → (a : List ℕ) → rs a ≡ true → new a ≡ cur a
 digit_kept p q d x rs cur new absent change a h = step d (bytes_eq x a) refl (change a)

@@ -159,6 +159,9 @@ impl AreaNumbers {
     {
         let mut left = bits;
         for (index, name) in names.iter().enumerate() {
+            if left == 0 {
+                return Ok(());
+            }
             if left % 2 == 1 {
                 self.move_at(index, name, out, part)?;
             }

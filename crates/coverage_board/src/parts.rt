@@ -26,7 +26,7 @@ struct VersionsPart {
     broadcasts: u64,
 }
 
-/// What the versions of the line add, found in one walk over them. Where the count doesn't fit 64 bits, what it is said to
+/// What the versions of the line add, found in one walk over them; one of which nothing is kept adds nothing. Where the count doesn't fit 64 bits, what it is said to
 /// be is open.
 fn part_of_versions(stand: &Stand<'_>) -> VersionsPart
     ensures left { result.left ≡ is_left (stand_of stand.now).seen }
@@ -35,10 +35,11 @@ fn part_of_versions(stand: &Stand<'_>) -> VersionsPart
     let mut left = false;
     let mut broadcasts: u64 = 0;
     for serial in stand.sight.versions {
-        let state = stand.sight.line.state(*serial);
-        broadcasts = broadcasts.wrapping_add(u64::from(state.count));
-        if is_unwanted(stand.sight.wanted, *serial, state.presence) {
-            left = true;
+        if let Some(state) = stand.sight.line.kept(*serial) {
+            broadcasts = broadcasts.wrapping_add(u64::from(state.count));
+            if is_unwanted(stand.sight.wanted, *serial, state.presence) {
+                left = true;
+            }
         }
     }
     VersionsPart { left, broadcasts }

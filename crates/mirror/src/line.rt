@@ -1,6 +1,6 @@
 //! What is kept of one BSC, cell and warning.
 
-ghost use Rattle.std.specs.Prelude.{◌≡◌, ◌↔◌, ◌<◌, ℕ, IsTrue, replicate};
+ghost use Rattle.std.specs.Prelude.{◌≡◌, ◌↔◌, ◌<◌, ℕ, IfSome, IsNone, IsTrue, replicate};
 ghost use Rattle.std.specs.Cmp.Lexicographic.{pointwise};
 ghost use Rattle.std.specs.List.{list_all, list_any};
 ghost use Rattle.std.specs.Option.{is_some};
@@ -98,6 +98,18 @@ impl Line {
         ensures { result ≡ state_of self.now serial }
     {
         self.states[serial.update() as usize].state()
+    }
+
+    /// What is kept of the version of that serial number, if anything is.
+    pub fn kept(&self, serial: Serial) -> Option<KeyState>
+        ensures some { IfSome result (λ state. state ≡ state_of self.now serial) }
+        ensures none { IsNone result → state_of self.now serial ≡ blank }
+    {
+        let state = self.states[serial.update() as usize];
+        if state.is_blank() {
+            return None;
+        }
+        Some(state.state())
     }
 
     /// Whether the version of that serial number is as much on air in both lines, and held in both or in neither.

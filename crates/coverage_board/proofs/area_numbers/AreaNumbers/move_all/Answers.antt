@@ -1,6 +1,6 @@
-use Rattle.std.proofs.Common.{◌≡◌, ◌==◌, ◌%◌, ◌∙◌, Bool, true, false, ℕ, List, eq-eqb, refl, sym, ap, eqb-true}
+use Rattle.std.proofs.Common.{◌≡◌, drop, ◌==◌, ◌%◌, ◌∙◌, Bool, true, false, ℕ, List, eq-eqb, refl, eqb-true}
 use Rattle.coverage_board.specs.Board.{area_in}
-use Rattle.coverage_board.proofs.AreaLemmas.{Moves, has_here, has_later, moves}
+use Rattle.coverage_board.proofs.AreaLemmas.{Moves, has_here, has_later, moves, none_left}
 use Rattle.coverage_board.proofs.area_numbers.AreaNumbers.move_all.Goals as goal
 use Rattle.coverage_board.proofs.area_numbers.AreaNumbers.move_all.Goals.{then-left-eq1+in_ok-move_at, else-left-eq1}
 
@@ -38,3 +38,6 @@ loop-index-preserved c =
       among = λ a h. c.loop-index.invariant.among a (has_later c.loop-index.left names c.loop-index.index a c.loop-index-test.true h);
       numbers = λ a. next.numbers a ∙ c.loop-index.invariant.numbers a;
     }
+
+pub returns-then-left-eq0 : goal.returns-then-left-eq0
+returns-then-left-eq0 c a = none_left c.args.out c.args.part c.loop-index.left (drop c.loop-index.index c.args.names.now) a (area_in c.loop-index.self a) c.if-left-eq0.true ∙ c.loop-index.invariant.numbers a
