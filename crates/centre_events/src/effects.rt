@@ -1,12 +1,13 @@
 //! What an event does to a key: a message in a cell of a BSC.
 
-ghost use Rattle.std.specs.Prelude.{◌≡◌, ◌&&◌, nat_eq, true, None};
+ghost use Rattle.std.specs.Prelude.{◌≡◌, ◌&&◌, Bool, IfSome, nat_eq, true, None};
 ghost use Rattle.std.specs.List.{list_any};
 ghost use Rattle.warning_book.specs.Book.{has_number};
 ghost use Rattle.centre_events.specs.Down.{says_down, listed_down, edit_down, down_mark};
 ghost use Rattle.centre_events.specs.Effects.{is_about, is_among, is_given, write_refused, replace_refused, kill_refused, new_effect, old_refused, old_effect, query_effect, replaces, key_effect, restart_effect, indicated_effect, presence_mark, hold_mark, state_after};
 ghost use Rattle.centre_events.specs.Presence.{edit_effect};
 ghost use Rattle.centre_events.specs.Warnings.{has_key, is_version};
+ghost use Rattle.warning_book.specs.declared.warning.Warning as warning_spec;
 
 use crate::answer::Answer;
 use crate::effect::Effect;
@@ -133,6 +134,17 @@ fn has_key(message_id: u16, serial: Serial, w: &Warning) -> bool
     w.message_id() == message_id && has_version(serial, w.versions())
 }
 
+/// The warning of that number, where it stands in a list in the order of their numbers. In any other list it may not be found.
+fn warning_in_order(number: WarningId, warnings: &[Warning]) -> Option<&Warning>
+    ensures there { (p : warning_spec.Warning → Bool) → IfSome result (λ w. p w.now ≡ true → list_any (λ x. has_number number x && p x) warnings.now ≡ true) }
+{
+    let place = warnings.partition_point(|w| w.number().number() < number.number());
+    match warnings.get(place) {
+        Some(w) if w.number() == number => Some(w),
+        _ => None,
+    }
+}
+
 /// Whether a version of the warning of this number has this message identifier and serial number.
 pub fn is_of_warning(
     number: WarningId,
@@ -142,18 +154,35 @@ pub fn is_of_warning(
 ) -> bool
     ensures { result ≡ list_any (λ w. has_number number w && has_key message_id serial w) warnings.now }
 {
+    if let Some(w) = warning_in_order(number, warnings) {
+        if has_key(message_id, serial, w) {
+            return true;
+        }
+    }
     warnings
         .iter()
         .any(|w| w.number() == number && has_key(message_id, serial, w))
+}
+
+/// Whether the warning has this message identifier.
+fn has_message_id(message_id: u16, w: &Warning) -> bool
+    ensures { result ≡ nat_eq w.now.message_id message_id }
+{
+    w.message_id() == message_id
 }
 
 /// Whether the warning of that number has the message identifier.
 fn is_numbered(number: WarningId, message_id: u16, warnings: &[Warning]) -> bool
     ensures { result ≡ list_any (λ w. has_number number w && nat_eq w.message_id message_id) warnings.now }
 {
+    if let Some(w) = warning_in_order(number, warnings) {
+        if has_message_id(message_id, w) {
+            return true;
+        }
+    }
     warnings
         .iter()
-        .any(|w| w.number() == number && w.message_id() == message_id)
+        .any(|w| w.number() == number && has_message_id(message_id, w))
 }
 
 /// Whether the answer gives the serial number to the next version of the warning of that number, which has the message
