@@ -53,6 +53,7 @@ fn is_at(c: Cell, places: &[Placed], index: usize) -> bool
 }
 
 /// The same as `find`. The cell is looked for first at the given place and at the next one.
+#[inline(always)]
 fn find_near(c: Cell, places: &[Placed], near: usize) -> Option<usize>
     requires { is_ascending placed_lt places.now ≡ true }
     ensures there { IfSome result (λ n. StandsAt c places.now n) }
@@ -79,6 +80,7 @@ pub(crate) fn bsc_of(c: Cell, places: &[Placed]) -> Option<BscId>
 
 /// The same as `bsc_of`. The cell is looked for first at the given place and at the next one, and where it is found, that
 /// is the place from then on.
+#[inline(always)]
 pub(crate) fn bsc_near(c: Cell, places: &[Placed], near: &mut usize) -> Option<BscId>
     requires { is_ascending placed_lt places.now ≡ true }
     ensures { result ≡ place_among places.now c }

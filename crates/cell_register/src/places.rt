@@ -156,6 +156,7 @@ impl Places {
 
     /// The same as `bsc_of`. The cell is looked for first at the given place and at the next one, and where it is found,
     /// that is the place from then on.
+    #[inline(always)]
     pub(crate) fn bsc_near(&self, c: Cell, near: &mut usize) -> Option<BscId>
         ensures { result ≡ place_among self.now c }
     {

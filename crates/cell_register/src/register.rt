@@ -94,6 +94,7 @@ impl Register {
     /// stands among the registered cells, and 0 before the first. The cell is looked for there and at the next place, and
     /// otherwise by a binary search. Where it is registered, `near` becomes its place; otherwise `near` stays. Only the
     /// time depends on `near`, which can be any number.
+    #[inline(always)]
     pub fn bsc_near(&self, c: Cell, near: &mut usize) -> Option<BscId>
         ensures { result ≡ place_in self.now c }
     {

@@ -116,6 +116,7 @@ fn step_of(
 
 /// Reads a line, and holds the step that what happens makes of it, if it does not leave it as it is.
 #[tactic(auto, using(crate::proofs::FollowLemmas::facts_as, centre_past::proofs::ReadLemmas::as_read))]
+#[inline(always)]
 fn hold_changing_line(
     out: &mut Vec<Step>,
     h: &Happening<'_, '_>,

@@ -48,6 +48,7 @@ struct LacDigits {
 }
 
 /// What is known of the location area. It was mostly found for the cell before.
+#[inline(always)]
 fn known_of(coverages: &[Coverage<'_>], lac: u16, last: LacDigits) -> LacDigits
     requires few { length coverages.now ≤ 16 }
     requires last { AreOfLac coverages.now last.lac last.digits }
@@ -106,6 +107,7 @@ impl<'a> Coverages<'a> {
     }
 
     /// The digits of those of the areas that cover the cell.
+    #[inline(always)]
     pub(crate) fn digits(&mut self, c: Cell) -> AreaBits
         ensures digits { result.bits ≡ mask (λ s. selects s c) self.old }
         ensures same { self.new ≡ self.old }

@@ -96,6 +96,7 @@ pub(crate) fn covered_facts(
 }
 
 /// What is read of the line of a warning, which has that number, in its cell.
+#[inline(always)]
 fn facts_of(
     plan: &mut FoundPlan<'_>,
     there: &LineInCell,
@@ -113,6 +114,7 @@ fn facts_of(
 }
 
 /// What is read of the line of a warning of that number, if the book has it, in its cell.
+#[inline(always)]
 pub(crate) fn facts_from(
     plan: &mut FoundPlan<'_>,
     there: &LineInCell,

@@ -147,6 +147,7 @@ impl<'a> FoundPlan<'a> {
     }
 
     /// The serial numbers of the versions of the warning, which has that number.
+    #[inline(always)]
     pub(crate) fn serials_of(&mut self, n: WarningId, w: &Warning) -> Result<Serials, AllocError>
         requires { Some w.now ≡ warning_of self.old.book n }
         ensures serials { IfOk result (λ s. s ≡ serials w.now) }
@@ -161,6 +162,7 @@ impl<'a> FoundPlan<'a> {
 
     /// Those of the areas of the warning, which has that number, that cover the cell. What is read of the warning is kept for its
     /// other lines.
+    #[inline(always)]
     pub(crate) fn covering(
         &mut self,
         n: WarningId,
@@ -184,6 +186,7 @@ impl<'a> FoundPlan<'a> {
     }
 
     /// Whether the cell is registered at the BSC.
+    #[inline(always)]
     pub(crate) fn is_here(&mut self, spot: &Spot) -> bool
         ensures here { result ≡ is_place (place_in self.old.register spot.now.cell) spot.now.bsc }
         ensures same { self.new ≡ self.old }

@@ -95,6 +95,7 @@ impl FoundWarning<'_> {
     }
 
     /// Those of the areas that cover the cell.
+    #[inline(always)]
     pub(crate) fn covering(&mut self, c: Cell) -> Result<CoveringAreas, AllocError>
         ensures covering { (l : List Area) → self.old.selectors ≡ map (selectors_of l) self.old.names → IfOk result (λ n. n ≡ filter (λ a. covers l a c) self.old.names) }
         ensures same { self.new ≡ self.old }

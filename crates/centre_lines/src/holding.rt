@@ -101,6 +101,7 @@ fn is_passed_over(
 
 /// Reads a line, and holds it, unless it is passed over.
 #[tactic(auto, using(crate::proofs::FollowLemmas::facts_as, centre_past::proofs::ReadLemmas::as_read))]
+#[inline(always)]
 fn hold_line(
     out: &mut Vec<Held>,
     plan: &mut FoundPlan<'_>,

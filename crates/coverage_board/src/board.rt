@@ -34,6 +34,7 @@ impl Model for Board {
 
 /// The place of the row of that number, if there is one. It is mostly the one that was found last; else it is found by its
 /// hash.
+#[inline(always)]
 fn place_of(rows: &IndexMap<u32, Row>, last: usize, number: u32) -> Option<usize>
     ensures found { IfSome result (λ place. slice_get rows.now.entries place ≡ Some (number, row_of rows.now.entries number)) }
     ensures none { IfNone result (lookup (nat_eq number) rows.now.entries ≡ None) }
@@ -145,6 +146,7 @@ impl Board {
     }
 
     /// The same for a line that the same areas cover before and after, so that their names need not be compared.
+    #[inline(always)]
     pub fn shift_standing(
         &mut self,
         w: WarningId,

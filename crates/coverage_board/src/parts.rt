@@ -28,6 +28,7 @@ struct VersionsPart {
 
 /// What the versions of the line add, found in one walk over them; one of which nothing is kept adds nothing. Where the count doesn't fit 64 bits, what it is said to
 /// be is open.
+#[inline(always)]
 fn part_of_versions(stand: &Stand<'_>) -> VersionsPart
     ensures left { result.left ≡ is_left (stand_of stand.now).seen }
     ensures broadcasts { broadcast_count (stand_of stand.now) < 2 ^ 64 → result.broadcasts ≡ broadcast_count (stand_of stand.now) }
@@ -46,6 +47,7 @@ fn part_of_versions(stand: &Stand<'_>) -> VersionsPart
 }
 
 /// The line's part in the numbers of its warning.
+#[inline(always)]
 pub(crate) fn total_part(stand: &Stand<'_>) -> Numbers
     requires { (total_part (stand_of stand.now)).broadcasts < 2 ^ 64 }
     ensures { result ≡ total_part (stand_of stand.now) }

@@ -96,6 +96,7 @@ impl Row {
     }
 
     /// The same, where the same areas cover the cell before and after, so that their names need not be compared.
+    #[inline(always)]
     pub(crate) fn shift_standing(
         &mut self,
         before: &Stand<'_>,

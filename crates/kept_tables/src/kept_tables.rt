@@ -292,6 +292,7 @@ impl KeptTables {
     }
 
     /// Whether the cell is down at the BSC for warnings of the kind (TS 48.049, 8.1.3). It takes no memory.
+    #[inline(always)]
     pub fn is_down(&self, kind: Kind, b: BscId, c: Cell) -> bool
         ensures { result ≡ down_at self.now.lines kind b c }
     {
@@ -411,6 +412,7 @@ impl KeptTables {
     }
 
     /// The same for a step.
+    #[inline(always)]
     fn take_step(&mut self, step: &Step) -> Result<(), AllocError>
         requires { HasPart self.old step.now.key step.now.before (change_of step.now).after }
         ensures changed { OnOk result (Shifted self.old self.new step.now.key step.now.before (change_of step.now).after) }

@@ -277,6 +277,7 @@ impl LineTable {
 
     /// Whether the cell is down at the BSC for warnings of the kind: the BSC's last indication of their type that named it
     /// was a FAILURE (TS 48.049, 8.1.3). It takes no memory.
+    #[inline(always)]
     pub fn is_down(&self, kind: Kind, b: BscId, c: Cell) -> bool
         ensures { result ≡ down_at self.now kind b c }
     {

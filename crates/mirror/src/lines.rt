@@ -76,6 +76,7 @@ impl Lines {
     }
 
     /// The line at the slot: blank where none is kept.
+    #[inline(always)]
     pub(crate) fn line_of(&self, slot: &WarningSlot) -> Line
         ensures { result ≡ line_of self.now slot.now }
     {

@@ -9,6 +9,7 @@ use crate::lines::Lines;
 use crate::warning_slot::WarningSlot;
 
 /// The line of the BSC, the cell and the warning.
+#[inline(always)]
 pub(crate) fn line_of(lines: &Lines, key: LineKey) -> Line
     ensures { result ≡ line_in lines.now key.bsc key.cell key.warning }
 {

@@ -118,6 +118,7 @@ pub(crate) struct ReplacingSight<'a> {
 }
 
 impl<'a> ReplacingSight<'a> {
+    #[inline(always)]
     pub(crate) fn of(sight: &'a Sight<'a>) -> ReplacingSight<'a>
         ensures { result.sight.now ≡ sight.now }
     {

@@ -305,6 +305,7 @@ impl Book {
     }
 
     /// The warning of that number; `None` where there is no such warning.
+    #[inline(always)]
     pub fn find(&self, number: WarningId) -> Option<&Warning>
         ensures { option_copied result ≡ warning_of self.now number }
     {

@@ -45,6 +45,7 @@ fn searched_place(warnings: &[Warning], number: WarningId) -> usize
 
 /// Where the warning of that number stands; past the last where there is none. It is first looked for where it likely is.
 #[tactic(auto, using(crate::proofs::SearchLemmas::found_there))]
+#[inline(always)]
 pub(crate) fn place_of(warnings: &[Warning], number: WarningId) -> usize
     requires { is_ascending number_lt warnings.now ≡ true }
     ensures { result ≡ position_or_len (has_number number) warnings.now }
@@ -57,6 +58,7 @@ pub(crate) fn place_of(warnings: &[Warning], number: WarningId) -> usize
 }
 
 /// The warning of that number.
+#[inline(always)]
 pub(crate) fn find(warnings: &[Warning], number: WarningId) -> Option<&Warning>
     requires { is_ascending number_lt warnings.now ≡ true }
     ensures { option_copied result ≡ find (has_number number) warnings.now }
