@@ -8,6 +8,8 @@
 
 mod asked;
 mod asking;
+mod batch;
+mod delivering;
 mod downs;
 mod edits;
 mod heard;
@@ -16,6 +18,7 @@ mod leaving;
 mod listed;
 mod listing;
 mod operator;
+mod reading;
 mod responding;
 mod said;
 mod saying;
