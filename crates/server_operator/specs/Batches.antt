@@ -1,5 +1,5 @@
 -- How lines are answered that are answered together.
-use Rattle.std.specs.Prelude.{◌≡◌, ◌++◌, ℕ, List, ⊤, ⊥, Option, Some, None}
+use Rattle.std.specs.Prelude.{◌≡◌, ◌++◌, ℕ, List, ⊤, Option, Some, None}
 
 -- a writer held `before`, and the answers `gathered` were still to be written; now it holds `after`, and `left` are: what was to be
 -- told is as it was, and the text behind it

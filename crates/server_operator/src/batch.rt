@@ -1,6 +1,6 @@
 //! Lines that are answered together.
 
-ghost use Rattle.std.specs.Prelude.{◌≡◌, ◌++◌, [], OnOk, if◌then◌else◌};
+ghost use Rattle.std.specs.Prelude.{◌≡◌, ◌++◌, ◌↔◌, [], OnOk, IsTrue, true, if◌then◌else◌};
 ghost use Rattle.std.specs.Io.KnownBytes.{Appends};
 
 use crate::server::Server;
@@ -25,14 +25,23 @@ pub(crate) struct Batch {
     is_untold: bool,
 }
 
+/// Writes the text.
+fn write_text<W: Write>(writer: &mut W, text: &[u8]) -> Result<(), ReplayFault>
+    ensures { OnOk result (Appends (W.contents writer.old) (W.contents writer.new) text.now) }
+{
+    match writer.write_all(text) {
+        Ok(()) => Ok(()),
+        Err(_) => Err(ReplayFault::WriteFault),
+    }
+}
+
 /// Writes the two texts one behind the other.
-#[tactic(auto, using(crate::proofs::BatchLemmas::appended_twice))]
+#[tactic(auto, using(crate::proofs::BatchLemmas::appended_both))]
 fn write_both<W: Write>(writer: &mut W, first: &[u8], second: &[u8]) -> Result<(), ReplayFault>
     ensures { OnOk result (Appends (W.contents writer.old) (W.contents writer.new) (first.now ++ second.now)) }
 {
-    if writer.write_all(first).is_err() || writer.write_all(second).is_err() {
-        return Err(ReplayFault::WriteFault);
-    }
+    write_text(writer, first)?;
+    write_text(writer, second)?;
     match writer.flush() {
         Ok(()) => Ok(()),
         Err(_) => Err(ReplayFault::WriteFault),

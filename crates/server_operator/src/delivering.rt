@@ -17,7 +17,7 @@ use std::time::Clock;
 /// Writes the answers of the batch, and that text behind them, once all entries that there are by then are kept; the desk lets go of its
 /// receipts of folded entries. The answer is whether more lines are read: `false` where the journal isn't kept any more, and then
 /// nothing is written.
-#[tactic(auto, using(crate::proofs::BatchLemmas::appends_nothing))]
+#[tactic(auto, using(crate::proofs::BatchLemmas::appended_none))]
 pub(crate) fn deliver<L: Ledger, S: Server, R: Wait + Clock, W: Write>(
     rt: &R,
     operator: &Operator<'_, L, S>,
