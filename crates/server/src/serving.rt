@@ -282,7 +282,7 @@ fn run_office<
     run::<Brand, R, I, W, E>(rt, alloc, Blank::new(1025), options, reader, writer, errors)
 }
 
-/// Answers the lines that the reader gives, each before the next is read, while BSCs connect to the ports, until `quit` or the
+/// Answers the lines that the reader gives, one after another, while BSCs connect to the ports, until `quit` or the
 /// end of the input. Then the links are closed, and `settled N` is written, N the number of entries.
 ///
 /// `errors` gets a line that says what is listened on, and one for each link that comes up, is refused or ends, for a BSC whose

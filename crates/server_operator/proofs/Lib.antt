@@ -1,4 +1,5 @@
 pub mod AskingLemmas
+pub mod BatchLemmas
 pub mod HearingLemmas
 pub mod ListingLemmas
 pub mod SubmittingLemmas

@@ -1,4 +1,5 @@
 pub mod Asking
+pub mod Batches
 pub mod Downs
 pub mod Edits
 pub mod Hearing

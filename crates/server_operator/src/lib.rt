@@ -1,13 +1,17 @@
-//! The operator of a server: lines are read, and each is answered before the next is read.
+//! The operator of a server: lines are read and answered, one after another. The answers to lines that come together are written
+//! together, before a read that may wait.
 //!
 //! Begin with `operator`, then `hearing`: what comes of a line by its octets. What a line of the console is answered is in `responding`:
 //! its edit in `edits`, its event in `submitting`, its question in `asking`. The edits of lines with a text are in `saying`, the lists in
-//! `listing`, how lines come in is in `terminal`, and what is said of BSCs whose link is down in `downs`. What is promised of the office
-//! stands in `office`, what a line is in `server_lines`, and what its answer is in `console_text`.
+//! `listing`. How lines come in is in `reading` and `terminal`, how their answers are written in `delivering` and `batch`, and what is
+//! said of BSCs whose link is down in `downs`. What is promised of the office stands in `office`, what a line is in `server_lines`, and
+//! what its answer is in `console_text`.
 #![tactic(auto)]
 
 mod asked;
 mod asking;
+mod batch;
+mod delivering;
 mod downs;
 mod edits;
 mod heard;
@@ -16,6 +20,7 @@ mod leaving;
 mod listed;
 mod listing;
 mod operator;
+mod reading;
 mod responding;
 mod said;
 mod saying;

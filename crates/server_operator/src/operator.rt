@@ -1,8 +1,11 @@
 //! How the lines of an operator are answered, one after another.
 
+use crate::batch::Batch;
+use crate::delivering::{answer, deliver};
 use crate::heard::Heard;
 use crate::hearing::hear;
 use crate::leaving::Leaving;
+use crate::reading::read_line;
 use crate::server::Server;
 use crate::terminal::Terminal;
 use console_text::ReplayFault;
@@ -24,61 +27,61 @@ pub struct Operator<'a, L: Ledger, S> {
     pub may_watch: bool,
 }
 
-/// Writes an answer, unless the journal isn't kept any more; the desk lets go of its receipts of folded entries. The answer is whether
-/// more lines are read.
-fn answer<L: Ledger, S: Server, R: Wait + Clock, I: BufRead + Drop, W: Write + Drop>(
-    rt: &R,
-    operator: &Operator<'_, L, S>,
-    terminal: &mut Terminal<L, I, W>,
-    desk: &mut Desk<L>,
-    text: &[u8],
-) -> Result<bool, ReplayFault> {
-    if !operator.server.is_kept(rt) {
-        return Ok(false);
-    }
-    terminal.write(text)?;
-    operator.server.answered(rt);
-    let _ = operator.office.release(rt, desk);
-    Ok(true)
-}
-
-/// Reads one line and answers it, unless the server ends. The answer is how the lines end, where they do.
+/// Reads one line and hears it, unless the server ends. The answer is how the lines end, where they do.
 fn turn<L: Ledger, S: Server, R: Wait + Clock, I: BufRead + Drop, W: Write + Drop>(
     rt: &R,
     operator: &Operator<'_, L, S>,
     terminal: &mut Terminal<L, I, W>,
     desk: &mut Desk<L>,
+    batch: &mut Batch,
 ) -> Result<Option<Leaving>, ReplayFault> {
-    let Some(line) = terminal.read_line(rt, operator.alloc, operator.server)? else {
+    let Some(line) = read_line(rt, operator, terminal, desk, batch)? else {
         return Ok(Some(Leaving::Ended));
     };
+    batch.tell(rt, operator.server);
     if operator.server.is_ending(rt) {
         return Ok(Some(Leaving::Ended));
     }
+    let writer = &mut terminal.writer;
     let goes_on = match hear(rt, operator, desk, line.as_slice())? {
         Heard::Left(leaving) => return Ok(Some(leaving)),
-        Heard::Answered(text) => answer(rt, operator, terminal, desk, text.as_bytes())?,
-        Heard::Listed(text) => answer(rt, operator, terminal, desk, text.as_slice())?,
+        Heard::Answered(text) => answer(rt, operator, writer, desk, batch, text.as_bytes())?,
+        Heard::Listed(text) => answer(rt, operator, writer, desk, batch, text.as_slice())?,
     };
     Ok(if goes_on { None } else { Some(Leaving::Ended) })
 }
 
-fn answer_lines<L: Ledger, S: Server, R: Wait + Clock, I: BufRead + Drop, W: Write + Drop>(
+fn hear_lines<L: Ledger, S: Server, R: Wait + Clock, I: BufRead + Drop, W: Write + Drop>(
     rt: &R,
     operator: &Operator<'_, L, S>,
     terminal: &mut Terminal<L, I, W>,
     desk: &mut Desk<L>,
+    batch: &mut Batch,
 ) -> Result<Leaving, ReplayFault> {
     for _ in rt.forever() {
-        if let Some(leaving) = turn(rt, operator, terminal, desk)? {
+        if let Some(leaving) = turn(rt, operator, terminal, desk, batch)? {
             return Ok(leaving);
         }
     }
     Ok(Leaving::Ended)
 }
 
-/// Answers the lines of the operator, each before the next is read, until one ends them, the input ends, or the server does: a reader
-/// that answers `WouldBlock` where nothing has come for a while has the last noticed without a line. The answer is how they ended.
+/// Answers the lines until they end, however they do: what was answered by then is written.
+fn answer_lines<L: Ledger, S: Server, R: Wait + Clock, I: BufRead + Drop, W: Write + Drop>(
+    rt: &R,
+    operator: &Operator<'_, L, S>,
+    terminal: &mut Terminal<L, I, W>,
+    desk: &mut Desk<L>,
+) -> Result<Leaving, ReplayFault> {
+    let mut batch = Batch::new(operator.alloc);
+    let ended = hear_lines(rt, operator, terminal, desk, &mut batch);
+    let is_kept = deliver(rt, operator, &mut terminal.writer, desk, &mut batch, &[])?;
+    if is_kept { ended } else { Ok(Leaving::Ended) }
+}
+
+/// Answers the lines of the operator, one after another, until one ends them, the input ends, or the server does: a reader that answers
+/// `WouldBlock` where nothing has come for a while has the last noticed without a line. The answer is how they ended. What lines are
+/// answered that had come together is written together, before a read that may wait.
 pub fn operate<L: Ledger, S: Server, R: Wait + Clock, I: BufRead + Drop, W: Write + Drop>(
     rt: &R,
     operator: &Operator<'_, L, S>,

@@ -11,11 +11,12 @@ pub trait Server {
     /// The BSC was registered.
     fn added<R: Wait + Clock>(&self, rt: &R, b: BscId);
 
-    /// A line was answered, for which an event may have been entered.
+    /// A line was answered, for which an event may have been entered. It is told of each line before the next is heard, though the answer
+    /// may not be written yet.
     fn answered<R: Wait + Clock>(&self, rt: &R);
 
     /// Waits until all entries that there are now are kept, where a file is kept. The answer is whether they are: `false` where the file
-    /// has failed. Nothing is answered then.
+    /// has failed. Then nothing more is answered, nor what is answered and not written.
     fn is_kept<R: Wait>(&self, rt: &R) -> bool;
 
     /// Whether no line is answered any more, since the server ends, or the file of the journal has failed.

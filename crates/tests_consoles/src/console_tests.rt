@@ -86,11 +86,41 @@ const SHUTDOWN: &[Step] = &[
     IsClosed(0),
 ];
 
+/// Lines that are sent together are answered in their order, each once; a half line behind them holds no answer back, and what ends the
+/// console, or has it follow the journal, comes behind the answers to the lines before.
+const TOGETHER: &[Step] = &[
+    Connect(0),
+    Sends(
+        0,
+        b"bsc add 1\nbsc add 2\nbsc add 2\nwhat\n# nothing\n\nbsc add 3\nboard 1\nbsc add 4\nbsc ad",
+    ),
+    Reads(
+        0,
+        b"ok 1\nok 2\nno 4 BscExists\nbad line\nok 3\nno 16 NoSuchWarning\nok 4\n",
+    ),
+    Sends(0, b"d 5\nquit\nbsc add 6\n"),
+    Reads(0, b"ok 5\nbye\n"),
+    IsClosed(0),
+    Connect(0),
+    Sends(0, b"bsc add 6\narea add Coast\nwatch\nbsc add 7\n"),
+    Reads(0, b"ok 6\nok 7\n"),
+    Connect(1),
+    Pause,
+    Sends(1, b"bsc add 8\narea add Port\nshutdown\nbsc add 9\n"),
+    Reads(1, b"ok 8\nok 9\nbye\n"),
+    IsClosed(1),
+    Reads(
+        0,
+        b"entry 8 desk 2 bsc add 8\nentry 9 desk 2 area add Port\n",
+    ),
+];
+
 #[test]
 fn consoles_are_answered(rt: HostRuntime) {
-    let scripts: [(&'static [Step], u64, &str); 4] = [
+    let scripts: [(&'static [Step], u64, &str); 5] = [
         (TWO, 4, "two consoles"),
         (EACH, 2, "each line"),
+        (TOGETHER, 9, "lines that are sent together"),
         (FEW, 2, "more than there may be"),
         (SHUTDOWN, 1, "the end of the program"),
     ];

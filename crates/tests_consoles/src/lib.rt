@@ -1,14 +1,19 @@
 //! Tests of consoles over a socket file: what no clause says of them.
 //!
 //! A script (`scripts`) is played by several connections while the consoles are served (`given_consoles`), and at the end the desks settle.
+//! When the answers to lines are written that come together is tried without a socket (`given_lines`).
 #![tactic(auto)]
 
+#[cfg(test)]
+mod batch_tests;
 #[cfg(test)]
 mod checks;
 #[cfg(test)]
 mod console_tests;
 #[cfg(test)]
 mod given_consoles;
+#[cfg(test)]
+mod given_lines;
 #[cfg(test)]
 mod given_program;
 #[cfg(test)]

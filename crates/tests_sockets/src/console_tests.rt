@@ -2,6 +2,7 @@
 
 use crate::given_plays::{Act, Play, USUAL, played};
 use crate::given_texts::Wanted;
+use std::fs;
 
 /// Standard input ends at once. Consoles are answered all the same, one after another, until one has the program end.
 #[test]
@@ -39,6 +40,37 @@ const QUITS: Play = Play {
         Act::Lines("quit\n", 0),
     ],
     answers: Wanted::Is("settled 1\n"),
+    ..USUAL
+};
+
+/// Consoles whose lines come together, at a journal that is kept: what is answered stands in the file, and the end behind it.
+#[test]
+fn consoles_are_kept(rt: HostRuntime) {
+    played(&rt, rt.alloc(), &KEPT);
+    let _ = fs::remove_file(&rt, "kept-consoles");
+}
+
+const KEPT: Play = Play {
+    words: &[
+        "--console",
+        "consoles-that-are-kept",
+        "--keep",
+        "kept-consoles",
+    ],
+    acts: &[
+        Act::Says("cbc: consoles: consoles-that-are-kept\n"),
+        Act::Asks(
+            "consoles-that-are-kept",
+            "bsc add 1\nbsc add 2\nbsc add 2\narea add Coast\nquit\narea add Port\n",
+            "ok 1\nok 2\nno 4 BscExists\nok 3\nbye\n",
+        ),
+        Act::Asks(
+            "consoles-that-are-kept",
+            "area add Port\nareas\nshutdown\narea add Hills\n",
+            "ok 4\narea Coast selectors 0\narea Port selectors 0\nareas 2\nbye\n",
+        ),
+    ],
+    answers: Wanted::Is("settled 4\n"),
     ..USUAL
 };
 

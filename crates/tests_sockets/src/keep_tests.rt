@@ -95,6 +95,32 @@ fn texts_stand_in_the_file_as_pages(rt: HostRuntime) {
     }
 }
 
+/// Lines that come in one piece. Each counts for the fold, which comes behind every third entry, wherever the piece ends.
+#[test]
+fn lines_in_one_piece_are_folded_in_between(rt: HostRuntime) {
+    keeps(&rt, &FOLDED);
+}
+
+const FOLDED: Kept = Kept {
+    path: "folded-journal",
+    before: None,
+    after: "# cbc journal, network 00f110\nbsc add 1\narea add A\narea add B\ncheckpoint\narea add C\narea add D\narea add E\ncheckpoint\narea add F\n",
+    play: Play {
+        words: &["--keep", "folded-journal", "--fold", "3"],
+        acts: &[Act::Lines(
+            "bsc add 1\narea add A\narea add B\narea add C\narea add C\narea add D\narea add E\narea add F\nquit\n",
+            0,
+        )],
+        answers: Wanted::Is(
+            "ok 1\nok 2\nok 3\nok 4\nno 11 AreaExists\nok 5\nok 6\nok 7\nsettled 7\n",
+        ),
+        said: Wanted::Is(
+            "cbc: the journal was folded, entries: 3\ncbc: the journal was folded, entries: 3\n",
+        ),
+        ..USUAL
+    },
+};
+
 /// The file after both runs.
 const SAID_PAGES: &str = "\
 # cbc journal, network 00f110

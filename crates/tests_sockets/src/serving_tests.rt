@@ -84,6 +84,24 @@ const NO_LINES: Play = Play {
     ..USUAL
 };
 
+/// Lines that are typed at once are answered in their order, and half a line behind them holds no answer back.
+#[test]
+fn half_a_line_holds_nothing_back(rt: HostRuntime) {
+    played(&rt, rt.alloc(), &HALF_A_LINE);
+}
+
+const HALF_A_LINE: Play = Play {
+    acts: &[
+        Act::Types("bsc add 1\nbsc add 1\nbsc ad", "ok 1\n"),
+        Act::Types("d 2\n", "no 4 BscExists\n"),
+        Act::Types("what\nbsc add 3\narea add", "ok 2\n"),
+        Act::Lines("", 2),
+        Act::Lines(" Coast\nquit\nbsc add 4\n", 0),
+    ],
+    answers: Wanted::Is("ok 4\nsettled 4\n"),
+    ..USUAL
+};
+
 /// A comment of 600,000 octets is a line; one of 600,003 octets ends the server, before its end has come.
 #[test]
 fn a_line_that_is_too_long_ends_a_server(rt: HostRuntime) {
