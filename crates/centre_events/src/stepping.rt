@@ -10,6 +10,8 @@ ghost use Rattle.centre_events.specs.Presence.{edit_effect, effect};
 ghost use Rattle.centre_events.specs.Effects.{flight_effect, is_among, outcome_in, report_effect, said_effect, state_after};
 ghost use Rattle.centre_events.specs.InFlight.{cells_of, id_of};
 ghost use Rattle.centre_events.specs.Stepping.{stepped};
+ghost use Rattle.centre_events.specs.Warnings.{serials};
+ghost use Rattle.warning_book.specs.Book.{kind_of};
 
 use crate::answer::Answer;
 use crate::counts::edit_count;
@@ -30,7 +32,7 @@ use common::Cell;
 use coverage_plan::Edit;
 use mirror::Line;
 use serials::Serial;
-use warning_book::{Kind, Version, Warning};
+use warning_book::{Version, Warning};
 
 /// What happens: an event and what it is answered, whether the link of its BSC was up before, and what was in flight to it.
 #[derive(Clone, Copy)]
@@ -81,19 +83,20 @@ fn step_each(line: &mut Line, versions: &[Version], effect: Effect, count: Optio
     is_changed
 }
 
-/// Does to each of the versions what the edit does. The result says whether one was given another value.
+/// Does to each version of the warning what the edit does. The result says whether one was given another value.
 fn step_by_edit(
     line: &mut Line,
+    w: &Warning,
     b: BscId,
-    message_id: u16,
-    versions: &[Version],
     edit: &Edit,
     answer: &Answer,
     warnings: &[Warning],
 ) -> bool
-    ensures line { line.new ≡ stepped (λ s. edit_effect b message_id s edit.now answer.now warnings.now) (λ s. edit_count b message_id s edit.now answer.now warnings.now) line.old (map (λ v. v.serial) versions.now) }
+    ensures line { line.new ≡ stepped (λ s. edit_effect b w.now.message_id s edit.now answer.now warnings.now) (λ s. edit_count b w.now.message_id s edit.now answer.now warnings.now) line.old (serials w.now) }
     ensures same { result ≡ false → line.new ≡ line.old }
 {
+    let message_id = w.message_id();
+    let versions = w.versions();
     let mut is_changed = false;
     for version in versions {
         let effect = edit_effect(b, message_id, version.serial, edit, answer, warnings);
@@ -149,107 +152,95 @@ fn step_named(
     is_changed
 }
 
-/// Does to the versions what the loss of the link does: nothing is said of what was in flight. The result says whether one
-/// was given another value.
-fn step_by_loss(
-    line: &mut Line,
-    c: Cell,
-    message_id: u16,
-    versions: &[Version],
-    flight: Option<&InFlight>,
-) -> bool
-    ensures line { line.new ≡ stepped (λ s. flight_effect (option_copied flight.entry) Outcome.Silent c message_id s) (λ s. None) line.old (map (λ v. v.serial) versions.now) }
+/// Does to the versions of the warning what the loss of the link does: nothing is said of what was in flight. The result says
+/// whether one was given another value.
+fn step_by_loss(line: &mut Line, w: &Warning, c: Cell, flight: Option<&InFlight>) -> bool
+    ensures line { line.new ≡ stepped (λ s. flight_effect (option_copied flight.entry) Outcome.Silent c w.now.message_id s) (λ s. None) line.old (serials w.now) }
     ensures same { result ≡ false → line.new ≡ line.old }
 {
     match flight {
-        Some(flight) if id_of(flight) == message_id && is_among(c, cells_of(flight)) => {
-            step_named(line, versions, flight, Outcome::Silent, None)
+        Some(flight) if id_of(flight) == w.message_id() && is_among(c, cells_of(flight)) => {
+            step_named(line, w.versions(), flight, Outcome::Silent, None)
         }
         _ => false,
     }
 }
 
-/// Does to the versions what the replies say of the cell. The reply of a cell mostly stands where the cell does in what was
-/// in flight. The result says whether a version was given another value.
+/// Does to the versions of the warning what the replies say of the cell. The reply of a cell mostly stands where the cell does
+/// in what was in flight. The result says whether a version was given another value.
 fn step_by_replies(
     line: &mut Line,
+    w: &Warning,
     c: Cell,
-    message_id: u16,
-    versions: &[Version],
     flight: &InFlight,
     replies: &Replies,
 ) -> bool
-    ensures line { line.new ≡ stepped (λ s. said_effect (outcome_in c replies.now) (Some flight.now) c message_id s) (λ s. replied_count (Some flight.now) replies.now c message_id s) line.old (map (λ v. v.serial) versions.now) }
+    ensures line { line.new ≡ stepped (λ s. said_effect (outcome_in c replies.now) (Some flight.now) c w.now.message_id s) (λ s. replied_count (Some flight.now) replies.now c w.now.message_id s) line.old (serials w.now) }
     ensures same { result ≡ false → line.new ≡ line.old }
 {
-    if id_of(flight) != message_id {
+    if id_of(flight) != w.message_id() {
         return false;
     }
     let Some(place) = place_of(c, cells_of(flight)) else {
         return false;
     };
     match replies.of_cell_near(c, place) {
-        Some(reply) => step_named(line, versions, flight, reply.outcome, reply.count),
+        Some(reply) => step_named(line, w.versions(), flight, reply.outcome, reply.count),
         None => false,
     }
 }
 
-/// Does to the versions of a warning of the kind what a report of their BSC does that was answered so. The result says
-/// whether one was given another value.
+/// Does to the versions of the warning what a report of their BSC does that was answered so. The result says whether one was
+/// given another value.
 fn step_by_report(
     line: &mut Line,
-    kind: Kind,
+    w: &Warning,
     c: Cell,
-    message_id: u16,
-    versions: &[Version],
     message: &Message,
     answer: &Answer,
     flight: Option<&InFlight>,
 ) -> bool
-    ensures line { line.new ≡ stepped (λ s. report_effect kind message.now answer.now (option_copied flight.entry) c message_id s) (λ s. report_count answer.now (option_copied flight.entry) c message_id s) line.old (map (λ v. v.serial) versions.now) }
+    ensures line { line.new ≡ stepped (λ s. report_effect (kind_of w.now) message.now answer.now (option_copied flight.entry) c w.now.message_id s) (λ s. report_count answer.now (option_copied flight.entry) c w.now.message_id s) line.old (serials w.now) }
     ensures same { result ≡ false → line.new ≡ line.old }
 {
     match answer {
         Answer::Replied(replies) => match flight {
-            Some(flight) => step_by_replies(line, c, message_id, versions, flight, replies),
+            Some(flight) => step_by_replies(line, w, c, flight, replies),
             None => false,
         },
         Answer::Listed(cells) if is_among(c, cells.as_slice()) => {
-            step_each(line, versions, indicated_effect(kind, message), None)
+            step_each(
+                line,
+                w.versions(),
+                indicated_effect(w.kind(), message),
+                None,
+            )
         }
         _ => false,
     }
 }
 
-/// Changes the line of the versions of a warning of the kind in the cell at the BSC by what happens. What a Forget does is said by the
+/// Changes the line of the versions of the warning in the cell at the BSC by what happens. What a Forget does is said by the
 /// warnings. The result says whether a version was given another value; most lines stay as they are.
 pub fn step_line(
     h: &Happening<'_, '_>,
-    kind: Kind,
+    w: &Warning,
     b: BscId,
     c: Cell,
-    message_id: u16,
-    versions: &[Version],
     warnings: &[Warning],
     line: &mut Line,
 ) -> bool
-    ensures line { line.new ≡ stepped (λ s. effect kind b c message_id s h.now.event.now h.now.answer.now h.now.up (option_copied h.now.flight) warnings.now) (λ s. count_mark b c message_id s h.now.event.now h.now.answer.now (option_copied h.now.flight) warnings.now) line.old (map (λ v. v.serial) versions.now) }
+    ensures line { line.new ≡ stepped (λ s. effect (kind_of w.now) b c w.now.message_id s h.now.event.now h.now.answer.now h.now.up (option_copied h.now.flight) warnings.now) (λ s. count_mark b c w.now.message_id s h.now.event.now h.now.answer.now (option_copied h.now.flight) warnings.now) line.old (serials w.now) }
     ensures same { result ≡ false → line.new ≡ line.old }
 {
     match h.event {
-        Event::Edit(edit) => step_by_edit(line, b, message_id, versions, edit, h.answer, warnings),
+        Event::Edit(edit) => step_by_edit(line, w, b, edit, h.answer, warnings),
         Event::Report(other, _, message) if *other == b => {
-            step_by_report(
-                line, kind, c, message_id, versions, message, h.answer, h.flight,
-            )
+            step_by_report(line, w, c, message, h.answer, h.flight)
         }
-        Event::LinkUp(other) if *other == b && h.up => {
-            step_by_loss(line, c, message_id, versions, h.flight)
-        }
-        Event::LinkDown(other, _) if *other == b => {
-            step_by_loss(line, c, message_id, versions, h.flight)
-        }
-        Event::Retry(other) if *other == b => step_each(line, versions, Effect::Frees, None),
+        Event::LinkUp(other) if *other == b && h.up => step_by_loss(line, w, c, h.flight),
+        Event::LinkDown(other, _) if *other == b => step_by_loss(line, w, c, h.flight),
+        Event::Retry(other) if *other == b => step_each(line, w.versions(), Effect::Frees, None),
         _ => false,
     }
 }

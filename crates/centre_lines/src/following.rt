@@ -55,16 +55,7 @@ pub(crate) fn line_now(
     ensures stays { result ≡ false → line.new ≡ line.old }
 {
     match warning {
-        Some(w) if !leaves_lines(h) => step_line(
-            h,
-            w.kind(),
-            spot.bsc,
-            spot.cell,
-            w.message_id(),
-            w.versions(),
-            warnings,
-            line,
-        ),
+        Some(w) if !leaves_lines(h) => step_line(h, w, spot.bsc, spot.cell, warnings, line),
         _ => false,
     }
 }
