@@ -29,6 +29,7 @@ fn is_in_flight(rt: &impl Abort, alloc: Global, count: usize, is_there: bool) {
         None => !is_there,
     };
     yes(rt, is_so, "what is in flight");
+    drop(centre);
 }
 
 /// The seventh step brings the link up. The eighth sends the order and the ninth answers it; the thirteenth sends it again,
@@ -64,6 +65,7 @@ fn flights_are_copied(rt: &impl Abort, alloc: Global) {
     };
     flight_is_copied(rt, alloc, &query);
     drop(query);
+    drop(centre);
 }
 
 /// After the fourteenth step an order is pending, and two keys are reported.
@@ -84,4 +86,5 @@ fn every_call_answers(rt: HostRuntime) {
     lists_are_copied(&rt, alloc, &mut centre);
     let place = centre.place_of(SEVEN);
     yes(&rt, place == Ok(Some(bsc(&rt, 1))), "the place of a cell");
+    drop(centre);
 }

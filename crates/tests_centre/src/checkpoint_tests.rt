@@ -74,6 +74,7 @@ fn a_full_journal_has_room_after_a_checkpoint(rt: HostRuntime) {
     yes(&rt, centre.position() == 3, "the third entry");
     same(&rt, centre.checkpoint(), Ok(1), "one entry");
     same(&rt, centre.checkpoint(), Ok(0), "no entry");
+    drop(centre);
 }
 
 /// The entry at that place is answered with that serial number.
@@ -103,6 +104,7 @@ fn what_is_in_flight_is_answered_after_a_checkpoint(rt: HostRuntime) {
     is_updated(&rt, &mut centre, 9, Serial::from_u16(0xc001));
     takes(&rt, alloc, &mut centre, Step::LinkDown(6));
     yes(&rt, centre.position() == 10, "the tenth entry");
+    drop(centre);
 }
 
 /// The centre is made anew from its base alone, at once or where memory ran out once.
@@ -127,6 +129,7 @@ fn a_day_goes_on_over_checkpoints(rt: HostRuntime) {
         is_made_anew(&rt, &mut centre, *after);
         before = *after;
     }
+    drop(centre);
 }
 
 /// A rebuild reads the entries since the checkpoint alone, and begins with what was folded.
@@ -152,4 +155,5 @@ fn a_rebuild_begins_with_the_base(rt: HostRuntime) {
     yes(&rt, centre.entry(15).is_some(), "the first entry since");
     yes(&rt, centre.entry(21).is_some(), "the last entry");
     yes(&rt, centre.entry(22).is_none(), "past the last entry");
+    drop(centre);
 }

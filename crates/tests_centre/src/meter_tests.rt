@@ -96,4 +96,5 @@ fn an_event_costs_by_the_lines_on_which_it_bears(rt: HostRuntime) {
         costs(&rt, alloc, &mut centre, step, most);
         has_board(&rt, &centre, board);
     }
+    drop(centre);
 }

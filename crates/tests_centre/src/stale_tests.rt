@@ -205,6 +205,7 @@ fn want_of_memory_leaves_a_centre_whole_or_stale(rt: HostRuntime) {
     let mut centre = entered(&rt, rt.alloc(), 34);
     has_journal(&rt, rt.alloc(), &mut centre, 34);
     reports_are_answered(&rt, &mut centre);
+    drop(centre);
 }
 
 /// A rebuild for which memory runs out leaves the centre as it was.
@@ -222,6 +223,7 @@ fn want_of_memory_in_a_rebuild_leaves_a_centre_as_it_was(rt: HostRuntime) {
     let mut centre = entered(&rt, rt.alloc(), 21);
     can_be_rebuilt(&rt, &mut centre, bsc(&rt, 1), [1, 0, 0, 2, 2, 2]);
     has_journal(&rt, rt.alloc(), &mut centre, 21);
+    drop(centre);
 }
 
 /// A new centre that is rebuilt has read no line.
@@ -230,6 +232,7 @@ fn a_new_centre_is_rebuilt(rt: HostRuntime) {
     let mut centre = Centre::new(rt.alloc(), PLMN, 100);
     rebuilds(&rt, &mut centre);
     yes(&rt, centre.meter().lines == 0, "no line is read");
+    drop(centre);
 }
 
 /// What is refused reads and sets no line, and an event one that it bears on four times at most. In flight is a KILL in
@@ -246,4 +249,5 @@ fn the_meter_counts_lines(rt: HostRuntime) {
     takes(&rt, alloc, &mut centre, Step::Report(25, 0x15, NOT_THERE));
     let lines = centre.meter().lines.saturating_sub(before);
     yes(&rt, 0 < lines && lines <= 4, "a line is read");
+    drop(centre);
 }
