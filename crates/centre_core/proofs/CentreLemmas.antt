@@ -10,7 +10,7 @@ use Rattle.mirror.specs.Table.{down_at}
 use Rattle.warning_book.specs.Book as book
 use Rattle.centre_core.specs.Centre.{ComesFrom, IsCentre, IsRefused, IsWhole, Leaves, Refuses, past_over}
 use Rattle.centre_past.specs.Flights.{up_before}
-use Rattle.centre_lines.specs.Following.{Finishes, WasReached, held_in, held_past}
+use Rattle.centre_lines.specs.Following.{Finishes, WasReached, bearing, held_past, most_accesses}
 use Rattle.centre_past.specs.IsKept.{IsKept, OnlyReadsIn}
 use Rattle.centre_past.specs.Facts.{facts}
 use Rattle.centre_events.specs.Kept.{Gives, IsChecked, is_edit, register_then, areas_then}
@@ -24,13 +24,14 @@ use Rattle.centre_past.specs.Reach.{edit_reach, looked_at, size, reach, reach_of
 use Rattle.centre_events.specs.Settings.{Settings}
 use Rattle.centre_past.specs.State.{AreLinksOf}
 use Rattle.centre_events.specs.Verdict.{verdict, answered, edit_answered}
-use Rattle.centre_events.specs.Warnings.{book_then}
+use Rattle.centre_events.specs.Warnings.{book_of, book_then}
 use Rattle.centre_events.specs.declared.answer.Answer.{Answer}
 use Rattle.coverage_plan.specs.declared.edit.Edit.{Edit}
 use Rattle.centre_events.specs.declared.entry.Entry.{Entry}
 use Rattle.centre_events.specs.declared.event.Event.{Event}
 use Rattle.centre_events.specs.declared.event.Event.TheVariants as event
 use Rattle.centre_lines.specs.declared.held_lines.HeldLines.{HeldLines}
+use Rattle.centre_lines.specs.declared.held_lines.HeldLines.TheVariants as lines
 use Rattle.centre_past.specs.declared.kept.Kept.{Kept}
 use Rattle.centre_events.specs.declared.refusal.Refusal.{Refusal}
 use Rattle.centre_events.specs.declared.refusal.Refusal.TheVariants.{Stale, Memory, WrongDesk}
@@ -162,20 +163,10 @@ reached_within settings xs ys s t e old mid new given now centre reads looks =
     let bears : new ≤ mid + 2 * size (edit_reach (past_of (xs ++ ys)) e) = now (lasting settings.network) (past_of (xs ++ ys)) found.0 centre.legal kept (answered_all settings xs ys (event.Edit e) found.0 found.1) in
     omega (arith, bears, looks, edit_size_over xs ys e)
 
--- the lines of another event that is accepted: those that it looks at, and those on which it bears
-pub other_within : (settings : Settings) (xs ys : List Entry) (e : Event) (a : Answer) (old mid new : ℕ) → verdict settings (past_over xs ys) e ≡ Ok a → mid ≤ old + looked_at (past_of (xs ++ ys)) e → new ≤ mid + 2 * size (reach_of (past_of (xs ++ ys)) e a) → new ≤ old + 2 * reach (past_over xs ys) e (verdict settings (past_over xs ys) e)
-other_within settings xs ys e a old mid new is looks bears =
-    let all : reach (past_over xs ys) e (verdict settings (past_over xs ys) e) ≡ size (reach_of (past_of (xs ++ ys)) e a) + looked_at (past_of (xs ++ ys)) e = ap (reach (past_over xs ys) e) is ∙ reach_over xs ys e (Ok a) in
-    omega (arith, looks, bears, all)
-
 -- those of an event that is looked at alone
 looked_in : (past : Past) (e : Event) (v : Result Answer Refusal) → looked_at past e ≤ reach past e v
 looked_in past e (Ok a) = omega arith
 looked_in past e (Err x) = omega arith
-
-pub other_looked : (settings : Settings) (xs ys : List Entry) (e : Event) (old new : ℕ) → new ≤ old + looked_at (past_of (xs ++ ys)) e → new ≤ old + 2 * reach (past_over xs ys) e (verdict settings (past_over xs ys) e)
-other_looked settings xs ys e old new looks =
-    omega (arith, looks, reach_over xs ys e (verdict settings (past_over xs ys) e), looked_in (past_of (xs ++ ys)) e (verdict settings (past_over xs ys) e))
 
 -- What a centre is, one event further.
 
@@ -224,25 +215,37 @@ refuses_starved settings xs ys stale e (Err y) h whole given = inr (whole, inl (
 
 -- The lines that were read or set.
 
--- no more lines are set than the event bears on
-pub held_counted : (past : Past) (e : Event) (a : Answer) (spots : List Spot) (held : HeldLines) → WasReached past e a spots held → length (held_in held) ≤ size (reach_of past e a)
-held_counted past e a spots held was =
-    subst (λ n. n ≤ size (reach_of past e a)) (sym (ap length was.lines ∙ length-map was.keys (held_past past))) was.few
+-- no more lines are changed by an edit than it bears on
+pub edit_counted : (past : Past) (e : Edit) (a : Answer) (st : book.State) (spots : List Spot) (held : HeldLines) → WasReached past (event.Edit e) a spots held → most_accesses (event.Edit e) a st spots held ≤ size (reach_of past (event.Edit e) a)
+edit_counted past e a st spots (lines.Whole v) was =
+    subst (λ n. n ≤ size (reach_of past (event.Edit e) a)) (sym (ap length was.lines ∙ length-map was.keys (held_past past))) was.few
+edit_counted past e a st spots (lines.Unread ns) was = let no : true ≡ false = was.other in cc
 
-pub within_four : (settings : Settings) (xs ys : List Entry) (e : Event) (old new : ℕ) → new ≤ old + 2 * reach (past_over xs ys) e (verdict settings (past_over xs ys) e) → new ≤ old + 4 * reach (past_over xs ys) e (verdict settings (past_over xs ys) e)
-within_four settings xs ys e old new h = omega (arith, h)
+-- those on which another event bears are told of, read and set
+pub other_counted : (past : Past) (e : Event) (a : Answer) (st : book.State) (spots : List Spot) (held : HeldLines) → st ≡ book_of past → WasReached past e a spots held → most_accesses e a st spots held ≤ 3 * size (reach_of past e a)
+other_counted past e a st spots (lines.Whole v) is was =
+    let few : length v.items ≤ size (reach_of past e a) = subst (λ n. n ≤ size (reach_of past e a)) (sym (ap length was.lines ∙ length-map was.keys (held_past past))) was.few in
+    omega (arith, few)
+other_counted past e a st spots (lines.Unread ns) is was =
+    let same : length spots * length (bearing e a st ns.items) ≡ size (reach_of past e a) =
+    ap (λ b. length spots * length (bearing e a b ns.items)) is ∙ ap (λ n. n * length (bearing e a (book_of past) ns.items)) was.reach.spots_counted ∙ ap (λ n. length (reach_of past e a).spots * n) was.reach.warnings_counted in
+    omega (arith, same)
+
+pub within_four : (settings : Settings) (xs ys : List Entry) (e : Event) (old new : ℕ) → new ≤ old + looked_at (past_of (xs ++ ys)) e → new ≤ old + 4 * reach (past_over xs ys) e (verdict settings (past_over xs ys) e)
+within_four settings xs ys e old new looks =
+    omega (arith, looks, reach_over xs ys e (verdict settings (past_over xs ys) e), looked_in (past_of (xs ++ ys)) e (verdict settings (past_over xs ys) e))
 
 pub edit_lines : (settings : Settings) (xs ys : List Entry) (e : Edit) (old new : ℕ) → new ≤ old + 3 * size (edit_reach (past_over xs ys) e) → new ≤ old + 4 * reach (past_over xs ys) (event.Edit e) (verdict settings (past_over xs ys) (event.Edit e))
 edit_lines settings xs ys e old new h = omega (arith, h, edit_reach_is (past_over xs ys) e (verdict settings (past_over xs ys) (event.Edit e)))
 
-pub edit_lines_then : (settings : Settings) (xs ys : List Entry) (e : Edit) (a : Answer) (old mid new : ℕ) (spots : List Spot) (held : HeldLines) → mid ≤ old + 3 * size (edit_reach (past_over xs ys) e) → new ≤ mid + length (held_in held) → WasReached (past_of (xs ++ ys)) (event.Edit e) a spots held → new ≤ old + 4 * reach (past_over xs ys) (event.Edit e) (verdict settings (past_over xs ys) (event.Edit e))
-edit_lines_then settings xs ys e a old mid new spots held before now was =
-    omega (arith, before, now, held_counted (past_of (xs ++ ys)) (event.Edit e) a spots held was, edit_size_over xs ys e, edit_reach_is (past_over xs ys) e (verdict settings (past_over xs ys) (event.Edit e)))
+pub edit_lines_then : (settings : Settings) (xs ys : List Entry) (e : Edit) (a : Answer) (st : book.State) (old mid new : ℕ) (spots : List Spot) (held : HeldLines) → mid ≤ old + 3 * size (edit_reach (past_over xs ys) e) → new ≤ mid + most_accesses (event.Edit e) a st spots held → WasReached (past_of (xs ++ ys)) (event.Edit e) a spots held → new ≤ old + 4 * reach (past_over xs ys) (event.Edit e) (verdict settings (past_over xs ys) (event.Edit e))
+edit_lines_then settings xs ys e a st old mid new spots held before now was =
+    omega (arith, before, now, edit_counted (past_of (xs ++ ys)) e a st spots held was, edit_size_over xs ys e, edit_reach_is (past_over xs ys) e (verdict settings (past_over xs ys) (event.Edit e)))
 
-pub lines_then : (settings : Settings) (xs ys : List Entry) (e : Event) (a : Answer) (old mid new : ℕ) (spots : List Spot) (held : HeldLines) → verdict settings (past_over xs ys) e ≡ Ok a → mid ≤ old + 2 * reach (past_over xs ys) e (verdict settings (past_over xs ys) e) → new ≤ mid + length (held_in held) → WasReached (past_of (xs ++ ys)) e a spots held → new ≤ old + 4 * reach (past_over xs ys) e (verdict settings (past_over xs ys) e)
-lines_then settings xs ys e a old mid new spots held is before now was =
+pub lines_then : (settings : Settings) (xs ys : List Entry) (e : Event) (a : Answer) (st : book.State) (old mid new : ℕ) (spots : List Spot) (held : HeldLines) → verdict settings (past_over xs ys) e ≡ Ok a → st ≡ book_of (past_of (xs ++ ys)) → mid ≤ old + looked_at (past_of (xs ++ ys)) e → new ≤ mid + most_accesses e a st spots held → WasReached (past_of (xs ++ ys)) e a spots held → new ≤ old + 4 * reach (past_over xs ys) e (verdict settings (past_over xs ys) e)
+lines_then settings xs ys e a st old mid new spots held is booked before now was =
     let all : reach (past_over xs ys) e (verdict settings (past_over xs ys) e) ≡ size (reach_of (past_of (xs ++ ys)) e a) + looked_at (past_of (xs ++ ys)) e = ap (reach (past_over xs ys) e) is ∙ reach_over xs ys e (Ok a) in
-    omega (arith, before, now, held_counted (past_of (xs ++ ys)) e a spots held was, all)
+    omega (arith, before, now, other_counted (past_of (xs ++ ys)) e a st spots held booked was, all)
 
 -- What is known where an event is entered.
 

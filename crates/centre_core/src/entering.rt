@@ -1,7 +1,7 @@
 //! How an accepted event is entered: what is kept follows it, and its entry becomes the last of the journal.
 
 ghost use Rattle.std.specs.Prelude.{◌≡◌, ◌<◌, ◌≤◌, ◌+◌, ◌-◌, ◌^◌, ◌++◌, ◌∷◌, [], length, true, IfOk, IsOk, OnOk, OnErr};
-ghost use Rattle.centre_lines.specs.Following.{Finishes, held_in};
+ghost use Rattle.centre_lines.specs.Following.{Finishes, most_accesses};
 ghost use Rattle.centre_past.specs.IsKept.{IsKept};
 ghost use Rattle.centre_events.specs.Kept.{Gives, is_plain};
 ghost use Rattle.coverage_plan.specs.Edited.{register_after, areas_after, book_after};
@@ -80,7 +80,7 @@ pub(crate) fn enter(
     ensures entries_stay { OnErr result (journal.new.entries ≡ journal.old.entries) }
     ensures unread { journal.new.reads ≡ journal.old.reads }
     ensures kept { OnOk result ((x : Finishes kept.old entry.event entry.answer before.place before.up before.reached.spots.items before.reached.lines) → IsKept (After (record { desk = x.desk; event = entry.event; answer = entry.answer }) x.past) kept.new) }
-    ensures meter { kept.new.tables.lines.meter ≤ kept.old.tables.lines.meter + length (held_in before.reached.lines) }
+    ensures meter { kept.new.tables.lines.meter ≤ kept.old.tables.lines.meter + most_accesses entry.event entry.answer kept.old.book before.reached.spots.items before.reached.lines }
     ensures least { kept.old.tables.lines.meter ≤ kept.new.tables.lines.meter }
 {
     let done = finish(alloc, kept, &entry.event, &entry.answer, before);

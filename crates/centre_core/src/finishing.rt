@@ -1,7 +1,7 @@
 //! What an accepted event makes of what is kept, once an edit has been made: lines, links and what is in flight.
 
-ghost use Rattle.std.specs.Prelude.{◌≡◌, ◌≤◌, ◌+◌, length, OnOk};
-ghost use Rattle.centre_lines.specs.Following.{Finishes, held_in};
+ghost use Rattle.std.specs.Prelude.{◌≡◌, ◌≤◌, ◌+◌, OnOk};
+ghost use Rattle.centre_lines.specs.Following.{Finishes, most_accesses};
 ghost use Rattle.centre_past.specs.IsKept.{IsKept};
 ghost use Rattle.centre_events.specs.Past.{After};
 
@@ -26,7 +26,7 @@ pub(crate) fn finish<'x>(
 ) -> Result<(), AllocError>
     requires { Finishes kept.old event.now answer.now before.place before.up before.reached.spots.items before.reached.lines }
     ensures kept { OnOk result ((x : Finishes kept.old event.now answer.now before.place before.up before.reached.spots.items before.reached.lines) → IsKept (After (record { desk = x.desk; event = event.now; answer = answer.now }) x.past) kept.new) }
-    ensures meter { kept.new.tables.lines.meter ≤ kept.old.tables.lines.meter + length (held_in before.reached.lines) }
+    ensures meter { kept.new.tables.lines.meter ≤ kept.old.tables.lines.meter + most_accesses event.now answer.now kept.old.book before.reached.spots.items before.reached.lines }
     ensures least { kept.old.tables.lines.meter ≤ kept.new.tables.lines.meter }
 {
     let BeforeEntry { place, up, reached } = before;

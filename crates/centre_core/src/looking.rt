@@ -114,11 +114,11 @@ pub(crate) struct Found {
     pub(crate) reached: Reached,
 }
 
-/// Makes room for one more entry, and reads the lines on which an event bears that is no edit, and that is answered so.
+/// Makes room for one more entry, and finds on which lines an event bears that is no edit, and that is answered so.
 fn reach_with_room(
     alloc: Global,
     journal: &mut Journal,
-    kept: &mut Kept,
+    kept: &Kept,
     event: &Event,
     answer: &Answer,
 ) -> Result<Reached, Refusal>
@@ -128,9 +128,7 @@ fn reach_with_room(
     ensures unread { journal.new.reads ≡ journal.old.reads }
     ensures room { OnOk result (1 ≤ journal.new.room) }
     ensures refusal { IfErr result (λ r. r ≡ Refusal.Memory) }
-    ensures reads { OnlyReadsIn kept.old kept.new }
-    ensures reached { (settings : Settings) (past : Past) → Legal settings past → IsKept past kept.old → answered settings.network past event.now ≡ Ok answer.now → IfOk result (λ x. WasReached past event.now answer.now x.spots.items x.lines) }
-    ensures meter { (settings : Settings) (past : Past) → Legal settings past → IsKept past kept.old → answered settings.network past event.now ≡ Ok answer.now → kept.new.tables.lines.meter ≤ kept.old.tables.lines.meter + 2 * size (reach_of past event.now answer.now) }
+    ensures reached { (settings : Settings) (past : Past) → Legal settings past → IsKept past kept.now → answered settings.network past event.now ≡ Ok answer.now → IfOk result (λ x. WasReached past event.now answer.now x.spots.items x.lines) }
 {
     make_room(journal)?;
     let reached = reached_by_other(alloc, kept, event, answer)?;
@@ -138,7 +136,7 @@ fn reach_with_room(
 }
 
 /// Finds what an event that is no edit is answered after the entries of the journal, which holds so many at most and has
-/// room for one more then, and reads the lines on which it bears.
+/// room for one more then, and on which lines it bears. Lines are read for an Ask alone.
 pub(crate) fn prepare_other(
     alloc: Global,
     network: [u8; 3],
@@ -158,7 +156,7 @@ pub(crate) fn prepare_other(
     ensures verdict { IsWhole network journal.old.folded journal.old.entries kept.old → IfOk result (λ x. verdict (record { network = network; limit = limit }) (past_over journal.old.folded journal.old.entries) event.now ≡ Ok x.answer) }
     ensures refusal { IsWhole network journal.old.folded journal.old.entries kept.old → IfErr result (IsRefused (record { network = network; limit = limit }) (past_over journal.old.folded journal.old.entries) event.now) }
     ensures reached { IsWhole network journal.old.folded journal.old.entries kept.old → IfOk result (λ x. WasReached (past_of (journal.old.folded ++ journal.old.entries)) event.now x.answer x.reached.spots.items x.reached.lines) }
-    ensures meter { IsWhole network journal.old.folded journal.old.entries kept.old → kept.new.tables.lines.meter ≤ kept.old.tables.lines.meter + 2 * reach (past_over journal.old.folded journal.old.entries) event.now (verdict (record { network = network; limit = limit }) (past_over journal.old.folded journal.old.entries) event.now) }
+    ensures meter { IsWhole network journal.old.folded journal.old.entries kept.old → kept.new.tables.lines.meter ≤ kept.old.tables.lines.meter + looked_at (past_of (journal.old.folded ++ journal.old.entries)) event.now }
 {
     let answer = look_at_other(alloc, network, limit, journal, kept, event)?;
     let reached = reach_with_room(alloc, journal, kept, event, &answer);

@@ -2,7 +2,7 @@
 use Rattle.std.proofs.Common.{◌≡◌, ℕ, ◌+◌, Bool, List, Option, map, refl, sym, ◌∙◌, ap, subst}
 use Rattle.kept_tables.specs.declared.spot.Spot.{Spot}
 use Rattle.centre_past.specs.Flights.{flights_after, up_before, flight_kept}
-use Rattle.centre_lines.specs.Following.{AreSteps, Bears, Finishes, Happens, LeavesDown, flight_before, happens_after, held_in, held_of, step_of}
+use Rattle.centre_lines.specs.Following.{Finishes, Made, flight_before}
 use Rattle.centre_events.specs.Kept.{AreFlightsOf}
 use Rattle.centre_events.specs.Past.{Past, After, position}
 use Rattle.centre_events.specs.Warnings.{book_of}
@@ -13,13 +13,11 @@ use Rattle.centre_events.specs.declared.event.Event.{Event}
 use Rattle.centre_events.specs.declared.event.Event.TheVariants as event
 use Rattle.centre_events.specs.declared.flight.Flight.{Flight}
 use Rattle.centre_lines.specs.declared.held_lines.HeldLines.{HeldLines}
-use Rattle.centre_lines.specs.declared.held_lines.HeldLines.TheVariants as lines
 use Rattle.centre_events.specs.declared.in_flight.InFlight.{InFlight}
 use Rattle.centre_past.specs.declared.kept.Kept.{Kept}
 use Rattle.centre_past.specs.declared.link.Link.{Link}
 use Rattle.centre_lines.proofs.FlightLemmas.{flights_with}
 use Rattle.centre_past.proofs.LinkLemmas.{links_with}
-use Rattle.centre_lines.proofs.StayLemmas.{book_stays}
 
 pub flight_is : (past : Past) (fs : List Flight) (e : Event) → AreFlightsOf past fs → flight_kept fs e ≡ flight_before past e
 flight_is past fs (event.Edit x) flying = refl
@@ -30,26 +28,9 @@ flight_is past fs (event.Send b generation) flying = flying b
 flight_is past fs (event.Ask b generation n after) flying = flying b
 flight_is past fs (event.Report b generation message) flying = flying b
 
--- the steps are those of what happens
-pub steps_of : (s : Kept) (e : Event) (a : Answer) (place : ℕ) (up : Bool) (spots : List Spot) (held : HeldLines) (f : Option InFlight) (fs : List Flight) → Finishes s e a place up spots held → fs ≡ s.flights.items → f ≡ flight_kept fs e → AreSteps (record { event = e; answer = a; up = up; flight = f }) s.book held
-steps_of s e a place up spots held f fs x these is = step held x.reached.steps
-  where
-    flight : f ≡ flight_before x.past e
-    flight = is ∙ ap (λ gs. flight_kept gs e) these ∙ flight_is x.past s.flights.items e x.flying
-
-    happens : happens_after x.past e a ≡ record { event = e; answer = a; up = up; flight = f }
-    happens = λ i. record { event = e; answer = a; up = sym x.is_up i; flight = sym flight i }
-
-    step : (held : HeldLines) → AreSteps (happens_after x.past e a) (book_of x.past) held → AreSteps (record { event = e; answer = a; up = up; flight = f }) s.book held
-    step (lines.Whole v) g = tt
-    step (lines.Steps v) g = (
-      g.0,
-      subst (λ (y : Happens). v.items ≡ map (step_of y s.book) (map held_of v.items)) happens (subst (λ b. v.items ≡ map (step_of (happens_after x.past e a) b) (map held_of v.items)) (sym (x.booked ∙ book_stays x.desk e a x.past g.0)) g.1),
-    )
-
 -- what is known before the lines are changed
-abbrev pub bears_of : (s : Kept) (e : Event) (a : Answer) (place : ℕ) (up : Bool) (spots same : List Spot) (held : HeldLines) (f : Option InFlight) (fs : List Flight) → Finishes s e a place up spots held → same ≡ spots → fs ≡ s.flights.items → f ≡ flight_kept fs e → Bears s.register s.areas s.book s.tables (record { event = e; answer = a; up = up; flight = f }) same (held_in held)
-bears_of s e a place up spots same held f fs x are these is = record {
+abbrev pub made_of : (s : Kept) (e : Event) (a : Answer) (place : ℕ) (up : Bool) (spots : List Spot) (held : HeldLines) (f : Option InFlight) (fs : List Flight) → Finishes s e a place up spots held → fs ≡ s.flights.items → f ≡ flight_kept fs e → Made s.register s.areas s.book s.tables (record { event = e; answer = a; up = up; flight = f }) spots held
+made_of s e a place up spots held f fs x these is = record {
   settings = x.settings;
   past = x.past;
   desk = x.desk;
@@ -62,11 +43,7 @@ bears_of s e a place up spots same held f fs x are these is = record {
   flight = is ∙ ap (λ gs. flight_kept gs e) these ∙ flight_is x.past s.flights.items e x.flying;
   downs = x.downs;
   tables = x.tables;
-  away = subst (LeavesDown x.past e a) (sym are) (x.reached.away x.settings x.legal);
-  keys = x.reached.keys;
-  lines = x.reached.lines;
-  once = x.reached.once;
-  rest = x.reached.rest x.settings x.desk x.legal x.accepted;
+  said = x.reached;
 }
 
 pub links_then : (past : Past) (e : Entry) (place : ℕ) (ls now : List Link) → AreLinksOf past ls → place ≡ position past + 1 → now ≡ links_after e.event place ls → AreLinksOf (After e past) now

@@ -30,13 +30,13 @@ use Rattle.centre_events.specs.Verdict.{verdict}
 use Rattle.centre_events.specs.declared.answer.Answer.{Answer}
 use Rattle.centre_events.specs.declared.event.Event.TheVariants as event
 use Rattle.coverage_plan.specs.declared.edit.Edit.TheVariants as edit
-use Rattle.centre_lines.specs.Following.{AreSteps, happens_after, held_in, held_line, held_past, held_unless, keys_of, passed_over, WasReached}
+use Rattle.centre_lines.specs.Following.{held_line, held_past, held_unless, keys_of, passed_over, WasHeld}
 use Rattle.centre_past.specs.IsKept.{IsKept}
 use Rattle.centre_past.specs.Legal.{Legal}
 use Rattle.centre_past.specs.Reach.{edit_reach, known_at, size, spot}
 use Rattle.centre_past.specs.Reaching.{TellsLines}
 use Rattle.centre_lines.specs.declared.held.Held.{Held}
-use Rattle.centre_lines.specs.declared.held_lines.HeldLines.{HeldLines}
+use Rattle.centre_lines.specs.declared.held.Held.{Held}
 use Rattle.centre_past.specs.declared.kept.Kept.{Kept}
 use Rattle.centre_past.proofs.AnyLemmas.{and_none}
 use Rattle.centre_lines.proofs.HoldLemmas.{failing, held_as, passed, told_kept, unless}
@@ -96,12 +96,11 @@ before_apart : (j k : LineKey) → key_before j k ≡ true → key_eq j k ≡ fa
 before_apart j k h = grind (arith, nat_tests)
 
 -- these lines were read before it
-pub forgotten_was_reached : (past : Past) (s : Kept) (n : ℕ) (a : Answer) (keys : List LineKey) (held : HeldLines) → IsKept past s → ((b : ℕ) (c : Cell) (v : ℕ) → list_any (λ k. is_key k b c v) keys ≡ (nat_eq n v && not (is_blank (line_at s.tables.lines b c v)))) → is_ascending key_before keys ≡ true → length keys ≤ size (edit_reach past (edit.Forget n)) → AreSteps (happens_after past (event.Edit (edit.Forget n)) a) (book_of past) held → held_in held ≡ flat_map (held_unless (edit.Forget n) s.register s.areas s.book s.tables) keys → WasReached past (event.Edit (edit.Forget n)) a [] held
-forgotten_was_reached past s n a keys held kept which order few steps are = record {
+pub forgotten_was_reached : (past : Past) (s : Kept) (n : ℕ) (a : Answer) (keys : List LineKey) (held : List Held) → IsKept past s → ((b : ℕ) (c : Cell) (v : ℕ) → list_any (λ k. is_key k b c v) keys ≡ (nat_eq n v && not (is_blank (line_at s.tables.lines b c v)))) → is_ascending key_before keys ≡ true → length keys ≤ size (edit_reach past (edit.Forget n)) → held ≡ flat_map (held_unless (edit.Forget n) s.register s.areas s.book s.tables) keys → WasHeld past (event.Edit (edit.Forget n)) a [] held
+forgotten_was_reached past s n a keys held kept which order few are = record {
   away = λ settings legal kind b c out. refl;
   keys = failing passes keys;
   lines = are ∙ failing_keys passes (held_line s.register s.areas s.book s.tables) (held_past past) (held_as past s kept) keys;
-  steps = steps;
   once = once_filter key_eq (λ k. not (passes k)) keys (ascending_once key_eq key_before before_apart keys order);
   few = omega (arith, few, length-filter_both (λ k. not (passes k)) passes (λ k. sym (not-not (passes k))) keys);
   rest = λ settings desk legal accepted k out. step settings desk legal accepted k out (list_any (key_eq k) keys) refl;

@@ -12,15 +12,14 @@ use Rattle.kept_tables.specs.Tables.{Tables}
 use Rattle.kept_tables.specs.View.{key_at, key_eq}
 use Rattle.kept_tables.specs.declared.line_facts.LineFacts.{LineFacts}
 use Rattle.kept_tables.specs.declared.spot.Spot.{Spot}
-use Rattle.kept_tables.specs.declared.step.Step.{Step}
 use Rattle.mirror.specs.Table.{line_at, down_at}
 use Rattle.mirror.specs.declared.line_key.LineKey.{LineKey}
 use Rattle.warning_book.specs.Book.{warning_of}
 use Rattle.warning_book.specs.declared.warning.Warning.{Warning}
 use Rattle.centre_events.specs.Facts.{IsLineOf}
 use Rattle.centre_past.specs.Facts.{facts_of, facts}
-use Rattle.centre_past.specs.Flights.{up_before, flight_kept}
-use Rattle.centre_lines.specs.Following.{AreSteps, Happens, flight_before, facts_in, happens_after, held_in, held_line, held_lines, held_of, changing_lines, passed_over, stays, step_of, held_past, keys_of, WasReached}
+use Rattle.centre_past.specs.Flights.{flight_kept}
+use Rattle.centre_lines.specs.Following.{facts_in, held_line, held_lines, held_past, keys_of, passed_over, WasHeld}
 use Rattle.centre_past.specs.Idle.{AsBefore, OnlyReads}
 use Rattle.centre_past.specs.IsKept.{IsKept}
 use Rattle.centre_events.specs.Kept.{AreFlightsOf, is_edit}
@@ -36,7 +35,6 @@ use Rattle.centre_events.specs.declared.event.Event.{Event}
 use Rattle.centre_events.specs.declared.event.Event.TheVariants as event
 use Rattle.centre_events.specs.declared.flight.Flight.{Flight}
 use Rattle.centre_lines.specs.declared.held.Held.{Held}
-use Rattle.centre_lines.specs.declared.held_lines.HeldLines.{HeldLines}
 use Rattle.centre_events.specs.declared.in_flight.InFlight.{InFlight}
 use Rattle.centre_past.specs.declared.kept.Kept.{Kept}
 use Rattle.coverage_plan.specs.declared.edit.Edit.{Edit}
@@ -44,7 +42,6 @@ use Rattle.centre_lines.proofs.DownLemmas.{down_outside}
 use Rattle.centre_past.proofs.FactsLemmas.{facts_same}
 use Rattle.centre_lines.proofs.OutsideLemmas.{outside}
 use Rattle.centre_lines.proofs.PassedLemmas.{passed_same}
-use Rattle.centre_lines.proofs.StayLemmas.{stays_same}
 use Rattle.centre_lines.proofs.TellLemmas.{bears_of, keys_counted, keys_once}
 
 -- what is read of a line is what the past says
@@ -57,10 +54,6 @@ facts_kept past s kept k =
     is : (o : Option Warning) → line_at s.tables.lines k.bsc k.cell k.warning ≡ (facts_of past k.bsc k.cell o).line → IsLineOf past k.bsc k.cell (line_at s.tables.lines k.bsc k.cell k.warning) o
     is None h = tt
     is (Some w) h = h
-
-map_map : {A B C : Type 0} (f : A → B) (g : B → C) (xs : List A) → map g (map f xs) ≡ map (λ x. g (f x)) xs
-map_map f g [] = refl
-map_map f g (x ∷ xs) = ap (λ ys. g (f x) ∷ ys) (map_map f g xs)
 
 map_append : {A B : Type 0} (f : A → B) (xs ys : List A) → map f (xs ++ ys) ≡ map f xs ++ map f ys
 map_append f [] ys = refl
@@ -105,12 +98,11 @@ passed passes k ks out among = step (passes k) refl
         sym out ∙ there
 
 -- such lines were read, if each that passes has the same part after the event
-was_held : (past : Past) (e : Event) (a : Answer) (spots : List Spot) (numbers : List ℕ) (passes : LineKey → Bool) (held : HeldLines) → IsReach (record { spots = spots; warnings = numbers }) (reach_of past e a) → AreSteps (happens_after past e a) (book_of past) held → held_in held ≡ map (held_past past) (failing passes (keys_of spots numbers)) → ((settings : Settings) (desk : ℕ) → Legal settings past → verdict settings past e ≡ Ok a → (k : LineKey) → passes k ≡ true → SamePart (facts past k) (facts (After (record { desk = desk; event = e; answer = a }) past) k)) → WasReached past e a spots held
-was_held past e a spots numbers passes held reach steps are same = record {
+was_held : (past : Past) (e : Event) (a : Answer) (spots : List Spot) (numbers : List ℕ) (passes : LineKey → Bool) (held : List Held) → IsReach (record { spots = spots; warnings = numbers }) (reach_of past e a) → held ≡ map (held_past past) (failing passes (keys_of spots numbers)) → ((settings : Settings) (desk : ℕ) → Legal settings past → verdict settings past e ≡ Ok a → (k : LineKey) → passes k ≡ true → SamePart (facts past k) (facts (After (record { desk = desk; event = e; answer = a }) past) k)) → WasHeld past e a spots held
+was_held past e a spots numbers passes held reach are same = record {
   away = λ settings legal kind b c out. down_outside settings past legal e a kind b c (sym (reach.spots (spot b c)) ∙ out);
   keys = failing passes (keys_of spots numbers);
   lines = are;
-  steps = steps;
   once = once_filter key_eq (λ k. not (passes k)) (keys_of spots numbers) (keys_once spots numbers reach.spots_once reach.warnings_once);
   few = few;
   rest = λ settings desk legal accepted k out. step settings desk legal accepted k out (list_any (key_eq k) (keys_of spots numbers)) refl;
@@ -129,42 +121,14 @@ pub told_kept : (settings : Settings) (past : Past) (s : Kept) → Legal setting
 told_kept settings past s legal kept = record { legal = legal; registered = kept.registered; booked = kept.booked; downs = kept.downs; lines = kept.tables.lines }
 
 -- before an edit that has been accepted
-pub edit_was_reached : (past : Past) (s : Kept) (e : Edit) (a : Answer) (spots : List Spot) (numbers : List ℕ) (held : HeldLines) → IsKept past s → IsReach (record { spots = spots; warnings = numbers }) (reach_of past (event.Edit e) a) → AreSteps (happens_after past (event.Edit e) a) (book_of past) held → held_in held ≡ held_lines e s.register s.areas s.book s.tables spots numbers → WasReached past (event.Edit e) a spots held
-edit_was_reached past s e a spots numbers held kept reach steps are =
-    was_held past (event.Edit e) a spots numbers passed held reach steps
+pub edit_was_reached : (past : Past) (s : Kept) (e : Edit) (a : Answer) (spots : List Spot) (numbers : List ℕ) (held : List Held) → IsKept past s → IsReach (record { spots = spots; warnings = numbers }) (reach_of past (event.Edit e) a) → held ≡ held_lines e s.register s.areas s.book s.tables spots numbers → WasHeld past (event.Edit e) a spots held
+edit_was_reached past s e a spots numbers held kept reach are =
+    was_held past (event.Edit e) a spots numbers passed held reach
     (are ∙ failing_lines passed (held_line s.register s.areas s.book s.tables) (held_past past) (held_as past s kept) spots numbers)
     (λ settings desk legal accepted k h. passed_same settings past legal desk e a accepted s kept k h)
   where
     passed : LineKey → Bool
     passed k = passed_over e s.areas (warning_of s.book k.warning) k.cell (line_at s.tables.lines k.bsc k.cell k.warning)
-
--- the steps that were found are those of the lines as the past says
-steps_found : (past : Past) (s : Kept) (h : Happens) (spots : List Spot) (numbers : List ℕ) (steps : List Step) → IsKept past s → steps ≡ changing_lines h s.register s.areas s.book s.tables spots numbers → steps ≡ map (λ k. step_of h s.book (held_past past k)) (failing (stays h s.areas s.book s.tables) (keys_of spots numbers))
-steps_found past s h spots numbers steps kept are =
-    are ∙ failing_lines (stays h s.areas s.book s.tables) (λ k. step_of h s.book (held_line s.register s.areas s.book s.tables k)) (λ k. step_of h s.book (held_past past k)) (λ k. ap (step_of h s.book) (held_as past s kept k)) spots numbers
-
--- before another event
-pub other_was_reached : (past : Past) (s : Kept) (h : Happens) (spots : List Spot) (numbers : List ℕ) (steps : List Step) (held : HeldLines) → IsKept past s → is_edit h.event ≡ false → h.up ≡ up_before past h.event → h.flight ≡ flight_before past h.event → IsReach (record { spots = spots; warnings = numbers }) (reach_of past h.event h.answer) → steps ≡ changing_lines h s.register s.areas s.book s.tables spots numbers → held_in held ≡ map held_of steps → (steps ≡ map (step_of h s.book) (map held_of steps) → AreSteps h s.book held) → WasReached past h.event h.answer spots held
-other_was_reached past s h spots numbers steps held kept other up flight reach are lines told =
-    was_held past h.event h.answer spots numbers (stays h s.areas s.book s.tables) held reach
-    (subst (λ (x : Happens). AreSteps x (book_of past) held) happens (subst (λ b. AreSteps h b held) kept.booked (told (found ∙ ap (map (step_of h s.book)) (sym stood)))))
-    (lines ∙ stood)
-    (λ settings desk legal accepted k g. stays_same settings past legal desk h accepted other s kept up flight k g)
-  where
-    keys : List LineKey
-    keys = failing (stays h s.areas s.book s.tables) (keys_of spots numbers)
-
-    were : steps ≡ map (λ k. step_of h s.book (held_past past k)) keys
-    were = steps_found past s h spots numbers steps kept are
-
-    stood : map held_of steps ≡ map (held_past past) keys
-    stood = ap (map held_of) were ∙ map_map (λ k. step_of h s.book (held_past past k)) held_of keys
-
-    found : steps ≡ map (step_of h s.book) (map (held_past past) keys)
-    found = were ∙ sym (map_map (held_past past) (step_of h s.book) keys)
-
-    happens : h ≡ happens_after past h.event h.answer
-    happens = λ i. record { event = h.event; answer = h.answer; up = up i; flight = flight i }
 
 pub reads_as : (t u : Tables) → AsBefore t u → OnlyReads t u
 reads_as t u h = record { lines = h.lines; downs = h.downs; same = h.same; meter = h.meter }

@@ -29,7 +29,7 @@ use Rattle.coverage_plan.specs.declared.edit.Edit.{Edit}
 use Rattle.coverage_plan.specs.declared.edit.Edit.TheVariants as edit
 use Rattle.centre_events.specs.Down.{down_mark}
 use Rattle.centre_past.specs.Facts.{facts_of}
-use Rattle.centre_lines.specs.Following.{AreInBook, Happens, LinesAreOf, bearing, changing_at, held_line, is_idle, keeps_down, leaves_blank, leaves_cover, line_now, may_change, stays, step_of}
+use Rattle.centre_lines.specs.Following.{AreInBook, Happens, LinesAreOf, bearing, is_idle, keeps_down, leaves_blank, leaves_cover, line_now, may_change, stays}
 use Rattle.centre_past.specs.Idle.{AsBefore}
 use Rattle.centre_past.specs.IsKept.{IsKept}
 use Rattle.centre_past.specs.Legal.{Legal}
@@ -47,40 +47,6 @@ use Rattle.centre_lines.proofs.ReachedWarningLemmas.{all_listed}
 use Rattle.centre_past.proofs.RegisterLemmas.{nat_apart}
 use Rattle.centre_past.proofs.WarningLemmas.{legal_sound}
 use Rattle.warning_book.specs.declared.kind.Kind.{Kind}
-
--- Of two lists of numbers in order, those that fail a test are the same where each of them is in both.
-
-not_before : (x : ℕ) → ltb x x ≡ false
-not_before x = grind (arith, nat_tests)
-
--- the line, if it does not pass
-abbrev unless : {A : Type 0} → (ℕ → Bool) → (ℕ → A) → ℕ → List A
-unless passes line n = if passes n then [] else line n ∷ []
-
-failing : {A : Type 0} (passes : ℕ → Bool) (line : ℕ → A) (ns : List ℕ) → flat_map (unless passes line) ns ≡ map line (filter (λ n. not (passes n)) ns)
-failing passes line [] = refl
-failing passes line (n ∷ ns) = step (passes n) (failing passes line ns)
-  where
-    step : (t : Bool) → flat_map (unless passes line) ns ≡ map line (filter (λ m. not (passes m)) ns) → (if t then [] else line n ∷ []) ++ flat_map (unless passes line) ns ≡ map line (cond (not t) (n ∷ filter (λ m. not (passes m)) ns) (filter (λ m. not (passes m)) ns))
-    step true rest = rest
-    step false rest = ap (λ ls. line n ∷ ls) rest
-
-pub failing_same : {A : Type 0} (passes : ℕ → Bool) (line : ℕ → A) (ns ms : List ℕ) → is_ascending ltb ns ≡ true → is_ascending ltb ms ≡ true → ((n : ℕ) → passes n ≡ false → list_any (nat_eq n) ns ≡ list_any (nat_eq n) ms) → flat_map (unless passes line) ns ≡ flat_map (unless passes line) ms
-failing_same passes line ns ms first second same =
-    failing passes line ns ∙ ap (map line) (same_ascending nat_eq ltb unsigned_Decides not_before ltb_follows (filter fails ns) (filter fails ms) (ascending_filter ltb fails ns first) (ascending_filter ltb fails ms second) each) ∙ sym (failing passes line ms)
-  where
-    fails : ℕ → Bool
-    fails n = not (passes n)
-
-    among : (n : ℕ) (xs : List ℕ) → list_any (nat_eq n) (filter fails xs) ≡ (fails n && list_any (nat_eq n) xs)
-    among n xs = any_turned nat_eq unsigned_Decides n (filter fails xs) ∙ any_filter_same nat_eq unsigned_Decides fails n xs ∙ ap (λ t. fails n && t) (sym (any_turned nat_eq unsigned_Decides n xs))
-
-    step : (n : ℕ) (t : Bool) → passes n ≡ t → (not t && list_any (nat_eq n) ns) ≡ (not t && list_any (nat_eq n) ms)
-    step n true h = refl
-    step n false h = same n h
-
-    each : (n : ℕ) → list_any (nat_eq n) (filter fails ns) ≡ list_any (nat_eq n) (filter fails ms)
-    each n = among n ns ∙ step n (passes n) refl ∙ sym (among n ms)
 
 -- The numbers of the warnings of a book ascend, and have each that is found.
 
@@ -105,7 +71,7 @@ number_there n (v ∷ ws) w h = step (nat_eq v.number n) (nat_eq n v.number) (tu
 itself : (line : Line) → line_eq line line ≡ true
 itself line = (line_decides line line).1 refl
 
-changes_some : (h : Happens) (l : List Area) (st : book.State) (t : Tables) (k : LineKey) → leaves_blank h.event h.answer ≡ true → ((kind : Kind) → keeps_down (down_mark kind k.bsc k.cell h.event h.answer) (down_at t.lines kind k.bsc k.cell) ≡ true) → stays h l st t k ≡ false → (may_change h.event (line_at t.lines k.bsc k.cell k.warning) ≡ true) × (list_any (nat_eq k.warning) (numbers st.warnings) ≡ true)
+pub changes_some : (h : Happens) (l : List Area) (st : book.State) (t : Tables) (k : LineKey) → leaves_blank h.event h.answer ≡ true → ((kind : Kind) → keeps_down (down_mark kind k.bsc k.cell h.event h.answer) (down_at t.lines kind k.bsc k.cell) ≡ true) → stays h l st t k ≡ false → (may_change h.event (line_at t.lines k.bsc k.cell k.warning) ≡ true) × (list_any (nat_eq k.warning) (numbers st.warnings) ≡ true)
 changes_some h l st t k blanks down changes = (kept (may_change h.event line) refl, booked (warning_of st k.warning) refl)
   where
     line : Line
@@ -122,12 +88,6 @@ changes_some h l st t k blanks down changes = (kept (may_change h.event line) re
     booked : (o : Option Warning) → warning_of st k.warning ≡ o → list_any (nat_eq k.warning) (numbers st.warnings) ≡ true
     booked None e = let no : false ≡ true = stay (ap (λ x. line_eq (line_now h st.warnings k.bsc k.cell x line) line) e ∙ itself line) in cc
     booked (Some w) e = number_there k.warning st.warnings w e
-
--- so those of the lines that may change are those of all
-pub known_same : (h : Happens) (r : register.State) (l : List Area) (st : book.State) (t : Tables) (p : Spot) (ws : List ℕ) → leaves_blank h.event h.answer ≡ true → ((kind : Kind) → keeps_down (down_mark kind p.bsc p.cell h.event h.answer) (down_at t.lines kind p.bsc p.cell) ≡ true) → is_ascending number_lt st.warnings ≡ true → is_ascending ltb ws ≡ true → ((n : ℕ) → list_any (nat_eq n) ws ≡ may_change h.event (line_at t.lines p.bsc p.cell n)) → changing_at h r l st t ws p ≡ changing_at h r l st t (numbers st.warnings) p
-known_same h r l st t p ws blanks down ordered ascend which =
-    failing_same (λ n. stays h l st t (key_at p n)) (λ n. step_of h st (held_line r l st t (key_at p n))) ws (numbers st.warnings) ascend (numbers_ascend st.warnings ordered)
-    (λ n changes. let both = changes_some h l st t (key_at p n) blanks down changes in which n ∙ both.0 ∙ sym both.1)
 
 -- What is kept of a legal past: each line that isn't blank is of a warning in the book.
 pub in_book : (past : Past) (s : Kept) → IsKept past s → AreInBook s.book s.tables
@@ -183,28 +143,19 @@ all_reached past (event.LinkDown b g) a h = cc
 all_reached past (event.Send b g) a h = cc
 all_reached past (event.Ask b g n after) a h = cc
 
-pub bears_on_all : (settings : Settings) (past : Past) → Legal settings past → (s : Kept) → IsKept past s → (e : Event) (a : Answer) (spots : List Spot) (ns : List ℕ) → IsReach (record { spots = spots; warnings = ns }) (reach_of past e a) → IsReach (record { spots = spots; warnings = bearing e a s.book ns }) (reach_of past e a)
-bears_on_all settings past legal s kept e a spots ns reach = step (leaves_blank e a) refl
+pub bears_on_all : (settings : Settings) (past : Past) → Legal settings past → (e : Event) (a : Answer) (spots : List Spot) (ns : List ℕ) → IsReach (record { spots = spots; warnings = ns }) (reach_of past e a) → IsReach (record { spots = spots; warnings = bearing e a (book_of past) ns }) (reach_of past e a)
+bears_on_all settings past legal e a spots ns reach = step (leaves_blank e a) refl
   where
-    all : leaves_blank e a ≡ true → numbers s.book.warnings ≡ (reach_of past e a).warnings
-    all h = ap (λ (x : book.State). numbers x.warnings) kept.booked ∙ sym (all_reached past e a h)
+    all : leaves_blank e a ≡ true → numbers (warnings_of past) ≡ (reach_of past e a).warnings
+    all h = sym (all_reached past e a h)
 
-    ordered : is_ascending number_lt s.book.warnings ≡ true
-    ordered = ap (λ (x : book.State). is_ascending number_lt x.warnings) kept.booked ∙ (legal_sound settings past legal).ordered
-
-    step : (t : Bool) → leaves_blank e a ≡ t → IsReach (record { spots = spots; warnings = if t then numbers s.book.warnings else ns }) (reach_of past e a)
+    step : (t : Bool) → leaves_blank e a ≡ t → IsReach (record { spots = spots; warnings = if t then numbers (warnings_of past) else ns }) (reach_of past e a)
     step true h = record {
       spots = reach.spots;
       warnings = λ n. ap (list_any (nat_eq n)) (all h);
       spots_once = reach.spots_once;
-      warnings_once = ascending_once nat_eq ltb nat_apart (numbers s.book.warnings) (numbers_ascend s.book.warnings ordered);
+      warnings_once = ascending_once nat_eq ltb nat_apart (numbers (warnings_of past)) (numbers_ascend (warnings_of past) (legal_sound settings past legal).ordered);
       spots_counted = reach.spots_counted;
       warnings_counted = ap length (all h);
     }
     step false h = reach
-
--- and so those of the lines that a table keeps which has the same
-pub known_before : (h : Happens) (r : register.State) (l : List Area) (st : book.State) (t u : Tables) (p : Spot) (ws : List ℕ) → AsBefore t u → leaves_blank h.event h.answer ≡ true → ((kind : Kind) → keeps_down (down_mark kind p.bsc p.cell h.event h.answer) (down_at u.lines kind p.bsc p.cell) ≡ true) → is_ascending number_lt st.warnings ≡ true → is_ascending ltb ws ≡ true → ((n : ℕ) → list_any (nat_eq n) ws ≡ may_change h.event (line_at u.lines p.bsc p.cell n)) → changing_at h r l st t ws p ≡ changing_at h r l st t (numbers st.warnings) p
-known_before h r l st t u p ws same blanks down ordered ascend which =
-    known_same h r l st t p ws blanks (λ kind. ap (λ downs. keeps_down (down_mark kind p.bsc p.cell h.event h.answer) (list_any (is_that_place p.bsc p.cell) (downs_of kind downs))) (sym same.downs) ∙ down kind) ordered ascend
-    (λ n. which n ∙ ap (λ ls. may_change h.event (unwrap_or (lookup (is_slot p.bsc p.cell n) ls) blank_line)) same.lines)

@@ -28,7 +28,7 @@ use Rattle.warning_book.specs.Sound.{has_versions}
 use Rattle.warning_book.specs.declared.warning.Warning.{Warning}
 use Rattle.centre_events.specs.Down.{down_mark, is_down}
 use Rattle.centre_past.specs.Facts.{facts_of, facts}
-use Rattle.centre_lines.specs.Following.{SameLines, Happens, Bears, change_of, held_past, entry_of, down_after}
+use Rattle.centre_lines.specs.Following.{SameLines, Happens, Bears, LeavesDown, MadeEdit, change_of, held_past, entry_of, down_after}
 use Rattle.centre_past.specs.Legal.{Legal}
 use Rattle.centre_events.specs.Past.{Past, After}
 use Rattle.centre_past.specs.Reach.{spot}
@@ -56,24 +56,31 @@ marked_as t u e a ps qs same marked kind b c = marked kind b c ∙ ap (λ spots.
 
 -- which cells are down
 
-pub downs_then : {r : register.State} {l : List Area} {st : book.State} {t : Tables} {h : Happens} {spots : List Spot} {held : List Held} (x : Bears r l st t h spots held) (kind : Kind) (b : ℕ) (c : Cell) → down_after h.event h.answer spots kind b c (down_at t.lines kind b c) ≡ is_down (After (entry_of x.desk h) x.past) kind b c
-downs_then {h = h} {spots = spots} x kind b c = ap (down_after h.event h.answer spots kind b c) (x.downs kind b c) ∙ step (list_any (spot_eq (spot b c)) spots) refl
+pub marked_then : (past : Past) (desk : ℕ) (h : Happens) (spots : List Spot) (t : Tables) → ((kind : Kind) (b : ℕ) (c : Cell) → down_at t.lines kind b c ≡ is_down past kind b c) → LeavesDown past h.event h.answer spots → (kind : Kind) (b : ℕ) (c : Cell) → down_after h.event h.answer spots kind b c (down_at t.lines kind b c) ≡ is_down (After (entry_of desk h) past) kind b c
+marked_then past desk h spots t downs away kind b c = ap (down_after h.event h.answer spots kind b c) (downs kind b c) ∙ step (list_any (spot_eq (spot b c)) spots) refl
   where
-    step : (u : Bool) → list_any (spot_eq (spot b c)) spots ≡ u → (if u then unwrap_or (down_mark kind b c h.event h.answer) (is_down x.past kind b c) else is_down x.past kind b c) ≡ is_down (After (entry_of x.desk h) x.past) kind b c
+    step : (u : Bool) → list_any (spot_eq (spot b c)) spots ≡ u → (if u then unwrap_or (down_mark kind b c h.event h.answer) (is_down past kind b c) else is_down past kind b c) ≡ is_down (After (entry_of desk h) past) kind b c
     step true e = refl
-    step false e = x.away kind b c e
+    step false e = away kind b c e
+
+pub downs_then : {r : register.State} {l : List Area} {st : book.State} {t : Tables} {h : Happens} {spots : List Spot} {held : List Held} (x : Bears r l st t h spots held) (kind : Kind) (b : ℕ) (c : Cell) → down_after h.event h.answer spots kind b c (down_at t.lines kind b c) ≡ is_down (After (entry_of x.desk h) x.past) kind b c
+downs_then {t = t} {h = h} {spots = spots} x kind b c = marked_then x.past x.desk h spots t x.downs x.away kind b c
 
 -- a cell is registered at one BSC at most
-pub facts_placed : (past : Past) → Placed (facts past)
-facts_placed past = record { place = place past; is = λ k h. step k (warning_of (book_of past) k.warning) h }
+
+pub here_at : (past : Past) (k : LineKey) → (facts past k).here ≡ true → place past k.cell ≡ Some k.bsc
+here_at past k h = step (warning_of (book_of past) k.warning) h
   where
     at : (o : Option ℕ) (b : ℕ) → is_place o b ≡ true → o ≡ Some b
     at None b h = cc
     at (Some d) b h = ap (λ (n : ℕ). Some n) ((unsigned_Decides d b).0 h)
 
-    step : (k : LineKey) (o : Option Warning) → (facts_of past k.bsc k.cell o).here ≡ true → place past k.cell ≡ Some k.bsc
-    step k None h = at (place past k.cell) k.bsc h
-    step k (Some w) h = at (place past k.cell) k.bsc h
+    step : (o : Option Warning) → (facts_of past k.bsc k.cell o).here ≡ true → place past k.cell ≡ Some k.bsc
+    step None h = at (place past k.cell) k.bsc h
+    step (Some w) h = at (place past k.cell) k.bsc h
+
+pub facts_placed : (past : Past) → Placed (facts past)
+facts_placed past = record { place = place past; is = here_at past }
 
 -- a warning of a book whose warnings have 16 versions at most has so many
 found_few : (n : ℕ) (ws : List Warning) → list_all has_versions ws ≡ true → (w : Warning) → find (has_number n) ws ≡ Some w → length w.versions ≤ 16
@@ -161,3 +168,25 @@ joined {r = r} {l = l} {st = st} {h = h} {spots = spots} {held = held} x u v dow
 pub settled : {r : register.State} {l : List Area} {st : book.State} {t : Tables} {h : Happens} {spots : List Spot} {held : List Held} (x : Bears r l st t h spots held) (u v : Tables) (xs : List Change) → xs ≡ map (change_of h r l st u) held → SameLines t u → ((kind : Kind) (b : ℕ) (c : Cell) → down_at u.lines kind b c ≡ down_after h.event h.answer spots kind b c (down_at t.lines kind b c)) → ((y : Begins u xs) → Consistent v (mixed y.from y.to xs)) → Consistent v (facts (After (entry_of x.desk h) x.past))
 settled {r = r} {l = l} {st = st} {h = h} {spots = spots} {held = held} x u v xs are same downs done =
     joined x u v downs (subst (λ ys. (y : Begins u ys) → Consistent v (mixed y.from y.to ys)) are done (begins x u same downs))
+
+-- an edit that was made bears on the lines that were held
+abbrev pub bears_made : {r : register.State} {l : List Area} {st : book.State} {t : Tables} {h : Happens} {spots : List Spot} {held : List Held} (x : MadeEdit r l st t h spots held) → Bears r l st t h spots held
+bears_made {h = h} {spots = spots} x = record {
+  settings = x.settings;
+  past = x.past;
+  desk = x.desk;
+  legal = x.legal;
+  accepted = x.accepted;
+  registered = x.registered;
+  selected = x.selected;
+  booked = x.booked;
+  up = x.up;
+  flight = x.flight;
+  downs = x.downs;
+  tables = x.tables;
+  away = x.said.away x.settings x.legal;
+  keys = x.said.keys;
+  lines = x.said.lines;
+  once = x.said.once;
+  rest = x.said.rest x.settings x.desk x.legal x.accepted;
+}

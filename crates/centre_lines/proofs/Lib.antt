@@ -16,7 +16,7 @@ pub mod DownLemmas
 pub mod JoinLemmas
 pub mod StayLemmas
 pub mod BlankLineLemmas
-pub mod ChangingLemmas
+pub mod WalkLemmas
 mod PassedLemmas
 pub mod HoldLemmas
 pub mod ForgottenLemmas

@@ -25,7 +25,7 @@ use Rattle.warning_book.specs.declared.warning.Warning.{Warning}
 use Rattle.coverage_plan.specs.declared.edit.Edit.{Edit}
 use Rattle.coverage_plan.specs.declared.edit.Edit.TheVariants as edit
 use Rattle.centre_past.specs.Idle.{AsBefore}
-use Rattle.centre_lines.specs.Following.{Happens, changing_at, changing_line, held_at, held_line, held_unless, is_idle, is_near, leaves_blank, leaves_cover, line_now, passed_over, stays, step_of}
+use Rattle.centre_lines.specs.Following.{Happens, held_at, held_line, held_unless, is_idle, is_near, leaves_blank, leaves_cover, line_now, passed_over, stays}
 use Rattle.centre_lines.proofs.BlankLineLemmas.{blank_left}
 
 -- neither of two is so
@@ -105,7 +105,7 @@ near_held e r l st t u p (n ∷ ns) same leaves = step (near_held e r l st t u p
     step rest false h = rest ∙ ap (λ xs. xs ++ held_at e r l st t ns p) (sym (far_passed e r l st t u p n same leaves h))
 
 -- an idle line stays where what happens leaves blank lines blank
-far_stays : (h : Happens) (l : List Area) (st : book.State) (t u : Tables) (p : Spot) (n : ℕ) → AsBefore t u → leaves_blank h.event h.answer ≡ true → is_near l st u.lines p.bsc p.cell n ≡ false → stays h l st t (key_at p n) ≡ true
+pub far_stays : (h : Happens) (l : List Area) (st : book.State) (t u : Tables) (p : Spot) (n : ℕ) → AsBefore t u → leaves_blank h.event h.answer ≡ true → is_near l st u.lines p.bsc p.cell n ≡ false → stays h l st t (key_at p n) ≡ true
 far_stays h l st t u p n same blanks far =
     let parts = neither (not (is_blank (line_at u.lines p.bsc p.cell n))) (is_so n (names_one_of (areas_of l p.cell)) st.warnings) far in
     let blank : is_blank line ≡ true = ap (λ ls. is_blank (unwrap_or (lookup (is_slot p.bsc p.cell n) ls) blank_line)) (sym same.lines) ∙ blank_of (is_blank (line_at u.lines p.bsc p.cell n)) parts.0 in
@@ -119,15 +119,3 @@ far_stays h l st t u p n same blanks far =
     both true true z f g = refl
     both true false z f g = g
     both false y z f g = cc
-
--- so the steps are those of the lines of the warnings that are near
-pub near_changing : (h : Happens) (r : register.State) (l : List Area) (st : book.State) (t u : Tables) (p : Spot) (ns : List ℕ) → AsBefore t u → leaves_blank h.event h.answer ≡ true → changing_at h r l st t (filter (is_near l st u.lines p.bsc p.cell) ns) p ≡ changing_at h r l st t ns p
-near_changing h r l st t u p [] same blanks = refl
-near_changing h r l st t u p (n ∷ ns) same blanks = step (near_changing h r l st t u p ns same blanks) (is_near l st u.lines p.bsc p.cell n) refl
-  where
-    none : is_near l st u.lines p.bsc p.cell n ≡ false → changing_line h r l st t (key_at p n) ≡ []
-    none far = ap (λ x. if x then [] else step_of h st (held_line r l st t (key_at p n)) ∷ []) (far_stays h l st t u p n same blanks far)
-
-    step : changing_at h r l st t (filter (is_near l st u.lines p.bsc p.cell) ns) p ≡ changing_at h r l st t ns p → (x : Bool) → is_near l st u.lines p.bsc p.cell n ≡ x → changing_at h r l st t (cond x (n ∷ filter (is_near l st u.lines p.bsc p.cell) ns) (filter (is_near l st u.lines p.bsc p.cell) ns)) p ≡ changing_line h r l st t (key_at p n) ++ changing_at h r l st t ns p
-    step rest true far = ap (λ xs. changing_line h r l st t (key_at p n) ++ xs) rest
-    step rest false far = rest ∙ ap (λ xs. xs ++ changing_at h r l st t ns p) (sym (none far))

@@ -5,9 +5,12 @@ use Rattle.std.specs.List.{list_any}
 use Rattle.std.proofs.lemmas.Bool.{and_parts, not-true}
 use Rattle.areas.specs.Areas as areas
 use Rattle.areas.specs.declared.area.Area.{Area}
+use Rattle.cell_register.specs.Register as register
 use Rattle.cell_register.specs.Register.{is_place}
 use Rattle.common.specs.declared.cell.Cell.{Cell}
+use Rattle.coverage_plan.specs.Plan.{State}
 use Rattle.kept_tables.specs.Same.{SamePart}
+use Rattle.kept_tables.specs.Tables.{Tables}
 use Rattle.kept_tables.specs.declared.line_facts.LineFacts.{LineFacts}
 use Rattle.mirror.specs.Blank.{is_blank, line_eq}
 use Rattle.mirror.specs.BlankLaws.{blank_decides, line_decides}
@@ -24,11 +27,10 @@ use Rattle.centre_events.specs.Down.{down_mark, is_down}
 use Rattle.centre_events.specs.Effects.{state_after}
 use Rattle.centre_events.specs.Facts.{key_state, line_of, IsLineOf}
 use Rattle.centre_past.specs.Facts.{facts_of, facts}
-use Rattle.centre_past.specs.Flights.{up_before}
-use Rattle.centre_lines.specs.Following.{Happens, entry_of, flight_before, is_idle, keeps_down, leaves_cover, line_now, stays}
+use Rattle.centre_lines.specs.Following.{Happens, entry_of, is_idle, keeps_down, leaves_cover, line_now, stays_so}
+use Rattle.centre_lines.specs.Walking.{Walks}
 use Rattle.centre_past.specs.IsKept.{IsKept}
 use Rattle.centre_events.specs.Kept.{IsRegisterOf, AreAreasOf, is_edit}
-use Rattle.centre_past.specs.Legal.{Legal}
 use Rattle.centre_events.specs.Past.{Past, After}
 use Rattle.centre_events.specs.Places.{place}
 use Rattle.centre_events.specs.Settings.{Settings}
@@ -58,13 +60,13 @@ pub book_stays : (desk : ℕ) (e : Event) (a : Answer) (past : Past) → is_edit
 book_stays desk (event.Edit x) a past h = cc
 book_stays desk other a past h = refl
 
-register_stays : (settings : Settings) (past : Past) (desk : ℕ) (e : Event) (a : Answer) → verdict settings past e ≡ Ok a → is_edit e ≡ false → (s : Kept) → IsKept past s → IsRegisterOf (After (record { desk = desk; event = e; answer = a }) past) s.register
-register_stays settings past desk (event.Edit x) a v h s kept = cc
-register_stays settings past desk other a v h s kept = register_with settings.network (record { desk = desk; event = other; answer = a }) past s.register (verdict_answered settings past other a v) kept.registered
+register_stays : (settings : Settings) (past : Past) (desk : ℕ) (e : Event) (a : Answer) → verdict settings past e ≡ Ok a → is_edit e ≡ false → (r : register.State) → IsRegisterOf past r → IsRegisterOf (After (record { desk = desk; event = e; answer = a }) past) r
+register_stays settings past desk (event.Edit x) a v h r is = cc
+register_stays settings past desk other a v h r is = register_with settings.network (record { desk = desk; event = other; answer = a }) past r (verdict_answered settings past other a v) is
 
-areas_stay : (settings : Settings) (past : Past) (desk : ℕ) (e : Event) (a : Answer) → verdict settings past e ≡ Ok a → is_edit e ≡ false → (s : Kept) → IsKept past s → AreAreasOf (After (record { desk = desk; event = e; answer = a }) past) s.areas
-areas_stay settings past desk (event.Edit x) a v h s kept = cc
-areas_stay settings past desk other a v h s kept = areas_with settings.network (record { desk = desk; event = other; answer = a }) past s.areas (verdict_answered settings past other a v) kept.selected
+areas_stay : (settings : Settings) (past : Past) (desk : ℕ) (e : Event) (a : Answer) → verdict settings past e ≡ Ok a → is_edit e ≡ false → (l : List Area) → AreAreasOf past l → AreAreasOf (After (record { desk = desk; event = e; answer = a }) past) l
+areas_stay settings past desk (event.Edit x) a v h l are = cc
+areas_stay settings past desk other a v h l are = areas_with settings.network (record { desk = desk; event = other; answer = a }) past l (verdict_answered settings past other a v) are
 
 -- what brings a cell down, or up, leaves it so
 down_kept : (o : Option Bool) (was : Bool) → keeps_down o was ≡ true → unwrap_or o was ≡ was
@@ -85,108 +87,102 @@ uncovered : (past : Past) (l : List Area) → AreAreasOf past l → (c : Cell) (
 uncovered past l selected c w h =
     sym (any_pointwise (λ a. areas.covers l a c) (λ a. covers past a c) (covers_same past l selected c) w.areas) ∙ not-true (list_any (λ a. areas.covers l a c) w.areas) h
 
--- what the past with the entry says of a line, from what is kept
-facts_new : (settings : Settings) (past : Past) → Legal settings past → (desk : ℕ) (h : Happens) → verdict settings past h.event ≡ Ok h.answer → is_edit h.event ≡ false → (s : Kept) → IsKept past s → h.up ≡ up_before past h.event → h.flight ≡ flight_before past h.event → (k : LineKey) (down : Bool) → down ≡ is_down (After (entry_of desk h) past) (kind_in (warning_of (book_of (After (entry_of desk h) past)) k.warning)) k.bsc k.cell → facts_from s.register s.areas down k.bsc k.cell (line_now h s.book.warnings k.bsc k.cell (warning_of s.book k.warning) (facts past k).line) (warning_of s.book k.warning) ≡ facts (After (entry_of desk h) past) k
-facts_new settings past legal desk h accepted other s kept up flight k down fallen =
-    rw (kept.booked ∙ sym (book_stays desk h.event h.answer past other))
-    (facts_same new s.register s.areas down k.bsc k.cell (line_now h (book_of new).warnings k.bsc k.cell (warning_of (book_of new) k.warning) (facts past k).line) (warning_of (book_of new) k.warning) (register_stays settings past desk h.event h.answer accepted other s kept) (areas_stay settings past desk h.event h.answer accepted other s kept) fallen
-    (line_then settings past legal desk h accepted up flight k (warning_of (book_of new) k.warning) refl))
+-- what the past with the entry says of a line, from the line as it was
+pub facts_new : {p : State} {h : Happens} {t : Tables} {keys : List LineKey} (x : Walks p h t keys) (k : LineKey) (down : Bool) → down ≡ is_down (After (entry_of x.desk h) x.past) (kind_in (warning_of p.book k.warning)) k.bsc k.cell → facts_from p.register p.areas down k.bsc k.cell (line_now h p.book.warnings k.bsc k.cell (warning_of p.book k.warning) (facts x.past k).line) (warning_of p.book k.warning) ≡ facts (After (entry_of x.desk h) x.past) k
+facts_new {p = p} {h = h} x k down fallen =
+    subst (λ (st : book.State). down ≡ is_down new (kind_in (warning_of st k.warning)) k.bsc k.cell → facts_from p.register p.areas down k.bsc k.cell (line_now h st.warnings k.bsc k.cell (warning_of st k.warning) (facts x.past k).line) (warning_of st k.warning) ≡ facts new k)
+    (sym (x.booked ∙ sym (book_stays x.desk h.event h.answer x.past x.other)))
+    (λ is. facts_same new p.register p.areas down k.bsc k.cell (line_now h (book_of new).warnings k.bsc k.cell (warning_of (book_of new) k.warning) (facts x.past k).line) (warning_of (book_of new) k.warning) (register_stays x.settings x.past x.desk h.event h.answer x.accepted x.other p.register x.registered) (areas_stay x.settings x.past x.desk h.event h.answer x.accepted x.other p.areas x.selected) is
+    (line_then x.settings x.past x.legal x.desk h x.accepted x.up x.flight k (warning_of (book_of new) k.warning) refl))
+    fallen
   where
     new : Past
-    new = After (entry_of desk h) past
+    new = After (entry_of x.desk h) x.past
+
+-- what the past says of a line, from the line
+pub facts_old : {p : State} {h : Happens} {t : Tables} {keys : List LineKey} (x : Walks p h t keys) (k : LineKey) (line : Line) (down : Bool) → line ≡ (facts x.past k).line → down ≡ is_down x.past (kind_in (warning_of p.book k.warning)) k.bsc k.cell → facts_from p.register p.areas down k.bsc k.cell line (warning_of p.book k.warning) ≡ facts x.past k
+facts_old {p = p} x k line down at is =
+    subst (λ (st : book.State). down ≡ is_down x.past (kind_in (warning_of st k.warning)) k.bsc k.cell → facts_from p.register p.areas down k.bsc k.cell line (warning_of st k.warning) ≡ facts x.past k) (sym x.booked)
+    (λ same. facts_same x.past p.register p.areas down k.bsc k.cell line (warning_of (book_of x.past) k.warning) x.registered x.selected same (of (warning_of (book_of x.past) k.warning) at))
+    is
+  where
+    of : (o : Option Warning) → line ≡ (facts_of x.past k.bsc k.cell o).line → IsLineOf x.past k.bsc k.cell line o
+    of None e = tt
+    of (Some w) e = e
 
 -- the line as it is kept, from what is read of it
 pub line_kept : (past : Past) (s : Kept) → IsKept past s → (k : LineKey) (w : Warning) → warning_of (book_of past) k.warning ≡ Some w → line_at s.tables.lines k.bsc k.cell k.warning ≡ line_of past k.bsc k.cell w
 line_kept past s kept k w found = kept.tables.lines k ∙ ap (λ o. (facts_of past k.bsc k.cell o).line) found
 
--- what happens leaves the line as it is
-pub stays_same : (settings : Settings) (past : Past) → Legal settings past → (desk : ℕ) (h : Happens) → verdict settings past h.event ≡ Ok h.answer → is_edit h.event ≡ false → (s : Kept) → IsKept past s → h.up ≡ up_before past h.event → h.flight ≡ flight_before past h.event → (k : LineKey) → stays h s.areas s.book s.tables k ≡ true → SamePart (facts past k) (facts (After (entry_of desk h) past) k)
-stays_same settings past legal desk h accepted other s kept up flight k g =
-    step (keeps_down mark was) refl parts.1
+-- what happens leaves the line as it is that stands so, in a cell that is down or not
+pub stays_same : {p : State} {h : Happens} {t : Tables} {keys : List LineKey} (x : Walks p h t keys) (k : LineKey) (line : Line) (was : Bool) → line ≡ (facts x.past k).line → was ≡ is_down x.past (kind_in (warning_of p.book k.warning)) k.bsc k.cell → stays_so h p.areas k (warning_of p.book k.warning) line (line_now h p.book.warnings k.bsc k.cell (warning_of p.book k.warning) line) was ≡ true → SamePart (facts x.past k) (facts (After (entry_of x.desk h) x.past) k)
+stays_same {p = p} {h = h} x k line was at is g = step (keeps_down mark was) refl parts.1
   where
     new : Past
-    new = After (entry_of desk h) past
+    new = After (entry_of x.desk h) x.past
 
-    books : book_of new ≡ book_of past
-    books = book_stays desk h.event h.answer past other
+    books : book_of new ≡ book_of x.past
+    books = book_stays x.desk h.event h.answer x.past x.other
 
-    -- the kind of its warning, before what happens and after it
     kind : Kind
-    kind = kind_in (warning_of s.book k.warning)
-
-    now_kind : Kind
-    now_kind = kind_in (warning_of (book_of new) k.warning)
-
-    was_kind : kind ≡ kind_in (warning_of (book_of past) k.warning)
-    was_kind = ap (λ (st : book.State). kind_in (warning_of st k.warning)) kept.booked
-
-    kinds : kind ≡ now_kind
-    kinds = was_kind ∙ ap (λ (st : book.State). kind_in (warning_of st k.warning)) (sym books)
-
-    was : Bool
-    was = down_at s.tables.lines kind k.bsc k.cell
+    kind = kind_in (warning_of p.book k.warning)
 
     mark : Option Bool
     mark = down_mark kind k.bsc k.cell h.event h.answer
 
-    line : Line
-    line = line_at s.tables.lines k.bsc k.cell k.warning
-
     later : Line
-    later = line_now h s.book.warnings k.bsc k.cell (warning_of s.book k.warning) line
+    later = line_now h p.book.warnings k.bsc k.cell (warning_of p.book k.warning) line
 
-    parts : (line_eq later line ≡ true) × ((keeps_down mark was || is_idle s.areas (warning_of s.book k.warning) k.cell line) ≡ true)
-    parts = and_parts (line_eq later line) (keeps_down mark was || is_idle s.areas (warning_of s.book k.warning) k.cell line) g
+    parts : (line_eq later line ≡ true) × ((keeps_down mark was || is_idle p.areas (warning_of p.book k.warning) k.cell line) ≡ true)
+    parts = and_parts (line_eq later line) (keeps_down mark was || is_idle p.areas (warning_of p.book k.warning) k.cell line) g
 
     same : later ≡ line
     same = (line_decides later line).0 parts.0
 
     -- what is read after it, with what is down then
-    after : (down : Bool) → down ≡ is_down new now_kind k.bsc k.cell → facts_from s.register s.areas down k.bsc k.cell line (warning_of s.book k.warning) ≡ facts new k
+    after : (down : Bool) → down ≡ is_down new kind k.bsc k.cell → facts_from p.register p.areas down k.bsc k.cell line (warning_of p.book k.warning) ≡ facts new k
     after down fallen =
-        ap (λ l. facts_from s.register s.areas down k.bsc k.cell l (warning_of s.book k.warning)) (sym same ∙ ap (λ l. line_now h s.book.warnings k.bsc k.cell (warning_of s.book k.warning) l) (kept.tables.lines k))
-        ∙ facts_new settings past legal desk h accepted other s kept up flight k down fallen
+        ap (λ l. facts_from p.register p.areas down k.bsc k.cell l (warning_of p.book k.warning)) (sym same ∙ ap (λ l. line_now h p.book.warnings k.bsc k.cell (warning_of p.book k.warning) l) at)
+        ∙ facts_new x k down fallen
 
     -- and before it
-    before : facts_from s.register s.areas was k.bsc k.cell line (warning_of s.book k.warning) ≡ facts past k
-    before =
-        ap (λ (st : book.State). facts_from s.register s.areas was k.bsc k.cell line (warning_of st k.warning)) kept.booked
-        ∙ facts_same past s.register s.areas was k.bsc k.cell line (warning_of (book_of past) k.warning) kept.registered kept.selected (kept.downs kind k.bsc k.cell ∙ ap (λ j. is_down past j k.bsc k.cell) was_kind) (is (warning_of (book_of past) k.warning) (kept.tables.lines k))
-      where
-        is : (o : Option Warning) → line ≡ (facts_of past k.bsc k.cell o).line → IsLineOf past k.bsc k.cell line o
-        is None e = tt
-        is (Some w) e = e
+    before : facts_from p.register p.areas was k.bsc k.cell line (warning_of p.book k.warning) ≡ facts x.past k
+    before = facts_old x k line was at is
 
-    fallen : keeps_down mark was ≡ true → was ≡ is_down new now_kind k.bsc k.cell
-    fallen e = sym (down_kept mark was e) ∙ ap (unwrap_or mark) (kept.downs kind k.bsc k.cell) ∙ ap (λ j. is_down new j k.bsc k.cell) kinds
+    fallen : keeps_down mark was ≡ true → was ≡ is_down new kind k.bsc k.cell
+    fallen e = sym (down_kept mark was e) ∙ ap (unwrap_or mark) is
 
     -- an idle line
-    idle : (o : Option Warning) → warning_of (book_of past) k.warning ≡ o → is_idle s.areas o k.cell line ≡ true → SamePart (facts_of past k.bsc k.cell o) (facts_of new k.bsc k.cell o)
-    idle None found e = same_none past new k.bsc k.cell
+    idle : (o : Option Warning) → warning_of p.book k.warning ≡ o → is_idle p.areas o k.cell line ≡ true → SamePart (facts_of x.past k.bsc k.cell o) (facts_of new k.bsc k.cell o)
+    idle None found e = same_none x.past new k.bsc k.cell
     idle (Some w) found e =
-        idle_then past new k.bsc k.cell w (sym (line_kept past s kept k w found) ∙ blank) (sym late ∙ blank)
-        (uncovered past s.areas kept.selected k.cell w two.1)
-        (uncovered new s.areas (areas_stay settings past desk h.event h.answer accepted other s kept) k.cell w two.1)
+        idle_then x.past new k.bsc k.cell w (sym early ∙ blank) (sym late ∙ blank)
+        (uncovered x.past p.areas x.selected k.cell w two.1)
+        (uncovered new p.areas (areas_stay x.settings x.past x.desk h.event h.answer x.accepted x.other p.areas x.selected) k.cell w two.1)
       where
-        two : (is_blank line ≡ true) × (not (list_any (λ a. areas.covers s.areas a k.cell) w.areas) ≡ true)
-        two = and_parts (is_blank line) (not (list_any (λ a. areas.covers s.areas a k.cell) w.areas)) e
+        two : (is_blank line ≡ true) × (not (list_any (λ a. areas.covers p.areas a k.cell) w.areas) ≡ true)
+        two = and_parts (is_blank line) (not (list_any (λ a. areas.covers p.areas a k.cell) w.areas)) e
 
         blank : line ≡ blank_line
         blank = (blank_decides line).0 two.0
 
+        early : line ≡ line_of x.past k.bsc k.cell w
+        early = at ∙ ap (λ o. (facts_of x.past k.bsc k.cell o).line) (ap (λ (st : book.State). warning_of st k.warning) (sym x.booked) ∙ found)
+
         late : line ≡ line_of new k.bsc k.cell w
         late =
-            ap (λ o. (facts_from s.register s.areas (is_down new now_kind k.bsc k.cell) k.bsc k.cell line o).line) (sym (ap (λ (st : book.State). warning_of st k.warning) kept.booked ∙ found))
-            ∙ ap (λ (f : LineFacts). f.line) (after (is_down new now_kind k.bsc k.cell) refl)
-            ∙ ap (λ o. (facts_of new k.bsc k.cell o).line) (ap (λ (st : book.State). warning_of st k.warning) books ∙ found)
+            ap (λ o. (facts_from p.register p.areas (is_down new kind k.bsc k.cell) k.bsc k.cell line o).line) (sym found)
+            ∙ ap (λ (f : LineFacts). f.line) (after (is_down new kind k.bsc k.cell) refl)
+            ∙ ap (λ o. (facts_of new k.bsc k.cell o).line) (ap (λ (st : book.State). warning_of st k.warning) (books ∙ sym x.booked) ∙ found)
 
-    whole : SamePart (facts_of past k.bsc k.cell (warning_of (book_of past) k.warning)) (facts_of new k.bsc k.cell (warning_of (book_of past) k.warning)) → SamePart (facts past k) (facts new k)
-    whole x = subst (λ (st : book.State). SamePart (facts past k) (facts_of new k.bsc k.cell (warning_of st k.warning))) (sym books) x
+    whole : SamePart (facts_of x.past k.bsc k.cell (warning_of p.book k.warning)) (facts_of new k.bsc k.cell (warning_of p.book k.warning)) → SamePart (facts x.past k) (facts new k)
+    whole y =
+        subst (λ (st : book.State). SamePart (facts x.past k) (facts_of new k.bsc k.cell (warning_of st k.warning))) (x.booked ∙ sym books)
+        (subst (λ (st : book.State). SamePart (facts_of x.past k.bsc k.cell (warning_of st k.warning)) (facts_of new k.bsc k.cell (warning_of p.book k.warning))) x.booked y)
 
-    step : (t : Bool) → keeps_down mark was ≡ t → (t || is_idle s.areas (warning_of s.book k.warning) k.cell line) ≡ true → SamePart (facts past k) (facts new k)
+    step : (t : Bool) → keeps_down mark was ≡ t → (t || is_idle p.areas (warning_of p.book k.warning) k.cell line) ≡ true → SamePart (facts x.past k) (facts new k)
     step true e i = subst (λ f. SamePart f (facts new k)) (sym (after was (fallen e)) ∙ before) (record { line = refl; deeds = refl; total = refl; area = λ a. refl })
-    step false e i =
-        whole (idle (warning_of (book_of past) k.warning) refl (ap (λ (st : book.State). is_idle s.areas (warning_of st k.warning) k.cell line) (sym kept.booked) ∙ i))
+    step false e i = whole (idle (warning_of p.book k.warning) refl i)
 
 -- an edit that leaves what each area covers leaves an idle line idle
 pub idle_same : (past : Past) (desk : ℕ) (e : Edit) (a : Answer) → leaves_cover e ≡ true → (s : Kept) → IsKept past s → (k : LineKey) → is_idle s.areas (warning_of s.book k.warning) k.cell (line_at s.tables.lines k.bsc k.cell k.warning) ≡ true → SamePart (facts past k) (facts (After (record { desk = desk; event = event.Edit e; answer = a }) past) k)

@@ -37,7 +37,7 @@ tells_keys from to (k ∷ ks) once =
 
 -- the lines of each of the warnings at each of the spots
 
-at_spot : (k : LineKey) (p : Spot) (ns : List ℕ) → list_any (key_eq k) (map (key_at p) ns) ≡ (spot_eq (spot_of k) p && list_any (nat_eq k.warning) ns)
+pub at_spot : (k : LineKey) (p : Spot) (ns : List ℕ) → list_any (key_eq k) (map (key_at p) ns) ≡ (spot_eq (spot_of k) p && list_any (nat_eq k.warning) ns)
 at_spot k p [] = none (spot_eq (spot_of k) p)
   where
     none : (t : Bool) → false ≡ (t && false)
@@ -88,7 +88,7 @@ once_join (x ∷ xs) ys h g apart =
     itself : (k : LineKey) → key_eq k k ≡ true
     itself k = rw (eq-eqb k.bsc k.bsc refl, eq-eqb k.cell.lac k.cell.lac refl, eq-eqb k.cell.ci k.cell.ci refl, eq-eqb k.warning k.warning refl) refl
 
-once_at : (p : Spot) (ns : List ℕ) → each_once nat_eq ns ≡ true → each_once key_eq (map (key_at p) ns) ≡ true
+pub once_at : (p : Spot) (ns : List ℕ) → each_once nat_eq ns ≡ true → each_once key_eq (map (key_at p) ns) ≡ true
 once_at p [] h = refl
 once_at p (n ∷ ns) h =
     let parts = and_parts (not (list_any (nat_eq n) ns)) (each_once nat_eq ns) h in
@@ -100,7 +100,7 @@ once_at p (n ∷ ns) h =
     none true = refl
     none false = refl
 
-same_spot : (x y : Spot) → spot_eq x y ≡ true → x ≡ y
+pub same_spot : (x y : Spot) → spot_eq x y ≡ true → x ≡ y
 same_spot x y h =
     let parts = and_parts (nat_eq x.bsc y.bsc) (cell_eq x.cell y.cell) h in
     let cells = and_parts (nat_eq x.cell.lac y.cell.lac) (nat_eq x.cell.ci y.cell.ci) parts.1 in

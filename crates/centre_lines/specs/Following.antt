@@ -1,5 +1,5 @@
 -- How what is kept follows an event: the lines on which it bears, as they stand before it and after.
-use Rattle.std.specs.Prelude.{◌≡◌, ℕ, ◌+◌, ◌≤◌, Bool, true, false, ◌&&◌, ◌||◌, not, nat_eq, List, [], ◌∷◌, Option, Some, None, Ok, length, map, unwrap_or, if◌then◌else◌}
+use Rattle.std.specs.Prelude.{◌≡◌, ℕ, ◌+◌, ◌*◌, ◌≤◌, Bool, true, false, ◌&&◌, ◌||◌, not, nat_eq, List, [], ◌∷◌, Option, Some, None, Ok, length, map, unwrap_or, if◌then◌else◌}
 use Rattle.std.specs.List.{flat_map, list_any}
 use Rattle.std.specs.Option.{option_copied}
 use Rattle.areas.specs.Areas.{areas_of, covers}
@@ -34,7 +34,7 @@ use Rattle.centre_events.specs.Kept.{IsRegisterOf, AreAreasOf, AreFlightsOf, is_
 use Rattle.centre_past.specs.Legal.{Legal}
 use Rattle.centre_events.specs.Past.{Past, After, position, past_of}
 use Rattle.centre_events.specs.Presence.{effect}
-use Rattle.centre_past.specs.Reach.{reach_of, size}
+use Rattle.centre_past.specs.Reach.{IsReach, reach_of, size}
 use Rattle.centre_events.specs.Settings.{Settings}
 use Rattle.centre_past.specs.State.{AreCovering, AreLinksOf, covered_facts, facts_from}
 use Rattle.centre_events.specs.Stepping.{stepped}
@@ -123,11 +123,14 @@ keeps_down None was = true
 keeps_down (Some true) was = was
 keeps_down (Some false) was = not was
 
--- what happens leaves the line as it is, and either leaves the cell down, or up, as it was, or the line is idle
+-- what happens leaves a line that stands so, in a cell that is down or not, as it is, and either leaves the cell down, or up,
+-- as it was, or the line is idle
+abbrev pub stays_so : Happens → List Area → LineKey → Option Warning → Line → Line → Bool → Bool
+stays_so h l k o line next down = line_eq next line && (keeps_down (down_mark (kind_in o) k.bsc k.cell h.event h.answer) down || is_idle l o k.cell line)
+
+-- so the line that is kept
 abbrev pub stays : Happens → List Area → book.State → Tables → LineKey → Bool
-stays h l st t k =
-    line_eq (line_now h st.warnings k.bsc k.cell (warning_of st k.warning) (line_at t.lines k.bsc k.cell k.warning)) (line_at t.lines k.bsc k.cell k.warning)
-    && (keeps_down (down_mark (kind_in (warning_of st k.warning)) k.bsc k.cell h.event h.answer) (down_at t.lines (kind_in (warning_of st k.warning)) k.bsc k.cell) || is_idle l (warning_of st k.warning) k.cell (line_at t.lines k.bsc k.cell k.warning))
+stays h l st t k = stays_so h l k (warning_of st k.warning) (line_at t.lines k.bsc k.cell k.warning) (line_now h st.warnings k.bsc k.cell (warning_of st k.warning) (line_at t.lines k.bsc k.cell k.warning)) (down_at t.lines (kind_in (warning_of st k.warning)) k.bsc k.cell)
 
 -- an indication or a Retry, which leaves a blank line blank
 abbrev pub leaves_blank : Event → Answer → Bool
@@ -161,25 +164,9 @@ AreInBook st t = LinesAreOf (book.numbers st.warnings) t
 abbrev pub bearing : Event → Answer → book.State → List ℕ → List ℕ
 bearing e a st ns = if leaves_blank e a then book.numbers st.warnings else ns
 
--- the step that what happens makes of a line that was held, where it is no edit
-abbrev pub step_of : Happens → book.State → Held → Step
-step_of h st x = record { key = x.key; before = x.before; line = line_now h st.warnings x.key.bsc x.key.cell (warning_of st x.key.warning) x.before.line; down = unwrap_or (down_mark (kind_in (warning_of st x.key.warning)) x.key.bsc x.key.cell h.event h.answer) x.before.down }
-
--- the line that a step is of, as it stood
-abbrev pub held_of : Step → Held
-held_of s = record { key = s.key; before = s.before }
-
--- the step of the line, if it does not stay as it stands
-abbrev pub changing_line : Happens → register.State → List Area → book.State → Tables → LineKey → List Step
-changing_line h r l st t k = if stays h l st t k then [] else step_of h st (held_line r l st t k) ∷ []
-
--- those of each of the warnings at the spot
-abbrev pub changing_at : Happens → register.State → List Area → book.State → Tables → List ℕ → Spot → List Step
-changing_at h r l st t ns p = flat_map (λ n. changing_line h r l st t (key_at p n)) ns
-
--- at each of the spots
-abbrev pub changing_lines : Happens → register.State → List Area → book.State → Tables → List Spot → List ℕ → List Step
-changing_lines h r l st t ps ns = flat_map (changing_at h r l st t ns) ps
+-- the step from how a line of a warning of the kind was read to the line that it becomes
+abbrev pub step_to : Happens → Kind → LineKey → LineFacts → Line → Step
+step_to h kind k before next = record { key = k; before = before; line = next; down = unwrap_or (down_mark kind k.bsc k.cell h.event h.answer) before.down }
 
 -- the change of the line
 abbrev pub change_of : Happens → register.State → List Area → book.State → Tables → Held → Change
@@ -208,11 +195,6 @@ leaves_areas_then other = false
 abbrev pub AreCovered : List Area → book.State → List Held → Type 0
 AreCovered l st [] = Unit {0}
 AreCovered l st (x ∷ xs) = AreCovering l x.key.cell x.before.areas (warning_of st x.key.warning) × AreCovered l st xs
-
--- each line was read of this register, these areas and this book
-abbrev pub AreRead : register.State → List Area → book.State → List Held → Type 0
-AreRead r l st [] = Unit {0}
-AreRead r l st (x ∷ xs) = ((down : Bool) × (x.before ≡ facts_from r l down x.key.bsc x.key.cell x.before.line (warning_of st x.key.warning))) × AreRead r l st xs
 
 -- both have the same lines, the same actions pending, the same numbers and the same meter: nothing but the cells that are
 -- down differs
@@ -252,8 +234,7 @@ keys_of ps ns = flat_map (λ p. map (key_at p) ns) ps
 abbrev pub held_past : Past → LineKey → Held
 held_past past k = record { key = k; before = facts past k }
 
--- what is known where an accepted event has been made, but for the lines: the past before it, that the plan follows it,
--- and that the lines which it changes were read
+-- the same of an edit, with the lines that were read before it
 pub record Bears (r : register.State) (l : List Area) (st : book.State) (t : Tables) (h : Happens) (spots : List Spot) (held : List Held) : Type 0 where
   pub settings : Settings
   pub past : Past
@@ -273,30 +254,60 @@ pub record Bears (r : register.State) (l : List Area) (st : book.State) (t : Tab
   pub once : each_once key_eq keys ≡ true
   pub rest : (k : LineKey) → list_any (key_eq k) keys ≡ false → SamePart (facts past k) (facts (After (entry_of desk h) past) k)
 
--- the lines as they stood
-abbrev pub held_in : HeldLines → List Held
-held_in (lines.Whole held) = held.items
-held_in (lines.Steps steps) = map held_of steps.items
-
--- the steps, if there are any, are those that what happens makes of their lines, which is no edit then
-abbrev pub AreSteps : Happens → book.State → HeldLines → Type 0
-AreSteps h st (lines.Whole held) = Unit {0}
-AreSteps h st (lines.Steps steps) = (is_edit h.event ≡ false) × (steps.items ≡ map (step_of h st) (map held_of steps.items))
-
--- the event with its answer, as the past before it tells what happens
-abbrev pub happens_after : Past → Event → Answer → Happens
-happens_after past e a = record { event = e; answer = a; up = up_before past e; flight = flight_before past e }
-
--- the lines that an accepted event changes were read before it, with the steps that it makes of them where it is no edit;
--- each other line has the same part after it, and each cell away from the spots stays down, or up
-pub record WasReached (past : Past) (e : Event) (a : Answer) (spots : List Spot) (held : HeldLines) : Type 0 where
+-- the lines that an accepted edit may change were read before it; each other line has the same part after it, and each cell
+-- away from the spots stays down, or up
+pub record WasHeld (past : Past) (e : Event) (a : Answer) (spots : List Spot) (held : List Held) : Type 0 where
   pub away : (settings : Settings) → Legal settings past → LeavesDown past e a spots
   pub keys : List LineKey
-  pub lines : held_in held ≡ map (held_past past) keys
-  pub steps : AreSteps (happens_after past e a) (book_of past) held
+  pub lines : held ≡ map (held_past past) keys
   pub once : each_once key_eq keys ≡ true
   pub few : length keys ≤ size (reach_of past e a)
   pub rest : (settings : Settings) (desk : ℕ) → Legal settings past → verdict settings past e ≡ Ok a → (k : LineKey) → list_any (key_eq k) keys ≡ false → SamePart (facts past k) (facts (After (record { desk = desk; event = e; answer = a }) past) k)
+
+-- an accepted event that is no edit bears on the lines of these warnings at these spots; an indication and a Retry bear on
+-- those of all warnings
+pub record IsUnread (past : Past) (e : Event) (a : Answer) (spots : List Spot) (ns : List ℕ) : Type 0 where
+  pub other : is_edit e ≡ false
+  pub reach : IsReach (record { spots = spots; warnings = bearing e a (book_of past) ns }) (reach_of past e a)
+
+-- what is known of the lines on which an accepted event bears, before it
+abbrev pub WasReached : Past → Event → Answer → List Spot → HeldLines → Type 0
+WasReached past e a spots (lines.Whole held) = WasHeld past e a spots held.items
+WasReached past e a spots (lines.Unread ns) = IsUnread past e a spots ns.items
+
+-- how many lines are read or set at most to follow an event
+abbrev pub most_accesses : Event → Answer → book.State → List Spot → HeldLines → ℕ
+most_accesses e a st spots (lines.Whole held) = length held.items
+most_accesses e a st spots (lines.Unread ns) = 3 * (length spots * length (bearing e a st ns.items))
+
+-- what is known where an accepted event has been made, but for the lines: the past before it, that the plan follows it, and
+-- of that past what else is said
+pub record IsMade (r : register.State) (l : List Area) (st : book.State) (t : Tables) (h : Happens) (says : Past → Type 0) : Type 0 where
+  pub settings : Settings
+  pub past : Past
+  pub desk : ℕ
+  pub legal : Legal settings past
+  pub accepted : verdict settings past h.event ≡ Ok h.answer
+  pub registered : IsRegisterOf (After (entry_of desk h) past) r
+  pub selected : AreAreasOf (After (entry_of desk h) past) l
+  pub booked : st ≡ book_of (After (entry_of desk h) past)
+  pub up : h.up ≡ up_before past h.event
+  pub flight : h.flight ≡ flight_before past h.event
+  pub downs : (k : Kind) (b : ℕ) (c : Cell) → down_at t.lines k b c ≡ is_down past k b c
+  pub tables : Consistent t (facts past)
+  pub said : says past
+
+-- what is known of the lines on which it bears is said
+abbrev pub Made : register.State → List Area → book.State → Tables → Happens → List Spot → HeldLines → Type 0
+Made r l st t h spots held = IsMade r l st t h (λ past. WasReached past h.event h.answer spots held)
+
+-- an edit, whose lines were read before it
+abbrev pub MadeEdit : register.State → List Area → book.State → Tables → Happens → List Spot → List Held → Type 0
+MadeEdit r l st t h spots held = IsMade r l st t h (λ past. WasHeld past h.event h.answer spots held)
+
+-- another event, whose lines are read as they are changed
+abbrev pub MadeOther : register.State → List Area → book.State → Tables → Happens → List Spot → List ℕ → Type 0
+MadeOther r l st t h spots ns = IsMade r l st t h (λ past. IsUnread past h.event h.answer spots ns)
 
 -- what is known of what is kept where an accepted event has been made, but for the lines, the links and the flights
 pub record Finishes (s : Kept) (e : Event) (a : Answer) (place : ℕ) (up : Bool) (spots : List Spot) (held : HeldLines) : Type 0 where

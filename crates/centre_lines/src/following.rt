@@ -1,6 +1,6 @@
 //! How what is kept follows an event: the lines that it changes are changed after it.
 
-ghost use Rattle.std.specs.Prelude.{◌≡◌, ℕ, ◌≤◌, ◌+◌, ◌++◌, ◌∷◌, ◌&&◌, [], true, false, not, nat_eq, length, map, IfOk, OnOk};
+ghost use Rattle.std.specs.Prelude.{◌≡◌, ℕ, ◌≤◌, ◌+◌, ◌*◌, ◌++◌, ◌∷◌, ◌&&◌, [], true, false, not, nat_eq, length, map, IfOk, OnOk};
 ghost use Rattle.common.specs.declared.cell.Cell.{Cell};
 ghost use Rattle.kept_tables.specs.Changes.{Begins, IsNext, mixed};
 ghost use Rattle.kept_tables.specs.Consistent.{Consistent};
@@ -9,7 +9,7 @@ ghost use Rattle.centre_events.specs.Down.{is_down};
 ghost use Rattle.centre_past.specs.Facts.{facts};
 ghost use Rattle.centre_events.specs.Past.{After};
 ghost use Rattle.std.specs.Option.{option_copied};
-ghost use Rattle.centre_lines.specs.Following.{AreCovered, AreSteps, Bears, entry_of, happens, held_in, line_now, facts_then, change_of, covered_change, leaves_areas_then, leaves_lines};
+ghost use Rattle.centre_lines.specs.Following.{AreCovered, Made, MadeEdit, MadeOther, bearing, entry_of, happens, line_now, facts_then, change_of, covered_change, leaves_areas_then, leaves_lines, most_accesses};
 ghost use Rattle.centre_past.specs.State.{AreCovering};
 ghost use Rattle.warning_book.specs.Book.{warning_of};
 ghost use Rattle.warning_book.specs.declared.kind.Kind.{Kind};
@@ -22,13 +22,14 @@ use crate::held_lines::HeldLines;
 use crate::line_in_cell::LineInCell;
 use crate::plan_parts::PlanParts;
 use crate::reached::Reached;
+use crate::walking::walk;
 use centre_events::event::Event;
 use centre_events::stepping::{Happening, step_line};
 use coverage_plan::Edit;
 use kept_tables::{KeptTables, LineFacts, Spot, Stays};
 use mirror::{Line, LineKey};
 use std::alloc::{AllocError, Global};
-use warning_book::Warning;
+use warning_book::{Warning, WarningId};
 
 /// Whether what happens is an edit that leaves every line as it is: each but the end of a BSC, an Update and a Forget.
 fn leaves_lines(h: &Happening<'_, '_>) -> bool
@@ -206,8 +207,45 @@ fn change_lines(
     Ok(())
 }
 
-/// Changes the lines on which an event bears that has been made, from how they stood. At an `Err` memory ran out, and
-/// the tables are of no use any more.
+/// Changes the lines by an edit that has been made, from how they stood, once the cells are brought down or up that it brings
+/// so.
+fn follow_edit(
+    h: &Happening<'_, '_>,
+    plan: &mut FoundPlan<'_>,
+    tables: &mut KeptTables,
+    spots: &[Spot],
+    held: &[Held],
+) -> Result<(), AllocError>
+    requires made { MadeEdit plan.old.register plan.old.areas plan.old.book tables.old (happens h.now) spots.now held.now }
+    ensures tables { OnOk result ((x : MadeEdit plan.old.register plan.old.areas plan.old.book tables.old (happens h.now) spots.now held.now) → Consistent tables.new (facts (After (entry_of x.desk (happens h.now)) x.past))) }
+    ensures downs { OnOk result ((x : MadeEdit plan.old.register plan.old.areas plan.old.book tables.old (happens h.now) spots.now held.now) → (k : Kind) (b : ℕ) (c : Cell) → down_at tables.new.lines k b c ≡ is_down (After (entry_of x.desk (happens h.now)) x.past) k b c) }
+    ensures meter { tables.new.lines.meter ≤ tables.old.lines.meter + length held.now }
+    ensures least { tables.old.lines.meter ≤ tables.new.lines.meter }
+{
+    mark_downs(tables, spots, h.event, h.answer)?;
+    change_lines(h, plan, tables, held)
+}
+
+/// Changes the lines by another event, each as it is read, and then brings the cells down or up that the event brings so.
+fn follow_other(
+    h: &Happening<'_, '_>,
+    plan: &mut FoundPlan<'_>,
+    tables: &mut KeptTables,
+    spots: &[Spot],
+    warnings: &[WarningId],
+) -> Result<(), AllocError>
+    requires made { MadeOther plan.old.register plan.old.areas plan.old.book tables.old (happens h.now) spots.now warnings.now }
+    ensures tables { OnOk result ((x : MadeOther plan.old.register plan.old.areas plan.old.book tables.old (happens h.now) spots.now warnings.now) → Consistent tables.new (facts (After (entry_of x.desk (happens h.now)) x.past))) }
+    ensures downs { OnOk result ((x : MadeOther plan.old.register plan.old.areas plan.old.book tables.old (happens h.now) spots.now warnings.now) → (k : Kind) (b : ℕ) (c : Cell) → down_at tables.new.lines k b c ≡ is_down (After (entry_of x.desk (happens h.now)) x.past) k b c) }
+    ensures meter { tables.new.lines.meter ≤ tables.old.lines.meter + 3 * (length spots.now * length (bearing h.now.event.now h.now.answer.now plan.old.book warnings.now)) }
+    ensures least { tables.old.lines.meter ≤ tables.new.lines.meter }
+{
+    walk(h, plan, tables, spots, warnings)?;
+    mark_downs(tables, spots, h.event, h.answer)
+}
+
+/// Changes the lines on which an event bears that has been made: by an edit from how they stood before it, by any other event
+/// as they are read. At an `Err` memory ran out, and the tables are of no use any more.
 pub fn bear(
     alloc: Global,
     h: &Happening<'_, '_>,
@@ -215,11 +253,10 @@ pub fn bear(
     tables: &mut KeptTables,
     reached: Reached,
 ) -> Result<(), AllocError>
-    requires bears { Bears parts.now.register.now parts.now.areas.now parts.now.book.now tables.old (happens h.now) reached.spots.items (held_in reached.lines) }
-    requires steps { AreSteps (happens h.now) parts.now.book.now reached.lines }
-    ensures tables { OnOk result ((x : Bears parts.now.register.now parts.now.areas.now parts.now.book.now tables.old (happens h.now) reached.spots.items (held_in reached.lines)) → Consistent tables.new (facts (After (entry_of x.desk (happens h.now)) x.past))) }
-    ensures downs { OnOk result ((x : Bears parts.now.register.now parts.now.areas.now parts.now.book.now tables.old (happens h.now) reached.spots.items (held_in reached.lines)) → (k : Kind) (b : ℕ) (c : Cell) → down_at tables.new.lines k b c ≡ is_down (After (entry_of x.desk (happens h.now)) x.past) k b c) }
-    ensures meter { tables.new.lines.meter ≤ tables.old.lines.meter + length (held_in reached.lines) }
+    requires made { Made parts.now.register.now parts.now.areas.now parts.now.book.now tables.old (happens h.now) reached.spots.items reached.lines }
+    ensures tables { OnOk result ((x : Made parts.now.register.now parts.now.areas.now parts.now.book.now tables.old (happens h.now) reached.spots.items reached.lines) → Consistent tables.new (facts (After (entry_of x.desk (happens h.now)) x.past))) }
+    ensures downs { OnOk result ((x : Made parts.now.register.now parts.now.areas.now parts.now.book.now tables.old (happens h.now) reached.spots.items reached.lines) → (k : Kind) (b : ℕ) (c : Cell) → down_at tables.new.lines k b c ≡ is_down (After (entry_of x.desk (happens h.now)) x.past) k b c) }
+    ensures meter { tables.new.lines.meter ≤ tables.old.lines.meter + most_accesses h.now.event.now h.now.answer.now parts.now.book.now reached.spots.items reached.lines }
     ensures least { tables.old.lines.meter ≤ tables.new.lines.meter }
 {
     let Reached {
@@ -227,12 +264,14 @@ pub fn bear(
         warnings,
         lines,
     } = reached;
-    mark_downs(tables, spots.as_slice(), h.event, h.answer)?;
     match lines {
         HeldLines::Whole(held) => {
             let mut plan = find(alloc, parts, &warnings, spots.len())?;
-            change_lines(h, &mut plan, tables, held.as_slice())
+            follow_edit(h, &mut plan, tables, spots.as_slice(), held.as_slice())
         }
-        HeldLines::Steps(steps) => tables.take_steps(steps.as_slice()),
+        HeldLines::Unread(named) => {
+            let mut plan = FoundPlan::new(alloc, parts);
+            follow_other(h, &mut plan, tables, spots.as_slice(), named.as_slice())
+        }
     }
 }

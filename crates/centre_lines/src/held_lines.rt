@@ -1,14 +1,14 @@
-//! The lines that an event may change, read before it.
+//! What is known, before an event, of the lines on which it bears.
 
 use crate::held::Held;
-use kept_tables::Step;
+use warning_book::WarningId;
 
-/// The lines that an event may change, as they stood before it. What an event that is no edit makes of them is known before
-/// it is entered.
+/// What is known, before an accepted event, of the lines on which it bears.
 #[derive(Drop)]
 pub enum HeldLines {
-    /// The lines that an edit may change.
+    /// Those that an edit may change, as they stood: once it is made, what was read of them can't be read any more.
     Whole(Vec<Held>),
-    /// Those that another event changes, with what it makes of them.
-    Steps(Vec<Step>),
+    /// Any other event leaves the plan as it is, so that each line is read as it is changed. These are the warnings of the
+    /// lines.
+    Unread(Vec<WarningId>),
 }

@@ -5,7 +5,6 @@
 //! entered.
 #![tactic(auto)]
 
-mod changing;
 mod coverages;
 mod downs;
 mod facts;
@@ -25,3 +24,4 @@ mod reach;
 pub mod reached;
 mod reached_warnings;
 mod spots;
+mod walking;

@@ -7,15 +7,14 @@ ghost use Rattle.centre_past.specs.IsKept.{IsKept, OnlyReadsIn};
 ghost use Rattle.centre_events.specs.Kept.{is_edit};
 ghost use Rattle.centre_past.specs.Legal.{Legal};
 ghost use Rattle.centre_events.specs.Past.{Past};
-ghost use Rattle.centre_past.specs.Reach.{edit_reach, reach_of, size};
+ghost use Rattle.centre_past.specs.Reach.{edit_reach, size};
 ghost use Rattle.centre_events.specs.Settings.{Settings};
 ghost use Rattle.centre_events.specs.Verdict.{answered, edit_answered};
 ghost use Rattle.centre_events.specs.declared.answer.Answer as answer_spec;
 ghost use Rattle.centre_events.specs.declared.event.Event.TheVariants as event;
 ghost use Rattle.coverage_plan.specs.declared.edit.Edit.TheVariants as edit_spec;
 
-use crate::changing::hold_changing;
-use crate::found_plan::{FoundPlan, find};
+use crate::found_plan::find;
 use crate::held_lines::HeldLines;
 use crate::holding::{hold, hold_keys};
 use crate::plan_parts::PlanParts;
@@ -113,17 +112,15 @@ pub fn reached_by_edit(alloc: Global, kept: &mut Kept, edit: &Edit) -> Result<Re
     Ok(reached)
 }
 
-/// The lines that an accepted event changes which is no edit, as they stand before it, with the steps that it makes of them.
+/// On which lines an accepted event bears that is no edit. None of them is read.
 pub fn reached_by_other<'x>(
     alloc: Global,
-    kept: &mut Kept,
+    kept: &Kept,
     event: &'x Event,
     answer: &'x Answer,
 ) -> Result<Reached, AllocError>
     requires other { is_edit event.now ≡ false }
-    ensures reached { (settings : Settings) (past : Past) → Legal settings past → IsKept past kept.old → answered settings.network past event.now ≡ Ok answer.now → IfOk result (λ x. WasReached past event.now answer.now x.spots.items x.lines) }
-    ensures reads { OnlyReadsIn kept.old kept.new }
-    ensures meter { (settings : Settings) (past : Past) → Legal settings past → IsKept past kept.old → answered settings.network past event.now ≡ Ok answer.now → kept.new.tables.lines.meter ≤ kept.old.tables.lines.meter + 2 * size (reach_of past event.now answer.now) }
+    ensures reached { (settings : Settings) (past : Past) → Legal settings past → IsKept past kept.now → answered settings.network past event.now ≡ Ok answer.now → IfOk result (λ x. WasReached past event.now answer.now x.spots.items x.lines) }
 {
     let h = Happening {
         event,
@@ -137,17 +134,9 @@ pub fn reached_by_other<'x>(
         book: &kept.book,
     };
     let reach = reach_of_other(alloc, &parts, kept.tables.lines(), &h)?;
-    let mut plan = FoundPlan::new(alloc, &parts);
-    let steps = hold_changing(
-        &h,
-        &mut plan,
-        &mut kept.tables,
-        reach.spots.as_slice(),
-        reach.warnings.as_slice(),
-    )?;
     Ok(Reached {
         spots: reach.spots,
-        warnings: reach.warnings,
-        lines: HeldLines::Steps(steps),
+        warnings: Vec::new(alloc),
+        lines: HeldLines::Unread(reach.warnings),
     })
 }

@@ -6,14 +6,13 @@ use Rattle.std.proofs.lemmas.List.Folds.{list_any-append}
 use Rattle.common.specs.OnceLaws.{turned}
 use Rattle.kept_tables.proofs.BroadcastLemmas.{few_between, mixed_between}
 use Rattle.kept_tables.proofs.ViewLemmas.{changed, has_part}
-use Rattle.kept_tables.specs.Changes.{Begins, Change, change_of, changes_key, mixed, Tells}
+use Rattle.kept_tables.specs.Changes.{Begins, Change, changes_key, mixed, Tells}
 use Rattle.kept_tables.specs.Consistent.{Consistent, is_deed, is_in_range, Owned}
 use Rattle.kept_tables.specs.Facts.{deeds_of}
 use Rattle.kept_tables.specs.SpotLaws.{key_decides}
 use Rattle.kept_tables.specs.Tables.{HasPart, Shifted, Tables}
 use Rattle.kept_tables.specs.View.{key_eq, spot_of, updated, View}
 use Rattle.kept_tables.specs.declared.line_facts.LineFacts.{LineFacts}
-use Rattle.kept_tables.specs.declared.step.Step.{Step}
 use Rattle.mirror.specs.Line.{state_of}
 use Rattle.mirror.specs.declared.line_key.LineKey.{LineKey}
 use Rattle.order_maker.specs.declared.deed.Deed.{Deed}
@@ -59,15 +58,6 @@ owned_mixed owner from to changes first second = record { owns = λ k d h. step 
     step k d true h = second.owns k d h
     step k d false h = first.owns k d h
 
--- the changes that are done, the one that is next, and the later ones
-pub whole : (changes : List Change) (i : ℕ) (x : Change) → i < length changes → x ≡ get_or changes i x → changes ≡ take i changes ++ x ∷ drop (i + 1) changes
-whole changes i x below e =
-    sym (take-append-drop i changes) ∙ ap (λ rest. take i changes ++ rest) (drop_more changes i x below ∙ ap (λ y. y ∷ drop (i + 1) changes) (sym e))
-
--- those that are done then
-pub done_more : (changes : List Change) (i : ℕ) (x : Change) → i < length changes → x ≡ get_or changes i x → take i changes ++ x ∷ [] ≡ take (i + 1) changes
-done_more changes i x below e = ap (λ y. take i changes ++ y ∷ []) e ∙ sym (take_more changes i x below)
-
 next_tells : (from to : View) (changes done : List Change) (x : Change) (later : List Change) → changes ≡ done ++ x ∷ later → Tells from to changes → (changes_key x.key done ≡ false) × ((from x.key ≡ x.before) × (to x.key ≡ x.after))
 next_tells from to changes done x later split tells = tells_at from to done x later (subst (Tells from to) split tells)
 
@@ -92,12 +82,3 @@ settled_more old changes b t u done x later split fit low is shifted =
     let whole : updated (mixed b.from b.to done) x.key x.after ≡ mixed b.from b.to (done ++ x ∷ []) = mixed_more b.from b.to done x next.1.1 in
     let also : Owned b.owner (updated (mixed b.from b.to done) x.key x.after) = subst (Owned b.owner) (sym whole) (owned_mixed b.owner b.from b.to (done ++ x ∷ []) b.owns_from b.owns_to) in
     subst (Consistent u) whole (changed t u (mixed b.from b.to done) x.key x.before x.after b.owner fit (next_before b.from b.to changes done x later split b.tells) (owned_mixed b.owner b.from b.to done b.owns_from b.owns_to) also low shifted is)
-
--- all changes are done
-pub settled_whole : (u : Tables) (from to : View) (changes : List Change) (i : ℕ) → length changes ≤ i → Consistent u (mixed from to (take i changes)) → Consistent u (mixed from to changes)
-settled_whole u from to changes i end is = subst (λ xs. Consistent u (mixed from to xs)) (take_all i changes end) is
-
--- the change that is next among those of steps
-pub next_change : (steps : List Step) (i : ℕ) (x : Step) → i < length steps → x ≡ get_or steps i x → (i < length (map change_of steps)) × (change_of x ≡ get_or (map change_of steps) i (change_of x))
-next_change steps i x below e =
-    (subst (λ n. i < n) (sym (length-map steps change_of)) below, sym (get_or-map change_of steps i x (change_of x) below ∙ ap change_of (sym e)))

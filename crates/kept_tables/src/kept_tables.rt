@@ -29,7 +29,7 @@ use std::marker::Model;
 use warning_book::{Kind, WarningId};
 
 /// What is kept of every line, what is pending for each BSC, and the numbers of the board. All three change in step, by
-/// `make` and `take_steps` alone. Which cells are down for warnings of each kind is kept beside the lines, and
+/// `make` and `take_step` alone. Which cells are down for warnings of each kind is kept beside the lines, and
 /// changes by `set_down` alone.
 #[derive(Drop)]
 pub struct KeptTables {
@@ -411,9 +411,9 @@ impl KeptTables {
         shift_numbers(&mut self.board, warning, &was, &is, stays.areas)
     }
 
-    /// The same for a step.
+    /// The same for a step: of what is read of the line, the line itself and whether its cell is down may be another.
     #[inline(always)]
-    fn take_step(&mut self, step: &Step) -> Result<(), AllocError>
+    fn change_standing(&mut self, step: &Step) -> Result<(), AllocError>
         requires { HasPart self.old step.now.key step.now.before (change_of step.now).after }
         ensures changed { OnOk result (Shifted self.old self.new step.now.key step.now.before (change_of step.now).after) }
         ensures downs { self.new.lines.downs ≡ self.old.lines.downs }
@@ -458,20 +458,17 @@ impl KeptTables {
         self.change(*key, before, after, stays)
     }
 
-    /// Takes the steps, in their order. Each is of another line. At an `Err` memory ran out, and the tables are of no use any
-    /// more.
-    pub fn take_steps(&mut self, steps: &[Step]) -> Result<(), AllocError>
-        requires { Begins self.old (map change_of steps.now) }
-        ensures settled { OnOk result ((b : Begins self.old (map change_of steps.now)) → Consistent self.new (mixed b.from b.to (map change_of steps.now))) }
-        ensures downs { (k : Kind) (b : ℕ) (c : Cell) → down_at self.new.lines k b c ≡ down_at self.old.lines k b c }
-        ensures meter { self.new.lines.meter ≤ self.old.lines.meter + length steps.now }
+    /// Takes the step that is next. At an `Err` memory ran out, and the tables are of no use any more.
+    #[inline(always)]
+    pub fn take_step(&mut self, step: &Step) -> Result<(), AllocError>
+        requires { IsNext self.old (change_of step.now) }
+        ensures made { OnOk result ((n : IsNext self.old (change_of step.now)) → Consistent self.new (mixed n.begins.from n.begins.to (n.done ++ change_of step.now ∷ []))) }
+        ensures downs { self.new.lines.downs ≡ self.old.lines.downs }
+        ensures meter { self.new.lines.meter ≤ self.old.lines.meter + 1 }
         ensures least { self.old.lines.meter ≤ self.new.lines.meter }
     {
-        for step in steps {
-            tell_range(step.key);
-            step.line.tell_counts();
-            self.take_step(step)?;
-        }
-        Ok(())
+        tell_range(step.key);
+        step.line.tell_counts();
+        self.change_standing(step)
     }
 }

@@ -1,21 +1,16 @@
-use Rattle.std.proofs.Common.{refl}
 use Rattle.std.specs.Option.{option_copied}
 use Rattle.centre_events.specs.declared.entry.Entry.{Entry}
-use Rattle.centre_lines.proofs.FinishLemmas.{bears_of, links_then, flights_then, steps_of}
+use Rattle.centre_lines.proofs.FinishLemmas.{made_of, links_then, flights_then}
 use Rattle.centre_core.proofs.finishing.finish.Goals as goal
 
-pub bear-requires-clause-bears : goal.bear-requires-clause-bears
-bear-requires-clause-bears c =
-    bears_of c.args.kept.now c.args.event.now c.args.answer.now c.args.before.place c.args.before.up c.args.before.reached.spots.items c.args.before.reached.spots.items c.args.before.reached.lines (option_copied c.flight_of.result) c.as_slice.result.now c.requires refl c.as_slice.ensures.value c.flight_of.ensures
-
-pub bear-requires-clause-steps : goal.bear-requires-clause-steps
-bear-requires-clause-steps c =
-    steps_of c.args.kept.now c.args.event.now c.args.answer.now c.args.before.place c.args.before.up c.args.before.reached.spots.items c.args.before.reached.lines (option_copied c.flight_of.result) c.as_slice.result.now c.requires c.as_slice.ensures.value c.flight_of.ensures
+pub bear-requires : goal.bear-requires
+bear-requires c =
+    made_of c.args.kept.now c.args.event.now c.args.answer.now c.args.before.place c.args.before.up c.args.before.reached.spots.items c.args.before.reached.lines (option_copied c.flight_of.result) c.as_slice.result.now c.requires c.as_slice.ensures.value c.flight_of.ensures
 
 pub returns-clause-kept : goal.returns-clause-kept
 returns-clause-kept c = λ x.
     let entry : Entry = record { desk = x.desk; event = c.args.event.now; answer = c.args.answer.now } in
-    let y = bears_of c.args.kept.now c.args.event.now c.args.answer.now c.args.before.place c.args.before.up c.args.before.reached.spots.items c.args.before.reached.spots.items c.args.before.reached.lines (option_copied c.flight_of.result) c.as_slice.result.now x refl c.as_slice.ensures.value c.flight_of.ensures in
+    let y = made_of c.args.kept.now c.args.event.now c.args.answer.now c.args.before.place c.args.before.up c.args.before.reached.spots.items c.args.before.reached.lines (option_copied c.flight_of.result) c.as_slice.result.now x c.as_slice.ensures.value c.flight_of.ensures in
     record {
       registered = x.registered;
       selected = x.selected;

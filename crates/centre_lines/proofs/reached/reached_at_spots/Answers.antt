@@ -2,7 +2,6 @@ use Rattle.std.proofs.Common.{refl, ◌∙◌, ap}
 use Rattle.coverage_plan.specs.Plan.{State}
 use Rattle.centre_lines.specs.Following.{held_lines}
 use Rattle.centre_past.specs.Reach.{edit_reach}
-use Rattle.centre_lines.specs.declared.held_lines.HeldLines.TheVariants as lines
 use Rattle.centre_past.proofs.ReadLemmas.{as_itself}
 use Rattle.centre_lines.proofs.HoldLemmas.{told_kept, edit_was_reached, reads_as, reads_within}
 use Rattle.centre_lines.proofs.IndicatedLemmas.{cover_reached}
@@ -15,14 +14,13 @@ returns-in_err-held-clause-reads c =
 pub returns-clause-reached : goal.returns-clause-reached
 returns-clause-reached c =
     λ settings past a legal kept accepted.
-    edit_was_reached past c.args.kept.now c.args.edit.now a c.in_ok-reach.reach.spots.items c.in_ok-reach.reach.warnings.items (lines.Whole c.in_ok-held.held) kept
+    edit_was_reached past c.args.kept.now c.args.edit.now a c.in_ok-reach.reach.spots.items c.in_ok-reach.reach.warnings.items c.in_ok-held.held.items kept
     (c.in_ok-reach.ensures settings past (record {
       told = rw (c.lines.ensures) (told_kept settings past c.args.kept.now legal kept);
       selected = kept.selected;
       answer = a;
       accepted = accepted;
     }))
-    tt
     (c.in_ok-held.ensures.held c.args.kept.now.tables (as_itself c.args.kept.now.tables)
     ∙ ap (λ (p : State). held_lines c.args.edit.now p.register p.areas p.book c.args.kept.now.tables c.as_slice.result.now c.as_slice-2.result.now) c.in_ok-plan.ensures
     ∙ ap (λ ps. held_lines c.args.edit.now c.args.kept.now.register c.args.kept.now.areas c.args.kept.now.book c.args.kept.now.tables ps c.as_slice-2.result.now) c.as_slice.ensures.value

@@ -5,7 +5,6 @@ use Rattle.coverage_plan.specs.declared.edit.Edit.TheVariants as edit
 use Rattle.centre_lines.specs.Following.{held_unless}
 use Rattle.centre_past.specs.Idle.{AsBefore}
 use Rattle.centre_past.specs.Reaching.{TellsLines}
-use Rattle.centre_lines.specs.declared.held_lines.HeldLines.TheVariants as lines
 use Rattle.centre_lines.proofs.ForgottenLemmas.{forgotten_few, forgotten_read, forgotten_told, forgotten_was_reached}
 use Rattle.centre_lines.proofs.HoldLemmas.{reads_as}
 use Rattle.centre_lines.proofs.reached.reached_by_forget.Goals as goal
@@ -44,9 +43,8 @@ pub returns-clause-reached : goal.returns-clause-reached
 returns-clause-reached c = λ settings past a legal kept accepted.
     let told : AsBefore c.args.kept.now.tables c.places_of.new.self = record { lines = c.places_of.ensures.lines; downs = c.places_of.ensures.downs; same = c.places_of.ensures.same; meter = c.places_of.ensures.least } in
     rw (c.requires, c.new.ensures.items)
-    (forgotten_was_reached past c.args.kept.now c.args.n a c.in_ok-keys.keys.items (lines.Whole c.in_ok-held.held) kept c.in_ok-keys.ensures.which c.in_ok-keys.ensures.order
+    (forgotten_was_reached past c.args.kept.now c.args.n a c.in_ok-keys.keys.items c.in_ok-held.held.items kept c.in_ok-keys.ensures.which c.in_ok-keys.ensures.order
     (forgotten_few settings past c.args.kept.now c.args.n legal kept (subst TellsLines c.lines.ensures c.tell_lines.ensures) c.in_ok-keys.keys.items c.in_ok-keys.ensures.few)
-    tt
     (rw (c.requires) at (c.in_ok-held.ensures.held c.args.kept.now.tables told)
     ∙ ap (λ (p : State). flat_map (held_unless (edit.Forget c.args.n) p.register p.areas p.book c.args.kept.now.tables) c.as_slice.result.now) c.in_ok-plan.ensures
     ∙ ap (flat_map (held_unless (edit.Forget c.args.n) c.args.kept.now.register c.args.kept.now.areas c.args.kept.now.book c.args.kept.now.tables)) c.as_slice.ensures.value))

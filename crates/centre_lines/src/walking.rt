@@ -1,18 +1,20 @@
-//! The lines on which an event bears that is no edit, read before it.
+//! The lines on which an event bears that is no edit, changed one after another, each as it is read.
 
-ghost use Rattle.std.specs.Prelude.{◌≡◌, ◌≤◌, ◌+◌, ◌*◌, ◌++◌, ◌&&◌, ◌||◌, ℕ, List, true, false, nat_eq, ltb, length, unwrap_or, IfOk, OnOk};
+ghost use Rattle.std.specs.Prelude.{◌≡◌, ◌≤◌, ◌+◌, ◌*◌, ◌∷◌, [], ◌&&◌, ◌||◌, ℕ, List, true, false, nat_eq, ltb, length, map, IfOk, OnOk};
 ghost use Rattle.std.specs.List.{list_any};
 ghost use Rattle.std.specs.Option.{option_copied};
+ghost use Rattle.kept_tables.specs.Consistent.{Consistent};
 ghost use Rattle.kept_tables.specs.Tables.{Tables};
 ghost use Rattle.kept_tables.specs.View.{key_at};
 ghost use Rattle.common.specs.Order.{is_ascending};
 ghost use Rattle.mirror.specs.Blank.{is_blank, line_eq};
 ghost use Rattle.mirror.specs.Table.{down_at, line_at};
-ghost use Rattle.warning_book.specs.Book.{numbers, warning_of};
+ghost use Rattle.warning_book.specs.Book.{numbers};
 ghost use Rattle.warning_book.specs.declared.kind.Kind.{Kind};
 ghost use Rattle.centre_events.specs.Warnings.{kind_in};
 ghost use Rattle.centre_events.specs.Down.{down_mark};
-ghost use Rattle.centre_lines.specs.Following.{AreInBook, LinesAreOf, bearing, happens, is_idle, keeps_down, leaves_blank, line_now, may_change, changing_line, changing_at, changing_lines};
+ghost use Rattle.centre_lines.specs.Following.{LinesAreOf, bearing, happens, is_idle, keeps_down, keys_of, leaves_blank, may_change, step_to};
+ghost use Rattle.centre_lines.specs.Walking.{Walks, walked};
 ghost use Rattle.centre_past.specs.Idle.{AsBefore};
 ghost use Rattle.centre_lines.specs.Found.{IsKnown};
 
@@ -29,7 +31,7 @@ use centre_events::event::Event;
 use centre_events::stepping::Happening;
 use centre_past::keys::key_at;
 use kept_tables::{KeptTables, LineFacts, Spot, Step};
-use mirror::Line;
+use mirror::{Line, LineKey};
 use std::alloc::AllocError;
 use warning_book::{Kind, Warning, WarningId};
 
@@ -95,30 +97,21 @@ fn keeps_part(
 }
 
 /// The step from how a line of a warning of the kind stood to the line after what happens.
-fn step_of(
-    h: &Happening<'_, '_>,
-    kind: Kind,
-    spot: &Spot,
-    n: WarningId,
-    before: LineFacts,
-    line: Line,
-) -> Step
-    ensures { result ≡ record { key = key_at spot.now n; before = before; line = line; down = unwrap_or (down_mark kind spot.now.bsc spot.now.cell h.now.event.now h.now.answer.now) before.down } }
+fn step_to(h: &Happening<'_, '_>, kind: Kind, key: LineKey, before: LineFacts, line: Line) -> Step
+    ensures { result ≡ step_to (happens h.now) kind key before line }
 {
-    let down = down_mark(kind, spot.bsc, spot.cell, h.event, h.answer).unwrap_or(before.down);
+    let down = down_mark(kind, key.bsc, key.cell, h.event, h.answer).unwrap_or(before.down);
     Step {
-        key: key_at(spot, n),
+        key,
         before,
         line,
         down,
     }
 }
 
-/// Reads a line, and holds the step that what happens makes of it, if it does not leave it as it is.
-#[tactic(auto, using(crate::proofs::FollowLemmas::facts_as, centre_past::proofs::ReadLemmas::as_read))]
+/// Reads a line, and changes it by what happens, if that does not leave it as it is.
 #[inline(always)]
-fn hold_changing_line(
-    out: &mut Vec<Step>,
+fn walk_line(
     h: &Happening<'_, '_>,
     plan: &mut FoundPlan<'_>,
     tables: &mut KeptTables,
@@ -126,9 +119,11 @@ fn hold_changing_line(
     n: WarningId,
 ) -> Result<(), AllocError>
     requires known { IsKnown plan.old.areas at.now }
-    ensures held { (t : Tables) → AsBefore t tables.old → OnOk result (out.new.items ≡ out.old.items ++ changing_line (happens h.now) plan.old.register plan.old.areas plan.old.book t (key_at at.now.spot n)) }
-    ensures kept { (t : Tables) → AsBefore t tables.old → AsBefore t tables.new }
-    ensures meter { tables.new.lines.meter ≤ tables.old.lines.meter + 1 }
+    requires walks { Walks plan.old (happens h.now) tables.old (key_at at.now.spot n ∷ []) }
+    ensures walked { OnOk result ((x : Walks plan.old (happens h.now) tables.old (key_at at.now.spot n ∷ [])) → Consistent tables.new (walked x (key_at at.now.spot n ∷ []))) }
+    ensures downs { tables.new.lines.downs ≡ tables.old.lines.downs }
+    ensures meter { tables.new.lines.meter ≤ tables.old.lines.meter + 2 }
+    ensures least { tables.old.lines.meter ≤ tables.new.lines.meter }
     ensures same { plan.new ≡ plan.old }
 {
     let spot = &at.spot;
@@ -149,13 +144,11 @@ fn hold_changing_line(
         down,
     };
     let before = facts_from(plan, &there, n, warning)?;
-    out.push(step_of(h, kind, spot, n, before, then))?;
-    Ok(())
+    tables.take_step(&step_to(h, kind, key_at(spot, n), before, then))
 }
 
-/// Reads the lines of the warnings at the spot, and holds the steps of those that what happens does not leave as they are.
-fn hold_changing_spot(
-    out: &mut Vec<Step>,
+/// Reads the lines of the warnings at the spot, and changes those that what happens does not leave as they are.
+fn walk_spot(
     h: &Happening<'_, '_>,
     plan: &mut FoundPlan<'_>,
     tables: &mut KeptTables,
@@ -163,21 +156,22 @@ fn hold_changing_spot(
     warnings: &[WarningId],
 ) -> Result<(), AllocError>
     requires known { IsKnown plan.old.areas at.now }
-    ensures held { (t : Tables) → AsBefore t tables.old → OnOk result (out.new.items ≡ out.old.items ++ changing_at (happens h.now) plan.old.register plan.old.areas plan.old.book t warnings.now at.now.spot) }
-    ensures kept { (t : Tables) → AsBefore t tables.old → AsBefore t tables.new }
-    ensures meter { tables.new.lines.meter ≤ tables.old.lines.meter + length warnings.now }
+    requires walks { Walks plan.old (happens h.now) tables.old (map (key_at at.now.spot) warnings.now) }
+    ensures walked { OnOk result ((x : Walks plan.old (happens h.now) tables.old (map (key_at at.now.spot) warnings.now)) → Consistent tables.new (walked x (map (key_at at.now.spot) warnings.now))) }
+    ensures downs { tables.new.lines.downs ≡ tables.old.lines.downs }
+    ensures meter { tables.new.lines.meter ≤ tables.old.lines.meter + 2 * length warnings.now }
+    ensures least { tables.old.lines.meter ≤ tables.new.lines.meter }
     ensures same { plan.new ≡ plan.old }
 {
     for warning in warnings {
-        hold_changing_line(out, h, plan, tables, at, *warning)?;
+        walk_line(h, plan, tables, at, *warning)?;
     }
     Ok(())
 }
 
-/// Reads the lines of those of the warnings that are near the cell at the BSC, and holds the steps of those that what happens
-/// does not leave as they are. What leaves a blank line blank leaves the lines of the others as they are: they are idle.
-fn hold_changing_near(
-    out: &mut Vec<Step>,
+/// Reads the lines of those of the warnings that are near the cell at the BSC, and changes those that what happens does not
+/// leave as they are. What leaves a blank line blank leaves the lines of the others as they are: they are idle.
+fn walk_near(
     h: &Happening<'_, '_>,
     plan: &mut FoundPlan<'_>,
     tables: &mut KeptTables,
@@ -185,16 +179,16 @@ fn hold_changing_near(
     warnings: &[WarningId],
 ) -> Result<(), AllocError>
     requires blank { leaves_blank h.now.event.now h.now.answer.now ≡ true }
-    ensures held { (t : Tables) → AsBefore t tables.old → OnOk result (out.new.items ≡ out.old.items ++ changing_at (happens h.now) plan.old.register plan.old.areas plan.old.book t warnings.now spot.now) }
-    ensures kept { (t : Tables) → AsBefore t tables.old → AsBefore t tables.new }
-    ensures meter { LinesAreOf warnings.now tables.old → tables.new.lines.meter ≤ tables.old.lines.meter + 2 * length warnings.now }
+    requires walks { Walks plan.old (happens h.now) tables.old (map (key_at spot.now) warnings.now) }
+    ensures walked { OnOk result ((x : Walks plan.old (happens h.now) tables.old (map (key_at spot.now) warnings.now)) → Consistent tables.new (walked x (map (key_at spot.now) warnings.now))) }
+    ensures downs { tables.new.lines.downs ≡ tables.old.lines.downs }
+    ensures meter { LinesAreOf warnings.now tables.old → tables.new.lines.meter ≤ tables.old.lines.meter + 3 * length warnings.now }
+    ensures least { tables.old.lines.meter ≤ tables.new.lines.meter }
     ensures same { plan.new ≡ plan.old }
 {
     let near = near(plan, tables, spot, warnings)?;
     let at = KnownSpot::covered(*spot, near.covering.as_slice());
-    let near = near.warnings.as_slice();
-    hold_changing_spot(out, h, plan, tables, &at, near)?;
-    Ok(())
+    walk_spot(h, plan, tables, &at, near.warnings.as_slice())
 }
 
 /// The warnings whose lines at the spot may be changed by an indication, which leaves blank lines blank, or by a Retry, which
@@ -217,10 +211,9 @@ fn indicated(
     }
 }
 
-/// Reads the lines at the spot that an indication or a Retry may change, and holds those that it does not leave as they are.
-/// Where it brings the cell down, or up, the lines of all warnings that are near the cell are read.
-fn hold_indicated_spot(
-    out: &mut Vec<Step>,
+/// Reads the lines at the spot that an indication or a Retry may change, and changes those that it does not leave as they
+/// are. Where it brings the cell down, or up, the lines of all warnings that are near the cell are read.
+fn walk_indicated_spot(
     h: &Happening<'_, '_>,
     plan: &mut FoundPlan<'_>,
     tables: &mut KeptTables,
@@ -229,88 +222,89 @@ fn hold_indicated_spot(
 ) -> Result<(), AllocError>
     requires blank { leaves_blank h.now.event.now h.now.answer.now ≡ true }
     requires all { all.now ≡ numbers plan.old.book.warnings }
-    ensures held { (t : Tables) → AsBefore t tables.old → OnOk result (out.new.items ≡ out.old.items ++ changing_at (happens h.now) plan.old.register plan.old.areas plan.old.book t all.now spot.now) }
-    ensures kept { (t : Tables) → AsBefore t tables.old → AsBefore t tables.new }
-    ensures meter { AreInBook plan.old.book tables.old → tables.new.lines.meter ≤ tables.old.lines.meter + 2 * length all.now }
+    requires walks { Walks plan.old (happens h.now) tables.old (map (key_at spot.now) all.now) }
+    ensures walked { OnOk result ((x : Walks plan.old (happens h.now) tables.old (map (key_at spot.now) all.now)) → Consistent tables.new (walked x (map (key_at spot.now) all.now))) }
+    ensures downs { tables.new.lines.downs ≡ tables.old.lines.downs }
+    ensures meter { tables.new.lines.meter ≤ tables.old.lines.meter + 3 * length all.now }
+    ensures least { tables.old.lines.meter ≤ tables.new.lines.meter }
     ensures same { plan.new ≡ plan.old }
 {
     plan.book().tell_soundness();
     if !keeps_downs(h, spot, tables) {
-        return hold_changing_near(out, h, plan, tables, spot, all);
+        return walk_near(h, plan, tables, spot, all);
     }
     let indicated = indicated(h, tables, spot)?;
-    let indicated = indicated.as_slice();
     let at = KnownSpot {
         spot: *spot,
         covering: None,
     };
-    hold_changing_spot(out, h, plan, tables, &at, indicated)?;
-    Ok(())
+    walk_spot(h, plan, tables, &at, indicated.as_slice())
 }
 
-/// Reads the lines at each of the spots that an indication or a Retry may change, and holds those that it does not leave as
+/// Reads the lines at each of the spots that an indication or a Retry may change, and changes those that it does not leave as
 /// they are.
-fn hold_indicated(
+fn walk_indicated(
     h: &Happening<'_, '_>,
     plan: &mut FoundPlan<'_>,
     tables: &mut KeptTables,
     spots: &[Spot],
-) -> Result<Vec<Step>, AllocError>
+) -> Result<(), AllocError>
     requires blank { leaves_blank h.now.event.now h.now.answer.now ≡ true }
-    ensures held { (t : Tables) → AsBefore t tables.old → IfOk result (λ v. v.items ≡ changing_lines (happens h.now) plan.old.register plan.old.areas plan.old.book t spots.now (numbers plan.old.book.warnings)) }
-    ensures kept { (t : Tables) → AsBefore t tables.old → AsBefore t tables.new }
-    ensures meter { AreInBook plan.old.book tables.old → tables.new.lines.meter ≤ tables.old.lines.meter + 2 * (length spots.now * length (numbers plan.old.book.warnings)) }
+    requires walks { Walks plan.old (happens h.now) tables.old (keys_of spots.now (numbers plan.old.book.warnings)) }
+    ensures walked { OnOk result ((x : Walks plan.old (happens h.now) tables.old (keys_of spots.now (numbers plan.old.book.warnings))) → Consistent tables.new (walked x (keys_of spots.now (numbers plan.old.book.warnings)))) }
+    ensures downs { tables.new.lines.downs ≡ tables.old.lines.downs }
+    ensures meter { tables.new.lines.meter ≤ tables.old.lines.meter + 3 * (length spots.now * length (numbers plan.old.book.warnings)) }
+    ensures least { tables.old.lines.meter ≤ tables.new.lines.meter }
 {
     let all = plan.book().warnings()?;
-    let mut out = Vec::with_capacity(plan.alloc(), spots.len())?;
     for spot in spots {
-        let all = all.as_slice();
-        hold_indicated_spot(&mut out, h, plan, tables, spot, all)?;
+        walk_indicated_spot(h, plan, tables, spot, all.as_slice())?;
     }
-    Ok(out)
+    Ok(())
 }
 
-/// Reads the lines of each of the warnings at each of the spots, and holds those that what happens does not leave as they
+/// Reads the lines of each of the warnings at each of the spots, and changes those that what happens does not leave as they
 /// are.
-fn hold_named(
+fn walk_named(
     h: &Happening<'_, '_>,
     plan: &mut FoundPlan<'_>,
     tables: &mut KeptTables,
     spots: &[Spot],
     warnings: &[WarningId],
-) -> Result<Vec<Step>, AllocError>
-    ensures held { (t : Tables) → AsBefore t tables.old → IfOk result (λ v. v.items ≡ changing_lines (happens h.now) plan.old.register plan.old.areas plan.old.book t spots.now warnings.now) }
-    ensures kept { (t : Tables) → AsBefore t tables.old → AsBefore t tables.new }
-    ensures meter { tables.new.lines.meter ≤ tables.old.lines.meter + length spots.now * length warnings.now }
+) -> Result<(), AllocError>
+    requires walks { Walks plan.old (happens h.now) tables.old (keys_of spots.now warnings.now) }
+    ensures walked { OnOk result ((x : Walks plan.old (happens h.now) tables.old (keys_of spots.now warnings.now)) → Consistent tables.new (walked x (keys_of spots.now warnings.now))) }
+    ensures downs { tables.new.lines.downs ≡ tables.old.lines.downs }
+    ensures meter { tables.new.lines.meter ≤ tables.old.lines.meter + 2 * (length spots.now * length warnings.now) }
+    ensures least { tables.old.lines.meter ≤ tables.new.lines.meter }
 {
-    let mut out = Vec::with_capacity(plan.alloc(), spots.len())?;
     for spot in spots {
         let at = KnownSpot {
             spot: *spot,
             covering: None,
         };
-        hold_changing_spot(&mut out, h, plan, tables, &at, warnings)?;
+        walk_spot(h, plan, tables, &at, warnings)?;
     }
-    Ok(out)
+    Ok(())
 }
 
-/// Reads the lines at the spots on which what happens bears, and holds those that it does not leave as they are. The
+/// Reads the lines at the spots on which what happens bears, and changes those that it does not leave as they are. The
 /// warnings are those that were found; an indication and a Retry bear on all.
-pub(crate) fn hold_changing(
+pub(crate) fn walk(
     h: &Happening<'_, '_>,
     plan: &mut FoundPlan<'_>,
     tables: &mut KeptTables,
     spots: &[Spot],
     warnings: &[WarningId],
-) -> Result<Vec<Step>, AllocError>
-    ensures held { (t : Tables) → AsBefore t tables.old → IfOk result (λ v. v.items ≡ changing_lines (happens h.now) plan.old.register plan.old.areas plan.old.book t spots.now (bearing h.now.event.now h.now.answer.now plan.old.book warnings.now)) }
-    ensures kept { (t : Tables) → AsBefore t tables.old → AsBefore t tables.new }
-    ensures meter { AreInBook plan.old.book tables.old → tables.new.lines.meter ≤ tables.old.lines.meter + 2 * (length spots.now * length (bearing h.now.event.now h.now.answer.now plan.old.book warnings.now)) }
+) -> Result<(), AllocError>
+    requires walks { Walks plan.old (happens h.now) tables.old (keys_of spots.now (bearing h.now.event.now h.now.answer.now plan.old.book warnings.now)) }
+    ensures walked { OnOk result ((x : Walks plan.old (happens h.now) tables.old (keys_of spots.now (bearing h.now.event.now h.now.answer.now plan.old.book warnings.now))) → Consistent tables.new (walked x (keys_of spots.now (bearing h.now.event.now h.now.answer.now plan.old.book warnings.now)))) }
+    ensures downs { tables.new.lines.downs ≡ tables.old.lines.downs }
+    ensures meter { tables.new.lines.meter ≤ tables.old.lines.meter + 3 * (length spots.now * length (bearing h.now.event.now h.now.answer.now plan.old.book warnings.now)) }
+    ensures least { tables.old.lines.meter ≤ tables.new.lines.meter }
 {
     if leaves_blank(h) {
-        let held = hold_indicated(h, plan, tables, spots)?;
-        return Ok(held);
+        return walk_indicated(h, plan, tables, spots);
     }
-    let held = hold_named(h, plan, tables, spots, warnings)?;
-    Ok(held)
+    walk_named(h, plan, tables, spots, warnings)
 }
