@@ -10,7 +10,7 @@ use Rattle.mirror.specs.Table.{down_at}
 use Rattle.warning_book.specs.Book as book
 use Rattle.centre_core.specs.Centre.{ComesFrom, IsCentre, IsRefused, IsWhole, Leaves, Refuses, past_over}
 use Rattle.centre_past.specs.Flights.{up_before}
-use Rattle.centre_lines.specs.Following.{Finishes, WasReached, bearing, held_past, most_accesses}
+use Rattle.centre_lines.specs.Following.{Finishes, WasReached, bearing, before_past, most_accesses}
 use Rattle.centre_past.specs.IsKept.{IsKept, OnlyReadsIn}
 use Rattle.centre_past.specs.Facts.{facts}
 use Rattle.centre_events.specs.Kept.{Gives, IsChecked, is_edit, register_then, areas_then}
@@ -30,8 +30,8 @@ use Rattle.coverage_plan.specs.declared.edit.Edit.{Edit}
 use Rattle.centre_events.specs.declared.entry.Entry.{Entry}
 use Rattle.centre_events.specs.declared.event.Event.{Event}
 use Rattle.centre_events.specs.declared.event.Event.TheVariants as event
-use Rattle.centre_lines.specs.declared.held_lines.HeldLines.{HeldLines}
-use Rattle.centre_lines.specs.declared.held_lines.HeldLines.TheVariants as lines
+use Rattle.centre_lines.specs.declared.lines_before.LinesBefore.{LinesBefore}
+use Rattle.centre_lines.specs.declared.lines_before.LinesBefore.TheVariants as lines
 use Rattle.centre_past.specs.declared.kept.Kept.{Kept}
 use Rattle.centre_events.specs.declared.refusal.Refusal.{Refusal}
 use Rattle.centre_events.specs.declared.refusal.Refusal.TheVariants.{Stale, Memory, WrongDesk}
@@ -81,8 +81,8 @@ edit_reach_is past e (Err x) = omega arith
 
 -- After an edit is made, or at once where the event is none.
 
-abbrev pub finishes : (settings : Settings) (past : Past) (desk : ℕ) (e : Event) (a : Answer) (s t : Kept) (place : ℕ) (up : Bool) (spots : List Spot) (held : HeldLines) → Legal settings past → verdict settings past e ≡ Ok a → IsKept past s → t.register ≡ register_then e s.register → t.areas ≡ areas_then e s.areas → t.book ≡ book_then e s.book → t.links ≡ s.links → t.flights ≡ s.flights → t.tables ≡ s.tables → up ≡ up_before past e → place ≡ position past + 1 → WasReached past e a spots held → Finishes t e a place up spots held
-finishes settings past desk e a s t place up spots held legal accepted kept registered selected booked linked flying tables is_up is_place reached = record {
+abbrev pub finishes : (settings : Settings) (past : Past) (desk : ℕ) (e : Event) (a : Answer) (s t : Kept) (place : ℕ) (up : Bool) (spots : List Spot) (earlier : LinesBefore) → Legal settings past → verdict settings past e ≡ Ok a → IsKept past s → t.register ≡ register_then e s.register → t.areas ≡ areas_then e s.areas → t.book ≡ book_then e s.book → t.links ≡ s.links → t.flights ≡ s.flights → t.tables ≡ s.tables → up ≡ up_before past e → place ≡ position past + 1 → WasReached past e a spots earlier → Finishes t e a place up spots earlier
+finishes settings past desk e a s t place up spots earlier legal accepted kept registered selected booked linked flying tables is_up is_place reached = record {
   settings = settings;
   past = past;
   desk = desk;
@@ -100,13 +100,13 @@ finishes settings past desk e a s t place up spots held legal accepted kept regi
   reached = reached;
 }
 
-abbrev pub finishes_edit : (settings : Settings) (past : Past) (desk : ℕ) (e : Edit) (a : Answer) (s t : Kept) (place : ℕ) (spots : List Spot) (held : HeldLines) → Legal settings past → verdict settings past (event.Edit e) ≡ Ok a → IsKept past s → t ≡ record s { register = register_after e s.register; areas = areas_after e s.areas; book = book_after e s.book } → place ≡ position past + 1 → WasReached past (event.Edit e) a spots held → Finishes t (event.Edit e) a place false spots held
-finishes_edit settings past desk e a s t place spots held legal accepted kept made is_place reached =
-    finishes settings past desk (event.Edit e) a s t place false spots held legal accepted kept (ap (λ (k : Kept). k.register) made) (ap (λ (k : Kept). k.areas) made) (ap (λ (k : Kept). k.book) made) (ap (λ (k : Kept). k.links) made) (ap (λ (k : Kept). k.flights) made) (ap (λ (k : Kept). k.tables) made) refl is_place reached
+abbrev pub finishes_edit : (settings : Settings) (past : Past) (desk : ℕ) (e : Edit) (a : Answer) (s t : Kept) (place : ℕ) (spots : List Spot) (earlier : LinesBefore) → Legal settings past → verdict settings past (event.Edit e) ≡ Ok a → IsKept past s → t ≡ record s { register = register_after e s.register; areas = areas_after e s.areas; book = book_after e s.book } → place ≡ position past + 1 → WasReached past (event.Edit e) a spots earlier → Finishes t (event.Edit e) a place false spots earlier
+finishes_edit settings past desk e a s t place spots earlier legal accepted kept made is_place reached =
+    finishes settings past desk (event.Edit e) a s t place false spots earlier legal accepted kept (ap (λ (k : Kept). k.register) made) (ap (λ (k : Kept). k.areas) made) (ap (λ (k : Kept). k.book) made) (ap (λ (k : Kept). k.links) made) (ap (λ (k : Kept). k.flights) made) (ap (λ (k : Kept). k.tables) made) refl is_place reached
 
-abbrev pub finishes_other : (settings : Settings) (past : Past) (desk : ℕ) (e : Event) (a : Answer) (s : Kept) (place : ℕ) (up : Bool) (spots : List Spot) (held : HeldLines) → Legal settings past → verdict settings past e ≡ Ok a → IsKept past s → is_edit e ≡ false → up ≡ up_before past e → place ≡ position past + 1 → WasReached past e a spots held → Finishes s e a place up spots held
-finishes_other settings past desk e a s place up spots held legal accepted kept other is_up is_place reached =
-    finishes settings past desk e a s s place up spots held legal accepted kept (sym (register_stays e s.register other)) (sym (areas_stay e s.areas other)) (sym (book_stays e s.book other)) refl refl refl is_up is_place reached
+abbrev pub finishes_other : (settings : Settings) (past : Past) (desk : ℕ) (e : Event) (a : Answer) (s : Kept) (place : ℕ) (up : Bool) (spots : List Spot) (earlier : LinesBefore) → Legal settings past → verdict settings past e ≡ Ok a → IsKept past s → is_edit e ≡ false → up ≡ up_before past e → place ≡ position past + 1 → WasReached past e a spots earlier → Finishes s e a place up spots earlier
+finishes_other settings past desk e a s place up spots earlier legal accepted kept other is_up is_place reached =
+    finishes settings past desk e a s s place up spots earlier legal accepted kept (sym (register_stays e s.register other)) (sym (areas_stay e s.areas other)) (sym (book_stays e s.book other)) refl refl refl is_up is_place reached
 
 -- the number of the next entry
 pub next_place : (xs ys : List Entry) → length xs + length ys + 1 ≡ position (past_of (xs ++ ys)) + 1
@@ -216,15 +216,15 @@ refuses_starved settings xs ys stale e (Err y) h whole given = inr (whole, inl (
 -- The lines that were read or set.
 
 -- no more lines are changed by an edit than it bears on
-pub edit_counted : (past : Past) (e : Edit) (a : Answer) (st : book.State) (spots : List Spot) (held : HeldLines) → WasReached past (event.Edit e) a spots held → most_accesses (event.Edit e) a st spots held ≤ size (reach_of past (event.Edit e) a)
-edit_counted past e a st spots (lines.Whole v) was =
-    subst (λ n. n ≤ size (reach_of past (event.Edit e) a)) (sym (ap length was.lines ∙ length-map was.keys (held_past past))) was.few
+pub edit_counted : (past : Past) (e : Edit) (a : Answer) (st : book.State) (spots : List Spot) (earlier : LinesBefore) → WasReached past (event.Edit e) a spots earlier → most_accesses (event.Edit e) a st spots earlier ≤ size (reach_of past (event.Edit e) a)
+edit_counted past e a st spots (lines.Read v) was =
+    subst (λ n. n ≤ size (reach_of past (event.Edit e) a)) (sym (ap length was.lines ∙ length-map was.keys (before_past past))) was.few
 edit_counted past e a st spots (lines.Unread ns) was = let no : true ≡ false = was.other in cc
 
 -- those on which another event bears are told of, read and set
-pub other_counted : (past : Past) (e : Event) (a : Answer) (st : book.State) (spots : List Spot) (held : HeldLines) → st ≡ book_of past → WasReached past e a spots held → most_accesses e a st spots held ≤ 3 * size (reach_of past e a)
-other_counted past e a st spots (lines.Whole v) is was =
-    let few : length v.items ≤ size (reach_of past e a) = subst (λ n. n ≤ size (reach_of past e a)) (sym (ap length was.lines ∙ length-map was.keys (held_past past))) was.few in
+pub other_counted : (past : Past) (e : Event) (a : Answer) (st : book.State) (spots : List Spot) (earlier : LinesBefore) → st ≡ book_of past → WasReached past e a spots earlier → most_accesses e a st spots earlier ≤ 3 * size (reach_of past e a)
+other_counted past e a st spots (lines.Read v) is was =
+    let few : length v.items ≤ size (reach_of past e a) = subst (λ n. n ≤ size (reach_of past e a)) (sym (ap length was.lines ∙ length-map was.keys (before_past past))) was.few in
     omega (arith, few)
 other_counted past e a st spots (lines.Unread ns) is was =
     let same : length spots * length (bearing e a st ns.items) ≡ size (reach_of past e a) =
@@ -238,14 +238,14 @@ within_four settings xs ys e old new looks =
 pub edit_lines : (settings : Settings) (xs ys : List Entry) (e : Edit) (old new : ℕ) → new ≤ old + 3 * size (edit_reach (past_over xs ys) e) → new ≤ old + 4 * reach (past_over xs ys) (event.Edit e) (verdict settings (past_over xs ys) (event.Edit e))
 edit_lines settings xs ys e old new h = omega (arith, h, edit_reach_is (past_over xs ys) e (verdict settings (past_over xs ys) (event.Edit e)))
 
-pub edit_lines_then : (settings : Settings) (xs ys : List Entry) (e : Edit) (a : Answer) (st : book.State) (old mid new : ℕ) (spots : List Spot) (held : HeldLines) → mid ≤ old + 3 * size (edit_reach (past_over xs ys) e) → new ≤ mid + most_accesses (event.Edit e) a st spots held → WasReached (past_of (xs ++ ys)) (event.Edit e) a spots held → new ≤ old + 4 * reach (past_over xs ys) (event.Edit e) (verdict settings (past_over xs ys) (event.Edit e))
-edit_lines_then settings xs ys e a st old mid new spots held before now was =
-    omega (arith, before, now, edit_counted (past_of (xs ++ ys)) e a st spots held was, edit_size_over xs ys e, edit_reach_is (past_over xs ys) e (verdict settings (past_over xs ys) (event.Edit e)))
+pub edit_lines_then : (settings : Settings) (xs ys : List Entry) (e : Edit) (a : Answer) (st : book.State) (old mid new : ℕ) (spots : List Spot) (earlier : LinesBefore) → mid ≤ old + 3 * size (edit_reach (past_over xs ys) e) → new ≤ mid + most_accesses (event.Edit e) a st spots earlier → WasReached (past_of (xs ++ ys)) (event.Edit e) a spots earlier → new ≤ old + 4 * reach (past_over xs ys) (event.Edit e) (verdict settings (past_over xs ys) (event.Edit e))
+edit_lines_then settings xs ys e a st old mid new spots earlier before now was =
+    omega (arith, before, now, edit_counted (past_of (xs ++ ys)) e a st spots earlier was, edit_size_over xs ys e, edit_reach_is (past_over xs ys) e (verdict settings (past_over xs ys) (event.Edit e)))
 
-pub lines_then : (settings : Settings) (xs ys : List Entry) (e : Event) (a : Answer) (st : book.State) (old mid new : ℕ) (spots : List Spot) (held : HeldLines) → verdict settings (past_over xs ys) e ≡ Ok a → st ≡ book_of (past_of (xs ++ ys)) → mid ≤ old + looked_at (past_of (xs ++ ys)) e → new ≤ mid + most_accesses e a st spots held → WasReached (past_of (xs ++ ys)) e a spots held → new ≤ old + 4 * reach (past_over xs ys) e (verdict settings (past_over xs ys) e)
-lines_then settings xs ys e a st old mid new spots held is booked before now was =
+pub lines_then : (settings : Settings) (xs ys : List Entry) (e : Event) (a : Answer) (st : book.State) (old mid new : ℕ) (spots : List Spot) (earlier : LinesBefore) → verdict settings (past_over xs ys) e ≡ Ok a → st ≡ book_of (past_of (xs ++ ys)) → mid ≤ old + looked_at (past_of (xs ++ ys)) e → new ≤ mid + most_accesses e a st spots earlier → WasReached (past_of (xs ++ ys)) e a spots earlier → new ≤ old + 4 * reach (past_over xs ys) e (verdict settings (past_over xs ys) e)
+lines_then settings xs ys e a st old mid new spots earlier is booked before now was =
     let all : reach (past_over xs ys) e (verdict settings (past_over xs ys) e) ≡ size (reach_of (past_of (xs ++ ys)) e a) + looked_at (past_of (xs ++ ys)) e = ap (reach (past_over xs ys) e) is ∙ reach_over xs ys e (Ok a) in
-    omega (arith, before, now, other_counted (past_of (xs ++ ys)) e a st spots held booked was, all)
+    omega (arith, before, now, other_counted (past_of (xs ++ ys)) e a st spots earlier booked was, all)
 
 -- What is known where an event is entered.
 
@@ -260,23 +260,23 @@ pub made_refused : (settings : Settings) (xs ys : List Entry) (e : Edit) (x : Re
 made_refused settings xs ys e x few low given (inl h) = inl (h.0, given)
 made_refused settings xs ys e x few low given (inr h) = inr (room_is settings xs ys (event.Edit e) few low ∙ h)
 
-pub record Enters (t : Kept) (e : Entry) (past : Past) (place : ℕ) (up : Bool) (spots : List Spot) (held : HeldLines) : Type 0 where
-  pub known : Finishes t e.event e.answer place up spots held
+pub record Enters (t : Kept) (e : Entry) (past : Past) (place : ℕ) (up : Bool) (spots : List Spot) (earlier : LinesBefore) : Type 0 where
+  pub known : Finishes t e.event e.answer place up spots earlier
   pub desk : known.desk ≡ e.desk
   pub is_past : known.past ≡ past
 
-pub edit_enters : (settings : Settings) (xs ys folded now : List Entry) (desk : ℕ) (e : Edit) (a : Answer) (entry : Entry) (r s t : Kept) (last : ℕ) (spots : List Spot) (held : HeldLines) → IsWhole settings.network xs ys r → length ys < settings.limit → length xs + length ys < 2 ^ 64 - 1 → folded ≡ xs → now ≡ ys → last ≡ length folded + length now → OnlyReadsIn r s → edit_answered (past_of (xs ++ ys)) e ≡ Ok a → t ≡ record s { register = register_after e s.register; areas = areas_after e s.areas; book = book_after e s.book } → entry ≡ record { desk = desk; event = event.Edit e; answer = a } → ((b : Answer) → verdict settings (past_over xs ys) (event.Edit e) ≡ Ok b → WasReached (past_of (xs ++ ys)) (event.Edit e) b spots held) → Enters t entry (past_of (xs ++ ys)) (last + 1) false spots held
-edit_enters settings xs ys folded now desk e a entry r s t last spots held centre few low same_folded same is reads answered made entered reached =
-    subst (λ x. Enters t x (past_of (xs ++ ys)) (last + 1) false spots held) (sym entered) (record {
-      known = finishes_edit (lasting settings.network) (past_of (xs ++ ys)) desk e a s t (last + 1) spots held centre.legal (lasting_is settings.network xs ys (event.Edit e) low ∙ answered) (reads_kept (past_of (xs ++ ys)) r s centre.kept reads) made (place_then xs ys folded now last same_folded same is) (reached a (made_is settings xs ys e a few low answered));
+pub edit_enters : (settings : Settings) (xs ys folded now : List Entry) (desk : ℕ) (e : Edit) (a : Answer) (entry : Entry) (r s t : Kept) (last : ℕ) (spots : List Spot) (earlier : LinesBefore) → IsWhole settings.network xs ys r → length ys < settings.limit → length xs + length ys < 2 ^ 64 - 1 → folded ≡ xs → now ≡ ys → last ≡ length folded + length now → OnlyReadsIn r s → edit_answered (past_of (xs ++ ys)) e ≡ Ok a → t ≡ record s { register = register_after e s.register; areas = areas_after e s.areas; book = book_after e s.book } → entry ≡ record { desk = desk; event = event.Edit e; answer = a } → ((b : Answer) → verdict settings (past_over xs ys) (event.Edit e) ≡ Ok b → WasReached (past_of (xs ++ ys)) (event.Edit e) b spots earlier) → Enters t entry (past_of (xs ++ ys)) (last + 1) false spots earlier
+edit_enters settings xs ys folded now desk e a entry r s t last spots earlier centre few low same_folded same is reads answered made entered reached =
+    subst (λ x. Enters t x (past_of (xs ++ ys)) (last + 1) false spots earlier) (sym entered) (record {
+      known = finishes_edit (lasting settings.network) (past_of (xs ++ ys)) desk e a s t (last + 1) spots earlier centre.legal (lasting_is settings.network xs ys (event.Edit e) low ∙ answered) (reads_kept (past_of (xs ++ ys)) r s centre.kept reads) made (place_then xs ys folded now last same_folded same is) (reached a (made_is settings xs ys e a few low answered));
       desk = refl;
       is_past = refl;
     })
 
-pub other_enters : (settings : Settings) (xs ys folded now : List Entry) (desk : ℕ) (e : Event) (a : Answer) (entry : Entry) (r s : Kept) (last : ℕ) (up : Bool) (spots : List Spot) (held : HeldLines) → IsWhole settings.network xs ys r → length xs + length ys < 2 ^ 64 - 1 → folded ≡ xs → now ≡ ys → last ≡ length folded + length now → OnlyReadsIn r s → verdict settings (past_over xs ys) e ≡ Ok a → is_edit e ≡ false → entry ≡ record { desk = desk; event = e; answer = a } → ((past : Past) → AreLinksOf past s.links.items → up ≡ up_before past entry.event) → WasReached (past_of (xs ++ ys)) e a spots held → Enters s entry (past_of (xs ++ ys)) (last + 1) up spots held
-other_enters settings xs ys folded now desk e a entry r s last up spots held centre low same_folded same is reads accepted other entered up_is reached =
-    subst (λ x. Enters s x (past_of (xs ++ ys)) (last + 1) up spots held) (sym entered) (record {
-      known = finishes_other (lasting settings.network) (past_of (xs ++ ys)) desk e a s (last + 1) up spots held centre.legal (accepted_all settings xs ys e a low accepted) kept other (up_is (past_of (xs ++ ys)) kept.linked ∙ ap (λ (x : Entry). up_before (past_of (xs ++ ys)) x.event) entered) (place_then xs ys folded now last same_folded same is) reached;
+pub other_enters : (settings : Settings) (xs ys folded now : List Entry) (desk : ℕ) (e : Event) (a : Answer) (entry : Entry) (r s : Kept) (last : ℕ) (up : Bool) (spots : List Spot) (earlier : LinesBefore) → IsWhole settings.network xs ys r → length xs + length ys < 2 ^ 64 - 1 → folded ≡ xs → now ≡ ys → last ≡ length folded + length now → OnlyReadsIn r s → verdict settings (past_over xs ys) e ≡ Ok a → is_edit e ≡ false → entry ≡ record { desk = desk; event = e; answer = a } → ((past : Past) → AreLinksOf past s.links.items → up ≡ up_before past entry.event) → WasReached (past_of (xs ++ ys)) e a spots earlier → Enters s entry (past_of (xs ++ ys)) (last + 1) up spots earlier
+other_enters settings xs ys folded now desk e a entry r s last up spots earlier centre low same_folded same is reads accepted other entered up_is reached =
+    subst (λ x. Enters s x (past_of (xs ++ ys)) (last + 1) up spots earlier) (sym entered) (record {
+      known = finishes_other (lasting settings.network) (past_of (xs ++ ys)) desk e a s (last + 1) up spots earlier centre.legal (accepted_all settings xs ys e a low accepted) kept other (up_is (past_of (xs ++ ys)) kept.linked ∙ ap (λ (x : Entry). up_before (past_of (xs ++ ys)) x.event) entered) (place_then xs ys folded now last same_folded same is) reached;
       desk = refl;
       is_past = refl;
     })
@@ -285,8 +285,8 @@ other_enters settings xs ys folded now desk e a entry r s last up spots held cen
     kept = reads_kept (past_of (xs ++ ys)) r s centre.kept reads
 
 -- what is kept then
-pub kept_entered : (t new : Kept) (e : Entry) (past : Past) (place : ℕ) (up : Bool) (spots : List Spot) (held : HeldLines) → Enters t e past place up spots held → ((x : Finishes t e.event e.answer place up spots held) → IsKept (After (record { desk = x.desk; event = e.event; answer = e.answer }) x.past) new) → IsKept (After e past) new
-kept_entered t new e past place up spots held x f =
+pub kept_entered : (t new : Kept) (e : Entry) (past : Past) (place : ℕ) (up : Bool) (spots : List Spot) (earlier : LinesBefore) → Enters t e past place up spots earlier → ((x : Finishes t e.event e.answer place up spots earlier) → IsKept (After (record { desk = x.desk; event = e.event; answer = e.answer }) x.past) new) → IsKept (After e past) new
+kept_entered t new e past place up spots earlier x f =
     subst (λ p. IsKept (After e p) new) x.is_past (subst (λ d. IsKept (After (record { desk = d; event = e.event; answer = e.answer }) x.known.past) new) x.desk (f x.known))
 
 pub entry_accepted : (settings : Settings) (past : Past) (desk : ℕ) (e : Event) (a : Answer) (entry : Entry) → verdict settings past e ≡ Ok a → entry ≡ record { desk = desk; event = e; answer = a } → verdict settings past entry.event ≡ Ok entry.answer

@@ -16,7 +16,7 @@ use Rattle.centre_past.specs.Reach.{edit_reach, reach_of, size}
 use Rattle.centre_past.specs.declared.kept.Kept.{Kept}
 use Rattle.centre_past.proofs.UniqueLemmas.{verdict_answered}
 use Rattle.centre_lines.specs.Following.{Follows, IsLegal, WasReached, most_accesses}
-use Rattle.centre_lines.specs.declared.held_lines.HeldLines.{HeldLines}
+use Rattle.centre_lines.specs.declared.lines_before.LinesBefore.{LinesBefore}
 use Rattle.centre_core.specs.Centre.{all_reach, past_over}
 use Rattle.centre_core.proofs.CentreLemmas.{edit_counted, other_counted}
 use Rattle.centre_core.proofs.FoldedLemmas.{all_reach_over}
@@ -26,22 +26,22 @@ use Rattle.centre_core.proofs.RebuildLemmas.{Here, here, past_here, take_folded,
 abbrev meter_of : Kept → ℕ
 meter_of s = s.tables.lines.meter
 
-pub edit_metered : {E : Type 0} (r s t new : Kept) (e : Entry) (edit : Edit) (place : ℕ) (spots : List Spot) (held : HeldLines) (o : Result Unit E) → e.event ≡ event.Edit edit → t ≡ record s { register = register_after edit s.register; areas = areas_after edit s.areas; book = book_after edit s.book } → ((settings : Settings) (past : Past) (a : Answer) → Legal settings past → IsKept past r → edit_answered past edit ≡ Ok a → WasReached past (event.Edit edit) a spots held) → ((settings : Settings) (past : Past) (a : Answer) → Legal settings past → IsKept past r → edit_answered past edit ≡ Ok a → meter_of s ≤ meter_of r + 2 * size (edit_reach past edit)) → meter_of new ≤ meter_of t + most_accesses e.event e.answer t.book spots held → OnOk o ((x : Follows r e place) → meter_of new ≤ meter_of r + 4 * size (reach_of x.past e.event e.answer))
-edit_metered r s t new e edit place spots held (Err u) is made reached read now = tt
-edit_metered r s t new e edit place spots held (Ok u) is made reached read now = λ x.
+pub edit_metered : {E : Type 0} (r s t new : Kept) (e : Entry) (edit : Edit) (place : ℕ) (spots : List Spot) (earlier : LinesBefore) (o : Result Unit E) → e.event ≡ event.Edit edit → t ≡ record s { register = register_after edit s.register; areas = areas_after edit s.areas; book = book_after edit s.book } → ((settings : Settings) (past : Past) (a : Answer) → Legal settings past → IsKept past r → edit_answered past edit ≡ Ok a → WasReached past (event.Edit edit) a spots earlier) → ((settings : Settings) (past : Past) (a : Answer) → Legal settings past → IsKept past r → edit_answered past edit ≡ Ok a → meter_of s ≤ meter_of r + 2 * size (edit_reach past edit)) → meter_of new ≤ meter_of t + most_accesses e.event e.answer t.book spots earlier → OnOk o ((x : Follows r e place) → meter_of new ≤ meter_of r + 4 * size (reach_of x.past e.event e.answer))
+edit_metered r s t new e edit place spots earlier (Err u) is made reached read now = tt
+edit_metered r s t new e edit place spots earlier (Ok u) is made reached read now = λ x.
     let accepted : edit_answered x.past edit ≡ Ok e.answer = verdict_answered x.settings x.past (event.Edit edit) e.answer (subst (λ v. verdict x.settings x.past v ≡ Ok e.answer) is x.accepted) in
     let before : meter_of s ≤ meter_of r + 2 * size (edit_reach x.past edit) = read x.settings x.past e.answer x.legal x.kept accepted in
-    let few : most_accesses (event.Edit edit) e.answer t.book spots held ≤ size (edit_reach x.past edit) = edit_counted x.past edit e.answer t.book spots held (reached x.settings x.past e.answer x.legal x.kept accepted) in
-    let is_edit : most_accesses e.event e.answer t.book spots held ≡ most_accesses (event.Edit edit) e.answer t.book spots held = ap (λ v. most_accesses v e.answer t.book spots held) is in
+    let few : most_accesses (event.Edit edit) e.answer t.book spots earlier ≤ size (edit_reach x.past edit) = edit_counted x.past edit e.answer t.book spots earlier (reached x.settings x.past e.answer x.legal x.kept accepted) in
+    let is_edit : most_accesses e.event e.answer t.book spots earlier ≡ most_accesses (event.Edit edit) e.answer t.book spots earlier = ap (λ v. most_accesses v e.answer t.book spots earlier) is in
     let same : meter_of t ≡ meter_of s = ap meter_of made in
     let so : size (reach_of x.past e.event e.answer) ≡ size (edit_reach x.past edit) = ap (λ v. size (reach_of x.past v e.answer)) is in
     omega (arith, before, few, is_edit, same, so, now)
 
-pub other_metered : {E : Type 0} (r new : Kept) (e : Entry) (place : ℕ) (spots : List Spot) (held : HeldLines) (o : Result Unit E) → ((settings : Settings) (past : Past) → Legal settings past → IsKept past r → answered settings.network past e.event ≡ Ok e.answer → WasReached past e.event e.answer spots held) → meter_of new ≤ meter_of r + most_accesses e.event e.answer r.book spots held → OnOk o ((x : Follows r e place) → meter_of new ≤ meter_of r + 4 * size (reach_of x.past e.event e.answer))
-other_metered r new e place spots held (Err u) reached now = tt
-other_metered r new e place spots held (Ok u) reached now = λ x.
+pub other_metered : {E : Type 0} (r new : Kept) (e : Entry) (place : ℕ) (spots : List Spot) (earlier : LinesBefore) (o : Result Unit E) → ((settings : Settings) (past : Past) → Legal settings past → IsKept past r → answered settings.network past e.event ≡ Ok e.answer → WasReached past e.event e.answer spots earlier) → meter_of new ≤ meter_of r + most_accesses e.event e.answer r.book spots earlier → OnOk o ((x : Follows r e place) → meter_of new ≤ meter_of r + 4 * size (reach_of x.past e.event e.answer))
+other_metered r new e place spots earlier (Err u) reached now = tt
+other_metered r new e place spots earlier (Ok u) reached now = λ x.
     let accepted : answered x.settings.network x.past e.event ≡ Ok e.answer = verdict_answered x.settings x.past e.event e.answer x.accepted in
-    let few : most_accesses e.event e.answer r.book spots held ≤ 3 * size (reach_of x.past e.event e.answer) = other_counted x.past e.event e.answer r.book spots held x.kept.booked (reached x.settings x.past x.legal x.kept accepted) in
+    let few : most_accesses e.event e.answer r.book spots earlier ≤ 3 * size (reach_of x.past e.event e.answer) = other_counted x.past e.event e.answer r.book spots earlier x.kept.booked (reached x.settings x.past x.legal x.kept accepted) in
     omega (arith, few, now)
 
 -- The walk over the journal, one entry further. What is counted of the folded entries is left out.

@@ -22,7 +22,7 @@ use Rattle.centre_events.specs.declared.answer.Answer.{Answer}
 use Rattle.centre_events.specs.declared.entry.Entry.{Entry}
 use Rattle.centre_events.specs.declared.event.Event.{Event}
 use Rattle.centre_events.specs.declared.event.Event.TheVariants as event
-use Rattle.centre_lines.specs.declared.held_lines.HeldLines.{HeldLines}
+use Rattle.centre_lines.specs.declared.lines_before.LinesBefore.{LinesBefore}
 use Rattle.centre_past.specs.declared.kept.Kept.{Kept}
 use Rattle.centre_core.specs.Centre.{all_reach, past_over}
 use Rattle.centre_core.proofs.CentreLemmas.{finishes_edit, finishes_other}
@@ -71,45 +71,45 @@ kept_at journal i d s h kept = subst (λ past. IsKept past s) (sym (past_at jour
 -- What is known where an entry is followed.
 
 -- the same past, and an entry of the same desk
-record Finished (s t : Kept) (e : Entry) (v : Event) (place : ℕ) (up : Bool) (spots : List Spot) (held : HeldLines) (x : Follows s e place) : Type 0 where
-  known : Finishes t v e.answer place up spots held
+record Finished (s t : Kept) (e : Entry) (v : Event) (place : ℕ) (up : Bool) (spots : List Spot) (earlier : LinesBefore) (x : Follows s e place) : Type 0 where
+  known : Finishes t v e.answer place up spots earlier
   desk : known.desk ≡ e.desk
   past : known.past ≡ x.past
 
-edit_finished : (r s t : Kept) (e : Entry) (edit : Edit) (place : ℕ) (spots : List Spot) (held : HeldLines) (x : Follows r e place) → e.event ≡ event.Edit edit → OnlyReadsIn r s → t ≡ record s { register = register_after edit s.register; areas = areas_after edit s.areas; book = book_after edit s.book } → ((settings : Settings) (past : Past) (a : Answer) → Legal settings past → IsKept past r → edit_answered past edit ≡ Ok a → WasReached past (event.Edit edit) a spots held) → Finished r t e e.event place false spots held x
-edit_finished r s t e edit place spots held x is reads made reached =
+edit_finished : (r s t : Kept) (e : Entry) (edit : Edit) (place : ℕ) (spots : List Spot) (earlier : LinesBefore) (x : Follows r e place) → e.event ≡ event.Edit edit → OnlyReadsIn r s → t ≡ record s { register = register_after edit s.register; areas = areas_after edit s.areas; book = book_after edit s.book } → ((settings : Settings) (past : Past) (a : Answer) → Legal settings past → IsKept past r → edit_answered past edit ≡ Ok a → WasReached past (event.Edit edit) a spots earlier) → Finished r t e e.event place false spots earlier x
+edit_finished r s t e edit place spots earlier x is reads made reached =
     let accepted : verdict x.settings x.past (event.Edit edit) ≡ Ok e.answer = subst (λ v. verdict x.settings x.past v ≡ Ok e.answer) is x.accepted in
-    subst (λ v. Finished r t e v place false spots held x) (sym is) (record {
-      known = finishes_edit x.settings x.past e.desk edit e.answer s t place spots held x.legal accepted (reads_kept x.past r s x.kept reads) made x.is_place (reached x.settings x.past e.answer x.legal x.kept (verdict_answered x.settings x.past (event.Edit edit) e.answer accepted));
+    subst (λ v. Finished r t e v place false spots earlier x) (sym is) (record {
+      known = finishes_edit x.settings x.past e.desk edit e.answer s t place spots earlier x.legal accepted (reads_kept x.past r s x.kept reads) made x.is_place (reached x.settings x.past e.answer x.legal x.kept (verdict_answered x.settings x.past (event.Edit edit) e.answer accepted));
       desk = refl;
       past = refl;
     })
 
-other_finished : (r s : Kept) (e : Entry) (place : ℕ) (up : Bool) (spots : List Spot) (held : HeldLines) (x : Follows r e place) → is_edit e.event ≡ false → OnlyReadsIn r s → up ≡ up_before x.past e.event → ((settings : Settings) (past : Past) → Legal settings past → IsKept past r → answered settings.network past e.event ≡ Ok e.answer → WasReached past e.event e.answer spots held) → Finished r s e e.event place up spots held x
-other_finished r s e place up spots held x other reads up_is reached = record {
-  known = finishes_other x.settings x.past e.desk e.event e.answer s place up spots held x.legal x.accepted (reads_kept x.past r s x.kept reads) other up_is x.is_place (reached x.settings x.past x.legal x.kept (verdict_answered x.settings x.past e.event e.answer x.accepted));
+other_finished : (r s : Kept) (e : Entry) (place : ℕ) (up : Bool) (spots : List Spot) (earlier : LinesBefore) (x : Follows r e place) → is_edit e.event ≡ false → OnlyReadsIn r s → up ≡ up_before x.past e.event → ((settings : Settings) (past : Past) → Legal settings past → IsKept past r → answered settings.network past e.event ≡ Ok e.answer → WasReached past e.event e.answer spots earlier) → Finished r s e e.event place up spots earlier x
+other_finished r s e place up spots earlier x other reads up_is reached = record {
+  known = finishes_other x.settings x.past e.desk e.event e.answer s place up spots earlier x.legal x.accepted (reads_kept x.past r s x.kept reads) other up_is x.is_place (reached x.settings x.past x.legal x.kept (verdict_answered x.settings x.past e.event e.answer x.accepted));
   desk = refl;
   past = refl;
 }
 
-pub edit_finishes : (r s t : Kept) (e : Entry) (edit : Edit) (place : ℕ) (spots : List Spot) (held : HeldLines) → Follows r e place → e.event ≡ event.Edit edit → OnlyReadsIn r s → t ≡ record s { register = register_after edit s.register; areas = areas_after edit s.areas; book = book_after edit s.book } → ((settings : Settings) (past : Past) (a : Answer) → Legal settings past → IsKept past r → edit_answered past edit ≡ Ok a → WasReached past (event.Edit edit) a spots held) → Finishes t e.event e.answer place false spots held
-edit_finishes r s t e edit place spots held x is reads made reached = (edit_finished r s t e edit place spots held x is reads made reached).known
+pub edit_finishes : (r s t : Kept) (e : Entry) (edit : Edit) (place : ℕ) (spots : List Spot) (earlier : LinesBefore) → Follows r e place → e.event ≡ event.Edit edit → OnlyReadsIn r s → t ≡ record s { register = register_after edit s.register; areas = areas_after edit s.areas; book = book_after edit s.book } → ((settings : Settings) (past : Past) (a : Answer) → Legal settings past → IsKept past r → edit_answered past edit ≡ Ok a → WasReached past (event.Edit edit) a spots earlier) → Finishes t e.event e.answer place false spots earlier
+edit_finishes r s t e edit place spots earlier x is reads made reached = (edit_finished r s t e edit place spots earlier x is reads made reached).known
 
-pub other_finishes : (r s : Kept) (e : Entry) (place : ℕ) (up : Bool) (spots : List Spot) (held : HeldLines) → Follows r e place → is_edit e.event ≡ false → OnlyReadsIn r s → ((past : Past) → AreLinksOf past r.links.items → up ≡ up_before past e.event) → ((settings : Settings) (past : Past) → Legal settings past → IsKept past r → answered settings.network past e.event ≡ Ok e.answer → WasReached past e.event e.answer spots held) → Finishes s e.event e.answer place up spots held
-other_finishes r s e place up spots held x other reads up_is reached = (other_finished r s e place up spots held x other reads (up_is x.past x.kept.linked) reached).known
+pub other_finishes : (r s : Kept) (e : Entry) (place : ℕ) (up : Bool) (spots : List Spot) (earlier : LinesBefore) → Follows r e place → is_edit e.event ≡ false → OnlyReadsIn r s → ((past : Past) → AreLinksOf past r.links.items → up ≡ up_before past e.event) → ((settings : Settings) (past : Past) → Legal settings past → IsKept past r → answered settings.network past e.event ≡ Ok e.answer → WasReached past e.event e.answer spots earlier) → Finishes s e.event e.answer place up spots earlier
+other_finishes r s e place up spots earlier x other reads up_is reached = (other_finished r s e place up spots earlier x other reads (up_is x.past x.kept.linked) reached).known
 
 -- what follows from the end of it
-finished : {E : Type 0} (r t new : Kept) (e : Entry) (place : ℕ) (up : Bool) (spots : List Spot) (held : HeldLines) (o : Result Unit E) → ((x : Follows r e place) → Finished r t e e.event place up spots held x) → OnOk o ((y : Finishes t e.event e.answer place up spots held) → IsKept (After (record { desk = y.desk; event = e.event; answer = e.answer }) y.past) new) → OnOk o ((x : Follows r e place) → IsKept (After e x.past) new)
-finished r t new e place up spots held (Ok u) f g = λ x.
+finished : {E : Type 0} (r t new : Kept) (e : Entry) (place : ℕ) (up : Bool) (spots : List Spot) (earlier : LinesBefore) (o : Result Unit E) → ((x : Follows r e place) → Finished r t e e.event place up spots earlier x) → OnOk o ((y : Finishes t e.event e.answer place up spots earlier) → IsKept (After (record { desk = y.desk; event = e.event; answer = e.answer }) y.past) new) → OnOk o ((x : Follows r e place) → IsKept (After e x.past) new)
+finished r t new e place up spots earlier (Ok u) f g = λ x.
     subst (λ past. IsKept (After e past) new) (f x).past
     (subst (λ d. IsKept (After (record { desk = d; event = e.event; answer = e.answer }) (f x).known.past) new) (f x).desk (g (f x).known))
-finished r t new e place up spots held (Err u) f g = tt
+finished r t new e place up spots earlier (Err u) f g = tt
 
-pub edit_followed : {E : Type 0} (r s t new : Kept) (e : Entry) (edit : Edit) (place : ℕ) (spots : List Spot) (held : HeldLines) (o : Result Unit E) → e.event ≡ event.Edit edit → OnlyReadsIn r s → t ≡ record s { register = register_after edit s.register; areas = areas_after edit s.areas; book = book_after edit s.book } → ((settings : Settings) (past : Past) (a : Answer) → Legal settings past → IsKept past r → edit_answered past edit ≡ Ok a → WasReached past (event.Edit edit) a spots held) → OnOk o ((y : Finishes t e.event e.answer place false spots held) → IsKept (After (record { desk = y.desk; event = e.event; answer = e.answer }) y.past) new) → OnOk o ((x : Follows r e place) → IsKept (After e x.past) new)
-edit_followed r s t new e edit place spots held o is reads made reached g = finished r t new e place false spots held o (λ x. edit_finished r s t e edit place spots held x is reads made reached) g
+pub edit_followed : {E : Type 0} (r s t new : Kept) (e : Entry) (edit : Edit) (place : ℕ) (spots : List Spot) (earlier : LinesBefore) (o : Result Unit E) → e.event ≡ event.Edit edit → OnlyReadsIn r s → t ≡ record s { register = register_after edit s.register; areas = areas_after edit s.areas; book = book_after edit s.book } → ((settings : Settings) (past : Past) (a : Answer) → Legal settings past → IsKept past r → edit_answered past edit ≡ Ok a → WasReached past (event.Edit edit) a spots earlier) → OnOk o ((y : Finishes t e.event e.answer place false spots earlier) → IsKept (After (record { desk = y.desk; event = e.event; answer = e.answer }) y.past) new) → OnOk o ((x : Follows r e place) → IsKept (After e x.past) new)
+edit_followed r s t new e edit place spots earlier o is reads made reached g = finished r t new e place false spots earlier o (λ x. edit_finished r s t e edit place spots earlier x is reads made reached) g
 
-pub other_followed : {E : Type 0} (r s new : Kept) (e : Entry) (place : ℕ) (up : Bool) (spots : List Spot) (held : HeldLines) (o : Result Unit E) → is_edit e.event ≡ false → OnlyReadsIn r s → ((past : Past) → AreLinksOf past r.links.items → up ≡ up_before past e.event) → ((settings : Settings) (past : Past) → Legal settings past → IsKept past r → answered settings.network past e.event ≡ Ok e.answer → WasReached past e.event e.answer spots held) → OnOk o ((y : Finishes s e.event e.answer place up spots held) → IsKept (After (record { desk = y.desk; event = e.event; answer = e.answer }) y.past) new) → OnOk o ((x : Follows r e place) → IsKept (After e x.past) new)
-other_followed r s new e place up spots held o other reads up_is reached g = finished r s new e place up spots held o (λ x. other_finished r s e place up spots held x other reads (up_is x.past x.kept.linked) reached) g
+pub other_followed : {E : Type 0} (r s new : Kept) (e : Entry) (place : ℕ) (up : Bool) (spots : List Spot) (earlier : LinesBefore) (o : Result Unit E) → is_edit e.event ≡ false → OnlyReadsIn r s → ((past : Past) → AreLinksOf past r.links.items → up ≡ up_before past e.event) → ((settings : Settings) (past : Past) → Legal settings past → IsKept past r → answered settings.network past e.event ≡ Ok e.answer → WasReached past e.event e.answer spots earlier) → OnOk o ((y : Finishes s e.event e.answer place up spots earlier) → IsKept (After (record { desk = y.desk; event = e.event; answer = e.answer }) y.past) new) → OnOk o ((x : Follows r e place) → IsKept (After e x.past) new)
+other_followed r s new e place up spots earlier o other reads up_is reached g = finished r s new e place up spots earlier o (λ x. other_finished r s e place up spots earlier x other reads (up_is x.past x.kept.linked) reached) g
 
 -- The walk over the journal, by the numbers of its entries, from 1.
 

@@ -28,7 +28,7 @@ use Rattle.centre_events.specs.Counts.{count_mark}
 use Rattle.centre_events.specs.Effects.{indicated_effect, is_about, is_among, state_after}
 use Rattle.centre_lines.specs.Following.{Happens, change_of, leaves_blank, leaves_lines, line_now, may_change}
 use Rattle.centre_past.specs.State.{facts_from}
-use Rattle.centre_lines.specs.declared.held.Held.{Held}
+use Rattle.centre_lines.specs.declared.line_before.LineBefore.{LineBefore}
 use Rattle.centre_events.specs.Presence.{effect}
 use Rattle.centre_events.specs.Stepping.{stepped}
 use Rattle.centre_events.specs.Warnings.{kind_in, serials}
@@ -135,7 +135,7 @@ edit_leaves h ws b c (Some w) line e =
     sym (stepped_itself (λ s. effect (kind_of w) b c w.message_id s h.event h.answer h.up h.flight ws) (λ s. count_mark b c w.message_id s h.event h.answer h.flight ws) (λ s. leaves_effect (kind_of w) b c w.message_id s h.event h.answer h.up h.flight ws e) (λ s. leaves_count b c w.message_id s h.event h.answer h.flight ws e) line (serials w))
 
 -- so the line is itself in what is read of it then, if the line has versions then
-pub line_stays : (h : Happens) (r : register.State) (l : List Area) (st : book.State) (t : Tables) (x : Held) → leaves_lines h.event ≡ true → nat_eq (length (change_of h r l st t x).after.versions) 0 ≡ false → x.before.line ≡ (change_of h r l st t x).after.line
+pub line_stays : (h : Happens) (r : register.State) (l : List Area) (st : book.State) (t : Tables) (x : LineBefore) → leaves_lines h.event ≡ true → nat_eq (length (change_of h r l st t x).after.versions) 0 ≡ false → x.before.line ≡ (change_of h r l st t x).after.line
 line_stays h r l st t x e some = step (warning_of st x.key.warning) some
   where
     then_read : Option Warning → LineFacts

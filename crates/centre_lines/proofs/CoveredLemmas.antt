@@ -28,9 +28,9 @@ use Rattle.centre_events.specs.declared.event.Event.{Event}
 use Rattle.centre_events.specs.declared.event.Event.TheVariants as event
 use Rattle.coverage_plan.specs.declared.edit.Edit.{Edit}
 use Rattle.coverage_plan.specs.declared.edit.Edit.TheVariants as edit
-use Rattle.centre_lines.specs.Following.{AreCovered, Bears, Happens, change_of, covered_change, held_past, leaves_areas, leaves_areas_then, line_now}
+use Rattle.centre_lines.specs.Following.{AreCovered, Bears, Happens, change_of, covered_change, before_past, leaves_areas, leaves_areas_then, line_now}
 use Rattle.centre_past.specs.State.{AreCovering, covered_facts, facts_from}
-use Rattle.centre_lines.specs.declared.held.Held.{Held}
+use Rattle.centre_lines.specs.declared.line_before.LineBefore.{LineBefore}
 use Rattle.centre_past.proofs.FactsLemmas.{covers_same, filter_pointwise, wanted_there}
 
 -- there are areas just where their number isn't 0
@@ -47,12 +47,12 @@ covered_one : (r : register.State) (l : List Area) (down : Bool) (b : ℕ) (c : 
 covered_one r l down b c line names None are = refl
 covered_one r l down b c line names (Some w) are = covered_is r l down b c line names w are
 
-pub covered_held : (h : Happens) (r : register.State) (l : List Area) (st : book.State) (t : Tables) (x : Held) → AreCovering l x.key.cell x.before.areas (warning_of st x.key.warning) → covered_change h r st t x ≡ change_of h r l st t x
-covered_held h r l st t x are =
+pub covered_before : (h : Happens) (r : register.State) (l : List Area) (st : book.State) (t : Tables) (x : LineBefore) → AreCovering l x.key.cell x.before.areas (warning_of st x.key.warning) → covered_change h r st t x ≡ change_of h r l st t x
+covered_before h r l st t x are =
     λ i. record { key = x.key; before = x.before; after = covered_one r l (down_at t.lines (kind_in (warning_of st x.key.warning)) x.key.bsc x.key.cell) x.key.bsc x.key.cell (line_now h st.warnings x.key.bsc x.key.cell (warning_of st x.key.warning) x.before.line) x.before.areas (warning_of st x.key.warning) are i }
 
 -- of the line at a place
-pub covered_at : (l : List Area) (st : book.State) (xs : List Held) (i : ℕ) (x : Held) → AreCovered l st xs → i < length xs → x ≡ get_or xs i x → AreCovering l x.key.cell x.before.areas (warning_of st x.key.warning)
+pub covered_at : (l : List Area) (st : book.State) (xs : List LineBefore) (i : ℕ) (x : LineBefore) → AreCovered l st xs → i < length xs → x ≡ get_or xs i x → AreCovering l x.key.cell x.before.areas (warning_of st x.key.warning)
 covered_at l st [] i x are below is = grind (arith, below)
 covered_at l st (y ∷ ys) zero x are below is = rw is are.0
 covered_at l st (y ∷ ys) (suc i) x are below is = covered_at l st ys i x are.1 (grind (arith, below)) is
@@ -117,14 +117,14 @@ covering_past past new l selected same b c None (Some w) areas = cc
 covering_past past new l selected same b c (Some v) (Some w) areas =
     filter_pointwise (λ a. covers past a c) (λ a. kept.covers l a c) (λ a. sym (same c a) ∙ sym (covers_same new l selected c a)) v.areas ∙ ap (filter (λ a. kept.covers l a c)) areas
 
-covered_keys : (past new : Past) (l : List Area) (st : book.State) → AreAreasOf new l → ((c : Cell) (a : List ℕ) → covers new a c ≡ covers past a c) → ((m : ℕ) → SameAreas (warning_of (book_of past) m) (warning_of st m)) → (keys : List LineKey) → AreCovered l st (map (held_past past) keys)
+covered_keys : (past new : Past) (l : List Area) (st : book.State) → AreAreasOf new l → ((c : Cell) (a : List ℕ) → covers new a c ≡ covers past a c) → ((m : ℕ) → SameAreas (warning_of (book_of past) m) (warning_of st m)) → (keys : List LineKey) → AreCovered l st (map (before_past past) keys)
 covered_keys past new l st selected same areas [] = tt
 covered_keys past new l st selected same areas (k ∷ keys) =
     (covering_past past new l selected same k.bsc k.cell (warning_of (book_of past) k.warning) (warning_of st k.warning) (areas k.warning), covered_keys past new l st selected same areas keys)
 
 -- where what happens bears on the lines that were held
-pub bears_covered : {r : register.State} {l : List Area} {st : book.State} {t : Tables} {h : Happens} {spots : List Spot} {held : List Held} (x : Bears r l st t h spots held) → leaves_areas_then h.event ≡ true → AreCovered l st held
-bears_covered {r = r} {l = l} {st = st} {t = t} {h = h} {spots = spots} {held = held} x leaves =
+pub bears_covered : {r : register.State} {l : List Area} {st : book.State} {t : Tables} {h : Happens} {spots : List Spot} {earlier : List LineBefore} (x : Bears r l st t h spots earlier) → leaves_areas_then h.event ≡ true → AreCovered l st earlier
+bears_covered {r = r} {l = l} {st = st} {t = t} {h = h} {spots = spots} {earlier = earlier} x leaves =
     subst (AreCovered l st) (sym x.lines)
     (covered_keys x.past (After (record { desk = x.desk; event = h.event; answer = h.answer }) x.past) l st x.selected (then_covers x.desk h.event h.answer x.past leaves)
     (λ m. subst (λ b. SameAreas (warning_of (book_of x.past) m) (warning_of b m)) (sym x.booked) (then_left h.event leaves (book_of x.past) m)) x.keys)
@@ -134,5 +134,5 @@ areas_in : (r : register.State) (down : Bool) (b : ℕ) (c : Cell) (line : Line)
 areas_in r down b c line names None e = cc
 areas_in r down b c line names (Some w) e = refl
 
-pub covered_areas : (h : Happens) (r : register.State) (st : book.State) (t : Tables) (x : Held) → nat_eq (length (covered_change h r st t x).after.versions) 0 ≡ false → (covered_change h r st t x).after.areas ≡ x.before.areas
+pub covered_areas : (h : Happens) (r : register.State) (st : book.State) (t : Tables) (x : LineBefore) → nat_eq (length (covered_change h r st t x).after.versions) 0 ≡ false → (covered_change h r st t x).after.areas ≡ x.before.areas
 covered_areas h r st t x e = areas_in r (down_at t.lines (kind_in (warning_of st x.key.warning)) x.key.bsc x.key.cell) x.key.bsc x.key.cell (line_now h st.warnings x.key.bsc x.key.cell (warning_of st x.key.warning) x.before.line) x.before.areas (warning_of st x.key.warning) e

@@ -12,7 +12,7 @@ use Rattle.centre_events.specs.declared.entry.Entry.{Entry}
 use Rattle.centre_events.specs.declared.event.Event.{Event}
 use Rattle.centre_events.specs.declared.event.Event.TheVariants as event
 use Rattle.centre_events.specs.declared.flight.Flight.{Flight}
-use Rattle.centre_lines.specs.declared.held_lines.HeldLines.{HeldLines}
+use Rattle.centre_lines.specs.declared.lines_before.LinesBefore.{LinesBefore}
 use Rattle.centre_events.specs.declared.in_flight.InFlight.{InFlight}
 use Rattle.centre_past.specs.declared.kept.Kept.{Kept}
 use Rattle.centre_past.specs.declared.link.Link.{Link}
@@ -29,8 +29,8 @@ flight_is past fs (event.Ask b generation n after) flying = flying b
 flight_is past fs (event.Report b generation message) flying = flying b
 
 -- what is known before the lines are changed
-abbrev pub made_of : (s : Kept) (e : Event) (a : Answer) (place : ℕ) (up : Bool) (spots : List Spot) (held : HeldLines) (f : Option InFlight) (fs : List Flight) → Finishes s e a place up spots held → fs ≡ s.flights.items → f ≡ flight_kept fs e → Made s.register s.areas s.book s.tables (record { event = e; answer = a; up = up; flight = f }) spots held
-made_of s e a place up spots held f fs x these is = record {
+abbrev pub made_of : (s : Kept) (e : Event) (a : Answer) (place : ℕ) (up : Bool) (spots : List Spot) (earlier : LinesBefore) (f : Option InFlight) (fs : List Flight) → Finishes s e a place up spots earlier → fs ≡ s.flights.items → f ≡ flight_kept fs e → Made s.register s.areas s.book s.tables (record { event = e; answer = a; up = up; flight = f }) spots earlier
+made_of s e a place up spots earlier f fs x these is = record {
   settings = x.settings;
   past = x.past;
   desk = x.desk;

@@ -30,16 +30,16 @@ use Rattle.centre_events.specs.Verdict.{verdict}
 use Rattle.centre_events.specs.declared.answer.Answer.{Answer}
 use Rattle.centre_events.specs.declared.event.Event.TheVariants as event
 use Rattle.coverage_plan.specs.declared.edit.Edit.TheVariants as edit
-use Rattle.centre_lines.specs.Following.{held_line, held_past, held_unless, keys_of, passed_over, WasHeld}
+use Rattle.centre_lines.specs.Following.{line_before, before_past, before_unless, keys_of, passed_over, WasRead}
 use Rattle.centre_past.specs.IsKept.{IsKept}
 use Rattle.centre_past.specs.Legal.{Legal}
 use Rattle.centre_past.specs.Reach.{edit_reach, known_at, size, spot}
 use Rattle.centre_past.specs.Reaching.{TellsLines}
-use Rattle.centre_lines.specs.declared.held.Held.{Held}
-use Rattle.centre_lines.specs.declared.held.Held.{Held}
+use Rattle.centre_lines.specs.declared.line_before.LineBefore.{LineBefore}
+use Rattle.centre_lines.specs.declared.line_before.LineBefore.{LineBefore}
 use Rattle.centre_past.specs.declared.kept.Kept.{Kept}
 use Rattle.centre_past.proofs.AnyLemmas.{and_none}
-use Rattle.centre_lines.proofs.HoldLemmas.{failing, held_as, passed, told_kept, unless}
+use Rattle.centre_lines.proofs.BeforeLemmas.{failing, before_as, passed, told_kept, unless}
 use Rattle.centre_past.proofs.MarkedLineLemmas.{known_same}
 use Rattle.centre_lines.proofs.OutsideLemmas.{outside}
 use Rattle.centre_lines.proofs.PassedLemmas.{passed_same}
@@ -84,7 +84,7 @@ forgotten_read settings past s n told new legal kept tells keys slice same few m
     omega (arith, read, most, ap (λ (xs : List LineKey). length xs) same, forgotten_few settings past s n legal kept tells keys few)
 
 -- the lines of the keys that do not pass a test
-failing_keys : (passes : LineKey → Bool) (line was : LineKey → Held) → ((k : LineKey) → line k ≡ was k) → (ks : List LineKey) → flat_map (unless passes line) ks ≡ map was (failing passes ks)
+failing_keys : (passes : LineKey → Bool) (line was : LineKey → LineBefore) → ((k : LineKey) → line k ≡ was k) → (ks : List LineKey) → flat_map (unless passes line) ks ≡ map was (failing passes ks)
 failing_keys passes line was same [] = refl
 failing_keys passes line was same (k ∷ ks) = step (passes k) (failing_keys passes line was same ks)
   where
@@ -96,11 +96,11 @@ before_apart : (j k : LineKey) → key_before j k ≡ true → key_eq j k ≡ fa
 before_apart j k h = grind (arith, nat_tests)
 
 -- these lines were read before it
-pub forgotten_was_reached : (past : Past) (s : Kept) (n : ℕ) (a : Answer) (keys : List LineKey) (held : List Held) → IsKept past s → ((b : ℕ) (c : Cell) (v : ℕ) → list_any (λ k. is_key k b c v) keys ≡ (nat_eq n v && not (is_blank (line_at s.tables.lines b c v)))) → is_ascending key_before keys ≡ true → length keys ≤ size (edit_reach past (edit.Forget n)) → held ≡ flat_map (held_unless (edit.Forget n) s.register s.areas s.book s.tables) keys → WasHeld past (event.Edit (edit.Forget n)) a [] held
-forgotten_was_reached past s n a keys held kept which order few are = record {
+pub forgotten_was_reached : (past : Past) (s : Kept) (n : ℕ) (a : Answer) (keys : List LineKey) (earlier : List LineBefore) → IsKept past s → ((b : ℕ) (c : Cell) (v : ℕ) → list_any (λ k. is_key k b c v) keys ≡ (nat_eq n v && not (is_blank (line_at s.tables.lines b c v)))) → is_ascending key_before keys ≡ true → length keys ≤ size (edit_reach past (edit.Forget n)) → earlier ≡ flat_map (before_unless (edit.Forget n) s.register s.areas s.book s.tables) keys → WasRead past (event.Edit (edit.Forget n)) a [] earlier
+forgotten_was_reached past s n a keys earlier kept which order few are = record {
   away = λ settings legal kind b c out. refl;
   keys = failing passes keys;
-  lines = are ∙ failing_keys passes (held_line s.register s.areas s.book s.tables) (held_past past) (held_as past s kept) keys;
+  lines = are ∙ failing_keys passes (line_before s.register s.areas s.book s.tables) (before_past past) (before_as past s kept) keys;
   once = once_filter key_eq (λ k. not (passes k)) keys (ascending_once key_eq key_before before_apart keys order);
   few = omega (arith, few, length-filter_both (λ k. not (passes k)) passes (λ k. sym (not-not (passes k))) keys);
   rest = λ settings desk legal accepted k out. step settings desk legal accepted k out (list_any (key_eq k) keys) refl;

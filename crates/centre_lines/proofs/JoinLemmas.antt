@@ -28,7 +28,7 @@ use Rattle.warning_book.specs.Sound.{has_versions}
 use Rattle.warning_book.specs.declared.warning.Warning.{Warning}
 use Rattle.centre_events.specs.Down.{down_mark, is_down}
 use Rattle.centre_past.specs.Facts.{facts_of, facts}
-use Rattle.centre_lines.specs.Following.{SameLines, Happens, Bears, LeavesDown, MadeEdit, change_of, held_past, entry_of, down_after}
+use Rattle.centre_lines.specs.Following.{SameLines, Happens, Bears, LeavesDown, MadeEdit, change_of, before_past, entry_of, down_after}
 use Rattle.centre_past.specs.Legal.{Legal}
 use Rattle.centre_events.specs.Past.{Past, After}
 use Rattle.centre_past.specs.Reach.{spot}
@@ -37,7 +37,7 @@ use Rattle.centre_events.specs.Warnings.{book_of, warnings_of, has_key, serials}
 use Rattle.centre_events.specs.declared.answer.Answer.{Answer}
 use Rattle.centre_events.specs.declared.event.Event.{Event}
 use Rattle.centre_events.specs.Places.{place}
-use Rattle.centre_lines.specs.declared.held.Held.{Held}
+use Rattle.centre_lines.specs.declared.line_before.LineBefore.{LineBefore}
 use Rattle.centre_past.proofs.BookLemmas.{wider, owner_of, owner_is, wide_before, wide_after}
 use Rattle.centre_past.proofs.OwnedLemmas.{owned}
 use Rattle.centre_lines.proofs.TellLemmas.{from_to, any_changes, tells_keys}
@@ -63,7 +63,7 @@ marked_then past desk h spots t downs away kind b c = ap (down_after h.event h.a
     step true e = refl
     step false e = away kind b c e
 
-pub downs_then : {r : register.State} {l : List Area} {st : book.State} {t : Tables} {h : Happens} {spots : List Spot} {held : List Held} (x : Bears r l st t h spots held) (kind : Kind) (b : ℕ) (c : Cell) → down_after h.event h.answer spots kind b c (down_at t.lines kind b c) ≡ is_down (After (entry_of x.desk h) x.past) kind b c
+pub downs_then : {r : register.State} {l : List Area} {st : book.State} {t : Tables} {h : Happens} {spots : List Spot} {earlier : List LineBefore} (x : Bears r l st t h spots earlier) (kind : Kind) (b : ℕ) (c : Cell) → down_after h.event h.answer spots kind b c (down_at t.lines kind b c) ≡ is_down (After (entry_of x.desk h) x.past) kind b c
 downs_then {t = t} {h = h} {spots = spots} x kind b c = marked_then x.past x.desk h spots t x.downs x.away kind b c
 
 -- a cell is registered at one BSC at most
@@ -110,15 +110,15 @@ facts_few settings past legal k = step (warning_of (book_of past) k.warning) ref
         omega (arith, few, long)
 
 -- the changes are from the past to the past with the entry
-pub changes_are : {r : register.State} {l : List Area} {st : book.State} {t : Tables} {h : Happens} {spots : List Spot} {held : List Held} (x : Bears r l st t h spots held) (u : Tables) → ((kind : Kind) (b : ℕ) (c : Cell) → down_at u.lines kind b c ≡ is_down (After (entry_of x.desk h) x.past) kind b c) → map (change_of h r l st u) held ≡ map (from_to (facts x.past) (facts (After (entry_of x.desk h) x.past))) x.keys
+pub changes_are : {r : register.State} {l : List Area} {st : book.State} {t : Tables} {h : Happens} {spots : List Spot} {earlier : List LineBefore} (x : Bears r l st t h spots earlier) (u : Tables) → ((kind : Kind) (b : ℕ) (c : Cell) → down_at u.lines kind b c ≡ is_down (After (entry_of x.desk h) x.past) kind b c) → map (change_of h r l st u) earlier ≡ map (from_to (facts x.past) (facts (After (entry_of x.desk h) x.past))) x.keys
 changes_are {r = r} {l = l} {st = st} {h = h} {spots = spots} x u downs =
     ap (map (change_of h r l st u)) x.lines
-    ∙ map_twice (held_past x.past) (change_of h r l st u) (from_to (facts x.past) (facts (After (entry_of x.desk h) x.past)))
+    ∙ map_twice (before_past x.past) (change_of h r l st u) (from_to (facts x.past) (facts (After (entry_of x.desk h) x.past)))
     (λ k. ap (λ (f : LineFacts). let y : Change = record { key = k; before = facts x.past k; after = f } in y) (then_is x.settings x.past x.legal x.desk h x.accepted x.up x.flight r l st u x.registered x.selected x.booked downs k))
     x.keys
 
-abbrev pub begins : {r : register.State} {l : List Area} {st : book.State} {t : Tables} {h : Happens} {spots : List Spot} {held : List Held} (x : Bears r l st t h spots held) (u : Tables) → SameLines t u → ((kind : Kind) (b : ℕ) (c : Cell) → down_at u.lines kind b c ≡ down_after h.event h.answer spots kind b c (down_at t.lines kind b c)) → Begins u (map (change_of h r l st u) held)
-begins {r = r} {l = l} {st = st} {t = t} {h = h} {spots = spots} {held = held} x u same downs = record {
+abbrev pub begins : {r : register.State} {l : List Area} {st : book.State} {t : Tables} {h : Happens} {spots : List Spot} {earlier : List LineBefore} (x : Bears r l st t h spots earlier) (u : Tables) → SameLines t u → ((kind : Kind) (b : ℕ) (c : Cell) → down_at u.lines kind b c ≡ down_after h.event h.answer spots kind b c (down_at t.lines kind b c)) → Begins u (map (change_of h r l st u) earlier)
+begins {r = r} {l = l} {st = st} {t = t} {h = h} {spots = spots} {earlier = earlier} x u same downs = record {
   from = facts x.past;
   to = facts new;
   is = same_tables t u (facts x.past) same.same x.tables;
@@ -148,9 +148,9 @@ begins {r = r} {l = l} {st = st} {t = t} {h = h} {spots = spots} {held = held} x
     few_after m s = unique (book_of new) (legal_sound x.settings new legal_new) m s
 
 -- once they are made, the tables are what the past with the entry says
-pub joined : {r : register.State} {l : List Area} {st : book.State} {t : Tables} {h : Happens} {spots : List Spot} {held : List Held} (x : Bears r l st t h spots held) (u v : Tables) → ((kind : Kind) (b : ℕ) (c : Cell) → down_at u.lines kind b c ≡ down_after h.event h.answer spots kind b c (down_at t.lines kind b c)) → Consistent v (mixed (facts x.past) (facts (After (entry_of x.desk h) x.past)) (map (change_of h r l st u) held)) → Consistent v (facts (After (entry_of x.desk h) x.past))
-joined {r = r} {l = l} {st = st} {h = h} {spots = spots} {held = held} x u v downs done =
-    same_parts v (mixed (facts x.past) (facts new) (map (change_of h r l st u) held)) (facts new) (λ k. each k (changes_key k (map (change_of h r l st u) held)) refl) done
+pub joined : {r : register.State} {l : List Area} {st : book.State} {t : Tables} {h : Happens} {spots : List Spot} {earlier : List LineBefore} (x : Bears r l st t h spots earlier) (u v : Tables) → ((kind : Kind) (b : ℕ) (c : Cell) → down_at u.lines kind b c ≡ down_after h.event h.answer spots kind b c (down_at t.lines kind b c)) → Consistent v (mixed (facts x.past) (facts (After (entry_of x.desk h) x.past)) (map (change_of h r l st u) earlier)) → Consistent v (facts (After (entry_of x.desk h) x.past))
+joined {r = r} {l = l} {st = st} {h = h} {spots = spots} {earlier = earlier} x u v downs done =
+    same_parts v (mixed (facts x.past) (facts new) (map (change_of h r l st u) earlier)) (facts new) (λ k. each k (changes_key k (map (change_of h r l st u) earlier)) refl) done
   where
     new : Past
     new = After (entry_of x.desk h) x.past
@@ -158,19 +158,19 @@ joined {r = r} {l = l} {st = st} {h = h} {spots = spots} {held = held} x u v dow
     itself : (f : LineFacts) → SamePart f f
     itself f = record { line = refl; deeds = refl; total = refl; area = λ a. refl }
 
-    read : (k : LineKey) → changes_key k (map (change_of h r l st u) held) ≡ list_any (key_eq k) x.keys
+    read : (k : LineKey) → changes_key k (map (change_of h r l st u) earlier) ≡ list_any (key_eq k) x.keys
     read k = ap (changes_key k) (changes_are x u (λ kind b c. downs kind b c ∙ downs_then x kind b c)) ∙ any_changes (facts x.past) (facts new) k x.keys
 
-    each : (k : LineKey) (t : Bool) → changes_key k (map (change_of h r l st u) held) ≡ t → SamePart (if t then facts new k else facts x.past k) (facts new k)
+    each : (k : LineKey) (t : Bool) → changes_key k (map (change_of h r l st u) earlier) ≡ t → SamePart (if t then facts new k else facts x.past k) (facts new k)
     each k true e = itself (facts new k)
     each k false e = x.rest k (sym (read k) ∙ e)
 
-pub settled : {r : register.State} {l : List Area} {st : book.State} {t : Tables} {h : Happens} {spots : List Spot} {held : List Held} (x : Bears r l st t h spots held) (u v : Tables) (xs : List Change) → xs ≡ map (change_of h r l st u) held → SameLines t u → ((kind : Kind) (b : ℕ) (c : Cell) → down_at u.lines kind b c ≡ down_after h.event h.answer spots kind b c (down_at t.lines kind b c)) → ((y : Begins u xs) → Consistent v (mixed y.from y.to xs)) → Consistent v (facts (After (entry_of x.desk h) x.past))
-settled {r = r} {l = l} {st = st} {h = h} {spots = spots} {held = held} x u v xs are same downs done =
+pub settled : {r : register.State} {l : List Area} {st : book.State} {t : Tables} {h : Happens} {spots : List Spot} {earlier : List LineBefore} (x : Bears r l st t h spots earlier) (u v : Tables) (xs : List Change) → xs ≡ map (change_of h r l st u) earlier → SameLines t u → ((kind : Kind) (b : ℕ) (c : Cell) → down_at u.lines kind b c ≡ down_after h.event h.answer spots kind b c (down_at t.lines kind b c)) → ((y : Begins u xs) → Consistent v (mixed y.from y.to xs)) → Consistent v (facts (After (entry_of x.desk h) x.past))
+settled {r = r} {l = l} {st = st} {h = h} {spots = spots} {earlier = earlier} x u v xs are same downs done =
     joined x u v downs (subst (λ ys. (y : Begins u ys) → Consistent v (mixed y.from y.to ys)) are done (begins x u same downs))
 
 -- an edit that was made bears on the lines that were held
-abbrev pub bears_made : {r : register.State} {l : List Area} {st : book.State} {t : Tables} {h : Happens} {spots : List Spot} {held : List Held} (x : MadeEdit r l st t h spots held) → Bears r l st t h spots held
+abbrev pub bears_made : {r : register.State} {l : List Area} {st : book.State} {t : Tables} {h : Happens} {spots : List Spot} {earlier : List LineBefore} (x : MadeEdit r l st t h spots earlier) → Bears r l st t h spots earlier
 bears_made {h = h} {spots = spots} x = record {
   settings = x.settings;
   past = x.past;

@@ -18,7 +18,7 @@ pub mod StayLemmas
 pub mod BlankLineLemmas
 pub mod WalkLemmas
 mod PassedLemmas
-pub mod HoldLemmas
+pub mod BeforeLemmas
 pub mod ForgottenLemmas
 mod IndicatedLemmas
 pub mod FinishLemmas

@@ -12,7 +12,7 @@ use Rattle.warning_book.specs.Book.{warning_of}
 use Rattle.centre_events.specs.Warnings.{kind_in}
 use Rattle.centre_lines.specs.Following.{Happens, change_of, line_now}
 use Rattle.centre_past.specs.State.{facts_from}
-use Rattle.centre_lines.specs.declared.held.Held.{Held}
+use Rattle.centre_lines.specs.declared.line_before.LineBefore.{LineBefore}
 
 -- a list by what stands before one of its elements, that one, and what stands after it
 pub parted : {A B : Type 0} (f : A → B) (xs : List A) (i : ℕ) (x : A) → i < length xs → x ≡ get_or xs i x → map f xs ≡ map f (take i xs) ++ f x ∷ map f (drop (i + 1) xs)
@@ -37,6 +37,6 @@ next_as t x y same n = record {
 }
 
 -- tables with the same cells down make the same change of a line
-pub change_as : (h : Happens) (r : register.State) (l : List Area) (st : book.State) (t u : Tables) (x : Held) → u.lines.downs ≡ t.lines.downs → change_of h r l st t x ≡ change_of h r l st u x
+pub change_as : (h : Happens) (r : register.State) (l : List Area) (st : book.State) (t u : Tables) (x : LineBefore) → u.lines.downs ≡ t.lines.downs → change_of h r l st t x ≡ change_of h r l st u x
 change_as h r l st t u x same =
     λ i. record { key = x.key; before = x.before; after = facts_from r l (list_any (is_that_place x.key.bsc x.key.cell) (downs_of (kind_in (warning_of st x.key.warning)) (sym same i))) x.key.bsc x.key.cell (line_now h st.warnings x.key.bsc x.key.cell (warning_of st x.key.warning) x.before.line) (warning_of st x.key.warning) }

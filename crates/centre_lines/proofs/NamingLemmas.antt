@@ -136,11 +136,11 @@ named_code (flight.Order order) kept s h = step order.kind kept (nat_eq order.se
   where
     same : (kind : OrderKind) → (not (keeps_code kind order.message_id order.serial) ≡ true → false ≡ true) → replaces kind s ≡ true → code_of s ≡ code_of order.serial
     same Write k g = cc
-    same (Replace old) k g = ap code_of (sym (eqb-true old s g)) ∙ sym (eqb-true (code_of order.serial) (code_of old) (held (nat_eq (code_of order.serial) (code_of old)) k))
+    same (Replace old) k g = ap code_of (sym (eqb-true old s g)) ∙ sym (eqb-true (code_of order.serial) (code_of old) (earlier (nat_eq (code_of order.serial) (code_of old)) k))
       where
-        held : (t : Bool) → (not t ≡ true → false ≡ true) → t ≡ true
-        held true l = refl
-        held false l = l refl
+        earlier : (t : Bool) → (not t ≡ true → false ≡ true) → t ≡ true
+        earlier true l = refl
+        earlier false l = l refl
     same Kill k g = cc
 
     step : (kind : OrderKind) → (not (keeps_code kind order.message_id order.serial) ≡ true → false ≡ true) → (t : Bool) → nat_eq order.serial s ≡ t → (t || replaces kind s) ≡ true → code_of s ≡ code_of order.serial

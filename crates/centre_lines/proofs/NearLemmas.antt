@@ -25,7 +25,7 @@ use Rattle.warning_book.specs.declared.warning.Warning.{Warning}
 use Rattle.coverage_plan.specs.declared.edit.Edit.{Edit}
 use Rattle.coverage_plan.specs.declared.edit.Edit.TheVariants as edit
 use Rattle.centre_past.specs.Idle.{AsBefore}
-use Rattle.centre_lines.specs.Following.{Happens, held_at, held_line, held_unless, is_idle, is_near, leaves_blank, leaves_cover, line_now, passed_over, stays}
+use Rattle.centre_lines.specs.Following.{Happens, before_at, line_before, before_unless, is_idle, is_near, leaves_blank, leaves_cover, line_now, passed_over, stays}
 use Rattle.centre_lines.proofs.BlankLineLemmas.{blank_left}
 
 -- neither of two is so
@@ -88,21 +88,21 @@ blank_of : (t : Bool) → not t ≡ false → t ≡ true
 blank_of true h = refl
 blank_of false h = cc
 
-far_passed : (e : Edit) (r : register.State) (l : List Area) (st : book.State) (t u : Tables) (p : Spot) (n : ℕ) → AsBefore t u → leaves_cover e ≡ true → is_near l st u.lines p.bsc p.cell n ≡ false → held_unless e r l st t (key_at p n) ≡ []
+far_passed : (e : Edit) (r : register.State) (l : List Area) (st : book.State) (t u : Tables) (p : Spot) (n : ℕ) → AsBefore t u → leaves_cover e ≡ true → is_near l st u.lines p.bsc p.cell n ≡ false → before_unless e r l st t (key_at p n) ≡ []
 far_passed e r l st t u p n same leaves far =
     let parts = neither (not (is_blank (line_at u.lines p.bsc p.cell n))) (is_so n (names_one_of (areas_of l p.cell)) st.warnings) far in
     let blank : is_blank (line_at t.lines p.bsc p.cell n) ≡ true = ap (λ ls. is_blank (unwrap_or (lookup (is_slot p.bsc p.cell n) ls) blank_line)) (sym same.lines) ∙ blank_of (is_blank (line_at u.lines p.bsc p.cell n)) parts.0 in
     let idle = idle_there l st p.cell n (line_at t.lines p.bsc p.cell n) blank parts.1 (warning_of st n) refl in
-    ap (λ x. if x then [] else held_line r l st t (key_at p n) ∷ []) (over e l (warning_of st n) p.cell (line_at t.lines p.bsc p.cell n) leaves idle)
+    ap (λ x. if x then [] else line_before r l st t (key_at p n) ∷ []) (over e l (warning_of st n) p.cell (line_at t.lines p.bsc p.cell n) leaves idle)
 
 -- and the lines that are held are those of the warnings that are near
-pub near_held : (e : Edit) (r : register.State) (l : List Area) (st : book.State) (t u : Tables) (p : Spot) (ns : List ℕ) → AsBefore t u → leaves_cover e ≡ true → held_at e r l st t (filter (is_near l st u.lines p.bsc p.cell) ns) p ≡ held_at e r l st t ns p
-near_held e r l st t u p [] same leaves = refl
-near_held e r l st t u p (n ∷ ns) same leaves = step (near_held e r l st t u p ns same leaves) (is_near l st u.lines p.bsc p.cell n) refl
+pub near_before : (e : Edit) (r : register.State) (l : List Area) (st : book.State) (t u : Tables) (p : Spot) (ns : List ℕ) → AsBefore t u → leaves_cover e ≡ true → before_at e r l st t (filter (is_near l st u.lines p.bsc p.cell) ns) p ≡ before_at e r l st t ns p
+near_before e r l st t u p [] same leaves = refl
+near_before e r l st t u p (n ∷ ns) same leaves = step (near_before e r l st t u p ns same leaves) (is_near l st u.lines p.bsc p.cell n) refl
   where
-    step : held_at e r l st t (filter (is_near l st u.lines p.bsc p.cell) ns) p ≡ held_at e r l st t ns p → (x : Bool) → is_near l st u.lines p.bsc p.cell n ≡ x → held_at e r l st t (cond x (n ∷ filter (is_near l st u.lines p.bsc p.cell) ns) (filter (is_near l st u.lines p.bsc p.cell) ns)) p ≡ held_unless e r l st t (key_at p n) ++ held_at e r l st t ns p
-    step rest true h = ap (λ xs. held_unless e r l st t (key_at p n) ++ xs) rest
-    step rest false h = rest ∙ ap (λ xs. xs ++ held_at e r l st t ns p) (sym (far_passed e r l st t u p n same leaves h))
+    step : before_at e r l st t (filter (is_near l st u.lines p.bsc p.cell) ns) p ≡ before_at e r l st t ns p → (x : Bool) → is_near l st u.lines p.bsc p.cell n ≡ x → before_at e r l st t (cond x (n ∷ filter (is_near l st u.lines p.bsc p.cell) ns) (filter (is_near l st u.lines p.bsc p.cell) ns)) p ≡ before_unless e r l st t (key_at p n) ++ before_at e r l st t ns p
+    step rest true h = ap (λ xs. before_unless e r l st t (key_at p n) ++ xs) rest
+    step rest false h = rest ∙ ap (λ xs. xs ++ before_at e r l st t ns p) (sym (far_passed e r l st t u p n same leaves h))
 
 -- an idle line stays where what happens leaves blank lines blank
 pub far_stays : (h : Happens) (l : List Area) (st : book.State) (t u : Tables) (p : Spot) (n : ℕ) → AsBefore t u → leaves_blank h.event h.answer ≡ true → is_near l st u.lines p.bsc p.cell n ≡ false → stays h l st t (key_at p n) ≡ true

@@ -18,7 +18,7 @@ use Rattle.centre_past.specs.Facts.{facts}
 use Rattle.centre_lines.specs.Following.{Happens, Bears, keys_of, entry_of}
 use Rattle.centre_events.specs.Past.{After}
 use Rattle.centre_past.specs.Reach.{Reach, IsReach, bears}
-use Rattle.centre_lines.specs.declared.held.Held.{Held}
+use Rattle.centre_lines.specs.declared.line_before.LineBefore.{LineBefore}
 
 -- the change of a line from one view to another
 abbrev pub from_to : View → View → LineKey → Change
@@ -119,10 +119,10 @@ keys_once (p ∷ ps) ns h g =
 -- Where an event has been made, the changes of the lines on which it bears are such changes.
 
 -- both views
-abbrev was : {r : register.State} {l : List Area} {st : book.State} {t : Tables} {h : Happens} {spots : List Spot} {held : List Held} → Bears r l st t h spots held → View
+abbrev was : {r : register.State} {l : List Area} {st : book.State} {t : Tables} {h : Happens} {spots : List Spot} {earlier : List LineBefore} → Bears r l st t h spots earlier → View
 was x = facts x.past
 
-abbrev now : {r : register.State} {l : List Area} {st : book.State} {t : Tables} {h : Happens} {spots : List Spot} {held : List Held} → Bears r l st t h spots held → View
+abbrev now : {r : register.State} {l : List Area} {st : book.State} {t : Tables} {h : Happens} {spots : List Spot} {earlier : List LineBefore} → Bears r l st t h spots earlier → View
 now {h = h} x = facts (After (entry_of x.desk h) x.past)
 
 map_twice : {A B C : Type 0} (f : A → B) (g : B → C) (k : A → C) → ((x : A) → g (f x) ≡ k x) → (xs : List A) → map g (map f xs) ≡ map k xs

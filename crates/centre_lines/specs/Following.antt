@@ -47,9 +47,9 @@ use Rattle.coverage_plan.specs.declared.edit.Edit.TheVariants as edit
 use Rattle.centre_events.specs.declared.event.Event.{Event}
 use Rattle.centre_events.specs.declared.event.Event.TheVariants as event
 use Rattle.centre_events.specs.declared.entry.Entry.{Entry}
-use Rattle.centre_lines.specs.declared.held.Held.{Held}
-use Rattle.centre_lines.specs.declared.held_lines.HeldLines.{HeldLines}
-use Rattle.centre_lines.specs.declared.held_lines.HeldLines.TheVariants as lines
+use Rattle.centre_lines.specs.declared.line_before.LineBefore.{LineBefore}
+use Rattle.centre_lines.specs.declared.lines_before.LinesBefore.{LinesBefore}
+use Rattle.centre_lines.specs.declared.lines_before.LinesBefore.TheVariants as lines
 use Rattle.centre_events.specs.declared.in_flight.InFlight.{InFlight}
 use Rattle.centre_events.specs.declared.stepping.Happening.{Happening}
 use Rattle.centre_past.specs.declared.kept.Kept.{Kept}
@@ -60,8 +60,8 @@ abbrev pub facts_in : register.State → List Area → book.State → Tables →
 facts_in r l st t k = facts_from r l (down_at t.lines (kind_in (warning_of st k.warning)) k.bsc k.cell) k.bsc k.cell (line_at t.lines k.bsc k.cell k.warning) (warning_of st k.warning)
 
 -- the line as it stands
-abbrev pub held_line : register.State → List Area → book.State → Tables → LineKey → Held
-held_line r l st t k = record { key = k; before = facts_in r l st t k }
+abbrev pub line_before : register.State → List Area → book.State → Tables → LineKey → LineBefore
+line_before r l st t k = record { key = k; before = facts_in r l st t k }
 
 -- nothing is kept of the line, and no area of its warning covers the cell, if the book has the warning
 abbrev pub is_idle : List Area → Option Warning → Cell → Line → Bool
@@ -86,16 +86,16 @@ abbrev pub passed_over : Edit → List Area → Option Warning → Cell → Line
 passed_over e l o c line = if is_forget e then is_blank line else (leaves_cover e && is_idle l o c line)
 
 -- the line as it stands, if it is not passed over
-abbrev pub held_unless : Edit → register.State → List Area → book.State → Tables → LineKey → List Held
-held_unless e r l st t k = if passed_over e l (warning_of st k.warning) k.cell (line_at t.lines k.bsc k.cell k.warning) then [] else held_line r l st t k ∷ []
+abbrev pub before_unless : Edit → register.State → List Area → book.State → Tables → LineKey → List LineBefore
+before_unless e r l st t k = if passed_over e l (warning_of st k.warning) k.cell (line_at t.lines k.bsc k.cell k.warning) then [] else line_before r l st t k ∷ []
 
 -- the lines of each of the warnings at the spot
-abbrev pub held_at : Edit → register.State → List Area → book.State → Tables → List ℕ → Spot → List Held
-held_at e r l st t ns p = flat_map (λ n. held_unless e r l st t (key_at p n)) ns
+abbrev pub before_at : Edit → register.State → List Area → book.State → Tables → List ℕ → Spot → List LineBefore
+before_at e r l st t ns p = flat_map (λ n. before_unless e r l st t (key_at p n)) ns
 
 -- at each of the spots
-abbrev pub held_lines : Edit → register.State → List Area → book.State → Tables → List Spot → List ℕ → List Held
-held_lines e r l st t ps ns = flat_map (held_at e r l st t ns) ps
+abbrev pub lines_before : Edit → register.State → List Area → book.State → Tables → List Spot → List ℕ → List LineBefore
+lines_before e r l st t ps ns = flat_map (before_at e r l st t ns) ps
 
 -- what happens: an event with its answer, whether the link of its BSC was up before it, and what was in flight to it
 pub record Happens : Type 0 where
@@ -169,11 +169,11 @@ abbrev pub step_to : Happens → Kind → LineKey → LineFacts → Line → Ste
 step_to h kind k before next = record { key = k; before = before; line = next; down = unwrap_or (down_mark kind k.bsc k.cell h.event h.answer) before.down }
 
 -- the change of the line
-abbrev pub change_of : Happens → register.State → List Area → book.State → Tables → Held → Change
+abbrev pub change_of : Happens → register.State → List Area → book.State → Tables → LineBefore → Change
 change_of h r l st t x = record { key = x.key; before = x.before; after = facts_then h r l st t x.key x.before.line }
 
 -- the change of the line where the areas that cover its cell are those that did
-abbrev pub covered_change : Happens → register.State → book.State → Tables → Held → Change
+abbrev pub covered_change : Happens → register.State → book.State → Tables → LineBefore → Change
 covered_change h r st t x = record { key = x.key; before = x.before; after = covered_facts r (down_at t.lines (kind_in (warning_of st x.key.warning)) x.key.bsc x.key.cell) x.key.bsc x.key.cell (line_now h st.warnings x.key.bsc x.key.cell (warning_of st x.key.warning) x.before.line) x.before.areas (warning_of st x.key.warning) }
 
 -- the edit leaves what each area covers, and which areas each warning has that it leaves in the book
@@ -192,7 +192,7 @@ leaves_areas_then (event.Edit e) = leaves_areas e
 leaves_areas_then other = false
 
 -- of each line the areas were read that cover its cell
-abbrev pub AreCovered : List Area → book.State → List Held → Type 0
+abbrev pub AreCovered : List Area → book.State → List LineBefore → Type 0
 AreCovered l st [] = Unit {0}
 AreCovered l st (x ∷ xs) = AreCovering l x.key.cell x.before.areas (warning_of st x.key.warning) × AreCovered l st xs
 
@@ -231,11 +231,11 @@ abbrev pub keys_of : List Spot → List ℕ → List LineKey
 keys_of ps ns = flat_map (λ p. map (key_at p) ns) ps
 
 -- the line as the past says
-abbrev pub held_past : Past → LineKey → Held
-held_past past k = record { key = k; before = facts past k }
+abbrev pub before_past : Past → LineKey → LineBefore
+before_past past k = record { key = k; before = facts past k }
 
 -- the same of an edit, with the lines that were read before it
-pub record Bears (r : register.State) (l : List Area) (st : book.State) (t : Tables) (h : Happens) (spots : List Spot) (held : List Held) : Type 0 where
+pub record Bears (r : register.State) (l : List Area) (st : book.State) (t : Tables) (h : Happens) (spots : List Spot) (earlier : List LineBefore) : Type 0 where
   pub settings : Settings
   pub past : Past
   pub desk : ℕ
@@ -250,16 +250,16 @@ pub record Bears (r : register.State) (l : List Area) (st : book.State) (t : Tab
   pub tables : Consistent t (facts past)
   pub away : LeavesDown past h.event h.answer spots
   pub keys : List LineKey
-  pub lines : held ≡ map (held_past past) keys
+  pub lines : earlier ≡ map (before_past past) keys
   pub once : each_once key_eq keys ≡ true
   pub rest : (k : LineKey) → list_any (key_eq k) keys ≡ false → SamePart (facts past k) (facts (After (entry_of desk h) past) k)
 
 -- the lines that an accepted edit may change were read before it; each other line has the same part after it, and each cell
 -- away from the spots stays down, or up
-pub record WasHeld (past : Past) (e : Event) (a : Answer) (spots : List Spot) (held : List Held) : Type 0 where
+pub record WasRead (past : Past) (e : Event) (a : Answer) (spots : List Spot) (earlier : List LineBefore) : Type 0 where
   pub away : (settings : Settings) → Legal settings past → LeavesDown past e a spots
   pub keys : List LineKey
-  pub lines : held ≡ map (held_past past) keys
+  pub lines : earlier ≡ map (before_past past) keys
   pub once : each_once key_eq keys ≡ true
   pub few : length keys ≤ size (reach_of past e a)
   pub rest : (settings : Settings) (desk : ℕ) → Legal settings past → verdict settings past e ≡ Ok a → (k : LineKey) → list_any (key_eq k) keys ≡ false → SamePart (facts past k) (facts (After (record { desk = desk; event = e; answer = a }) past) k)
@@ -271,13 +271,13 @@ pub record IsUnread (past : Past) (e : Event) (a : Answer) (spots : List Spot) (
   pub reach : IsReach (record { spots = spots; warnings = bearing e a (book_of past) ns }) (reach_of past e a)
 
 -- what is known of the lines on which an accepted event bears, before it
-abbrev pub WasReached : Past → Event → Answer → List Spot → HeldLines → Type 0
-WasReached past e a spots (lines.Whole held) = WasHeld past e a spots held.items
+abbrev pub WasReached : Past → Event → Answer → List Spot → LinesBefore → Type 0
+WasReached past e a spots (lines.Read earlier) = WasRead past e a spots earlier.items
 WasReached past e a spots (lines.Unread ns) = IsUnread past e a spots ns.items
 
 -- how many lines are read or set at most to follow an event
-abbrev pub most_accesses : Event → Answer → book.State → List Spot → HeldLines → ℕ
-most_accesses e a st spots (lines.Whole held) = length held.items
+abbrev pub most_accesses : Event → Answer → book.State → List Spot → LinesBefore → ℕ
+most_accesses e a st spots (lines.Read earlier) = length earlier.items
 most_accesses e a st spots (lines.Unread ns) = 3 * (length spots * length (bearing e a st ns.items))
 
 -- what is known where an accepted event has been made, but for the lines: the past before it, that the plan follows it, and
@@ -298,19 +298,19 @@ pub record IsMade (r : register.State) (l : List Area) (st : book.State) (t : Ta
   pub said : says past
 
 -- what is known of the lines on which it bears is said
-abbrev pub Made : register.State → List Area → book.State → Tables → Happens → List Spot → HeldLines → Type 0
-Made r l st t h spots held = IsMade r l st t h (λ past. WasReached past h.event h.answer spots held)
+abbrev pub Made : register.State → List Area → book.State → Tables → Happens → List Spot → LinesBefore → Type 0
+Made r l st t h spots earlier = IsMade r l st t h (λ past. WasReached past h.event h.answer spots earlier)
 
 -- an edit, whose lines were read before it
-abbrev pub MadeEdit : register.State → List Area → book.State → Tables → Happens → List Spot → List Held → Type 0
-MadeEdit r l st t h spots held = IsMade r l st t h (λ past. WasHeld past h.event h.answer spots held)
+abbrev pub MadeEdit : register.State → List Area → book.State → Tables → Happens → List Spot → List LineBefore → Type 0
+MadeEdit r l st t h spots earlier = IsMade r l st t h (λ past. WasRead past h.event h.answer spots earlier)
 
 -- another event, whose lines are read as they are changed
 abbrev pub MadeOther : register.State → List Area → book.State → Tables → Happens → List Spot → List ℕ → Type 0
 MadeOther r l st t h spots ns = IsMade r l st t h (λ past. IsUnread past h.event h.answer spots ns)
 
 -- what is known of what is kept where an accepted event has been made, but for the lines, the links and the flights
-pub record Finishes (s : Kept) (e : Event) (a : Answer) (place : ℕ) (up : Bool) (spots : List Spot) (held : HeldLines) : Type 0 where
+pub record Finishes (s : Kept) (e : Event) (a : Answer) (place : ℕ) (up : Bool) (spots : List Spot) (earlier : LinesBefore) : Type 0 where
   pub settings : Settings
   pub past : Past
   pub desk : ℕ
@@ -325,7 +325,7 @@ pub record Finishes (s : Kept) (e : Event) (a : Answer) (place : ℕ) (up : Bool
   pub is_place : place ≡ position past + 1
   pub downs : (k : Kind) (b : ℕ) (c : Cell) → down_at s.tables.lines k b c ≡ is_down past k b c
   pub tables : Consistent s.tables (facts past)
-  pub reached : WasReached past e a spots held
+  pub reached : WasReached past e a spots earlier
 
 -- what is known where an entry is to be followed: the past before it, which it is legal after, and that what is kept is
 -- what that says

@@ -29,7 +29,7 @@ ghost use Rattle.centre_events.specs.Stepping.{WasLine};
 ghost use Rattle.centre_events.specs.Verdict.{verdict};
 ghost use Rattle.centre_events.specs.Warnings.{book_of, warnings_of, has_key};
 ghost use Rattle.centre_events.specs.declared.entry.Entry.{Entry};
-ghost use Rattle.centre_lines.specs.declared.held.Held.{Held};
+ghost use Rattle.centre_lines.specs.declared.line_before.LineBefore.{LineBefore};
 
 fn owned()
     ensures { (settings : Settings) (past : Past) → Legal settings past → (ws : List Warning) → ((n m s : ℕ) → is_so n (has_key m s) (warnings_of past) ≡ true → option_map (λ w. w.number) (find (has_key m s) ws) ≡ Some n) → Owned (λ m s. option_map (λ w. w.number) (find (has_key m s) ws)) (facts past) }
@@ -49,5 +49,5 @@ fn keys_once()
 {}
 
 fn begins()
-    ensures { (r : register.State) (l : List Area) (st : book.State) (t : Tables) (h : Happens) (spots : List Spot) (held : List Held) (x : Bears r l st t h spots held) (u : Tables) → SameLines t u → ((k : Kind) (b : ℕ) (c : Cell) → down_at u.lines k b c ≡ down_after h.event h.answer spots k b c (down_at t.lines k b c)) → Begins u (map (change_of h r l st u) held) }
+    ensures { (r : register.State) (l : List Area) (st : book.State) (t : Tables) (h : Happens) (spots : List Spot) (earlier : List LineBefore) (x : Bears r l st t h spots earlier) (u : Tables) → SameLines t u → ((k : Kind) (b : ℕ) (c : Cell) → down_at u.lines k b c ≡ down_after h.event h.answer spots k b c (down_at t.lines k b c)) → Begins u (map (change_of h r l st u) earlier) }
 {}

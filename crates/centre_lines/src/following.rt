@@ -17,9 +17,9 @@ ghost use Rattle.warning_book.specs.declared.kind.Kind.{Kind};
 use crate::downs::mark_downs;
 use crate::facts::{covered_facts, facts_from, kind_in};
 use crate::found_plan::{FoundPlan, find};
-use crate::held::Held;
-use crate::held_lines::HeldLines;
+use crate::line_before::LineBefore;
 use crate::line_in_cell::LineInCell;
+use crate::lines_before::LinesBefore;
 use crate::plan_parts::PlanParts;
 use crate::reached::Reached;
 use crate::walking::walk;
@@ -66,17 +66,17 @@ fn facts_then(
     h: &Happening<'_, '_>,
     plan: &mut FoundPlan<'_>,
     tables: &KeptTables,
-    held: &Held,
+    earlier: &LineBefore,
 ) -> Result<LineFacts, AllocError>
-    ensures facts { IfOk result (λ f. f ≡ facts_then (happens h.now) plan.old.register plan.old.areas plan.old.book tables.now held.now.key held.now.before.line) }
+    ensures facts { IfOk result (λ f. f ≡ facts_then (happens h.now) plan.old.register plan.old.areas plan.old.book tables.now earlier.now.key earlier.now.before.line) }
     ensures same { plan.new ≡ plan.old }
 {
-    let LineKey { bsc, cell, warning } = held.key;
+    let LineKey { bsc, cell, warning } = earlier.key;
     let spot = Spot { bsc, cell };
     let n = warning;
     let book = plan.book();
     let warning = book.find(n);
-    let mut line = held.before.line;
+    let mut line = earlier.before.line;
     line_now(h, book.as_slice(), &spot, warning, &mut line);
     let down = tables.is_down(kind_in(warning), bsc, cell);
     let there = LineInCell { spot, line, down };
@@ -88,23 +88,23 @@ fn covered_then(
     h: &Happening<'_, '_>,
     plan: &mut FoundPlan<'_>,
     tables: &KeptTables,
-    held: &Held,
+    earlier: &LineBefore,
 ) -> Result<LineFacts, AllocError>
-    ensures facts { IfOk result (λ f. f ≡ (covered_change (happens h.now) plan.old.register plan.old.book tables.now held.now).after) }
+    ensures facts { IfOk result (λ f. f ≡ (covered_change (happens h.now) plan.old.register plan.old.book tables.now earlier.now).after) }
     ensures same { plan.new ≡ plan.old }
 {
-    let LineKey { bsc, cell, warning } = held.key;
+    let LineKey { bsc, cell, warning } = earlier.key;
     let spot = Spot { bsc, cell };
     let n = warning;
     let book = plan.book();
     let warning = book.find(n);
-    let mut line = held.before.line;
+    let mut line = earlier.before.line;
     line_now(h, book.as_slice(), &spot, warning, &mut line);
     let down = tables.is_down(kind_in(warning), bsc, cell);
     let there = LineInCell { spot, line, down };
     match warning {
         Some(w) => {
-            let covering = held.before.areas.shared()?;
+            let covering = earlier.before.areas.shared()?;
             let versions = plan.serials_of(n, w)?;
             covered_facts(plan, &there, w, covering, versions)
         }
@@ -135,17 +135,17 @@ fn then_of(
     h: &Happening<'_, '_>,
     plan: &mut FoundPlan<'_>,
     tables: &KeptTables,
-    held: &Held,
+    earlier: &LineBefore,
 ) -> Result<LineFacts, AllocError>
-    requires covered { leaves_areas_then h.now.event.now ≡ true → AreCovering plan.old.areas held.now.key.cell held.now.before.areas (warning_of plan.old.book held.now.key.warning) }
-    ensures facts { IfOk result (λ f. f ≡ facts_then (happens h.now) plan.old.register plan.old.areas plan.old.book tables.now held.now.key held.now.before.line) }
+    requires covered { leaves_areas_then h.now.event.now ≡ true → AreCovering plan.old.areas earlier.now.key.cell earlier.now.before.areas (warning_of plan.old.book earlier.now.key.warning) }
+    ensures facts { IfOk result (λ f. f ≡ facts_then (happens h.now) plan.old.register plan.old.areas plan.old.book tables.now earlier.now.key earlier.now.before.line) }
     ensures same { plan.new ≡ plan.old }
 {
     if leaves_areas(h) {
-        let facts = covered_then(h, plan, tables, held)?;
+        let facts = covered_then(h, plan, tables, earlier)?;
         return Ok(facts);
     }
-    facts_then(h, plan, tables, held)
+    facts_then(h, plan, tables, earlier)
 }
 
 /// Whether the line itself is known to stay: what happens leaves every line as it is, and the warning is in the book, since
@@ -169,22 +169,22 @@ fn change_line(
     h: &Happening<'_, '_>,
     plan: &mut FoundPlan<'_>,
     tables: &mut KeptTables,
-    held: &Held,
+    earlier: &LineBefore,
 ) -> Result<(), AllocError>
-    requires covered { leaves_areas_then h.now.event.now ≡ true → AreCovering plan.old.areas held.now.key.cell held.now.before.areas (warning_of plan.old.book held.now.key.warning) }
-    requires next { IsNext tables.old (change_of (happens h.now) plan.old.register plan.old.areas plan.old.book tables.old held.now) }
-    ensures made { OnOk result ((n : IsNext tables.old (change_of (happens h.now) plan.old.register plan.old.areas plan.old.book tables.old held.now)) → Consistent tables.new (mixed n.begins.from n.begins.to (n.done ++ change_of (happens h.now) plan.old.register plan.old.areas plan.old.book tables.old held.now ∷ []))) }
+    requires covered { leaves_areas_then h.now.event.now ≡ true → AreCovering plan.old.areas earlier.now.key.cell earlier.now.before.areas (warning_of plan.old.book earlier.now.key.warning) }
+    requires next { IsNext tables.old (change_of (happens h.now) plan.old.register plan.old.areas plan.old.book tables.old earlier.now) }
+    ensures made { OnOk result ((n : IsNext tables.old (change_of (happens h.now) plan.old.register plan.old.areas plan.old.book tables.old earlier.now)) → Consistent tables.new (mixed n.begins.from n.begins.to (n.done ++ change_of (happens h.now) plan.old.register plan.old.areas plan.old.book tables.old earlier.now ∷ []))) }
     ensures downs { tables.new.lines.downs ≡ tables.old.lines.downs }
     ensures meter { tables.new.lines.meter ≤ tables.old.lines.meter + 1 }
     ensures least { tables.old.lines.meter ≤ tables.new.lines.meter }
     ensures same { plan.new ≡ plan.old }
 {
-    let after = then_of(h, plan, tables, held)?;
+    let after = then_of(h, plan, tables, earlier)?;
     let stays = Stays {
         line: line_stays(h, &after),
         areas: areas_stay(h, &after),
     };
-    tables.make(&held.key, &held.before, &after, stays)
+    tables.make(&earlier.key, &earlier.before, &after, stays)
 }
 
 /// Changes the lines by an edit, from how they stood.
@@ -192,16 +192,16 @@ fn change_lines(
     h: &Happening<'_, '_>,
     plan: &mut FoundPlan<'_>,
     tables: &mut KeptTables,
-    held: &[Held],
+    earlier: &[LineBefore],
 ) -> Result<(), AllocError>
-    requires covered { leaves_areas_then h.now.event.now ≡ true → AreCovered plan.old.areas plan.old.book held.now }
-    requires begins { Begins tables.old (map (change_of (happens h.now) plan.old.register plan.old.areas plan.old.book tables.old) held.now) }
-    ensures made { OnOk result ((b : Begins tables.old (map (change_of (happens h.now) plan.old.register plan.old.areas plan.old.book tables.old) held.now)) → Consistent tables.new (mixed b.from b.to (map (change_of (happens h.now) plan.old.register plan.old.areas plan.old.book tables.old) held.now))) }
+    requires covered { leaves_areas_then h.now.event.now ≡ true → AreCovered plan.old.areas plan.old.book earlier.now }
+    requires begins { Begins tables.old (map (change_of (happens h.now) plan.old.register plan.old.areas plan.old.book tables.old) earlier.now) }
+    ensures made { OnOk result ((b : Begins tables.old (map (change_of (happens h.now) plan.old.register plan.old.areas plan.old.book tables.old) earlier.now)) → Consistent tables.new (mixed b.from b.to (map (change_of (happens h.now) plan.old.register plan.old.areas plan.old.book tables.old) earlier.now))) }
     ensures downs { tables.new.lines.downs ≡ tables.old.lines.downs }
-    ensures meter { tables.new.lines.meter ≤ tables.old.lines.meter + length held.now }
+    ensures meter { tables.new.lines.meter ≤ tables.old.lines.meter + length earlier.now }
     ensures least { tables.old.lines.meter ≤ tables.new.lines.meter }
 {
-    for line in held {
+    for line in earlier {
         change_line(h, plan, tables, line)?;
     }
     Ok(())
@@ -214,16 +214,16 @@ fn follow_edit(
     plan: &mut FoundPlan<'_>,
     tables: &mut KeptTables,
     spots: &[Spot],
-    held: &[Held],
+    earlier: &[LineBefore],
 ) -> Result<(), AllocError>
-    requires made { MadeEdit plan.old.register plan.old.areas plan.old.book tables.old (happens h.now) spots.now held.now }
-    ensures tables { OnOk result ((x : MadeEdit plan.old.register plan.old.areas plan.old.book tables.old (happens h.now) spots.now held.now) → Consistent tables.new (facts (After (entry_of x.desk (happens h.now)) x.past))) }
-    ensures downs { OnOk result ((x : MadeEdit plan.old.register plan.old.areas plan.old.book tables.old (happens h.now) spots.now held.now) → (k : Kind) (b : ℕ) (c : Cell) → down_at tables.new.lines k b c ≡ is_down (After (entry_of x.desk (happens h.now)) x.past) k b c) }
-    ensures meter { tables.new.lines.meter ≤ tables.old.lines.meter + length held.now }
+    requires made { MadeEdit plan.old.register plan.old.areas plan.old.book tables.old (happens h.now) spots.now earlier.now }
+    ensures tables { OnOk result ((x : MadeEdit plan.old.register plan.old.areas plan.old.book tables.old (happens h.now) spots.now earlier.now) → Consistent tables.new (facts (After (entry_of x.desk (happens h.now)) x.past))) }
+    ensures downs { OnOk result ((x : MadeEdit plan.old.register plan.old.areas plan.old.book tables.old (happens h.now) spots.now earlier.now) → (k : Kind) (b : ℕ) (c : Cell) → down_at tables.new.lines k b c ≡ is_down (After (entry_of x.desk (happens h.now)) x.past) k b c) }
+    ensures meter { tables.new.lines.meter ≤ tables.old.lines.meter + length earlier.now }
     ensures least { tables.old.lines.meter ≤ tables.new.lines.meter }
 {
     mark_downs(tables, spots, h.event, h.answer)?;
-    change_lines(h, plan, tables, held)
+    change_lines(h, plan, tables, earlier)
 }
 
 /// Changes the lines by another event, each as it is read, and then brings the cells down or up that the event brings so.
@@ -265,11 +265,11 @@ pub fn bear(
         lines,
     } = reached;
     match lines {
-        HeldLines::Whole(held) => {
+        LinesBefore::Read(earlier) => {
             let mut plan = find(alloc, parts, &warnings, spots.len())?;
-            follow_edit(h, &mut plan, tables, spots.as_slice(), held.as_slice())
+            follow_edit(h, &mut plan, tables, spots.as_slice(), earlier.as_slice())
         }
-        HeldLines::Unread(named) => {
+        LinesBefore::Unread(named) => {
             let mut plan = FoundPlan::new(alloc, parts);
             follow_other(h, &mut plan, tables, spots.as_slice(), named.as_slice())
         }

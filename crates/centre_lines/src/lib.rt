@@ -1,10 +1,11 @@
 //! The lines on which an event bears: which they are, how they stand before it, and how they follow it.
 //!
-//! Begin with `reach`, then `reached`, which reads the lines before the event, and `following`, which changes them.
-//! `following`, `held`, `held_lines`, `plan_parts` and `reached` are public only for `centre_core`, where the events are
+//! Begin with `reach`, then `reached`, which reads the lines of an edit before it, and `following`, which changes the lines.
+//! `following`, `line_before`, `lines_before`, `plan_parts` and `reached` are public only for `centre_core`, where the events are
 //! entered.
 #![tactic(auto)]
 
+mod before_lemmas;
 mod coverages;
 mod downs;
 mod facts;
@@ -12,16 +13,15 @@ mod follow_lemmas;
 pub mod following;
 mod found_plan;
 mod found_warning;
-pub mod held;
-pub mod held_lines;
-mod hold_lemmas;
-mod holding;
 mod known_spot;
+pub mod line_before;
 mod line_in_cell;
+pub mod lines_before;
 mod outside_lemmas;
 pub mod plan_parts;
 mod reach;
 pub mod reached;
 mod reached_warnings;
+mod reading;
 mod spots;
 mod walking;

@@ -15,11 +15,11 @@ ghost use Rattle.centre_events.specs.declared.event.Event.TheVariants as event;
 ghost use Rattle.coverage_plan.specs.declared.edit.Edit.TheVariants as edit_spec;
 
 use crate::found_plan::find;
-use crate::held_lines::HeldLines;
-use crate::holding::{hold, hold_keys};
+use crate::lines_before::LinesBefore;
 use crate::plan_parts::PlanParts;
 use crate::reach::{reach_of_edit, reach_of_other};
 use crate::reached_warnings::of_edit;
+use crate::reading::{read_all, read_keys};
 use centre_events::answer::Answer;
 use centre_events::event::Event;
 use centre_events::stepping::Happening;
@@ -37,7 +37,7 @@ use warning_book::WarningId;
 pub struct Reached {
     pub spots: Vec<Spot>,
     pub warnings: Vec<WarningId>,
-    pub lines: HeldLines,
+    pub lines: LinesBefore,
 }
 
 /// The lines that an accepted edit may change which is no Forget, as they stand before it, found among the lines on which it
@@ -55,7 +55,7 @@ fn reached_at_spots(alloc: Global, kept: &mut Kept, edit: &Edit) -> Result<Reach
     };
     let reach = reach_of_edit(alloc, &parts, kept.tables.lines(), edit)?;
     let mut plan = find(alloc, &parts, &reach.warnings, reach.spots.len())?;
-    let held = hold(
+    let earlier = read_all(
         &mut plan,
         &mut kept.tables,
         reach.spots.as_slice(),
@@ -65,7 +65,7 @@ fn reached_at_spots(alloc: Global, kept: &mut Kept, edit: &Edit) -> Result<Reach
     Ok(Reached {
         spots: reach.spots,
         warnings: reach.warnings,
-        lines: HeldLines::Whole(held),
+        lines: LinesBefore::Read(earlier),
     })
 }
 
@@ -90,11 +90,11 @@ fn reached_by_forget(
         book: &kept.book,
     };
     let mut plan = find(alloc, &parts, &warnings, keys.len())?;
-    let held = hold_keys(&mut plan, &mut kept.tables, keys.as_slice(), edit)?;
+    let earlier = read_keys(&mut plan, &mut kept.tables, keys.as_slice(), edit)?;
     Ok(Reached {
         spots: Vec::new(alloc),
         warnings,
-        lines: HeldLines::Whole(held),
+        lines: LinesBefore::Read(earlier),
     })
 }
 
@@ -137,6 +137,6 @@ pub fn reached_by_other<'x>(
     Ok(Reached {
         spots: reach.spots,
         warnings: Vec::new(alloc),
-        lines: HeldLines::Unread(reach.warnings),
+        lines: LinesBefore::Unread(reach.warnings),
     })
 }

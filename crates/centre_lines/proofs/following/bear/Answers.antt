@@ -13,32 +13,32 @@ use Rattle.centre_lines.proofs.following.bear.Goals as goal
 
 -- an edit
 
-pub returns-in-Whole-clause-tables : goal.returns-in-Whole-clause-tables
-returns-in-Whole-clause-tables c =
+pub returns-in-Read-clause-tables : goal.returns-in-Read-clause-tables
+returns-in-Read-clause-tables c =
     let h : Happens = happens c.args.h.now in
     let r = c.args.parts.now.register.now in
     let l = c.args.parts.now.areas.now in
     let st = c.args.parts.now.book.now in
     on_ok_weaker c.follow_edit.result
     (λ done.
-    subst (λ ls. (y : Made r l st c.args.tables.now h c.args.reached.spots.items ls) → Consistent c.follow_edit.new.tables (facts (After (entry_of y.desk h) y.past))) (sym c.in-Whole.is)
-    (subst (λ xs. (y : MadeEdit r l st c.args.tables.now h c.args.reached.spots.items xs) → Consistent c.follow_edit.new.tables (facts (After (entry_of y.desk h) y.past))) c.as_slice-in-Whole.ensures.value
-    (subst (λ ps. (y : MadeEdit r l st c.args.tables.now h ps c.as_slice-in-Whole.result.now) → Consistent c.follow_edit.new.tables (facts (After (entry_of y.desk h) y.past))) c.as_slice.ensures.value
-    (subst (λ (p : State). (y : MadeEdit p.register p.areas p.book c.args.tables.now h c.as_slice.result.now c.as_slice-in-Whole.result.now) → Consistent c.follow_edit.new.tables (facts (After (entry_of y.desk h) y.past))) c.in_ok-plan-in-Whole.ensures done))))
+    subst (λ ls. (y : Made r l st c.args.tables.now h c.args.reached.spots.items ls) → Consistent c.follow_edit.new.tables (facts (After (entry_of y.desk h) y.past))) (sym c.in-Read.is)
+    (subst (λ xs. (y : MadeEdit r l st c.args.tables.now h c.args.reached.spots.items xs) → Consistent c.follow_edit.new.tables (facts (After (entry_of y.desk h) y.past))) c.as_slice-in-Read.ensures.value
+    (subst (λ ps. (y : MadeEdit r l st c.args.tables.now h ps c.as_slice-in-Read.result.now) → Consistent c.follow_edit.new.tables (facts (After (entry_of y.desk h) y.past))) c.as_slice.ensures.value
+    (subst (λ (p : State). (y : MadeEdit p.register p.areas p.book c.args.tables.now h c.as_slice.result.now c.as_slice-in-Read.result.now) → Consistent c.follow_edit.new.tables (facts (After (entry_of y.desk h) y.past))) c.in_ok-plan-in-Read.ensures done))))
     c.follow_edit.ensures.tables
 
-pub returns-in-Whole-clause-downs : goal.returns-in-Whole-clause-downs
-returns-in-Whole-clause-downs c =
+pub returns-in-Read-clause-downs : goal.returns-in-Read-clause-downs
+returns-in-Read-clause-downs c =
     let h : Happens = happens c.args.h.now in
     let r = c.args.parts.now.register.now in
     let l = c.args.parts.now.areas.now in
     let st = c.args.parts.now.book.now in
     on_ok_weaker c.follow_edit.result
     (λ done.
-    subst (λ ls. (y : Made r l st c.args.tables.now h c.args.reached.spots.items ls) → (k : Kind) (b : ℕ) (d : Cell) → down_at c.follow_edit.new.tables.lines k b d ≡ is_down (After (entry_of y.desk h) y.past) k b d) (sym c.in-Whole.is)
-    (subst (λ xs. (y : MadeEdit r l st c.args.tables.now h c.args.reached.spots.items xs) → (k : Kind) (b : ℕ) (d : Cell) → down_at c.follow_edit.new.tables.lines k b d ≡ is_down (After (entry_of y.desk h) y.past) k b d) c.as_slice-in-Whole.ensures.value
-    (subst (λ ps. (y : MadeEdit r l st c.args.tables.now h ps c.as_slice-in-Whole.result.now) → (k : Kind) (b : ℕ) (d : Cell) → down_at c.follow_edit.new.tables.lines k b d ≡ is_down (After (entry_of y.desk h) y.past) k b d) c.as_slice.ensures.value
-    (subst (λ (p : State). (y : MadeEdit p.register p.areas p.book c.args.tables.now h c.as_slice.result.now c.as_slice-in-Whole.result.now) → (k : Kind) (b : ℕ) (d : Cell) → down_at c.follow_edit.new.tables.lines k b d ≡ is_down (After (entry_of y.desk h) y.past) k b d) c.in_ok-plan-in-Whole.ensures done))))
+    subst (λ ls. (y : Made r l st c.args.tables.now h c.args.reached.spots.items ls) → (k : Kind) (b : ℕ) (d : Cell) → down_at c.follow_edit.new.tables.lines k b d ≡ is_down (After (entry_of y.desk h) y.past) k b d) (sym c.in-Read.is)
+    (subst (λ xs. (y : MadeEdit r l st c.args.tables.now h c.args.reached.spots.items xs) → (k : Kind) (b : ℕ) (d : Cell) → down_at c.follow_edit.new.tables.lines k b d ≡ is_down (After (entry_of y.desk h) y.past) k b d) c.as_slice-in-Read.ensures.value
+    (subst (λ ps. (y : MadeEdit r l st c.args.tables.now h ps c.as_slice-in-Read.result.now) → (k : Kind) (b : ℕ) (d : Cell) → down_at c.follow_edit.new.tables.lines k b d ≡ is_down (After (entry_of y.desk h) y.past) k b d) c.as_slice.ensures.value
+    (subst (λ (p : State). (y : MadeEdit p.register p.areas p.book c.args.tables.now h c.as_slice.result.now c.as_slice-in-Read.result.now) → (k : Kind) (b : ℕ) (d : Cell) → down_at c.follow_edit.new.tables.lines k b d ≡ is_down (After (entry_of y.desk h) y.past) k b d) c.in_ok-plan-in-Read.ensures done))))
     c.follow_edit.ensures.downs
 
 -- any other event

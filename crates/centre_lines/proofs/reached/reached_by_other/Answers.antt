@@ -1,5 +1,5 @@
 use Rattle.std.specs.Option.{option_copied}
-use Rattle.centre_lines.proofs.HoldLemmas.{flying_kept, told_kept}
+use Rattle.centre_lines.proofs.BeforeLemmas.{flying_kept, told_kept}
 use Rattle.centre_lines.proofs.IndicatedLemmas.{bears_on_all}
 use Rattle.centre_lines.proofs.reached.reached_by_other.Goals as goal
 

@@ -1,7 +1,7 @@
 use Rattle.std.proofs.Common.{refl}
 use Rattle.centre_core.proofs.CentreLemmas.{centre_reads}
 use Rattle.centre_past.proofs.ReadLemmas.{as_itself}
-use Rattle.centre_lines.proofs.HoldLemmas.{reads_as}
+use Rattle.centre_lines.proofs.BeforeLemmas.{reads_as}
 use Rattle.centre_core.proofs.centre.Centre.failed_rows.Goals as goal
 
 pub invariant_of-self : goal.invariant_of-self

@@ -8,14 +8,14 @@ ghost use Rattle.common.specs.Order.{is_ascending};
 ghost use Rattle.kept_tables.specs.Tables.{Tables};
 ghost use Rattle.kept_tables.specs.View.{key_at};
 ghost use Rattle.centre_past.specs.Idle.{AsBefore};
-ghost use Rattle.centre_lines.specs.Following.{LinesAreOf, held_unless, held_at, held_lines, is_idle, is_near, leaves_cover, passed_over};
+ghost use Rattle.centre_lines.specs.Following.{LinesAreOf, before_unless, before_at, lines_before, is_idle, is_near, leaves_cover, passed_over};
 ghost use Rattle.centre_past.specs.Reaching.{is_forget};
 ghost use Rattle.centre_lines.specs.Found.{IsKnown};
 
 use crate::facts::{facts_from, is_covered, kind_in};
 use crate::found_plan::FoundPlan;
-use crate::held::Held;
 use crate::known_spot::KnownSpot;
+use crate::line_before::LineBefore;
 use crate::line_in_cell::LineInCell;
 use areas::Areas;
 use centre_past::keys::key_at;
@@ -30,10 +30,10 @@ use warning_book::{Warning, WarningId};
 const FEW: usize = 32;
 
 /// A line as it stood.
-fn held_of(spot: &Spot, n: WarningId, before: LineFacts) -> Held
+fn before_of(spot: &Spot, n: WarningId, before: LineFacts) -> LineBefore
     ensures { result ≡ record { key = key_at spot.now n; before = before } }
 {
-    Held {
+    LineBefore {
         key: key_at(spot, n),
         before,
     }
@@ -99,11 +99,11 @@ fn is_passed_over(
     leaves_cover(edit) && is_idle(areas, at, warning, line)
 }
 
-/// Reads a line, and holds it, unless it is passed over.
+/// Reads a line, and keeps how it stands, unless it is passed over.
 #[tactic(auto, using(crate::proofs::FollowLemmas::facts_as, centre_past::proofs::ReadLemmas::as_read))]
 #[inline(always)]
-fn hold_line(
-    out: &mut Vec<Held>,
+fn read_before(
+    out: &mut Vec<LineBefore>,
     plan: &mut FoundPlan<'_>,
     tables: &mut KeptTables,
     at: &KnownSpot<'_>,
@@ -111,7 +111,7 @@ fn hold_line(
     edit: &Edit,
 ) -> Result<(), AllocError>
     requires known { IsKnown plan.old.areas at.now }
-    ensures held { (t : Tables) → AsBefore t tables.old → OnOk result (out.new.items ≡ out.old.items ++ held_unless edit.now plan.old.register plan.old.areas plan.old.book t (key_at at.now.spot n)) }
+    ensures earlier { (t : Tables) → AsBefore t tables.old → OnOk result (out.new.items ≡ out.old.items ++ before_unless edit.now plan.old.register plan.old.areas plan.old.book t (key_at at.now.spot n)) }
     ensures kept { (t : Tables) → AsBefore t tables.old → AsBefore t tables.new }
     ensures meter { tables.new.lines.meter ≤ tables.old.lines.meter + 1 }
     ensures same { plan.new ≡ plan.old }
@@ -128,13 +128,13 @@ fn hold_line(
         down,
     };
     let before = facts_from(plan, &there, n, warning)?;
-    out.push(held_of(&at.spot, n, before))?;
+    out.push(before_of(&at.spot, n, before))?;
     Ok(())
 }
 
 /// Reads the lines of the warnings at the spot.
-fn hold_spot(
-    out: &mut Vec<Held>,
+fn read_at(
+    out: &mut Vec<LineBefore>,
     plan: &mut FoundPlan<'_>,
     tables: &mut KeptTables,
     at: &KnownSpot<'_>,
@@ -142,13 +142,13 @@ fn hold_spot(
     edit: &Edit,
 ) -> Result<(), AllocError>
     requires known { IsKnown plan.old.areas at.now }
-    ensures held { (t : Tables) → AsBefore t tables.old → OnOk result (out.new.items ≡ out.old.items ++ held_at edit.now plan.old.register plan.old.areas plan.old.book t warnings.now at.now.spot) }
+    ensures earlier { (t : Tables) → AsBefore t tables.old → OnOk result (out.new.items ≡ out.old.items ++ before_at edit.now plan.old.register plan.old.areas plan.old.book t warnings.now at.now.spot) }
     ensures kept { (t : Tables) → AsBefore t tables.old → AsBefore t tables.new }
     ensures meter { tables.new.lines.meter ≤ tables.old.lines.meter + length warnings.now }
     ensures same { plan.new ≡ plan.old }
 {
     for warning in warnings {
-        hold_line(out, plan, tables, at, *warning, edit)?;
+        read_before(out, plan, tables, at, *warning, edit)?;
     }
     Ok(())
 }
@@ -191,10 +191,10 @@ pub(crate) fn near(
     })
 }
 
-/// Reads the lines of those of the warnings that are near the cell at the BSC, and holds those that are not passed over. The
+/// Reads the lines of those of the warnings that are near the cell at the BSC, and keeps how those stand that are not passed over. The
 /// lines of the others are idle.
-fn hold_near(
-    out: &mut Vec<Held>,
+fn read_near(
+    out: &mut Vec<LineBefore>,
     plan: &mut FoundPlan<'_>,
     tables: &mut KeptTables,
     spot: &Spot,
@@ -202,7 +202,7 @@ fn hold_near(
     edit: &Edit,
 ) -> Result<(), AllocError>
     requires cover { leaves_cover edit.now ≡ true }
-    ensures held { (t : Tables) → AsBefore t tables.old → OnOk result (out.new.items ≡ out.old.items ++ held_at edit.now plan.old.register plan.old.areas plan.old.book t warnings.now spot.now) }
+    ensures earlier { (t : Tables) → AsBefore t tables.old → OnOk result (out.new.items ≡ out.old.items ++ before_at edit.now plan.old.register plan.old.areas plan.old.book t warnings.now spot.now) }
     ensures kept { (t : Tables) → AsBefore t tables.old → AsBefore t tables.new }
     ensures meter { LinesAreOf warnings.now tables.old → tables.new.lines.meter ≤ tables.old.lines.meter + 2 * length warnings.now }
     ensures same { plan.new ≡ plan.old }
@@ -210,61 +210,61 @@ fn hold_near(
     let near = near(plan, tables, spot, warnings)?;
     let at = KnownSpot::covered(*spot, near.covering.as_slice());
     let near = near.warnings.as_slice();
-    hold_spot(out, plan, tables, &at, near, edit)?;
+    read_at(out, plan, tables, &at, near, edit)?;
     Ok(())
 }
 
-/// Reads the lines at the spot, and holds those that are not passed over.
-fn hold_there(
-    out: &mut Vec<Held>,
+/// Reads the lines at the spot, and keeps how those stand that are not passed over.
+fn read_there(
+    out: &mut Vec<LineBefore>,
     plan: &mut FoundPlan<'_>,
     tables: &mut KeptTables,
     spot: &Spot,
     warnings: &[WarningId],
     edit: &Edit,
 ) -> Result<(), AllocError>
-    ensures held { (t : Tables) → AsBefore t tables.old → OnOk result (out.new.items ≡ out.old.items ++ held_at edit.now plan.old.register plan.old.areas plan.old.book t warnings.now spot.now) }
+    ensures earlier { (t : Tables) → AsBefore t tables.old → OnOk result (out.new.items ≡ out.old.items ++ before_at edit.now plan.old.register plan.old.areas plan.old.book t warnings.now spot.now) }
     ensures kept { (t : Tables) → AsBefore t tables.old → AsBefore t tables.new }
     ensures meter { (leaves_cover edit.now ≡ true → LinesAreOf warnings.now tables.old) → tables.new.lines.meter ≤ tables.old.lines.meter + 2 * length warnings.now }
     ensures same { plan.new ≡ plan.old }
 {
     if leaves_cover(edit) {
-        return hold_near(out, plan, tables, spot, warnings, edit);
+        return read_near(out, plan, tables, spot, warnings, edit);
     }
     let at = KnownSpot {
         spot: *spot,
         covering: None,
     };
-    hold_spot(out, plan, tables, &at, warnings, edit)
+    read_at(out, plan, tables, &at, warnings, edit)
 }
 
-/// Reads the lines of each of the warnings at each of the spots, and holds those that are not passed over.
-pub(crate) fn hold(
+/// Reads the lines of each of the warnings at each of the spots, and keeps how those stand that are not passed over.
+pub(crate) fn read_all(
     plan: &mut FoundPlan<'_>,
     tables: &mut KeptTables,
     spots: &[Spot],
     warnings: &[WarningId],
     edit: &Edit,
-) -> Result<Vec<Held>, AllocError>
-    ensures held { (t : Tables) → AsBefore t tables.old → IfOk result (λ v. v.items ≡ held_lines edit.now plan.old.register plan.old.areas plan.old.book t spots.now warnings.now) }
+) -> Result<Vec<LineBefore>, AllocError>
+    ensures earlier { (t : Tables) → AsBefore t tables.old → IfOk result (λ v. v.items ≡ lines_before edit.now plan.old.register plan.old.areas plan.old.book t spots.now warnings.now) }
     ensures kept { (t : Tables) → AsBefore t tables.old → AsBefore t tables.new }
     ensures meter { (leaves_cover edit.now ≡ true → LinesAreOf warnings.now tables.old) → tables.new.lines.meter ≤ tables.old.lines.meter + 2 * (length spots.now * length warnings.now) }
 {
     let mut out = Vec::with_capacity(plan.alloc(), spots.len().max(FEW))?;
     for spot in spots {
-        hold_there(&mut out, plan, tables, spot, warnings, edit)?;
+        read_there(&mut out, plan, tables, spot, warnings, edit)?;
     }
     Ok(out)
 }
 
-/// Reads these lines, and holds those that are not passed over.
-pub(crate) fn hold_keys(
+/// Reads these lines, and keeps how those stand that are not passed over.
+pub(crate) fn read_keys(
     plan: &mut FoundPlan<'_>,
     tables: &mut KeptTables,
     keys: &[LineKey],
     edit: &Edit,
-) -> Result<Vec<Held>, AllocError>
-    ensures held { (t : Tables) → AsBefore t tables.old → IfOk result (λ v. v.items ≡ flat_map (held_unless edit.now plan.old.register plan.old.areas plan.old.book t) keys.now) }
+) -> Result<Vec<LineBefore>, AllocError>
+    ensures earlier { (t : Tables) → AsBefore t tables.old → IfOk result (λ v. v.items ≡ flat_map (before_unless edit.now plan.old.register plan.old.areas plan.old.book t) keys.now) }
     ensures kept { (t : Tables) → AsBefore t tables.old → AsBefore t tables.new }
     ensures meter { tables.new.lines.meter ≤ tables.old.lines.meter + length keys.now }
 {
@@ -275,7 +275,7 @@ pub(crate) fn hold_keys(
             spot: Spot { bsc, cell },
             covering: None,
         };
-        hold_line(&mut out, plan, tables, &at, warning, edit)?;
+        read_before(&mut out, plan, tables, &at, warning, edit)?;
     }
     Ok(out)
 }

@@ -1,7 +1,7 @@
 use Rattle.std.proofs.Common.{◌≡◌, ◌+◌, ◌∙◌, ap, arith, filter, sym, take}
 use Rattle.std.proofs.lemmas.Grind.{common_steps}
 use Rattle.centre_lines.specs.Following.{is_near}
-use Rattle.centre_lines.proofs.holding.near.Goals as goal
+use Rattle.centre_lines.proofs.reading.near.Goals as goal
 
 pub loop-warning-preserved : goal.loop-warning-preserved
 loop-warning-preserved c =

@@ -2,17 +2,17 @@
 
 ghost use Rattle.std.specs.Prelude.{◌≡◌, List, ℕ};
 ghost use Rattle.kept_tables.specs.declared.spot.Spot.{Spot};
-ghost use Rattle.centre_lines.specs.Following.{WasHeld, held_lines};
+ghost use Rattle.centre_lines.specs.Following.{WasRead, lines_before};
 ghost use Rattle.centre_past.specs.IsKept.{IsKept};
 ghost use Rattle.centre_events.specs.Past.{Past};
 ghost use Rattle.centre_past.specs.Reach.{IsReach, reach_of};
 ghost use Rattle.centre_events.specs.declared.answer.Answer.{Answer};
 ghost use Rattle.centre_events.specs.declared.event.Event.TheVariants as event;
 ghost use Rattle.coverage_plan.specs.declared.edit.Edit.{Edit};
-ghost use Rattle.centre_lines.specs.declared.held.Held.{Held};
+ghost use Rattle.centre_lines.specs.declared.line_before.LineBefore.{LineBefore};
 ghost use Rattle.centre_past.specs.declared.kept.Kept.{Kept};
 
-#[tactic(auto, using(crate::proofs::HoldLemmas::edit_was_reached))]
+#[tactic(auto, using(crate::proofs::BeforeLemmas::edit_was_reached))]
 fn edit_was_reached()
-    ensures { (past : Past) (s : Kept) (e : Edit) (a : Answer) (spots : List Spot) (numbers : List ℕ) (held : List Held) → IsKept past s → IsReach (record { spots = spots; warnings = numbers }) (reach_of past (event.Edit e) a) → held ≡ held_lines e s.register s.areas s.book s.tables spots numbers → WasHeld past (event.Edit e) a spots held }
+    ensures { (past : Past) (s : Kept) (e : Edit) (a : Answer) (spots : List Spot) (numbers : List ℕ) (earlier : List LineBefore) → IsKept past s → IsReach (record { spots = spots; warnings = numbers }) (reach_of past (event.Edit e) a) → earlier ≡ lines_before e s.register s.areas s.book s.tables spots numbers → WasRead past (event.Edit e) a spots earlier }
 {}

@@ -1,7 +1,7 @@
 use Rattle.std.proofs.Common.{◌≡◌, ◌∙◌, nat_eq, get_or, arith, rules, le-ltb}
 use Rattle.std.proofs.lemmas.List.Sorted.{IsPartitionPoint-from_clause}
 use Rattle.centre_lines.proofs.ListedLemmas.{is_below, none_at_start, parted, told_at_start}
-use Rattle.centre_lines.proofs.holding.is_listed.Goals as goal
+use Rattle.centre_lines.proofs.reading.is_listed.Goals as goal
 
 pub returns-then-place-warnings : goal.returns-then-place-warnings
 returns-then-place-warnings c =

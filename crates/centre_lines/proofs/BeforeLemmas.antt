@@ -19,7 +19,7 @@ use Rattle.warning_book.specs.declared.warning.Warning.{Warning}
 use Rattle.centre_events.specs.Facts.{IsLineOf}
 use Rattle.centre_past.specs.Facts.{facts_of, facts}
 use Rattle.centre_past.specs.Flights.{flight_kept}
-use Rattle.centre_lines.specs.Following.{facts_in, held_line, held_lines, held_past, keys_of, passed_over, WasHeld}
+use Rattle.centre_lines.specs.Following.{facts_in, line_before, lines_before, before_past, keys_of, passed_over, WasRead}
 use Rattle.centre_past.specs.Idle.{AsBefore, OnlyReads}
 use Rattle.centre_past.specs.IsKept.{IsKept}
 use Rattle.centre_events.specs.Kept.{AreFlightsOf, is_edit}
@@ -34,7 +34,7 @@ use Rattle.centre_events.specs.declared.answer.Answer.{Answer}
 use Rattle.centre_events.specs.declared.event.Event.{Event}
 use Rattle.centre_events.specs.declared.event.Event.TheVariants as event
 use Rattle.centre_events.specs.declared.flight.Flight.{Flight}
-use Rattle.centre_lines.specs.declared.held.Held.{Held}
+use Rattle.centre_lines.specs.declared.line_before.LineBefore.{LineBefore}
 use Rattle.centre_events.specs.declared.in_flight.InFlight.{InFlight}
 use Rattle.centre_past.specs.declared.kept.Kept.{Kept}
 use Rattle.coverage_plan.specs.declared.edit.Edit.{Edit}
@@ -84,8 +84,8 @@ failing_lines passes line was same (p ∷ ps) ns =
     ∙ sym (map_append was (failing passes (map (key_at p) ns)) (failing passes (keys_of ps ns)))
     ∙ ap (map was) (sym (filter-append (λ k. not (passes k)) (map (key_at p) ns) (keys_of ps ns)))
 
-pub held_as : (past : Past) (s : Kept) → IsKept past s → (k : LineKey) → held_line s.register s.areas s.book s.tables k ≡ held_past past k
-held_as past s kept k = ap (λ (f : LineFacts). let h : Held = record { key = k; before = f } in h) (facts_kept past s kept k)
+pub before_as : (past : Past) (s : Kept) → IsKept past s → (k : LineKey) → line_before s.register s.areas s.book s.tables k ≡ before_past past k
+before_as past s kept k = ap (λ (f : LineFacts). let h : LineBefore = record { key = k; before = f } in h) (facts_kept past s kept k)
 
 -- a line of the reach that does not fail the test passes it
 pub passed : (passes : LineKey → Bool) (k : LineKey) (ks : List LineKey) → list_any (key_eq k) (failing passes ks) ≡ false → list_any (key_eq k) ks ≡ true → passes k ≡ true
@@ -98,8 +98,8 @@ passed passes k ks out among = step (passes k) refl
         sym out ∙ there
 
 -- such lines were read, if each that passes has the same part after the event
-was_held : (past : Past) (e : Event) (a : Answer) (spots : List Spot) (numbers : List ℕ) (passes : LineKey → Bool) (held : List Held) → IsReach (record { spots = spots; warnings = numbers }) (reach_of past e a) → held ≡ map (held_past past) (failing passes (keys_of spots numbers)) → ((settings : Settings) (desk : ℕ) → Legal settings past → verdict settings past e ≡ Ok a → (k : LineKey) → passes k ≡ true → SamePart (facts past k) (facts (After (record { desk = desk; event = e; answer = a }) past) k)) → WasHeld past e a spots held
-was_held past e a spots numbers passes held reach are same = record {
+was_read : (past : Past) (e : Event) (a : Answer) (spots : List Spot) (numbers : List ℕ) (passes : LineKey → Bool) (earlier : List LineBefore) → IsReach (record { spots = spots; warnings = numbers }) (reach_of past e a) → earlier ≡ map (before_past past) (failing passes (keys_of spots numbers)) → ((settings : Settings) (desk : ℕ) → Legal settings past → verdict settings past e ≡ Ok a → (k : LineKey) → passes k ≡ true → SamePart (facts past k) (facts (After (record { desk = desk; event = e; answer = a }) past) k)) → WasRead past e a spots earlier
+was_read past e a spots numbers passes earlier reach are same = record {
   away = λ settings legal kind b c out. down_outside settings past legal e a kind b c (sym (reach.spots (spot b c)) ∙ out);
   keys = failing passes (keys_of spots numbers);
   lines = are;
@@ -121,10 +121,10 @@ pub told_kept : (settings : Settings) (past : Past) (s : Kept) → Legal setting
 told_kept settings past s legal kept = record { legal = legal; registered = kept.registered; booked = kept.booked; downs = kept.downs; lines = kept.tables.lines }
 
 -- before an edit that has been accepted
-pub edit_was_reached : (past : Past) (s : Kept) (e : Edit) (a : Answer) (spots : List Spot) (numbers : List ℕ) (held : List Held) → IsKept past s → IsReach (record { spots = spots; warnings = numbers }) (reach_of past (event.Edit e) a) → held ≡ held_lines e s.register s.areas s.book s.tables spots numbers → WasHeld past (event.Edit e) a spots held
-edit_was_reached past s e a spots numbers held kept reach are =
-    was_held past (event.Edit e) a spots numbers passed held reach
-    (are ∙ failing_lines passed (held_line s.register s.areas s.book s.tables) (held_past past) (held_as past s kept) spots numbers)
+pub edit_was_reached : (past : Past) (s : Kept) (e : Edit) (a : Answer) (spots : List Spot) (numbers : List ℕ) (earlier : List LineBefore) → IsKept past s → IsReach (record { spots = spots; warnings = numbers }) (reach_of past (event.Edit e) a) → earlier ≡ lines_before e s.register s.areas s.book s.tables spots numbers → WasRead past (event.Edit e) a spots earlier
+edit_was_reached past s e a spots numbers earlier kept reach are =
+    was_read past (event.Edit e) a spots numbers passed earlier reach
+    (are ∙ failing_lines passed (line_before s.register s.areas s.book s.tables) (before_past past) (before_as past s kept) spots numbers)
     (λ settings desk legal accepted k h. passed_same settings past legal desk e a accepted s kept k h)
   where
     passed : LineKey → Bool
