@@ -1,5 +1,7 @@
 pub mod ActionsLemmas
 pub mod HeldLemmas
+pub mod ByBscLemmas
+pub mod PlaceLemmas
 pub mod KeyLemmas
 pub mod CellLemmas
 pub mod ShiftLemmas

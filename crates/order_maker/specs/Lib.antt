@@ -4,6 +4,7 @@ pub mod Grouping
 pub mod GroupingLaws
 pub mod OrderingLaws
 pub mod Pending
+pub mod ByBsc
 pub mod Places
 pub mod KeyNumber
 pub mod KeyLaws

@@ -98,6 +98,10 @@ is_whole e = is_proper e.0 && (has_some e.1 && is_ascending cell_lt e.1)
 abbrev pub cells_at : HeldOrders → OrderKey → List Cell
 cells_at held k = unwrap_or (lookup (is_at (key_cmp k)) held) []
 
+-- each order is of that BSC
+abbrev pub are_of : ℕ → HeldOrders → Bool
+are_of b held = list_all (λ e. nat_eq e.0.bsc b) held
+
 -- each order is whole
 abbrev pub AreWhole : HeldOrders → Type 0
 AreWhole held = list_all is_whole held ≡ true

@@ -2,17 +2,21 @@
 //! joined to orders (TS 48.049, 8.1.3.1 and 8.1.3.4).
 //!
 //! Begin with `deeds`, then `pending`. What is to be ordered on a line is said in `specs/Actions.antt`, how actions
-//! become orders in `specs/Grouping.antt`, what is held and how it changes in `specs/Pending.antt`, and what follows
-//! for every list of actions in `specs/OrderingLaws.antt` and `specs/GroupingLaws.antt`.
+//! become orders in `specs/Grouping.antt`, what is held and how it changes in `specs/Pending.antt`, how it
+//! stands by BSC in `specs/ByBsc.antt`, and what follows for every list of actions in `specs/OrderingLaws.antt` and
+//! `specs/GroupingLaws.antt`.
 #![tactic(auto)]
 
 mod action;
+mod bsc_orders;
+mod by_bsc;
 mod deed;
 mod deeds;
 mod order;
 mod order_cells;
 mod order_key;
 mod order_kind;
+mod order_map;
 mod orders;
 mod pending;
 

@@ -1,29 +1,26 @@
 //! The pending orders of each BSC, changed line by line.
 
-ghost use Rattle.std.specs.Prelude.{◌≡◌, ◌≤◌, ◌<◌, ◌^◌, ℕ, [], true, false, ◌&&◌, ◌||◌, not, nat_eq, List, length, map, take, if◌then◌else◌, IfOk, IsTrue, OnOk};
-ghost use Rattle.std.specs.BTreeMap.{is_at};
-ghost use Rattle.std.specs.Map.{remove_entry};
+ghost use Rattle.std.specs.Prelude.{◌≡◌, ◌≤◌, ℕ, true, false, ◌&&◌, ◌||◌, not, nat_eq, List, length, map, take, if◌then◌else◌, IfOk, IfSome, IfNone, OnOk};
 ghost use Rattle.std.specs.Option.{is_some};
 ghost use Rattle.mirror.specs.Seen.{seen};
 ghost use Rattle.order_maker.specs.Actions.{deeds, in_cell, kills, listed};
-ghost use Rattle.order_maker.specs.Grouping.{in_order, grouped, most_cells, first};
-ghost use Rattle.order_maker.specs.Pending.{action_eq, is_listed, order_of, key_cmp, cells_at, holds, AreWhole, IsWithoutCell, Shifts, IsWith, IsWithout, IsListOf};
+ghost use Rattle.order_maker.specs.Grouping.{in_order, grouped, first};
+ghost use Rattle.order_maker.specs.Pending.{action_eq, is_listed, holds, Shifts, IsWith, IsWithout, IsListOf};
 ghost use Rattle.order_maker.specs.declared.action.Action.{Action};
 
 use crate::action::Action;
+use crate::bsc_orders::BscOrders;
+use crate::by_bsc::{place_of, put_at, put_first, take_out_at};
 use crate::deed::Deed;
 use crate::deeds::{ReplacingSight, has_same_plan, has_same_states, is_same, keeps_versions};
 use crate::order::Order;
-use crate::order_cells::OrderCells;
-use crate::order_key::OrderKey;
+use crate::order_map::OrderMap;
 use crate::orders::Orders;
 use cell_register::BscId;
 use common::Cell;
 use mirror::Sight;
 use serials::Serial;
 use std::alloc::{AllocError, Global};
-use std::collections::BTreeMap;
-use std::collections::btree_map::Range;
 use std::marker::Model;
 
 /// What is to be ordered, for each BSC: by order, in the order in which they are sent, its cells. After an `Err` of
@@ -31,40 +28,20 @@ use std::marker::Model;
 #[derive(Drop)]
 pub struct Pending {
     alloc: Global,
-    orders: BTreeMap<OrderKey, OrderCells>,
+    /// Where the BSC stands whose orders changed last: those that change next are most often of the same one.
+    last: usize,
+    bscs: Vec<BscOrders>,
 }
 
 impl Model for Pending {
-    ghost use Rattle.std.specs.Prelude.{◌≡◌, true};
-    ghost use Rattle.std.specs.List.{list_all};
-    ghost use Rattle.order_maker.specs.Pending.{HeldOrders, is_whole};
+    ghost use Rattle.order_maker.specs.Pending.{HeldOrders};
+    ghost use Rattle.order_maker.specs.ByBsc.{all_held, AreByBsc};
 
     ghost Value = { HeldOrders };
 
-    ghost view = { λ p. p.orders.entries };
+    ghost view = { λ p. all_held p.bscs.items };
 
-    ghost invariant = { λ p. list_all is_whole p.orders.entries ≡ true };
-}
-
-/// The greatest number of cells that one order names.
-fn most_cells() -> usize
-    ensures { result ≡ most_cells }
-{
-    1000
-}
-
-/// Takes the cell out of those of the order, if it is there, and returns whether none of them is left.
-fn take_cell(orders: &mut BTreeMap<OrderKey, OrderCells>, key: &OrderKey, c: Cell) -> bool
-    ensures without { IsWithoutCell orders.old.entries orders.new.entries key.now c }
-    ensures none { IsTrue result → cells_at orders.new.entries key.now ≡ [] }
-    ensures whole { AreWhole orders.old.entries → result ≡ false → AreWhole orders.new.entries }
-    ensures others { AreWhole orders.old.entries → AreWhole (remove_entry (is_at (key_cmp key.now)) orders.new.entries) }
-{
-    let Some(cells) = orders.get_mut(key) else {
-        return false;
-    };
-    cells.take_out(c);
-    !cells.has_some()
+    ghost invariant = { λ p. AreByBsc p.bscs.items };
 }
 
 impl Pending {
@@ -74,7 +51,8 @@ impl Pending {
     {
         Ok(Pending {
             alloc: self.alloc,
-            orders: self.orders.clone()?,
+            last: self.last,
+            bscs: self.bscs.clone()?,
         })
     }
 
@@ -84,31 +62,29 @@ impl Pending {
     {
         Pending {
             alloc,
-            orders: BTreeMap::new(alloc),
+            last: 0,
+            bscs: Vec::new(alloc),
         }
     }
 
     fn put(&mut self, b: BscId, a: Action) -> Result<(), AllocError>
         ensures { OnOk result ((d : ℕ) (x : Action) → holds self.new d x ≡ ((nat_eq d b && action_eq x a) || holds self.old d x)) }
     {
-        let alloc = self.alloc;
-        let cell = a.cell;
-        let key = OrderKey::of(b, a);
-        if let Some(cells) = self.orders.get_mut(&key) {
-            return cells.put(cell);
+        let place = place_of(self.bscs.as_slice(), self.last, b);
+        if place >= self.bscs.len() {
+            return put_first(self.alloc, &mut self.bscs, b, a);
         }
-        let cells = OrderCells::of(alloc, cell)?;
-        self.orders.insert(key, cells)?;
-        Ok(())
+        self.last = place;
+        put_at(&mut self.bscs, place, b, a)
     }
 
     fn take_out(&mut self, b: BscId, a: Action)
         ensures { (d : ℕ) (x : Action) → holds self.new d x ≡ (holds self.old d x && not (nat_eq d b && action_eq x a)) }
     {
-        let cell = a.cell;
-        let key = OrderKey::of(b, a);
-        if take_cell(&mut self.orders, &key, cell) {
-            self.orders.remove(&key);
+        let place = place_of(self.bscs.as_slice(), self.last, b);
+        if place < self.bscs.len() {
+            self.last = place;
+            take_out_at(&mut self.bscs, place, b, a);
         }
     }
 
@@ -335,58 +311,55 @@ impl Pending {
         self.shift_kept(b, c, before, after)
     }
 
-    /// The orders of the BSC, in the order in which they are sent.
-    fn orders_of(&self, b: BscId) -> Range<'_, OrderKey, OrderCells>
-        ensures orders { (xs : List Action) → IsListOf xs self.now b → map order_of result ≡ grouped (in_order xs) }
-        ensures few { length result < 2 ^ 64 }
+    /// The orders of the BSC; `None` where it has none, and never had.
+    fn orders_of(&self, b: BscId) -> Option<&OrderMap>
+        ensures some { IfSome result (λ held. (a : Action) → holds held.now b a ≡ holds self.now b a) }
+        ensures none { IfNone result ((a : Action) → holds self.now b a ≡ false) }
     {
-        // A lemma: `len` also ensures that there are no more orders than it can tell.
-        let _ = self.orders.len();
-        let bsc = b.number() as u32;
-        self.orders
-            .range(OrderKey::least(bsc)..OrderKey::least(bsc + 1))
+        let place = place_of(self.bscs.as_slice(), self.last, b);
+        let Some(held) = self.bscs.get(place) else {
+            return None;
+        };
+        Some(held.orders())
     }
 
     /// The pending orders of the BSC, in the order in which they are sent.
     pub fn groups(&self, b: BscId) -> Result<Orders, AllocError>
         ensures { (xs : List Action) → IsListOf xs self.now b → IfOk result (λ orders. orders ≡ grouped (in_order xs)) }
     {
-        let alloc = self.alloc;
-        let mut orders = Vec::new(alloc);
-        for (key, cells) in self.orders_of(b) {
-            orders.push(key.order(cells.all(alloc)?))?;
+        match self.orders_of(b) {
+            Some(orders) => orders.groups(b),
+            None => OrderMap::new(self.alloc).groups(b),
         }
-        Ok(Orders::from_vec(orders))
     }
 
     /// How many orders of the BSC are pending. It takes no memory.
     pub fn count(&self, b: BscId) -> usize
         ensures { (xs : List Action) → IsListOf xs self.now b → result ≡ length (grouped (in_order xs)) }
     {
-        let mut count: usize = 0;
-        for _ in self.orders_of(b) {
-            count += 1;
+        match self.orders_of(b) {
+            Some(orders) => orders.count(b),
+            None => OrderMap::new(self.alloc).count(b),
         }
-        count
     }
 
     /// The order that is sent next, for its first cells. `None` where nothing is pending.
     pub fn first(&self, b: BscId) -> Result<Option<Order>, AllocError>
         ensures { (xs : List Action) → IsListOf xs self.now b → IfOk result (λ o. o ≡ first (grouped (in_order xs))) }
     {
-        let mut orders = self.orders_of(b);
-        let Some((key, cells)) = orders.next() else {
-            return Ok(None);
-        };
-        let first = cells.first(self.alloc, most_cells())?;
-        Ok(Some(key.order(first)))
+        match self.orders_of(b) {
+            Some(orders) => orders.first(b),
+            None => OrderMap::new(self.alloc).first(b),
+        }
     }
 
     /// Whether an order is pending.
     pub fn has(&self, b: BscId) -> bool
         ensures { (xs : List Action) → IsListOf xs self.now b → result ≡ is_some (first (grouped (in_order xs))) }
     {
-        let mut orders = self.orders_of(b);
-        orders.next().is_some()
+        match self.orders_of(b) {
+            Some(orders) => orders.has(b),
+            None => OrderMap::new(self.alloc).has(b),
+        }
     }
 }

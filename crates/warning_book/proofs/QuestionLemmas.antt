@@ -10,7 +10,9 @@ use Rattle.common.specs.OnceLaws.{turned}
 use Rattle.common.specs.Order.{is_ascending}
 use Rattle.common.specs.OrderLaws.{ascending_filter, ascending_map}
 use Rattle.warning_book.specs.Book.{number_lt, names, names_one_of, numbers, naming, naming_one_of, is_so, versions_if, versions_with, content_of, codes_if, codes_of}
+use Rattle.warning_book.specs.ClassedNames.{names_of}
 use Rattle.warning_book.specs.declared.content.Content.{Content}
+use Rattle.warning_book.specs.declared.classed_name.ClassedName.{ClassedName}
 use Rattle.warning_book.specs.declared.version.Version.{Version}
 use Rattle.warning_book.specs.declared.warning.Warning.{Warning}
 
@@ -99,3 +101,8 @@ content_found m s l i w x o h g e = sym (content_at m s l i w (Some x) h g e) �
 -- this warning lacks it
 pub content_passed : (m s : ℕ) (l : List Warning) (i : ℕ) (w : Warning) → content_of m s (drop i l) ≡ content_of m s l → i < length l → w ≡ get_or l i w → None ≡ content_with s (versions_if m w) → content_of m s (drop (i + 1) l) ≡ content_of m s l
 content_passed m s l i w o h g e = sym (content_at m s l i w None h g e) ∙ o
+
+-- the classes beside the names do not matter
+pub names_classed : (areas : List ClassedName) (w : Warning) → names_one_of (names_of areas) w ≡ list_any (λ n. names n.name.now w) areas
+names_classed [] w = refl
+names_classed (n ∷ areas) w = ap (λ t. names n.name.now w || t) (names_classed areas w)

@@ -1,4 +1,6 @@
 pub mod Content
+pub mod Classes
+pub mod ClassedNames
 pub mod Book
 pub mod Checks
 pub mod Sound

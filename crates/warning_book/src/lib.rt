@@ -11,6 +11,8 @@ mod book;
 mod category;
 mod cbs_content;
 mod checks;
+mod classed_name;
+mod classes;
 mod content;
 mod content_pages;
 mod edits;

@@ -1,10 +1,14 @@
 //! What a list of warnings tells of an area, a message identifier or a serial number.
 
-ghost use Rattle.std.specs.Prelude.{◌≡◌, ◌++◌, ◌∷◌, [], find, nat_eq, IfOk, OnOk, if◌then◌else◌};
+ghost use Rattle.std.specs.Prelude.{◌≡◌, ◌++◌, ◌∷◌, [], true, find, nat_eq, IfOk, OnOk, if◌then◌else◌};
 ghost use Rattle.std.specs.List.{list_any};
 ghost use Rattle.std.specs.Option.{option_map, option_copied};
 ghost use Rattle.warning_book.specs.Book.{names, names_one_of, numbers, naming, naming_one_of, versions_if, content_of, codes_if, codes_of};
+ghost use Rattle.warning_book.specs.Classes.{have_classes};
+ghost use Rattle.warning_book.specs.ClassedNames.{names_of};
 
+use crate::classed_name::ClassedName;
+use crate::classes::Classes;
 use crate::content::Content;
 use crate::version::Version;
 use crate::warning::Warning;
@@ -57,22 +61,44 @@ pub(crate) fn naming(
     Ok(found)
 }
 
-/// Whether the warning names one of the areas.
-fn names_one_of(warning: &Warning, areas: &[Name]) -> bool
-    ensures { result ≡ names_one_of areas.now warning.now }
+/// The names with their classes.
+fn classed_names<'a>(alloc: Global, names: &'a [Name]) -> Result<Vec<ClassedName<'a>>, AllocError>
+    ensures { IfOk result (λ all. names_of all.items ≡ names.now) }
 {
-    areas.iter().any(|a| warning.areas.has(a))
+    let mut all = Vec::with_capacity(alloc, names.len())?;
+    for name in names {
+        all.push(ClassedName::of(name))?;
+    }
+    Ok(all)
 }
 
-/// Puts the number last if the warning names one of the areas.
+/// Whether the warning names one of the areas.
+fn names_one_classed(warning: &Warning, areas: &[ClassedName<'_>]) -> bool
+    ensures { result ≡ list_any (λ a. names a.name.now warning.now) areas.now }
+{
+    areas.iter().any(|a| warning.areas.has_classed(a))
+}
+
+/// The same, where the classes are those of the areas: most warnings that name none are so told at once.
+#[tactic(auto, using(crate::proofs::QuestionLemmas::names_classed))]
+fn names_one_of(warning: &Warning, areas: &[ClassedName<'_>], classes: Classes) -> bool
+    requires { have_classes classes.digits (names_of areas.now) ≡ true }
+    ensures { result ≡ names_one_of (names_of areas.now) warning.now }
+{
+    warning.areas.may_have_one_of(classes) && names_one_classed(warning, areas)
+}
+
+/// Puts the number last if the warning names one of the areas. The classes are theirs.
 fn put_naming_one_of(
     found: &mut Vec<WarningId>,
     warning: &Warning,
-    areas: &[Name],
+    areas: &[ClassedName<'_>],
+    classes: Classes,
 ) -> Result<(), AllocError>
-    ensures { OnOk result (found.new.items ≡ found.old.items ++ (if names_one_of areas.now warning.now then warning.now.number ∷ [] else [])) }
+    requires { have_classes classes.digits (names_of areas.now) ≡ true }
+    ensures { OnOk result (found.new.items ≡ found.old.items ++ (if names_one_of (names_of areas.now) warning.now then warning.now.number ∷ [] else [])) }
 {
-    if names_one_of(warning, areas) {
+    if names_one_of(warning, areas, classes) {
         found.push(warning.number)?;
     }
     Ok(())
@@ -87,9 +113,11 @@ pub(crate) fn naming_one_of(
 ) -> Result<Vec<WarningId>, AllocError>
     ensures { IfOk result (λ v. v.items ≡ naming_one_of areas.now warnings.now) }
 {
+    let classes = Classes::of(areas);
+    let asked = classed_names(alloc, areas)?;
     let mut found = Vec::new(alloc);
     for warning in warnings {
-        put_naming_one_of(&mut found, warning, areas)?;
+        put_naming_one_of(&mut found, warning, asked.as_slice(), classes)?;
     }
     Ok(found)
 }

@@ -1,40 +1,12 @@
-use Rattle.std.proofs.Common.{◌≡◌, ◌∙◌, ◌||◌, Some, None, ap, cond, sym, rules}
-use Rattle.std.specs.BTreeMap.{is_at}
-use Rattle.std.specs.List.{list_all}
-use Rattle.std.specs.Map.{lookup}
-use Rattle.std.proofs.lemmas.Result.{on_ok_weaker}
-use Rattle.common.specs.Cell.{cell_eq, cell_lt}
-use Rattle.common.specs.Order.{is_ascending}
-use Rattle.order_maker.specs.Pending.{OrderKey, key_of, key_cmp, has_cell, has_some, is_whole, cells_at}
-use Rattle.order_maker.proofs.HeldLemmas.{cells_set, cells_found, cells_absent, action_put, some_found, whole_set, whole_inserted}
-use Rattle.order_maker.proofs.KeyLemmas.{proper_key}
+use Rattle.std.proofs.Common.{◌≡◌, ◌≤◌, length, rules}
+use Rattle.std.specs.List.{position_or_len}
+use Rattle.order_maker.specs.ByBsc.{is_bsc}
+use Rattle.order_maker.proofs.ByBscLemmas.{absent_past}
 use Rattle.order_maker.proofs.pending.Pending.put.Goals as goal
 
-pub returns-in-Some : goal.returns-in-Some
-returns-in-Some c =
-    let old = c.self.inside.orders.entries in
-    let k = key_of c.args.b c.args.a in
-    let found : cells_at old k ≡ c.in-Some.cells.now = cells_found k c.in-Some.cells.now old (rw c.of-key.ensures at (sym c.in-Some.ensures.value)) in
-    let set = rw c.of-key.ensures at ((c.get_mut.follows.holds c.put.new.self).3 (search rules)).0 in
-    on_ok_weaker c.put.result (λ more. rw (← c.self.view_is) (action_put c.args.b c.args.a c.put.new.self old (c.get_mut.follows.lender c.put.new.self).entries (cells_set k c.put.new.self old (c.get_mut.follows.lender c.put.new.self).entries set) (λ x. more x ∙ ap (λ cells. cell_eq x c.args.a.cell || has_cell cells x) (sym found)))) c.put.ensures.more
-
-pub returns : goal.returns
-returns c =
-    let old = c.self.inside.orders.entries in
-    let k = key_of c.args.b c.args.a in
-    let none : lookup (is_at (key_cmp k)) old ≡ None = rw c.of-key.ensures at (sym c.in_default.ensures.value) in
-    let one = c.in_ok-cells.cells in
-    let set : (q : OrderKey) → lookup (is_at (key_cmp q)) c.insert.new.self.entries ≡ cond (is_at (key_cmp k) q) (Some one) (lookup (is_at (key_cmp q)) old) = λ q. rw (c.get_mut.follows.holds-at-none, c.of-key.ensures) at (c.in_ok-insert.ensures.updates.0 q) in
-    rw (← c.self.view_is) (action_put c.args.b c.args.a one old c.insert.new.self.entries (cells_set k one old c.insert.new.self.entries set) (λ x. ap (λ cells. has_cell cells x) c.in_ok-cells.ensures ∙ ap (λ cells. cell_eq x c.args.a.cell || has_cell cells x) (sym (cells_absent k old none))))
-
-pub invariant_of-self : goal.invariant_of-self
-invariant_of-self c =
-    let old = c.self.inside.orders.entries in
-    let test = is_at (key_cmp c.of-key.result) in
-    ap (list_all is_whole) ((c.get_mut.follows.holds c.put.new.self).0)
-    ∙ whole_set test c.put.new.self old c.self.invariant (c.put.ensures.some (some_found test c.in-Some.cells.now old c.self.invariant (sym c.in-Some.ensures.value))) c.put.ensures.order
-
-pub invariant_of-self-2 : goal.invariant_of-self-2
-invariant_of-self-2 c =
-    let one = c.in_ok-cells.ensures in
-    rw (c.in_ok-insert.ensures.entries, c.get_mut.follows.holds-at-none, c.of-key.ensures) (whole_inserted (key_of c.args.b c.args.a) c.in_ok-cells.cells c.self.inside.orders.entries c.self.invariant (proper_key c.args.b c.args.a) (ap has_some one) (ap (is_ascending cell_lt) one))
+pub put_first-requires-clause-absent : goal.put_first-requires-clause-absent
+put_first-requires-clause-absent c =
+    let bscs = c.self.inside.bscs.items in
+    let place : c.place_of-place.result ≡ position_or_len (is_bsc c.args.b) bscs = search rules in
+    let past : length bscs ≤ c.place_of-place.result = search rules in
+    absent_past c.args.b bscs c.place_of-place.result place past

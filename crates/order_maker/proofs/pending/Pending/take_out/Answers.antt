@@ -1,23 +1,12 @@
-use Rattle.std.proofs.Common.{◌≡◌, ℕ, [], None, cond, ◌&&◌, not, nat_eq}
-use Rattle.std.specs.BTreeMap.{is_at}
-use Rattle.std.specs.Map.{lookup}
-use Rattle.order_maker.specs.Pending.{OrderKey, action_eq, key_of, key_cmp, cells_at, holds, IsWithoutCell}
-use Rattle.order_maker.specs.declared.action.Action.{Action}
-use Rattle.order_maker.proofs.HeldLemmas.{none_left, action_taken}
-use Rattle.order_maker.proofs.pending.Pending.take_out.Goals.{in-Some-1, in-None-1}
+use Rattle.std.proofs.Common.{◌≡◌, ◌≤◌, length, rules}
+use Rattle.std.specs.List.{position_or_len}
+use Rattle.order_maker.specs.ByBsc.{is_bsc}
+use Rattle.order_maker.proofs.ByBscLemmas.{absent_past, none_taken}
 use Rattle.order_maker.proofs.pending.Pending.take_out.Goals as goal
 
-pub returns-then-take_cell : goal.returns-then-take_cell
-returns-then-take_cell c =
-    let old = c.self.inside.orders.entries in
-    let mid = c.take_cell.new.orders.entries in
-    let new = c.remove.new.self.entries in
-    let k = key_of c.args.b c.args.a in
-    let without : IsWithoutCell old mid k c.args.a.cell = rw c.of-key.ensures at c.take_cell.ensures.without in
-    let none : cells_at mid k ≡ [] = rw c.of-key.ensures at (c.take_cell.ensures.none c.if-take_cell.true) in
-    let gone : (q : OrderKey) → lookup (is_at (key_cmp q)) new ≡ cond (is_at (key_cmp k) q) None (lookup (is_at (key_cmp q)) mid) = λ q. rw c.of-key.ensures at (c.remove.ensures.updates.0 q) in
-    let taken : (d : ℕ) (x : Action) → holds new d x ≡ (holds c.args.self.now d x && not (nat_eq d c.args.b && action_eq x c.args.a)) = rw (← c.self.view_is) (action_taken c.args.b c.args.a old new (none_left k c.args.a.cell old mid new without none gone)) in
-    elim c.match-remove.branch [
-      | in-Some-1 w ↦ rw w.self-is taken
-      | in-None-1 w ↦ rw w.self-is taken
-    ]
+pub returns-else-place-len : goal.returns-else-place-len
+returns-else-place-len c =
+    let bscs = c.self.inside.bscs.items in
+    let place : c.place_of-place.result ≡ position_or_len (is_bsc c.args.b) bscs = search rules in
+    let past : length bscs ≤ c.place_of-place.result = search rules in
+    rw (← c.self.view_is) (none_taken bscs c.args.b c.args.a c.self.invariant (absent_past c.args.b bscs c.place_of-place.result place past))

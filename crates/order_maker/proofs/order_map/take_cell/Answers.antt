@@ -3,9 +3,10 @@ use Rattle.std.proofs.lemmas.Bool.{not-false}
 use Rattle.std.specs.BTreeMap.{is_at}
 use Rattle.std.specs.List.{list_all}
 use Rattle.common.specs.Cell.{cell_eq}
-use Rattle.order_maker.specs.Pending.{key_cmp, has_cell, is_whole, cells_at}
+use Rattle.order_maker.specs.Pending.{key_cmp, has_cell, is_whole, cells_at, are_of}
+use Rattle.order_maker.proofs.ByBscLemmas.{of_set}
 use Rattle.order_maker.proofs.HeldLemmas.{cells_set, cells_found, cell_taken, none_there, whole_removed, whole_set, whole_set_removed}
-use Rattle.order_maker.proofs.pending.take_cell.Goals as goal
+use Rattle.order_maker.proofs.order_map.take_cell.Goals as goal
 
 pub returns-in_default-clause-without : goal.returns-in_default-clause-without
 returns-in_default-clause-without c =
@@ -36,3 +37,8 @@ returns-clause-others c =
     let test = is_at (key_cmp c.args.key.now) in
     let left = c.take_out.new.self in
     λ whole. rw ((c.get_mut.follows.holds left).0) (whole_set_removed test left c.args.orders.now.entries whole)
+
+pub returns-clause-own : goal.returns-clause-own
+returns-clause-own c =
+    let left = c.take_out.new.self in
+    λ b own. ap (are_of b) ((c.get_mut.follows.holds left).0) ∙ of_set b (is_at (key_cmp c.args.key.now)) left c.args.orders.now.entries own

@@ -2,7 +2,7 @@ use Rattle.std.proofs.Common.{◌≡◌, ◌+◌, ◌<◌, ◌^◌, List, length
 use Rattle.order_maker.specs.Grouping.{in_order, grouped}
 use Rattle.order_maker.specs.Pending.{IsListOf}
 use Rattle.order_maker.specs.declared.action.Action.{Action}
-use Rattle.order_maker.proofs.pending.Pending.count.Given as goal
+use Rattle.order_maker.proofs.order_map.OrderMap.count.Given as goal
 
 -- the orders counted and those to come
 abbrev pub invariant-loop : goal.invariant-loop
