@@ -1,6 +1,6 @@
 //! The lines that aren't blank, by warning.
 
-ghost use Rattle.std.specs.Prelude.{◌≡◌, None, [], IfOk, OnErr, OnOk};
+ghost use Rattle.std.specs.Prelude.{◌≡◌, None, Some, [], slice_get, IfOk, IfSome, OnErr, OnOk};
 ghost use Rattle.std.specs.BTreeMap.{insert_entry, is_at};
 ghost use Rattle.std.specs.List.Sorted.{IsStrictlySortedBy};
 ghost use Rattle.std.specs.Map.{keys_of, lookup, remove_entry};
@@ -8,7 +8,7 @@ ghost use Rattle.std.specs.Option.{is_some, option_map};
 ghost use Rattle.mirror.specs.Held.{is_held_line};
 ghost use Rattle.mirror.specs.Index.{IsSet};
 ghost use Rattle.mirror.specs.Line.{blank_line};
-ghost use Rattle.mirror.specs.Lines.{line_of, lines_at};
+ghost use Rattle.mirror.specs.Lines.{kept_at, line_of, lines_at};
 ghost use Rattle.mirror.specs.Order.{slot_of, warning_slot_cmp};
 ghost use Rattle.mirror.specs.Table.{is_slot};
 
@@ -38,6 +38,15 @@ impl Model for Lines {
     ghost view = { λ t. lines_at t.order.keys t.kept.entries };
 
     ghost invariant = { λ t. AreSlotsOf t.order.keys t.kept.entries };
+}
+
+/// The place of the slot's line, if one is kept.
+fn place_of(kept: &IndexMap<WarningSlot, Line>, slot: &WarningSlot) -> Option<usize>
+    ensures found { IfSome result (λ place. slice_get kept.now.entries place ≡ Some (slot.now, line_of kept.now.entries slot.now)) }
+    ensures kept { IfSome result (λ place. kept_at kept.now.entries slot.now ≡ Some (line_of kept.now.entries slot.now)) }
+{
+    let (place, _, _) = kept.get_full(slot)?;
+    Some(place)
 }
 
 impl Lines {
@@ -87,16 +96,39 @@ impl Lines {
     }
 
     /// Puts the line in. The result says whether one was kept, and whether that one was held. Where memory runs out nothing
-    /// changes. Memory is taken only where none was kept.
-    pub(crate) fn insert(&mut self, key: LineKey, line: Line) -> Result<Option<bool>, AllocError>
+    /// changes. Memory is taken only where none was kept. One that was kept is changed in its place.
+    pub(crate) fn insert(&mut self, key: LineKey, line: &Line) -> Result<Option<bool>, AllocError>
         ensures old { IfOk result (λ old. old ≡ option_map is_held_line (lookup (is_slot key.bsc key.cell key.warning) self.old)) }
-        ensures set { OnOk result (IsSet key line self.old self.new) }
-        ensures entries { OnOk result (self.new ≡ insert_entry warning_slot_cmp self.old (slot_of key.bsc key.cell key.warning) line) }
+        ensures set { OnOk result (IsSet key line.now self.old self.new) }
+        ensures entries { OnOk result (self.new ≡ insert_entry warning_slot_cmp self.old (slot_of key.bsc key.cell key.warning) line.now) }
         ensures unchanged { OnErr result (self.new ≡ self.old) }
         ensures grows { OnErr result (lookup (is_slot key.bsc key.cell key.warning) self.old ≡ None) }
     {
         let LineKey { bsc, cell, warning } = key;
-        let old = self.kept.insert(WarningSlot::of(key), line)?;
+        let slot = WarningSlot::of(key);
+        let Some(place) = place_of(&self.kept, &slot) else {
+            return self.put(LineKey { bsc, cell, warning }, line);
+        };
+        // A lemma: `len` also ensures that the slots are in order.
+        let _ = self.order.len();
+        let (_, kept) = self.kept.pair_mut(place);
+        let was = kept.is_held();
+        *kept = *line;
+        Ok(Some(was))
+    }
+
+    /// The same. It is called seldom, mostly for a line of which nothing was kept, and isn't inlined, so that its caller stays
+    /// short.
+    #[inline(never)]
+    fn put(&mut self, key: LineKey, line: &Line) -> Result<Option<bool>, AllocError>
+        ensures old { IfOk result (λ old. old ≡ option_map is_held_line (lookup (is_slot key.bsc key.cell key.warning) self.old)) }
+        ensures set { OnOk result (IsSet key line.now self.old self.new) }
+        ensures entries { OnOk result (self.new ≡ insert_entry warning_slot_cmp self.old (slot_of key.bsc key.cell key.warning) line.now) }
+        ensures unchanged { OnErr result (self.new ≡ self.old) }
+        ensures grows { OnErr result (lookup (is_slot key.bsc key.cell key.warning) self.old ≡ None) }
+    {
+        let LineKey { bsc, cell, warning } = key;
+        let old = self.kept.insert(WarningSlot::of(key), *line)?;
         if let Some(was) = old {
             // A lemma: `len` also ensures that the slots are in order. This one is among them already.
             let _ = self.order.len();
