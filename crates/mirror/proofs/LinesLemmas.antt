@@ -1,5 +1,5 @@
 -- The lines that are kept, found by their slots, and in the order of these.
-use Rattle.std.proofs.Common.{◌≡◌, Bool, true, false, cond, ◌||◌, List, [], ◌∷◌, Option, Some, None, map, filter, if◌then◌else◌, refl, sym, ◌∙◌, ap, arith, Less, Equal, Greater}
+use Rattle.std.proofs.Common.{◌≡◌, ℕ, Bool, true, false, cond, ◌||◌, List, [], ◌∷◌, Option, Some, None, slice_get, map, filter, if◌then◌else◌, refl, sym, ◌∙◌, ap, arith, Less, Equal, Greater}
 use Rattle.std.proofs.lemmas.Bool.{or_parts}
 use Rattle.std.proofs.lemmas.Bool.Decides.{nat_tests}
 use Rattle.std.proofs.lemmas.Grind.{common_steps}
@@ -8,7 +8,7 @@ use Rattle.std.specs.BTreeMap.{is_at, insert_entry}
 use Rattle.std.specs.BTreeSet.{insert_key}
 use Rattle.std.specs.List.{list_any, AllByRecursion}
 use Rattle.std.specs.List.Sorted.{IsStrictlySortedBy}
-use Rattle.std.specs.Map.{keys_of, remove_entry}
+use Rattle.std.specs.Map.{keys_of, lookup_key, remove_entry}
 use Rattle.std.specs.Option.{is_some, unwrap_or}
 use Rattle.std.specs.Ordering.{is_eq, is_le, match_ordering}
 use Rattle.std.specs.Set.{remove_key}
@@ -69,6 +69,21 @@ filtered test (s ∷ ss) es = step (test s) (filtered test ss es)
 -- the lines at those slots that pass a test are those of the lines that do
 pub lines_filtered : (test : Slot → Bool) (es : List (Slot × Line)) → lines_at (keys_of es) es ≡ es → lines_at (filter test (keys_of es)) es ≡ filter (λ e. test e.0) es
 lines_filtered test es all = filtered test (keys_of es) es ∙ ap (filter (λ e. test e.0)) all
+
+-- the slot that is found is the one that was sought
+pub slot_found : (s : Slot) (es : List (Slot × Line)) (x : Slot) → lookup_key (is_at (warning_slot_cmp s)) es ≡ Some x → x ≡ s
+slot_found s [] x h = cc
+slot_found s (e ∷ es) x h = step (slot_found s es x) (is_at (warning_slot_cmp s) e.0) refl h
+  where
+    step : (lookup_key (is_at (warning_slot_cmp s)) es ≡ Some x → x ≡ s) → (t : Bool) → is_at (warning_slot_cmp s) e.0 ≡ t → cond t (Some e.0) (lookup_key (is_at (warning_slot_cmp s)) es) ≡ Some x → x ≡ s
+    step rest true f g = let is : e.0 ≡ x = cc in sym is ∙ sym (tied_slots s e.0 f)
+    step rest false f g = rest g
+
+-- what stands at the place of a slot is the slot and its line
+pub entry_is : (s : Slot) (es : List (Slot × Line)) (i : ℕ) (x : Slot) (line : Line) → slice_get es i ≡ Some (x, line) → slice_get es i ≡ Some (s, line_of es s) → (x ≡ s) × (line ≡ line_of es s)
+entry_is s es i x line h g =
+    let both : ◌≡◌ {A = Slot × Line} (x, line) (s, line_of es s) = cc in
+    (λ j. (both j).0, λ j. (both j).1)
 
 -- What is put in and taken out.
 

@@ -146,7 +146,7 @@ impl LineTable {
         ensures least { self.old.meter ≤ self.new.meter }
     {
         self.count();
-        line_of(&self.lines, key)
+        line_of(&mut self.lines, key)
     }
 
     /// Keeps the line for that BSC, cell and warning. It is counted, also where memory runs out; then each line stays
@@ -161,6 +161,19 @@ impl LineTable {
         ensures least { self.old.meter ≤ self.new.meter }
     {
         self.count();
+        self.change(key, &line)
+    }
+
+    /// Keeps the line, or makes it blank. Where memory runs out each line stays as it was. It isn't inlined, so that the line is
+    /// compared and copied where it stands.
+    #[inline(never)]
+    fn change(&mut self, key: LineKey, line: &Line) -> Result<(), AllocError>
+        ensures set { OnOk result ((b : ℕ) (c : Cell) (w : ℕ) → line_at self.new b c w ≡ (if is_key key b c w then line.now else line_at self.old b c w)) }
+        ensures unchanged { OnErr result (self.new.lines ≡ self.old.lines) }
+        ensures grows { OnErr result ((is_blank line.now ≡ false) × (line_at self.old key.bsc key.cell key.warning ≡ blank_line)) }
+        ensures downs { self.new.downs ≡ self.old.downs }
+        ensures meter { self.new.meter ≡ self.old.meter }
+    {
         if line.is_blank() {
             self.clear(key);
             return Ok(());
@@ -181,9 +194,9 @@ impl LineTable {
     }
 
     /// Keeps the line, which isn't blank. Where memory runs out each line stays as it was.
-    fn keep(&mut self, key: LineKey, line: Line) -> Result<(), AllocError>
-        requires { is_blank line ≡ false }
-        ensures set { OnOk result ((b : ℕ) (c : Cell) (w : ℕ) → line_at self.new b c w ≡ (if is_key key b c w then line else line_at self.old b c w)) }
+    fn keep(&mut self, key: LineKey, line: &Line) -> Result<(), AllocError>
+        requires { is_blank line.now ≡ false }
+        ensures set { OnOk result ((b : ℕ) (c : Cell) (w : ℕ) → line_at self.new b c w ≡ (if is_key key b c w then line.now else line_at self.old b c w)) }
         ensures unchanged { OnErr result (self.new.lines ≡ self.old.lines) }
         ensures grows { OnErr result (line_at self.old key.bsc key.cell key.warning ≡ blank_line) }
         ensures downs { self.new.downs ≡ self.old.downs }

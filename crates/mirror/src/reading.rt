@@ -8,10 +8,11 @@ use crate::line_key::LineKey;
 use crate::lines::Lines;
 use crate::warning_slot::WarningSlot;
 
-/// The line of the BSC, the cell and the warning.
+/// The line of the BSC, the cell and the warning. Where it was found is remembered.
 #[inline(always)]
-pub(crate) fn line_of(lines: &Lines, key: LineKey) -> Line
-    ensures { result ≡ line_in lines.now key.bsc key.cell key.warning }
+pub(crate) fn line_of(lines: &mut Lines, key: LineKey) -> Line
+    ensures line { result ≡ line_in lines.old key.bsc key.cell key.warning }
+    ensures same { lines.new ≡ lines.old }
 {
-    lines.line_of(&WarningSlot::of(key))
+    lines.read(&WarningSlot::of(key))
 }

@@ -1,124 +1,65 @@
-use Rattle.std.proofs.Common.{◌≡◌, true, false, Some, None, sym, ◌∙◌, ap, rules}
-use Rattle.std.specs.BTreeSet.{insert_key}
-use Rattle.std.specs.Map.{lookup}
+use Rattle.std.proofs.Common.{◌≡◌, true, Some, sym, ◌∙◌, ap}
+use Rattle.std.specs.Cmp.{eq_by_cmp_equiv}
 use Rattle.std.specs.Option.{is_some, option_map}
+use Rattle.indexmap.proofs.CallerLemmas.{updates-with_value_at}
+use Rattle.indexmap.specs.IndexMap.{with_value_at}
 use Rattle.mirror.proofs.KeptLemmas.{found_at, lines_set}
-use Rattle.mirror.proofs.LinesLemmas.{is_in, kept_back, kept_same, lines_same, put_again, put_new, set_in_order, slots_again, slots_back, slots_set}
+use Rattle.mirror.proofs.LinesLemmas.{entry_is, is_in, kept_same, put_again, set_in_order, slots_again}
 use Rattle.mirror.specs.Held.{is_held_line}
-use Rattle.mirror.specs.Lines.{AreSlotsOf, IsKept, kept_at, lines_at}
-use Rattle.mirror.specs.Order.{slot_of, warning_slot_cmp}
-use Rattle.mirror.specs.Table.{is_slot}
+use Rattle.mirror.specs.Lines.{IsKept, kept_at, line_of, lines_at}
+use Rattle.mirror.specs.Order.{slot_of}
+use Rattle.mirror.specs.OrderLaws.{warning_slot_total}
 use Rattle.mirror.proofs.lines.Lines.insert.Goals as goal
 
-pub returns-in_err-old-clause-grows : goal.returns-in_err-old-clause-grows
-returns-in_err-old-clause-grows c =
+pub invariant_of-self : goal.invariant_of-self
+invariant_of-self c =
     let k = c.args.key in
     let s = slot_of k.bsc k.cell k.warning in
     let ss = c.self.inside.order.keys in
     let es = c.self.inside.kept.entries in
-    let none : lookup (is_slot k.bsc k.cell k.warning) c.args.self.now ≡ None = rw (← c.self.view_is) (sym (found_at k.bsc k.cell k.warning (lines_at ss es)) ∙ kept_same ss es c.self.invariant s ∙ rw c.of.ensures at c.in_err-old.ensures.absent) in
-    search (rules, none)
+    let at = c.pair_mut-kept.ensures in
+    let is = entry_is s es c.in-Some.place c.pair_mut-kept.result.0.now c.pair_mut-kept.result.1.now at.value (rw c.of-slot.ensures at c.in-Some.ensures.found) in
+    let fs = (with_value_at c.self.inside.kept c.in-Some.place c.args.line.now).entries in
+    let new = updates-with_value_at c.self.inside.kept c.in-Some.place c.args.line.now (eq_by_cmp_equiv warning_slot_total) at.unique c.pair_mut-kept.result.0.now c.pair_mut-kept.result.1.now at.value in
+    let set : IsKept s (Some c.args.line.now) es fs = rw is.0 at new.0 in
+    let there : is_in s ss ≡ true = c.self.invariant s ∙ ap is_some (rw c.of-slot.ensures at c.in-Some.ensures.kept) in
+    slots_again s c.args.line.now es fs ss set there c.self.invariant
 
-pub invariant_of-self-in-Some : goal.invariant_of-self-in-Some
-invariant_of-self-in-Some c =
+pub returns-clause-old : goal.returns-clause-old
+returns-clause-old c =
     let k = c.args.key in
     let s = slot_of k.bsc k.cell k.warning in
     let ss = c.self.inside.order.keys in
     let es = c.self.inside.kept.entries in
-    let set : IsKept s (Some c.args.line) es c.insert.new.self.entries = rw c.of.ensures at c.in_ok-old.ensures.updates.0 in
-    let there : is_in s ss ≡ true = c.self.invariant s ∙ ap is_some (sym (rw c.of.ensures at c.in_ok-old.ensures.old) ∙ c.in-Some.is) in
-    slots_again s c.args.line es c.insert.new.self.entries ss set there c.self.invariant
+    let at = c.pair_mut-kept.ensures in
+    let is = entry_is s es c.in-Some.place c.pair_mut-kept.result.0.now c.pair_mut-kept.result.1.now at.value (rw c.of-slot.ensures at c.in-Some.ensures.found) in
+    let kept : kept_at es s ≡ Some (line_of es s) = rw c.of-slot.ensures at c.in-Some.ensures.kept in
+    rw (← c.self.view_is) (ap Some (c.is_held-was.ensures ∙ ap is_held_line is.1) ∙ ap (option_map is_held_line) (sym kept ∙ sym (kept_same ss es c.self.invariant s) ∙ found_at k.bsc k.cell k.warning (lines_at ss es)))
 
-pub returns-in-Some-clause-old : goal.returns-in-Some-clause-old
-returns-in-Some-clause-old c =
+pub returns-clause-set : goal.returns-clause-set
+returns-clause-set c =
     let k = c.args.key in
     let s = slot_of k.bsc k.cell k.warning in
     let ss = c.self.inside.order.keys in
     let es = c.self.inside.kept.entries in
-    let old : kept_at es s ≡ Some c.in-Some.was = sym (rw c.of.ensures at c.in_ok-old.ensures.old) ∙ c.in-Some.is in
-    rw (← c.self.view_is) (ap Some c.is_held.ensures ∙ ap (option_map is_held_line) (sym old ∙ sym (kept_same ss es c.self.invariant s) ∙ found_at k.bsc k.cell k.warning (lines_at ss es)))
+    let at = c.pair_mut-kept.ensures in
+    let is = entry_is s es c.in-Some.place c.pair_mut-kept.result.0.now c.pair_mut-kept.result.1.now at.value (rw c.of-slot.ensures at c.in-Some.ensures.found) in
+    let fs = (with_value_at c.self.inside.kept c.in-Some.place c.args.line.now).entries in
+    let new = updates-with_value_at c.self.inside.kept c.in-Some.place c.args.line.now (eq_by_cmp_equiv warning_slot_total) at.unique c.pair_mut-kept.result.0.now c.pair_mut-kept.result.1.now at.value in
+    let set : IsKept s (Some c.args.line.now) es fs = rw is.0 at new.0 in
+    let there : is_in s ss ≡ true = c.self.invariant s ∙ ap is_some (rw c.of-slot.ensures at c.in-Some.ensures.kept) in
+    rw (← c.self.view_is) (lines_set k.bsc k.cell k.warning (Some c.args.line.now) (lines_at ss es) (lines_at ss fs) (set_in_order s (Some c.args.line.now) es fs ss ss c.self.invariant (slots_again s c.args.line.now es fs ss set there c.self.invariant) set))
 
-pub returns-in-Some-clause-set : goal.returns-in-Some-clause-set
-returns-in-Some-clause-set c =
+pub returns-clause-entries : goal.returns-clause-entries
+returns-clause-entries c =
     let k = c.args.key in
     let s = slot_of k.bsc k.cell k.warning in
     let ss = c.self.inside.order.keys in
     let es = c.self.inside.kept.entries in
-    let set : IsKept s (Some c.args.line) es c.insert.new.self.entries = rw c.of.ensures at c.in_ok-old.ensures.updates.0 in
-    let there : is_in s ss ≡ true = c.self.invariant s ∙ ap is_some (sym (rw c.of.ensures at c.in_ok-old.ensures.old) ∙ c.in-Some.is) in
-    rw (← c.self.view_is) (lines_set k.bsc k.cell k.warning (Some c.args.line) (lines_at ss es) (lines_at ss c.insert.new.self.entries) (set_in_order s (Some c.args.line) es c.insert.new.self.entries ss ss c.self.invariant (slots_again s c.args.line es c.insert.new.self.entries ss set there c.self.invariant) set))
-
-pub returns-in-Some-clause-entries : goal.returns-in-Some-clause-entries
-returns-in-Some-clause-entries c =
-    let k = c.args.key in
-    let s = slot_of k.bsc k.cell k.warning in
-    let ss = c.self.inside.order.keys in
-    let es = c.self.inside.kept.entries in
-    let set : IsKept s (Some c.args.line) es c.insert.new.self.entries = rw c.of.ensures at c.in_ok-old.ensures.updates.0 in
-    let there : is_in s ss ≡ true = c.self.invariant s ∙ ap is_some (sym (rw c.of.ensures at c.in_ok-old.ensures.old) ∙ c.in-Some.is) in
-    rw (← c.self.view_is) (put_again s c.args.line es c.insert.new.self.entries set ss c.len.ensures.ordered there)
-
-pub invariant_of-self-in-Err : goal.invariant_of-self-in-Err
-invariant_of-self-in-Err c =
-    let k = c.args.key in
-    let s = slot_of k.bsc k.cell k.warning in
-    let ss = c.self.inside.order.keys in
-    let es = c.self.inside.kept.entries in
-    let set : IsKept s (Some c.args.line) es c.insert.new.self.entries = rw c.of.ensures at c.in_ok-old.ensures.updates.0 in
-    let taken : IsKept s None c.insert.new.self.entries c.swap_remove.new.self.entries = rw (c.in-Err.ensures.value_returned, c.of-slot.ensures) at c.swap_remove.ensures.updates.0 in
-    let none : kept_at es s ≡ None = slots_back s ss es (c.self.invariant s) (rw c.of-slot.ensures at c.in-Err.ensures.absent) in
-    rw c.in-Err.ensures.err (λ q. c.self.invariant q ∙ ap is_some (sym (kept_back s c.args.line es c.insert.new.self.entries c.swap_remove.new.self.entries none set taken q)))
-
-pub returns-in-Ok-clause-old : goal.returns-in-Ok-clause-old
-returns-in-Ok-clause-old c =
-    let k = c.args.key in
-    let s = slot_of k.bsc k.cell k.warning in
-    let ss = c.self.inside.order.keys in
-    let es = c.self.inside.kept.entries in
-    let none : c.in_ok-old.old ≡ None = search rules in
-    let old : kept_at es s ≡ None = sym (rw c.of.ensures at c.in_ok-old.ensures.old) ∙ none in
-    rw (← c.self.view_is) (ap (option_map is_held_line) (sym old ∙ sym (kept_same ss es c.self.invariant s) ∙ found_at k.bsc k.cell k.warning (lines_at ss es)))
-
-pub returns-in-Ok-clause-set : goal.returns-in-Ok-clause-set
-returns-in-Ok-clause-set c =
-    let k = c.args.key in
-    let s = slot_of k.bsc k.cell k.warning in
-    let ss = c.self.inside.order.keys in
-    let es = c.self.inside.kept.entries in
-    let fs = c.insert.new.self.entries in
-    let ts = c.insert-2.new.self.keys in
-    let set : IsKept s (Some c.args.line) es fs = rw c.of.ensures at c.in_ok-old.ensures.updates.0 in
-    let after : AreSlotsOf ts fs = slots_set s (Some c.args.line) es fs ss ts set (rw c.of-slot.ensures at c.in-Ok.ensures.updates.0) c.self.invariant in
-    rw (← c.self.view_is) (lines_set k.bsc k.cell k.warning (Some c.args.line) (lines_at ss es) (lines_at ts fs) (set_in_order s (Some c.args.line) es fs ss ts c.self.invariant after set))
-
-pub returns-in-Ok-clause-entries : goal.returns-in-Ok-clause-entries
-returns-in-Ok-clause-entries c =
-    let k = c.args.key in
-    let s = slot_of k.bsc k.cell k.warning in
-    let ss = c.self.inside.order.keys in
-    let es = c.self.inside.kept.entries in
-    let fs = c.insert.new.self.entries in
-    let set : IsKept s (Some c.args.line) es fs = rw c.of.ensures at c.in_ok-old.ensures.updates.0 in
-    let put : c.insert-2.new.self.keys ≡ insert_key warning_slot_cmp ss s = rw c.of-slot.ensures at c.in-Ok.ensures.keys in
-    let old : c.in_ok-old.old ≡ None = search rules in
-    let none : is_in s ss ≡ false = c.self.invariant s ∙ ap is_some (sym (rw c.of.ensures at c.in_ok-old.ensures.old) ∙ old) in
-    rw (← c.self.view_is, put) (put_new s c.args.line es fs set ss none)
-
-pub returns-in-Err-clause-unchanged : goal.returns-in-Err-clause-unchanged
-returns-in-Err-clause-unchanged c =
-    let k = c.args.key in
-    let s = slot_of k.bsc k.cell k.warning in
-    let ss = c.self.inside.order.keys in
-    let es = c.self.inside.kept.entries in
-    let set : IsKept s (Some c.args.line) es c.insert.new.self.entries = rw c.of.ensures at c.in_ok-old.ensures.updates.0 in
-    let taken : IsKept s None c.insert.new.self.entries c.swap_remove.new.self.entries = rw (c.in-Err.ensures.value_returned, c.of-slot.ensures) at c.swap_remove.ensures.updates.0 in
-    let none : kept_at es s ≡ None = slots_back s ss es (c.self.invariant s) (rw c.of-slot.ensures at c.in-Err.ensures.absent) in
-    rw (← c.self.view_is, c.in-Err.ensures.err) (lines_same ss es c.swap_remove.new.self.entries (kept_back s c.args.line es c.insert.new.self.entries c.swap_remove.new.self.entries none set taken))
-
-pub returns-in-Err-clause-grows : goal.returns-in-Err-clause-grows
-returns-in-Err-clause-grows c =
-    let k = c.args.key in
-    let s = slot_of k.bsc k.cell k.warning in
-    let ss = c.self.inside.order.keys in
-    let es = c.self.inside.kept.entries in
-    rw (← c.self.view_is) (sym (found_at k.bsc k.cell k.warning (lines_at ss es)) ∙ kept_same ss es c.self.invariant s ∙ slots_back s ss es (c.self.invariant s) (rw c.of-slot.ensures at c.in-Err.ensures.absent))
+    let at = c.pair_mut-kept.ensures in
+    let is = entry_is s es c.in-Some.place c.pair_mut-kept.result.0.now c.pair_mut-kept.result.1.now at.value (rw c.of-slot.ensures at c.in-Some.ensures.found) in
+    let fs = (with_value_at c.self.inside.kept c.in-Some.place c.args.line.now).entries in
+    let new = updates-with_value_at c.self.inside.kept c.in-Some.place c.args.line.now (eq_by_cmp_equiv warning_slot_total) at.unique c.pair_mut-kept.result.0.now c.pair_mut-kept.result.1.now at.value in
+    let set : IsKept s (Some c.args.line.now) es fs = rw is.0 at new.0 in
+    let there : is_in s ss ≡ true = c.self.invariant s ∙ ap is_some (rw c.of-slot.ensures at c.in-Some.ensures.kept) in
+    rw (← c.self.view_is) (put_again s c.args.line.now es fs set ss c.len.ensures.ordered there)
