@@ -24,8 +24,8 @@ use std::marker::Model;
 const REMEMBERED: usize = 16;
 
 /// The lines that aren't blank. A line is found by its hash, but for one that stands behind the line of its warning that was
-/// found last: the lines of a warning are mostly put in, read and set cell by cell. The slots stand in order for the sweeps of
-/// one warning.
+/// found last, and for one that is set after it was read: the lines of a warning are mostly put in, read and set cell by cell.
+/// The slots stand in order for the sweeps of one warning.
 #[derive(Drop)]
 pub(crate) struct Lines {
     order: BTreeSet<WarningSlot>,
@@ -81,6 +81,23 @@ fn place_of(kept: &IndexMap<WarningSlot, Line>, last: usize, slot: &WarningSlot)
         return Some(next);
     }
     hashed_place_of(kept, slot)
+}
+
+/// The place of the slot's line, if one is kept. It is looked for at the given place first, and then behind it.
+#[inline(always)]
+fn same_place_of(
+    kept: &IndexMap<WarningSlot, Line>,
+    last: usize,
+    slot: &WarningSlot,
+) -> Option<usize>
+    ensures found { IfSome result (λ place. slice_get kept.now.entries place ≡ Some (slot.now, line_of kept.now.entries slot.now)) }
+    ensures kept { IfSome result (λ place. kept_at kept.now.entries slot.now ≡ Some (line_of kept.now.entries slot.now)) }
+    ensures none { IfNone result (kept_at kept.now.entries slot.now ≡ None) }
+{
+    if is_at(kept, last, slot) {
+        return Some(last);
+    }
+    place_of(kept, last, slot)
 }
 
 /// The line that stands at that place.
@@ -167,7 +184,7 @@ impl Lines {
         let LineKey { bsc, cell, warning } = key;
         let slot = WarningSlot::of(key);
         let digit = slot.digit();
-        let Some(place) = place_of(&self.kept, self.places[digit], &slot) else {
+        let Some(place) = same_place_of(&self.kept, self.places[digit], &slot) else {
             return self.put(LineKey { bsc, cell, warning }, line);
         };
         self.places[digit] = place;

@@ -4,8 +4,9 @@ use Rattle.centre_lines.proofs.FinishLemmas.{made_of, links_then, flights_then}
 use Rattle.centre_core.proofs.finishing.finish.Goals as goal
 
 pub bear-requires : goal.bear-requires
-bear-requires c =
-    made_of c.args.kept.now c.args.event.now c.args.answer.now c.args.before.place c.args.before.up c.args.before.reached.spots.items c.args.before.reached.lines (option_copied c.flight_of.result) c.as_slice.result.now c.requires c.as_slice.ensures.value c.flight_of.ensures
+bear-requires c = record {
+  made = made_of c.args.kept.now c.args.event.now c.args.answer.now c.args.before.place c.args.before.up c.args.before.reached.spots.items c.args.before.reached.lines (option_copied c.flight_of.result) c.as_slice.result.now c.requires c.as_slice.ensures.value c.flight_of.ensures;
+}
 
 pub returns-clause-kept : goal.returns-clause-kept
 returns-clause-kept c = λ x.
