@@ -146,7 +146,7 @@ impl LineTable {
         ensures least { self.old.meter ≤ self.new.meter }
     {
         self.count();
-        line_of(&mut self.lines, key)
+        line_of(&self.lines, key)
     }
 
     /// Keeps the line for that BSC, cell and warning. It is counted, also where memory runs out; then each line stays

@@ -1,6 +1,6 @@
 //! The lines that aren't blank, by warning.
 
-ghost use Rattle.std.specs.Prelude.{◌≡◌, None, Some, [], slice_get, IfOk, IfSome, IfNone, IsTrue, OnErr, OnOk};
+ghost use Rattle.std.specs.Prelude.{◌≡◌, None, Some, [], slice_get, IfOk, IfSome, OnErr, OnOk};
 ghost use Rattle.std.specs.BTreeMap.{insert_entry, is_at};
 ghost use Rattle.std.specs.List.Sorted.{IsStrictlySortedBy};
 ghost use Rattle.std.specs.Map.{keys_of, lookup, remove_entry};
@@ -9,7 +9,7 @@ ghost use Rattle.mirror.specs.Held.{is_held_line};
 ghost use Rattle.mirror.specs.Index.{IsSet};
 ghost use Rattle.mirror.specs.Line.{blank_line};
 ghost use Rattle.mirror.specs.Lines.{kept_at, line_of, lines_at};
-ghost use Rattle.mirror.specs.Order.{Slot, slot_of, warning_slot_cmp};
+ghost use Rattle.mirror.specs.Order.{slot_of, warning_slot_cmp};
 ghost use Rattle.mirror.specs.Table.{is_slot};
 
 use crate::line::Line;
@@ -20,18 +20,11 @@ use std::alloc::{AllocError, Global};
 use std::collections::BTreeSet;
 use std::marker::Model;
 
-/// How many places of lines are remembered.
-const REMEMBERED: usize = 16;
-
-/// The lines that aren't blank. A line is found by its hash, but for one that stands behind the line of its warning that was
-/// found last, and for one that is set after it was read: the lines of a warning are mostly put in, read and set cell by cell.
-/// The slots stand in order for the sweeps of one warning.
+/// The lines that aren't blank. A line is found by its hash; the slots stand in order for the sweeps of one warning.
 #[derive(Drop)]
 pub(crate) struct Lines {
     order: BTreeSet<WarningSlot>,
     kept: IndexMap<WarningSlot, Line>,
-    /// The places of the lines that were found last, by the last digit of the number of their warning.
-    places: [usize; REMEMBERED],
 }
 
 impl Model for Lines {
@@ -47,67 +40,13 @@ impl Model for Lines {
     ghost invariant = { λ t. AreSlotsOf t.order.keys t.kept.entries };
 }
 
-/// Whether the line of the slot is kept at that place.
-fn is_at(kept: &IndexMap<WarningSlot, Line>, place: usize, slot: &WarningSlot) -> bool
-    ensures found { IsTrue result → slice_get kept.now.entries place ≡ Some (slot.now, line_of kept.now.entries slot.now) }
-    ensures kept { IsTrue result → kept_at kept.now.entries slot.now ≡ Some (line_of kept.now.entries slot.now) }
-{
-    match kept.get_index(place) {
-        Some((found, _)) => *found == *slot,
-        None => false,
-    }
-}
-
-/// The place of the slot's line, if one is kept, found by its hash.
-#[inline(never)]
-fn hashed_place_of(kept: &IndexMap<WarningSlot, Line>, slot: &WarningSlot) -> Option<usize>
+/// The place of the slot's line, if one is kept.
+fn place_of(kept: &IndexMap<WarningSlot, Line>, slot: &WarningSlot) -> Option<usize>
     ensures found { IfSome result (λ place. slice_get kept.now.entries place ≡ Some (slot.now, line_of kept.now.entries slot.now)) }
     ensures kept { IfSome result (λ place. kept_at kept.now.entries slot.now ≡ Some (line_of kept.now.entries slot.now)) }
-    ensures none { IfNone result (kept_at kept.now.entries slot.now ≡ None) }
 {
     let (place, _, _) = kept.get_full(slot)?;
     Some(place)
-}
-
-/// The place of the slot's line, if one is kept. It is looked for behind the given place first.
-#[inline(always)]
-fn place_of(kept: &IndexMap<WarningSlot, Line>, last: usize, slot: &WarningSlot) -> Option<usize>
-    ensures found { IfSome result (λ place. slice_get kept.now.entries place ≡ Some (slot.now, line_of kept.now.entries slot.now)) }
-    ensures kept { IfSome result (λ place. kept_at kept.now.entries slot.now ≡ Some (line_of kept.now.entries slot.now)) }
-    ensures none { IfNone result (kept_at kept.now.entries slot.now ≡ None) }
-{
-    let next = last.wrapping_add(1);
-    if is_at(kept, next, slot) {
-        return Some(next);
-    }
-    hashed_place_of(kept, slot)
-}
-
-/// The place of the slot's line, if one is kept. It is looked for at the given place first, and then behind it.
-#[inline(always)]
-fn same_place_of(
-    kept: &IndexMap<WarningSlot, Line>,
-    last: usize,
-    slot: &WarningSlot,
-) -> Option<usize>
-    ensures found { IfSome result (λ place. slice_get kept.now.entries place ≡ Some (slot.now, line_of kept.now.entries slot.now)) }
-    ensures kept { IfSome result (λ place. kept_at kept.now.entries slot.now ≡ Some (line_of kept.now.entries slot.now)) }
-    ensures none { IfNone result (kept_at kept.now.entries slot.now ≡ None) }
-{
-    if is_at(kept, last, slot) {
-        return Some(last);
-    }
-    place_of(kept, last, slot)
-}
-
-/// The line that stands at that place.
-fn line_there(kept: &IndexMap<WarningSlot, Line>, place: usize) -> Line
-    ensures { (s : Slot) → slice_get kept.now.entries place ≡ Some (s, line_of kept.now.entries s) → result ≡ line_of kept.now.entries s }
-{
-    match kept.get_index(place) {
-        Some((_, line)) => *line,
-        None => Line::blank(),
-    }
 }
 
 impl Lines {
@@ -117,7 +56,6 @@ impl Lines {
         Lines {
             order: BTreeSet::new(alloc),
             kept: IndexMap::new(alloc),
-            places: [0; REMEMBERED],
         }
     }
 
@@ -128,7 +66,6 @@ impl Lines {
         Ok(Lines {
             order: self.order.clone()?,
             kept: self.kept.clone()?,
-            places: [0; REMEMBERED],
         })
     }
 
@@ -158,20 +95,6 @@ impl Lines {
         }
     }
 
-    /// The same, and its place is remembered.
-    #[inline(always)]
-    pub(crate) fn read(&mut self, slot: &WarningSlot) -> Line
-        ensures line { result ≡ line_of self.old slot.now }
-        ensures same { self.new ≡ self.old }
-    {
-        let digit = slot.digit();
-        let Some(place) = place_of(&self.kept, self.places[digit], slot) else {
-            return Line::blank();
-        };
-        self.places[digit] = place;
-        line_there(&self.kept, place)
-    }
-
     /// Puts the line in. The result says whether one was kept, and whether that one was held. Where memory runs out nothing
     /// changes. Memory is taken only where none was kept. One that was kept is changed in its place.
     pub(crate) fn insert(&mut self, key: LineKey, line: &Line) -> Result<Option<bool>, AllocError>
@@ -183,11 +106,9 @@ impl Lines {
     {
         let LineKey { bsc, cell, warning } = key;
         let slot = WarningSlot::of(key);
-        let digit = slot.digit();
-        let Some(place) = same_place_of(&self.kept, self.places[digit], &slot) else {
+        let Some(place) = place_of(&self.kept, &slot) else {
             return self.put(LineKey { bsc, cell, warning }, line);
         };
-        self.places[digit] = place;
         // A lemma: `len` also ensures that the slots are in order.
         let _ = self.order.len();
         let (_, kept) = self.kept.pair_mut(place);

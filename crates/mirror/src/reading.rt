@@ -8,11 +8,10 @@ use crate::line_key::LineKey;
 use crate::lines::Lines;
 use crate::warning_slot::WarningSlot;
 
-/// The line of the BSC, the cell and the warning. Where it was found is remembered.
+/// The line of the BSC, the cell and the warning.
 #[inline(always)]
-pub(crate) fn line_of(lines: &mut Lines, key: LineKey) -> Line
-    ensures line { result ≡ line_in lines.old key.bsc key.cell key.warning }
-    ensures same { lines.new ≡ lines.old }
+pub(crate) fn line_of(lines: &Lines, key: LineKey) -> Line
+    ensures { result ≡ line_in lines.now key.bsc key.cell key.warning }
 {
-    lines.read(&WarningSlot::of(key))
+    lines.line_of(&WarningSlot::of(key))
 }

@@ -81,13 +81,6 @@ impl WarningSlot {
         }
     }
 
-    /// The last hexadecimal digit of the warning's number.
-    pub(crate) fn digit(&self) -> usize
-        ensures { result < 16 }
-    {
-        (self.front / NEXT_WARNING % 16) as usize
-    }
-
     pub(crate) fn bsc(&self) -> u16
         ensures { result ≡ self.now.bsc }
     {

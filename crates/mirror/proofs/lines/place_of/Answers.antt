@@ -4,7 +4,7 @@ use Rattle.mirror.proofs.LinesLemmas.{slot_found}
 use Rattle.mirror.specs.Line.{blank_line}
 use Rattle.mirror.specs.Lines.{line_of}
 use Rattle.mirror.specs.declared.line.Line.{Line}
-use Rattle.mirror.proofs.lines.hashed_place_of.Goals as goal
+use Rattle.mirror.proofs.lines.place_of.Goals as goal
 
 pub returns-clause-found : goal.returns-clause-found
 returns-clause-found c =
