@@ -145,7 +145,7 @@ outside_narrow settings past legal desk n x a k h =
 -- Issue and Update: the key of a new version is blank, since it is none of the book before.
 
 key_blank : (settings : Settings) (past : Past) → Legal settings past → (b : ℕ) (c : Cell) (m s : ℕ) → is_key past m s ≡ false → key_state past b c m s ≡ blank
-key_blank settings past legal b c m s h = λ i. record { presence = unknown_key_presence settings past legal b c m s h i; read_all = unknown_key_hold settings past legal b c m s h i; count = unknown_key_count settings past legal b c m s h i }
+key_blank settings past legal b c m s h = λ i. record { presence = unknown_key_presence settings past legal b c m s h i; hold = unknown_key_hold settings past legal b c m s h i; count = unknown_key_count settings past legal b c m s h i }
 
 -- the one version of a new warning
 first_serial : (s t : ℕ) → (nat_eq s t || false) ≡ true → t ≡ s
