@@ -1,7 +1,7 @@
 -- What a centre answers, and what always holds of it one entry further.
 use Rattle.std.proofs.Common.{◌≡◌, inl, inr, ℕ, ◌+◌, ◌-◌, ◌*◌, ◌^◌, ◌<◌, ◌≤◌, Bool, true, false, List, [], ◌∷◌, ◌++◌, Result, Ok, Err, length, refl, sym, ◌∙◌, ap, subst, arith, length-append}
 use Rattle.std.proofs.lemmas.List.{append_assoc, append-nil, reverse-append, length-map}
-use Rattle.std.specs.Prelude.{IsErrAnd, IfErr, IsOk, if◌then◌else◌}
+use Rattle.std.specs.Prelude.{IsErrAnd, IfErr, IsOk}
 use Rattle.areas.specs.declared.area.Area.{Area}
 use Rattle.cell_register.specs.Register as register
 use Rattle.kept_tables.specs.Consistent.{Consistent}

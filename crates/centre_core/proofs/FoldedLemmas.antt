@@ -1,12 +1,12 @@
 -- What a centre's past says, whose base has the entries that were folded, is what all its entries say.
-use Rattle.std.proofs.Common.{◌≡◌, ℕ, ◌+◌, ◌-◌, ◌*◌, ◌^◌, ◌<◌, ◌≤◌, Bool, true, false, ◌||◌, List, [], ◌∷◌, ◌++◌, Option, Some, None, Result, Ok, Err, length, reverse, refl, sym, ◌∙◌, ap, subst, arith, length-append}
+use Rattle.std.proofs.Common.{◌≡◌, ℕ, ◌+◌, ◌-◌, ◌^◌, ◌<◌, true, false, ◌||◌, List, [], ◌∷◌, ◌++◌, Result, Ok, Err, length, reverse, refl, sym, ◌∙◌, ap, arith, length-append}
 use Rattle.std.specs.Prelude.{OnOk, nat_le, if◌then◌else◌}
 use Rattle.std.proofs.lemmas.Bool.{lt-leb, leb-false, or_parts}
-use Rattle.std.proofs.lemmas.List.{length-reverse, reverse-append}
+use Rattle.std.proofs.lemmas.List.{length-reverse}
 use Rattle.coverage_plan.specs.declared.edit.Edit.{Edit}
-use Rattle.centre_events.specs.Base.{Base, empty_base}
+use Rattle.centre_events.specs.Base.{Base}
 use Rattle.centre_events.specs.Folding.{base_of, folded, onto}
-use Rattle.centre_events.specs.Past.{Past, From, After, entry_count, past_of, position, since}
+use Rattle.centre_events.specs.Past.{Past, entry_count, past_of, position, since}
 use Rattle.centre_events.specs.Settings.{Settings}
 use Rattle.centre_events.specs.Verdict.{answered, is_full, last_position, verdict}
 use Rattle.centre_events.specs.declared.answer.Answer.{Answer}

@@ -1,11 +1,10 @@
 -- What is kept after an accepted event is what the past with its entry says.
-use Rattle.std.proofs.Common.{◌≡◌, ℕ, ◌+◌, Bool, List, Option, map, refl, sym, ◌∙◌, ap, subst}
+use Rattle.std.proofs.Common.{◌≡◌, ℕ, ◌+◌, Bool, List, Option, refl, sym, ◌∙◌, ap, subst}
 use Rattle.kept_tables.specs.declared.spot.Spot.{Spot}
 use Rattle.centre_past.specs.Flights.{flights_after, up_before, flight_kept}
 use Rattle.centre_lines.specs.Following.{Finishes, Made, flight_before}
 use Rattle.centre_events.specs.Kept.{AreFlightsOf}
 use Rattle.centre_events.specs.Past.{Past, After, position}
-use Rattle.centre_events.specs.Warnings.{book_of}
 use Rattle.centre_past.specs.State.{AreLinksOf, links_after}
 use Rattle.centre_events.specs.declared.answer.Answer.{Answer}
 use Rattle.centre_events.specs.declared.entry.Entry.{Entry}

@@ -94,14 +94,6 @@ marked_at e a kind b c o is k d x was = by_kind kind k is
     by_kind kinds.Emergency kinds.Cbs is = refl
     by_kind kinds.Emergency kinds.Emergency is = same kinds.Emergency is
 
--- where nothing is set
-pub unmarked_at : (e : Event) (a : Answer) (kind : Kind) (b : ℕ) (c : Cell) → down_mark kind b c e a ≡ None → (k : Kind) (d : ℕ) (x : Cell) (was : Bool) → was ≡ (if is_same_kind kind k then down_after e a (record { bsc = b; cell = c } ∷ []) k d x was else was)
-unmarked_at e a kind b c is k d x was = sym (either (is_same_kind kind k && (nat_eq b d && cell_eq c x))) ∙ marked_at e a kind b c None is k d x was
-  where
-    either : (t : Bool) → (if t then was else was) ≡ was
-    either true = refl
-    either false = refl
-
 -- what is set for warnings of one kind and then for those of the other
 pub both_marked : (e : Event) (a : Answer) (p : Spot) (t u v : Table) → ((k : Kind) (d : ℕ) (x : Cell) → down_at u k d x ≡ (if is_same_kind kinds.Cbs k then down_after e a (p ∷ []) k d x (down_at t k d x) else down_at t k d x)) → ((k : Kind) (d : ℕ) (x : Cell) → down_at v k d x ≡ (if is_same_kind kinds.Emergency k then down_after e a (p ∷ []) k d x (down_at u k d x) else down_at u k d x)) → (k : Kind) (d : ℕ) (x : Cell) → down_at v k d x ≡ down_after e a (p ∷ []) k d x (down_at t k d x)
 both_marked e a p t u v first second kinds.Cbs d x = second kinds.Cbs d x ∙ first kinds.Cbs d x

@@ -25,7 +25,6 @@ use Rattle.centre_events.specs.Known.{is_known}
 use Rattle.centre_events.specs.Past.{Past, After}
 use Rattle.centre_events.specs.Links.{bscs}
 use Rattle.centre_events.specs.Settings.{Settings}
-use Rattle.centre_events.specs.Warnings.{book_of}
 use Rattle.centre_events.specs.Verdict.{verdict}
 use Rattle.centre_events.specs.declared.answer.Answer.{Answer}
 use Rattle.centre_events.specs.declared.event.Event.TheVariants as event

@@ -1,25 +1,20 @@
 -- Where what happens leaves blank lines blank, only the lines that are kept may change.
-use Rattle.std.proofs.Common.{◌≡◌, ℕ, Bool, true, false, ◌&&◌, ◌||◌, not, nat_eq, ltb, List, [], ◌∷◌, ◌++◌, Option, Some, None, cond, map, filter, length, refl, sym, ◌∙◌, ap, arith}
+use Rattle.std.proofs.Common.{◌≡◌, ℕ, Bool, true, false, ◌&&◌, ◌||◌, nat_eq, ltb, List, [], ◌∷◌, Option, Some, None, cond, length, refl, sym, ◌∙◌, ap, arith}
 use Rattle.std.specs.Prelude.{find, if◌then◌else◌}
 use Rattle.std.proofs.lemmas.Bool.Decides.{nat_tests}
-use Rattle.std.specs.Cmp.{unsigned_Decides}
-use Rattle.std.specs.List.{flat_map, list_any}
+use Rattle.std.specs.List.{list_any}
 use Rattle.std.specs.Map.{lookup}
 use Rattle.std.specs.Option.{unwrap_or}
 use Rattle.areas.specs.declared.area.Area.{Area}
-use Rattle.cell_register.specs.CellLaws.{ltb_follows}
-use Rattle.cell_register.specs.Register as register
-use Rattle.common.specs.OnceLaws.{any_turned, any_filter_same, ascending_once}
+use Rattle.common.specs.OnceLaws.{ascending_once}
 use Rattle.common.specs.Order.{is_ascending}
-use Rattle.common.specs.OrderLaws.{ascending_filter, ascending_map}
-use Rattle.common.specs.SortingLaws.{same_ascending}
+use Rattle.common.specs.OrderLaws.{ascending_map}
 use Rattle.kept_tables.specs.Tables.{Tables}
-use Rattle.kept_tables.specs.View.{key_at}
 use Rattle.kept_tables.specs.declared.spot.Spot.{Spot}
 use Rattle.mirror.specs.Blank.{is_blank, line_eq}
 use Rattle.mirror.specs.BlankLaws.{blank_decides, line_decides}
 use Rattle.mirror.specs.Line.{blank_line}
-use Rattle.mirror.specs.Table.{downs_of, is_slot, is_that_place, line_at, down_at}
+use Rattle.mirror.specs.Table.{is_slot, line_at, down_at}
 use Rattle.mirror.specs.declared.line.Line.{Line}
 use Rattle.mirror.specs.declared.line_key.LineKey.{LineKey}
 use Rattle.warning_book.specs.Book as book

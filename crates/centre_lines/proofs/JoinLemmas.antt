@@ -34,8 +34,6 @@ use Rattle.centre_events.specs.Past.{Past, After}
 use Rattle.centre_past.specs.Reach.{spot}
 use Rattle.centre_events.specs.Settings.{Settings}
 use Rattle.centre_events.specs.Warnings.{book_of, warnings_of, has_key, serials}
-use Rattle.centre_events.specs.declared.answer.Answer.{Answer}
-use Rattle.centre_events.specs.declared.event.Event.{Event}
 use Rattle.centre_events.specs.Places.{place}
 use Rattle.centre_lines.specs.declared.line_before.LineBefore.{LineBefore}
 use Rattle.centre_past.proofs.BookLemmas.{wider, owner_of, owner_is, wide_before, wide_after}
@@ -49,10 +47,6 @@ use Rattle.warning_book.specs.declared.kind.Kind.{Kind}
 map_twice : {A B C : Type 0} (f : A → B) (g : B → C) (k : A → C) → ((x : A) → g (f x) ≡ k x) → (xs : List A) → map g (map f xs) ≡ map k xs
 map_twice f g k same [] = refl
 map_twice f g k same (x ∷ xs) = ap (λ y. y ∷ map g (map f xs)) (same x) ∙ ap (λ ys. k x ∷ ys) (map_twice f g k same xs)
-
--- which cells are marked by the spots, in a list of the same ones
-pub marked_as : (t u : Tables) (e : Event) (a : Answer) (ps qs : List Spot) → ps ≡ qs → ((kind : Kind) (b : ℕ) (c : Cell) → down_at u.lines kind b c ≡ down_after e a ps kind b c (down_at t.lines kind b c)) → (kind : Kind) (b : ℕ) (c : Cell) → down_at u.lines kind b c ≡ down_after e a qs kind b c (down_at t.lines kind b c)
-marked_as t u e a ps qs same marked kind b c = marked kind b c ∙ ap (λ spots. down_after e a spots kind b c (down_at t.lines kind b c)) same
 
 -- which cells are down
 

@@ -1,5 +1,5 @@
 -- An event that is no edit changes nothing of a line but the line itself, and whether its cell is down.
-use Rattle.std.proofs.Common.{◌≡◌, ℕ, Bool, false, List, Option, Some, None, map, refl}
+use Rattle.std.proofs.Common.{◌≡◌, ℕ, Bool, false, List, Option, Some, None}
 use Rattle.areas.specs.declared.area.Area.{Area}
 use Rattle.cell_register.specs.Register as register
 use Rattle.kept_tables.specs.declared.line_facts.LineFacts.{LineFacts}

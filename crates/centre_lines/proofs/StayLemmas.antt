@@ -15,7 +15,7 @@ use Rattle.kept_tables.specs.declared.line_facts.LineFacts.{LineFacts}
 use Rattle.mirror.specs.Blank.{is_blank, line_eq}
 use Rattle.mirror.specs.BlankLaws.{blank_decides, line_decides}
 use Rattle.mirror.specs.Line.{blank_line}
-use Rattle.mirror.specs.Table.{line_at, down_at}
+use Rattle.mirror.specs.Table.{line_at}
 use Rattle.mirror.specs.declared.line.Line.{Line}
 use Rattle.mirror.specs.declared.line_key.LineKey.{LineKey}
 use Rattle.mirror.specs.declared.presence.Presence.TheVariants.{Absent}

@@ -1,7 +1,6 @@
 -- How the lines are walked on which an event bears that is no edit.
 use Rattle.std.proofs.Common.{◌≡◌, ℕ, ◌+◌, ◌<◌, ◌≤◌, Bool, true, false, ◌&&◌, ◌||◌, not, nat_eq, List, [], ◌∷◌, ◌++◌, Option, Some, None, cond, filter, get_or, length, ltb, map, take, drop, unwrap_or, refl, sym, ◌∙◌, ap, subst}
-use Rattle.std.specs.Prelude.{if◌then◌else◌, find}
-use Rattle.std.specs.Cmp.{unsigned_Decides}
+use Rattle.std.specs.Prelude.{if◌then◌else◌}
 use Rattle.std.specs.List.{flat_map, list_any}
 use Rattle.std.proofs.lemmas.Bool.{and_parts, and_from, not-true, or_parts}
 use Rattle.std.proofs.lemmas.List.{append-nil, drop_more, take-append-drop, take_all, take_more}
@@ -36,7 +35,7 @@ use Rattle.warning_book.specs.Book as book
 use Rattle.warning_book.specs.Book.{numbers, warning_of}
 use Rattle.warning_book.specs.declared.kind.Kind.{Kind}
 use Rattle.warning_book.specs.declared.warning.Warning.{Warning}
-use Rattle.centre_events.specs.Down.{down_mark, is_down}
+use Rattle.centre_events.specs.Down.{down_mark}
 use Rattle.centre_events.specs.Kept.{is_edit}
 use Rattle.centre_events.specs.Past.{Past, After}
 use Rattle.centre_events.specs.Places.{place}

@@ -1,4 +1,4 @@
-use Rattle.std.proofs.Common.{◌≡◌, ◌<◌, ◌≤◌, ◌+◌, ◌-◌, ℕ, ◌∙◌, ap, sym, refl, length, arith, rules}
+use Rattle.std.proofs.Common.{◌≡◌, ◌<◌, ◌≤◌, ◌+◌, ◌-◌, ◌∙◌, ap, sym, refl, length, arith, rules}
 use Rattle.centre_core.specs.Journal.{JournalState, counted_by}
 use Rattle.centre_events.specs.Past.{past_of}
 use Rattle.centre_core.proofs.JournalLemmas.{read_at_most, read_more, unread_at_most}

@@ -1,4 +1,4 @@
-use Rattle.std.proofs.Common.{◌≡◌, true, ℕ, List, ◌∙◌, ap, map, length, sym, subst, arith, rules}
+use Rattle.std.proofs.Common.{◌≡◌, true, ◌∙◌, ap, map, length, sym, subst, arith, rules}
 use Rattle.std.proofs.lemmas.Result.{on_ok_weaker}
 use Rattle.kept_tables.specs.Consistent.{Consistent}
 use Rattle.kept_tables.specs.View.{key_at}

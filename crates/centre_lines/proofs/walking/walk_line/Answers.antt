@@ -1,14 +1,13 @@
-use Rattle.std.proofs.Common.{◌≡◌, true, ◌∷◌, [], ◌&&◌, ◌||◌, sym, ◌∙◌, ap}
+use Rattle.std.proofs.Common.{◌≡◌, true, ◌&&◌, ◌||◌, sym, ◌∙◌, ap}
 use Rattle.std.proofs.lemmas.Result.{on_ok_weaker}
 use Rattle.std.specs.List.{list_any}
 use Rattle.std.specs.Option.{option_copied}
 use Rattle.kept_tables.specs.Changes.{change_of}
 use Rattle.kept_tables.specs.View.{key_at}
 use Rattle.kept_tables.specs.declared.step.Step.{Step}
-use Rattle.mirror.specs.Blank.{line_eq}
 use Rattle.mirror.specs.Table.{down_at, downs_of, is_that_place, line_at}
 use Rattle.mirror.specs.declared.line_key.LineKey.{LineKey}
-use Rattle.centre_events.specs.Down.{down_mark, is_down}
+use Rattle.centre_events.specs.Down.{down_mark}
 use Rattle.centre_events.specs.Warnings.{kind_in}
 use Rattle.coverage_plan.specs.Plan.{State}
 use Rattle.warning_book.specs.Book as book

@@ -1,7 +1,6 @@
-use Rattle.std.proofs.Common.{◌≡◌, ◌∙◌, filter, map, refl, sym, ap, subst, arith}
+use Rattle.std.proofs.Common.{◌∙◌, filter, map, sym, subst, arith}
 use Rattle.std.proofs.lemmas.Result.{on_ok_weaker}
 use Rattle.common.specs.OrderLaws.{length_filter}
-use Rattle.coverage_plan.specs.Plan.{State}
 use Rattle.kept_tables.specs.Consistent.{Consistent}
 use Rattle.kept_tables.specs.View.{key_at}
 use Rattle.kept_tables.specs.declared.spot.Spot.{Spot}

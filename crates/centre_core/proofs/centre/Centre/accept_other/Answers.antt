@@ -1,6 +1,6 @@
 use Rattle.std.proofs.Common.{◌≡◌, ◌≤◌, ◌+◌, ◌∙◌, ◌++◌, ◌∷◌, [], false, Err, length, refl, sym, ap, subst}
 use Rattle.std.specs.Prelude.{IsOk}
-use Rattle.centre_core.specs.Centre.{IsCentre, IsWhole, past_over}
+use Rattle.centre_core.specs.Centre.{IsWhole, past_over}
 use Rattle.centre_past.specs.Legal.{CentreState}
 use Rattle.centre_events.specs.Past.{past_of}
 use Rattle.centre_events.specs.declared.entry.Entry.{Entry}
