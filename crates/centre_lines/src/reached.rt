@@ -1,4 +1,4 @@
-//! The lines on which an event bears, read before it.
+//! On which lines an event bears; those of an edit are read here, before it.
 
 ghost use Rattle.std.specs.Prelude.{◌≡◌, ◌≤◌, ◌+◌, ◌*◌, false, Ok, IfOk};
 ghost use Rattle.centre_lines.specs.Following.{WasReached};
@@ -32,7 +32,7 @@ use kept_tables::Spot;
 use std::alloc::{AllocError, Global};
 use warning_book::WarningId;
 
-/// At which cells an event bears, the warnings on whose lines it does, and the lines that it may change, as they stood.
+/// At which cells an event bears, the warnings on whose lines an edit does, and what is known of the lines before the event.
 #[derive(Drop)]
 pub struct Reached {
     pub spots: Vec<Spot>,
