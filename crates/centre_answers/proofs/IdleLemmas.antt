@@ -24,7 +24,8 @@ use Rattle.centre_events.specs.Cover.{is_covered}
 use Rattle.centre_past.specs.Facts.{facts}
 use Rattle.centre_past.specs.Idle.{is_flying}
 use Rattle.centre_events.specs.InFlight.{in_flight}
-use Rattle.centre_events.specs.Kept.{IsRegisterOf, AreFlightsOf, flight_in}
+use Rattle.centre_past.specs.Links.{AreLinksOf, flight_in}
+use Rattle.centre_events.specs.Kept.{IsRegisterOf}
 use Rattle.centre_past.specs.Legal.{Legal}
 use Rattle.centre_events.specs.Lines.{seen}
 use Rattle.centre_events.specs.Links.{bscs, is_bsc}
@@ -36,7 +37,7 @@ use Rattle.centre_events.specs.Presence.{presence}
 use Rattle.centre_events.specs.Reported.{is_present, is_reported_in, is_reported_at, is_reported, flight_names, is_in_flight}
 use Rattle.centre_events.specs.Settings.{Settings}
 use Rattle.centre_events.specs.Warnings.{book_of}
-use Rattle.centre_events.specs.declared.flight.Flight.{Flight}
+use Rattle.centre_past.specs.declared.link.Link.{Link}
 use Rattle.centre_events.specs.declared.in_flight.InFlight.{InFlight}
 use Rattle.centre_past.proofs.AnyLemmas.{any_at, any_gives, any_same}
 use Rattle.centre_answers.proofs.BoardLemmas.{board_is}
@@ -106,9 +107,9 @@ flight_there w None h = cc
 flight_there w (Some f) h = refl
 
 -- what is in flight to the registered BSCs is what is in flight
-pub flying_is : (settings : Settings) (past : Past) (r : State) (fs : List Flight) (w : Warning) → Legal settings past → IsRegisterOf past r → AreFlightsOf past fs → is_flying fs w r.bscs ≡ is_in_flight past w
-flying_is settings past r fs w legal registered flying =
-    any_same (λ b. flight_names w (flight_in fs b)) (λ b. flight_names w (in_flight past b)) (λ b. ap (flight_names w) (flying b)) r.bscs
+pub flying_is : (settings : Settings) (past : Past) (r : State) (ls : List Link) (w : Warning) → Legal settings past → IsRegisterOf past r → AreLinksOf past ls → is_flying ls w r.bscs ≡ is_in_flight past w
+flying_is settings past r ls w legal registered linked =
+    any_same (λ b. flight_names w (flight_in ls b)) (λ b. flight_names w (in_flight past b)) (λ b. ap (flight_names w) (linked.flights b)) r.bscs
     ∙ any_both nat_eq unsigned_Decides (λ b. flight_names w (in_flight past b)) r.bscs (bscs past)
     (λ b h. any_turned nat_eq unsigned_Decides b r.bscs ∙ registered.bscs b ∙ registered_one b h)
     (λ b h. bsc_named past (legal_unfolded settings past legal) b (registered_one b h))

@@ -9,3 +9,4 @@ pub mod BoardLemmas
 pub mod TableLemmas
 pub mod ReuseLemmas
 pub mod ListLemmas
+pub mod EditLemmas

@@ -1,5 +1,5 @@
 -- What is listed of what is kept is what the past says.
-use Rattle.std.proofs.Common.{◌≡◌, eq-eqb, eqb-true, ℕ, ◌+◌, ◌<◌, Bool, true, false, ◌&&◌, ◌||◌, List, [], ◌∷◌, ◌++◌, Option, Some, None, length, map, take, get_or, count_by, refl, sym, ◌∙◌, ap}
+use Rattle.std.proofs.Common.{◌≡◌, eq-eqb, eqb-true, ℕ, ◌+◌, ◌<◌, Bool, true, false, ◌&&◌, ◌||◌, List, [], ◌∷◌, ◌++◌, Option, Some, None, length, map, take, get_or, refl, sym, ◌∙◌, ap}
 use Rattle.std.proofs.lemmas.List.{map-append, take_more}
 use Rattle.std.specs.Prelude.{if◌then◌else◌}
 use Rattle.std.specs.List.{flat_map, list_any}
@@ -23,7 +23,7 @@ use Rattle.warning_book.specs.declared.kind.Kind.{Kind}
 use Rattle.warning_book.specs.declared.warning.Warning.{Warning}
 use Rattle.centre_answers.specs.Asked.{Tells}
 use Rattle.centre_answers.specs.Failing.{AreDownsOf, IsWanted}
-use Rattle.centre_events.specs.Cover.{covers, has_selector, is_covered}
+use Rattle.centre_events.specs.Cover.{covers, is_covered}
 use Rattle.centre_events.specs.Down.{is_down}
 use Rattle.centre_events.specs.Facts.{key_state}
 use Rattle.centre_events.specs.Kept.{AreAreasOf}
@@ -33,9 +33,8 @@ use Rattle.centre_events.specs.Plan.{wanted}
 use Rattle.centre_events.specs.Warnings.{book_of}
 use Rattle.centre_past.specs.Idle.{AsBefore}
 use Rattle.centre_past.specs.Lists.{failed_at, failed_in, failed_row, failed_rows, failure_if, failure_of, registered_cells}
-use Rattle.centre_past.specs.declared.lists.failed_row.FailedRow.{FailedRow}
 use Rattle.centre_past.specs.declared.lists.failure.Failure.{Failure}
-use Rattle.centre_past.proofs.AnyLemmas.{and_none, any_same}
+use Rattle.centre_past.proofs.AnyLemmas.{any_same}
 use Rattle.centre_past.proofs.VersionLemmas.{legal_updates, version_state_is}
 use Rattle.centre_events.proofs.PastLemmas.{any_image}
 use Rattle.centre_answers.proofs.TableLemmas.{line_kept}

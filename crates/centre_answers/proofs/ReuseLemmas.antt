@@ -35,7 +35,8 @@ use Rattle.warning_book.specs.declared.refusal.Refusal as book_refusal
 use Rattle.warning_book.specs.declared.warning.Warning.{Warning}
 use Rattle.centre_answers.specs.Reused.{IsFirst, had_by, is_key_flying, key_checks, most_read, reuse_checks, reused_of}
 use Rattle.centre_events.specs.InFlight.{in_flight}
-use Rattle.centre_events.specs.Kept.{AreFlightsOf, IsRegisterOf, flight_in}
+use Rattle.centre_past.specs.Links.{AreLinksOf, flight_in}
+use Rattle.centre_events.specs.Kept.{IsRegisterOf}
 use Rattle.centre_events.specs.Links.{bscs, is_bsc}
 use Rattle.centre_events.specs.Past.{Past}
 use Rattle.centre_events.specs.Places.{cells}
@@ -47,7 +48,7 @@ use Rattle.centre_events.specs.Settings.{Settings}
 use Rattle.centre_events.specs.Verdict.{by_book, reuses, unless, update, update_answer}
 use Rattle.centre_events.specs.Warnings.{book_of, warnings_of}
 use Rattle.centre_events.specs.declared.answer.Answer.{Answer}
-use Rattle.centre_events.specs.declared.flight.Flight.{Flight}
+use Rattle.centre_past.specs.declared.link.Link.{Link}
 use Rattle.centre_events.specs.declared.in_flight.InFlight.{InFlight}
 use Rattle.centre_events.specs.declared.refusal.Refusal.{Refusal}
 use Rattle.centre_events.specs.declared.refusal.Refusal.TheVariants.{StillReported, StillInFlight}
@@ -76,9 +77,9 @@ version_there None m s h = cc
 version_there (Some f) m s h = refl
 
 -- what is in flight to the registered BSCs is what is in flight
-pub key_flying : (settings : Settings) (past : Past) (r : State) (fs : List Flight) (m s : ℕ) → Legal settings past → IsRegisterOf past r → AreFlightsOf past fs → is_key_flying fs m s r.bscs ≡ is_key_in_flight past m s
-key_flying settings past r fs m s legal registered flying =
-    any_same (λ b. names_version (flight_in fs b) m s) (λ b. names_version (in_flight past b) m s) (λ b. ap (λ o. names_version o m s) (flying b)) r.bscs
+pub key_flying : (settings : Settings) (past : Past) (r : State) (ls : List Link) (m s : ℕ) → Legal settings past → IsRegisterOf past r → AreLinksOf past ls → is_key_flying ls m s r.bscs ≡ is_key_in_flight past m s
+key_flying settings past r ls m s legal registered linked =
+    any_same (λ b. names_version (flight_in ls b) m s) (λ b. names_version (in_flight past b) m s) (λ b. ap (λ o. names_version o m s) (linked.flights b)) r.bscs
     ∙ any_both nat_eq unsigned_Decides (λ b. names_version (in_flight past b) m s) r.bscs (bscs past)
     (λ b h. any_turned nat_eq unsigned_Decides b r.bscs ∙ registered.bscs b ∙ registered_one b h)
     (λ b h. bsc_named past (legal_unfolded settings past legal) b (registered_one b h))
@@ -180,7 +181,7 @@ wraps_found past st n w is ordered found =
 
 -- The checks.
 
-first_same : {A : Type 0} (xs ys : List (Bool × Refusal)) (r : Result A Refusal) → first_refusal xs ≡ first_refusal ys → IsFirst xs r → IsFirst ys r
+pub first_same : {A : Type 0} (xs ys : List (Bool × Refusal)) (r : Result A Refusal) → first_refusal xs ≡ first_refusal ys → IsFirst xs r → IsFirst ys r
 first_same xs ys (Ok a) e h = sym e ∙ h
 first_same xs ys (Err x) e h = sym e ∙ h
 
@@ -204,7 +205,7 @@ first_found past st n w r is ordered found h = first_same (key_checks past w.mes
         ∙ (λ i. first_refusal ((sym (reuses_found past n (is_key_reported past) w in_order here) i, StillReported) ∷ (sym (reuses_found past n (is_key_in_flight past) w in_order here) i, StillInFlight) ∷ []))
 
 -- of one that isn't, none holds
-none_so : (n : ℕ) (f : Warning → Bool) (ws : List Warning) → find (has_number n) ws ≡ None → is_so n f ws ≡ false
+pub none_so : (n : ℕ) (f : Warning → Bool) (ws : List Warning) → find (has_number n) ws ≡ None → is_so n f ws ≡ false
 none_so n f [] h = refl
 none_so n f (w ∷ ws) h = step (none_so n f ws) (has_number n w) h
   where

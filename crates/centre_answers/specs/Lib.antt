@@ -1,3 +1,4 @@
 pub mod Asked
 pub mod Failing
 pub mod Reused
+pub mod Made

@@ -8,16 +8,14 @@ use Rattle.serials.specs.Serials.{next_of}
 use Rattle.warning_book.specs.Book.{current_of, has_serial}
 use Rattle.warning_book.specs.declared.version.Version.{Version}
 use Rattle.warning_book.specs.declared.warning.Warning.{Warning}
-use Rattle.centre_events.specs.Kept.{flight_in}
+use Rattle.centre_past.specs.Links.{flight_in}
 use Rattle.centre_events.specs.Past.{Past}
 use Rattle.centre_events.specs.Reported.{is_key_in_flight, is_key_reported, names_version}
 use Rattle.centre_events.specs.Verdict.{reuses}
-use Rattle.centre_events.specs.declared.flight.Flight.{Flight}
+use Rattle.centre_past.specs.declared.link.Link.{Link}
 use Rattle.centre_events.specs.declared.refusal.Refusal.{Refusal}
 use Rattle.centre_events.specs.declared.refusal.Refusal.TheVariants.{StillReported, StillInFlight}
 use Rattle.centre_past.specs.Reach.{known_anywhere}
-use Rattle.coverage_plan.specs.declared.edit.Edit.{Edit}
-use Rattle.coverage_plan.specs.declared.edit.Edit.TheVariants as edit
 
 -- the serial number, where one of the versions has it
 abbrev pub had_by : List Version → Option ℕ → Option ℕ
@@ -29,8 +27,8 @@ abbrev pub reused_of : Warning → Option ℕ
 reused_of w = had_by w.versions (option_map next_of (current_of w))
 
 -- what is in flight to one of these BSCs names the version of that message identifier and serial number
-abbrev pub is_key_flying : List Flight → ℕ → ℕ → List ℕ → Bool
-is_key_flying fs m s bs = list_any (λ b. names_version (flight_in fs b) m s) bs
+abbrev pub is_key_flying : List Link → ℕ → ℕ → List ℕ → Bool
+is_key_flying ls m s bs = list_any (λ b. names_version (flight_in ls b) m s) bs
 
 -- why the version of that serial number, if there is one, stays: it is on air, or may be, or what is in flight names it
 abbrev pub key_checks : Past → ℕ → Option ℕ → List (Bool × Refusal)
@@ -50,8 +48,3 @@ IsFirst checks (Err refusal) = first_refusal checks ≡ Some refusal
 abbrev pub most_read : Past → Bool → ℕ
 most_read past true = length (known_anywhere past)
 most_read past false = 0
-
--- the edit is an Update
-abbrev pub is_update : Edit → Bool
-is_update (edit.Update n content) = true
-is_update other = false

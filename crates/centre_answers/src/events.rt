@@ -1,77 +1,70 @@
 //! The rules of the events: what each is answered, by what a centre keeps. Each looks at the causes of refusal in
-//! the order of their numbers. An edit has two functions, one that looks whether it is accepted and one that makes it.
+//! the order of their numbers. An edit is looked at and made by the plan; what the plan can't see is looked at here.
 
-mod bscs;
-mod cells;
 mod forgetting;
 mod links;
-mod named_areas;
 mod queries;
 mod reports;
 mod reusing;
 mod sends;
-mod warnings;
 
-ghost use Rattle.std.specs.Prelude.{◌≡◌, ◌≤◌, ◌+◌, ℕ, true, false, IfOk, IsOk, OnOk, OnErr};
-ghost use Rattle.centre_answers.specs.Reused.{is_update};
+ghost use Rattle.std.specs.Prelude.{◌≡◌, ◌≤◌, ◌+◌, ℕ, true, false, None, IfOk, IsOk, OnOk, OnErr};
+ghost use Rattle.centre_answers.specs.Made.{answer_of};
+ghost use Rattle.centre_answers.specs.Reused.{IsFirst};
+ghost use Rattle.common.specs.Checks.{first_refusal};
 ghost use Rattle.order_maker.specs.Pending.{IsListOf};
 ghost use Rattle.centre_past.specs.Idle.{AreKnownOf};
 ghost use Rattle.centre_past.specs.IsKept.{IsKept, OnlyReadsIn};
-ghost use Rattle.centre_events.specs.Kept.{IsRegisterOf, AreAreasOf, is_edit, is_plain, Gives, IsChecked};
-ghost use Rattle.coverage_plan.specs.Edited.{register_after, areas_after, book_after};
+ghost use Rattle.centre_events.specs.Kept.{is_edit, is_plain, Gives, IsChecked};
+ghost use Rattle.centre_past.specs.EditCauses.{IsPlanOf, is_update, own_causes};
+ghost use Rattle.coverage_plan.specs.Checks.{edit_checks};
+ghost use Rattle.coverage_plan.specs.Edited.{edited};
 ghost use Rattle.centre_past.specs.Legal.{Legal};
 ghost use Rattle.centre_events.specs.Past.{Past, position};
 ghost use Rattle.centre_events.specs.Pending.{all_actions};
 ghost use Rattle.centre_past.specs.Reach.{edit_reach, looked_at, size};
 ghost use Rattle.centre_events.specs.Settings.{Settings};
 ghost use Rattle.centre_events.specs.Verdict.{answered, edit_answered};
-ghost use Rattle.centre_events.specs.Warnings.{book_of};
 ghost use Rattle.centre_past.specs.declared.kept.Kept.{Kept};
 
-use areas::Areas;
-use cell_register::Register;
 use centre_events::answer::Answer;
 use centre_events::event::Event;
 use centre_events::refusal::Refusal;
 use centre_past::kept::Kept;
 use centre_past::telling::tell_lines;
-use coverage_plan::Edit;
+use coverage_plan::{Edit, Made, Plan};
 use std::alloc::Global;
-use warning_book::Book;
 
 /// What an event is answered.
 pub type Verdict = Result<Answer, Refusal>;
+
+/// Whether what the plan can't see refuses an edit that is no Update, and that the plan takes. No line is read, and no
+/// memory is taken.
+fn check_own(kept: &Kept, edit: &Edit) -> Result<(), Refusal>
+    requires other { is_update edit.now ≡ false }
+    ensures { (settings : Settings) (past : Past) → Legal settings past → IsKept past kept.now → first_refusal (edit_checks kept.now.plan edit.now) ≡ None → IsFirst (own_causes past edit.now) result }
+{
+    match edit {
+        Edit::RemoveBsc(b) => links::check_down(kept.links.as_slice(), *b),
+        Edit::Forget(number) => forgetting::check_forget(
+            &kept.plan,
+            kept.links.as_slice(),
+            &kept.tables,
+            *number,
+        ),
+        Edit::Update(..) => unreachable!(),
+        _ => Ok(()),
+    }
+}
 
 /// Whether an edit that is no Update is accepted. No line is read, and no memory is taken.
 fn check_other(kept: &Kept, edit: &Edit) -> Result<(), Refusal>
     requires other { is_update edit.now ≡ false }
     ensures { (settings : Settings) (past : Past) → Legal settings past → IsKept past kept.now → IsChecked (edit_answered past edit.now) result }
 {
-    match edit {
-        Edit::AddBsc(b) => bscs::check_add_bsc(&kept.register, *b),
-        Edit::RemoveBsc(b) => bscs::check_remove_bsc(kept.links.as_slice(), &kept.register, *b),
-        Edit::AddCell(c, b) => cells::check_add_cell(&kept.register, *c, *b),
-        Edit::MoveCell(c, b) => cells::check_move_cell(&kept.register, *c, *b),
-        Edit::RemoveCell(c) => cells::check_remove_cell(&kept.register, *c),
-        Edit::AddArea(a) => named_areas::check_add_area(&kept.areas, a),
-        Edit::DropArea(a) => named_areas::check_drop_area(&kept.book, &kept.areas, a),
-        Edit::Put(a, s) => named_areas::check_put(&kept.areas, a, *s),
-        Edit::Cut(a, s) => named_areas::check_cut(&kept.areas, a, *s),
-        Edit::Issue(notice, names) => {
-            warnings::check_issue(&kept.areas, &kept.book, notice, names.as_slice())
-        }
-        Edit::Update(..) => unreachable!(),
-        Edit::Widen(number, a) => warnings::check_widen(&kept.areas, &kept.book, *number, a),
-        Edit::Narrow(number, a) => warnings::check_narrow(&kept.areas, &kept.book, *number, a),
-        Edit::Stop(number) => warnings::check_stop(&kept.book, *number),
-        Edit::Forget(number) => forgetting::check_forget(
-            &kept.register,
-            &kept.book,
-            kept.flights.as_slice(),
-            &kept.tables,
-            *number,
-        ),
-    }
+    kept.plan.tell_soundness();
+    kept.plan.check(edit)?;
+    check_own(kept, edit)
 }
 
 /// Whether the edit is accepted. Lines are read for an Update alone, and only where it takes a serial number that a version
@@ -84,10 +77,10 @@ pub fn check_edit(kept: &mut Kept, edit: &Edit) -> Result<(), Refusal>
 {
     tell_lines(kept.tables.lines());
     match edit {
-        Edit::Update(number, content) => warnings::check_update(
-            &kept.register,
-            &kept.book,
-            kept.flights.as_slice(),
+        Edit::Update(number, content) => reusing::check_update(
+            kept.plan.register(),
+            kept.plan.book(),
+            kept.links.as_slice(),
             &mut kept.tables,
             *number,
             content,
@@ -96,39 +89,27 @@ pub fn check_edit(kept: &mut Kept, edit: &Edit) -> Result<(), Refusal>
     }
 }
 
-/// Makes an edit that is accepted. Where memory runs out the register, the areas and the book are as before.
-pub fn make_edit(
-    register: &mut Register,
-    areas: &mut Areas,
-    book: &mut Book,
-    edit: &Edit,
-) -> Verdict
-    ensures verdict { (past : Past) → IsRegisterOf past register.old → AreAreasOf past areas.old → book.old ≡ book_of past → IsOk (edit_answered past edit.now) → Gives (edit_answered past edit.now) result }
-    ensures register { OnOk result (register.new ≡ register_after edit.now register.old) }
-    ensures areas { OnOk result (areas.new ≡ areas_after edit.now areas.old) }
-    ensures book { OnOk result (book.new ≡ book_after edit.now book.old) }
-    ensures register_stays { OnErr result (register.new ≡ register.old) }
-    ensures areas_stay { OnErr result (areas.new ≡ areas.old) }
-    ensures book_stays { OnErr result (book.new ≡ book.old) }
+/// What an edit is answered that was made.
+fn answer_of(made: Made) -> Answer
+    ensures { result ≡ answer_of made }
+{
+    match made {
+        Made::Done => Answer::Done,
+        Made::Issued(number, serial) => Answer::Issued(number, serial),
+        Made::Updated(serial) => Answer::Updated(serial),
+    }
+}
+
+/// Makes an edit that is accepted. Where memory runs out the plan is as before.
+pub fn make_edit(plan: &mut Plan, edit: &Edit) -> Verdict
+    ensures verdict { (past : Past) → IsPlanOf past plan.old → IsOk (edit_answered past edit.now) → Gives (edit_answered past edit.now) result }
+    ensures made { OnOk result (plan.new ≡ edited edit.now plan.old) }
+    ensures unchanged { OnErr result (plan.new ≡ plan.old) }
     ensures plain { IfOk result (λ a. is_plain a ≡ true) }
 {
-    match edit {
-        Edit::AddBsc(b) => bscs::add_bsc(register, *b),
-        Edit::RemoveBsc(b) => bscs::remove_bsc(register, *b),
-        Edit::AddCell(c, b) => cells::add_cell(register, *c, *b),
-        Edit::MoveCell(c, b) => cells::move_cell(register, *c, *b),
-        Edit::RemoveCell(c) => cells::remove_cell(register, *c),
-        Edit::AddArea(a) => named_areas::add_area(areas, a),
-        Edit::DropArea(a) => named_areas::drop_area(book, areas, a),
-        Edit::Put(a, s) => named_areas::put(areas, a, *s),
-        Edit::Cut(a, s) => named_areas::cut(areas, a, *s),
-        Edit::Issue(notice, names) => { warnings::issue(areas, book, notice, names.as_slice()) }
-        Edit::Update(number, content) => warnings::update(book, *number, content),
-        Edit::Widen(number, a) => warnings::widen(areas, book, *number, a),
-        Edit::Narrow(number, a) => warnings::narrow(areas, book, *number, a),
-        Edit::Stop(number) => warnings::stop(book, *number),
-        Edit::Forget(number) => forgetting::forget(book, *number),
-    }
+    plan.tell_soundness();
+    let made = plan.make(edit)?;
+    Ok(answer_of(made))
 }
 
 /// What an event that is no edit is answered. Its entry would have that number. The network is the centre's, as its three
@@ -142,16 +123,16 @@ pub fn answer(
     event: &Event,
 ) -> Verdict
     requires other { is_edit event.now ≡ false }
-    ensures verdict { (settings : Settings) (past : Past) → Legal settings past → settings.network ≡ network → IsKept past kept.old → AreKnownOf past kept.old.tables.lines kept.old.register → ((b : ℕ) → IsListOf (all_actions past b) kept.old.tables.pending b) → place ≡ position past + 1 → Gives (answered settings.network past event.now) result }
+    ensures verdict { (settings : Settings) (past : Past) → Legal settings past → settings.network ≡ network → IsKept past kept.old → AreKnownOf past kept.old.tables.lines kept.old.plan.register → ((b : ℕ) → IsListOf (all_actions past b) kept.old.tables.pending b) → place ≡ position past + 1 → Gives (answered settings.network past event.now) result }
     ensures reads { OnlyReadsIn kept.old kept.new }
-    ensures meter { (settings : Settings) (past : Past) → Legal settings past → AreKnownOf past kept.old.tables.lines kept.old.register → kept.new.tables.lines.meter ≤ kept.old.tables.lines.meter + looked_at past event.now }
+    ensures meter { (settings : Settings) (past : Past) → Legal settings past → AreKnownOf past kept.old.tables.lines kept.old.plan.register → kept.new.tables.lines.meter ≤ kept.old.tables.lines.meter + looked_at past event.now }
 {
     match event {
         Event::Edit(_) => unreachable!(),
-        Event::Retry(b) => links::retry(&kept.register, *b),
-        Event::LinkUp(b) => links::link_up(&kept.register, *b, place),
+        Event::Retry(b) => links::retry(kept.plan.register(), *b),
+        Event::LinkUp(b) => links::link_up(kept.plan.register(), *b, place),
         Event::LinkDown(b, generation) => {
-            links::link_down(kept.links.as_slice(), &kept.register, *b, *generation)
+            links::link_down(kept.links.as_slice(), kept.plan.register(), *b, *generation)
         }
         Event::Send(b, generation) => sends::send(alloc, kept, *b, *generation),
         Event::Ask(b, generation, warning, after) => {

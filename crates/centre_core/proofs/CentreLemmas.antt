@@ -9,12 +9,12 @@ use Rattle.kept_tables.specs.declared.spot.Spot.{Spot}
 use Rattle.mirror.specs.Table.{down_at}
 use Rattle.warning_book.specs.Book as book
 use Rattle.centre_core.specs.Centre.{ComesFrom, IsCentre, IsRefused, IsWhole, Leaves, Refuses, past_over}
-use Rattle.centre_past.specs.Flights.{up_before}
+use Rattle.centre_past.specs.Links.{AreLinksOf, up_before}
 use Rattle.centre_lines.specs.Following.{Finishes, WasReached, bearing, before_past, most_accesses}
 use Rattle.centre_past.specs.IsKept.{IsKept, OnlyReadsIn}
 use Rattle.centre_past.specs.Facts.{facts}
 use Rattle.centre_events.specs.Kept.{Gives, IsChecked, is_edit, register_then, areas_then}
-use Rattle.coverage_plan.specs.Edited.{register_after, areas_after, book_after}
+use Rattle.coverage_plan.specs.Edited.{edited}
 use Rattle.centre_past.specs.Legal.{Known, Legal, lasting, past}
 use Rattle.centre_events.specs.Base.{empty_base}
 use Rattle.centre_events.specs.Folding.{base_of}
@@ -22,7 +22,6 @@ use Rattle.centre_events.proofs.FoldingLemmas.{past_whole}
 use Rattle.centre_events.specs.Past.{Past, After, past_of, position, since}
 use Rattle.centre_past.specs.Reach.{edit_reach, looked_at, size, reach, reach_of}
 use Rattle.centre_events.specs.Settings.{Settings}
-use Rattle.centre_past.specs.State.{AreLinksOf}
 use Rattle.centre_events.specs.Verdict.{verdict, answered, edit_answered}
 use Rattle.centre_events.specs.Warnings.{book_of, book_then}
 use Rattle.centre_events.specs.declared.answer.Answer.{Answer}
@@ -81,18 +80,17 @@ edit_reach_is past e (Err x) = omega arith
 
 -- After an edit is made, or at once where the event is none.
 
-abbrev pub finishes : (settings : Settings) (past : Past) (desk : ℕ) (e : Event) (a : Answer) (s t : Kept) (place : ℕ) (up : Bool) (spots : List Spot) (earlier : LinesBefore) → Legal settings past → verdict settings past e ≡ Ok a → IsKept past s → t.register ≡ register_then e s.register → t.areas ≡ areas_then e s.areas → t.book ≡ book_then e s.book → t.links ≡ s.links → t.flights ≡ s.flights → t.tables ≡ s.tables → up ≡ up_before past e → place ≡ position past + 1 → WasReached past e a spots earlier → Finishes t e a place up spots earlier
-finishes settings past desk e a s t place up spots earlier legal accepted kept registered selected booked linked flying tables is_up is_place reached = record {
+abbrev pub finishes : (settings : Settings) (past : Past) (desk : ℕ) (e : Event) (a : Answer) (s t : Kept) (place : ℕ) (up : Bool) (spots : List Spot) (earlier : LinesBefore) → Legal settings past → verdict settings past e ≡ Ok a → IsKept past s → t.plan.register ≡ register_then e s.plan.register → t.plan.areas ≡ areas_then e s.plan.areas → t.plan.book ≡ book_then e s.plan.book → t.links ≡ s.links → t.tables ≡ s.tables → up ≡ up_before past e → place ≡ position past + 1 → WasReached past e a spots earlier → Finishes t e a place up spots earlier
+finishes settings past desk e a s t place up spots earlier legal accepted kept registered selected booked linked tables is_up is_place reached = record {
   settings = settings;
   past = past;
   desk = desk;
   legal = legal;
   accepted = accepted;
-  registered = rw registered (register_with settings.network (let x : Entry = record { desk = desk; event = e; answer = a } in x) past s.register (verdict_answered settings past e a accepted) kept.registered);
-  selected = rw selected (areas_with settings.network (let x : Entry = record { desk = desk; event = e; answer = a } in x) past s.areas (verdict_answered settings past e a accepted) kept.selected);
+  registered = rw registered (register_with settings.network (let x : Entry = record { desk = desk; event = e; answer = a } in x) past s.plan.register (verdict_answered settings past e a accepted) kept.registered);
+  selected = rw selected (areas_with settings.network (let x : Entry = record { desk = desk; event = e; answer = a } in x) past s.plan.areas (verdict_answered settings past e a accepted) kept.selected);
   booked = booked ∙ ap (book_then e) kept.booked;
   linked = rw linked kept.linked;
-  flying = rw flying kept.flying;
   is_up = is_up;
   is_place = is_place;
   downs = λ k b c. ap (λ u. down_at u.lines k b c) tables ∙ kept.downs k b c;
@@ -100,13 +98,13 @@ finishes settings past desk e a s t place up spots earlier legal accepted kept r
   reached = reached;
 }
 
-abbrev pub finishes_edit : (settings : Settings) (past : Past) (desk : ℕ) (e : Edit) (a : Answer) (s t : Kept) (place : ℕ) (spots : List Spot) (earlier : LinesBefore) → Legal settings past → verdict settings past (event.Edit e) ≡ Ok a → IsKept past s → t ≡ record s { register = register_after e s.register; areas = areas_after e s.areas; book = book_after e s.book } → place ≡ position past + 1 → WasReached past (event.Edit e) a spots earlier → Finishes t (event.Edit e) a place false spots earlier
+abbrev pub finishes_edit : (settings : Settings) (past : Past) (desk : ℕ) (e : Edit) (a : Answer) (s t : Kept) (place : ℕ) (spots : List Spot) (earlier : LinesBefore) → Legal settings past → verdict settings past (event.Edit e) ≡ Ok a → IsKept past s → t ≡ record s { plan = edited e s.plan } → place ≡ position past + 1 → WasReached past (event.Edit e) a spots earlier → Finishes t (event.Edit e) a place false spots earlier
 finishes_edit settings past desk e a s t place spots earlier legal accepted kept made is_place reached =
-    finishes settings past desk (event.Edit e) a s t place false spots earlier legal accepted kept (ap (λ (k : Kept). k.register) made) (ap (λ (k : Kept). k.areas) made) (ap (λ (k : Kept). k.book) made) (ap (λ (k : Kept). k.links) made) (ap (λ (k : Kept). k.flights) made) (ap (λ (k : Kept). k.tables) made) refl is_place reached
+    finishes settings past desk (event.Edit e) a s t place false spots earlier legal accepted kept (ap (λ (k : Kept). k.plan.register) made) (ap (λ (k : Kept). k.plan.areas) made) (ap (λ (k : Kept). k.plan.book) made) (ap (λ (k : Kept). k.links) made) (ap (λ (k : Kept). k.tables) made) refl is_place reached
 
 abbrev pub finishes_other : (settings : Settings) (past : Past) (desk : ℕ) (e : Event) (a : Answer) (s : Kept) (place : ℕ) (up : Bool) (spots : List Spot) (earlier : LinesBefore) → Legal settings past → verdict settings past e ≡ Ok a → IsKept past s → is_edit e ≡ false → up ≡ up_before past e → place ≡ position past + 1 → WasReached past e a spots earlier → Finishes s e a place up spots earlier
 finishes_other settings past desk e a s place up spots earlier legal accepted kept other is_up is_place reached =
-    finishes settings past desk e a s s place up spots earlier legal accepted kept (sym (register_stays e s.register other)) (sym (areas_stay e s.areas other)) (sym (book_stays e s.book other)) refl refl refl is_up is_place reached
+    finishes settings past desk e a s s place up spots earlier legal accepted kept (sym (register_stays e s.plan.register other)) (sym (areas_stay e s.plan.areas other)) (sym (book_stays e s.plan.book other)) refl refl is_up is_place reached
 
 -- the number of the next entry
 pub next_place : (xs ys : List Entry) → length xs + length ys + 1 ≡ position (past_of (xs ++ ys)) + 1
@@ -265,7 +263,7 @@ pub record Enters (t : Kept) (e : Entry) (past : Past) (place : ℕ) (up : Bool)
   pub desk : known.desk ≡ e.desk
   pub is_past : known.past ≡ past
 
-pub edit_enters : (settings : Settings) (xs ys folded now : List Entry) (desk : ℕ) (e : Edit) (a : Answer) (entry : Entry) (r s t : Kept) (last : ℕ) (spots : List Spot) (earlier : LinesBefore) → IsWhole settings.network xs ys r → length ys < settings.limit → length xs + length ys < 2 ^ 64 - 1 → folded ≡ xs → now ≡ ys → last ≡ length folded + length now → OnlyReadsIn r s → edit_answered (past_of (xs ++ ys)) e ≡ Ok a → t ≡ record s { register = register_after e s.register; areas = areas_after e s.areas; book = book_after e s.book } → entry ≡ record { desk = desk; event = event.Edit e; answer = a } → ((b : Answer) → verdict settings (past_over xs ys) (event.Edit e) ≡ Ok b → WasReached (past_of (xs ++ ys)) (event.Edit e) b spots earlier) → Enters t entry (past_of (xs ++ ys)) (last + 1) false spots earlier
+pub edit_enters : (settings : Settings) (xs ys folded now : List Entry) (desk : ℕ) (e : Edit) (a : Answer) (entry : Entry) (r s t : Kept) (last : ℕ) (spots : List Spot) (earlier : LinesBefore) → IsWhole settings.network xs ys r → length ys < settings.limit → length xs + length ys < 2 ^ 64 - 1 → folded ≡ xs → now ≡ ys → last ≡ length folded + length now → OnlyReadsIn r s → edit_answered (past_of (xs ++ ys)) e ≡ Ok a → t ≡ record s { plan = edited e s.plan } → entry ≡ record { desk = desk; event = event.Edit e; answer = a } → ((b : Answer) → verdict settings (past_over xs ys) (event.Edit e) ≡ Ok b → WasReached (past_of (xs ++ ys)) (event.Edit e) b spots earlier) → Enters t entry (past_of (xs ++ ys)) (last + 1) false spots earlier
 edit_enters settings xs ys folded now desk e a entry r s t last spots earlier centre few low same_folded same is reads answered made entered reached =
     subst (λ x. Enters t x (past_of (xs ++ ys)) (last + 1) false spots earlier) (sym entered) (record {
       known = finishes_edit (lasting settings.network) (past_of (xs ++ ys)) desk e a s t (last + 1) spots earlier centre.legal (lasting_is settings.network xs ys (event.Edit e) low ∙ answered) (reads_kept (past_of (xs ++ ys)) r s centre.kept reads) made (place_then xs ys folded now last same_folded same is) (reached a (made_is settings xs ys e a few low answered));

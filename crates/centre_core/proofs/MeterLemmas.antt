@@ -3,7 +3,7 @@ use Rattle.std.specs.Prelude.{OnOk, Some, slice_get}
 use Rattle.std.proofs.Common.{◌≡◌, ℕ, ◌+◌, ◌-◌, ◌*◌, ◌≤◌, ◌++◌, List, Result, Ok, Err, sym, ap, subst, length, take, arith}
 use Rattle.kept_tables.specs.declared.spot.Spot.{Spot}
 use Rattle.coverage_plan.specs.declared.edit.Edit.{Edit}
-use Rattle.coverage_plan.specs.Edited.{register_after, areas_after, book_after}
+use Rattle.coverage_plan.specs.Edited.{edited}
 use Rattle.centre_events.specs.Past.{Past, After, past_of}
 use Rattle.centre_events.specs.Settings.{Settings}
 use Rattle.centre_events.specs.Verdict.{answered, edit_answered, verdict}
@@ -26,22 +26,22 @@ use Rattle.centre_core.proofs.RebuildLemmas.{Here, here, past_here, take_folded,
 abbrev meter_of : Kept → ℕ
 meter_of s = s.tables.lines.meter
 
-pub edit_metered : {E : Type 0} (r s t new : Kept) (e : Entry) (edit : Edit) (place : ℕ) (spots : List Spot) (earlier : LinesBefore) (o : Result Unit E) → e.event ≡ event.Edit edit → t ≡ record s { register = register_after edit s.register; areas = areas_after edit s.areas; book = book_after edit s.book } → ((settings : Settings) (past : Past) (a : Answer) → Legal settings past → IsKept past r → edit_answered past edit ≡ Ok a → WasReached past (event.Edit edit) a spots earlier) → ((settings : Settings) (past : Past) (a : Answer) → Legal settings past → IsKept past r → edit_answered past edit ≡ Ok a → meter_of s ≤ meter_of r + 2 * size (edit_reach past edit)) → meter_of new ≤ meter_of t + most_accesses e.event e.answer t.book spots earlier → OnOk o ((x : Follows r e place) → meter_of new ≤ meter_of r + 4 * size (reach_of x.past e.event e.answer))
+pub edit_metered : {E : Type 0} (r s t new : Kept) (e : Entry) (edit : Edit) (place : ℕ) (spots : List Spot) (earlier : LinesBefore) (o : Result Unit E) → e.event ≡ event.Edit edit → t ≡ record s { plan = edited edit s.plan } → ((settings : Settings) (past : Past) (a : Answer) → Legal settings past → IsKept past r → edit_answered past edit ≡ Ok a → WasReached past (event.Edit edit) a spots earlier) → ((settings : Settings) (past : Past) (a : Answer) → Legal settings past → IsKept past r → edit_answered past edit ≡ Ok a → meter_of s ≤ meter_of r + 2 * size (edit_reach past edit)) → meter_of new ≤ meter_of t + most_accesses e.event e.answer t.plan.book spots earlier → OnOk o ((x : Follows r e place) → meter_of new ≤ meter_of r + 4 * size (reach_of x.past e.event e.answer))
 edit_metered r s t new e edit place spots earlier (Err u) is made reached read now = tt
 edit_metered r s t new e edit place spots earlier (Ok u) is made reached read now = λ x.
     let accepted : edit_answered x.past edit ≡ Ok e.answer = verdict_answered x.settings x.past (event.Edit edit) e.answer (subst (λ v. verdict x.settings x.past v ≡ Ok e.answer) is x.accepted) in
     let before : meter_of s ≤ meter_of r + 2 * size (edit_reach x.past edit) = read x.settings x.past e.answer x.legal x.kept accepted in
-    let few : most_accesses (event.Edit edit) e.answer t.book spots earlier ≤ size (edit_reach x.past edit) = edit_counted x.past edit e.answer t.book spots earlier (reached x.settings x.past e.answer x.legal x.kept accepted) in
-    let is_edit : most_accesses e.event e.answer t.book spots earlier ≡ most_accesses (event.Edit edit) e.answer t.book spots earlier = ap (λ v. most_accesses v e.answer t.book spots earlier) is in
+    let few : most_accesses (event.Edit edit) e.answer t.plan.book spots earlier ≤ size (edit_reach x.past edit) = edit_counted x.past edit e.answer t.plan.book spots earlier (reached x.settings x.past e.answer x.legal x.kept accepted) in
+    let is_edit : most_accesses e.event e.answer t.plan.book spots earlier ≡ most_accesses (event.Edit edit) e.answer t.plan.book spots earlier = ap (λ v. most_accesses v e.answer t.plan.book spots earlier) is in
     let same : meter_of t ≡ meter_of s = ap meter_of made in
     let so : size (reach_of x.past e.event e.answer) ≡ size (edit_reach x.past edit) = ap (λ v. size (reach_of x.past v e.answer)) is in
     omega (arith, before, few, is_edit, same, so, now)
 
-pub other_metered : {E : Type 0} (r new : Kept) (e : Entry) (place : ℕ) (spots : List Spot) (earlier : LinesBefore) (o : Result Unit E) → ((settings : Settings) (past : Past) → Legal settings past → IsKept past r → answered settings.network past e.event ≡ Ok e.answer → WasReached past e.event e.answer spots earlier) → meter_of new ≤ meter_of r + most_accesses e.event e.answer r.book spots earlier → OnOk o ((x : Follows r e place) → meter_of new ≤ meter_of r + 4 * size (reach_of x.past e.event e.answer))
+pub other_metered : {E : Type 0} (r new : Kept) (e : Entry) (place : ℕ) (spots : List Spot) (earlier : LinesBefore) (o : Result Unit E) → ((settings : Settings) (past : Past) → Legal settings past → IsKept past r → answered settings.network past e.event ≡ Ok e.answer → WasReached past e.event e.answer spots earlier) → meter_of new ≤ meter_of r + most_accesses e.event e.answer r.plan.book spots earlier → OnOk o ((x : Follows r e place) → meter_of new ≤ meter_of r + 4 * size (reach_of x.past e.event e.answer))
 other_metered r new e place spots earlier (Err u) reached now = tt
 other_metered r new e place spots earlier (Ok u) reached now = λ x.
     let accepted : answered x.settings.network x.past e.event ≡ Ok e.answer = verdict_answered x.settings x.past e.event e.answer x.accepted in
-    let few : most_accesses e.event e.answer r.book spots earlier ≤ 3 * size (reach_of x.past e.event e.answer) = other_counted x.past e.event e.answer r.book spots earlier x.kept.booked (reached x.settings x.past x.legal x.kept accepted) in
+    let few : most_accesses e.event e.answer r.plan.book spots earlier ≤ 3 * size (reach_of x.past e.event e.answer) = other_counted x.past e.event e.answer r.plan.book spots earlier x.kept.booked (reached x.settings x.past x.legal x.kept accepted) in
     omega (arith, few, now)
 
 -- The walk over the journal, one entry further. What is counted of the folded entries is left out.

@@ -8,15 +8,14 @@ use Rattle.std.proofs.lemmas.Bool.{lt-leb}
 use Rattle.std.proofs.lemmas.List.{reverse-append, take_all}
 use Rattle.std.proofs.lemmas.Option.{get_or_from_slice_get}
 use Rattle.centre_events.specs.Base.{empty_base}
-use Rattle.centre_past.specs.Flights.{up_before}
+use Rattle.centre_past.specs.Links.{AreLinksOf, up_before}
 use Rattle.centre_lines.specs.Following.{Finishes, Follows, IsLegal, WasReached}
 use Rattle.centre_past.specs.IsKept.{IsKept, OnlyReadsIn}
 use Rattle.centre_events.specs.Kept.{is_edit}
-use Rattle.coverage_plan.specs.Edited.{register_after, areas_after, book_after}
+use Rattle.coverage_plan.specs.Edited.{edited}
 use Rattle.centre_past.specs.Legal.{Legal}
 use Rattle.centre_events.specs.Past.{Past, After, since, past_of}
 use Rattle.centre_events.specs.Settings.{Settings}
-use Rattle.centre_past.specs.State.{AreLinksOf}
 use Rattle.centre_events.specs.Verdict.{answered, edit_answered, verdict}
 use Rattle.centre_events.specs.declared.answer.Answer.{Answer}
 use Rattle.centre_events.specs.declared.entry.Entry.{Entry}
@@ -76,7 +75,7 @@ record Finished (s t : Kept) (e : Entry) (v : Event) (place : ℕ) (up : Bool) (
   desk : known.desk ≡ e.desk
   past : known.past ≡ x.past
 
-edit_finished : (r s t : Kept) (e : Entry) (edit : Edit) (place : ℕ) (spots : List Spot) (earlier : LinesBefore) (x : Follows r e place) → e.event ≡ event.Edit edit → OnlyReadsIn r s → t ≡ record s { register = register_after edit s.register; areas = areas_after edit s.areas; book = book_after edit s.book } → ((settings : Settings) (past : Past) (a : Answer) → Legal settings past → IsKept past r → edit_answered past edit ≡ Ok a → WasReached past (event.Edit edit) a spots earlier) → Finished r t e e.event place false spots earlier x
+edit_finished : (r s t : Kept) (e : Entry) (edit : Edit) (place : ℕ) (spots : List Spot) (earlier : LinesBefore) (x : Follows r e place) → e.event ≡ event.Edit edit → OnlyReadsIn r s → t ≡ record s { plan = edited edit s.plan } → ((settings : Settings) (past : Past) (a : Answer) → Legal settings past → IsKept past r → edit_answered past edit ≡ Ok a → WasReached past (event.Edit edit) a spots earlier) → Finished r t e e.event place false spots earlier x
 edit_finished r s t e edit place spots earlier x is reads made reached =
     let accepted : verdict x.settings x.past (event.Edit edit) ≡ Ok e.answer = subst (λ v. verdict x.settings x.past v ≡ Ok e.answer) is x.accepted in
     subst (λ v. Finished r t e v place false spots earlier x) (sym is) (record {
@@ -92,7 +91,7 @@ other_finished r s e place up spots earlier x other reads up_is reached = record
   past = refl;
 }
 
-pub edit_finishes : (r s t : Kept) (e : Entry) (edit : Edit) (place : ℕ) (spots : List Spot) (earlier : LinesBefore) → Follows r e place → e.event ≡ event.Edit edit → OnlyReadsIn r s → t ≡ record s { register = register_after edit s.register; areas = areas_after edit s.areas; book = book_after edit s.book } → ((settings : Settings) (past : Past) (a : Answer) → Legal settings past → IsKept past r → edit_answered past edit ≡ Ok a → WasReached past (event.Edit edit) a spots earlier) → Finishes t e.event e.answer place false spots earlier
+pub edit_finishes : (r s t : Kept) (e : Entry) (edit : Edit) (place : ℕ) (spots : List Spot) (earlier : LinesBefore) → Follows r e place → e.event ≡ event.Edit edit → OnlyReadsIn r s → t ≡ record s { plan = edited edit s.plan } → ((settings : Settings) (past : Past) (a : Answer) → Legal settings past → IsKept past r → edit_answered past edit ≡ Ok a → WasReached past (event.Edit edit) a spots earlier) → Finishes t e.event e.answer place false spots earlier
 edit_finishes r s t e edit place spots earlier x is reads made reached = (edit_finished r s t e edit place spots earlier x is reads made reached).known
 
 pub other_finishes : (r s : Kept) (e : Entry) (place : ℕ) (up : Bool) (spots : List Spot) (earlier : LinesBefore) → Follows r e place → is_edit e.event ≡ false → OnlyReadsIn r s → ((past : Past) → AreLinksOf past r.links.items → up ≡ up_before past e.event) → ((settings : Settings) (past : Past) → Legal settings past → IsKept past r → answered settings.network past e.event ≡ Ok e.answer → WasReached past e.event e.answer spots earlier) → Finishes s e.event e.answer place up spots earlier
@@ -105,7 +104,7 @@ finished r t new e place up spots earlier (Ok u) f g = λ x.
     (subst (λ d. IsKept (After (record { desk = d; event = e.event; answer = e.answer }) (f x).known.past) new) (f x).desk (g (f x).known))
 finished r t new e place up spots earlier (Err u) f g = tt
 
-pub edit_followed : {E : Type 0} (r s t new : Kept) (e : Entry) (edit : Edit) (place : ℕ) (spots : List Spot) (earlier : LinesBefore) (o : Result Unit E) → e.event ≡ event.Edit edit → OnlyReadsIn r s → t ≡ record s { register = register_after edit s.register; areas = areas_after edit s.areas; book = book_after edit s.book } → ((settings : Settings) (past : Past) (a : Answer) → Legal settings past → IsKept past r → edit_answered past edit ≡ Ok a → WasReached past (event.Edit edit) a spots earlier) → OnOk o ((y : Finishes t e.event e.answer place false spots earlier) → IsKept (After (record { desk = y.desk; event = e.event; answer = e.answer }) y.past) new) → OnOk o ((x : Follows r e place) → IsKept (After e x.past) new)
+pub edit_followed : {E : Type 0} (r s t new : Kept) (e : Entry) (edit : Edit) (place : ℕ) (spots : List Spot) (earlier : LinesBefore) (o : Result Unit E) → e.event ≡ event.Edit edit → OnlyReadsIn r s → t ≡ record s { plan = edited edit s.plan } → ((settings : Settings) (past : Past) (a : Answer) → Legal settings past → IsKept past r → edit_answered past edit ≡ Ok a → WasReached past (event.Edit edit) a spots earlier) → OnOk o ((y : Finishes t e.event e.answer place false spots earlier) → IsKept (After (record { desk = y.desk; event = e.event; answer = e.answer }) y.past) new) → OnOk o ((x : Follows r e place) → IsKept (After e x.past) new)
 edit_followed r s t new e edit place spots earlier o is reads made reached g = finished r t new e place false spots earlier o (λ x. edit_finished r s t e edit place spots earlier x is reads made reached) g
 
 pub other_followed : {E : Type 0} (r s new : Kept) (e : Entry) (place : ℕ) (up : Bool) (spots : List Spot) (earlier : LinesBefore) (o : Result Unit E) → is_edit e.event ≡ false → OnlyReadsIn r s → ((past : Past) → AreLinksOf past r.links.items → up ≡ up_before past e.event) → ((settings : Settings) (past : Past) → Legal settings past → IsKept past r → answered settings.network past e.event ≡ Ok e.answer → WasReached past e.event e.answer spots earlier) → OnOk o ((y : Finishes s e.event e.answer place up spots earlier) → IsKept (After (record { desk = y.desk; event = e.event; answer = e.answer }) y.past) new) → OnOk o ((x : Follows r e place) → IsKept (After e x.past) new)

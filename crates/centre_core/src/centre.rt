@@ -14,10 +14,9 @@ use centre_events::entry::Entry;
 use centre_events::event::Event;
 use centre_events::in_flight::InFlight;
 use centre_events::refusal::Refusal;
-use centre_past::flights::flight_in;
 use centre_past::kept::Kept;
 use centre_past::link_state::LinkState;
-use centre_past::links::up_before;
+use centre_past::links::{flight_in, up_before};
 use centre_past::lists::{
     AreaRows, BscRows, CellRows, CentreStatus, FailedRows, PlanCounts, WarningRows, WarningSheet,
 };
@@ -282,7 +281,7 @@ impl Centre {
             return Err(Refusal::Stale);
         }
         tell_over(&self.journal);
-        if !self.kept.register.has_bsc(b) {
+        if !self.kept.plan.register().has_bsc(b) {
             return Err(Refusal::NoSuchBsc);
         }
         Ok(questions::pending(self.alloc, &self.kept.tables, b)?)
@@ -298,10 +297,10 @@ impl Centre {
             return Err(Refusal::Stale);
         }
         tell_over(&self.journal);
-        if !self.kept.register.has_bsc(b) {
+        if !self.kept.plan.register().has_bsc(b) {
             return Err(Refusal::NoSuchBsc);
         }
-        Ok(flight_in(self.kept.flights.as_slice(), b))
+        Ok(flight_in(self.kept.links.as_slice(), b))
     }
 
     /// What is told of the BSC's link. It takes no memory. `Stale`, then `NoSuchBsc`.
@@ -314,7 +313,7 @@ impl Centre {
             return Err(Refusal::Stale);
         }
         tell_over(&self.journal);
-        if !self.kept.register.has_bsc(b) {
+        if !self.kept.plan.register().has_bsc(b) {
             return Err(Refusal::NoSuchBsc);
         }
         Ok(questions::link_state(&self.kept, b))
@@ -329,7 +328,7 @@ impl Centre {
             return Err(Refusal::Stale);
         }
         tell_over(&self.journal);
-        Ok(self.kept.register.bsc_of(cell))
+        Ok(self.kept.plan.register().bsc_of(cell))
     }
 
     /// What the BSC has reported: each of its keys that is on air, or may be, by cell, message identifier and serial
@@ -346,15 +345,15 @@ impl Centre {
             return Err(Refusal::Stale);
         }
         tell_over(&self.journal);
-        if !self.kept.register.has_bsc(b) {
+        if !self.kept.plan.register().has_bsc(b) {
             return Err(Refusal::NoSuchBsc);
         }
         tell_lines(self.kept.tables.lines());
         tell_known();
         Ok(questions::table(
             self.alloc,
-            &self.kept.register,
-            &self.kept.book,
+            self.kept.plan.register(),
+            self.kept.plan.book(),
             &mut self.kept.tables,
             b,
         )?)
@@ -370,7 +369,7 @@ impl Centre {
             return Err(Refusal::Stale);
         }
         tell_over(&self.journal);
-        match questions::board(&self.kept.tables, &self.kept.book, warning) {
+        match questions::board(&self.kept.tables, self.kept.plan.book(), warning) {
             Some(numbers) => Ok(numbers),
             None => Err(Refusal::NoSuchWarning),
         }
@@ -387,8 +386,8 @@ impl Centre {
         }
         tell_over(&self.journal);
         questions::area_board(
-            &self.kept.areas,
-            &self.kept.book,
+            self.kept.plan.areas(),
+            self.kept.plan.book(),
             &self.kept.tables,
             warning,
             area,
@@ -420,7 +419,7 @@ impl Centre {
             return Err(Refusal::Stale);
         }
         tell_over(&self.journal);
-        if !self.kept.register.has_bsc(b) {
+        if !self.kept.plan.register().has_bsc(b) {
             return Err(Refusal::NoSuchBsc);
         }
         Ok(lists::cells::cells(self.alloc, &self.kept, b)?)
@@ -436,7 +435,7 @@ impl Centre {
             return Err(Refusal::Stale);
         }
         tell_over(&self.journal);
-        Ok(lists::named_areas::areas(self.alloc, &self.kept.areas)?)
+        Ok(lists::named_areas::areas(self.alloc, self.kept.plan.areas())?)
     }
 
     /// The selectors of the area, by location area; the whole of one comes before the cells in it. `Stale`, then
@@ -451,10 +450,10 @@ impl Centre {
         }
         tell_over(&self.journal);
         tell_areas();
-        if !self.kept.areas.has_area(area) {
+        if !self.kept.plan.areas().has_area(area) {
             return Err(Refusal::NoSuchArea);
         }
-        Ok(lists::named_areas::selectors(self.alloc, &self.kept.areas, area)?)
+        Ok(lists::named_areas::selectors(self.alloc, self.kept.plan.areas(), area)?)
     }
 
     /// The warnings in the book, in ascending order of their numbers: of each its message identifier, its current serial
@@ -471,7 +470,7 @@ impl Centre {
         tell_over(&self.journal);
         tell_tables();
         tell_order();
-        Ok(lists::warnings::warnings(self.alloc, &self.kept.tables, &self.kept.book)?)
+        Ok(lists::warnings::warnings(self.alloc, &self.kept.tables, self.kept.plan.book())?)
     }
 
     /// The warning, with what its current version broadcasts. `Stale`, then `NoSuchWarning`, then `Memory`.
@@ -488,7 +487,8 @@ impl Centre {
         tell_tables();
         tell_listed();
         let tables = &self.kept.tables;
-        let Ok(found) = lists::warnings::warning(self.alloc, tables, &self.kept.book, number) else {
+        let Ok(found) = lists::warnings::warning(self.alloc, tables, self.kept.plan.book(), number)
+        else {
             return Err(Refusal::Memory);
         };
         match found {
@@ -515,9 +515,9 @@ impl Centre {
         tell_listed();
         let Ok(found) = lists::failed::failed(
             self.alloc,
-            &self.kept.register,
-            &self.kept.areas,
-            &self.kept.book,
+            self.kept.plan.register(),
+            self.kept.plan.areas(),
+            self.kept.plan.book(),
             &mut self.kept.tables,
             number,
         ) else {

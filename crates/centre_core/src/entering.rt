@@ -4,7 +4,7 @@ ghost use Rattle.std.specs.Prelude.{◌≡◌, ◌<◌, ◌≤◌, ◌+◌, ◌-
 ghost use Rattle.centre_lines.specs.Following.{Finishes, most_accesses};
 ghost use Rattle.centre_past.specs.IsKept.{IsKept};
 ghost use Rattle.centre_events.specs.Kept.{Gives, is_plain};
-ghost use Rattle.coverage_plan.specs.Edited.{register_after, areas_after, book_after};
+ghost use Rattle.coverage_plan.specs.Edited.{edited};
 ghost use Rattle.centre_events.specs.Past.{Past, After};
 ghost use Rattle.centre_events.specs.Verdict.{edit_answered};
 
@@ -22,16 +22,16 @@ use std::alloc::{AllocError, Global};
 /// Makes an edit that is accepted. Where memory runs out nothing changes.
 pub(crate) fn make(kept: &mut Kept, edit: &Edit) -> Verdict
     ensures verdict { (past : Past) → IsKept past kept.old → IsOk (edit_answered past edit.now) → Gives (edit_answered past edit.now) result }
-    ensures made { OnOk result (kept.new ≡ record kept.old { register = register_after edit.now kept.old.register; areas = areas_after edit.now kept.old.areas; book = book_after edit.now kept.old.book }) }
+    ensures made { OnOk result (kept.new ≡ record kept.old { plan = edited edit.now kept.old.plan }) }
     ensures unchanged { OnErr result (kept.new ≡ kept.old) }
     ensures plain { IfOk result (λ a. is_plain a ≡ true) }
 {
-    make_edit(&mut kept.register, &mut kept.areas, &mut kept.book, edit)
+    make_edit(&mut kept.plan, edit)
 }
 
 /// Makes an edit that is accepted, whose answer is known.
 pub(crate) fn make_again(kept: &mut Kept, edit: &Edit) -> Result<(), AllocError>
-    ensures made { OnOk result (kept.new ≡ record kept.old { register = register_after edit.now kept.old.register; areas = areas_after edit.now kept.old.areas; book = book_after edit.now kept.old.book }) }
+    ensures made { OnOk result (kept.new ≡ record kept.old { plan = edited edit.now kept.old.plan }) }
 {
     match make(kept, edit) {
         Ok(answer) => {
@@ -80,7 +80,7 @@ pub(crate) fn enter(
     ensures entries_stay { OnErr result (journal.new.entries ≡ journal.old.entries) }
     ensures unread { journal.new.reads ≡ journal.old.reads }
     ensures kept { OnOk result ((x : Finishes kept.old entry.event entry.answer before.place before.up before.reached.spots.items before.reached.lines) → IsKept (After (record { desk = x.desk; event = entry.event; answer = entry.answer }) x.past) kept.new) }
-    ensures meter { kept.new.tables.lines.meter ≤ kept.old.tables.lines.meter + most_accesses entry.event entry.answer kept.old.book before.reached.spots.items before.reached.lines }
+    ensures meter { kept.new.tables.lines.meter ≤ kept.old.tables.lines.meter + most_accesses entry.event entry.answer kept.old.plan.book before.reached.spots.items before.reached.lines }
     ensures least { kept.old.tables.lines.meter ≤ kept.new.tables.lines.meter }
 {
     let done = finish(alloc, kept, &entry.event, &entry.answer, before);

@@ -1,4 +1,4 @@
-//! What an accepted event makes of what is kept, once an edit has been made: lines, links and what is in flight.
+//! What an accepted event makes of what is kept, once an edit has been made: lines, and links with what is in flight.
 
 ghost use Rattle.std.specs.Prelude.{◌≡◌, ◌≤◌, ◌+◌, OnOk};
 ghost use Rattle.centre_lines.specs.Following.{Finishes, most_accesses};
@@ -11,9 +11,8 @@ use centre_events::event::Event;
 use centre_events::stepping::Happening;
 use centre_lines::following::bear;
 use centre_lines::plan_parts::PlanParts;
-use centre_past::flights::{self, flight_of};
 use centre_past::kept::Kept;
-use centre_past::links;
+use centre_past::links::{self, flight_of};
 use std::alloc::{AllocError, Global};
 
 /// Follows an accepted event from how it stood before it. At an `Err` memory ran out, and what is kept is of no use any more.
@@ -26,7 +25,7 @@ pub(crate) fn finish<'x>(
 ) -> Result<(), AllocError>
     requires { Finishes kept.old event.now answer.now before.place before.up before.reached.spots.items before.reached.lines }
     ensures kept { OnOk result ((x : Finishes kept.old event.now answer.now before.place before.up before.reached.spots.items before.reached.lines) → IsKept (After (record { desk = x.desk; event = event.now; answer = answer.now }) x.past) kept.new) }
-    ensures meter { kept.new.tables.lines.meter ≤ kept.old.tables.lines.meter + most_accesses event.now answer.now kept.old.book before.reached.spots.items before.reached.lines }
+    ensures meter { kept.new.tables.lines.meter ≤ kept.old.tables.lines.meter + most_accesses event.now answer.now kept.old.plan.book before.reached.spots.items before.reached.lines }
     ensures least { kept.old.tables.lines.meter ≤ kept.new.tables.lines.meter }
 {
     let BeforeEntry { place, up, reached } = before;
@@ -34,15 +33,10 @@ pub(crate) fn finish<'x>(
         event,
         answer,
         up,
-        flight: flight_of(kept.flights.as_slice(), event),
+        flight: flight_of(kept.links.as_slice(), event),
     };
-    let parts = PlanParts {
-        register: &kept.register,
-        areas: &kept.areas,
-        book: &kept.book,
-    };
+    let parts = PlanParts::of(&kept.plan);
     bear(alloc, &h, &parts, &mut kept.tables, reached)?;
-    links::follow(&mut kept.links, event, place)?;
-    flights::follow(alloc, &mut kept.flights, event, answer, up)?;
+    links::follow(alloc, &mut kept.links, event, answer, place)?;
     Ok(())
 }

@@ -1,9 +1,6 @@
 -- What a centre keeps beside its journal, and how that is tied to the past: the register and the areas tell of each
--- BSC, cell, area and selector what the past says of it; the book of warnings is the one that the entries make; the
--- flights tell of each BSC what is in flight to it.
-use Rattle.std.specs.Prelude.{◌≡◌, ◌⊎◌, ℕ, Bool, true, false, not, List, Option, Result, Ok, Err, IsOk, find, nat_eq}
-use Rattle.std.specs.List.{filter}
-use Rattle.std.specs.Option.{option_map}
+-- BSC, cell, area and selector what the past says of it; the book of warnings is the one that the entries make.
+use Rattle.std.specs.Prelude.{◌≡◌, ◌⊎◌, ℕ, Bool, true, false, List, Result, Ok, Err, IsOk}
 use Rattle.areas.specs.Areas.{has_area}
 use Rattle.areas.specs.Areas as kept
 use Rattle.areas.specs.declared.area.Area.{Area}
@@ -11,7 +8,6 @@ use Rattle.areas.specs.declared.selector.Selector.{Selector}
 use Rattle.cell_register.specs.Register.{State, has_bsc, place_in}
 use Rattle.common.specs.declared.cell.Cell.{Cell}
 use Rattle.centre_events.specs.Cover.{is_area, has_selector}
-use Rattle.centre_events.specs.InFlight.{in_flight}
 use Rattle.centre_events.specs.Links.{is_bsc}
 use Rattle.centre_events.specs.Past.{Past, IsUnfolded}
 use Rattle.centre_events.specs.Places.{place}
@@ -23,8 +19,6 @@ use Rattle.coverage_plan.specs.Checks.{is_plain_edit}
 use Rattle.coverage_plan.specs.Edited.{register_after, areas_after}
 use Rattle.centre_events.specs.declared.event.Event.{Event}
 use Rattle.centre_events.specs.declared.event.Event.TheVariants as event
-use Rattle.centre_events.specs.declared.flight.Flight.{Flight}
-use Rattle.centre_events.specs.declared.in_flight.InFlight.{InFlight}
 use Rattle.centre_events.specs.declared.refusal.Refusal.{Refusal}
 use Rattle.centre_events.specs.declared.refusal.Refusal.TheVariants.{Memory}
 
@@ -39,22 +33,6 @@ pub record AreAreasOf (past : Past) (areas : List Area) : Type 0 where
   pub unfolded : IsUnfolded past
   pub names : (a : List ℕ) → has_area areas a ≡ is_area past a
   pub selectors : (a : List ℕ) (s : Selector) → kept.has_selector areas a s ≡ has_selector past a s
-
--- the flight is the BSC's
-abbrev pub is_of : ℕ → Flight → Bool
-is_of b f = nat_eq f.bsc b
-
--- what is in flight to the BSC
-abbrev pub flight_in : List Flight → ℕ → Option InFlight
-flight_in fs b = option_map (λ f. f.in_flight) (find (is_of b) fs)
-
--- without what is in flight to the BSC
-abbrev pub without_flight : ℕ → List Flight → List Flight
-without_flight b fs = filter (λ f. not (is_of b f)) fs
-
--- the flights tell of each BSC what the past says
-abbrev pub AreFlightsOf : Past → List Flight → Type 0
-AreFlightsOf past fs = (b : ℕ) → flight_in fs b ≡ in_flight past b
 
 -- no event but an edit changes the register
 abbrev pub register_then : Event → State → State

@@ -61,3 +61,13 @@ generation_mark b other place = None
 -- the generation of the latest link of the BSC
 abbrev pub last_link : Past → ℕ → ℕ
 last_link past b = latest (λ e before. generation_mark b e.event (position before + 1)) (λ base. base.last_link b) past
+
+-- the BSC of an event; none where it is an edit
+abbrev pub bsc_of : Event → Option ℕ
+bsc_of (event.Edit e) = None
+bsc_of (event.Retry b) = Some b
+bsc_of (event.LinkUp b) = Some b
+bsc_of (event.LinkDown b generation) = Some b
+bsc_of (event.Send b generation) = Some b
+bsc_of (event.Ask b generation n after) = Some b
+bsc_of (event.Report b generation message) = Some b

@@ -1,6 +1,6 @@
 -- Lists of a reply in which the entry of a cell can be found by halves: each identification is that of a single cell, and
 -- they stand in ascending order of these cells.
-use Rattle.std.specs.Prelude.{◌≡◌, ℕ, Bool, true, false, List, Option, Some, None}
+use Rattle.std.specs.Prelude.{◌≡◌, Bool, true, false, List, Option, Some, None}
 use Rattle.cbsp_ie.specs.Counts as counts
 use Rattle.cbsp_ie.specs.Identifications.{Identifications}
 use Rattle.cbsp_ie.specs.declared.cell_id.CellId.{CellId}

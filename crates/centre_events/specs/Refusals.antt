@@ -1,11 +1,8 @@
 -- The numbers of the refusals.
 use Rattle.std.specs.Prelude.{ℕ}
-use Rattle.areas.specs.declared.refusal.Limit.TheVariants as areas_limit
-use Rattle.areas.specs.declared.refusal.Refusal as areas
-use Rattle.areas.specs.declared.refusal.Refusal.TheVariants as areas_refusal
-use Rattle.cell_register.specs.declared.refusal.Limit.TheVariants as register_limit
-use Rattle.cell_register.specs.declared.refusal.Refusal as register
-use Rattle.cell_register.specs.declared.refusal.Refusal.TheVariants as register_refusal
+use Rattle.coverage_plan.specs.declared.refusal.Limit.TheVariants as plan_limit
+use Rattle.coverage_plan.specs.declared.refusal.Refusal as plan
+use Rattle.coverage_plan.specs.declared.refusal.Refusal.TheVariants as plan_refusal
 use Rattle.warning_book.specs.declared.refusal.Limit.TheVariants as book_limit
 use Rattle.warning_book.specs.declared.refusal.Refusal as book
 use Rattle.warning_book.specs.declared.refusal.Refusal.TheVariants as book_refusal
@@ -52,28 +49,38 @@ refusal_number (Limit which) = 35
 refusal_number Memory = 36
 refusal_number (WrongDesk position) = 37
 
--- the refusal that one of the register is
-abbrev pub of_register : register.Refusal → Refusal
-of_register register_refusal.NoSuchBsc = NoSuchBsc
-of_register register_refusal.BscExists = BscExists
-of_register register_refusal.BscHasCells = BscHasCells
-of_register register_refusal.CellExists = CellExists
-of_register register_refusal.NoSuchCell = NoSuchCell
-of_register register_refusal.SameBsc = SameBsc
-of_register (register_refusal.Limit register_limit.Bscs) = Limit limit.Bscs
-of_register (register_refusal.Limit register_limit.Cells) = Limit limit.Cells
-of_register register_refusal.Memory = Memory
-
--- the refusal that one of the areas is
-abbrev pub of_areas : areas.Refusal → Refusal
-of_areas areas_refusal.BadName = BadName
-of_areas areas_refusal.AreaExists = AreaExists
-of_areas areas_refusal.NoSuchArea = NoSuchArea
-of_areas areas_refusal.SelectorThere = SelectorThere
-of_areas areas_refusal.SelectorNotThere = SelectorNotThere
-of_areas (areas_refusal.Limit areas_limit.Areas) = Limit limit.Areas
-of_areas (areas_refusal.Limit areas_limit.Selectors) = Limit limit.Selectors
-of_areas areas_refusal.Memory = Memory
+-- the refusal that one of the plan is
+abbrev pub of_plan : plan.Refusal → Refusal
+of_plan plan_refusal.NoSuchBsc = NoSuchBsc
+of_plan plan_refusal.BscExists = BscExists
+of_plan plan_refusal.BscHasCells = BscHasCells
+of_plan plan_refusal.CellExists = CellExists
+of_plan plan_refusal.NoSuchCell = NoSuchCell
+of_plan plan_refusal.SameBsc = SameBsc
+of_plan plan_refusal.BadName = BadName
+of_plan plan_refusal.AreaExists = AreaExists
+of_plan plan_refusal.NoSuchArea = NoSuchArea
+of_plan plan_refusal.AreaInUse = AreaInUse
+of_plan plan_refusal.SelectorThere = SelectorThere
+of_plan plan_refusal.SelectorNotThere = SelectorNotThere
+of_plan plan_refusal.NoSuchWarning = NoSuchWarning
+of_plan plan_refusal.NotActive = NotActive
+of_plan plan_refusal.StillActive = StillActive
+of_plan plan_refusal.NoAreas = NoAreas
+of_plan plan_refusal.AreaThere = AreaThere
+of_plan plan_refusal.AreaNotThere = AreaNotThere
+of_plan plan_refusal.LastArea = LastArea
+of_plan plan_refusal.BadPages = BadPages
+of_plan plan_refusal.BadPeriod = BadPeriod
+of_plan plan_refusal.WrongKind = WrongKind
+of_plan (plan_refusal.Limit plan_limit.Bscs) = Limit limit.Bscs
+of_plan (plan_refusal.Limit plan_limit.Cells) = Limit limit.Cells
+of_plan (plan_refusal.Limit plan_limit.Areas) = Limit limit.Areas
+of_plan (plan_refusal.Limit plan_limit.Selectors) = Limit limit.Selectors
+of_plan (plan_refusal.Limit plan_limit.Warnings) = Limit limit.Warnings
+of_plan (plan_refusal.Limit plan_limit.WarningAreas) = Limit limit.WarningAreas
+of_plan (plan_refusal.Limit plan_limit.Ids) = Limit limit.Ids
+of_plan plan_refusal.Memory = Memory
 
 -- the refusal that one of the book is
 abbrev pub of_book : book.Refusal → Refusal

@@ -2,6 +2,7 @@
 
 ghost use Rattle.std.specs.Prelude.{◌≡◌, ◌↔◌, true, IsTrue, IsOk, IfOk};
 ghost use Rattle.centre_events.specs.Kept.{is_plain_event};
+ghost use Rattle.centre_events.specs.Links.{bsc_of};
 
 use cbsp_messages::Message;
 use cell_register::BscId;
@@ -31,6 +32,21 @@ pub enum Event {
 }
 
 impl Event {
+    /// The BSC of the event; none where it is an edit.
+    pub fn bsc(&self) -> Option<BscId>
+        ensures { result ≡ bsc_of self.now }
+    {
+        match self {
+            Event::Edit(_) => None,
+            Event::Retry(b)
+            | Event::LinkUp(b)
+            | Event::LinkDown(b, _)
+            | Event::Send(b, _)
+            | Event::Ask(b, _, _, _)
+            | Event::Report(b, _, _) => Some(*b),
+        }
+    }
+
     /// The same event in memory of its own. It takes none where the event has no name, list, content or message.
     pub fn copied(&self, alloc: Global) -> Result<Event, AllocError>
         ensures copy { IfOk result (λ copy. copy ≡ self.now) }

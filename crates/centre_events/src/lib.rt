@@ -12,7 +12,6 @@ pub mod effects;
 pub mod entry;
 pub mod event;
 mod finding;
-pub mod flight;
 pub mod folding;
 pub mod in_flight;
 pub mod in_order;

@@ -1,7 +1,9 @@
 //! Why an event or a question is refused.
 
 ghost use Rattle.std.specs.Prelude.{◌≡◌};
-ghost use Rattle.centre_events.specs.Refusals.{refusal_number};
+ghost use Rattle.centre_events.specs.Refusals.{of_plan, refusal_number};
+ghost use Rattle.centre_events.specs.declared.refusal.Refusal.TheVariants as refusal;
+ghost use Rattle.coverage_plan.specs.declared.refusal.Refusal.TheVariants as plan;
 
 use std::alloc::{AllocError, AllocFailed};
 use std::error::Error;
@@ -200,57 +202,55 @@ impl fmt::Display for Refusal {
 
 impl Error for Refusal {}
 
-impl From<cell_register::Refusal> for Refusal {
-    ghost use Rattle.std.specs.Prelude.{◌≡◌};
-    ghost use Rattle.centre_events.specs.Refusals.{of_register};
-
-    ghost from_gives = { λ r e. e ≡ of_register r };
-
-    fn from(refusal: cell_register::Refusal) -> Refusal {
-        match refusal {
-            cell_register::Refusal::NoSuchBsc => Refusal::NoSuchBsc,
-            cell_register::Refusal::BscExists => Refusal::BscExists,
-            cell_register::Refusal::BscHasCells => Refusal::BscHasCells,
-            cell_register::Refusal::CellExists => Refusal::CellExists,
-            cell_register::Refusal::NoSuchCell => Refusal::NoSuchCell,
-            cell_register::Refusal::SameBsc => Refusal::SameBsc,
-            cell_register::Refusal::Limit {
-                which: cell_register::Limit::Bscs,
-            } => Refusal::Limit { which: Limit::Bscs },
-            cell_register::Refusal::Limit {
-                which: cell_register::Limit::Cells,
-            } => Refusal::Limit {
-                which: Limit::Cells,
-            },
-            cell_register::Refusal::Memory => Refusal::Memory,
-        }
+/// The limit of the same name.
+fn limit_of(limit: coverage_plan::Limit) -> Limit
+    ensures { refusal.Limit result ≡ of_plan (plan.Limit limit) }
+{
+    match limit {
+        coverage_plan::Limit::Bscs => Limit::Bscs,
+        coverage_plan::Limit::Cells => Limit::Cells,
+        coverage_plan::Limit::Areas => Limit::Areas,
+        coverage_plan::Limit::Selectors => Limit::Selectors,
+        coverage_plan::Limit::Warnings => Limit::Warnings,
+        coverage_plan::Limit::WarningAreas => Limit::WarningAreas,
+        coverage_plan::Limit::Ids => Limit::Ids,
     }
 }
 
-impl From<areas::Refusal> for Refusal {
+impl From<coverage_plan::Refusal> for Refusal {
     ghost use Rattle.std.specs.Prelude.{◌≡◌};
-    ghost use Rattle.centre_events.specs.Refusals.{of_areas};
+    ghost use Rattle.centre_events.specs.Refusals.{of_plan};
 
-    ghost from_gives = { λ r e. e ≡ of_areas r };
+    ghost from_gives = { λ r e. e ≡ of_plan r };
 
-    fn from(refusal: areas::Refusal) -> Refusal {
+    fn from(refusal: coverage_plan::Refusal) -> Refusal {
         match refusal {
-            areas::Refusal::BadName => Refusal::BadName,
-            areas::Refusal::AreaExists => Refusal::AreaExists,
-            areas::Refusal::NoSuchArea => Refusal::NoSuchArea,
-            areas::Refusal::SelectorThere => Refusal::SelectorThere,
-            areas::Refusal::SelectorNotThere => Refusal::SelectorNotThere,
-            areas::Refusal::Limit {
-                which: areas::Limit::Areas,
-            } => Refusal::Limit {
-                which: Limit::Areas,
+            coverage_plan::Refusal::NoSuchBsc => Refusal::NoSuchBsc,
+            coverage_plan::Refusal::BscExists => Refusal::BscExists,
+            coverage_plan::Refusal::BscHasCells => Refusal::BscHasCells,
+            coverage_plan::Refusal::CellExists => Refusal::CellExists,
+            coverage_plan::Refusal::NoSuchCell => Refusal::NoSuchCell,
+            coverage_plan::Refusal::SameBsc => Refusal::SameBsc,
+            coverage_plan::Refusal::BadName => Refusal::BadName,
+            coverage_plan::Refusal::AreaExists => Refusal::AreaExists,
+            coverage_plan::Refusal::NoSuchArea => Refusal::NoSuchArea,
+            coverage_plan::Refusal::AreaInUse => Refusal::AreaInUse,
+            coverage_plan::Refusal::SelectorThere => Refusal::SelectorThere,
+            coverage_plan::Refusal::SelectorNotThere => Refusal::SelectorNotThere,
+            coverage_plan::Refusal::NoSuchWarning => Refusal::NoSuchWarning,
+            coverage_plan::Refusal::NotActive => Refusal::NotActive,
+            coverage_plan::Refusal::StillActive => Refusal::StillActive,
+            coverage_plan::Refusal::NoAreas => Refusal::NoAreas,
+            coverage_plan::Refusal::AreaThere => Refusal::AreaThere,
+            coverage_plan::Refusal::AreaNotThere => Refusal::AreaNotThere,
+            coverage_plan::Refusal::LastArea => Refusal::LastArea,
+            coverage_plan::Refusal::BadPages => Refusal::BadPages,
+            coverage_plan::Refusal::BadPeriod => Refusal::BadPeriod,
+            coverage_plan::Refusal::WrongKind => Refusal::WrongKind,
+            coverage_plan::Refusal::Limit { which } => Refusal::Limit {
+                which: limit_of(which),
             },
-            areas::Refusal::Limit {
-                which: areas::Limit::Selectors,
-            } => Refusal::Limit {
-                which: Limit::Selectors,
-            },
-            areas::Refusal::Memory => Refusal::Memory,
+            coverage_plan::Refusal::Memory => Refusal::Memory,
         }
     }
 }

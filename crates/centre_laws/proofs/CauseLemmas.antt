@@ -1,10 +1,10 @@
 -- The causes of each event stand in order, the first of them that holds refuses it, and the plan's are the centre's.
-use Rattle.std.proofs.Common.{◌≡◌, ℕ, ◌+◌, Bool, true, false, ◌&&◌, not, List, [], ◌∷◌, ◌++◌, Option, Some, None, Result, Ok, Err, cond, arith, refl, sym, ◌∙◌, ap, subst}
+use Rattle.std.proofs.Common.{◌≡◌, ℕ, ◌+◌, Bool, true, false, ◌&&◌, not, List, [], ◌∷◌, ◌++◌, Option, Some, None, Result, Ok, Err, arith, refl, sym, ◌∙◌, ap, subst}
 use Rattle.std.specs.Prelude.{IsOk}
 use Rattle.std.proofs.lemmas.Bool.{and_parts, and_from}
 use Rattle.std.proofs.lemmas.Bool.Decides.{nat_tests}
 use Rattle.std.proofs.lemmas.Grind.{common_steps}
-use Rattle.std.specs.List.{list_all, list_any}
+use Rattle.std.specs.List.{list_all}
 use Rattle.std.specs.Option.{is_some}
 use Rattle.cbsp_messages.specs.declared.message.Message.{Message}
 use Rattle.cbsp_messages.specs.declared.message.Message.TheVariants as message
@@ -12,26 +12,20 @@ use Rattle.common.specs.CheckLaws.{none_holds}
 use Rattle.common.specs.Checks.{first_refusal}
 use Rattle.common.specs.Order.{is_ascending}
 use Rattle.common.specs.declared.cell.Cell.{Cell}
-use Rattle.coverage_plan.specs.Checks.{translated}
-use Rattle.coverage_plan.specs.declared.edit.Edit.{Edit}
 use Rattle.coverage_plan.specs.declared.edit.Edit.TheVariants as edit
 use Rattle.order_maker.specs.Grouping.{first}
 use Rattle.order_maker.specs.declared.order.Order.{Order}
-use Rattle.warning_book.specs.Book.{current_of, kind_of, warning_of, new_serial, next_serial}
+use Rattle.warning_book.specs.Book.{current_of, kind_of, warning_of}
 use Rattle.warning_book.specs.declared.kind.Kind.{Kind}
 use Rattle.warning_book.specs.declared.kind.Kind.TheVariants as kind
-use Rattle.warning_book.specs.Checks as book
-use Rattle.warning_book.specs.declared.notice.Notice.{Notice}
-use Rattle.warning_book.specs.declared.refusal.Refusal as book_refusal
 use Rattle.warning_book.specs.declared.warning.Warning.{Warning}
 use Rattle.centre_events.specs.Asking.{asked_cells, query_of, query_of_kind, version_query, warning_query}
-use Rattle.centre_events.specs.Cover.{is_area}
 use Rattle.centre_events.specs.InFlight.{in_flight, matches_flight}
 use Rattle.centre_events.specs.Past.{Past, position}
 use Rattle.centre_events.specs.Pending.{pending}
-use Rattle.centre_events.specs.Refusals.{of_book, refusal_number}
+use Rattle.centre_events.specs.Refusals.{refusal_number}
 use Rattle.centre_events.specs.Settings.{Settings}
-use Rattle.centre_events.specs.Verdict.{unless, verdict, is_full, answered, edit_answered, issue_answer, update_answer, send_answer, reply_answer, report_answer, is_out_of_place, by_book, add_bsc_checks, remove_bsc_checks, add_cell_checks, move_cell_checks, remove_cell_checks, add_area_checks, drop_area_checks, put_checks, cut_checks, issue_checks, update_checks, widen_checks, narrow_checks, stop_checks, forget_checks, retry_checks, link_up_checks, link_checks, send_checks, ask_checks, report_checks}
+use Rattle.centre_events.specs.Verdict.{unless, verdict, is_full, answered, send_answer, reply_answer, report_answer, is_out_of_place, retry_checks, link_up_checks, link_checks, send_checks, ask_checks, report_checks}
 use Rattle.centre_events.specs.Warnings.{book_of}
 use Rattle.centre_events.specs.declared.answer.Answer.{Answer}
 use Rattle.centre_events.specs.declared.answer.Answer.TheVariants as answer
@@ -40,9 +34,9 @@ use Rattle.centre_events.specs.declared.event.Event.TheVariants as event
 use Rattle.centre_events.specs.declared.in_flight.InFlight.{InFlight}
 use Rattle.centre_events.specs.declared.refusal.Refusal.{Refusal}
 use Rattle.centre_events.specs.declared.refusal.Refusal.TheVariants as refusal
-use Rattle.centre_past.proofs.WarningLemmas.{issue_ok, update_ok}
+use Rattle.centre_past.proofs.EditCauseLemmas.{Decides, decides_before, decides, done, edit_decides, not_ok, none_of}
 use Rattle.centre_past.specs.VerdictLaws.{is_given, is_of_event, verdict_given}
-use Rattle.centre_laws.specs.Causes.{limit_place, is_smaller, comes_before, stands_before, is_empty, asks_no_cell, asks_none_of, asks_nothing, edit_causes, event_causes, causes_of, comes_no_earlier, IsLeastCause}
+use Rattle.centre_laws.specs.Causes.{limit_place, is_smaller, comes_before, stands_before, is_empty, asks_no_cell, asks_none_of, asks_nothing, event_causes, causes_of, comes_no_earlier, IsLeastCause}
 
 -- The causes stand in order.
 
@@ -71,16 +65,6 @@ causes_ascend settings past (event.Report b generation message) = refl
 
 -- The first cause that holds refuses an event.
 
--- what the causes say of the verdict
-pub record Decides (causes : List (Bool × Refusal)) (v : Result Answer Refusal) : Type 0 where
-  pub refused : (r : Refusal) → first_refusal causes ≡ Some r → v ≡ Err r
-  pub accepted : first_refusal causes ≡ None → IsOk v
-
--- one more cause before the others
-decides_before : (t : Bool) (r : Refusal) (causes : List (Bool × Refusal)) (v : Result Answer Refusal) → Decides causes v → Decides ((t, r) ∷ causes) (cond t (Err r) v)
-decides_before true r causes v rest = record { refused = λ q head. let same : r ≡ q = cc in ap (λ x. Err x) same; accepted = λ none. cc }
-decides_before false r causes v rest = record { refused = rest.refused; accepted = rest.accepted }
-
 -- the causes that follow decide where none of the checks holds
 decides_after : (checks rest : List (Bool × Refusal)) (v : Result Answer Refusal) → (first_refusal checks ≡ None → Decides rest v) → Decides (checks ++ rest) (unless checks v)
 decides_after [] rest v follow = follow refl
@@ -89,56 +73,10 @@ decides_after ((false, r) ∷ checks) rest v follow =
     let more : Decides (checks ++ rest) (unless checks v) = decides_after checks rest v follow in
     record { refused = more.refused; accepted = more.accepted }
 
--- the checks alone
-decides : (checks : List (Bool × Refusal)) (v : Result Answer Refusal) → (first_refusal checks ≡ None → IsOk v) → Decides checks (unless checks v)
-decides [] v ok = record { refused = λ q head. cc; accepted = λ none. ok refl }
-decides ((true, r) ∷ checks) v ok = record { refused = λ q head. let same : r ≡ q = cc in ap (λ x. Err x) same; accepted = λ none. cc }
-decides ((false, r) ∷ checks) v ok =
-    let more : Decides checks (unless checks v) = decides checks v ok in
-    record { refused = more.refused; accepted = more.accepted }
-
 -- one cause alone
 decides_one : (t : Bool) (r : Refusal) (v : Result Answer Refusal) → (t ≡ true → v ≡ Err r) → (t ≡ false → IsOk v) → Decides ((t, r) ∷ []) v
 decides_one true r v held free = record { refused = λ q head. let same : r ≡ q = cc in held refl ∙ ap (λ x. Err x) same; accepted = λ none. cc }
 decides_one false r v held free = record { refused = λ q head. cc; accepted = λ none. free refl }
-
-done : (checks : List (Bool × Refusal)) → Decides checks (unless checks (Ok answer.Done))
-done checks = decides checks (Ok answer.Done) (λ none. refl)
-
--- where none of a lower crate's checks holds in the centre's words, none holds
-untranslated : {E : Type 0} (f : E → Refusal) (checks : List (Bool × E)) → first_refusal (translated f checks) ≡ None → first_refusal checks ≡ None
-untranslated f [] none = refl
-untranslated f ((true, e) ∷ checks) none = cc
-untranslated f ((false, e) ∷ checks) none = untranslated f checks none
-
-issue_decides : (past : Past) (notice : Notice) (areas : List (List ℕ)) → Decides (issue_checks past notice areas) (unless (issue_checks past notice areas) (issue_answer ((book_of past).issued + 1) (new_serial (book_of past) notice)))
-issue_decides past notice areas = decides_before missing refusal.NoSuchArea (by_book checks) (unless (by_book checks) given) (decides (by_book checks) given (λ none. issue_ok past notice areas (untranslated of_book checks none)))
-  where
-    missing : Bool
-    missing = list_any (λ a. not (is_area past a)) areas
-
-    checks : List (Bool × book_refusal.Refusal)
-    checks = book.issue_checks (book_of past) notice areas
-
-    given : Result Answer Refusal
-    given = issue_answer ((book_of past).issued + 1) (new_serial (book_of past) notice)
-
-pub edit_decides : (past : Past) (e : Edit) → Decides (edit_causes past e) (edit_answered past e)
-edit_decides past (edit.AddBsc b) = done (add_bsc_checks past b)
-edit_decides past (edit.RemoveBsc b) = done (remove_bsc_checks past b)
-edit_decides past (edit.AddCell c b) = done (add_cell_checks past c b)
-edit_decides past (edit.MoveCell c b) = done (move_cell_checks past c b)
-edit_decides past (edit.RemoveCell c) = done (remove_cell_checks past c)
-edit_decides past (edit.AddArea a) = done (add_area_checks past a)
-edit_decides past (edit.DropArea a) = done (drop_area_checks past a)
-edit_decides past (edit.Put a s) = done (put_checks past a s)
-edit_decides past (edit.Cut a s) = done (cut_checks past a s)
-edit_decides past (edit.Issue notice areas) = issue_decides past notice areas
-edit_decides past (edit.Update n content) = decides (update_checks past n content) (update_answer (next_serial (book_of past) n)) (λ none. update_ok past n)
-edit_decides past (edit.Widen n a) = done (widen_checks past n a)
-edit_decides past (edit.Narrow n a) = done (narrow_checks past n a)
-edit_decides past (edit.Stop n) = done (stop_checks past n)
-edit_decides past (edit.Forget n) = done (forget_checks past n)
 
 -- an order is sent unless nothing is pending
 send_decides : (past : Past) (orders : List Order) → Decides ((is_empty orders, refusal.NothingPending) ∷ []) (send_answer past (first orders))
@@ -224,10 +162,6 @@ none_earlier ((false, s) ∷ causes) r order head = none_earlier causes r (and_p
 
 -- Both ways.
 
-not_ok : (v : Result Answer Refusal) (r : Refusal) → v ≡ Err r → IsOk v → ⊥
-not_ok (Ok a) r is ok = cc
-not_ok (Err e) r is ok = cc
-
 -- a refusal as a verdict
 abbrev refused_as : Refusal → Result Answer Refusal
 refused_as r = Err r
@@ -241,13 +175,6 @@ first_of causes v r given is = step (first_refusal causes) refl
     step : (o : Option Refusal) → first_refusal causes ≡ o → o ≡ Some r
     step None none = absurd (not_ok v r is (given.accepted none))
     step (Some q) head = ap (λ x. Some x) (same_refusal v q r (given.refused q head) is)
-
-none_of : (causes : List (Bool × Refusal)) (v : Result Answer Refusal) → Decides causes v → IsOk v → first_refusal causes ≡ None
-none_of causes v given ok = step (first_refusal causes) refl
-  where
-    step : (o : Option Refusal) → first_refusal causes ≡ o → o ≡ None
-    step None none = refl
-    step (Some q) head = absurd (not_ok v q (given.refused q head) ok)
 
 pub least_cause : (settings : Settings) (past : Past) (e : Event) → IsLeastCause settings past e
 least_cause settings past e = record {

@@ -1,15 +1,10 @@
 -- What refuses an edit in the plan refuses it in the centre.
 use Rattle.std.proofs.Common.{◌≡◌, ◌⊎◌, inl, inr, ℕ, Bool, true, false, not, List, [], ◌∷◌, ◌++◌, Some, Err, cond, refl, sym, ◌∙◌, ap, subst}
-use Rattle.areas.specs.Areas.{named_lt, selectors_of}
-use Rattle.areas.specs.Selector.{selector_eq}
-use Rattle.areas.specs.declared.area.Area.{Area}
-use Rattle.cell_register.specs.Register as register
-use Rattle.cell_register.specs.Sound.{IsRegister}
 use Rattle.common.specs.Checks.{first_refusal}
-use Rattle.common.specs.Order.{is_ascending, each_once}
 use Rattle.common.specs.Sorting.{sorted_by}
 use Rattle.coverage_plan.specs.Checks.{by_book, edit_checks, translated}
 use Rattle.coverage_plan.specs.Plan.{State}
+use Rattle.coverage_plan.specs.Sound.{IsSound}
 use Rattle.coverage_plan.specs.declared.edit.Edit.{Edit}
 use Rattle.coverage_plan.specs.declared.edit.Edit.TheVariants as edit
 use Rattle.coverage_plan.specs.declared.refusal.Refusal as plan
@@ -20,6 +15,7 @@ use Rattle.warning_book.specs.Checks as book_checks
 use Rattle.warning_book.specs.Content.{have_pages, has_period}
 use Rattle.warning_book.specs.declared.content.Content.{Content}
 use Rattle.centre_events.specs.Past.{Past}
+use Rattle.centre_events.specs.Refusals.{of_plan}
 use Rattle.centre_events.specs.Reported.{is_key_reported, is_key_in_flight}
 use Rattle.centre_events.specs.Settings.{Settings}
 use Rattle.centre_events.specs.Verdict.{answered, is_full, reuses, verdict}
@@ -27,38 +23,13 @@ use Rattle.centre_events.specs.Warnings.{book_of}
 use Rattle.centre_events.specs.declared.event.Event.TheVariants as event
 use Rattle.centre_events.specs.declared.refusal.Refusal.{Refusal}
 use Rattle.centre_events.specs.declared.refusal.Refusal.TheVariants as refusal
-use Rattle.centre_past.proofs.AreaLemmas.{add_area_same, put_same, cut_same, names_there}
-use Rattle.centre_past.proofs.RegisterLemmas.{add_bsc_same, add_cell_same, move_cell_same, remove_cell_same, cells_there}
-use Rattle.centre_laws.specs.Causes.{comes_before, stands_before, edit_causes, own_causes, of_plan, IsPlanOf, RefusesAsPlan, RefusesBefore}
-use Rattle.centre_laws.proofs.CauseLemmas.{edit_decides}
+use Rattle.centre_past.specs.EditCauses.{edit_causes, own_causes, IsPlanOf}
+use Rattle.centre_past.proofs.EditCauseLemmas.{edit_decides, first_stays, plan_first}
+use Rattle.centre_laws.specs.Causes.{comes_before, stands_before, RefusesAsPlan, RefusesBefore}
 
--- the areas are in order, each with its selectors once
-record AreSound (l : List Area) : Type 0 where
-  ascending : is_ascending named_lt l ≡ true
-  once : (a : List ℕ) → each_once selector_eq (selectors_of l a) ≡ true
-
-causes : (past : Past) (st : State) → IsRegister st.register → AreSound st.areas → IsPlanOf past st → (e : Edit) → edit_causes past e ≡ sorted_by stands_before (translated of_plan (edit_checks st e) ++ own_causes past e)
-causes past st sound areas tied (edit.AddBsc b) = sym (add_bsc_same past st.register b sound tied.registered)
-causes past st sound areas tied (edit.RemoveBsc b) = rw (tied.registered.bscs b, cells_there past st.register b sound tied.registered) refl
-causes past st sound areas tied (edit.AddCell c b) = sym (add_cell_same past st.register c b sound tied.registered)
-causes past st sound areas tied (edit.MoveCell c b) = sym (move_cell_same past st.register c b tied.registered)
-causes past st sound areas tied (edit.RemoveCell c) = sym (remove_cell_same past st.register c tied.registered)
-causes past st sound areas tied (edit.AddArea a) = sym (add_area_same past st.areas a areas.ascending tied.selected)
-causes past st sound areas tied (edit.DropArea a) = rw (tied.selected.names a, tied.booked) refl
-causes past st sound areas tied (edit.Put a s) = sym (put_same past st.areas a s areas.once tied.selected)
-causes past st sound areas tied (edit.Cut a s) = sym (cut_same past st.areas a s tied.selected)
-causes past st sound areas tied (edit.Issue notice names) = rw (names_there past st.areas names tied.selected, tied.booked) refl
-causes past st sound areas tied (edit.Update n content) = rw tied.booked refl
-causes past st sound areas tied (edit.Widen n a) = rw (tied.selected.names a, tied.booked) refl
-causes past st sound areas tied (edit.Narrow n a) = rw (tied.selected.names a, tied.booked) refl
-causes past st sound areas tied (edit.Stop n) = rw tied.booked refl
-causes past st sound areas tied (edit.Forget n) = rw tied.booked refl
-
--- the first of the plan's causes stays the first where others follow
-first_stays : {E : Type 0} (f : E → Refusal) (checks : List (Bool × E)) (rest : List (Bool × Refusal)) (r : E) → first_refusal checks ≡ Some r → first_refusal (translated f checks ++ rest) ≡ Some (f r)
-first_stays f [] rest r head = cc
-first_stays f ((true, e) ∷ checks) rest r head = let same : e ≡ r = cc in ap (λ x. Some (f x)) same
-first_stays f ((false, e) ∷ checks) rest r head = first_stays f checks rest r head
+causes : (past : Past) (st : State) → IsSound st → IsPlanOf past st → (e : Edit) → edit_causes past e ≡ sorted_by stands_before (translated of_plan (edit_checks st e) ++ own_causes past e)
+causes past st sound tied (edit.Update n content) = rw tied.booked refl
+causes past st sound tied other = plan_first past st sound tied other refl
 
 -- the verdict where the journal has room, by the first of the causes
 by_first : (settings : Settings) (past : Past) (e : Edit) (q : Refusal) → is_full settings past ≡ false → first_refusal (edit_causes past e) ≡ Some q → verdict settings past (event.Edit e) ≡ Err q
@@ -120,31 +91,12 @@ update_as settings past st n content r booked room first =
     step (inl h) = inl (by_first settings past (edit.Update n content) (of_plan r) room h)
     step (inr (q, (holds, (before, h)))) = inr (record { own = q; holds = holds; before = before; refused = by_first settings past (edit.Update n content) q room h })
 
-edit_as : (settings : Settings) (past : Past) (st : State) → IsRegister st.register → AreSound st.areas → IsPlanOf past st → (e : Edit) (r : plan.Refusal) → is_full settings past ≡ false → first_refusal (edit_checks st e) ≡ Some r → AsPlan settings past e r
-edit_as settings past st sound areas tied (edit.AddBsc b) r room first = own_last settings past st (edit.AddBsc b) r room first (causes past st sound areas tied (edit.AddBsc b))
-edit_as settings past st sound areas tied (edit.RemoveBsc b) r room first = own_last settings past st (edit.RemoveBsc b) r room first (causes past st sound areas tied (edit.RemoveBsc b))
-edit_as settings past st sound areas tied (edit.AddCell c b) r room first = own_last settings past st (edit.AddCell c b) r room first (causes past st sound areas tied (edit.AddCell c b))
-edit_as settings past st sound areas tied (edit.MoveCell c b) r room first = own_last settings past st (edit.MoveCell c b) r room first (causes past st sound areas tied (edit.MoveCell c b))
-edit_as settings past st sound areas tied (edit.RemoveCell c) r room first = own_last settings past st (edit.RemoveCell c) r room first (causes past st sound areas tied (edit.RemoveCell c))
-edit_as settings past st sound areas tied (edit.AddArea a) r room first = own_last settings past st (edit.AddArea a) r room first (causes past st sound areas tied (edit.AddArea a))
-edit_as settings past st sound areas tied (edit.DropArea a) r room first = own_last settings past st (edit.DropArea a) r room first (causes past st sound areas tied (edit.DropArea a))
-edit_as settings past st sound areas tied (edit.Put a s) r room first = own_last settings past st (edit.Put a s) r room first (causes past st sound areas tied (edit.Put a s))
-edit_as settings past st sound areas tied (edit.Cut a s) r room first = own_last settings past st (edit.Cut a s) r room first (causes past st sound areas tied (edit.Cut a s))
-edit_as settings past st sound areas tied (edit.Issue notice names) r room first = own_last settings past st (edit.Issue notice names) r room first (causes past st sound areas tied (edit.Issue notice names))
-edit_as settings past st sound areas tied (edit.Update n content) r room first = update_as settings past st n content r tied.booked room first
-edit_as settings past st sound areas tied (edit.Widen n a) r room first = own_last settings past st (edit.Widen n a) r room first (causes past st sound areas tied (edit.Widen n a))
-edit_as settings past st sound areas tied (edit.Narrow n a) r room first = own_last settings past st (edit.Narrow n a) r room first (causes past st sound areas tied (edit.Narrow n a))
-edit_as settings past st sound areas tied (edit.Stop n) r room first = own_last settings past st (edit.Stop n) r room first (causes past st sound areas tied (edit.Stop n))
-edit_as settings past st sound areas tied (edit.Forget n) r room first = own_last settings past st (edit.Forget n) r room first (causes past st sound areas tied (edit.Forget n))
+edit_as : (settings : Settings) (past : Past) (st : State) → IsSound st → IsPlanOf past st → (e : Edit) (r : plan.Refusal) → is_full settings past ≡ false → first_refusal (edit_checks st e) ≡ Some r → AsPlan settings past e r
+edit_as settings past st sound tied (edit.Update n content) r room first = update_as settings past st n content r tied.booked room first
+edit_as settings past st sound tied other r room first = own_last settings past st other r room first (plan_first past st sound tied other refl)
 
-pub refuses_as_plan : (past : Past) (st : State) (r : register.State) (l : List Area) → r ≡ st.register → l ≡ st.areas → IsRegister r → is_ascending named_lt l ≡ true → ((a : List ℕ) → each_once selector_eq (selectors_of l a) ≡ true) → IsPlanOf past st → RefusesAsPlan past st
-refuses_as_plan past st r l is_register are_areas sound ascending once tied = record {
-  causes = causes past st registered areas tied;
-  refused = λ settings e x room first. edit_as settings past st registered areas tied e x room first;
+pub refuses_as_plan : (past : Past) (st : State) → IsSound st → IsPlanOf past st → RefusesAsPlan past st
+refuses_as_plan past st sound tied = record {
+  causes = causes past st sound tied;
+  refused = λ settings e x room first. edit_as settings past st sound tied e x room first;
 }
-  where
-    registered : IsRegister st.register
-    registered = subst IsRegister is_register sound
-
-    areas : AreSound st.areas
-    areas = subst AreSound are_areas (record { ascending = ascending; once = once })

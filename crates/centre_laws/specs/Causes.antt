@@ -9,29 +9,24 @@ use Rattle.common.specs.declared.cell.Cell.{Cell}
 use Rattle.coverage_plan.specs.Checks.{edit_checks, translated}
 use Rattle.coverage_plan.specs.Plan.{State}
 use Rattle.coverage_plan.specs.declared.edit.Edit.{Edit}
-use Rattle.coverage_plan.specs.declared.edit.Edit.TheVariants as edit
-use Rattle.coverage_plan.specs.declared.refusal.Limit.TheVariants as plan_limit
 use Rattle.coverage_plan.specs.declared.refusal.Refusal as plan
-use Rattle.coverage_plan.specs.declared.refusal.Refusal.TheVariants as plan_refusal
-use Rattle.warning_book.specs.Book.{current_of, kind_of, warning_is, warning_of}
+use Rattle.warning_book.specs.Book.{current_of, kind_of, warning_of}
 use Rattle.warning_book.specs.declared.kind.Kind.{Kind}
 use Rattle.warning_book.specs.declared.kind.Kind.TheVariants as kind
 use Rattle.warning_book.specs.declared.warning.Warning.{Warning}
 use Rattle.centre_events.specs.Asking.{asked_cells}
-use Rattle.centre_events.specs.Kept.{IsRegisterOf, AreAreasOf}
-use Rattle.centre_events.specs.Links.{is_up}
 use Rattle.centre_events.specs.Past.{Past}
 use Rattle.centre_events.specs.Pending.{pending}
-use Rattle.centre_events.specs.Refusals.{refusal_number}
-use Rattle.centre_events.specs.Reported.{is_reported, is_in_flight, is_key_reported, is_key_in_flight}
+use Rattle.centre_events.specs.Refusals.{of_plan, refusal_number}
 use Rattle.centre_events.specs.Settings.{Settings}
-use Rattle.centre_events.specs.Verdict.{verdict, is_full, add_bsc_checks, remove_bsc_checks, add_cell_checks, move_cell_checks, remove_cell_checks, add_area_checks, drop_area_checks, put_checks, cut_checks, issue_checks, reuses, update_checks, widen_checks, narrow_checks, stop_checks, forget_checks, retry_checks, link_up_checks, link_checks, send_checks, ask_checks, report_checks}
+use Rattle.centre_events.specs.Verdict.{verdict, is_full, retry_checks, link_up_checks, link_checks, send_checks, ask_checks, report_checks}
 use Rattle.centre_events.specs.Warnings.{book_of}
 use Rattle.centre_events.specs.declared.event.Event.{Event}
 use Rattle.centre_events.specs.declared.event.Event.TheVariants as event
 use Rattle.centre_events.specs.declared.refusal.Limit.TheVariants as limit
 use Rattle.centre_events.specs.declared.refusal.Refusal.{Refusal}
 use Rattle.centre_events.specs.declared.refusal.Refusal.TheVariants as refusal
+use Rattle.centre_past.specs.EditCauses.{edit_causes, own_causes}
 
 -- The order of the refusals.
 
@@ -81,24 +76,6 @@ abbrev pub asks_nothing : Past → ℕ → Option Warning → Option Cell → Bo
 asks_nothing past b None after = true
 asks_nothing past b (Some w) after = asks_none_of (kind_of w) (asks_no_cell past b w.message_id (current_of w) after)
 
--- why an edit is refused
-abbrev pub edit_causes : Past → Edit → List (Bool × Refusal)
-edit_causes past (edit.AddBsc b) = add_bsc_checks past b
-edit_causes past (edit.RemoveBsc b) = remove_bsc_checks past b
-edit_causes past (edit.AddCell c b) = add_cell_checks past c b
-edit_causes past (edit.MoveCell c b) = move_cell_checks past c b
-edit_causes past (edit.RemoveCell c) = remove_cell_checks past c
-edit_causes past (edit.AddArea a) = add_area_checks past a
-edit_causes past (edit.DropArea a) = drop_area_checks past a
-edit_causes past (edit.Put a s) = put_checks past a s
-edit_causes past (edit.Cut a s) = cut_checks past a s
-edit_causes past (edit.Issue notice areas) = issue_checks past notice areas
-edit_causes past (edit.Update n content) = update_checks past n content
-edit_causes past (edit.Widen n a) = widen_checks past n a
-edit_causes past (edit.Narrow n a) = narrow_checks past n a
-edit_causes past (edit.Stop n) = stop_checks past n
-edit_causes past (edit.Forget n) = forget_checks past n
-
 -- why an event is refused where the journal has room: besides its checks, a Send where nothing is pending, and an Ask that
 -- names no cell
 abbrev pub event_causes : Past → Event → List (Bool × Refusal)
@@ -132,53 +109,6 @@ pub record IsLeastCause (settings : Settings) (past : Past) (e : Event) : Type 0
   pub accepted : IsOk (verdict settings past e) ↔ (first_refusal (causes_of settings past e) ≡ None)
 
 -- What the plan refuses.
-
--- the refusal of the centre of the same name
-abbrev pub of_plan : plan.Refusal → Refusal
-of_plan plan_refusal.NoSuchBsc = refusal.NoSuchBsc
-of_plan plan_refusal.BscExists = refusal.BscExists
-of_plan plan_refusal.BscHasCells = refusal.BscHasCells
-of_plan plan_refusal.CellExists = refusal.CellExists
-of_plan plan_refusal.NoSuchCell = refusal.NoSuchCell
-of_plan plan_refusal.SameBsc = refusal.SameBsc
-of_plan plan_refusal.BadName = refusal.BadName
-of_plan plan_refusal.AreaExists = refusal.AreaExists
-of_plan plan_refusal.NoSuchArea = refusal.NoSuchArea
-of_plan plan_refusal.AreaInUse = refusal.AreaInUse
-of_plan plan_refusal.SelectorThere = refusal.SelectorThere
-of_plan plan_refusal.SelectorNotThere = refusal.SelectorNotThere
-of_plan plan_refusal.NoSuchWarning = refusal.NoSuchWarning
-of_plan plan_refusal.NotActive = refusal.NotActive
-of_plan plan_refusal.StillActive = refusal.StillActive
-of_plan plan_refusal.NoAreas = refusal.NoAreas
-of_plan plan_refusal.AreaThere = refusal.AreaThere
-of_plan plan_refusal.AreaNotThere = refusal.AreaNotThere
-of_plan plan_refusal.LastArea = refusal.LastArea
-of_plan plan_refusal.BadPages = refusal.BadPages
-of_plan plan_refusal.BadPeriod = refusal.BadPeriod
-of_plan plan_refusal.WrongKind = refusal.WrongKind
-of_plan (plan_refusal.Limit plan_limit.Bscs) = refusal.Limit limit.Bscs
-of_plan (plan_refusal.Limit plan_limit.Cells) = refusal.Limit limit.Cells
-of_plan (plan_refusal.Limit plan_limit.Areas) = refusal.Limit limit.Areas
-of_plan (plan_refusal.Limit plan_limit.Selectors) = refusal.Limit limit.Selectors
-of_plan (plan_refusal.Limit plan_limit.Warnings) = refusal.Limit limit.Warnings
-of_plan (plan_refusal.Limit plan_limit.WarningAreas) = refusal.Limit limit.WarningAreas
-of_plan (plan_refusal.Limit plan_limit.Ids) = refusal.Limit limit.Ids
-of_plan plan_refusal.Memory = refusal.Memory
-
--- the causes of an edit that the plan can't see: the link of a BSC, and what is on air or in flight of a warning, or of the
--- serial number that an Update gives again
-abbrev pub own_causes : Past → Edit → List (Bool × Refusal)
-own_causes past (edit.RemoveBsc b) = (is_up past b, refusal.LinkIsUp) ∷ []
-own_causes past (edit.Update n content) = (reuses past n (is_key_reported past), refusal.StillReported) ∷ (reuses past n (is_key_in_flight past), refusal.StillInFlight) ∷ []
-own_causes past (edit.Forget n) = (warning_is (book_of past) n (is_reported past), refusal.StillReported) ∷ (warning_is (book_of past) n (is_in_flight past), refusal.StillInFlight) ∷ []
-own_causes past other = []
-
--- the plan is the one that the entries make
-pub record IsPlanOf (past : Past) (st : State) : Type 0 where
-  pub registered : IsRegisterOf past st.register
-  pub selected : AreAreasOf past st.areas
-  pub booked : st.book ≡ book_of past
 
 -- one of the centre's own causes is the first of them that holds, and its refusal comes before that one and is the verdict
 pub record RefusesBefore (settings : Settings) (past : Past) (e : Edit) (r : Refusal) : Type 0 where

@@ -1,9 +1,10 @@
 //! Which refusal an event is answered, as the contracts of calls that do nothing.
 
 ghost use Rattle.std.specs.Prelude.{◌≡◌, true, Err};
-ghost use Rattle.centre_laws.specs.Causes.{CausesAscend, IsLeastCause, IsPlanOf, RefusesAsPlan};
+ghost use Rattle.centre_laws.specs.Causes.{CausesAscend, IsLeastCause, RefusesAsPlan};
 ghost use Rattle.centre_events.specs.Folding.{base_of};
 ghost use Rattle.centre_events.specs.Past.{Past};
+ghost use Rattle.centre_past.specs.EditCauses.{IsPlanOf};
 ghost use Rattle.centre_past.specs.VerdictLaws.{is_of_event};
 ghost use Rattle.centre_events.specs.Settings.{Settings};
 ghost use Rattle.centre_events.specs.Verdict.{verdict};
@@ -33,8 +34,7 @@ pub fn plan_refuses_the_same(plan: &Plan)
     ensures whole { (past : Past) → IsPlanOf past plan.now → RefusesAsPlan past plan.now }
     ensures folded { (p q : Past) → base_of p ≡ base_of q → IsPlanOf p plan.now → RefusesAsPlan q plan.now }
 {
-    plan.register().tell_soundness();
-    plan.areas().tell_soundness();
+    plan.tell_soundness();
 }
 
 /// A verdict is never that the centre is stale, that memory ran out, or that a desk is not as it is known.

@@ -18,22 +18,23 @@ use Rattle.warning_book.specs.Book.{warning_of}
 use Rattle.warning_book.specs.declared.warning.Warning.{Warning}
 use Rattle.centre_events.specs.Facts.{IsLineOf}
 use Rattle.centre_past.specs.Facts.{facts_of, facts}
-use Rattle.centre_past.specs.Flights.{flight_kept}
+use Rattle.centre_past.specs.Links.{AreLinksOf, flight_kept}
 use Rattle.centre_lines.specs.Following.{facts_in, line_before, lines_before, before_past, keys_of, passed_over, WasRead}
 use Rattle.centre_past.specs.Idle.{AsBefore, OnlyReads}
 use Rattle.centre_past.specs.IsKept.{IsKept}
-use Rattle.centre_events.specs.Kept.{AreFlightsOf, is_edit}
+use Rattle.centre_events.specs.Kept.{is_edit}
 use Rattle.centre_past.specs.Legal.{Legal}
 use Rattle.centre_events.specs.Past.{Past, After}
+use Rattle.centre_events.specs.Links.{bsc_of}
 use Rattle.centre_past.specs.Reach.{Reach, IsReach, reach_of, size, spot}
-use Rattle.centre_past.specs.Reaching.{Told, IsFlightOf, bsc_of}
+use Rattle.centre_past.specs.Reaching.{Told, IsFlightOf}
 use Rattle.centre_events.specs.Settings.{Settings}
 use Rattle.centre_events.specs.Verdict.{verdict}
 use Rattle.centre_events.specs.Warnings.{book_of, kind_in}
 use Rattle.centre_events.specs.declared.answer.Answer.{Answer}
 use Rattle.centre_events.specs.declared.event.Event.{Event}
 use Rattle.centre_events.specs.declared.event.Event.TheVariants as event
-use Rattle.centre_events.specs.declared.flight.Flight.{Flight}
+use Rattle.centre_past.specs.declared.link.Link.{Link}
 use Rattle.centre_lines.specs.declared.line_before.LineBefore.{LineBefore}
 use Rattle.centre_events.specs.declared.in_flight.InFlight.{InFlight}
 use Rattle.centre_past.specs.declared.kept.Kept.{Kept}
@@ -45,10 +46,10 @@ use Rattle.centre_lines.proofs.PassedLemmas.{passed_same}
 use Rattle.centre_lines.proofs.TellLemmas.{bears_of, keys_counted, keys_once}
 
 -- what is read of a line is what the past says
-pub facts_kept : (past : Past) (s : Kept) → IsKept past s → (k : LineKey) → facts_in s.register s.areas s.book s.tables k ≡ facts past k
+pub facts_kept : (past : Past) (s : Kept) → IsKept past s → (k : LineKey) → facts_in s.plan.register s.plan.areas s.plan.book s.tables k ≡ facts past k
 facts_kept past s kept k =
     rw (kept.booked)
-    (facts_same past s.register s.areas (down_at s.tables.lines (kind_in (warning_of (book_of past) k.warning)) k.bsc k.cell) k.bsc k.cell (line_at s.tables.lines k.bsc k.cell k.warning) (warning_of (book_of past) k.warning) kept.registered kept.selected (kept.downs (kind_in (warning_of (book_of past) k.warning)) k.bsc k.cell)
+    (facts_same past s.plan.register s.plan.areas (down_at s.tables.lines (kind_in (warning_of (book_of past) k.warning)) k.bsc k.cell) k.bsc k.cell (line_at s.tables.lines k.bsc k.cell k.warning) (warning_of (book_of past) k.warning) kept.registered kept.selected (kept.downs (kind_in (warning_of (book_of past) k.warning)) k.bsc k.cell)
     (is (warning_of (book_of past) k.warning) (kept.tables.lines k)))
   where
     is : (o : Option Warning) → line_at s.tables.lines k.bsc k.cell k.warning ≡ (facts_of past k.bsc k.cell o).line → IsLineOf past k.bsc k.cell (line_at s.tables.lines k.bsc k.cell k.warning) o
@@ -84,7 +85,7 @@ failing_lines passes line was same (p ∷ ps) ns =
     ∙ sym (map_append was (failing passes (map (key_at p) ns)) (failing passes (keys_of ps ns)))
     ∙ ap (map was) (sym (filter-append (λ k. not (passes k)) (map (key_at p) ns) (keys_of ps ns)))
 
-pub before_as : (past : Past) (s : Kept) → IsKept past s → (k : LineKey) → line_before s.register s.areas s.book s.tables k ≡ before_past past k
+pub before_as : (past : Past) (s : Kept) → IsKept past s → (k : LineKey) → line_before s.plan.register s.plan.areas s.plan.book s.tables k ≡ before_past past k
 before_as past s kept k = ap (λ (f : LineFacts). let h : LineBefore = record { key = k; before = f } in h) (facts_kept past s kept k)
 
 -- a line of the reach that does not fail the test passes it
@@ -117,31 +118,34 @@ was_read past e a spots numbers passes earlier reach are same = record {
     step settings desk legal accepted k out false away =
         outside settings past legal (record { desk = desk; event = e; answer = a }) accepted k (sym (bears_of k spots numbers (reach_of past e a) reach) ∙ away)
 
-pub told_kept : (settings : Settings) (past : Past) (s : Kept) → Legal settings past → IsKept past s → Told settings past s.register s.book s.tables.lines
+pub told_kept : (settings : Settings) (past : Past) (s : Kept) → Legal settings past → IsKept past s → Told settings past s.plan.register s.plan.book s.tables.lines
 told_kept settings past s legal kept = record { legal = legal; registered = kept.registered; booked = kept.booked; downs = kept.downs; lines = kept.tables.lines }
 
 -- before an edit that has been accepted
-pub edit_was_reached : (past : Past) (s : Kept) (e : Edit) (a : Answer) (spots : List Spot) (numbers : List ℕ) (earlier : List LineBefore) → IsKept past s → IsReach (record { spots = spots; warnings = numbers }) (reach_of past (event.Edit e) a) → earlier ≡ lines_before e s.register s.areas s.book s.tables spots numbers → WasRead past (event.Edit e) a spots earlier
+pub edit_was_reached : (past : Past) (s : Kept) (e : Edit) (a : Answer) (spots : List Spot) (numbers : List ℕ) (earlier : List LineBefore) → IsKept past s → IsReach (record { spots = spots; warnings = numbers }) (reach_of past (event.Edit e) a) → earlier ≡ lines_before e s.plan.register s.plan.areas s.plan.book s.tables spots numbers → WasRead past (event.Edit e) a spots earlier
 edit_was_reached past s e a spots numbers earlier kept reach are =
     was_read past (event.Edit e) a spots numbers passed earlier reach
-    (are ∙ failing_lines passed (line_before s.register s.areas s.book s.tables) (before_past past) (before_as past s kept) spots numbers)
+    (are ∙ failing_lines passed (line_before s.plan.register s.plan.areas s.plan.book s.tables) (before_past past) (before_as past s kept) spots numbers)
     (λ settings desk legal accepted k h. passed_same settings past legal desk e a accepted s kept k h)
   where
     passed : LineKey → Bool
-    passed k = passed_over e s.areas (warning_of s.book k.warning) k.cell (line_at s.tables.lines k.bsc k.cell k.warning)
+    passed k = passed_over e s.plan.areas (warning_of s.plan.book k.warning) k.cell (line_at s.tables.lines k.bsc k.cell k.warning)
 
 pub reads_as : (t u : Tables) → AsBefore t u → OnlyReads t u
 reads_as t u h = record { lines = h.lines; downs = h.downs; same = h.same; meter = h.meter }
 
 -- what is in flight to the BSC of an event that is no edit
-pub flying_kept : (past : Past) (fs gs : List Flight) (e : Event) (f : Option InFlight) → AreFlightsOf past fs → is_edit e ≡ false → gs ≡ fs → f ≡ flight_kept gs e → IsFlightOf past (bsc_of e) f
-flying_kept past fs gs (event.Edit x) f flying h same is = cc
-flying_kept past fs gs (event.Retry b) f flying h same is = is ∙ ap (λ xs. flight_kept xs (event.Retry b)) same ∙ flying b
-flying_kept past fs gs (event.LinkUp b) f flying h same is = is ∙ ap (λ xs. flight_kept xs (event.LinkUp b)) same ∙ flying b
-flying_kept past fs gs (event.LinkDown b generation) f flying h same is = is ∙ ap (λ xs. flight_kept xs (event.LinkDown b generation)) same ∙ flying b
-flying_kept past fs gs (event.Send b generation) f flying h same is = is ∙ ap (λ xs. flight_kept xs (event.Send b generation)) same ∙ flying b
-flying_kept past fs gs (event.Ask b generation n after) f flying h same is = is ∙ ap (λ xs. flight_kept xs (event.Ask b generation n after)) same ∙ flying b
-flying_kept past fs gs (event.Report b generation message) f flying h same is = is ∙ ap (λ xs. flight_kept xs (event.Report b generation message)) same ∙ flying b
+pub flying_kept : (past : Past) (ls these : List Link) (e : Event) (f : Option InFlight) → AreLinksOf past ls → is_edit e ≡ false → these ≡ ls → f ≡ flight_kept these e → IsFlightOf past (bsc_of e) f
+flying_kept past ls these e f linked h same is = step e h (is ∙ ap (λ xs. flight_kept xs e) same)
+  where
+    step : (e : Event) → is_edit e ≡ false → f ≡ flight_kept ls e → IsFlightOf past (bsc_of e) f
+    step (event.Edit x) other at = cc
+    step (event.Retry b) other at = at ∙ linked.flights b
+    step (event.LinkUp b) other at = at ∙ linked.flights b
+    step (event.LinkDown b generation) other at = at ∙ linked.flights b
+    step (event.Send b generation) other at = at ∙ linked.flights b
+    step (event.Ask b generation n after) other at = at ∙ linked.flights b
+    step (event.Report b generation message) other at = at ∙ linked.flights b
 
 -- as many lines are read as an event bears on, and as many are told of
 pub reads_within : (old new : ℕ) (ps qs : List Spot) (ns ms : List ℕ) (r : Reach) → ps ≡ qs → ns ≡ ms → new ≤ old + 2 * (length ps * length ns) → IsReach (record { spots = qs; warnings = ms }) r → new ≤ old + 2 * size r

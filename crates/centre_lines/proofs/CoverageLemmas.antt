@@ -1,8 +1,10 @@
 -- What was found of the areas of warnings.
-use Rattle.std.proofs.Common.{◌≡◌, ℕ, zero, suc, ◌+◌, ◌*◌, ◌<◌, Bool, drop, true, bytes_eq, nat_eq, List, [], ◌∷◌, ◌++◌, Some, map, filter, length, get_or, sym, ◌∙◌, ap, subst, arith}
+use Rattle.std.proofs.Common.{◌≡◌, ℕ, zero, suc, ◌+◌, ◌*◌, ◌<◌, Bool, drop, true, ◌&&◌, bytes_eq, nat_eq, nat_le, eqb-true, List, [], ◌∷◌, ◌++◌, Some, map, filter, length, get_or, sym, ◌∙◌, ap, subst, arith}
+use Rattle.std.proofs.lemmas.Bool.{and_parts}
 use Rattle.std.proofs.lemmas.Bool.Decides.{nat_tests}
-use Rattle.std.proofs.lemmas.List.{drop_more}
+use Rattle.std.proofs.lemmas.List.{drop_more, length-map}
 use Rattle.std.specs.List.{list_all, list_any}
+use Rattle.std.specs.Prelude.{slice_set, IfSome}
 use Rattle.areas.specs.Areas.{areas_of, covers, selects, selectors_of}
 use Rattle.areas.specs.Laws.{among_areas_of}
 use Rattle.areas.specs.declared.area.Area.{Area}
@@ -17,7 +19,7 @@ use Rattle.warning_book.specs.Book as book
 use Rattle.warning_book.specs.Book.{has_number, warning_of}
 use Rattle.warning_book.specs.Sound.{has_areas}
 use Rattle.warning_book.specs.declared.warning.Warning.{Warning}
-use Rattle.centre_lines.specs.Found.{AreFound, Found, IsFound, IsOf}
+use Rattle.centre_lines.specs.Found.{AreFound, Found, IsOf, head_of}
 use Rattle.centre_past.proofs.LineLemmas.{found_all}
 
 -- one more warning was looked for
@@ -25,27 +27,26 @@ pub found_more : (l : List Area) (st : book.State) (xs : List Found) (x : Found)
 found_more l st [] x found here = (here, tt)
 found_more l st (y ∷ ys) x found here = (found.0, found_more l st ys x found.1 here)
 
--- what was found of a warning in the book
-pub found_of : (l : List Area) (st : book.State) (n : ℕ) (w : Warning) → Some w ≡ warning_of st n → (xs : List Found) → AreFound l st xs → IsFound l w n xs
-found_of l st n w is [] found = tt
-found_of l st n w is (x ∷ xs) found = (here, found_of l st n w is xs found.1)
-  where
-    here : nat_eq n x.warning ≡ true → IsOf l (Some w) x
-    here e =
-        let number : n ≡ x.warning = grind (arith, nat_tests, e) in
-        subst (λ o. IsOf l o x) (ap (warning_of st) (sym number) ∙ sym is) found.0
+-- what was found of one that was looked for by its number
+pub found_there : (l : List Area) (st : book.State) (n : ℕ) (w : Warning) → Some w ≡ warning_of st n → (xs : List Found) (i : ℕ) → AreFound l st xs → i < length xs → ((d : Found) → nat_eq n (get_or xs i d).warning ≡ true) → (d : Found) → IsOf l (Some w) (get_or xs i d)
+found_there l st n w is [] i found there number d = grind (arith, there)
+found_there l st n w is (x ∷ xs) zero found there number d =
+    let number : n ≡ x.warning = grind (arith, nat_tests, number d) in
+    subst (λ o. IsOf l o x) (ap (warning_of st) (sym number) ∙ sym is) found.0
+found_there l st n w is (x ∷ xs) (suc i) found there number d = found_there l st n w is xs i found.1 (grind (arith, there)) number d
 
--- what was found of one of them
-pub found_at : (l : List Area) (w : Warning) (n : ℕ) (xs : List Found) (i : ℕ) (x : Found) → IsFound l w n xs → i < length xs → x ≡ get_or xs i x → nat_eq n x.warning ≡ true → IsOf l (Some w) x
-found_at l w n [] i x found there is h = grind (arith, there)
-found_at l w n (y ∷ ys) zero x found there is h = subst (IsOf l (Some w)) (sym is) (found.0 (ap (λ z. nat_eq n z.warning) (sym is) ∙ h))
-found_at l w n (y ∷ ys) (suc i) x found there is h = found_at l w n ys i x found.1 (grind (arith, there)) is h
+-- another stands in the place of one
+pub found_set : (l : List Area) (st : book.State) (xs : List Found) (i : ℕ) (x : Found) → AreFound l st xs → IsOf l (warning_of st x.warning) x → AreFound l st (slice_set xs i x)
+found_set l st [] i x found here = tt
+found_set l st (y ∷ ys) zero x found here = (here, found.1)
+found_set l st (y ∷ ys) (suc i) x found here = (found.0, found_set l st ys i x found.1 here)
 
--- of the one at a place that was looked for
-pub found_in : (l : List Area) (w : Warning) (n : ℕ) (xs ys : List Found) (i : ℕ) (x : Found) → IsFound l w n xs → ys ≡ xs → i < length ys → ((d : Found) → nat_eq n (get_or ys i d).warning ≡ true) → x ≡ get_or xs i x → IsOf l (Some w) x
-found_in l w n xs ys i x found all there is at =
-    found_at l w n xs i x found (subst (λ (zs : List Found). i < length zs) all there) at
-    (ap (λ (y : Found). nat_eq n y.warning) at ∙ subst (λ (zs : List Found). nat_eq n (get_or zs i x).warning ≡ true) all (is x))
+-- what is read of the warning before an edit may be kept in the place of one that was looked for
+pub found_read : (l : List Area) (st : book.State) (n : ℕ) (w : Warning) → Some w ≡ warning_of st n → (xs : List Found) (i : ℕ) (z x y : Found) → AreFound l st xs → z ≡ get_or xs i z → ((d : Found) → nat_eq n (get_or xs i d).warning ≡ true) → ((d : Found) → IsOf l (Some w) (get_or xs i d)) → x ≡ z → y.warning ≡ x.warning → y.selectors ≡ x.selectors → IfSome y.before (λ h. h ≡ head_of w) → AreFound l st (slice_set xs i y)
+found_read l st n w there xs i z x y found at number place same warning selectors before =
+    let is : IsOf l (Some w) z = subst (IsOf l (Some w)) (sym at) (place z) in
+    let number : n ≡ y.warning = eqb-true n z.warning (ap (λ (f : Found). nat_eq n f.warning) at ∙ number z) ∙ sym (warning ∙ ap (λ (f : Found). f.warning) same) in
+    found_set l st xs i y found (subst (λ o. IsOf l o y) (there ∙ ap (warning_of st) number) (selectors ∙ ap (λ (f : Found). f.selectors) same ∙ is.0, before))
 
 -- whether one of the names is among all areas that cover the cell
 pub any_covering : (l : List Area) (c : Cell) (all names : List (List ℕ)) → all ≡ areas_of l c → list_any (has_area all) names ≡ list_any (λ a. covers l a c) names
@@ -56,16 +57,25 @@ pub areas_in_book : (st : book.State) (n : ℕ) (w : Warning) → Some w ≡ war
 areas_in_book st n w is all = found_all (has_number n) has_areas st.warnings w (sym is) all
 
 -- the names with the digits of what selects the cell are those of the areas that cover it
-pub digits_covering : (l : List Area) (names : List (List ℕ)) (selectors : List (List Selector)) (c : Cell) (n : ℕ) → selectors ≡ map (selectors_of l) names → n ≡ mask (λ s. selects s c) selectors → names_at n names ≡ filter (λ a. covers l a c) names
+digits_covering : (l : List Area) (names : List (List ℕ)) (selectors : List (List Selector)) (c : Cell) (n : ℕ) → selectors ≡ map (selectors_of l) names → n ≡ mask (λ s. selects s c) selectors → names_at n names ≡ filter (λ a. covers l a c) names
 digits_covering l names selectors c n are is =
     ap (λ m. names_at m names) (is ∙ ap (mask (λ s. selects s c)) are ∙ mask_map (λ s. selects s c) (selectors_of l) names) ∙ names_mask (λ a. covers l a c) names
 
 -- and they are digits of the names
-pub digits_are : (names : List (List ℕ)) (selectors : List (List Selector)) (c : Cell) (n : ℕ) → each_once bytes_eq names ≡ true → length selectors ≡ length names → n ≡ mask (λ s. selects s c) selectors → AreDigits n names
+digits_are : (names : List (List ℕ)) (selectors : List (List Selector)) (c : Cell) (n : ℕ) → each_once bytes_eq names ≡ true → length selectors ≡ length names → n ≡ mask (λ s. selects s c) selectors → AreDigits n names
 digits_are names selectors c n once each is = record {
   few = rw (is, sym each) (mask_below (λ s. selects s c) selectors);
   once = once;
 }
+
+-- so of what was found of a warning in the book
+
+pub digits_in : (l : List Area) (w : Warning) (x : Found) (c : Cell) (n : ℕ) → has_areas w ≡ true → IsOf l (Some w) x → n ≡ mask (λ s. selects s c) x.selectors → AreDigits n w.areas
+digits_in l w x c n good is digits =
+    digits_are w.areas x.selectors c n (and_parts (nat_le 1 (length w.areas) && nat_le (length w.areas) 16) (each_once bytes_eq w.areas) good).1 (ap length is.0 ∙ length-map w.areas (selectors_of l)) digits
+
+pub digits_cover : (l : List Area) (w : Warning) (x : Found) (c : Cell) (n : ℕ) → IsOf l (Some w) x → n ≡ mask (λ s. selects s c) x.selectors → names_at n w.areas ≡ filter (λ a. covers l a c) w.areas
+digits_cover l w x c n is digits = digits_covering l w.areas x.selectors c n is.0 digits
 
 -- the digits of what stands from one place on
 pub mask_next : {A : Type 0} (p : A → Bool) (xs : List A) (i k : ℕ) (x : A) → x ≡ get_or xs i x → i < length xs → i + 1 ≡ k → mask p (drop i xs) ≡ one (p x) + 2 * mask p (drop k xs)

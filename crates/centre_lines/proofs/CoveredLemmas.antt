@@ -6,7 +6,9 @@ use Rattle.std.specs.Option.{option_map}
 use Rattle.areas.specs.Areas as kept
 use Rattle.areas.specs.declared.area.Area.{Area}
 use Rattle.cell_register.specs.Register as register
+use Rattle.cell_register.specs.Register.{is_place, place_in}
 use Rattle.common.specs.declared.cell.Cell.{Cell}
+use Rattle.coverage_board.specs.AreaSets.{names_at}
 use Rattle.coverage_board.specs.Parts.{has_areas}
 use Rattle.kept_tables.specs.Tables.{Tables}
 use Rattle.kept_tables.specs.declared.spot.Spot.{Spot}
@@ -28,6 +30,7 @@ use Rattle.centre_events.specs.declared.event.Event.{Event}
 use Rattle.centre_events.specs.declared.event.Event.TheVariants as event
 use Rattle.coverage_plan.specs.declared.edit.Edit.{Edit}
 use Rattle.coverage_plan.specs.declared.edit.Edit.TheVariants as edit
+use Rattle.centre_lines.specs.Found.{facts_before, head_of}
 use Rattle.centre_lines.specs.Following.{AreCovered, Bears, Happens, change_of, covered_change, before_past, leaves_areas, leaves_areas_then, line_now}
 use Rattle.centre_past.specs.State.{AreCovering, covered_facts, facts_from}
 use Rattle.centre_lines.specs.declared.line_before.LineBefore.{LineBefore}
@@ -42,6 +45,14 @@ some_areas (a ∷ rest) = let some : nat_eq (length (a ∷ rest)) 0 ≡ false = 
 
 pub covered_is : (r : register.State) (l : List Area) (down : Bool) (b : ℕ) (c : Cell) (line : Line) (names : List (List ℕ)) (w : Warning) → names ≡ filter (λ a. kept.covers l a c) w.areas → covered_facts r down b c line names (Some w) ≡ facts_from r l down b c line (Some w)
 covered_is r l down b c line names w are = rw (wanted_there r l b w c names are, are) refl
+
+-- so it is where these are the areas with the digits of a warning as it was before an edit
+pub before_is : (r : register.State) (l : List Area) (down : Bool) (b : ℕ) (c : Cell) (line : Line) (here : Bool) (bits : ℕ) (w : Warning) → here ≡ is_place (place_in r c) b → names_at bits w.areas ≡ filter (λ a. kept.covers l a c) w.areas → facts_before line down here bits (Some (head_of w)) ≡ facts_from r l down b c line (Some w)
+before_is r l down b c line here bits w is are =
+    (λ i. facts_before line down (is i) bits (Some (head_of w))) ∙ counted ∙ covered_is r l down b c line (names_at bits w.areas) w are
+  where
+    counted : facts_before line down (is_place (place_in r c) b) bits (Some (head_of w)) ≡ covered_facts r down b c line (names_at bits w.areas) (Some w)
+    counted = rw (some_areas (names_at bits w.areas)) refl
 
 covered_one : (r : register.State) (l : List Area) (down : Bool) (b : ℕ) (c : Cell) (line : Line) (names : List (List ℕ)) (o : Option Warning) → AreCovering l c names o → covered_facts r down b c line names o ≡ facts_from r l down b c line o
 covered_one r l down b c line names None are = refl

@@ -1,52 +1,47 @@
 -- What is kept after an accepted event is what the past with its entry says.
-use Rattle.std.proofs.Common.{◌≡◌, ℕ, ◌+◌, Bool, List, Option, refl, sym, ◌∙◌, ap, subst}
+use Rattle.std.proofs.Common.{◌≡◌, ℕ, ◌+◌, Bool, List, Option, Some, None, refl, sym, ◌∙◌, ap, subst}
+use Rattle.coverage_plan.specs.Plan.{State}
 use Rattle.kept_tables.specs.declared.spot.Spot.{Spot}
-use Rattle.centre_past.specs.Flights.{flights_after, up_before, flight_kept}
-use Rattle.centre_lines.specs.Following.{Finishes, Made, flight_before}
-use Rattle.centre_events.specs.Kept.{AreFlightsOf}
+use Rattle.centre_past.specs.Links.{AreLinksOf, flight_at, flight_kept, links_after}
+use Rattle.centre_lines.specs.Following.{Finishes, Made, flight_before, flight_to}
+use Rattle.centre_events.specs.Kept.{IsRegisterOf, AreAreasOf}
+use Rattle.centre_events.specs.Links.{bsc_of}
 use Rattle.centre_events.specs.Past.{Past, After, position}
-use Rattle.centre_past.specs.State.{AreLinksOf, links_after}
+use Rattle.centre_events.specs.Settings.{Settings}
+use Rattle.centre_past.specs.Legal.{Legal}
 use Rattle.centre_events.specs.declared.answer.Answer.{Answer}
 use Rattle.centre_events.specs.declared.entry.Entry.{Entry}
 use Rattle.centre_events.specs.declared.event.Event.{Event}
-use Rattle.centre_events.specs.declared.event.Event.TheVariants as event
-use Rattle.centre_events.specs.declared.flight.Flight.{Flight}
+use Rattle.centre_past.specs.declared.link.Link.{Link}
 use Rattle.centre_lines.specs.declared.lines_before.LinesBefore.{LinesBefore}
 use Rattle.centre_events.specs.declared.in_flight.InFlight.{InFlight}
 use Rattle.centre_past.specs.declared.kept.Kept.{Kept}
-use Rattle.centre_past.specs.declared.link.Link.{Link}
-use Rattle.centre_lines.proofs.FlightLemmas.{flights_with}
 use Rattle.centre_past.proofs.LinkLemmas.{links_with}
 
-pub flight_is : (past : Past) (fs : List Flight) (e : Event) → AreFlightsOf past fs → flight_kept fs e ≡ flight_before past e
-flight_is past fs (event.Edit x) flying = refl
-flight_is past fs (event.Retry b) flying = flying b
-flight_is past fs (event.LinkUp b) flying = flying b
-flight_is past fs (event.LinkDown b generation) flying = flying b
-flight_is past fs (event.Send b generation) flying = flying b
-flight_is past fs (event.Ask b generation n after) flying = flying b
-flight_is past fs (event.Report b generation message) flying = flying b
+pub flight_is : (past : Past) (ls : List Link) (e : Event) → AreLinksOf past ls → flight_kept ls e ≡ flight_before past e
+flight_is past ls e linked = step (bsc_of e)
+  where
+    step : (o : Option ℕ) → flight_at ls o ≡ flight_to past o
+    step None = refl
+    step (Some b) = linked.flights b
 
--- what is known before the lines are changed
-abbrev pub made_of : (s : Kept) (e : Event) (a : Answer) (place : ℕ) (up : Bool) (spots : List Spot) (earlier : LinesBefore) (f : Option InFlight) (fs : List Flight) → Finishes s e a place up spots earlier → fs ≡ s.flights.items → f ≡ flight_kept fs e → Made s.register s.areas s.book s.tables (record { event = e; answer = a; up = up; flight = f }) spots earlier
-made_of s e a place up spots earlier f fs x these is = record {
+-- what is known before the lines are changed, by the plan that is kept
+abbrev pub made_of : (s : Kept) (p : State) (e : Event) (a : Answer) (place : ℕ) (up : Bool) (spots : List Spot) (earlier : LinesBefore) (f : Option InFlight) (ls : List Link) → Finishes s e a place up spots earlier → p ≡ s.plan → ls ≡ s.links.items → f ≡ flight_kept ls e → Made p.register p.areas p.book s.tables (record { event = e; answer = a; up = up; flight = f }) spots earlier
+made_of s p e a place up spots earlier f ls x planned these is = record {
   settings = x.settings;
   past = x.past;
   desk = x.desk;
   legal = x.legal;
   accepted = x.accepted;
-  registered = x.registered;
-  selected = x.selected;
-  booked = x.booked;
+  registered = subst (λ (q : State). IsRegisterOf (After (record { desk = x.desk; event = e; answer = a }) x.past) q.register) (sym planned) x.registered;
+  selected = subst (λ (q : State). AreAreasOf (After (record { desk = x.desk; event = e; answer = a }) x.past) q.areas) (sym planned) x.selected;
+  booked = ap (λ (q : State). q.book) planned ∙ x.booked;
   up = x.is_up;
-  flight = is ∙ ap (λ gs. flight_kept gs e) these ∙ flight_is x.past s.flights.items e x.flying;
+  flight = is ∙ ap (λ xs. flight_kept xs e) these ∙ flight_is x.past s.links.items e x.linked;
   downs = x.downs;
   tables = x.tables;
   said = x.reached;
 }
 
-pub links_then : (past : Past) (e : Entry) (place : ℕ) (ls now : List Link) → AreLinksOf past ls → place ≡ position past + 1 → now ≡ links_after e.event place ls → AreLinksOf (After e past) now
-links_then past e place ls now linked at is = subst (AreLinksOf (After e past)) (sym (is ∙ ap (λ p. links_after e.event p ls) at)) (links_with e past ls linked)
-
-pub flights_then : (past : Past) (e : Entry) (up : Bool) (fs now : List Flight) → AreFlightsOf past fs → up ≡ up_before past e.event → now ≡ flights_after e.event e.answer up fs → AreFlightsOf (After e past) now
-flights_then past e up fs now flying was is = subst (AreFlightsOf (After e past)) (sym (is ∙ ap (λ u. flights_after e.event e.answer u fs) was)) (flights_with e past fs flying)
+pub links_then : (settings : Settings) (past : Past) (e : Entry) (place : ℕ) (ls now : List Link) → Legal settings (After e past) → AreLinksOf past ls → place ≡ position past + 1 → now ≡ links_after e.event e.answer place ls → AreLinksOf (After e past) now
+links_then settings past e place ls now legal linked at is = subst (AreLinksOf (After e past)) (sym (is ∙ ap (λ p. links_after e.event e.answer p ls) at)) (links_with settings e past ls legal linked)

@@ -35,7 +35,6 @@ use Rattle.centre_past.specs.Legal.{Legal}
 use Rattle.centre_past.specs.Reach.{edit_reach, known_at, size, spot}
 use Rattle.centre_past.specs.Reaching.{TellsLines}
 use Rattle.centre_lines.specs.declared.line_before.LineBefore.{LineBefore}
-use Rattle.centre_lines.specs.declared.line_before.LineBefore.{LineBefore}
 use Rattle.centre_past.specs.declared.kept.Kept.{Kept}
 use Rattle.centre_past.proofs.AnyLemmas.{and_none}
 use Rattle.centre_lines.proofs.BeforeLemmas.{failing, before_as, passed, told_kept, unless}
@@ -48,8 +47,8 @@ use Rattle.centre_lines.proofs.TellLemmas.{any_keys, keys_counted}
 -- a cell of which a line isn't blank is known at its BSC
 kept_known : (settings : Settings) (past : Past) (s : Kept) → Legal settings past → IsKept past s → TellsLines s.tables.lines → (b : ℕ) (c : Cell) (n : ℕ) → is_blank (line_at s.tables.lines b c n) ≡ false → is_known past b c ≡ true
 kept_known settings past s legal kept tells b c n h =
-    sym (known_same settings past s.register s.book s.tables.lines (told_kept settings past s legal kept) tells b c)
-    ∙ or_right (is_place (place_in s.register c) b) (down_for_some s.tables.lines b c || has_line s.tables.lines b c)
+    sym (known_same settings past s.plan.register s.plan.book s.tables.lines (told_kept settings past s legal kept) tells b c)
+    ∙ or_right (is_place (place_in s.plan.register c) b) (down_for_some s.tables.lines b c || has_line s.tables.lines b c)
     (or_right (down_for_some s.tables.lines b c) (has_line s.tables.lines b c) (there (has_line s.tables.lines b c) refl))
   where
     there : (t : Bool) → has_line s.tables.lines b c ≡ t → t ≡ true
@@ -72,12 +71,7 @@ forgotten_few settings past s n legal kept tells keys few =
         ((known_anywhere settings past legal).each (spot b c) ∙ kept_known settings past s legal kept tells b c n h)
         (or_left (nat_eq n n) false ((unsigned_Decides n n).1 refl))
 
--- so no more are told of
-pub forgotten_told : (settings : Settings) (past : Past) (s : Kept) (n told : ℕ) → Legal settings past → IsKept past s → TellsLines s.tables.lines → (keys : List LineKey) → ((ks : List LineKey) → ((b : ℕ) (c : Cell) → is_blank (line_at s.tables.lines b c n) ≡ false → list_any (λ k. is_key k b c n) ks ≡ true) → length keys ≤ length ks) → told ≤ s.tables.lines.meter + length keys → told ≤ s.tables.lines.meter + 2 * size (edit_reach past (edit.Forget n))
-forgotten_told settings past s n told legal kept tells keys few most =
-    omega (arith, most, forgotten_few settings past s n legal kept tells keys few)
-
--- and read
+-- so no more are read
 pub forgotten_read : (settings : Settings) (past : Past) (s : Kept) (n told new : ℕ) → Legal settings past → IsKept past s → TellsLines s.tables.lines → (keys slice : List LineKey) → slice ≡ keys → ((ks : List LineKey) → ((b : ℕ) (c : Cell) → is_blank (line_at s.tables.lines b c n) ≡ false → list_any (λ k. is_key k b c n) ks ≡ true) → length keys ≤ length ks) → told ≤ s.tables.lines.meter + length keys → new ≤ told + length slice → new ≤ s.tables.lines.meter + 2 * size (edit_reach past (edit.Forget n))
 forgotten_read settings past s n told new legal kept tells keys slice same few most read =
     omega (arith, read, most, ap (λ (xs : List LineKey). length xs) same, forgotten_few settings past s n legal kept tells keys few)
@@ -95,18 +89,18 @@ before_apart : (j k : LineKey) → key_before j k ≡ true → key_eq j k ≡ fa
 before_apart j k h = grind (arith, nat_tests)
 
 -- these lines were read before it
-pub forgotten_was_reached : (past : Past) (s : Kept) (n : ℕ) (a : Answer) (keys : List LineKey) (earlier : List LineBefore) → IsKept past s → ((b : ℕ) (c : Cell) (v : ℕ) → list_any (λ k. is_key k b c v) keys ≡ (nat_eq n v && not (is_blank (line_at s.tables.lines b c v)))) → is_ascending key_before keys ≡ true → length keys ≤ size (edit_reach past (edit.Forget n)) → earlier ≡ flat_map (before_unless (edit.Forget n) s.register s.areas s.book s.tables) keys → WasRead past (event.Edit (edit.Forget n)) a [] earlier
+pub forgotten_was_reached : (past : Past) (s : Kept) (n : ℕ) (a : Answer) (keys : List LineKey) (earlier : List LineBefore) → IsKept past s → ((b : ℕ) (c : Cell) (v : ℕ) → list_any (λ k. is_key k b c v) keys ≡ (nat_eq n v && not (is_blank (line_at s.tables.lines b c v)))) → is_ascending key_before keys ≡ true → length keys ≤ size (edit_reach past (edit.Forget n)) → earlier ≡ flat_map (before_unless (edit.Forget n) s.plan.register s.plan.areas s.plan.book s.tables) keys → WasRead past (event.Edit (edit.Forget n)) a [] earlier
 forgotten_was_reached past s n a keys earlier kept which order few are = record {
   away = λ settings legal kind b c out. refl;
   keys = failing passes keys;
-  lines = are ∙ failing_keys passes (line_before s.register s.areas s.book s.tables) (before_past past) (before_as past s kept) keys;
+  lines = are ∙ failing_keys passes (line_before s.plan.register s.plan.areas s.plan.book s.tables) (before_past past) (before_as past s kept) keys;
   once = once_filter key_eq (λ k. not (passes k)) keys (ascending_once key_eq key_before before_apart keys order);
   few = omega (arith, few, length-filter_both (λ k. not (passes k)) passes (λ k. sym (not-not (passes k))) keys);
   rest = λ settings desk legal accepted k out. step settings desk legal accepted k out (list_any (key_eq k) keys) refl;
 }
   where
     passes : LineKey → Bool
-    passes k = passed_over (edit.Forget n) s.areas (warning_of s.book k.warning) k.cell (line_at s.tables.lines k.bsc k.cell k.warning)
+    passes k = passed_over (edit.Forget n) s.plan.areas (warning_of s.plan.book k.warning) k.cell (line_at s.tables.lines k.bsc k.cell k.warning)
 
     Same : ℕ → LineKey → Type 0
     Same desk k = SamePart (facts past k) (facts (After (record { desk = desk; event = event.Edit (edit.Forget n); answer = a }) past) k)

@@ -85,10 +85,10 @@ changes_some h l st t k blanks down changes = (kept (may_change h.event line) re
     booked (Some w) e = number_there k.warning st.warnings w e
 
 -- What is kept of a legal past: each line that isn't blank is of a warning in the book.
-pub in_book : (past : Past) (s : Kept) → IsKept past s → AreInBook s.book s.tables
+pub in_book : (past : Past) (s : Kept) → IsKept past s → AreInBook s.plan.book s.tables
 in_book past s kept b c n h = step (warning_of (book_of past) n) refl
   where
-    step : (o : Option Warning) → warning_of (book_of past) n ≡ o → list_any (nat_eq n) (numbers s.book.warnings) ≡ true
+    step : (o : Option Warning) → warning_of (book_of past) n ≡ o → list_any (nat_eq n) (numbers s.plan.book.warnings) ≡ true
     step None e =
         let blank : line_at s.tables.lines b c n ≡ blank_line = kept.tables.lines (record { bsc = b; cell = c; warning = n }) ∙ ap (λ o. (facts_of past b c o).line) e in
         let no : true ≡ false = sym ((blank_decides (line_at s.tables.lines b c n)).1 blank) ∙ h in

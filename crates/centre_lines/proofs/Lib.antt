@@ -7,7 +7,6 @@ pub mod OutsideWarningLemmas
 pub mod OutsideLemmas
 pub mod NamingLemmas
 pub mod CoverageLemmas
-pub mod FlightLemmas
 pub mod FollowLemmas
 pub mod WasLemmas
 pub mod ThenLemmas
@@ -29,3 +28,5 @@ pub mod NearLemmas
 pub mod CoveredLemmas
 pub mod MakingLemmas
 mod ListedLemmas
+pub mod UnreachedLemmas
+pub mod NewLineLemmas

@@ -70,11 +70,11 @@ forgotten_same settings past legal desk n a taken s kept k blank =
     at (Some w) e false other = same_kept past new k.bsc k.cell w refl refl refl (stays w e other)
 
 -- an idle line, where the edit leaves what each area covers
-left_same : (past : Past) (desk : ℕ) (e : Edit) (a : Answer) (s : Kept) → IsKept past s → (k : LineKey) → (leaves_cover e && is_idle s.areas (warning_of s.book k.warning) k.cell (line_at s.tables.lines k.bsc k.cell k.warning)) ≡ true → SamePart (facts past k) (facts (After (record { desk = desk; event = event.Edit e; answer = a }) past) k)
+left_same : (past : Past) (desk : ℕ) (e : Edit) (a : Answer) (s : Kept) → IsKept past s → (k : LineKey) → (leaves_cover e && is_idle s.plan.areas (warning_of s.plan.book k.warning) k.cell (line_at s.tables.lines k.bsc k.cell k.warning)) ≡ true → SamePart (facts past k) (facts (After (record { desk = desk; event = event.Edit e; answer = a }) past) k)
 left_same past desk e a s kept k h =
-    let parts = and_parts (leaves_cover e) (is_idle s.areas (warning_of s.book k.warning) k.cell (line_at s.tables.lines k.bsc k.cell k.warning)) h in
+    let parts = and_parts (leaves_cover e) (is_idle s.plan.areas (warning_of s.plan.book k.warning) k.cell (line_at s.tables.lines k.bsc k.cell k.warning)) h in
     idle_same past desk e a parts.0 s kept k parts.1
 
-pub passed_same : (settings : Settings) (past : Past) → Legal settings past → (desk : ℕ) (e : Edit) (a : Answer) → verdict settings past (event.Edit e) ≡ Ok a → (s : Kept) → IsKept past s → (k : LineKey) → passed_over e s.areas (warning_of s.book k.warning) k.cell (line_at s.tables.lines k.bsc k.cell k.warning) ≡ true → SamePart (facts past k) (facts (After (record { desk = desk; event = event.Edit e; answer = a }) past) k)
+pub passed_same : (settings : Settings) (past : Past) → Legal settings past → (desk : ℕ) (e : Edit) (a : Answer) → verdict settings past (event.Edit e) ≡ Ok a → (s : Kept) → IsKept past s → (k : LineKey) → passed_over e s.plan.areas (warning_of s.plan.book k.warning) k.cell (line_at s.tables.lines k.bsc k.cell k.warning) ≡ true → SamePart (facts past k) (facts (After (record { desk = desk; event = event.Edit e; answer = a }) past) k)
 passed_same settings past legal desk (edit.Forget n) a accepted s kept k h = forgotten_same settings past legal desk n a (verdict_answered settings past (event.Edit (edit.Forget n)) a accepted) s kept k h
 passed_same settings past legal desk e a accepted s kept k h = left_same past desk e a s kept k h

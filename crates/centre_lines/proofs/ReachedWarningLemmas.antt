@@ -12,7 +12,8 @@ use Rattle.warning_book.specs.declared.warning.Warning.{Warning}
 use Rattle.centre_events.specs.InFlight.{in_flight}
 use Rattle.centre_events.specs.Past.{Past}
 use Rattle.centre_past.specs.Reach.{no_reach, all_numbers, flight_reach, report_reach, edit_reach, reach_of}
-use Rattle.centre_past.specs.Reaching.{IsFlightOf, bsc_of}
+use Rattle.centre_events.specs.Links.{bsc_of}
+use Rattle.centre_past.specs.Reaching.{IsFlightOf}
 use Rattle.centre_events.specs.Verdict.{edit_answered, issue_checks, issue_answer}
 use Rattle.centre_events.specs.Warnings.{book_of}
 use Rattle.centre_events.specs.declared.answer.Answer.{Answer}

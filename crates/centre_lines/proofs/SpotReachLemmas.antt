@@ -35,14 +35,14 @@ use Rattle.centre_events.specs.Effects.{is_about}
 use Rattle.warning_book.specs.declared.kind.Kind.TheVariants as kind
 use Rattle.centre_events.specs.InFlight.{in_flight, cells_of}
 use Rattle.centre_events.specs.Known.{is_known, is_named}
-use Rattle.centre_events.specs.Links.{bscs, is_bsc}
+use Rattle.centre_events.specs.Links.{bscs, is_bsc, bsc_of}
 use Rattle.centre_past.specs.Legal.{Legal}
 use Rattle.centre_events.specs.Outcomes.{listed_cells, failed_ids}
 use Rattle.centre_events.specs.Past.{Past}
 use Rattle.centre_events.specs.Places.{place, cells}
 use Rattle.centre_past.specs.Reach.{Reach, IsReach, spot, at_bsc, placed_where, known_at, numbers_where, flight_reach, edit_reach, report_reach, reach_of, wraps}
 use Rattle.coverage_plan.specs.Reach.{is_named_by}
-use Rattle.centre_past.specs.Reaching.{AreSpots, AreThose, Told, TellsLines, EditTold, IsFlightOf, bsc_of, is_placed, is_known_among, is_known_at}
+use Rattle.centre_past.specs.Reaching.{AreSpots, AreThose, Told, TellsLines, EditTold, IsFlightOf, is_placed, is_known_among, is_known_at}
 use Rattle.centre_events.specs.Reported.{names_warning}
 use Rattle.centre_events.specs.Settings.{Settings}
 use Rattle.centre_events.specs.Verdict.{answered, move_cell_checks, report_checks, report_answer}

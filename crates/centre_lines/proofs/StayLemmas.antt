@@ -185,9 +185,9 @@ stays_same {p = p} {h = h} x k line was at is g = step (keeps_down mark was) ref
     step false e i = whole (idle (warning_of p.book k.warning) refl i)
 
 -- an edit that leaves what each area covers leaves an idle line idle
-pub idle_same : (past : Past) (desk : ℕ) (e : Edit) (a : Answer) → leaves_cover e ≡ true → (s : Kept) → IsKept past s → (k : LineKey) → is_idle s.areas (warning_of s.book k.warning) k.cell (line_at s.tables.lines k.bsc k.cell k.warning) ≡ true → SamePart (facts past k) (facts (After (record { desk = desk; event = event.Edit e; answer = a }) past) k)
+pub idle_same : (past : Past) (desk : ℕ) (e : Edit) (a : Answer) → leaves_cover e ≡ true → (s : Kept) → IsKept past s → (k : LineKey) → is_idle s.plan.areas (warning_of s.plan.book k.warning) k.cell (line_at s.tables.lines k.bsc k.cell k.warning) ≡ true → SamePart (facts past k) (facts (After (record { desk = desk; event = event.Edit e; answer = a }) past) k)
 idle_same past desk e a h s kept k idle =
-    of e h (warning_of (book_of past) k.warning) refl (ap (λ (st : book.State). is_idle s.areas (warning_of st k.warning) k.cell line) (sym kept.booked) ∙ idle)
+    of e h (warning_of (book_of past) k.warning) refl (ap (λ (st : book.State). is_idle s.plan.areas (warning_of st k.warning) k.cell line) (sym kept.booked) ∙ idle)
   where
     line : Line
     line = line_at s.tables.lines k.bsc k.cell k.warning
@@ -195,14 +195,14 @@ idle_same past desk e a h s kept k idle =
     new : Edit → Past
     new x = After (record { desk = desk; event = event.Edit x; answer = a }) past
 
-    bare : (w : Warning) → is_idle s.areas (Some w) k.cell line ≡ true → is_covered past w.areas k.cell ≡ false
-    bare w i = uncovered past s.areas kept.selected k.cell w (and_parts (is_blank line) (not (list_any (λ a. areas.covers s.areas a k.cell) w.areas)) i).1
+    bare : (w : Warning) → is_idle s.plan.areas (Some w) k.cell line ≡ true → is_covered past w.areas k.cell ≡ false
+    bare w i = uncovered past s.plan.areas kept.selected k.cell w (and_parts (is_blank line) (not (list_any (λ a. areas.covers s.plan.areas a k.cell) w.areas)) i).1
 
-    blank : (w : Warning) → warning_of (book_of past) k.warning ≡ Some w → is_idle s.areas (Some w) k.cell line ≡ true → line_of past k.bsc k.cell w ≡ blank_line
+    blank : (w : Warning) → warning_of (book_of past) k.warning ≡ Some w → is_idle s.plan.areas (Some w) k.cell line ≡ true → line_of past k.bsc k.cell w ≡ blank_line
     blank w found i =
-        sym (line_kept past s kept k w found) ∙ (blank_decides line).0 (and_parts (is_blank line) (not (list_any (λ a. areas.covers s.areas a k.cell) w.areas)) i).0
+        sym (line_kept past s kept k w found) ∙ (blank_decides line).0 (and_parts (is_blank line) (not (list_any (λ a. areas.covers s.plan.areas a k.cell) w.areas)) i).0
 
-    of : (x : Edit) → leaves_cover x ≡ true → (o : Option Warning) → warning_of (book_of past) k.warning ≡ o → is_idle s.areas o k.cell line ≡ true → SamePart (facts_of past k.bsc k.cell o) (facts (new x) k)
+    of : (x : Edit) → leaves_cover x ≡ true → (o : Option Warning) → warning_of (book_of past) k.warning ≡ o → is_idle s.plan.areas o k.cell line ≡ true → SamePart (facts_of past k.bsc k.cell o) (facts (new x) k)
     of (edit.AddCell d b) g None found i = subst (λ o. SamePart (facts_of past k.bsc k.cell None) (facts_of (new (edit.AddCell d b)) k.bsc k.cell o)) (sym found) (same_none past (new (edit.AddCell d b)) k.bsc k.cell)
     of (edit.AddCell d b) g (Some w) found i =
         subst (λ o. SamePart (facts_of past k.bsc k.cell (Some w)) (facts_of (new (edit.AddCell d b)) k.bsc k.cell o)) (sym found)

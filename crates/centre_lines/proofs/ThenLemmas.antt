@@ -20,7 +20,7 @@ use Rattle.centre_events.specs.Down.{is_down}
 use Rattle.centre_events.specs.Effects.{state_after, report_effect, flight_effect}
 use Rattle.centre_events.specs.Facts.{IsLineOf}
 use Rattle.centre_past.specs.Facts.{facts}
-use Rattle.centre_past.specs.Flights.{up_before}
+use Rattle.centre_past.specs.Links.{up_before}
 use Rattle.centre_lines.specs.Following.{Happens, line_now, facts_then, flight_before, entry_of}
 use Rattle.centre_events.specs.InFlight.{in_flight}
 use Rattle.centre_events.specs.Kept.{IsRegisterOf, AreAreasOf}

@@ -21,22 +21,23 @@ use Rattle.mirror.specs.Table.{Table, line_at, down_at}
 use Rattle.mirror.specs.declared.line.Line.{Line}
 use Rattle.mirror.specs.declared.line_key.LineKey.{LineKey}
 use Rattle.warning_book.specs.Book as book
-use Rattle.warning_book.specs.Book.{is_so, kind_of, names_one_of, warning_of}
+use Rattle.warning_book.specs.Book.{is_so, kind_of, names, names_one_of, warning_of}
 use Rattle.warning_book.specs.declared.kind.Kind.{Kind}
 use Rattle.warning_book.specs.declared.warning.Warning.{Warning}
 use Rattle.centre_events.specs.Counts.{count_mark}
 use Rattle.centre_events.specs.Down.{down_mark, is_down}
 use Rattle.centre_past.specs.Facts.{facts}
-use Rattle.centre_past.specs.Flights.{up_before}
+use Rattle.centre_past.specs.Links.{AreLinksOf, up_before}
 use Rattle.centre_events.specs.InFlight.{in_flight}
+use Rattle.centre_events.specs.Links.{bsc_of}
 use Rattle.centre_past.specs.IsKept.{IsKept}
-use Rattle.centre_events.specs.Kept.{IsRegisterOf, AreAreasOf, AreFlightsOf, is_edit}
+use Rattle.centre_events.specs.Kept.{IsRegisterOf, AreAreasOf, is_edit}
 use Rattle.centre_past.specs.Legal.{Legal}
 use Rattle.centre_events.specs.Past.{Past, After, position, past_of}
 use Rattle.centre_events.specs.Presence.{effect}
 use Rattle.centre_past.specs.Reach.{IsReach, reach_of, size}
 use Rattle.centre_events.specs.Settings.{Settings}
-use Rattle.centre_past.specs.State.{AreCovering, AreLinksOf, covered_facts, facts_from}
+use Rattle.centre_past.specs.State.{AreCovering, covered_facts, facts_from}
 use Rattle.centre_events.specs.Stepping.{stepped}
 use Rattle.centre_events.specs.Warnings.{book_of, kind_in, serials}
 use Rattle.centre_events.specs.Verdict.{verdict}
@@ -75,6 +76,21 @@ leaves_cover (edit.AddCell c b) = true
 leaves_cover (edit.MoveCell c b) = true
 leaves_cover (edit.RemoveCell c) = true
 leaves_cover other = false
+
+-- the edit puts a warning into the book
+abbrev pub is_issue : Edit → Bool
+is_issue (edit.Issue notice areas) = true
+is_issue other = false
+
+-- the edit bears on no line, and brings no cell down or up: it changes what an area covers that no warning names, or a cell
+-- while there is no warning
+abbrev pub bears_on_none : book.State → Edit → Bool
+bears_on_none st (edit.Put a s) = not (list_any (names a) st.warnings)
+bears_on_none st (edit.Cut a s) = not (list_any (names a) st.warnings)
+bears_on_none st (edit.AddCell c b) = nat_eq (length st.warnings) 0
+bears_on_none st (edit.MoveCell c b) = nat_eq (length st.warnings) 0
+bears_on_none st (edit.RemoveCell c) = nat_eq (length st.warnings) 0
+bears_on_none st other = false
 
 -- something is kept of the warning's line in the cell at the BSC, or one of its areas covers the cell
 abbrev pub is_near : List Area → book.State → Table → ℕ → Cell → ℕ → Bool
@@ -212,15 +228,14 @@ down_after e a spots k b c was = if list_any (spot_eq (record { bsc = b; cell = 
 abbrev pub LeavesDown : Past → Event → Answer → List Spot → Type 0
 LeavesDown past e a spots = (k : Kind) (b : ℕ) (c : Cell) → list_any (spot_eq (record { bsc = b; cell = c })) spots ≡ false → is_down past k b c ≡ unwrap_or (down_mark k b c e a) (is_down past k b c)
 
--- what is in flight to the BSC of an event that is no edit
+-- what is in flight to the BSC, if there is one
+abbrev pub flight_to : Past → Option ℕ → Option InFlight
+flight_to past None = None
+flight_to past (Some b) = in_flight past b
+
+-- what is in flight to the BSC of an event that is no edit, before it
 abbrev pub flight_before : Past → Event → Option InFlight
-flight_before past (event.Report b generation message) = in_flight past b
-flight_before past (event.LinkUp b) = in_flight past b
-flight_before past (event.LinkDown b generation) = in_flight past b
-flight_before past (event.Retry b) = in_flight past b
-flight_before past (event.Send b generation) = in_flight past b
-flight_before past (event.Ask b generation n after) = in_flight past b
-flight_before past (event.Edit e) = None
+flight_before past e = flight_to past (bsc_of e)
 
 -- the entry of what happens
 abbrev pub entry_of : ℕ → Happens → Entry
@@ -309,18 +324,17 @@ MadeEdit r l st t h spots earlier = IsMade r l st t h (λ past. WasRead past h.e
 abbrev pub MadeOther : register.State → List Area → book.State → Tables → Happens → List Spot → List ℕ → Type 0
 MadeOther r l st t h spots ns = IsMade r l st t h (λ past. IsUnread past h.event h.answer spots ns)
 
--- what is known of what is kept where an accepted event has been made, but for the lines, the links and the flights
+-- what is known of what is kept where an accepted event has been made, but for the lines and the links
 pub record Finishes (s : Kept) (e : Event) (a : Answer) (place : ℕ) (up : Bool) (spots : List Spot) (earlier : LinesBefore) : Type 0 where
   pub settings : Settings
   pub past : Past
   pub desk : ℕ
   pub legal : Legal settings past
   pub accepted : verdict settings past e ≡ Ok a
-  pub registered : IsRegisterOf (After (record { desk = desk; event = e; answer = a }) past) s.register
-  pub selected : AreAreasOf (After (record { desk = desk; event = e; answer = a }) past) s.areas
-  pub booked : s.book ≡ book_of (After (record { desk = desk; event = e; answer = a }) past)
+  pub registered : IsRegisterOf (After (record { desk = desk; event = e; answer = a }) past) s.plan.register
+  pub selected : AreAreasOf (After (record { desk = desk; event = e; answer = a }) past) s.plan.areas
+  pub booked : s.plan.book ≡ book_of (After (record { desk = desk; event = e; answer = a }) past)
   pub linked : AreLinksOf past s.links.items
-  pub flying : AreFlightsOf past s.flights.items
   pub is_up : up ≡ up_before past e
   pub is_place : place ≡ position past + 1
   pub downs : (k : Kind) (b : ℕ) (c : Cell) → down_at s.tables.lines k b c ≡ is_down past k b c

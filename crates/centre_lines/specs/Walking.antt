@@ -17,7 +17,7 @@ use Rattle.centre_events.specs.Settings.{Settings}
 use Rattle.centre_events.specs.Verdict.{verdict}
 use Rattle.centre_events.specs.Warnings.{book_of}
 use Rattle.centre_past.specs.Facts.{facts}
-use Rattle.centre_past.specs.Flights.{up_before}
+use Rattle.centre_past.specs.Links.{up_before}
 use Rattle.centre_past.specs.Legal.{Legal}
 use Rattle.centre_lines.specs.Following.{Happens, entry_of, flight_before}
 

@@ -18,7 +18,7 @@ ghost use Rattle.mirror.specs.Table.{down_at};
 ghost use Rattle.mirror.specs.declared.line_key.LineKey.{LineKey};
 ghost use Rattle.warning_book.specs.Book as book;
 ghost use Rattle.centre_events.specs.Down.{is_down};
-ghost use Rattle.centre_past.specs.Flights.{up_before};
+ghost use Rattle.centre_past.specs.Links.{up_before};
 ghost use Rattle.centre_lines.specs.Following.{SameLines, Happens, Bears, change_of, down_after, entry_of, facts_then, flight_before, keys_of};
 ghost use Rattle.centre_events.specs.Kept.{IsRegisterOf, AreAreasOf};
 ghost use Rattle.centre_past.specs.Facts.{facts};

@@ -16,7 +16,7 @@ ghost use Rattle.warning_book.specs.declared.kind.Kind.{Kind};
 
 use crate::downs::mark_downs;
 use crate::facts::{covered_facts, facts_from, kind_in};
-use crate::found_plan::{FoundPlan, find};
+use crate::found_plan::FoundPlan;
 use crate::line_before::LineBefore;
 use crate::line_in_cell::LineInCell;
 use crate::lines_before::LinesBefore;
@@ -62,12 +62,12 @@ pub(crate) fn line_now(
 }
 
 /// What is read of a line after what happens.
-fn facts_then(
+fn facts_then<'b>(
     h: &Happening<'_, '_>,
-    plan: &mut FoundPlan<'_>,
+    plan: &mut FoundPlan<'b>,
     tables: &KeptTables,
     earlier: &LineBefore,
-) -> Result<LineFacts, AllocError>
+) -> Result<LineFacts<'b>, AllocError>
     ensures facts { IfOk result (λ f. f ≡ facts_then (happens h.now) plan.old.register plan.old.areas plan.old.book tables.now earlier.now.key earlier.now.before.line) }
     ensures same { plan.new ≡ plan.old }
 {
@@ -76,7 +76,7 @@ fn facts_then(
     let n = warning;
     let book = plan.book();
     let warning = book.find(n);
-    let mut line = earlier.before.line;
+    let mut line = earlier.before.line();
     line_now(h, book.as_slice(), &spot, warning, &mut line);
     let down = tables.is_down(kind_in(warning), bsc, cell);
     let there = LineInCell { spot, line, down };
@@ -84,31 +84,26 @@ fn facts_then(
 }
 
 /// What is read of a line after an edit that leaves the areas that cover its cell.
-fn covered_then(
+fn covered_then<'b>(
     h: &Happening<'_, '_>,
-    plan: &mut FoundPlan<'_>,
+    plan: &mut FoundPlan<'b>,
     tables: &KeptTables,
-    earlier: &LineBefore,
-) -> Result<LineFacts, AllocError>
-    ensures facts { IfOk result (λ f. f ≡ (covered_change (happens h.now) plan.old.register plan.old.book tables.now earlier.now).after) }
+    earlier: &'b LineBefore,
+) -> LineFacts<'b>
+    ensures facts { result ≡ (covered_change (happens h.now) plan.old.register plan.old.book tables.now earlier.now).after }
     ensures same { plan.new ≡ plan.old }
 {
     let LineKey { bsc, cell, warning } = earlier.key;
     let spot = Spot { bsc, cell };
-    let n = warning;
     let book = plan.book();
-    let warning = book.find(n);
-    let mut line = earlier.before.line;
+    let warning = book.find(warning);
+    let mut line = earlier.before.line();
     line_now(h, book.as_slice(), &spot, warning, &mut line);
     let down = tables.is_down(kind_in(warning), bsc, cell);
     let there = LineInCell { spot, line, down };
     match warning {
-        Some(w) => {
-            let covering = earlier.before.areas.shared()?;
-            let versions = plan.serials_of(n, w)?;
-            covered_facts(plan, &there, w, covering, versions)
-        }
-        None => Ok(LineFacts::none(down, plan.is_here(&spot))),
+        Some(w) => covered_facts(plan, &there, w, earlier.before.areas()),
+        None => LineFacts::none(down, plan.is_here(&spot)),
     }
 }
 
@@ -131,26 +126,25 @@ fn leaves_areas(h: &Happening<'_, '_>) -> bool
 }
 
 /// What is read of a line after an edit, from how it stood.
-fn then_of(
+fn then_of<'b>(
     h: &Happening<'_, '_>,
-    plan: &mut FoundPlan<'_>,
+    plan: &mut FoundPlan<'b>,
     tables: &KeptTables,
-    earlier: &LineBefore,
-) -> Result<LineFacts, AllocError>
+    earlier: &'b LineBefore,
+) -> Result<LineFacts<'b>, AllocError>
     requires covered { leaves_areas_then h.now.event.now ≡ true → AreCovering plan.old.areas earlier.now.key.cell earlier.now.before.areas (warning_of plan.old.book earlier.now.key.warning) }
     ensures facts { IfOk result (λ f. f ≡ facts_then (happens h.now) plan.old.register plan.old.areas plan.old.book tables.now earlier.now.key earlier.now.before.line) }
     ensures same { plan.new ≡ plan.old }
 {
     if leaves_areas(h) {
-        let facts = covered_then(h, plan, tables, earlier)?;
-        return Ok(facts);
+        return Ok(covered_then(h, plan, tables, earlier));
     }
     facts_then(h, plan, tables, earlier)
 }
 
 /// Whether the line itself is known to stay: what happens leaves every line as it is, and the warning is in the book, since
 /// the line has versions.
-fn line_stays(h: &Happening<'_, '_>, after: &LineFacts) -> bool
+fn line_stays(h: &Happening<'_, '_>, after: &LineFacts<'_>) -> bool
     ensures { result ≡ (leaves_lines h.now.event.now && not (nat_eq (length after.now.versions) 0)) }
 {
     leaves_lines(h) && !after.versions.as_slice().is_empty()
@@ -158,18 +152,18 @@ fn line_stays(h: &Happening<'_, '_>, after: &LineFacts) -> bool
 
 /// Whether the areas that cover the cell are known to stay: what happens leaves them, and the warning is in the book, since
 /// the line has versions.
-fn areas_stay(h: &Happening<'_, '_>, after: &LineFacts) -> bool
+fn areas_stay(h: &Happening<'_, '_>, after: &LineFacts<'_>) -> bool
     ensures { result ≡ (leaves_areas_then h.now.event.now && not (nat_eq (length after.now.versions) 0)) }
 {
     leaves_areas(h) && !after.versions.as_slice().is_empty()
 }
 
 /// Changes a line by an edit, from how it stood. It is the next of the lines that the edit changes.
-fn change_line(
+fn change_line<'b>(
     h: &Happening<'_, '_>,
-    plan: &mut FoundPlan<'_>,
+    plan: &mut FoundPlan<'b>,
     tables: &mut KeptTables,
-    earlier: &LineBefore,
+    earlier: &'b LineBefore,
 ) -> Result<(), AllocError>
     requires covered { leaves_areas_then h.now.event.now ≡ true → AreCovering plan.old.areas earlier.now.key.cell earlier.now.before.areas (warning_of plan.old.book earlier.now.key.warning) }
     requires next { IsNext tables.old (change_of (happens h.now) plan.old.register plan.old.areas plan.old.book tables.old earlier.now) }
@@ -184,15 +178,16 @@ fn change_line(
         line: line_stays(h, &after),
         areas: areas_stay(h, &after),
     };
-    tables.make(&earlier.key, &earlier.before, &after, stays)
+    let before = earlier.before.facts();
+    tables.make(&earlier.key, &before, &after, stays)
 }
 
 /// Changes the lines by an edit, from how they stood.
-fn change_lines(
+fn change_lines<'b>(
     h: &Happening<'_, '_>,
-    plan: &mut FoundPlan<'_>,
+    plan: &mut FoundPlan<'b>,
     tables: &mut KeptTables,
-    earlier: &[LineBefore],
+    earlier: &'b [LineBefore],
 ) -> Result<(), AllocError>
     requires covered { leaves_areas_then h.now.event.now ≡ true → AreCovered plan.old.areas plan.old.book earlier.now }
     requires begins { Begins tables.old (map (change_of (happens h.now) plan.old.register plan.old.areas plan.old.book tables.old) earlier.now) }
@@ -209,38 +204,42 @@ fn change_lines(
 
 /// Changes the lines by an edit that has been made, from how they stood, once the cells are brought down or up that it brings
 /// so.
-fn follow_edit(
+fn follow_edit<'b>(
+    alloc: Global,
     h: &Happening<'_, '_>,
-    plan: &mut FoundPlan<'_>,
+    parts: PlanParts<'b>,
     tables: &mut KeptTables,
     spots: &[Spot],
-    earlier: &[LineBefore],
+    earlier: &'b [LineBefore],
 ) -> Result<(), AllocError>
-    requires made { MadeEdit plan.old.register plan.old.areas plan.old.book tables.old (happens h.now) spots.now earlier.now }
-    ensures tables { OnOk result ((x : MadeEdit plan.old.register plan.old.areas plan.old.book tables.old (happens h.now) spots.now earlier.now) → Consistent tables.new (facts (After (entry_of x.desk (happens h.now)) x.past))) }
-    ensures downs { OnOk result ((x : MadeEdit plan.old.register plan.old.areas plan.old.book tables.old (happens h.now) spots.now earlier.now) → (k : Kind) (b : ℕ) (c : Cell) → down_at tables.new.lines k b c ≡ is_down (After (entry_of x.desk (happens h.now)) x.past) k b c) }
+    requires made { MadeEdit parts.register.now parts.areas.now parts.book.now tables.old (happens h.now) spots.now earlier.now }
+    ensures tables { OnOk result ((x : MadeEdit parts.entry.register.now parts.entry.areas.now parts.entry.book.now tables.old (happens h.now) spots.now earlier.now) → Consistent tables.new (facts (After (entry_of x.desk (happens h.now)) x.past))) }
+    ensures downs { OnOk result ((x : MadeEdit parts.entry.register.now parts.entry.areas.now parts.entry.book.now tables.old (happens h.now) spots.now earlier.now) → (k : Kind) (b : ℕ) (c : Cell) → down_at tables.new.lines k b c ≡ is_down (After (entry_of x.desk (happens h.now)) x.past) k b c) }
     ensures meter { tables.new.lines.meter ≤ tables.old.lines.meter + length earlier.now }
     ensures least { tables.old.lines.meter ≤ tables.new.lines.meter }
 {
     mark_downs(tables, spots, h.event, h.answer)?;
-    change_lines(h, plan, tables, earlier)
+    let mut plan = FoundPlan::new(alloc, &parts);
+    change_lines(h, &mut plan, tables, earlier)
 }
 
 /// Changes the lines by another event, each as it is read, and then brings the cells down or up that the event brings so.
 fn follow_other(
+    alloc: Global,
     h: &Happening<'_, '_>,
-    plan: &mut FoundPlan<'_>,
+    parts: PlanParts<'_>,
     tables: &mut KeptTables,
     spots: &[Spot],
     warnings: &[WarningId],
 ) -> Result<(), AllocError>
-    requires made { MadeOther plan.old.register plan.old.areas plan.old.book tables.old (happens h.now) spots.now warnings.now }
-    ensures tables { OnOk result ((x : MadeOther plan.old.register plan.old.areas plan.old.book tables.old (happens h.now) spots.now warnings.now) → Consistent tables.new (facts (After (entry_of x.desk (happens h.now)) x.past))) }
-    ensures downs { OnOk result ((x : MadeOther plan.old.register plan.old.areas plan.old.book tables.old (happens h.now) spots.now warnings.now) → (k : Kind) (b : ℕ) (c : Cell) → down_at tables.new.lines k b c ≡ is_down (After (entry_of x.desk (happens h.now)) x.past) k b c) }
-    ensures meter { tables.new.lines.meter ≤ tables.old.lines.meter + 3 * (length spots.now * length (bearing h.now.event.now h.now.answer.now plan.old.book warnings.now)) }
+    requires made { MadeOther parts.register.now parts.areas.now parts.book.now tables.old (happens h.now) spots.now warnings.now }
+    ensures tables { OnOk result ((x : MadeOther parts.entry.register.now parts.entry.areas.now parts.entry.book.now tables.old (happens h.now) spots.now warnings.now) → Consistent tables.new (facts (After (entry_of x.desk (happens h.now)) x.past))) }
+    ensures downs { OnOk result ((x : MadeOther parts.entry.register.now parts.entry.areas.now parts.entry.book.now tables.old (happens h.now) spots.now warnings.now) → (k : Kind) (b : ℕ) (c : Cell) → down_at tables.new.lines k b c ≡ is_down (After (entry_of x.desk (happens h.now)) x.past) k b c) }
+    ensures meter { tables.new.lines.meter ≤ tables.old.lines.meter + 3 * (length spots.now * length (bearing h.now.event.now h.now.answer.now parts.entry.book.now warnings.now)) }
     ensures least { tables.old.lines.meter ≤ tables.new.lines.meter }
 {
-    walk(h, plan, tables, spots, warnings)?;
+    let mut plan = FoundPlan::new(alloc, &parts);
+    walk(h, &mut plan, tables, spots, warnings)?;
     mark_downs(tables, spots, h.event, h.answer)
 }
 
@@ -259,19 +258,20 @@ pub fn bear(
     ensures meter { tables.new.lines.meter ≤ tables.old.lines.meter + most_accesses h.now.event.now h.now.answer.now parts.now.book.now reached.spots.items reached.lines }
     ensures least { tables.old.lines.meter ≤ tables.new.lines.meter }
 {
-    let Reached {
-        spots,
-        warnings,
-        lines,
-    } = reached;
+    let Reached { spots, lines } = reached;
     match lines {
         LinesBefore::Read(earlier) => {
-            let mut plan = find(alloc, parts, &warnings, spots.len())?;
-            follow_edit(h, &mut plan, tables, spots.as_slice(), earlier.as_slice())
+            follow_edit(
+                alloc,
+                h,
+                *parts,
+                tables,
+                spots.as_slice(),
+                earlier.as_slice(),
+            )
         }
         LinesBefore::Unread(named) => {
-            let mut plan = FoundPlan::new(alloc, parts);
-            follow_other(h, &mut plan, tables, spots.as_slice(), named.as_slice())
+            follow_other(alloc, h, *parts, tables, spots.as_slice(), named.as_slice())
         }
     }
 }

@@ -1,14 +1,18 @@
 //! The plan, with what is read once of the warnings on whose lines an event bears.
 
-ghost use Rattle.std.specs.Prelude.{◌≡◌, ◌<◌, nat_eq, true, length, IfOk, IfSome, OnOk};
+ghost use Rattle.std.specs.Prelude.{◌≡◌, ◌<◌, Some, nat_eq, true, length, IfOk, IfSome};
 ghost use Rattle.std.specs.List.{slice_index_or};
-ghost use Rattle.centre_lines.specs.Found.{AreFound, Found, plan_from};
+ghost use Rattle.centre_lines.specs.Found.{AreFound, Found, IsOf, plan_from};
+ghost use Rattle.warning_book.specs.Book.{warning_of};
 
-use crate::found_warning::{FoundWarning, own_serials_of};
+use crate::facts_before::FactsBefore;
+use crate::found_warning::FoundWarning;
+use crate::line_in_cell::LineInCell;
 use crate::plan_parts::PlanParts;
 use areas::Areas;
 use common::Cell;
-use kept_tables::{CoveringAreas, Serials, Spot};
+use coverage_board::AreaSet;
+use kept_tables::Spot;
 use std::alloc::{AllocError, Global};
 use std::marker::Model;
 use warning_book::{Book, Warning, WarningId};
@@ -66,54 +70,38 @@ impl<'a> Model for FoundPlan<'a> {
     ghost invariant = { λ p. AreFound p.parts.areas.now p.parts.book.now p.found.items };
 }
 
-/// Puts what is read once of the warning of that number last, if the book has it.
-#[tactic(auto, using(crate::proofs::CoverageLemmas::found_more))]
-fn find_one<'a>(
+/// Where what was read once of the warning stands, which has that number. It is read and put last where it isn't there.
+#[inline(always)]
+fn place_in<'a>(
     found: &mut Vec<FoundWarning<'a>>,
     alloc: Global,
     parts: &PlanParts<'a>,
-    number: WarningId,
-) -> Result<(), AllocError>
-    requires { AreFound parts.now.areas.now parts.now.book.now found.old.items }
-    ensures { OnOk result (AreFound parts.now.areas.now parts.now.book.now found.new.items) }
+    last: usize,
+    n: WarningId,
+    w: &Warning,
+) -> Result<usize, AllocError>
+    requires there { Some w.now ≡ warning_of parts.now.book.now n }
+    requires found { AreFound parts.now.areas.now parts.now.book.now found.old.items }
+    ensures found { AreFound parts.now.areas.now parts.now.book.now found.new.items }
+    ensures bound { IfOk result (λ i. i < length found.new.items) }
+    ensures number { IfOk result (λ i. (d : Found) → nat_eq n (slice_index_or found.new.items i d).warning ≡ true) }
+    ensures place { IfOk result (λ i. (d : Found) → IsOf parts.now.areas.now (Some w.now) (slice_index_or found.new.items i d)) }
 {
+    if let Some(place) = place_of(found, last, n) {
+        return Ok(place);
+    }
     parts.book.tell_soundness();
-    if let Some(warning) = parts.book.find(number) {
-        found.push(FoundWarning::of(alloc, parts.areas, number, warning)?)?;
-    }
-    Ok(())
-}
-
-/// The plan, with what is read once of the warnings, where they are no more than the cells on which the event bears.
-pub(crate) fn find<'a>(
-    alloc: Global,
-    parts: &PlanParts<'a>,
-    warnings: &[WarningId],
-    cells: usize,
-) -> Result<FoundPlan<'a>, AllocError>
-    ensures { IfOk result (λ p. p ≡ plan_from parts.now) }
-{
-    let mut found = Vec::new(alloc);
-    if warnings.len() <= cells {
-        for warning in warnings {
-            find_one(&mut found, alloc, parts, *warning)?;
-        }
-    }
-    Ok(FoundPlan {
-        alloc,
-        parts: *parts,
-        found,
-        last: 0,
-        near: 0,
-    })
+    let place = found.len();
+    found.push(FoundWarning::of(alloc, parts.areas, n, w)?)?;
+    Ok(place)
 }
 
 impl<'a> FoundPlan<'a> {
     ghost use Rattle.std.specs.Prelude.{◌≡◌, Some, filter, IfOk};
     ghost use Rattle.areas.specs.Areas.{covers};
     ghost use Rattle.cell_register.specs.Register.{place_in, is_place};
-    ghost use Rattle.centre_events.specs.Warnings.{serials};
     ghost use Rattle.centre_lines.specs.Found.{plan_from};
+    ghost use Rattle.centre_past.specs.State.{facts_from};
     ghost use Rattle.warning_book.specs.Book.{warning_of};
 
     /// The plan, where nothing was read of any warning.
@@ -146,43 +134,46 @@ impl<'a> FoundPlan<'a> {
         self.parts.book
     }
 
-    /// The serial numbers of the versions of the warning, which has that number.
+    /// Those of the areas of the warning, which has that number, that cover the cell. What the areas cover is kept for its other
+    /// lines.
     #[inline(always)]
-    pub(crate) fn serials_of(&mut self, n: WarningId, w: &Warning) -> Result<Serials, AllocError>
-        requires { Some w.now ≡ warning_of self.old.book n }
-        ensures serials { IfOk result (λ s. s ≡ serials w.now) }
-        ensures same { self.new ≡ self.old }
-    {
-        let Some(place) = place_of(&self.found, self.last, n) else {
-            return own_serials_of(self.alloc, w.versions());
-        };
-        self.last = place;
-        self.found[place].serials()
-    }
-
-    /// Those of the areas of the warning, which has that number, that cover the cell. What is read of the warning is kept for its
-    /// other lines.
-    #[inline(always)]
-    pub(crate) fn covering(
+    pub(crate) fn covering<'b>(
         &mut self,
         n: WarningId,
-        w: &Warning,
+        w: &'b Warning,
         c: Cell,
-    ) -> Result<CoveringAreas, AllocError>
+    ) -> Result<AreaSet<'b>, AllocError>
         requires { Some w.now ≡ warning_of self.old.book n }
         ensures covering { IfOk result (λ names. names ≡ filter (λ a. covers self.old.areas a c) w.now.areas) }
         ensures same { self.new ≡ self.old }
     {
         self.parts.book.tell_soundness();
-        let Some(place) = place_of(&self.found, self.last, n) else {
-            let mut found = FoundWarning::of(self.alloc, self.parts.areas, n, w)?;
-            let covering = found.covering(c)?;
-            self.last = self.found.len();
-            self.found.push(found)?;
-            return Ok(covering);
-        };
+        let place = place_in(&mut self.found, self.alloc, &self.parts, self.last, n, w)?;
         self.last = place;
-        self.found[place].covering(c)
+        let digits = self.found[place].digits(c);
+        Ok(AreaSet::of(w.areas(), digits))
+    }
+
+    /// What is read of a line of the warning, which has that number, before an edit that may change it.
+    #[inline(always)]
+    pub(crate) fn facts_before(
+        &mut self,
+        there: &LineInCell,
+        n: WarningId,
+        w: &Warning,
+    ) -> Result<FactsBefore, AllocError>
+        requires { Some w.now ≡ warning_of self.old.book n }
+        ensures facts { IfOk result (λ f. f ≡ facts_from self.old.register self.old.areas there.now.down there.now.spot.bsc there.now.spot.cell there.now.line (Some w.now)) }
+        ensures same { self.new ≡ self.old }
+    {
+        let here = self.is_here(&there.spot);
+        self.parts.book.tell_soundness();
+        let place = place_in(&mut self.found, self.alloc, &self.parts, self.last, n, w)?;
+        self.last = place;
+        let found = &mut self.found[place];
+        let digits = found.digits(there.spot.cell);
+        let before = found.before(self.alloc, w)?;
+        Ok(FactsBefore::of(there, here, digits, before))
     }
 
     /// Whether the cell is registered at the BSC.

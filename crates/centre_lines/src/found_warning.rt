@@ -1,65 +1,38 @@
 //! What is read once of a warning, for all its lines on which an event bears.
 
-ghost use Rattle.std.specs.Prelude.{◌≡◌, map, IfOk};
+ghost use Rattle.std.specs.Prelude.{◌≡◌, IfOk};
 
 use crate::coverages::Coverages;
+use crate::warning_before::WarningBefore;
 use areas::Areas;
-use common::{Cell, Name};
-use kept_tables::{AreaNames, CoveringAreas, Serials};
-use smallvec::SmallVec;
+use common::Cell;
+use coverage_board::AreaBits;
 use std::alloc::{AllocError, Global};
 use std::marker::Model;
-use warning_book::{Version, Warning, WarningId};
+use warning_book::{Warning, WarningId};
 
-/// The serial numbers of the versions, in memory of their own.
-pub(crate) fn own_serials_of(alloc: Global, versions: &[Version]) -> Result<Serials, AllocError>
-    ensures { IfOk result (λ s. s ≡ map (λ v. v.serial) versions.now) }
-{
-    let mut numbers = SmallVec::new(alloc);
-    for version in versions {
-        numbers.push(version.serial)?;
-    }
-    Serials::from_vec(alloc, numbers)
-}
-
-/// The names, in memory of their own.
-fn own_names(alloc: Global, names: &[Name]) -> Result<AreaNames, AllocError>
-    ensures { IfOk result (λ n. n ≡ names.now) }
-{
-    let mut out = Vec::with_capacity(alloc, names.len())?;
-    for name in names {
-        out.push(name.copied(alloc)?)?;
-    }
-    AreaNames::from_vec(alloc, out)
-}
-
-/// The serial numbers of a warning's versions, its areas, and what each of these covers. Lines of it share the lists.
+/// What each of a warning's areas covers, and what is read of the warning before an edit, once that is asked for.
 #[derive(Drop)]
 pub(crate) struct FoundWarning<'a> {
     warning: WarningId,
-    serials: Serials,
-    names: AreaNames,
     coverages: Coverages<'a>,
+    before: Option<WarningBefore>,
 }
 
 impl<'a> Model for FoundWarning<'a> {
-    ghost use Rattle.std.specs.Prelude.{◌≡◌, true, bytes_eq, length};
-    ghost use Rattle.common.specs.Order.{each_once};
     ghost use Rattle.centre_lines.specs.Found.{Found};
 
     ghost Value = { Found };
 
-    ghost view = { λ t. record { warning = t.warning; serials = t.serials; names = t.names; selectors = t.coverages } };
-
-    ghost invariant = { λ t. record { once : each_once bytes_eq t.names ≡ true; each : length t.coverages ≡ length t.names } };
+    ghost view = { λ t. record { warning = t.warning; selectors = t.coverages; before = t.before } };
 }
 
 impl FoundWarning<'_> {
-    ghost use Rattle.std.specs.Prelude.{◌≡◌, List, Some, true, filter, map, nat_eq, IfOk};
-    ghost use Rattle.areas.specs.Areas.{covers, selectors_of};
-    ghost use Rattle.areas.specs.declared.area.Area.{Area};
+    ghost use Rattle.std.specs.Prelude.{◌≡◌, Some, true, nat_eq, IfOk, IfSome};
+    ghost use Rattle.areas.specs.Areas.{selects};
+    ghost use Rattle.coverage_board.specs.AreaSets.{mask};
     ghost use Rattle.warning_book.specs.Sound.{has_areas};
-    ghost use Rattle.centre_lines.specs.Found.{IsOf};
+    ghost use Rattle.centre_lines.specs.Found.{IsOf, head_of};
 
     /// What the warning of that number has.
     pub(crate) fn of<'a>(
@@ -74,9 +47,8 @@ impl FoundWarning<'_> {
     {
         Ok(FoundWarning {
             warning: number,
-            serials: own_serials_of(alloc, warning.versions())?,
-            names: own_names(alloc, warning.areas())?,
             coverages: Coverages::of(alloc, areas, warning.areas())?,
+            before: None,
         })
     }
 
@@ -87,21 +59,34 @@ impl FoundWarning<'_> {
         number == self.warning
     }
 
-    /// The serial numbers of the versions.
-    pub(crate) fn serials(&self) -> Result<Serials, AllocError>
-        ensures { IfOk result (λ s. s ≡ self.now.serials) }
-    {
-        self.serials.shared()
-    }
-
-    /// Those of the areas that cover the cell.
+    /// The digits of those of the areas that cover the cell.
     #[inline(always)]
-    pub(crate) fn covering(&mut self, c: Cell) -> Result<CoveringAreas, AllocError>
-        ensures covering { (l : List Area) → self.old.selectors ≡ map (selectors_of l) self.old.names → IfOk result (λ n. n ≡ filter (λ a. covers l a c) self.old.names) }
+    pub(crate) fn digits(&mut self, c: Cell) -> AreaBits
+        ensures digits { result.bits ≡ mask (λ s. selects s c) self.old.selectors }
         ensures same { self.new ≡ self.old }
     {
-        let names = self.names.shared()?;
-        let digits = self.coverages.digits(c);
-        Ok(CoveringAreas::of(names, digits))
+        self.coverages.digits(c)
+    }
+
+    /// What is read of the warning, which it is of. It is kept for its other lines.
+    #[inline(always)]
+    pub(crate) fn before(
+        &mut self,
+        alloc: Global,
+        warning: &Warning,
+    ) -> Result<WarningBefore, AllocError>
+        requires { IfSome self.old.before (λ h. h ≡ head_of warning.now) }
+        ensures before { IfOk result (λ h. h ≡ head_of warning.now) }
+        ensures kept { IfSome self.new.before (λ h. h ≡ head_of warning.now) }
+        ensures warning { self.new.warning ≡ self.old.warning }
+        ensures selectors { self.new.selectors ≡ self.old.selectors }
+    {
+        if let Some(before) = &self.before {
+            return before.shared();
+        }
+        let before = WarningBefore::of(alloc, warning)?;
+        let shared = before.shared()?;
+        self.before = Some(before);
+        Ok(shared)
     }
 }

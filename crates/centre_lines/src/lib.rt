@@ -1,7 +1,7 @@
 //! The lines on which an event bears: which they are, how they stand before it, and how they follow it.
 //!
 //! Begin with `reach`, then `reached`, which reads the lines of an edit before it, and `following`, which changes the lines.
-//! `following`, `line_before`, `lines_before`, `plan_parts` and `reached` are public only for `centre_core`, where the events are
+//! `facts_before`, `following`, `line_before`, `lines_before`, `plan_parts` and `reached` are public only for `centre_core`, where the events are
 //! entered.
 #![tactic(auto)]
 
@@ -9,6 +9,7 @@ mod before_lemmas;
 mod coverages;
 mod downs;
 mod facts;
+pub mod facts_before;
 mod follow_lemmas;
 pub mod following;
 mod found_plan;
@@ -25,3 +26,4 @@ mod reached_warnings;
 mod reading;
 mod spots;
 mod walking;
+mod warning_before;

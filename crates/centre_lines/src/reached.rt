@@ -1,7 +1,7 @@
 //! On which lines an event bears; those of an edit are read here, before it.
 
 ghost use Rattle.std.specs.Prelude.{◌≡◌, ◌≤◌, ◌+◌, ◌*◌, false, Ok, IfOk};
-ghost use Rattle.centre_lines.specs.Following.{WasReached};
+ghost use Rattle.centre_lines.specs.Following.{WasReached, bears_on_none};
 ghost use Rattle.centre_past.specs.Reaching.{is_forget};
 ghost use Rattle.centre_past.specs.IsKept.{IsKept, OnlyReadsIn};
 ghost use Rattle.centre_events.specs.Kept.{is_edit};
@@ -14,29 +14,26 @@ ghost use Rattle.centre_events.specs.declared.answer.Answer as answer_spec;
 ghost use Rattle.centre_events.specs.declared.event.Event.TheVariants as event;
 ghost use Rattle.coverage_plan.specs.declared.edit.Edit.TheVariants as edit_spec;
 
-use crate::found_plan::find;
+use crate::found_plan::FoundPlan;
 use crate::lines_before::LinesBefore;
 use crate::plan_parts::PlanParts;
 use crate::reach::{reach_of_edit, reach_of_other};
-use crate::reached_warnings::of_edit;
 use crate::reading::{read_all, read_keys};
 use centre_events::answer::Answer;
 use centre_events::event::Event;
 use centre_events::stepping::Happening;
-use centre_past::flights::flight_of;
 use centre_past::kept::Kept;
-use centre_past::links::up_before;
+use centre_past::links::{flight_of, up_before};
 use centre_past::telling::tell_lines;
 use coverage_plan::Edit;
 use kept_tables::Spot;
 use std::alloc::{AllocError, Global};
-use warning_book::WarningId;
+use warning_book::{Book, WarningId};
 
-/// At which cells an event bears, the warnings on whose lines an edit does, and what is known of the lines before the event.
+/// At which cells an event bears, and what is known of the lines before the event.
 #[derive(Drop)]
 pub struct Reached {
     pub spots: Vec<Spot>,
-    pub warnings: Vec<WarningId>,
     pub lines: LinesBefore,
 }
 
@@ -48,13 +45,9 @@ fn reached_at_spots(alloc: Global, kept: &mut Kept, edit: &Edit) -> Result<Reach
     ensures reads { OnlyReadsIn kept.old kept.new }
     ensures meter { (settings : Settings) (past : Past) (a : answer_spec.Answer) → Legal settings past → IsKept past kept.old → edit_answered past edit.now ≡ Ok a → kept.new.tables.lines.meter ≤ kept.old.tables.lines.meter + 2 * size (edit_reach past edit.now) }
 {
-    let parts = PlanParts {
-        register: &kept.register,
-        areas: &kept.areas,
-        book: &kept.book,
-    };
+    let parts = PlanParts::of(&kept.plan);
     let reach = reach_of_edit(alloc, &parts, kept.tables.lines(), edit)?;
-    let mut plan = find(alloc, &parts, &reach.warnings, reach.spots.len())?;
+    let mut plan = FoundPlan::new(alloc, &parts);
     let earlier = read_all(
         &mut plan,
         &mut kept.tables,
@@ -64,7 +57,6 @@ fn reached_at_spots(alloc: Global, kept: &mut Kept, edit: &Edit) -> Result<Reach
     )?;
     Ok(Reached {
         spots: reach.spots,
-        warnings: reach.warnings,
         lines: LinesBefore::Read(earlier),
     })
 }
@@ -83,19 +75,26 @@ fn reached_by_forget(
 {
     tell_lines(kept.tables.lines());
     let keys = kept.tables.places_of(n)?;
-    let warnings = of_edit(alloc, &kept.book, edit)?;
-    let parts = PlanParts {
-        register: &kept.register,
-        areas: &kept.areas,
-        book: &kept.book,
-    };
-    let mut plan = find(alloc, &parts, &warnings, keys.len())?;
+    let parts = PlanParts::of(&kept.plan);
+    let mut plan = FoundPlan::new(alloc, &parts);
     let earlier = read_keys(&mut plan, &mut kept.tables, keys.as_slice(), edit)?;
     Ok(Reached {
         spots: Vec::new(alloc),
-        warnings,
         lines: LinesBefore::Read(earlier),
     })
+}
+
+/// Whether the edit bears on no line: it changes what an area covers that no warning names, or a cell while there is no warning.
+fn bears_on_none(book: &Book, edit: &Edit) -> bool
+    ensures { result ≡ bears_on_none book.now edit.now }
+{
+    match edit {
+        Edit::Put(a, _) | Edit::Cut(a, _) => !book.names_area(a),
+        Edit::AddCell(_, _) | Edit::MoveCell(_, _) | Edit::RemoveCell(_) => {
+            book.as_slice().is_empty()
+        }
+        _ => false,
+    }
 }
 
 /// The lines that an accepted edit may change, as they stand before it: those on which it bears, but for those that have no
@@ -105,6 +104,12 @@ pub fn reached_by_edit(alloc: Global, kept: &mut Kept, edit: &Edit) -> Result<Re
     ensures reads { OnlyReadsIn kept.old kept.new }
     ensures meter { (settings : Settings) (past : Past) (a : answer_spec.Answer) → Legal settings past → IsKept past kept.old → edit_answered past edit.now ≡ Ok a → kept.new.tables.lines.meter ≤ kept.old.tables.lines.meter + 2 * size (edit_reach past edit.now) }
 {
+    if bears_on_none(kept.plan.book(), edit) {
+        return Ok(Reached {
+            spots: Vec::new(alloc),
+            lines: LinesBefore::Read(Vec::new(alloc)),
+        });
+    }
     let reached = match edit {
         Edit::Forget(n) => reached_by_forget(alloc, kept, edit, *n)?,
         _ => reached_at_spots(alloc, kept, edit)?,
@@ -126,17 +131,12 @@ pub fn reached_by_other<'x>(
         event,
         answer,
         up: up_before(kept.links.as_slice(), event),
-        flight: flight_of(kept.flights.as_slice(), event),
+        flight: flight_of(kept.links.as_slice(), event),
     };
-    let parts = PlanParts {
-        register: &kept.register,
-        areas: &kept.areas,
-        book: &kept.book,
-    };
+    let parts = PlanParts::of(&kept.plan);
     let reach = reach_of_other(alloc, &parts, kept.tables.lines(), &h)?;
     Ok(Reached {
         spots: reach.spots,
-        warnings: Vec::new(alloc),
         lines: LinesBefore::Unread(reach.warnings),
     })
 }

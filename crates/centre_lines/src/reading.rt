@@ -1,18 +1,21 @@
 //! The lines on which an edit bears, read before it.
 
-ghost use Rattle.std.specs.Prelude.{◌≡◌, ◌≤◌, ◌+◌, ◌*◌, ◌++◌, true, length, ltb, nat_eq, IfOk, OnOk};
-ghost use Rattle.std.specs.List.{filter, flat_map, list_any};
+ghost use Rattle.std.specs.Prelude.{◌≡◌, ℕ, ◌<◌, ◌≤◌, ◌+◌, ◌-◌, ◌*◌, ◌++◌, ◌∷◌, [], None, true, length, ltb, nat_eq, IfOk, IfSome, OnOk};
+ghost use Rattle.std.specs.List.{filter, flat_map, list_any, slice_index_or};
 ghost use Rattle.std.specs.Option.{option_copied};
 ghost use Rattle.areas.specs.Areas.{areas_of};
 ghost use Rattle.common.specs.Order.{is_ascending};
 ghost use Rattle.kept_tables.specs.Tables.{Tables};
 ghost use Rattle.kept_tables.specs.View.{key_at};
 ghost use Rattle.centre_past.specs.Idle.{AsBefore};
-ghost use Rattle.centre_lines.specs.Following.{LinesAreOf, before_unless, before_at, lines_before, is_idle, is_near, leaves_cover, passed_over};
+ghost use Rattle.centre_lines.specs.Following.{LinesAreOf, before_unless, before_at, lines_before, is_idle, is_near, leaves_cover, passed_over, is_issue};
 ghost use Rattle.centre_past.specs.Reaching.{is_forget};
 ghost use Rattle.centre_lines.specs.Found.{IsKnown};
+ghost use Rattle.coverage_plan.specs.declared.edit.Edit as edit_spec;
+ghost use Rattle.warning_book.specs.Book.{warning_of};
 
-use crate::facts::{facts_from, is_covered, kind_in};
+use crate::facts::{facts_before, is_covered, kind_in};
+use crate::facts_before::FactsBefore;
 use crate::found_plan::FoundPlan;
 use crate::known_spot::KnownSpot;
 use crate::line_before::LineBefore;
@@ -21,16 +24,16 @@ use areas::Areas;
 use centre_past::keys::key_at;
 use common::Names;
 use coverage_plan::Edit;
-use kept_tables::{KeptTables, LineFacts, Spot};
+use kept_tables::{KeptTables, Spot};
 use mirror::{Line, LineKey};
 use std::alloc::AllocError;
-use warning_book::{Warning, WarningId};
+use warning_book::{Kind, Warning, WarningId};
 
 /// Room for as many lines as most cells have.
 const FEW: usize = 32;
 
 /// A line as it stood.
-fn before_of(spot: &Spot, n: WarningId, before: LineFacts) -> LineBefore
+fn before_of(spot: &Spot, n: WarningId, before: FactsBefore) -> LineBefore
     ensures { result ≡ record { key = key_at spot.now n; before = before } }
 {
     LineBefore {
@@ -55,12 +58,59 @@ pub(crate) fn is_idle(
     }
 }
 
-/// Whether the warning is one of those, which stand in ascending order.
-fn is_listed(n: WarningId, warnings: &[WarningId]) -> bool
+/// Whether the warning stands at that place.
+#[inline(always)]
+fn stands_at(n: WarningId, warnings: &[WarningId], place: usize) -> bool
+    ensures { result ≡ true → list_any (nat_eq n) warnings.now ≡ true }
+{
+    match warnings.get(place) {
+        Some(other) => *other == n,
+        None => false,
+    }
+}
+
+/// Whether the one at that place is greater, or none is there and that place is the end.
+#[inline(always)]
+fn ends_before(n: WarningId, warnings: &[WarningId], place: usize) -> bool
+    ensures bound { result ≡ true → place ≤ length warnings.now }
+    ensures greater { result ≡ true → place < length warnings.now → (d : ℕ) → ltb n (slice_index_or warnings.now place d) ≡ true }
+{
+    match warnings.get(place) {
+        Some(other) => n.number() < other.number(),
+        None => place == warnings.len(),
+    }
+}
+
+/// Whether the one before that place is less, or none is before it.
+#[inline(always)]
+fn begins_behind(n: WarningId, warnings: &[WarningId], place: usize) -> bool
+    ensures { result ≡ true → 1 ≤ place → place - 1 < length warnings.now → (d : ℕ) → ltb (slice_index_or warnings.now (place - 1) d) n ≡ true }
+{
+    if place == 0 {
+        return true;
+    }
+    match warnings.get(place - 1) {
+        Some(other) => other.number() < n.number(),
+        None => false,
+    }
+}
+
+/// Whether the warning is one of those, which stand in ascending order. It mostly stands at that place, which is moved behind
+/// it then, or would stand just before it.
+#[inline(always)]
+fn is_listed(n: WarningId, warnings: &[WarningId], near: &mut usize) -> bool
     requires { is_ascending ltb warnings.now ≡ true }
     ensures { result ≡ list_any (nat_eq n) warnings.now }
 {
+    if stands_at(n, warnings, *near) {
+        *near = near.wrapping_add(1);
+        return true;
+    }
+    if ends_before(n, warnings, *near) && begins_behind(n, warnings, *near) {
+        return false;
+    }
     let place = warnings.partition_point(|other| other.number() < n.number());
+    *near = place;
     place < warnings.len() && n == warnings[place]
 }
 
@@ -127,7 +177,7 @@ fn read_before(
         line,
         down,
     };
-    let before = facts_from(plan, &there, n, warning)?;
+    let before = facts_before(plan, &there, n, warning)?;
     out.push(before_of(&at.spot, n, before))?;
     Ok(())
 }
@@ -180,8 +230,12 @@ pub(crate) fn near(
     let covering = areas.areas_of(spot.cell)?;
     let named = book.naming_one_of(covering.as_slice())?;
     let mut near = Vec::with_capacity(plan.alloc(), warnings.len())?;
+    let mut at_kept = 0;
+    let mut at_named = 0;
     for warning in warnings {
-        if is_listed(*warning, kept.as_slice()) || is_listed(*warning, named.as_slice()) {
+        let is_kept = is_listed(*warning, kept.as_slice(), &mut at_kept);
+        let is_named = is_listed(*warning, named.as_slice(), &mut at_named);
+        if is_kept || is_named {
             near.push(*warning)?;
         }
     }
@@ -238,6 +292,38 @@ fn read_there(
     read_at(out, plan, tables, &at, warnings, edit)
 }
 
+/// The warning of an Issue, which isn't in the book before it, if these are that one.
+fn new_warning(plan: &FoundPlan<'_>, warnings: &[WarningId], edit: &Edit) -> Option<WarningId>
+    ensures only { IfSome result (λ n. warnings.now ≡ n ∷ []) }
+    ensures new { IfSome result (λ n. warning_of plan.now.book n ≡ None) }
+    ensures issue { IfSome result (λ n. is_issue edit.now ≡ true) }
+{
+    match (edit, warnings) {
+        (Edit::Issue(_, _), [n]) if plan.book().find(*n).is_none() => Some(*n),
+        _ => None,
+    }
+}
+
+/// How the lines at the spots stand of a warning that isn't in the book. None of them has to be read.
+fn read_new(
+    plan: &mut FoundPlan<'_>,
+    tables: &KeptTables,
+    spots: &[Spot],
+    n: WarningId,
+) -> Result<Vec<LineBefore>, AllocError>
+    requires new { warning_of plan.old.book n ≡ None }
+    ensures earlier { (e : edit_spec.Edit) → is_issue e ≡ true → (t : Tables) → AsBefore t tables.now → IfOk result (λ v. v.items ≡ lines_before e plan.old.register plan.old.areas plan.old.book t spots.now (n ∷ [])) }
+    ensures same { plan.new ≡ plan.old }
+{
+    let mut out = Vec::with_capacity(plan.alloc(), spots.len())?;
+    for spot in spots {
+        let down = tables.is_down(Kind::Cbs, spot.bsc, spot.cell);
+        let here = plan.is_here(spot);
+        out.push(before_of(spot, n, FactsBefore::none(down, here)))?;
+    }
+    Ok(out)
+}
+
 /// Reads the lines of each of the warnings at each of the spots, and keeps how those stand that are not passed over.
 pub(crate) fn read_all(
     plan: &mut FoundPlan<'_>,
@@ -250,6 +336,9 @@ pub(crate) fn read_all(
     ensures kept { (t : Tables) → AsBefore t tables.old → AsBefore t tables.new }
     ensures meter { (leaves_cover edit.now ≡ true → LinesAreOf warnings.now tables.old) → tables.new.lines.meter ≤ tables.old.lines.meter + 2 * (length spots.now * length warnings.now) }
 {
+    if let Some(n) = new_warning(plan, warnings, edit) {
+        return read_new(plan, tables, spots, n);
+    }
     let mut out = Vec::with_capacity(plan.alloc(), spots.len().max(FEW))?;
     for spot in spots {
         read_there(&mut out, plan, tables, spot, warnings, edit)?;

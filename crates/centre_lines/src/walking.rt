@@ -97,8 +97,14 @@ fn keeps_part(
 }
 
 /// The step from how a line of a warning of the kind stood to the line after what happens.
-fn step_to(h: &Happening<'_, '_>, kind: Kind, key: LineKey, before: LineFacts, line: Line) -> Step
-    ensures { result ≡ step_to (happens h.now) kind key before line }
+fn step_to<'b>(
+    h: &Happening<'_, '_>,
+    kind: Kind,
+    key: LineKey,
+    before: LineFacts<'b>,
+    line: Line,
+) -> Step<'b>
+    ensures { result ≡ step_to (happens h.now) kind key before.entry line }
 {
     let down = down_mark(kind, key.bsc, key.cell, h.event, h.answer).unwrap_or(before.down);
     Step {

@@ -1,34 +1,28 @@
--- What the areas tell, count and refuse is what the entries say.
-use Rattle.std.proofs.Common.{◌≡◌, ◌⊎◌, subst, ℕ, Bool, true, false, ◌&&◌, ◌||◌, not, List, [], ◌∷◌, Some, None, Ok, Err, unwrap_or, length, map, refl, sym, ◌∙◌, ap, cond}
+-- What the areas tell and count is what the entries say.
+use Rattle.std.proofs.Common.{◌≡◌, ℕ, Bool, true, false, ◌&&◌, ◌||◌, not, List, [], ◌∷◌, Some, None, Ok, unwrap_or, length, map, refl, sym, ◌∙◌, ap, cond}
 use Rattle.std.proofs.lemmas.Bool.{not-false, false_from_ne_true}
 use Rattle.std.proofs.lemmas.List.{length-map}
 use Rattle.std.proofs.lemmas.Slice.Eq.{bytes_eq-Decides}
 use Rattle.std.specs.List.{list_any}
-use Rattle.std.specs.Prelude.{bytes_eq, IsOk}
-use Rattle.areas.specs.Areas.{has_area, selectors_of, named_lt, with_area, without_area, with_selector, without_selector}
+use Rattle.std.specs.Prelude.{bytes_eq}
+use Rattle.areas.specs.Areas.{has_area, selectors_of, named_lt}
 use Rattle.areas.specs.Areas as kept_areas
-use Rattle.common.specs.Checks.{first_refusal}
 use Rattle.common.specs.OnceLaws.{any_turned, ascending_once}
 use Rattle.common.specs.Order.{is_ascending, each_once}
 use Rattle.common.specs.OrderLaws.{ascending_map}
-use Rattle.areas.specs.Checks as checked
 use Rattle.areas.specs.Equality.{selector_decides}
 use Rattle.areas.specs.Laws.{has_area_same, has_area_with_area, has_area_without_area, has_area_with_selector, has_area_without_selector, has_selector_absent, has_selector_with_area, has_selector_without_area, has_selector_with_selector, has_selector_without_selector}
 use Rattle.areas.specs.Name.{octets_lt}
 use Rattle.areas.specs.Order.{octets_lt-irreflexive}
 use Rattle.areas.specs.Selector.{selector_eq}
 use Rattle.areas.specs.declared.area.Area.{Area}
-use Rattle.areas.specs.declared.refusal.Refusal as areas_refusal
-use Rattle.areas.specs.declared.refusal.Refusal.TheVariants as areas_refusal_is
 use Rattle.areas.specs.declared.selector.Selector.{Selector}
 use Rattle.centre_events.specs.Cover.{area_mark, is_area, areas, area_count, added_area, selector_mark, has_selector, selectors, selector_count, put_selector}
-use Rattle.centre_events.specs.Kept.{AreAreasOf, Gives, areas_then}
+use Rattle.centre_events.specs.Kept.{AreAreasOf, areas_then}
 use Rattle.coverage_plan.specs.Edited.{areas_after}
 use Rattle.centre_events.specs.Base.{Base, empty_base}
 use Rattle.centre_events.specs.Past.{Past, From, After, IsUnfolded, by_edit, with_new}
-use Rattle.centre_events.specs.Refusals.{of_areas}
-use Rattle.coverage_plan.specs.Checks.{translated}
-use Rattle.centre_events.specs.Verdict.{answered, edit_answered, unless, add_area, add_area_checks, put, put_checks, cut, cut_checks}
+use Rattle.centre_events.specs.Verdict.{answered, edit_answered, add_area_checks, put_checks}
 use Rattle.centre_events.specs.declared.answer.Answer.{Answer}
 use Rattle.centre_events.specs.declared.answer.Answer.TheVariants as answer
 use Rattle.coverage_plan.specs.declared.edit.Edit.{Edit}
@@ -37,7 +31,7 @@ use Rattle.centre_events.specs.declared.entry.Entry.{Entry}
 use Rattle.centre_events.specs.declared.event.Event.{Event}
 use Rattle.centre_events.specs.declared.event.Event.TheVariants as event
 use Rattle.centre_past.proofs.AnyLemmas.{any_same}
-use Rattle.centre_past.proofs.CheckLemmas.{no_check, taken, refused, given}
+use Rattle.centre_past.proofs.CheckLemmas.{no_check}
 use Rattle.centre_past.proofs.CountLemmas.{same_count, named_once, among_more, among_new, both_or_it}
 use Rattle.centre_past.proofs.RegisterLemmas.{said_or, unsaid_or}
 
@@ -171,53 +165,6 @@ selectors_counted past l a once tied = sym (same_count selector_eq selector_deci
     members : (s : Selector) → list_any (selector_eq s) (selectors_of l a) ≡ (has_selector past a s && list_any (selector_eq s) (selectors past a))
     members s = any_turned selector_eq selector_decides s (selectors_of l a) ∙ tied.selectors a s ∙ both_or_it (has_selector past a s) (list_any (selector_eq s) (selectors past a)) (known_selector past tied.unfolded a s)
 
--- What is refused.
-
-pub add_area_same : (past : Past) (l : List Area) (a : List ℕ) → is_ascending named_lt l ≡ true → AreAreasOf past l → translated of_areas (checked.add_area_checks l a) ≡ add_area_checks past a
-add_area_same past l a ascending tied = rw (tied.names a, areas_counted past l ascending tied) refl
-
-pub add_area_taken : (past : Past) (l : List Area) (a : List ℕ) → is_ascending named_lt l ≡ true → AreAreasOf past l → first_refusal (checked.add_area_checks l a) ≡ None → add_area past a ≡ Ok answer.Done
-add_area_taken past l a ascending tied h = ap (λ cs. unless cs (Ok answer.Done)) (sym (add_area_same past l a ascending tied)) ∙ taken of_areas (checked.add_area_checks l a) (Ok answer.Done) h
-
-pub add_area_refused : (past : Past) (l : List Area) (a : List ℕ) (e : areas_refusal.Refusal) → is_ascending named_lt l ≡ true → AreAreasOf past l → (first_refusal (checked.add_area_checks l a) ≡ Some e) ⊎ ((e ≡ areas_refusal_is.Memory) × (first_refusal (checked.add_area_checks l a) ≡ None)) → Gives (add_area past a) (Err (of_areas e))
-add_area_refused past l a e ascending tied h = subst (λ cs. Gives (unless cs (Ok answer.Done)) (Err (of_areas e))) (add_area_same past l a ascending tied) (given of_areas areas_refusal_is.Memory refl (checked.add_area_checks l a) (Ok answer.Done) e (λ n. refl) h)
-
-pub put_same : (past : Past) (l : List Area) (a : List ℕ) (s : Selector) → ((x : List ℕ) → each_once selector_eq (selectors_of l x) ≡ true) → AreAreasOf past l → translated of_areas (checked.put_checks l a s) ≡ put_checks past a s
-put_same past l a s once tied = rw (tied.names a, tied.selectors a s, selectors_counted past l a once tied) refl
-
-pub put_taken : (past : Past) (l : List Area) (a : List ℕ) (s : Selector) → ((x : List ℕ) → each_once selector_eq (selectors_of l x) ≡ true) → AreAreasOf past l → first_refusal (checked.put_checks l a s) ≡ None → put past a s ≡ Ok answer.Done
-put_taken past l a s once tied h = ap (λ cs. unless cs (Ok answer.Done)) (sym (put_same past l a s once tied)) ∙ taken of_areas (checked.put_checks l a s) (Ok answer.Done) h
-
-pub put_refused : (past : Past) (l : List Area) (a : List ℕ) (s : Selector) (e : areas_refusal.Refusal) → ((x : List ℕ) → each_once selector_eq (selectors_of l x) ≡ true) → AreAreasOf past l → (first_refusal (checked.put_checks l a s) ≡ Some e) ⊎ ((e ≡ areas_refusal_is.Memory) × (first_refusal (checked.put_checks l a s) ≡ None)) → Gives (put past a s) (Err (of_areas e))
-put_refused past l a s e once tied h = subst (λ cs. Gives (unless cs (Ok answer.Done)) (Err (of_areas e))) (put_same past l a s once tied) (given of_areas areas_refusal_is.Memory refl (checked.put_checks l a s) (Ok answer.Done) e (λ n. refl) h)
-
-pub cut_same : (past : Past) (l : List Area) (a : List ℕ) (s : Selector) → AreAreasOf past l → translated of_areas (checked.cut_checks l a s) ≡ cut_checks past a s
-cut_same past l a s tied = rw (tied.names a, tied.selectors a s) refl
-
-pub cut_taken : (past : Past) (l : List Area) (a : List ℕ) (s : Selector) → AreAreasOf past l → first_refusal (checked.cut_checks l a s) ≡ None → cut past a s ≡ Ok answer.Done
-cut_taken past l a s tied h = ap (λ cs. unless cs (Ok answer.Done)) (sym (cut_same past l a s tied)) ∙ taken of_areas (checked.cut_checks l a s) (Ok answer.Done) h
-
-pub cut_refused : (past : Past) (l : List Area) (a : List ℕ) (s : Selector) (e : areas_refusal.Refusal) → AreAreasOf past l → first_refusal (checked.cut_checks l a s) ≡ Some e → cut past a s ≡ Err (of_areas e)
-cut_refused past l a s e tied h = ap (λ cs. unless cs (Ok answer.Done)) (sym (cut_same past l a s tied)) ∙ refused of_areas (checked.cut_checks l a s) (Ok answer.Done) e h
-
 -- a name is no area where the areas have none of it
 pub names_there : (past : Past) (l : List Area) (names : List (List ℕ)) → AreAreasOf past l → list_any (λ a. not (has_area l a)) names ≡ list_any (λ a. not (is_area past a)) names
 names_there past l names tied = any_same (λ a. not (has_area l a)) (λ a. not (is_area past a)) (λ a. ap not (tied.names a)) names
-
-pub add_area_free : (past : Past) (l : List Area) (a : List ℕ) → is_ascending named_lt l ≡ true → AreAreasOf past l → first_refusal (checked.add_area_checks l a) ≡ None → IsOk (add_area past a)
-add_area_free past l a ascending tied h = subst IsOk (sym (add_area_taken past l a ascending tied h)) refl
-
-pub add_area_first : (past : Past) (l : List Area) (a : List ℕ) (e : areas_refusal.Refusal) → is_ascending named_lt l ≡ true → AreAreasOf past l → first_refusal (checked.add_area_checks l a) ≡ Some e → add_area past a ≡ Err (of_areas e)
-add_area_first past l a e ascending tied h = ap (λ cs. unless cs (Ok answer.Done)) (sym (add_area_same past l a ascending tied)) ∙ refused of_areas (checked.add_area_checks l a) (Ok answer.Done) e h
-
-pub put_free : (past : Past) (l : List Area) (a : List ℕ) (s : Selector) → ((x : List ℕ) → each_once selector_eq (selectors_of l x) ≡ true) → AreAreasOf past l → first_refusal (checked.put_checks l a s) ≡ None → IsOk (put past a s)
-put_free past l a s once tied h = subst IsOk (sym (put_taken past l a s once tied h)) refl
-
-pub put_first : (past : Past) (l : List Area) (a : List ℕ) (s : Selector) (e : areas_refusal.Refusal) → ((x : List ℕ) → each_once selector_eq (selectors_of l x) ≡ true) → AreAreasOf past l → first_refusal (checked.put_checks l a s) ≡ Some e → put past a s ≡ Err (of_areas e)
-put_first past l a s e once tied h = ap (λ cs. unless cs (Ok answer.Done)) (sym (put_same past l a s once tied)) ∙ refused of_areas (checked.put_checks l a s) (Ok answer.Done) e h
-
-pub cut_free : (past : Past) (l : List Area) (a : List ℕ) (s : Selector) → AreAreasOf past l → first_refusal (checked.cut_checks l a s) ≡ None → IsOk (cut past a s)
-cut_free past l a s tied h = subst IsOk (sym (cut_taken past l a s tied h)) refl
-
-pub cut_first : (past : Past) (l : List Area) (a : List ℕ) (s : Selector) (e : areas_refusal.Refusal) → AreAreasOf past l → first_refusal (checked.cut_checks l a s) ≡ Some e → cut past a s ≡ Err (of_areas e)
-cut_first past l a s e tied h = ap (λ cs. unless cs (Ok answer.Done)) (sym (cut_same past l a s tied)) ∙ refused of_areas (checked.cut_checks l a s) (Ok answer.Done) e h

@@ -68,7 +68,7 @@ pub asked : (before : Past) (other b : ℕ) → not (is_bsc before other) ≡ fa
 asked before other b h e = ap (is_bsc before) (sym (eqb-true other b e)) ∙ not-false (is_bsc before other) h
 
 -- what is so of one BSC is not so of another that is the same
-clash : (f : ℕ → Bool) (other b : ℕ) → nat_eq other b ≡ true → f b ≡ true → f other ≡ false → ⊥
+pub clash : (f : ℕ → Bool) (other b : ℕ) → nat_eq other b ≡ true → f b ≡ true → f other ≡ false → ⊥
 clash f other b e h g = let no : true ≡ false = sym h ∙ ap f (sym (eqb-true other b e)) ∙ g in cc
 
 up_edit : (e : Edit) (before : Past) (a : Answer) (b : ℕ) → edit_answered before e ≡ Ok a → (is_up before b ≡ true → is_bsc before b ≡ true) → unwrap_or (first_down b e) (is_up before b) ≡ true → unwrap_or (bsc_mark b e) (is_bsc before b) ≡ true

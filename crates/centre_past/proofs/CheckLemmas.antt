@@ -1,14 +1,12 @@
 -- Checks, and the answer after them.
-use Rattle.std.proofs.Common.{◌≡◌, ◌⊎◌, inl, inr, Bool, true, false, List, [], ◌∷◌, ◌++◌, Some, None, Result, Ok, Err, cond, refl, sym, ◌∙◌, ap, subst}
+use Rattle.std.proofs.Common.{◌≡◌, Bool, true, false, List, [], ◌∷◌, ◌++◌, Some, None, Result, Ok, Err, cond, refl, sym, ap, subst}
 use Rattle.std.specs.Prelude.{IsOk}
 use Rattle.common.specs.CheckLaws.{NoneHolds}
 use Rattle.common.specs.Checks.{first_refusal}
-use Rattle.centre_events.specs.Kept.{Gives}
 use Rattle.coverage_plan.specs.Checks.{translated}
 use Rattle.centre_events.specs.Verdict.{unless}
 use Rattle.centre_events.specs.declared.answer.Answer.{Answer}
 use Rattle.centre_events.specs.declared.refusal.Refusal.{Refusal}
-use Rattle.centre_events.specs.declared.refusal.Refusal.TheVariants.{Memory}
 
 -- an answer that is none of the refusals comes after all checks
 pub unless_ok : (checks : List (Bool × Refusal)) (r : Result Answer Refusal) (a : Answer) → unless checks r ≡ Ok a → r ≡ Ok a
@@ -48,11 +46,6 @@ refused f ((false, x) ∷ checks) r e h = refused f checks r e h
 pub ok_after : {E : Type 0} (f : E → Refusal) (checks : List (Bool × E)) (r : Result Answer Refusal) → first_refusal checks ≡ None → IsOk r → IsOk (unless (translated f checks) r)
 ok_after f checks r h o = subst IsOk (sym (taken f checks r h)) o
 
--- what a lower crate refuses is the verdict, or that memory runs out where none of its checks holds
-pub given : {E : Type 0} (f : E → Refusal) (memory : E) → f memory ≡ Memory → (checks : List (Bool × E)) (r : Result Answer Refusal) (e : E) → (first_refusal checks ≡ None → IsOk r) → (first_refusal checks ≡ Some e) ⊎ ((e ≡ memory) × (first_refusal checks ≡ None)) → Gives (unless (translated f checks) r) (Err (f e))
-given f memory is checks r e o (inl h) = inr (refused f checks r e h)
-given f memory is checks r e o (inr h) = inl (ap f h.0 ∙ is, ok_after f checks r h.1 (o h.1))
-
 -- an answer that is no refusal is what the checks leave
 pub ok_is : (checks : List (Bool × Refusal)) (r : Result Answer Refusal) → IsOk (unless checks r) → unless checks r ≡ r
 ok_is [] r h = refl
@@ -65,28 +58,15 @@ none_held f [] r a h = refl
 none_held f ((true, e) ∷ checks) r a h = cc
 none_held f ((false, e) ∷ checks) r a h = none_held f checks r a h
 
--- after a check that holds
-pub held_check : (t : Bool) (e : Refusal) (v : Result Answer Refusal) → t ≡ true → cond t (Err e) v ≡ Err e
-held_check true e v h = refl
-held_check false e v h = cc
-
 -- after a check that does not hold
 pub past_check : (t : Bool) (e : Refusal) (v w : Result Answer Refusal) → t ≡ false → v ≡ w → cond t (Err e) v ≡ w
 past_check true e v w h g = cc
 past_check false e v w h g = g
 
-pub past_given : (t : Bool) (e : Refusal) (v r : Result Answer Refusal) → t ≡ false → Gives v r → Gives (cond t (Err e) v) r
-past_given true e v r h g = cc
-past_given false e v r h g = g
-
 -- after a check that did not hold
 pub checked_after : (t : Bool) (e : Refusal) (v : Result Answer Refusal) (a : Answer) → cond t (Err e) v ≡ Ok a → v ≡ Ok a
 checked_after true e v a h = cc
 checked_after false e v a h = h
-
-pub past_ok : (t : Bool) (e : Refusal) (v : Result Answer Refusal) → t ≡ false → IsOk v → IsOk (cond t (Err e) v)
-past_ok true e v h o = cc
-past_ok false e v h o = o
 
 -- where none of a lower crate's checks holds, those that follow decide
 pub passed : {E : Type 0} (f : E → Refusal) (checks : List (Bool × E)) (rest : List (Bool × Refusal)) (r : Result Answer Refusal) → first_refusal checks ≡ None → unless (translated f checks ++ rest) r ≡ unless rest r

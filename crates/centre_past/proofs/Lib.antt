@@ -41,3 +41,4 @@ pub mod EmptyLemmas
 pub mod NextLemmas
 pub mod UpdateLemmas
 pub mod ListLemmas
+pub mod EditCauseLemmas

@@ -1,19 +1,19 @@
 -- What is kept in order is the list in order that the past says, and as many cells of a warning are listed as failed as the
 -- board's number says.
-use Rattle.std.proofs.Common.{◌≡◌, ℕ, ◌+◌, Bool, true, false, ◌&&◌, ◌||◌, nat_eq, ltb, List, [], ◌∷◌, ◌++◌, Option, Some, None, length, map, refl, sym, ◌∙◌, ap, subst, arith, eq-eqb, eqb-true, length-append}
+use Rattle.std.proofs.Common.{◌≡◌, ℕ, ◌+◌, Bool, true, false, ◌&&◌, ◌||◌, nat_eq, ltb, List, [], ◌∷◌, Option, Some, None, length, map, refl, sym, ◌∙◌, ap, arith, eq-eqb, length-append}
 use Rattle.std.specs.Prelude.{bytes_eq, if◌then◌else◌}
 use Rattle.std.proofs.lemmas.Bool.{false_from_ne_true, and_parts, or_left, or_right, or_parts}
 use Rattle.std.proofs.lemmas.Slice.Eq.{bytes_eq-Decides}
 use Rattle.std.specs.Cmp.{unsigned_Decides}
 use Rattle.std.specs.List.{filter, flat_map, list_any, list_all}
 use Rattle.std.specs.Option.{is_some, option_and_then, option_map, option_to_list}
-use Rattle.areas.specs.Areas.{has_area, is_named, named_lt, selectors_of}
+use Rattle.areas.specs.Areas.{has_area, named_lt, selectors_of}
 use Rattle.areas.specs.Equality.{selector_decides}
 use Rattle.areas.specs.Laws.{has_area_after}
 use Rattle.areas.specs.Name.{octets_lt}
 use Rattle.areas.specs.Order.{octets_lt-irreflexive, octets_lt-total, octets_lt-transitive}
 use Rattle.areas.specs.Selector.{selector_eq, selector_lt}
-use Rattle.areas.specs.SelectorLaws.{ordered_once, selector_apart, selector_follows, selector_other}
+use Rattle.areas.specs.SelectorLaws.{selector_apart, selector_follows, selector_other}
 use Rattle.areas.specs.declared.area.Area.{Area}
 use Rattle.areas.specs.declared.selector.Selector.{Selector}
 use Rattle.cbsp_ie.specs.declared.cause.Cause.{Cause}
@@ -48,10 +48,9 @@ use Rattle.centre_events.specs.Presence.{hold, presence}
 use Rattle.centre_events.specs.Settings.{Settings}
 use Rattle.centre_events.specs.Warnings.{warnings_of}
 use Rattle.centre_past.specs.Legal.{Legal}
-use Rattle.centre_past.specs.Lists.{area_names, area_row, area_rows, area_selectors, cells_at, failed_at, failed_in, failed_row, failed_rows, failure_if, failure_of, kept_row, registered_bscs, registered_cells, warning_lt, warning_row, warning_rows}
+use Rattle.centre_past.specs.Lists.{area_names, area_row, area_rows, area_selectors, cells_at, failed_at, failed_in, failed_row, failed_rows, failure_of, kept_row, registered_bscs, registered_cells, warning_lt, warning_row, warning_rows}
 use Rattle.centre_past.specs.Numbers.{number, number_at}
 use Rattle.centre_past.specs.declared.lists.area_row.AreaRow.{AreaRow}
-use Rattle.centre_past.specs.declared.lists.failed_row.FailedRow.{FailedRow}
 use Rattle.centre_past.specs.declared.lists.failure.Failure.TheVariants.{Down, Refused}
 use Rattle.centre_past.proofs.AnyLemmas.{and_none, contrary}
 use Rattle.centre_past.proofs.AreaLemmas.{known_area, known_selector}

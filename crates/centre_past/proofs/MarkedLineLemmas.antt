@@ -1,6 +1,6 @@
 -- A line of a past isn't blank just where a version of its warning is on air, or may be, or is held back, or was
 -- broadcast.
-use Rattle.std.proofs.Common.{◌≡◌, arith, ℕ, ◌<◌, Bool, true, false, ◌||◌, not, nat_eq, List, [], ◌∷◌, Option, Some, None, map, cond, refl, sym, ◌∙◌, ap, eqb-true, eq-eqb, ltb}
+use Rattle.std.proofs.Common.{◌≡◌, arith, ℕ, ◌<◌, Bool, true, false, ◌||◌, not, nat_eq, List, [], ◌∷◌, Option, Some, None, map, cond, refl, sym, ◌∙◌, ap, eq-eqb, ltb}
 use Rattle.std.specs.Prelude.{find}
 use Rattle.std.specs.List.{list_any, list_all, range_with_len}
 use Rattle.std.proofs.lemmas.Bool.{and_parts, or_parts, or_from, not-true}

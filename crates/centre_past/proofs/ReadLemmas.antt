@@ -6,26 +6,27 @@ use Rattle.std.proofs.lemmas.Grind.{flat_map-append}
 use Rattle.std.proofs.lemmas.List.{take_more}
 use Rattle.kept_tables.specs.ConsistentLaws.{same_tables}
 use Rattle.kept_tables.specs.Tables.{SameTables, Tables}
+use Rattle.coverage_plan.specs.Plan.{State}
 use Rattle.mirror.specs.Table.{downs_of, is_that_place}
+use Rattle.centre_past.specs.EditCauses.{IsPlanOf}
 use Rattle.centre_past.specs.Facts.{facts}
 use Rattle.centre_past.specs.Idle.{AreKnownOf, AsBefore}
 use Rattle.centre_past.specs.IsKept.{IsKept, OnlyReadsIn}
-use Rattle.centre_events.specs.Kept.{AreFlightsOf, AreAreasOf, IsRegisterOf}
+use Rattle.centre_past.specs.Links.{AreLinksOf}
+use Rattle.centre_events.specs.Kept.{AreAreasOf, IsRegisterOf}
 use Rattle.centre_past.specs.Legal.{Legal}
 use Rattle.centre_events.specs.Past.{Past}
 use Rattle.centre_past.specs.Reaching.{Told, TellsLines}
 use Rattle.centre_events.specs.Settings.{Settings}
-use Rattle.centre_past.specs.State.{AreLinksOf}
 use Rattle.centre_past.specs.declared.kept.Kept.{Kept}
 use Rattle.centre_past.proofs.MarkedLineLemmas.{known_same}
 
 pub reads_kept : (past : Past) (s t : Kept) → IsKept past s → OnlyReadsIn s t → IsKept past t
 reads_kept past s t kept reads = record {
-  registered = subst (IsRegisterOf past) (sym reads.register) kept.registered;
-  selected = subst (AreAreasOf past) (sym reads.areas) kept.selected;
-  booked = reads.book ∙ kept.booked;
+  registered = subst (λ (p : State). IsRegisterOf past p.register) (sym reads.plan) kept.registered;
+  selected = subst (λ (p : State). AreAreasOf past p.areas) (sym reads.plan) kept.selected;
+  booked = ap (λ (p : State). p.book) reads.plan ∙ kept.booked;
   linked = subst (λ ls. AreLinksOf past ls.items) (sym reads.links) kept.linked;
-  flying = subst (λ fs. AreFlightsOf past fs.items) (sym reads.flights) kept.flying;
   downs = λ k b c. ap (λ downs. list_any (is_that_place b c) (downs_of k downs)) reads.tables.downs ∙ kept.downs k b c;
   tables = same_tables s.tables t.tables (facts past) reads.tables.same kept.tables;
 }
@@ -33,22 +34,16 @@ reads_kept past s t kept reads = record {
 -- where nothing is read nothing changes
 pub reads_none : (s : Kept) → OnlyReadsIn s s
 reads_none s = record {
-  register = refl;
-  areas = refl;
-  book = refl;
+  plan = refl;
   links = refl;
-  flights = refl;
   tables = record { lines = refl; downs = refl; same = record { lines = λ b c w. refl; acts = λ b a. refl; totals = λ w. refl; areas = λ w a. refl }; meter = omega arith };
 }
 
 -- lines that are read one after another
 pub reads_then : (r s t : Kept) → OnlyReadsIn r s → OnlyReadsIn s t → OnlyReadsIn r t
 reads_then r s t first next = record {
-  register = next.register ∙ first.register;
-  areas = next.areas ∙ first.areas;
-  book = next.book ∙ first.book;
+  plan = next.plan ∙ first.plan;
   links = next.links ∙ first.links;
-  flights = next.flights ∙ first.flights;
   tables = record {
     lines = next.tables.lines ∙ first.tables.lines;
     downs = next.tables.downs ∙ first.tables.downs;
@@ -63,13 +58,17 @@ reads_then r s t first next = record {
 }
 
 -- the cells that are known by what is kept are those of the past
-pub known_kept : (settings : Settings) (past : Past) (s : Kept) → Legal settings past → IsKept past s → TellsLines s.tables.lines → AreKnownOf past s.tables.lines s.register
+pub known_kept : (settings : Settings) (past : Past) (s : Kept) → Legal settings past → IsKept past s → TellsLines s.tables.lines → AreKnownOf past s.tables.lines s.plan.register
 known_kept settings past s legal kept lines = record {
-  known = known_same settings past s.register s.book s.tables.lines told lines;
+  known = known_same settings past s.plan.register s.plan.book s.tables.lines told lines;
 }
   where
-    told : Told settings past s.register s.book s.tables.lines
+    told : Told settings past s.plan.register s.plan.book s.tables.lines
     told = record { legal = legal; registered = kept.registered; booked = kept.booked; downs = kept.downs; lines = kept.tables.lines }
+
+-- the plan that is kept is the past's
+pub plan_kept : (past : Past) (s : Kept) → IsKept past s → IsPlanOf past s.plan
+plan_kept past s kept = record { registered = kept.registered; selected = kept.selected; booked = kept.booked }
 
 -- Lines that are read one after another.
 

@@ -1,6 +1,5 @@
--- What the register tells, counts and refuses is what the entries say.
-use Rattle.std.proofs.Common.{◌≡◌, ◌⊎◌, subst, ℕ, Bool, true, false, ◌&&◌, ◌||◌, not, nat_eq, ltb, List, [], ◌∷◌, Option, Some, None, Ok, Err, unwrap_or, length, map, refl, sym, ◌∙◌, ap, cond, eqb-true, eq-eqb}
-use Rattle.std.specs.Prelude.{IsOk}
+-- What the register tells and counts is what the entries say.
+use Rattle.std.proofs.Common.{◌≡◌, ℕ, Bool, true, false, ◌&&◌, ◌||◌, not, nat_eq, ltb, List, [], ◌∷◌, Option, Some, None, Ok, unwrap_or, length, map, refl, sym, ◌∙◌, ap, cond, eqb-true, eq-eqb}
 use Rattle.std.proofs.lemmas.Bool.{not-false}
 use Rattle.std.proofs.lemmas.List.{length-map}
 use Rattle.std.specs.Cmp.{unsigned_Decides}
@@ -13,21 +12,16 @@ use Rattle.cell_register.specs.CellLaws.{cell_lt_other, ltb_other}
 use Rattle.cell_register.specs.Laws.{has_bsc_with_bsc, has_bsc_without_bsc, place_in_with_cell, place_in_without_cell, place_in_moved, is_some_place_among, has_cells_from_place, place_from_has_cells}
 use Rattle.common.specs.OnceLaws.{turned, any_turned, ascending_once}
 use Rattle.common.specs.OrderLaws.{ascending_map}
-use Rattle.common.specs.Checks.{first_refusal}
 use Rattle.cell_register.specs.Register.{State, has_bsc, place_in, cell_of, placed_lt, is_place}
 use Rattle.cell_register.specs.Register as register
 use Rattle.cell_register.specs.Sound.{IsRegister}
 use Rattle.cell_register.specs.declared.placed.Placed.{Placed}
-use Rattle.cell_register.specs.declared.refusal.Refusal as register_refusal
-use Rattle.cell_register.specs.declared.refusal.Refusal.TheVariants as register_refusal_is
-use Rattle.centre_events.specs.Kept.{IsRegisterOf, Gives, register_then}
+use Rattle.centre_events.specs.Kept.{IsRegisterOf, register_then}
 use Rattle.coverage_plan.specs.Edited.{register_after}
 use Rattle.centre_events.specs.Links.{bsc_mark, bscs, is_bsc, bsc_count, added_bsc}
 use Rattle.centre_events.specs.Past.{Past, After, IsUnfolded, by_edit}
 use Rattle.centre_events.specs.Places.{place_mark, place, cells, is_registered, cell_count, added_cell}
-use Rattle.centre_events.specs.Refusals.{of_register}
-use Rattle.coverage_plan.specs.Checks.{translated}
-use Rattle.centre_events.specs.Verdict.{answered, edit_answered, unless, has_cells, remove_bsc, remove_bsc_checks, add_bsc, add_bsc_checks, add_cell, add_cell_checks, move_cell, move_cell_checks, remove_cell, remove_cell_checks}
+use Rattle.centre_events.specs.Verdict.{answered, edit_answered, has_cells, move_cell_checks}
 use Rattle.centre_events.specs.declared.answer.Answer.{Answer}
 use Rattle.centre_events.specs.declared.answer.Answer.TheVariants as answer
 use Rattle.coverage_plan.specs.declared.edit.Edit.{Edit}
@@ -37,7 +31,7 @@ use Rattle.centre_events.specs.declared.event.Event.{Event}
 use Rattle.centre_events.specs.declared.event.Event.TheVariants as event
 use Rattle.centre_past.proofs.AnyLemmas.{any_at}
 use Rattle.centre_past.proofs.BscLemmas.{bsc_named}
-use Rattle.centre_past.proofs.CheckLemmas.{no_check, taken, refused, given}
+use Rattle.centre_past.proofs.CheckLemmas.{no_check}
 use Rattle.centre_past.proofs.CountLemmas.{same_count, named_once, both_or_it}
 use Rattle.centre_past.proofs.KnownLemmas.{known_place}
 
@@ -154,78 +148,3 @@ cells_there past r b sound kept = step (register.has_cells r b) refl (has_cells 
         let there : register.has_cells r b ≡ true = has_cells_from_place r which.0 b (kept.places which.0 ∙ place_some (place past which.0) b which.1) in
         cc
     step false e false f = refl
-
--- What is refused.
-
-pub add_bsc_same : (past : Past) (r : State) (b : ℕ) → IsRegister r → IsRegisterOf past r → translated of_register (register.add_bsc_checks r b) ≡ add_bsc_checks past b
-add_bsc_same past r b sound kept = rw (kept.bscs b, bscs_counted past r sound kept) refl
-
-pub add_bsc_taken : (past : Past) (r : State) (b : ℕ) → IsRegister r → IsRegisterOf past r → first_refusal (register.add_bsc_checks r b) ≡ None → add_bsc past b ≡ Ok answer.Done
-add_bsc_taken past r b sound kept h = ap (λ cs. unless cs (Ok answer.Done)) (sym (add_bsc_same past r b sound kept)) ∙ taken of_register (register.add_bsc_checks r b) (Ok answer.Done) h
-
-pub add_bsc_refused : (past : Past) (r : State) (b : ℕ) (e : register_refusal.Refusal) → IsRegister r → IsRegisterOf past r → (first_refusal (register.add_bsc_checks r b) ≡ Some e) ⊎ ((e ≡ register_refusal_is.Memory) × (first_refusal (register.add_bsc_checks r b) ≡ None)) → Gives (add_bsc past b) (Err (of_register e))
-add_bsc_refused past r b e sound kept h = subst (λ cs. Gives (unless cs (Ok answer.Done)) (Err (of_register e))) (add_bsc_same past r b sound kept) (given of_register register_refusal_is.Memory refl (register.add_bsc_checks r b) (Ok answer.Done) e (λ n. refl) h)
-
-pub add_cell_same : (past : Past) (r : State) (c : Cell) (b : ℕ) → IsRegister r → IsRegisterOf past r → translated of_register (register.add_cell_checks r c b) ≡ add_cell_checks past c b
-add_cell_same past r c b sound kept = rw (kept.bscs b, kept.places c, cells_counted past r sound kept) refl
-
-pub add_cell_taken : (past : Past) (r : State) (c : Cell) (b : ℕ) → IsRegister r → IsRegisterOf past r → first_refusal (register.add_cell_checks r c b) ≡ None → add_cell past c b ≡ Ok answer.Done
-add_cell_taken past r c b sound kept h = ap (λ cs. unless cs (Ok answer.Done)) (sym (add_cell_same past r c b sound kept)) ∙ taken of_register (register.add_cell_checks r c b) (Ok answer.Done) h
-
-pub add_cell_refused : (past : Past) (r : State) (c : Cell) (b : ℕ) (e : register_refusal.Refusal) → IsRegister r → IsRegisterOf past r → (first_refusal (register.add_cell_checks r c b) ≡ Some e) ⊎ ((e ≡ register_refusal_is.Memory) × (first_refusal (register.add_cell_checks r c b) ≡ None)) → Gives (add_cell past c b) (Err (of_register e))
-add_cell_refused past r c b e sound kept h = subst (λ cs. Gives (unless cs (Ok answer.Done)) (Err (of_register e))) (add_cell_same past r c b sound kept) (given of_register register_refusal_is.Memory refl (register.add_cell_checks r c b) (Ok answer.Done) e (λ n. refl) h)
-
-same_place : (o : Option ℕ) (b : ℕ) → register.is_place o b ≡ is_place o b
-same_place None b = refl
-same_place (Some d) b = refl
-
-pub move_cell_same : (past : Past) (r : State) (c : Cell) (b : ℕ) → IsRegisterOf past r → translated of_register (register.move_cell_checks r c b) ≡ move_cell_checks past c b
-move_cell_same past r c b kept = rw (kept.bscs b, kept.places c, same_place (place past c) b) refl
-
-pub move_cell_taken : (past : Past) (r : State) (c : Cell) (b : ℕ) → IsRegisterOf past r → first_refusal (register.move_cell_checks r c b) ≡ None → move_cell past c b ≡ Ok answer.Done
-move_cell_taken past r c b kept h = ap (λ cs. unless cs (Ok answer.Done)) (sym (move_cell_same past r c b kept)) ∙ taken of_register (register.move_cell_checks r c b) (Ok answer.Done) h
-
-pub move_cell_refused : (past : Past) (r : State) (c : Cell) (b : ℕ) (e : register_refusal.Refusal) → IsRegisterOf past r → first_refusal (register.move_cell_checks r c b) ≡ Some e → move_cell past c b ≡ Err (of_register e)
-move_cell_refused past r c b e kept h = ap (λ cs. unless cs (Ok answer.Done)) (sym (move_cell_same past r c b kept)) ∙ refused of_register (register.move_cell_checks r c b) (Ok answer.Done) e h
-
-pub remove_cell_same : (past : Past) (r : State) (c : Cell) → IsRegisterOf past r → translated of_register (register.remove_cell_checks r c) ≡ remove_cell_checks past c
-remove_cell_same past r c kept = rw (kept.places c) refl
-
-pub remove_cell_taken : (past : Past) (r : State) (c : Cell) → IsRegisterOf past r → first_refusal (register.remove_cell_checks r c) ≡ None → remove_cell past c ≡ Ok answer.Done
-remove_cell_taken past r c kept h = ap (λ cs. unless cs (Ok answer.Done)) (sym (remove_cell_same past r c kept)) ∙ taken of_register (register.remove_cell_checks r c) (Ok answer.Done) h
-
-pub remove_cell_refused : (past : Past) (r : State) (c : Cell) (e : register_refusal.Refusal) → IsRegisterOf past r → first_refusal (register.remove_cell_checks r c) ≡ Some e → remove_cell past c ≡ Err (of_register e)
-remove_cell_refused past r c e kept h = ap (λ cs. unless cs (Ok answer.Done)) (sym (remove_cell_same past r c kept)) ∙ refused of_register (register.remove_cell_checks r c) (Ok answer.Done) e h
-
-pub add_bsc_free : (past : Past) (r : State) (b : ℕ) → IsRegister r → IsRegisterOf past r → first_refusal (register.add_bsc_checks r b) ≡ None → IsOk (add_bsc past b)
-add_bsc_free past r b sound kept h = subst IsOk (sym (add_bsc_taken past r b sound kept h)) refl
-
-pub add_bsc_first : (past : Past) (r : State) (b : ℕ) (e : register_refusal.Refusal) → IsRegister r → IsRegisterOf past r → first_refusal (register.add_bsc_checks r b) ≡ Some e → add_bsc past b ≡ Err (of_register e)
-add_bsc_first past r b e sound kept h = ap (λ cs. unless cs (Ok answer.Done)) (sym (add_bsc_same past r b sound kept)) ∙ refused of_register (register.add_bsc_checks r b) (Ok answer.Done) e h
-
-pub add_cell_free : (past : Past) (r : State) (c : Cell) (b : ℕ) → IsRegister r → IsRegisterOf past r → first_refusal (register.add_cell_checks r c b) ≡ None → IsOk (add_cell past c b)
-add_cell_free past r c b sound kept h = subst IsOk (sym (add_cell_taken past r c b sound kept h)) refl
-
-pub add_cell_first : (past : Past) (r : State) (c : Cell) (b : ℕ) (e : register_refusal.Refusal) → IsRegister r → IsRegisterOf past r → first_refusal (register.add_cell_checks r c b) ≡ Some e → add_cell past c b ≡ Err (of_register e)
-add_cell_first past r c b e sound kept h = ap (λ cs. unless cs (Ok answer.Done)) (sym (add_cell_same past r c b sound kept)) ∙ refused of_register (register.add_cell_checks r c b) (Ok answer.Done) e h
-
-pub move_cell_free : (past : Past) (r : State) (c : Cell) (b : ℕ) → IsRegisterOf past r → first_refusal (register.move_cell_checks r c b) ≡ None → IsOk (move_cell past c b)
-move_cell_free past r c b kept h = subst IsOk (sym (move_cell_taken past r c b kept h)) refl
-
-pub move_cell_first : (past : Past) (r : State) (c : Cell) (b : ℕ) (e : register_refusal.Refusal) → IsRegisterOf past r → first_refusal (register.move_cell_checks r c b) ≡ Some e → move_cell past c b ≡ Err (of_register e)
-move_cell_first past r c b e kept h = ap (λ cs. unless cs (Ok answer.Done)) (sym (move_cell_same past r c b kept)) ∙ refused of_register (register.move_cell_checks r c b) (Ok answer.Done) e h
-
-pub remove_cell_free : (past : Past) (r : State) (c : Cell) → IsRegisterOf past r → first_refusal (register.remove_cell_checks r c) ≡ None → IsOk (remove_cell past c)
-remove_cell_free past r c kept h = subst IsOk (sym (remove_cell_taken past r c kept h)) refl
-
-pub remove_cell_first : (past : Past) (r : State) (c : Cell) (e : register_refusal.Refusal) → IsRegisterOf past r → first_refusal (register.remove_cell_checks r c) ≡ Some e → remove_cell past c ≡ Err (of_register e)
-remove_cell_first past r c e kept h = ap (λ cs. unless cs (Ok answer.Done)) (sym (remove_cell_same past r c kept)) ∙ refused of_register (register.remove_cell_checks r c) (Ok answer.Done) e h
-
--- a BSC that can go: the register refuses nothing then
-pub remove_bsc_refused : (past : Past) (r : State) (b : ℕ) (e : register_refusal.Refusal) → IsRegister r → IsRegisterOf past r → remove_bsc past b ≡ Ok answer.Done → first_refusal (register.remove_bsc_checks r b) ≡ Some e → Gives (remove_bsc past b) (Err (of_register e))
-remove_bsc_refused past r b e sound kept free h =
-    let none = no_check (remove_bsc_checks past b) (Ok answer.Done) answer.Done free in
-    let there : not (has_bsc r b) ≡ false = ap not (kept.bscs b) ∙ none.0 in
-    let empty : register.has_cells r b ≡ false = cells_there past r b sound kept ∙ none.1.0 in
-    let no : first_refusal (register.remove_bsc_checks r b) ≡ None = rw (there, empty) refl in
-    absurd (let bad : None ≡ Some e = sym no ∙ h in cc)

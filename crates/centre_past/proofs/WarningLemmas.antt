@@ -1,35 +1,31 @@
--- The book of a legal past is sound, and what the book refuses is what an event is refused.
-use Rattle.std.proofs.Common.{◌≡◌, ◌⊎◌, ◌++◌, inl, inr, arith, ℕ, ◌+◌, ◌<◌, Bool, true, false, ◌&&◌, ◌||◌, not, List, [], ◌∷◌, Option, Some, None, Ok, Err, nat_eq, length, cond, refl, sym, ◌∙◌, ap, eqb-true, subst}
+-- The book of a legal past is sound; what an Issue is answered, and what refuses an Update.
+use Rattle.std.proofs.Common.{◌≡◌, ◌++◌, arith, ℕ, ◌+◌, ◌<◌, Bool, true, false, ◌&&◌, ◌||◌, not, List, [], ◌∷◌, Option, Some, None, Ok, Err, nat_eq, length, cond, refl, sym, ◌∙◌, ap, eqb-true, subst}
 use Rattle.std.specs.Prelude.{IfSome, IsOk, find}
 use Rattle.std.specs.List.{list_any, list_all}
 use Rattle.std.specs.Option.{option_map}
-use Rattle.std.proofs.lemmas.Bool.{leb-false, and_parts, and_from, or_parts, not-false}
+use Rattle.std.proofs.lemmas.Bool.{leb-false, and_parts, and_from, or_parts}
 use Rattle.std.proofs.lemmas.List.Folds.{list_all-append}
 use Rattle.common.specs.CheckLaws.{NoneHolds, none_holds}
 use Rattle.common.specs.Checks.{first_refusal}
-use Rattle.common.specs.Order.{is_ascending}
-use Rattle.warning_book.specs.Book.{State, empty, has_number, number_lt, warning_is, warning_of, is_so, versions_if, versions_with, content_of, new_serial, next_serial}
+use Rattle.warning_book.specs.Book.{State, empty, has_number, warning_of, is_so, versions_if, versions_with, content_of, new_serial, next_serial}
 use Rattle.warning_book.specs.Checks as book
 use Rattle.warning_book.specs.Content.{have_pages, has_period}
-use Rattle.warning_book.specs.Laws.{found_so}
 use Rattle.warning_book.specs.SerialLaws.{serial_is_there}
 use Rattle.warning_book.specs.Sound.{IsSound, is_good, has_contents}
 use Rattle.warning_book.specs.SoundLaws.{sound_after_issue, sound_after_update, sound_after_widen, sound_after_narrow, sound_after_stop, sound_after_forget}
 use Rattle.warning_book.specs.declared.content.Content.{Content}
 use Rattle.warning_book.specs.declared.notice.Notice.{Notice}
 use Rattle.warning_book.specs.declared.refusal.Refusal as book_refusal
-use Rattle.warning_book.specs.declared.refusal.Refusal.TheVariants as book_refusal_is
 use Rattle.warning_book.specs.declared.version.Version.{Version}
 use Rattle.warning_book.specs.declared.warning.Warning.{Warning}
 use Rattle.centre_events.specs.Base.{Base}
 use Rattle.centre_events.specs.Cover.{is_area}
-use Rattle.centre_events.specs.Kept.{Gives}
 use Rattle.centre_past.specs.Legal.{Legal}
 use Rattle.centre_events.specs.Past.{Past, From, After}
 use Rattle.centre_events.specs.Refusals.{of_book}
-use Rattle.centre_events.specs.Reported.{is_reported, is_in_flight, is_key_reported, is_key_in_flight}
+use Rattle.centre_events.specs.Reported.{is_key_reported, is_key_in_flight}
 use Rattle.centre_events.specs.Settings.{Settings}
-use Rattle.centre_events.specs.Verdict.{unless, answered, edit_answered, by_book, issue, issue_answer, reuses, update, update_checks, update_answer, widen, narrow, stop, forget, idle_checks}
+use Rattle.centre_events.specs.Verdict.{unless, answered, edit_answered, by_book, issue, issue_answer, reuses, update, update_answer}
 use Rattle.centre_events.specs.Warnings.{book_of, book_then}
 use Rattle.coverage_plan.specs.Edited.{book_after, with_issue}
 use Rattle.centre_events.specs.declared.answer.Answer.{Answer}
@@ -40,20 +36,11 @@ use Rattle.centre_events.specs.declared.event.Event.{Event}
 use Rattle.centre_events.specs.declared.event.Event.TheVariants as event
 use Rattle.centre_events.specs.declared.refusal.Refusal.{Refusal}
 use Rattle.centre_events.specs.declared.refusal.Refusal.TheVariants as refusal
-use Rattle.centre_past.proofs.CheckLemmas.{taken, refused, refused_first, passed, given, ok_after, ok_is, none_around, none_held, held_check, past_check, past_given, past_ok, checked_after}
+use Rattle.centre_past.proofs.CheckLemmas.{refused_first, passed, none_around, none_held, checked_after}
 use Rattle.centre_past.proofs.FoundLemmas.{found_number}
 use Rattle.centre_past.proofs.UniqueLemmas.{verdict_answered}
 
 -- What the book refuses.
-
--- no warning has the number where none is found
-none_found : (n : ℕ) (ws : List Warning) → find (has_number n) ws ≡ None → list_any (has_number n) ws ≡ false
-none_found n [] h = refl
-none_found n (w ∷ ws) h = step (none_found n ws) (has_number n w) h
-  where
-    step : (find (has_number n) ws ≡ None → list_any (has_number n) ws ≡ false) → (t : Bool) → cond t (Some w) (find (has_number n) ws) ≡ None → (t || list_any (has_number n) ws) ≡ false
-    step rest true g = cc
-    step rest false g = rest g
 
 -- what is issued has a serial number, since a code is free
 pub issue_ok : (past : Past) (notice : Notice) (areas : List (List ℕ)) → first_refusal (book.issue_checks (book_of past) notice areas) ≡ None → IsOk (issue_answer ((book_of past).issued + 1) (new_serial (book_of past) notice))
@@ -90,33 +77,6 @@ update_ok past n = step (next_serial (book_of past) n)
 abbrev reuse_checks : Past → ℕ → List (Bool × Refusal)
 reuse_checks past n = (reuses past n (is_key_reported past), refusal.StillReported) ∷ (reuses past n (is_key_in_flight past), refusal.StillInFlight) ∷ []
 
--- an area that is not there
-pub issue_elsewhere : (past : Past) (notice : Notice) (areas : List (List ℕ)) → list_any (λ a. not (is_area past a)) areas ≡ true → issue past notice areas ≡ Err refusal.NoSuchArea
-issue_elsewhere past notice areas missing = rw missing refl
-
-pub issue_taken : (past : Past) (st : State) (notice : Notice) (areas : List (List ℕ)) (n s : ℕ) → st ≡ book_of past → list_any (λ a. not (is_area past a)) areas ≡ false → first_refusal (book.issue_checks st notice areas) ≡ None → n ≡ st.issued + 1 → new_serial st notice ≡ Some s → issue past notice areas ≡ Ok (answer.Issued n s)
-issue_taken past st notice areas n s is there checked number serial =
-    past_check (list_any (λ a. not (is_area past a)) areas) refusal.NoSuchArea (unless (by_book (book.issue_checks (book_of past) notice areas)) (issue_answer ((book_of past).issued + 1) (new_serial (book_of past) notice))) (Ok (answer.Issued n s)) there
-    (taken of_book (book.issue_checks (book_of past) notice areas) (issue_answer ((book_of past).issued + 1) (new_serial (book_of past) notice)) (rw (← is) checked)
-    ∙ (rw (← is, serial, ← number) refl))
-
-pub issue_refused : (past : Past) (st : State) (notice : Notice) (areas : List (List ℕ)) (e : book_refusal.Refusal) → st ≡ book_of past → list_any (λ a. not (is_area past a)) areas ≡ false → (first_refusal (book.issue_checks st notice areas) ≡ Some e) ⊎ ((e ≡ book_refusal_is.Memory) × (first_refusal (book.issue_checks st notice areas) ≡ None)) → Gives (issue past notice areas) (Err (of_book e))
-issue_refused past st notice areas e is there h =
-    past_given (list_any (λ a. not (is_area past a)) areas) refusal.NoSuchArea (unless (by_book (book.issue_checks (book_of past) notice areas)) (issue_answer ((book_of past).issued + 1) (new_serial (book_of past) notice))) (Err (of_book e)) there
-    (given of_book book_refusal_is.Memory refl (book.issue_checks (book_of past) notice areas) (issue_answer ((book_of past).issued + 1) (new_serial (book_of past) notice)) e (issue_ok past notice areas) (rw (← is) h))
-
--- An Update that is accepted, as it is made.
-
-pub update_taken : (past : Past) (st : State) (n : ℕ) (content : Content) (s : ℕ) → st ≡ book_of past → IsOk (update past n content) → next_serial st n ≡ Some s → update past n content ≡ Ok (answer.Updated s)
-update_taken past st n content s is free serial =
-    ok_is (update_checks past n content) (update_answer (next_serial (book_of past) n)) free ∙ (rw (← is, serial) refl)
-
--- the book refuses none but for want of memory
-pub update_refused : (past : Past) (st : State) (n : ℕ) (content : Content) (e : book_refusal.Refusal) → st ≡ book_of past → IsOk (update past n content) → (first_refusal (book.update_checks st n content) ≡ Some e) ⊎ ((e ≡ book_refusal_is.Memory) × (first_refusal (book.update_checks st n content) ≡ None)) → Gives (update past n content) (Err (of_book e))
-update_refused past st n content e is free (inl h) =
-    absurd (let no : first_refusal (book.update_checks st n content) ≡ None = ap (λ (b : State). first_refusal (book.update_checks b n content)) is ∙ none_around of_book (book.there_checks (book_of past) n) (reuse_checks past n) (book.content_checks (book_of past) n content) (update_answer (next_serial (book_of past) n)) free in cc)
-update_refused past st n content e is free (inr h) = inl (ap of_book h.0, free)
-
 -- Why an Update is refused, and where it isn't.
 
 pub update_first : (past : Past) (st : State) (n : ℕ) (content : Content) (e : book_refusal.Refusal) → st ≡ book_of past → first_refusal (book.there_checks st n) ≡ Some e → update past n content ≡ Err (of_book e)
@@ -127,111 +87,6 @@ update_first past st n content e is h =
 pub update_there : (past : Past) (st : State) (n : ℕ) (content : Content) → st ≡ book_of past → first_refusal (book.there_checks st n) ≡ None → update past n content ≡ unless (reuse_checks past n) (unless (by_book (book.content_checks (book_of past) n content)) (update_answer (next_serial (book_of past) n)))
 update_there past st n content is h =
     passed of_book (book.there_checks (book_of past) n) (reuse_checks past n ++ by_book (book.content_checks (book_of past) n content)) (update_answer (next_serial (book_of past) n)) (rw (← is) h)
-
-pub update_reported : (past : Past) (st : State) (n : ℕ) (content : Content) → st ≡ book_of past → first_refusal (book.there_checks st n) ≡ None → reuses past n (is_key_reported past) ≡ true → update past n content ≡ Err refusal.StillReported
-update_reported past st n content is h reported =
-    update_there past st n content is h
-    ∙ held_check (reuses past n (is_key_reported past)) refusal.StillReported (unless ((reuses past n (is_key_in_flight past), refusal.StillInFlight) ∷ []) (unless (by_book (book.content_checks (book_of past) n content)) (update_answer (next_serial (book_of past) n)))) reported
-
-pub update_flying : (past : Past) (st : State) (n : ℕ) (content : Content) → st ≡ book_of past → first_refusal (book.there_checks st n) ≡ None → reuses past n (is_key_reported past) ≡ false → reuses past n (is_key_in_flight past) ≡ true → update past n content ≡ Err refusal.StillInFlight
-update_flying past st n content is h reported flying =
-    update_there past st n content is h
-    ∙ past_check (reuses past n (is_key_reported past)) refusal.StillReported (unless ((reuses past n (is_key_in_flight past), refusal.StillInFlight) ∷ []) (unless (by_book (book.content_checks (book_of past) n content)) (update_answer (next_serial (book_of past) n)))) (Err refusal.StillInFlight) reported
-    (held_check (reuses past n (is_key_in_flight past)) refusal.StillInFlight (unless (by_book (book.content_checks (book_of past) n content)) (update_answer (next_serial (book_of past) n))) flying)
-
--- where neither is
-update_idle : (past : Past) (st : State) (n : ℕ) (content : Content) → st ≡ book_of past → first_refusal (book.there_checks st n) ≡ None → reuses past n (is_key_reported past) ≡ false → reuses past n (is_key_in_flight past) ≡ false → update past n content ≡ unless (by_book (book.content_checks (book_of past) n content)) (update_answer (next_serial (book_of past) n))
-update_idle past st n content is h reported flying =
-    update_there past st n content is h
-    ∙ past_check (reuses past n (is_key_reported past)) refusal.StillReported (unless ((reuses past n (is_key_in_flight past), refusal.StillInFlight) ∷ []) (unless (by_book (book.content_checks (book_of past) n content)) (update_answer (next_serial (book_of past) n)))) (unless (by_book (book.content_checks (book_of past) n content)) (update_answer (next_serial (book_of past) n))) reported
-    (past_check (reuses past n (is_key_in_flight past)) refusal.StillInFlight (unless (by_book (book.content_checks (book_of past) n content)) (update_answer (next_serial (book_of past) n))) (unless (by_book (book.content_checks (book_of past) n content)) (update_answer (next_serial (book_of past) n))) flying refl)
-
-pub update_content : (past : Past) (st : State) (n : ℕ) (content : Content) (e : book_refusal.Refusal) → st ≡ book_of past → first_refusal (book.there_checks st n) ≡ None → reuses past n (is_key_reported past) ≡ false → reuses past n (is_key_in_flight past) ≡ false → first_refusal (book.content_checks st n content) ≡ Some e → update past n content ≡ Err (of_book e)
-update_content past st n content e is h reported flying bad =
-    update_idle past st n content is h reported flying ∙ refused of_book (book.content_checks (book_of past) n content) (update_answer (next_serial (book_of past) n)) e (rw (← is) bad)
-
-pub update_free : (past : Past) (st : State) (n : ℕ) (content : Content) → st ≡ book_of past → first_refusal (book.there_checks st n) ≡ None → reuses past n (is_key_reported past) ≡ false → reuses past n (is_key_in_flight past) ≡ false → first_refusal (book.content_checks st n content) ≡ None → IsOk (update past n content)
-update_free past st n content is h reported flying good =
-    subst IsOk (sym (update_idle past st n content is h reported flying))
-    (ok_after of_book (book.content_checks (book_of past) n content) (update_answer (next_serial (book_of past) n)) (rw (← is) good) (update_ok past n))
-
-pub widen_taken : (past : Past) (st : State) (n : ℕ) (a : List ℕ) → st ≡ book_of past → is_area past a ≡ true → first_refusal (book.widen_checks st n a) ≡ None → widen past n a ≡ Ok answer.Done
-widen_taken past st n a is there checked =
-    past_check (not (is_area past a)) refusal.NoSuchArea (unless (by_book (book.widen_checks (book_of past) n a)) (Ok answer.Done)) (Ok answer.Done) (ap not there)
-    (taken of_book (book.widen_checks (book_of past) n a) (Ok answer.Done) (rw (← is) checked))
-
-pub widen_refused : (past : Past) (st : State) (n : ℕ) (a : List ℕ) (e : book_refusal.Refusal) → st ≡ book_of past → is_area past a ≡ true → (first_refusal (book.widen_checks st n a) ≡ Some e) ⊎ ((e ≡ book_refusal_is.Memory) × (first_refusal (book.widen_checks st n a) ≡ None)) → Gives (widen past n a) (Err (of_book e))
-widen_refused past st n a e is there h =
-    past_given (not (is_area past a)) refusal.NoSuchArea (unless (by_book (book.widen_checks (book_of past) n a)) (Ok answer.Done)) (Err (of_book e)) (ap not there)
-    (given of_book book_refusal_is.Memory refl (book.widen_checks (book_of past) n a) (Ok answer.Done) e (λ none. refl) (rw (← is) h))
-
-pub narrow_taken : (past : Past) (st : State) (n : ℕ) (a : List ℕ) → st ≡ book_of past → is_area past a ≡ true → first_refusal (book.narrow_checks st n a) ≡ None → narrow past n a ≡ Ok answer.Done
-narrow_taken past st n a is there checked =
-    past_check (not (is_area past a)) refusal.NoSuchArea (unless (by_book (book.narrow_checks (book_of past) n a)) (Ok answer.Done)) (Ok answer.Done) (ap not there)
-    (taken of_book (book.narrow_checks (book_of past) n a) (Ok answer.Done) (rw (← is) checked))
-
-pub narrow_refused : (past : Past) (st : State) (n : ℕ) (a : List ℕ) (e : book_refusal.Refusal) → st ≡ book_of past → is_area past a ≡ true → first_refusal (book.narrow_checks st n a) ≡ Some e → narrow past n a ≡ Err (of_book e)
-narrow_refused past st n a e is there h =
-    past_check (not (is_area past a)) refusal.NoSuchArea (unless (by_book (book.narrow_checks (book_of past) n a)) (Ok answer.Done)) (Err (of_book e)) (ap not there)
-    (refused of_book (book.narrow_checks (book_of past) n a) (Ok answer.Done) e (rw (← is) h))
-
-pub stop_taken : (past : Past) (st : State) (n : ℕ) → st ≡ book_of past → first_refusal (book.stop_checks st n) ≡ None → stop past n ≡ Ok answer.Done
-stop_taken past st n is checked = taken of_book (book.stop_checks (book_of past) n) (Ok answer.Done) (rw (← is) checked)
-
-pub stop_refused : (past : Past) (st : State) (n : ℕ) (e : book_refusal.Refusal) → st ≡ book_of past → first_refusal (book.stop_checks st n) ≡ Some e → stop past n ≡ Err (of_book e)
-stop_refused past st n e is h = refused of_book (book.stop_checks (book_of past) n) (Ok answer.Done) e (rw (← is) h)
-
-pub issue_free : (past : Past) (st : State) (notice : Notice) (areas : List (List ℕ)) → st ≡ book_of past → list_any (λ a. not (is_area past a)) areas ≡ false → first_refusal (book.issue_checks st notice areas) ≡ None → IsOk (issue past notice areas)
-issue_free past st notice areas is there checked =
-    past_ok (list_any (λ a. not (is_area past a)) areas) refusal.NoSuchArea (unless (by_book (book.issue_checks (book_of past) notice areas)) (issue_answer ((book_of past).issued + 1) (new_serial (book_of past) notice))) there
-    (ok_after of_book (book.issue_checks (book_of past) notice areas) (issue_answer ((book_of past).issued + 1) (new_serial (book_of past) notice)) (rw (← is) checked) (issue_ok past notice areas (rw (← is) checked)))
-
-pub issue_first : (past : Past) (st : State) (notice : Notice) (areas : List (List ℕ)) (e : book_refusal.Refusal) → st ≡ book_of past → list_any (λ a. not (is_area past a)) areas ≡ false → first_refusal (book.issue_checks st notice areas) ≡ Some e → issue past notice areas ≡ Err (of_book e)
-issue_first past st notice areas e is there h =
-    past_check (list_any (λ a. not (is_area past a)) areas) refusal.NoSuchArea (unless (by_book (book.issue_checks (book_of past) notice areas)) (issue_answer ((book_of past).issued + 1) (new_serial (book_of past) notice))) (Err (of_book e)) there
-    (refused of_book (book.issue_checks (book_of past) notice areas) (issue_answer ((book_of past).issued + 1) (new_serial (book_of past) notice)) e (rw (← is) h))
-
-pub widen_free : (past : Past) (st : State) (n : ℕ) (a : List ℕ) → st ≡ book_of past → is_area past a ≡ true → first_refusal (book.widen_checks st n a) ≡ None → IsOk (widen past n a)
-widen_free past st n a is there checked = subst IsOk (sym (widen_taken past st n a is there checked)) refl
-
-pub widen_first : (past : Past) (st : State) (n : ℕ) (a : List ℕ) (e : book_refusal.Refusal) → st ≡ book_of past → is_area past a ≡ true → first_refusal (book.widen_checks st n a) ≡ Some e → widen past n a ≡ Err (of_book e)
-widen_first past st n a e is there h =
-    past_check (not (is_area past a)) refusal.NoSuchArea (unless (by_book (book.widen_checks (book_of past) n a)) (Ok answer.Done)) (Err (of_book e)) (ap not there)
-    (refused of_book (book.widen_checks (book_of past) n a) (Ok answer.Done) e (rw (← is) h))
-
-pub narrow_free : (past : Past) (st : State) (n : ℕ) (a : List ℕ) → st ≡ book_of past → is_area past a ≡ true → first_refusal (book.narrow_checks st n a) ≡ None → IsOk (narrow past n a)
-narrow_free past st n a is there checked = subst IsOk (sym (narrow_taken past st n a is there checked)) refl
-
-pub narrow_first : (past : Past) (st : State) (n : ℕ) (a : List ℕ) (e : book_refusal.Refusal) → st ≡ book_of past → is_area past a ≡ true → first_refusal (book.narrow_checks st n a) ≡ Some e → narrow past n a ≡ Err (of_book e)
-narrow_first past st n a e is there h = narrow_refused past st n a e is there h
-
-pub stop_free : (past : Past) (st : State) (n : ℕ) → st ≡ book_of past → first_refusal (book.stop_checks st n) ≡ None → IsOk (stop past n)
-stop_free past st n is checked = subst IsOk (sym (stop_taken past st n is checked)) refl
-
-pub stop_first : (past : Past) (st : State) (n : ℕ) (e : book_refusal.Refusal) → st ≡ book_of past → first_refusal (book.stop_checks st n) ≡ Some e → stop past n ≡ Err (of_book e)
-stop_first past st n e is h = stop_refused past st n e is h
-
--- what follows the book's checks of a Forget
-abbrev kept_checks : Past → ℕ → List (Bool × Refusal)
-kept_checks past n = (warning_is (book_of past) n (is_reported past), refusal.StillReported) ∷ (warning_is (book_of past) n (is_in_flight past), refusal.StillInFlight) ∷ []
-
-pub forget_refused : (past : Past) (st : State) (n : ℕ) (e : book_refusal.Refusal) → st ≡ book_of past → first_refusal (book.forget_checks st n) ≡ Some e → forget past n ≡ Err (of_book e)
-forget_refused past st n e is h =
-    refused_first of_book (book.forget_checks (book_of past) n) (kept_checks past n) (Ok answer.Done) e (rw (← is) h)
-
-pub forget_missing : (past : Past) (st : State) (n : ℕ) → st ≡ book_of past → warning_of st n ≡ None → forget past n ≡ Err refusal.NoSuchWarning
-forget_missing past st n is h =
-    let none : list_any (has_number n) (book_of past).warnings ≡ false = none_found n (book_of past).warnings (rw (← is) h) in
-    rw none refl
-
--- what the book does not refuse is refused by what is kept of the warning
-pub forget_found : (past : Past) (st : State) (n : ℕ) (w : Warning) → st ≡ book_of past → is_ascending number_lt st.warnings ≡ true → warning_of st n ≡ Some w → first_refusal (book.forget_checks st n) ≡ None → forget past n ≡ unless (idle_checks past w) (Ok answer.Done)
-forget_found past st n w is ordered h checked =
-    let order : is_ascending number_lt (book_of past).warnings ≡ true = rw (← is) ordered in
-    let found : find (has_number n) (book_of past).warnings ≡ Some w = rw (← is) h in
-    let reported : is_so n (is_reported past) (book_of past).warnings ≡ is_reported past w = found_so n (is_reported past) (book_of past).warnings w order found in
-    let flying : is_so n (is_in_flight past) (book_of past).warnings ≡ is_in_flight past w = found_so n (is_in_flight past) (book_of past).warnings w order found in
-    passed of_book (book.forget_checks (book_of past) n) (kept_checks past n) (Ok answer.Done) (rw (← is) checked) ∙ (rw (reported, flying) refl)
 
 -- a warning that the book does not refuse to forget is not active
 pub forget_inactive : (st : State) (n : ℕ) (w : Warning) → warning_of st n ≡ Some w → first_refusal (book.forget_checks st n) ≡ None → w.active ≡ false

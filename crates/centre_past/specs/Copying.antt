@@ -4,9 +4,6 @@ use Rattle.centre_past.specs.declared.kept.Kept.{Kept}
 
 -- The copy is the same in memory of its own, but that no access to its lines is counted.
 pub record IsCopy (kept copy : Kept) : Type 0 where
-  pub register : copy.register ≡ kept.register
-  pub areas : copy.areas ≡ kept.areas
-  pub book : copy.book ≡ kept.book
+  pub plan : copy.plan ≡ kept.plan
   pub links : copy.links.items ≡ kept.links.items
-  pub flights : copy.flights.items ≡ kept.flights.items
   pub tables : copy.tables ≡ record kept.tables { lines = record kept.tables.lines { meter = 0 } }

@@ -7,15 +7,15 @@ use Rattle.kept_tables.specs.Tables.{SameTables, Tables}
 use Rattle.mirror.specs.Known as kept
 use Rattle.mirror.specs.Table.{Table}
 use Rattle.warning_book.specs.declared.warning.Warning.{Warning}
-use Rattle.centre_events.specs.Kept.{flight_in}
+use Rattle.centre_past.specs.Links.{flight_in}
 use Rattle.centre_events.specs.Known.{is_known}
 use Rattle.centre_events.specs.Past.{Past}
 use Rattle.centre_events.specs.Reported.{flight_names}
-use Rattle.centre_events.specs.declared.flight.Flight.{Flight}
+use Rattle.centre_past.specs.declared.link.Link.{Link}
 
 -- what is in flight to one of these BSCs names a version of the warning
-abbrev pub is_flying : List Flight → Warning → List ℕ → Bool
-is_flying fs w bs = list_any (λ b. flight_names w (flight_in fs b)) bs
+abbrev pub is_flying : List Link → Warning → List ℕ → Bool
+is_flying ls w bs = list_any (λ b. flight_names w (flight_in ls b)) bs
 
 -- the cells that are known at each BSC are those of the past
 pub record AreKnownOf (past : Past) (t : Table) (r : State) : Type 0 where

@@ -6,7 +6,7 @@ pub mod Fits
 pub mod Legal
 pub mod Alike
 pub mod LinkStates
-pub mod Flights
+pub mod Links
 pub mod Headline
 pub mod Issued
 pub mod Beginning
@@ -17,3 +17,4 @@ pub mod Idle
 pub mod IsKept
 pub mod Copying
 pub mod VerdictLaws
+pub mod EditCauses

@@ -21,6 +21,7 @@ use Rattle.centre_past.specs.Facts.{facts}
 use Rattle.centre_events.specs.InFlight.{in_flight}
 use Rattle.centre_events.specs.Kept.{IsRegisterOf, AreAreasOf}
 use Rattle.centre_past.specs.Legal.{Legal}
+use Rattle.centre_events.specs.Links.{bsc_of}
 use Rattle.centre_events.specs.Past.{Past}
 use Rattle.centre_events.specs.Settings.{Settings}
 use Rattle.centre_events.specs.Verdict.{answered, edit_answered}
@@ -74,16 +75,6 @@ pub record EditTold (settings : Settings) (past : Past) (r : register.State) (l 
   pub selected : AreAreasOf past l
   pub answer : Answer
   pub accepted : edit_answered past e ≡ Ok answer
-
--- the BSC of an event; none where it is an edit
-abbrev pub bsc_of : Event → Option ℕ
-bsc_of (event.Edit e) = None
-bsc_of (event.Retry b) = Some b
-bsc_of (event.LinkUp b) = Some b
-bsc_of (event.LinkDown b generation) = Some b
-bsc_of (event.Send b generation) = Some b
-bsc_of (event.Ask b generation n after) = Some b
-bsc_of (event.Report b generation message) = Some b
 
 -- the event is no edit, and what is in flight to its BSC is that
 abbrev pub IsFlightOf : Past → Option ℕ → Option InFlight → Type 0

@@ -1,5 +1,5 @@
--- What a centre keeps beside its journal, and how it is tied to the past.
-use Rattle.std.specs.Prelude.{◌≡◌, ℕ, Bool, true, false, ◌&&◌, not, List, [], ◌∷◌, ◌++◌, Option, Some, None, find, length, nat_eq, if◌then◌else◌}
+-- What is read of one line, from what a centre keeps beside its journal.
+use Rattle.std.specs.Prelude.{◌≡◌, ℕ, Bool, ◌&&◌, not, List, Option, Some, None, length, nat_eq, if◌then◌else◌}
 use Rattle.std.specs.List.{filter, list_any}
 use Rattle.areas.specs.Areas as kept
 use Rattle.areas.specs.declared.area.Area.{Area}
@@ -11,39 +11,7 @@ use Rattle.kept_tables.specs.declared.line_facts.LineFacts.{LineFacts}
 use Rattle.mirror.specs.declared.line.Line.{Line}
 use Rattle.warning_book.specs.Book.{current_of}
 use Rattle.warning_book.specs.declared.warning.Warning.{Warning}
-use Rattle.centre_events.specs.Links.{is_up, last_link}
-use Rattle.centre_events.specs.Past.{Past}
 use Rattle.centre_events.specs.Warnings.{serials}
-use Rattle.coverage_plan.specs.declared.edit.Edit.{Edit}
-use Rattle.coverage_plan.specs.declared.edit.Edit.TheVariants.{AddBsc}
-use Rattle.centre_events.specs.declared.event.Event.{Event}
-use Rattle.centre_events.specs.declared.event.Event.TheVariants as event
-use Rattle.centre_past.specs.declared.link.Link.{Link}
-
--- the link is the BSC's
-abbrev pub is_link_of : ℕ → Link → Bool
-is_link_of b l = nat_eq l.bsc b
-
--- that of the BSC, if something is kept of it
-abbrev pub link_in : List Link → ℕ → Option Link
-link_in ls b = find (is_link_of b) ls
-
--- whether a link is up; it isn't where nothing is kept of it
-abbrev pub up_of : Option Link → Bool
-up_of None = false
-up_of (Some l) = l.is_up
-
--- its generation; 0 where nothing is kept of it
-abbrev pub generation_of : Option Link → ℕ
-generation_of None = 0
-generation_of (Some l) = l.generation
-
--- the links tell of each BSC what the past says
-pub record AreLinksOf (past : Past) (ls : List Link) : Type 0 where
-  pub ups : (b : ℕ) → up_of (link_in ls b) ≡ is_up past b
-  pub generations : (b : ℕ) → generation_of (link_in ls b) ≡ last_link past b
-
--- What is read of one line, from what is kept.
 
 -- the warning is wanted in the cell at the BSC
 abbrev pub wants_in : register.State → List Area → ℕ → Warning → Cell → Bool
@@ -85,25 +53,3 @@ facts_from r l down b c line (Some w) = record {
   here = is_place (place_in r c) b;
   active = w.active;
 }
-
--- The links after an event.
-
--- without what is kept of the BSC's link
-abbrev pub without_link : ℕ → List Link → List Link
-without_link b ls = filter (λ l. not (is_link_of b l)) ls
-
--- with that in its place
-abbrev pub with_link : ℕ → Bool → ℕ → List Link → List Link
-with_link b up generation ls = without_link b ls ++ record { bsc = b; is_up = up; generation = generation } ∷ []
-
--- a BSC is registered without a link
-abbrev pub links_edited : Edit → List Link → List Link
-links_edited (AddBsc b) ls = without_link b ls
-links_edited other ls = ls
-
--- the links after the event, whose entry has that number
-abbrev pub links_after : Event → ℕ → List Link → List Link
-links_after (event.Edit e) place ls = links_edited e ls
-links_after (event.LinkUp b) place ls = with_link b true place ls
-links_after (event.LinkDown b generation) place ls = with_link b false (generation_of (link_in ls b)) ls
-links_after other place ls = ls

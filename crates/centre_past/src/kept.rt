@@ -1,23 +1,17 @@
 //! What a centre keeps beside its journal.
 
-use crate::flights;
 use crate::link::Link;
-use areas::Areas;
-use cell_register::Register;
-use centre_events::flight::Flight;
+use crate::links;
+use coverage_plan::Plan;
 use kept_tables::KeptTables;
 use std::alloc::{AllocError, Global};
-use warning_book::Book;
 
-/// What the entries of a journal come to: the plan's parts, the links, what is in flight, and the lines with what is
+/// What the entries of a journal come to: the plan, the links with what is in flight over them, and the lines with what is
 /// pending and counted for them.
 #[derive(Drop)]
 pub struct Kept {
-    pub register: Register,
-    pub areas: Areas,
-    pub book: Book,
+    pub plan: Plan,
     pub links: Vec<Link>,
-    pub flights: Vec<Flight>,
     pub tables: KeptTables,
 }
 
@@ -34,11 +28,8 @@ impl Kept {
         ensures meter { result.tables.lines.meter ≡ 0 }
     {
         Kept {
-            register: Register::new(alloc),
-            areas: Areas::new(alloc),
-            book: Book::new(alloc),
+            plan: Plan::new(alloc),
             links: Vec::new(alloc),
-            flights: Vec::new(alloc),
             tables: KeptTables::new(alloc),
         }
     }
@@ -49,11 +40,8 @@ impl Kept {
         ensures kept { (past : Past) → IsKept past self.now → IfOk result (IsKept past) }
     {
         Ok(Kept {
-            register: self.register.copied()?,
-            areas: self.areas.copied()?,
-            book: self.book.copied()?,
-            links: self.links.clone()?,
-            flights: flights::copied(alloc, self.flights.as_slice())?,
+            plan: self.plan.copied()?,
+            links: links::copied(alloc, self.links.as_slice())?,
             tables: self.tables.copied()?,
         })
     }

@@ -23,13 +23,14 @@ ghost use Rattle.centre_events.specs.Presence.{effect_at};
 ghost use Rattle.centre_events.specs.Settings.{Settings};
 ghost use Rattle.centre_events.specs.Warnings.{book_of, is_version, kind_in};
 ghost use Rattle.centre_events.specs.Stepping.{stepped, updates_once, WasLine};
-ghost use Rattle.centre_past.specs.State.{AreLinksOf, links_after, facts_from};
+ghost use Rattle.centre_past.specs.Links.{AreLinksOf, links_after};
+ghost use Rattle.centre_past.specs.State.{facts_from};
 ghost use Rattle.centre_events.specs.declared.entry.Entry.{Entry};
 ghost use Rattle.centre_past.specs.declared.link.Link.{Link};
 
 #[tactic(auto, using(crate::proofs::LinkLemmas::links_with))]
 fn links_with()
-    ensures { (e : Entry) (before : Past) (ls : List Link) → AreLinksOf before ls → AreLinksOf (After e before) (links_after e.event (position before + 1) ls) }
+    ensures { (settings : Settings) (e : Entry) (before : Past) (ls : List Link) → Legal settings (After e before) → AreLinksOf before ls → AreLinksOf (After e before) (links_after e.event e.answer (position before + 1) ls) }
 {}
 
 #[tactic(auto, using(crate::proofs::FactsLemmas::facts_same))]

@@ -3,10 +3,9 @@
 //! A past is what the entries of a journal come to. Here is what is legal, which numbers, tables and lines a past has, on
 //! which lines an event bears (`specs/`), and what holds of every legal past (`proofs/`, which the crates above cite).
 //! `kept` is what a centre keeps beside its journal, and `specs/IsKept` says that it is what the past says. `kept`,
-//! `links`, `flights`, `keys` and `telling` are public only for the crates above, up to `centre_core`.
+//! `links`, `keys` and `telling` are public only for the crates above, up to `centre_core`.
 #![tactic(auto)]
 
-pub mod flights;
 pub mod kept;
 pub mod keys;
 mod lemmas;
@@ -17,3 +16,4 @@ pub mod lists;
 pub mod meter;
 pub mod reported;
 pub mod telling;
+pub mod up_or_down;

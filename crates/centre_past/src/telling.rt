@@ -26,5 +26,5 @@ pub fn tell_reads()
 /// A lemma, not a test: the cells that are known by what is kept are those of the past.
 #[tactic(auto, using(crate::proofs::ReadLemmas::known_kept))]
 pub fn tell_known()
-    ensures { (settings : Settings) (past : Past) (s : Kept) → Legal settings past → IsKept past s → TellsLines s.tables.lines → AreKnownOf past s.tables.lines s.register }
+    ensures { (settings : Settings) (past : Past) (s : Kept) → Legal settings past → IsKept past s → TellsLines s.tables.lines → AreKnownOf past s.tables.lines s.plan.register }
 {}

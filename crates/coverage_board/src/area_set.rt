@@ -1,6 +1,6 @@
 //! Some of the areas of a warning.
 
-ghost use Rattle.std.specs.Prelude.{◌≡◌, ◌<◌, true, bytes_eq, length};
+ghost use Rattle.std.specs.Prelude.{◌≡◌, ◌<◌, [], true, bytes_eq, length};
 ghost use Rattle.common.specs.Order.{each_once};
 ghost use Rattle.coverage_board.specs.AreaSets.{names_at, power};
 ghost use Rattle.coverage_board.specs.Parts.{has_areas};
@@ -37,6 +37,23 @@ impl<'a> AreaSet<'a> {
         ensures { result ≡ names_at bits.bits names.now }
     {
         AreaSet { names, bits }
+    }
+
+    /// No areas.
+    pub fn none() -> AreaSet<'a>
+        ensures { result ≡ [] }
+    {
+        AreaSet::of(&[], AreaBits::none())
+    }
+
+    /// The same areas.
+    pub fn lent(&self) -> AreaSet<'a>
+        ensures { result ≡ self.now }
+    {
+        AreaSet {
+            names: self.names,
+            bits: self.bits,
+        }
     }
 
     /// Whether there is one. No name is looked at.

@@ -1,15 +1,17 @@
 -- What each edit makes of a plan.
-use Rattle.std.specs.Prelude.{ℕ, List, Option, Some, None}
+use Rattle.std.specs.Prelude.{ℕ, ◌+◌, List, Option, Some, None}
 use Rattle.areas.specs.Areas.{with_area, without_area, with_selector, without_selector}
 use Rattle.areas.specs.declared.area.Area.{Area}
 use Rattle.cell_register.specs.Register.{with_bsc, without_bsc, with_cell, moved, without_cell}
 use Rattle.cell_register.specs.Register as register
-use Rattle.warning_book.specs.Book.{new_serial, after_issue, after_update, after_widen, after_narrow, after_stop, after_forget}
+use Rattle.warning_book.specs.Book.{new_serial, next_serial, after_issue, after_update, after_widen, after_narrow, after_stop, after_forget}
 use Rattle.warning_book.specs.Book as book
 use Rattle.warning_book.specs.declared.notice.Notice.{Notice}
 use Rattle.coverage_plan.specs.Plan.{State}
 use Rattle.coverage_plan.specs.declared.edit.Edit.{Edit}
 use Rattle.coverage_plan.specs.declared.edit.Edit.TheVariants.{AddBsc, RemoveBsc, AddCell, MoveCell, RemoveCell, AddArea, DropArea, Put, Cut, Issue, Update, Widen, Narrow, Stop, Forget}
+use Rattle.coverage_plan.specs.declared.made.Made.{Made}
+use Rattle.coverage_plan.specs.declared.made.Made.TheVariants.{Done, Issued, Updated}
 
 -- the register after the edit
 abbrev pub register_after : Edit → register.State → register.State
@@ -46,3 +48,17 @@ book_after other st = st
 -- the plan after the edit
 abbrev pub edited : Edit → State → State
 edited edit st = record { register = register_after edit st.register; areas = areas_after edit st.areas; book = book_after edit st.book }
+
+-- what an edit gives that is made: a new warning its number and its serial number, a new version its serial number
+abbrev pub issued_as : ℕ → Option ℕ → Made
+issued_as n None = Done
+issued_as n (Some s) = Issued n s
+
+abbrev pub updated_as : Option ℕ → Made
+updated_as None = Done
+updated_as (Some s) = Updated s
+
+abbrev pub made_of : Edit → State → Made
+made_of (Issue notice areas) st = issued_as (st.book.issued + 1) (new_serial st.book notice)
+made_of (Update n content) st = updated_as (next_serial st.book n)
+made_of other st = Done

@@ -6,3 +6,4 @@ pub mod Changes
 pub mod ChangeLaws
 pub mod Reach
 pub mod CheckLaws
+pub mod Sound

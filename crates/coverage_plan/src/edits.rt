@@ -1,13 +1,14 @@
 //! The edits that bear on both the areas and the book. An edit that is refused leaves both as they were.
 
-ghost use Rattle.std.specs.Prelude.{◌≡◌, None, Some, OnOk, OnErr, IfErr};
+ghost use Rattle.std.specs.Prelude.{◌≡◌, ◌+◌, None, Some, IfOk, OnOk, OnErr, IfErr};
 ghost use Rattle.areas.specs.Areas.{without_area};
 ghost use Rattle.common.specs.Checks.{first_refusal};
 ghost use Rattle.warning_book.specs.Book.{new_serial, after_widen, after_narrow};
 ghost use Rattle.coverage_plan.specs.Checks.{IsRefusal, drop_area_checks, issue_checks, widen_checks, narrow_checks};
-ghost use Rattle.coverage_plan.specs.Edited.{with_issue};
+ghost use Rattle.coverage_plan.specs.Edited.{issued_as, with_issue};
 
 use crate::checks::{check_drop_area, check_issue, check_narrow, check_widen};
+use crate::made::Made;
 use crate::refusal::Refusal;
 use areas::Areas;
 use common::Name;
@@ -25,22 +26,23 @@ pub(crate) fn drop_area(areas: &mut Areas, book: &Book, a: &Name) -> Result<(), 
     Ok(())
 }
 
-/// Puts a new warning into the book.
+/// Puts a new warning into the book, and answers its number and its serial number.
 #[tactic(auto, using(crate::proofs::CheckLemmas::translated_none, crate::proofs::CheckLemmas::translated_first))]
 pub(crate) fn issue(
     areas: &Areas,
     book: &mut Book,
     notice: &Notice,
     names: &[Name],
-) -> Result<(), Refusal>
+) -> Result<Made, Refusal>
     ensures accepted { OnOk result (first_refusal (issue_checks areas.now book.old notice.now names.now) ≡ None) }
     ensures changed { OnOk result (book.new ≡ with_issue notice.now names.now (new_serial book.old notice.now) book.old) }
+    ensures made { IfOk result (λ made. made ≡ issued_as (book.old.issued + 1) (new_serial book.old notice.now)) }
     ensures refused { IfErr result (IsRefusal (issue_checks areas.now book.old notice.now names.now)) }
     ensures unchanged { OnErr result (book.new ≡ book.old) }
 {
     check_issue(areas, book, notice, names)?;
-    book.issue(notice, names)?;
-    Ok(())
+    let (number, serial) = book.issue(notice, names)?;
+    Ok(Made::Issued(number, serial))
 }
 
 /// Puts an area last among those of a warning.

@@ -2,7 +2,7 @@
 //!
 //! A plan has the register, the areas and the book of warnings, and changes them by one edit at a time. Begin with
 //! `plan`; what is wanted where stands in `specs/Plan.antt`, what refuses an edit in `specs/Checks.antt`, and what an
-//! edit makes of a plan in `specs/Edited.antt`. Which pairs of a cell and a warning an edit changes is said in
+//! edit makes of a plan and gives in `specs/Edited.antt`. Which pairs of a cell and a warning an edit changes is said in
 //! `specs/Changes.antt`, and what stays for the others in `specs/ChangeLaws.antt`.
 #![tactic(auto)]
 
@@ -12,6 +12,7 @@ mod edit;
 mod edits;
 mod gathering;
 pub mod laws;
+mod made;
 mod pairs;
 mod plan;
 mod plan_item;
@@ -22,6 +23,7 @@ mod refusal;
 
 pub use edit::Edit;
 pub use gathering::covered_cells;
+pub use made::Made;
 pub use pairs::Pairs;
 pub use plan::Plan;
 pub use plan_item::PlanItem;

@@ -4,6 +4,7 @@ use crate::checks::{check_drop_area, check_issue, check_narrow, check_widen};
 use crate::covering::is_covered;
 use crate::edit::Edit;
 use crate::edits::{drop_area, issue, narrow, widen};
+use crate::made::Made;
 use crate::pairs::Pairs;
 use crate::plan_item::PlanItem;
 use crate::plan_items::PlanItems;
@@ -43,7 +44,8 @@ impl Plan {
     ghost use Rattle.coverage_plan.specs.Changes.{ArePairs, Changes};
     ghost use Rattle.coverage_plan.specs.Checks.{IsRefusal, edit_checks, grows_nothing, grows_no_list};
     ghost use Rattle.coverage_plan.specs.Reach.{is_of_cell, is_of_selector, is_of_areas};
-    ghost use Rattle.coverage_plan.specs.Edited.{edited};
+    ghost use Rattle.coverage_plan.specs.Edited.{edited, made_of};
+    ghost use Rattle.coverage_plan.specs.Sound.{IsSound};
 
     /// A plan without BSCs, areas and warnings. What it will need is taken from the allocator.
     pub fn new(alloc: Global) -> Plan
@@ -55,6 +57,27 @@ impl Plan {
             areas: Areas::new(alloc),
             book: Book::new(alloc),
         }
+    }
+
+    /// The same in memory of its own.
+    pub fn copied(&self) -> Result<Plan, AllocError>
+        ensures { IfOk result (λ copy. copy ≡ self.now) }
+    {
+        Ok(Plan {
+            alloc: self.alloc,
+            register: self.register.copied()?,
+            areas: self.areas.copied()?,
+            book: self.book.copied()?,
+        })
+    }
+
+    /// Lemma: what holds of every plan, for the proofs of callers. It does nothing.
+    pub fn tell_soundness(&self)
+        ensures { IsSound self.now }
+    {
+        self.register.tell_soundness();
+        self.areas.tell_soundness();
+        self.book.tell_soundness();
     }
 
     pub fn register(&self) -> &Register
@@ -103,14 +126,15 @@ impl Plan {
         Ok(())
     }
 
-    /// Makes the edit.
+    /// Makes the edit, and answers what it gives.
     ///
     /// Refused as `check` says, else as `Memory` where it is out of memory; an `Err` leaves the plan as it was. An edit that
     /// only moves, takes out or stops what is there takes no memory, and is refused only as `check` says.
     #[tactic(auto, using(crate::proofs::CheckLemmas::translated_none, crate::proofs::CheckLemmas::translated_first))]
-    pub fn make(&mut self, edit: &Edit) -> Result<(), Refusal>
+    pub fn make(&mut self, edit: &Edit) -> Result<Made, Refusal>
         ensures accepted { OnOk result (first_refusal (edit_checks self.old edit.now) ≡ None) }
         ensures changed { OnOk result (self.new ≡ edited edit.now self.old) }
+        ensures made { IfOk result (λ made. made ≡ made_of edit.now self.old) }
         ensures refused { IfErr result (IsRefusal (edit_checks self.old edit.now)) }
         ensures without_memory { grows_nothing edit.now ≡ true → IfErr result (λ e. first_refusal (edit_checks self.old edit.now) ≡ Some e) }
         ensures unchanged { OnErr result (self.new ≡ self.old) }
@@ -126,17 +150,19 @@ impl Plan {
             Edit::Put(a, s) => self.areas.put(a, *s)?,
             Edit::Cut(a, s) => self.areas.cut(a, *s)?,
             Edit::Issue(notice, names) => {
-                issue(&self.areas, &mut self.book, notice, names.as_slice())?;
+                let made = issue(&self.areas, &mut self.book, notice, names.as_slice())?;
+                return Ok(made);
             }
             Edit::Update(number, content) => {
-                self.book.update(*number, content)?;
+                let serial = self.book.update(*number, content)?;
+                return Ok(Made::Updated(serial));
             }
             Edit::Widen(number, a) => widen(&self.areas, &mut self.book, *number, a)?,
             Edit::Narrow(number, a) => narrow(&self.areas, &mut self.book, *number, a)?,
             Edit::Stop(number) => self.book.stop(*number)?,
             Edit::Forget(number) => self.book.forget(*number)?,
         }
-        Ok(())
+        Ok(Made::Done)
     }
 
     /// The cell with each warning in the book.

@@ -384,8 +384,8 @@ impl KeptTables {
     fn change(
         &mut self,
         key: LineKey,
-        before: &LineFacts,
-        after: &LineFacts,
+        before: &LineFacts<'_>,
+        after: &LineFacts<'_>,
         stays: Stays,
     ) -> Result<(), AllocError>
         requires part { HasPart self.old key before.now after.now }
@@ -413,7 +413,7 @@ impl KeptTables {
 
     /// The same for a step: of what is read of the line, the line itself and whether its cell is down may be another.
     #[inline(always)]
-    fn change_standing(&mut self, step: &Step) -> Result<(), AllocError>
+    fn change_standing(&mut self, step: &Step<'_>) -> Result<(), AllocError>
         requires { HasPart self.old step.now.key step.now.before (change_of step.now).after }
         ensures changed { OnOk result (Shifted self.old self.new step.now.key step.now.before (change_of step.now).after) }
         ensures downs { self.new.lines.downs ≡ self.old.lines.downs }
@@ -441,8 +441,8 @@ impl KeptTables {
     pub fn make(
         &mut self,
         key: &LineKey,
-        before: &LineFacts,
-        after: &LineFacts,
+        before: &LineFacts<'_>,
+        after: &LineFacts<'_>,
         stays: Stays,
     ) -> Result<(), AllocError>
         requires next { IsNext self.old (record { key = key.now; before = before.now; after = after.now }) }
@@ -460,7 +460,7 @@ impl KeptTables {
 
     /// Takes the step that is next. At an `Err` memory ran out, and the tables are of no use any more.
     #[inline(always)]
-    pub fn take_step(&mut self, step: &Step) -> Result<(), AllocError>
+    pub fn take_step(&mut self, step: &Step<'_>) -> Result<(), AllocError>
         requires { IsNext self.old (change_of step.now) }
         ensures made { OnOk result ((n : IsNext self.old (change_of step.now)) → Consistent self.new (mixed n.begins.from n.begins.to (n.done ++ change_of step.now ∷ []))) }
         ensures downs { self.new.lines.downs ≡ self.old.lines.downs }

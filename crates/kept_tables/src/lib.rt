@@ -6,8 +6,6 @@
 //! list of changes leads from one view to another; what follows for a caller stands in `ConsistentLaws`.
 #![tactic(auto)]
 
-mod area_names;
-mod covering_areas;
 mod kept_tables;
 mod line_facts;
 mod serial_list;
@@ -15,8 +13,6 @@ mod spot;
 mod stays;
 mod step;
 
-pub use area_names::AreaNames;
-pub use covering_areas::CoveringAreas;
 pub use kept_tables::KeptTables;
 pub use line_facts::LineFacts;
 pub use serial_list::Serials;

@@ -1,40 +1,38 @@
 //! What is read of one line.
 
-ghost use Rattle.std.specs.Prelude.{◌≡◌, IfOk};
+ghost use Rattle.std.specs.Prelude.{◌≡◌};
 ghost use Rattle.coverage_board.specs.Reading.{stand_of as stand_kept};
 ghost use Rattle.kept_tables.specs.Facts.{no_facts, seen_of, stand_of};
 ghost use Rattle.mirror.specs.Seen.{seen};
 
-use crate::covering_areas::CoveringAreas;
 use crate::serial_list::Serials;
-use coverage_board::Stand;
+use coverage_board::{AreaSet, Stand};
 use mirror::{Line, Sight};
 use serials::Serial;
-use std::alloc::AllocError;
 
-/// What the orders and the board's numbers of one BSC, cell and warning depend on.
+/// What the orders and the board's numbers of one BSC, cell and warning depend on. The lists are lent.
 #[derive(Drop)]
-pub struct LineFacts {
+pub struct LineFacts<'a> {
     pub line: Line,
     /// The warning's message identifier (TS 23.041, 9.4.1.2.2).
     pub message_id: u16,
     /// The serial numbers of its versions, the current one last.
-    pub versions: Serials,
+    pub versions: Serials<'a>,
     /// The serial number that is wanted there, if one is.
     pub wanted: Option<Serial>,
     /// The cell is down: its BSC reported that it failed.
     pub down: bool,
     /// Those of the warning's areas that cover the cell.
-    pub areas: CoveringAreas,
+    pub areas: AreaSet<'a>,
     /// The cell is registered at this BSC.
     pub here: bool,
     /// The warning is active.
     pub active: bool,
 }
 
-impl LineFacts {
-    /// The line of a warning that isn't in the book. It takes no memory.
-    pub fn none(down: bool, here: bool) -> LineFacts
+impl<'a> LineFacts<'a> {
+    /// The line of a warning that isn't in the book.
+    pub fn none(down: bool, here: bool) -> LineFacts<'a>
         ensures { result ≡ no_facts down here }
     {
         LineFacts {
@@ -43,7 +41,7 @@ impl LineFacts {
             versions: Serials::none(),
             wanted: None,
             down,
-            areas: CoveringAreas::none(),
+            areas: AreaSet::none(),
             here,
             active: false,
         }
@@ -70,7 +68,7 @@ impl LineFacts {
     {
         Stand {
             sight: self.sight_with(line, down),
-            areas: self.areas.as_set(),
+            areas: self.areas.lent(),
             here: self.here,
             active: self.active,
         }

@@ -1,65 +1,41 @@
-//! A list of serial numbers that several lines share.
+//! Serial numbers that are lent.
 
 use serials::Serial;
-use smallvec::SmallVec;
-use std::alloc::{AllocError, Global};
 use std::marker::Model;
-use std::rc::Rc;
 
-/// Serial numbers of the versions of a warning, in their order. Lines of one warning share them in one place in memory. A few
-/// stand in that place themselves.
+/// Serial numbers of the versions of a warning, in their order, where another keeps them. Contracts see the list.
 #[derive(Drop)]
-pub struct Serials {
-    numbers: Option<Rc<SmallVec<Serial, 8>>>,
+pub struct Serials<'a> {
+    numbers: &'a [Serial],
 }
 
-impl Model for Serials {
-    ghost use Rattle.std.specs.Prelude.{List, ℕ, [], unwrap_or};
-    ghost use Rattle.std.specs.Option.{option_map};
+impl<'a> Model for Serials<'a> {
+    ghost use Rattle.std.specs.Prelude.{List, ℕ};
 
     ghost Value = { List ℕ };
 
-    ghost view = { λ s. unwrap_or (option_map (λ r. r.value.items) s.numbers) [] };
+    ghost view = { λ s. s.numbers.now };
 }
 
-impl Serials {
-    ghost use Rattle.std.specs.Prelude.{◌≡◌, [], IfOk};
+impl<'a> Serials<'a> {
+    ghost use Rattle.std.specs.Prelude.{◌≡◌, []};
 
-    /// No serial numbers. It takes no memory.
-    pub fn none() -> Serials
+    /// No serial numbers.
+    pub fn none() -> Serials<'a>
         ensures { result ≡ [] }
     {
-        Serials { numbers: None }
+        Serials { numbers: &[] }
     }
 
-    /// The serial numbers of the vector, which is moved.
-    pub fn from_vec(alloc: Global, numbers: SmallVec<Serial, 8>) -> Result<Serials, AllocError>
-        ensures { IfOk result (λ s. s ≡ numbers.items) }
+    pub fn of(numbers: &'a [Serial]) -> Serials<'a>
+        ensures { result ≡ numbers.now }
     {
-        let numbers = Rc::new(alloc, numbers)?;
-        Ok(Serials {
-            numbers: Some(numbers),
-        })
+        Serials { numbers }
     }
 
-    pub fn as_slice(&self) -> &[Serial]
+    pub fn as_slice(&self) -> &'a [Serial]
         ensures { result.now ≡ self.now }
     {
-        match &self.numbers {
-            Some(numbers) => numbers.as_ref().as_slice(),
-            None => &[],
-        }
-    }
-
-    /// The same serial numbers, in the same place in memory. The only `Err` is that of a place that is shared 2^64 - 1
-    /// times.
-    pub fn shared(&self) -> Result<Serials, AllocError>
-        ensures { IfOk result (λ s. s ≡ self.now) }
-    {
-        let numbers = match &self.numbers {
-            Some(numbers) => Some(numbers.clone()?),
-            None => None,
-        };
-        Ok(Serials { numbers })
+        self.numbers
     }
 }

@@ -6,9 +6,9 @@ use mirror::{Line, LineKey};
 /// What is read of one line before an event, and what of it may be another after the event: the line itself, and whether its
 /// cell is down.
 #[derive(Drop)]
-pub struct Step {
+pub struct Step<'a> {
     pub key: LineKey,
-    pub before: LineFacts,
+    pub before: LineFacts<'a>,
     pub line: Line,
     pub down: bool,
 }

@@ -11,7 +11,7 @@ use Rattle.std.specs.Ordering.{is_eq, match_ordering}
 use Rattle.std.specs.Set.{remove_key}
 use Rattle.std.specs.declared.cmp.Ordering.{Ordering}
 use Rattle.common.specs.declared.cell.Cell.{Cell}
-use Rattle.mirror.specs.Downs.{octet_of, has_octet, count_at, AreCounts}
+use Rattle.mirror.specs.Downs.{class_of, has_class, count_at, AreCounts}
 use Rattle.mirror.specs.Order.{Place, place_cmp, place_of}
 use Rattle.mirror.specs.Table.{is_that_place}
 
@@ -71,35 +71,35 @@ counts_set counts ps qs o v inside are new others n h = step (nat_eq o n) refl
         ap (λ m. get_or (set counts o v) m 0) (sym same) ∙ get_or-set_same counts o v 0 inside ∙ new ∙ ap (λ m. count_at m qs) same
     step false e = get_or-set_other counts o n v 0 (λ same. absurd (grind (arith, nat_tests, e, same))) ∙ are n h ∙ sym (others n e)
 
--- a cell of another octet is another one
-other_octet : (b : ℕ) (c : Cell) (p : Place) → has_octet (octet_of c) p ≡ false → is_that_place b c p ≡ false
-other_octet b c p h = grind (arith, nat_tests, common_steps)
+-- a cell of another class is another one
+other_class : (b : ℕ) (c : Cell) (p : Place) → has_class (class_of c) p ≡ false → is_that_place b c p ≡ false
+other_class b c p h = grind (arith, nat_tests, common_steps)
 
--- a cell is not down where no cell of its octet is
-pub none_counted : (b : ℕ) (c : Cell) (ps : List Place) → count_at (octet_of c) ps ≡ 0 → list_any (is_that_place b c) ps ≡ false
+-- a cell is not down where no cell of its class is
+pub none_counted : (b : ℕ) (c : Cell) (ps : List Place) → count_at (class_of c) ps ≡ 0 → list_any (is_that_place b c) ps ≡ false
 none_counted b c [] h = refl
-none_counted b c (p ∷ ps) h = step (has_octet (octet_of c) p) refl (sym (one_more (has_octet (octet_of c) p) p (filter (has_octet (octet_of c)) ps)) ∙ h) (λ g. none_counted b c ps g)
+none_counted b c (p ∷ ps) h = step (has_class (class_of c) p) refl (sym (one_more (has_class (class_of c) p) p (filter (has_class (class_of c)) ps)) ∙ h) (λ g. none_counted b c ps g)
   where
-    step : (t : Bool) → has_octet (octet_of c) p ≡ t → cond t 1 0 + count_at (octet_of c) ps ≡ 0 → (count_at (octet_of c) ps ≡ 0 → list_any (is_that_place b c) ps ≡ false) → list_any (is_that_place b c) (p ∷ ps) ≡ false
+    step : (t : Bool) → has_class (class_of c) p ≡ t → cond t 1 0 + count_at (class_of c) ps ≡ 0 → (count_at (class_of c) ps ≡ 0 → list_any (is_that_place b c) ps ≡ false) → list_any (is_that_place b c) (p ∷ ps) ≡ false
     step true e g rest = absurd (omega (arith, g))
-    step false e g rest = or_from (is_that_place b c p) (list_any (is_that_place b c) ps) (other_octet b c p e) (rest (omega (arith, g)))
+    step false e g rest = or_from (is_that_place b c p) (list_any (is_that_place b c) ps) (other_class b c p e) (rest (omega (arith, g)))
 
--- the place of a cell has the cell's octet
-own_octet : (c : Cell) → nat_eq (octet_of c) (octet_of c) ≡ true
-own_octet c = grind (arith, nat_tests)
+-- the place of a cell is of the cell's class
+own_class : (c : Cell) → nat_eq (class_of c) (class_of c) ≡ true
+own_class c = grind (arith, nat_tests)
 
-pub count_more : (b : ℕ) (c : Cell) (ps qs : List Place) → qs ≡ insert_key place_cmp ps (place_of b c) → list_any (is_at (place_cmp (place_of b c))) ps ≡ false → count_at (octet_of c) qs ≡ 1 + count_at (octet_of c) ps
+pub count_more : (b : ℕ) (c : Cell) (ps qs : List Place) → qs ≡ insert_key place_cmp ps (place_of b c) → list_any (is_at (place_cmp (place_of b c))) ps ≡ false → count_at (class_of c) qs ≡ 1 + count_at (class_of c) ps
 count_more b c ps qs put absent =
-    ap (count_at (octet_of c)) put ∙ count_inserted place_cmp (has_octet (octet_of c)) (place_of b c) ps absent ∙ ap (λ t. cond t 1 0 + count_at (octet_of c) ps) (own_octet c)
+    ap (count_at (class_of c)) put ∙ count_inserted place_cmp (has_class (class_of c)) (place_of b c) ps absent ∙ ap (λ t. cond t 1 0 + count_at (class_of c) ps) (own_class c)
 
--- with a place more, the count of its octet is greater by one
-pub counts_more : (b : ℕ) (c : Cell) (counts : List ℕ) (ps qs : List Place) (o : ℕ) → o ≡ octet_of c → o < length counts → o < 256 → AreCounts counts ps → qs ≡ insert_key place_cmp ps (place_of b c) → list_any (is_at (place_cmp (place_of b c))) ps ≡ false → AreCounts (set counts o (get_or counts o 0 + 1)) qs
+-- with a place more, the count of its class is greater by one
+pub counts_more : (b : ℕ) (c : Cell) (counts : List ℕ) (ps qs : List Place) (o : ℕ) → o ≡ class_of c → o < length counts → o < 1024 → AreCounts counts ps → qs ≡ insert_key place_cmp ps (place_of b c) → list_any (is_at (place_cmp (place_of b c))) ps ≡ false → AreCounts (set counts o (get_or counts o 0 + 1)) qs
 counts_more b c counts ps qs o own inside small are put absent =
     counts_set counts ps qs o (get_or counts o 0 + 1) inside are new (λ n other. stays n (ap (λ m. nat_eq m n) (sym own) ∙ other))
   where
-    stays : (n : ℕ) → nat_eq (octet_of c) n ≡ false → count_at n qs ≡ count_at n ps
+    stays : (n : ℕ) → nat_eq (class_of c) n ≡ false → count_at n qs ≡ count_at n ps
     stays n other =
-        let more : count_at n qs ≡ 0 + count_at n ps = ap (count_at n) put ∙ count_inserted place_cmp (has_octet n) (place_of b c) ps absent ∙ ap (λ t. cond t 1 0 + count_at n ps) other in
+        let more : count_at n qs ≡ 0 + count_at n ps = ap (count_at n) put ∙ count_inserted place_cmp (has_class n) (place_of b c) ps absent ∙ ap (λ t. cond t 1 0 + count_at n ps) other in
         omega (arith, more)
 
     new : get_or counts o 0 + 1 ≡ count_at o qs
@@ -108,37 +108,37 @@ counts_more b c counts ps qs o own inside small are put absent =
         let now : get_or counts o 0 ≡ count_at o ps = are o small in
         omega (arith, more, now)
 
-at_octet : (b : ℕ) (c : Cell) (n : ℕ) (p : Place) → is_at (place_cmp (place_of b c)) p ≡ true → has_octet n p ≡ nat_eq (octet_of c) n
-at_octet b c n p h =
+at_class : (b : ℕ) (c : Cell) (n : ℕ) (p : Place) → is_at (place_cmp (place_of b c)) p ≡ true → has_class n p ≡ nat_eq (class_of c) n
+at_class b c n p h =
     let identity : p.cell.ci ≡ c.ci = grind (arith, nat_tests, common_steps, h) in
     let area : p.cell.lac ≡ c.lac = grind (arith, nat_tests, common_steps, h) in
-    λ i. nat_eq ((identity i + area i * 61) % 256) n
+    λ i. nat_eq ((identity i + area i * 61) % 1024) n
 
-count_less : (b : ℕ) (c : Cell) (ps qs : List Place) → qs ≡ remove_key (is_at (place_cmp (place_of b c))) ps → list_any (is_at (place_cmp (place_of b c))) ps ≡ true → (n : ℕ) → count_at n qs + cond (nat_eq (octet_of c) n) 1 0 ≡ count_at n ps
+count_less : (b : ℕ) (c : Cell) (ps qs : List Place) → qs ≡ remove_key (is_at (place_cmp (place_of b c))) ps → list_any (is_at (place_cmp (place_of b c))) ps ≡ true → (n : ℕ) → count_at n qs + cond (nat_eq (class_of c) n) 1 0 ≡ count_at n ps
 count_less b c ps qs taken there n =
-    ap (λ rs. count_at n rs + cond (nat_eq (octet_of c) n) 1 0) taken ∙ count_removed (is_at (place_cmp (place_of b c))) (has_octet n) (nat_eq (octet_of c) n) (λ p h. at_octet b c n p h) ps there
+    ap (λ rs. count_at n rs + cond (nat_eq (class_of c) n) 1 0) taken ∙ count_removed (is_at (place_cmp (place_of b c))) (has_class n) (nat_eq (class_of c) n) (λ p h. at_class b c n p h) ps there
 
--- where a place is taken out, the count of its octet is not 0
-pub counted_there : (b : ℕ) (c : Cell) (ps qs : List Place) → qs ≡ remove_key (is_at (place_cmp (place_of b c))) ps → list_any (is_at (place_cmp (place_of b c))) ps ≡ true → 1 ≤ count_at (octet_of c) ps
+-- where a place is taken out, the count of its class is not 0
+pub counted_there : (b : ℕ) (c : Cell) (ps qs : List Place) → qs ≡ remove_key (is_at (place_cmp (place_of b c))) ps → list_any (is_at (place_cmp (place_of b c))) ps ≡ true → 1 ≤ count_at (class_of c) ps
 counted_there b c ps qs taken there =
-    let less : count_at (octet_of c) qs + 1 ≡ count_at (octet_of c) ps = sym (ap (λ t. count_at (octet_of c) qs + cond t 1 0) (own_octet c)) ∙ count_less b c ps qs taken there (octet_of c) in
+    let less : count_at (class_of c) qs + 1 ≡ count_at (class_of c) ps = sym (ap (λ t. count_at (class_of c) qs + cond t 1 0) (own_class c)) ∙ count_less b c ps qs taken there (class_of c) in
     omega (arith, less)
 
 -- and it is less by one afterwards
-pub counts_less : (b : ℕ) (c : Cell) (counts : List ℕ) (ps qs : List Place) (o : ℕ) → o ≡ octet_of c → o < length counts → o < 256 → AreCounts counts ps → qs ≡ remove_key (is_at (place_cmp (place_of b c))) ps → list_any (is_at (place_cmp (place_of b c))) ps ≡ true → AreCounts (set counts o (get_or counts o 0 - 1)) qs
+pub counts_less : (b : ℕ) (c : Cell) (counts : List ℕ) (ps qs : List Place) (o : ℕ) → o ≡ class_of c → o < length counts → o < 1024 → AreCounts counts ps → qs ≡ remove_key (is_at (place_cmp (place_of b c))) ps → list_any (is_at (place_cmp (place_of b c))) ps ≡ true → AreCounts (set counts o (get_or counts o 0 - 1)) qs
 counts_less b c counts ps qs o own inside small are taken there =
     counts_set counts ps qs o (get_or counts o 0 - 1) inside are new (λ n other. left n (count_less b c ps qs taken there n) (ap (λ m. nat_eq m n) (sym own) ∙ other))
   where
-    left : (n : ℕ) → count_at n qs + cond (nat_eq (octet_of c) n) 1 0 ≡ count_at n ps → nat_eq (octet_of c) n ≡ false → count_at n qs ≡ count_at n ps
+    left : (n : ℕ) → count_at n qs + cond (nat_eq (class_of c) n) 1 0 ≡ count_at n ps → nat_eq (class_of c) n ≡ false → count_at n qs ≡ count_at n ps
     left n e other =
         let less : count_at n qs + 0 ≡ count_at n ps = sym (ap (λ t. count_at n qs + cond t 1 0) other) ∙ e in
         omega (arith, less)
 
     new : get_or counts o 0 - 1 ≡ count_at o qs
     new =
-        let less : count_at (octet_of c) qs + 1 ≡ count_at (octet_of c) ps = sym (ap (λ t. count_at (octet_of c) qs + cond t 1 0) (own_octet c)) ∙ count_less b c ps qs taken there (octet_of c) in
-        let now : get_or counts o 0 ≡ count_at (octet_of c) ps = are o small ∙ ap (λ n. count_at n ps) own in
-        let same : count_at o qs ≡ count_at (octet_of c) qs = ap (λ n. count_at n qs) own in
+        let less : count_at (class_of c) qs + 1 ≡ count_at (class_of c) ps = sym (ap (λ t. count_at (class_of c) qs + cond t 1 0) (own_class c)) ∙ count_less b c ps qs taken there (class_of c) in
+        let now : get_or counts o 0 ≡ count_at (class_of c) ps = are o small ∙ ap (λ n. count_at n ps) own in
+        let same : count_at o qs ≡ count_at (class_of c) qs = ap (λ n. count_at n qs) own in
         omega (arith, less, now, same)
 
 zeros : (m n : ℕ) → ◌≡◌ {A = ℕ} (get_or (replicate m 0) n 0) 0
@@ -147,5 +147,5 @@ zeros (suc m) zero = refl
 zeros (suc m) (suc n) = zeros m n
 
 -- of no places each count is 0
-pub counts_none : AreCounts (replicate 256 0) []
-counts_none n h = zeros 256 n
+pub counts_none : AreCounts (replicate 1024 0) []
+counts_none n h = zeros 1024 n

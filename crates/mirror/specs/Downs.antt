@@ -4,18 +4,18 @@ use Rattle.std.specs.List.{slice_index_or}
 use Rattle.common.specs.declared.cell.Cell.{Cell}
 use Rattle.mirror.specs.Order.{Place}
 
--- an octet that is made of the cell's identity and its location area
-abbrev pub octet_of : Cell → ℕ
-octet_of c = (c.ci + c.lac * 61) % 256
+-- the cell's class, one of 1,024, which is made of its identity and its location area
+abbrev pub class_of : Cell → ℕ
+class_of c = (c.ci + c.lac * 61) % 1024
 
--- the place's cell has that octet
-abbrev pub has_octet : ℕ → Place → Bool
-has_octet n p = nat_eq (octet_of p.cell) n
+-- the place's cell is of that class
+abbrev pub has_class : ℕ → Place → Bool
+has_class n p = nat_eq (class_of p.cell) n
 
--- how many of the places have that octet
+-- how many of the places are of that class
 abbrev pub count_at : ℕ → List Place → ℕ
-count_at n ps = length (filter (has_octet n) ps)
+count_at n ps = length (filter (has_class n) ps)
 
--- by the octet, how many of the places have it
+-- by the class, how many of the places are of it
 abbrev pub AreCounts : List ℕ → List Place → Type 0
-AreCounts counts ps = (n : ℕ) → n < 256 → slice_index_or counts n 0 ≡ count_at n ps
+AreCounts counts ps = (n : ℕ) → n < 1024 → slice_index_or counts n 0 ≡ count_at n ps

@@ -4,7 +4,7 @@ ghost use Rattle.std.specs.Prelude.{◌≡◌, ◌<◌, ◌&&◌, ℕ, true, fal
 ghost use Rattle.std.specs.List.{list_any};
 ghost use Rattle.common.specs.Cell.{cell_eq};
 ghost use Rattle.common.specs.declared.cell.Cell.{Cell};
-ghost use Rattle.mirror.specs.Downs.{octet_of};
+ghost use Rattle.mirror.specs.Downs.{class_of};
 ghost use Rattle.mirror.specs.Table.{is_that_place};
 
 use crate::place::Place;
@@ -14,12 +14,15 @@ use std::alloc::{AllocError, Global};
 use std::collections::BTreeSet;
 use std::marker::Model;
 
+/// How many classes of cells there are.
+const CLASSES: usize = 1024;
+
 /// The cells that are down, each at its BSC. Few are down, and each line that is read asks for its cell. So the places are
-/// counted by an octet that is made of their cell: where none has that octet, no place is searched for.
+/// counted by the class of their cell: where none is of that class, no place is searched for.
 #[derive(Drop)]
 pub(crate) struct Downs {
     places: BTreeSet<Place>,
-    counts: [usize; 256],
+    counts: [usize; CLASSES],
 }
 
 impl Model for Downs {
@@ -34,20 +37,19 @@ impl Model for Downs {
     ghost invariant = { λ d. AreCounts d.counts d.places.keys };
 }
 
-/// The octet by which the places of a cell are counted. Cells of the same identity in location areas that follow one another
-/// have others.
-fn octet_of(c: Cell) -> usize
-    ensures octet { result ≡ octet_of c }
-    ensures small { result < 256 }
+/// The class of a cell. Cells of the same identity in location areas that follow one another are of other classes.
+fn class_of(c: Cell) -> usize
+    ensures class { result ≡ class_of c }
+    ensures small { result < 1024 }
 {
-    (usize::from(c.ci) + usize::from(c.lac) * 61) % 256
+    (usize::from(c.ci) + usize::from(c.lac) * 61) % CLASSES
 }
 
 /// The counts of no places.
-fn no_counts() -> [usize; 256]
-    ensures { result ≡ replicate 256 0 }
+fn no_counts() -> [usize; CLASSES]
+    ensures { result ≡ replicate 1024 0 }
 {
-    [0; 256]
+    [0; CLASSES]
 }
 
 impl Downs {
@@ -81,7 +83,7 @@ impl Downs {
     pub(crate) fn is_down(&self, b: BscId, c: Cell) -> bool
         ensures { result ≡ list_any (is_that_place b c) self.now }
     {
-        self.counts[octet_of(c)] != 0 && self.places.contains(&Place::of(b, c))
+        self.counts[class_of(c)] != 0 && self.places.contains(&Place::of(b, c))
     }
 
     /// Sets the cell down at the BSC. Where memory runs out nothing changes. Memory is taken only for a cell that wasn't
@@ -94,7 +96,7 @@ impl Downs {
         if self.places.insert(Place::of(b, c))? {
             // How many places there are bounds how many are counted.
             let _ = self.places.len();
-            self.counts[octet_of(c)] += 1;
+            self.counts[class_of(c)] += 1;
         }
         Ok(())
     }
@@ -104,7 +106,7 @@ impl Downs {
         ensures { (d : ℕ) (e : Cell) → list_any (is_that_place d e) self.new ≡ (if nat_eq b d && cell_eq c e then false else list_any (is_that_place d e) self.old) }
     {
         if self.places.remove(&Place::of(b, c)) {
-            self.counts[octet_of(c)] -= 1;
+            self.counts[class_of(c)] -= 1;
         }
     }
 }

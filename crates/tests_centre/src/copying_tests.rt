@@ -4,27 +4,35 @@ use crate::checks::{same, yes};
 use crate::steps::{COAST, MESSAGE_ID, SEVEN, bsc, first_id, first_serial, name, names, notice};
 use areas::Selector;
 use cell_register::BscId;
-use centre_events::flight::Flight;
 use centre_events::in_flight::InFlight;
 use centre_past::kept::Kept;
 use centre_past::link::Link;
+use centre_past::links::flight_in;
+use centre_past::up_or_down::UpOrDown;
 use common::Cells;
+use coverage_plan::Edit;
 use std::alloc::Global;
 use std::process::Abort;
 use warning_book::Kind;
 
+fn makes(rt: &impl Abort, kept: &mut Kept, edit: Edit) {
+    let made = kept.plan.make(&edit);
+    drop(edit);
+    yes(rt, made.is_ok(), "an edit is made");
+}
+
 /// The coast has a cell of the BSC, and a warning is issued on it.
 fn plans(rt: &impl Abort, alloc: Global, kept: &mut Kept, b: BscId) {
     let coast = name(alloc, COAST).expect(rt, "memory");
+    let put = Edit::Put(coast, Selector::Cell(SEVEN));
+    let coast = name(alloc, COAST).expect(rt, "memory");
     let areas = names(alloc, COAST).expect(rt, "memory");
     let notice = notice(alloc).expect(rt, "memory");
-    yes(rt, kept.register.add_bsc(b).is_ok(), "a BSC");
-    yes(rt, kept.register.add_cell(SEVEN, b).is_ok(), "a cell");
-    yes(rt, kept.areas.add_area(&coast).is_ok(), "an area");
-    let put = kept.areas.put(&coast, Selector::Cell(SEVEN));
-    yes(rt, put.is_ok(), "its cell");
-    let issued = kept.book.issue(&notice, areas.as_slice());
-    yes(rt, issued.is_ok(), "a warning");
+    makes(rt, kept, Edit::AddBsc(b));
+    makes(rt, kept, Edit::AddCell(SEVEN, b));
+    makes(rt, kept, Edit::AddArea(coast));
+    makes(rt, kept, put);
+    makes(rt, kept, Edit::Issue(notice, areas));
 }
 
 fn query(rt: &impl Abort, alloc: Global) -> InFlight {
@@ -40,44 +48,44 @@ fn query(rt: &impl Abort, alloc: Global) -> InFlight {
 fn reports(rt: &impl Abort, alloc: Global, kept: &mut Kept, b: BscId) {
     let link = Link {
         bsc: b,
-        is_up: true,
         generation: 5,
+        state: UpOrDown::Up {
+            flight: Some(query(rt, alloc)),
+        },
     };
     kept.links.push(link).expect(rt, "memory");
-    let in_flight = query(rt, alloc);
-    kept.flights
-        .push(Flight { bsc: b, in_flight })
-        .expect(rt, "memory");
     let set = kept.tables.set_down(Kind::Cbs, b, SEVEN, true);
     set.expect(rt, "memory");
 }
 
-/// Whether the only flight is the query.
-fn has_query(rt: &impl Abort, alloc: Global, kept: &Kept) -> bool {
-    match kept.flights.as_slice() {
-        [flight] => flight.in_flight.same(&query(rt, alloc)),
-        _ => false,
+/// Whether the query is in flight to the BSC.
+fn has_query(rt: &impl Abort, alloc: Global, kept: &Kept, b: BscId) -> bool {
+    match flight_in(kept.links.as_slice(), b) {
+        Some(flight) => flight.same(&query(rt, alloc)),
+        None => false,
     }
 }
 
 /// All of that is there.
 fn is_whole(rt: &impl Abort, alloc: Global, kept: &Kept, b: BscId) {
-    same(rt, kept.register.bsc_of(SEVEN), Some(b), "the cell");
+    let bsc = kept.plan.register().bsc_of(SEVEN);
+    same(rt, bsc, Some(b), "the cell");
     let coast = name(alloc, COAST).expect(rt, "memory");
-    yes(rt, kept.areas.covers(&coast, SEVEN), "the area");
-    yes(rt, kept.book.is_active(first_id()), "the warning");
+    let is_covered = kept.plan.areas().covers(&coast, SEVEN);
+    yes(rt, is_covered, "the area");
+    let is_active = kept.plan.book().is_active(first_id());
+    yes(rt, is_active, "the warning");
     yes(rt, kept.links.len() == 1, "the link");
-    yes(rt, has_query(rt, alloc, kept), "the query");
+    yes(rt, has_query(rt, alloc, kept, b), "the query");
     let is_down = kept.tables.lines().is_down(Kind::Cbs, b, SEVEN);
     yes(rt, is_down, "the cell is down");
 }
 
 /// The cell, the link and the flight are gone, the warning is stopped, and no cell is down.
 fn is_undone(rt: &impl Abort, kept: &mut Kept, b: BscId) {
-    yes(rt, kept.register.remove_cell(SEVEN).is_ok(), "no cell");
-    yes(rt, kept.book.stop(first_id()).is_ok(), "a stop");
+    makes(rt, kept, Edit::RemoveCell(SEVEN));
+    makes(rt, kept, Edit::Stop(first_id()));
     kept.links.clear();
-    kept.flights.clear();
     let set = kept.tables.set_down(Kind::Cbs, b, SEVEN, false);
     set.expect(rt, "memory");
 }

@@ -265,7 +265,7 @@ fn make(rt: &impl Abort, alloc: Global, plan: &mut Plan, edit: &Edit) -> Option<
 fn makes(rt: &impl Abort, plan: &mut Plan, edit: Edit) {
     let made = plan.make(&edit);
     drop(edit);
-    yes(rt, made == Ok(()), "an edit is made");
+    yes(rt, made.is_ok(), "an edit is made");
 }
 
 /// Three BSCs, all cells at the first, and the four areas.

@@ -36,7 +36,7 @@ impl Clone for Warning {
 }
 
 impl Warning {
-    ghost use Rattle.std.specs.Prelude.{◌≡◌};
+    ghost use Rattle.std.specs.Prelude.{◌≡◌, map};
     ghost use Rattle.std.specs.Option.{option_map};
     ghost use Rattle.serials.specs.Serials.{next_of};
     ghost use Rattle.warning_book.specs.Book.{current_of, kind_of};
@@ -59,6 +59,13 @@ impl Warning {
         ensures { result.now ≡ self.now.versions }
     {
         self.versions.as_slice()
+    }
+
+    /// The serial numbers of its versions, the current one last.
+    pub fn serials(&self) -> &[Serial]
+        ensures { result.now ≡ map (λ v. v.serial) self.now.versions }
+    {
+        self.versions.serials()
     }
 
     /// The kind of its versions.

@@ -4,7 +4,10 @@ ghost use Rattle.std.specs.Prelude.{◌≡◌, ◌+◌, Some, None, OnOk, IfErr}
 ghost use Rattle.common.specs.Checks.{first_refusal};
 ghost use Rattle.centre_events.specs.Kept.{IsRegisterOf};
 ghost use Rattle.centre_events.specs.Past.{Past, position};
-ghost use Rattle.centre_past.specs.State.{AreLinksOf};
+ghost use Rattle.centre_past.specs.EditCauses.{own_causes};
+ghost use Rattle.centre_past.specs.Links.{AreLinksOf};
+ghost use Rattle.coverage_plan.specs.declared.edit.Edit.TheVariants as edit;
+ghost use Rattle.centre_answers.specs.Reused.{IsFirst};
 ghost use Rattle.centre_events.specs.Verdict.{retry, link_up, link_checks, link_down};
 
 use crate::events::Verdict;
@@ -53,6 +56,16 @@ pub(crate) fn check_link(
     }
     if !is_up(links, b) {
         return Err(Refusal::LinkNotUp);
+    }
+    Ok(())
+}
+
+/// Whether the link of the BSC is down, so that the BSC can be taken out.
+pub(crate) fn check_down(links: &[Link], b: BscId) -> Result<(), Refusal>
+    ensures { (past : Past) → AreLinksOf past links.now → IsFirst (own_causes past (edit.RemoveBsc b)) result }
+{
+    if is_up(links, b) {
+        return Err(Refusal::LinkIsUp);
     }
     Ok(())
 }

@@ -22,8 +22,8 @@ use cell_register::BscId;
 use centre_events::answer::Answer;
 use centre_events::order_message::query_of;
 use centre_events::refusal::Refusal;
-use centre_past::flights::flight_in;
 use centre_past::kept::Kept;
+use centre_past::links::flight_in;
 use centre_past::telling::tell_lines;
 use common::Cell;
 use kept_tables::KeptTables;
@@ -111,16 +111,16 @@ pub(crate) fn ask(
 ) -> Verdict
     ensures verdict { (settings : Settings) (past : Past) → Legal settings past → IsKept past kept.old → Gives (ask past b generation number after) result }
     ensures reads { OnlyReadsIn kept.old kept.new }
-    ensures meter { (settings : Settings) (past : Past) → Legal settings past → AreKnownOf past kept.old.tables.lines kept.old.register → kept.new.tables.lines.meter ≤ kept.old.tables.lines.meter + length (known_at past b) }
+    ensures meter { (settings : Settings) (past : Past) → Legal settings past → AreKnownOf past kept.old.tables.lines kept.old.plan.register → kept.new.tables.lines.meter ≤ kept.old.tables.lines.meter + length (known_at past b) }
 {
-    if !kept.register.has_bsc(b) {
+    if !kept.plan.register().has_bsc(b) {
         return Err(Refusal::NoSuchBsc);
     }
-    let Some(warning) = kept.book.find(number) else {
+    let Some(warning) = kept.plan.book().find(number) else {
         return Err(Refusal::NoSuchWarning);
     };
-    check_link(kept.links.as_slice(), &kept.register, b, generation)?;
-    if flight_in(kept.flights.as_slice(), b).is_some() {
+    check_link(kept.links.as_slice(), kept.plan.register(), b, generation)?;
+    if flight_in(kept.links.as_slice(), b).is_some() {
         return Err(Refusal::InFlight);
     }
     warning_query(alloc, &mut kept.tables, b, warning, after)

@@ -21,8 +21,8 @@ use centre_events::effects::is_about;
 use centre_events::in_flight::InFlight;
 use centre_events::refusal::Refusal;
 use centre_events::replying::{failed_ids, is_out_of_place, replies_to};
-use centre_past::flights::flight_in;
 use centre_past::kept::Kept;
+use centre_past::links::flight_in;
 use common::Cells;
 use std::alloc::{AllocError, Global};
 use warning_book::Kind;
@@ -37,12 +37,14 @@ fn listed_cells(
     number: u8,
     ids: &[CellId],
 ) -> Result<Cells, AllocError>
-    ensures { (settings : Settings) (past : Past) → Legal settings past → AreKnownOf past kept.now.tables.lines kept.now.register → IfOk result (λ cells. cells ≡ listed_cells network past b number ids.now) }
+    ensures { (settings : Settings) (past : Past) → Legal settings past → AreKnownOf past kept.now.tables.lines kept.now.plan.register → IfOk result (λ cells. cells ≡ listed_cells network past b number ids.now) }
 {
     if !is_about(number, Kind::Cbs) && !is_about(number, Kind::Emergency) {
         return Ok(Cells::from_vec(Vec::new(alloc)));
     }
-    let cells = kept.tables.cells_named(&kept.register, network, b, ids)?;
+    let cells = kept
+        .tables
+        .cells_named(kept.plan.register(), network, b, ids)?;
     Ok(cells)
 }
 
@@ -71,7 +73,7 @@ fn report_answer(
     message: &Message,
     flight: Option<&InFlight>,
 ) -> Verdict
-    ensures { (settings : Settings) (past : Past) → Legal settings past → AreKnownOf past kept.now.tables.lines kept.now.register → Gives (report_answer network past b message.now (option_copied flight.entry)) result }
+    ensures { (settings : Settings) (past : Past) → Legal settings past → AreKnownOf past kept.now.tables.lines kept.now.plan.register → Gives (report_answer network past b message.now (option_copied flight.entry)) result }
 {
     match message {
         Message::Restart(said) => {
@@ -96,10 +98,10 @@ pub(crate) fn report(
     generation: u64,
     message: &Message,
 ) -> Verdict
-    ensures { (settings : Settings) (past : Past) → Legal settings past → IsKept past kept.now → AreKnownOf past kept.now.tables.lines kept.now.register → Gives (report network past b generation message.now) result }
+    ensures { (settings : Settings) (past : Past) → Legal settings past → IsKept past kept.now → AreKnownOf past kept.now.tables.lines kept.now.plan.register → Gives (report network past b generation message.now) result }
 {
-    check_link(kept.links.as_slice(), &kept.register, b, generation)?;
-    let flight = flight_in(kept.flights.as_slice(), b);
+    check_link(kept.links.as_slice(), kept.plan.register(), b, generation)?;
+    let flight = flight_in(kept.links.as_slice(), b);
     if is_out_of_place(message, flight) {
         return Err(Refusal::NoOrder);
     }

@@ -1,5 +1,5 @@
-//! An Update that takes a serial number that a version of its warning has. Whether that version is on air is looked for
-//! in the lines, since its BSCs may have it in cells that are registered nowhere.
+//! Whether an Update is accepted, also one that takes a serial number that a version of its warning has. Whether that
+//! version is on air is looked for in the lines, since its BSCs may have it in cells that are registered nowhere.
 
 ghost use Rattle.std.specs.Prelude.{◌≡◌, ◌≤◌, ◌+◌, true, length, IfSome};
 ghost use Rattle.std.specs.List.{list_any};
@@ -8,10 +8,12 @@ ghost use Rattle.cell_register.specs.Register.{State};
 ghost use Rattle.kept_tables.specs.Consistent.{Consistent};
 ghost use Rattle.warning_book.specs.Book.{has_serial, warning_of};
 ghost use Rattle.centre_answers.specs.Reused.{IsFirst, is_key_flying, key_checks, most_read, reuse_checks, reused_of};
-ghost use Rattle.centre_events.specs.Kept.{AreFlightsOf, IsRegisterOf};
+ghost use Rattle.centre_past.specs.Links.{AreLinksOf};
+ghost use Rattle.centre_events.specs.Kept.{IsChecked, IsRegisterOf};
 ghost use Rattle.centre_events.specs.Past.{Past};
 ghost use Rattle.centre_events.specs.Reported.{is_key_in_flight, is_key_reported, names_version};
 ghost use Rattle.centre_events.specs.Settings.{Settings};
+ghost use Rattle.centre_events.specs.Verdict.{update};
 ghost use Rattle.centre_events.specs.Warnings.{book_of};
 ghost use Rattle.centre_past.specs.Facts.{facts};
 ghost use Rattle.centre_past.specs.Idle.{AreKnownOf, OnlyReads};
@@ -19,16 +21,16 @@ ghost use Rattle.centre_past.specs.Legal.{Legal};
 ghost use Rattle.centre_past.specs.Reach.{known_anywhere, wraps};
 
 use cell_register::{BscId, Register};
-use centre_events::flight::Flight;
 use centre_events::in_flight::InFlight;
 use centre_events::naming::names_serial;
 use centre_events::refusal::Refusal;
 use centre_events::replying::id_of;
-use centre_past::flights::flight_in;
+use centre_past::link::Link;
+use centre_past::links::flight_in;
 use centre_past::telling::tell_lines;
 use kept_tables::KeptTables;
 use serials::Serial;
-use warning_book::{Book, Warning, WarningId};
+use warning_book::{Book, Content, Warning, WarningId};
 
 /// Whether a version of the warning has that serial number.
 fn has_serial(w: &Warning, serial: Serial) -> bool
@@ -74,41 +76,36 @@ fn names_version(flight: Option<&InFlight>, message_id: u16, serial: Serial) -> 
 }
 
 /// Whether what is in flight to one of the BSCs does.
-fn is_key_flying(flights: &[Flight], message_id: u16, serial: Serial, bscs: &[BscId]) -> bool
-    ensures { result ≡ is_key_flying flights.now message_id serial bscs.now }
+fn is_key_flying(links: &[Link], message_id: u16, serial: Serial, bscs: &[BscId]) -> bool
+    ensures { result ≡ is_key_flying links.now message_id serial bscs.now }
 {
-    bscs.iter().any(|bsc| names_version(flight_in(flights, *bsc), message_id, serial))
+    bscs.iter().any(|bsc| names_version(flight_in(links, *bsc), message_id, serial))
 }
 
 /// Whether what is in flight anywhere does.
 #[tactic(auto, using(crate::proofs::ReuseLemmas::key_flying))]
-fn is_key_in_flight(
-    register: &Register,
-    flights: &[Flight],
-    message_id: u16,
-    serial: Serial,
-) -> bool
-    ensures { (settings : Settings) (past : Past) → Legal settings past → IsRegisterOf past register.now → AreFlightsOf past flights.now → result ≡ is_key_in_flight past message_id serial }
+fn is_key_in_flight(register: &Register, links: &[Link], message_id: u16, serial: Serial) -> bool
+    ensures { (settings : Settings) (past : Past) → Legal settings past → IsRegisterOf past register.now → AreLinksOf past links.now → result ≡ is_key_in_flight past message_id serial }
 {
-    is_key_flying(flights, message_id, serial, register.bscs())
+    is_key_flying(links, message_id, serial, register.bscs())
 }
 
 /// Whether the version of that serial number may leave the book: nothing of it is on air or in flight.
 fn check_key(
     register: &Register,
-    flights: &[Flight],
+    links: &[Link],
     tables: &mut KeptTables,
     w: &Warning,
     serial: Serial,
 ) -> Result<(), Refusal>
-    ensures first { (settings : Settings) (past : Past) → Legal settings past → IsRegisterOf past register.now → AreFlightsOf past flights.now → Consistent tables.old (facts past) → warning_of (book_of past) w.now.number ≡ Some w.now → list_any (has_serial serial) w.now.versions ≡ true → IsFirst (key_checks past w.now.message_id (Some serial)) result }
+    ensures first { (settings : Settings) (past : Past) → Legal settings past → IsRegisterOf past register.now → AreLinksOf past links.now → Consistent tables.old (facts past) → warning_of (book_of past) w.now.number ≡ Some w.now → list_any (has_serial serial) w.now.versions ≡ true → IsFirst (key_checks past w.now.message_id (Some serial)) result }
     ensures reads { OnlyReads tables.old tables.new }
     ensures meter { (settings : Settings) (past : Past) (r : State) → Legal settings past → AreKnownOf past tables.old.lines r → tables.new.lines.meter ≤ tables.old.lines.meter + length (known_anywhere past) }
 {
     if is_key_reported(tables, w, serial) {
         return Err(Refusal::StillReported);
     }
-    if is_key_in_flight(register, flights, w.message_id(), serial) {
+    if is_key_in_flight(register, links, w.message_id(), serial) {
         return Err(Refusal::StillInFlight);
     }
     Ok(())
@@ -118,29 +115,29 @@ fn check_key(
 /// line is read.
 fn check_warning(
     register: &Register,
-    flights: &[Flight],
+    links: &[Link],
     tables: &mut KeptTables,
     w: &Warning,
 ) -> Result<(), Refusal>
-    ensures first { (settings : Settings) (past : Past) → Legal settings past → IsRegisterOf past register.now → AreFlightsOf past flights.now → Consistent tables.old (facts past) → warning_of (book_of past) w.now.number ≡ Some w.now → IsFirst (key_checks past w.now.message_id (reused_of w.now)) result }
+    ensures first { (settings : Settings) (past : Past) → Legal settings past → IsRegisterOf past register.now → AreLinksOf past links.now → Consistent tables.old (facts past) → warning_of (book_of past) w.now.number ≡ Some w.now → IsFirst (key_checks past w.now.message_id (reused_of w.now)) result }
     ensures reads { OnlyReads tables.old tables.new }
     ensures meter { (settings : Settings) (past : Past) (r : State) → Legal settings past → AreKnownOf past tables.old.lines r → tables.new.lines.meter ≤ tables.old.lines.meter + most_read past (is_some (reused_of w.now)) }
 {
     let Some(serial) = reused(w) else {
         return Ok(());
     };
-    check_key(register, flights, tables, w, serial)
+    check_key(register, links, tables, w, serial)
 }
 
 /// The same of the warning of that number, if it is in the book.
-pub(crate) fn check_reused(
+fn check_reused(
     register: &Register,
     book: &Book,
-    flights: &[Flight],
+    links: &[Link],
     tables: &mut KeptTables,
     number: WarningId,
 ) -> Result<(), Refusal>
-    ensures first { (settings : Settings) (past : Past) → Legal settings past → IsRegisterOf past register.now → book.now ≡ book_of past → AreFlightsOf past flights.now → Consistent tables.old (facts past) → IsFirst (reuse_checks past number) result }
+    ensures first { (settings : Settings) (past : Past) → Legal settings past → IsRegisterOf past register.now → book.now ≡ book_of past → AreLinksOf past links.now → Consistent tables.old (facts past) → IsFirst (reuse_checks past number) result }
     ensures reads { OnlyReads tables.old tables.new }
     ensures meter { (settings : Settings) (past : Past) (r : State) → Legal settings past → book.now ≡ book_of past → AreKnownOf past tables.old.lines r → tables.new.lines.meter ≤ tables.old.lines.meter + most_read past (wraps past number) }
 {
@@ -148,5 +145,26 @@ pub(crate) fn check_reused(
     let Some(warning) = book.find(number) else {
         return Ok(());
     };
-    check_warning(register, flights, tables, warning)
+    check_warning(register, links, tables, warning)
+}
+
+/// Whether an Update is accepted: the warning is active, nothing is on air or in flight of a version that has the serial
+/// number of the next, and the content is good. Lines are read only where a version has that serial number, and no memory
+/// is taken.
+pub(crate) fn check_update(
+    register: &Register,
+    book: &Book,
+    links: &[Link],
+    tables: &mut KeptTables,
+    number: WarningId,
+    content: &Content,
+) -> Result<(), Refusal>
+    ensures checked { (settings : Settings) (past : Past) → Legal settings past → IsRegisterOf past register.now → book.now ≡ book_of past → AreLinksOf past links.now → Consistent tables.old (facts past) → IsChecked (update past number content.now) result }
+    ensures reads { OnlyReads tables.old tables.new }
+    ensures meter { (settings : Settings) (past : Past) (r : State) → Legal settings past → book.now ≡ book_of past → AreKnownOf past tables.old.lines r → tables.new.lines.meter ≤ tables.old.lines.meter + most_read past (wraps past number) }
+{
+    book.check_active(number)?;
+    check_reused(register, book, links, tables, number)?;
+    book.check_content(number, content)?;
+    Ok(())
 }

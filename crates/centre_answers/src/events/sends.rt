@@ -19,8 +19,8 @@ use cell_register::BscId;
 use centre_events::answer::Answer;
 use centre_events::order_message::message_of;
 use centre_events::refusal::Refusal;
-use centre_past::flights::flight_in;
 use centre_past::kept::Kept;
+use centre_past::links::flight_in;
 use order_maker::Order;
 use std::alloc::Global;
 use warning_book::Book;
@@ -44,13 +44,13 @@ fn send_answer(alloc: Global, book: &Book, order: Option<Order>) -> Verdict
 pub(crate) fn send(alloc: Global, kept: &Kept, b: BscId, generation: u64) -> Verdict
     ensures { (settings : Settings) (past : Past) → Legal settings past → IsKept past kept.now → IsListOf (all_actions past b) kept.now.tables.pending b → Gives (send past b generation) result }
 {
-    check_link(kept.links.as_slice(), &kept.register, b, generation)?;
-    if flight_in(kept.flights.as_slice(), b).is_some() {
+    check_link(kept.links.as_slice(), kept.plan.register(), b, generation)?;
+    if flight_in(kept.links.as_slice(), b).is_some() {
         return Err(Refusal::InFlight);
     }
     if !kept.tables.has(b) {
         return Err(Refusal::NothingPending);
     }
     let order = kept.tables.first(b)?;
-    send_answer(alloc, &kept.book, order)
+    send_answer(alloc, kept.plan.book(), order)
 }

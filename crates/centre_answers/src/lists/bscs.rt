@@ -2,7 +2,7 @@
 
 ghost use Rattle.std.specs.Prelude.{◌≡◌, ◌++◌, ◌∷◌, [], IfOk, OnOk, map};
 ghost use Rattle.std.specs.Option.{option_map};
-ghost use Rattle.centre_events.specs.Kept.{flight_in};
+ghost use Rattle.centre_past.specs.Links.{flight_in};
 ghost use Rattle.centre_events.specs.Past.{Past};
 ghost use Rattle.centre_events.specs.Settings.{Settings};
 ghost use Rattle.centre_past.specs.IsKept.{IsKept};
@@ -10,11 +10,10 @@ ghost use Rattle.centre_past.specs.Legal.{Legal};
 ghost use Rattle.centre_past.specs.Lists.{bsc_row, bsc_rows, flight_kind_of, flight_row};
 
 use cell_register::BscId;
-use centre_events::flight::Flight;
 use centre_events::in_flight::InFlight;
-use centre_past::flights::flight_in;
 use centre_past::kept::Kept;
-use centre_past::links::{generation, is_up};
+use centre_past::link::Link;
+use centre_past::links::{flight_in, generation, is_up};
 use centre_past::lists::{BscRow, BscRows, FlightKind, FlightRow};
 use order_maker::OrderKind;
 use std::alloc::{AllocError, Global};
@@ -53,10 +52,10 @@ fn flight_row(flight: &InFlight) -> FlightRow
 }
 
 /// What is in flight to the BSC, but for its cells.
-fn flight_to(flights: &[Flight], b: BscId) -> Option<FlightRow>
-    ensures { result ≡ option_map flight_row (flight_in flights.now b) }
+fn flight_to(links: &[Link], b: BscId) -> Option<FlightRow>
+    ensures { result ≡ option_map flight_row (flight_in links.now b) }
 {
-    match flight_in(flights, b) {
+    match flight_in(links, b) {
         Some(flight) => Some(flight_row(flight)),
         None => None,
     }
@@ -69,10 +68,10 @@ fn add_row(
     b: BscId,
     flight: Option<FlightRow>,
 ) -> Result<(), AllocError>
-    ensures { (settings : Settings) (past : Past) → Legal settings past → IsKept past kept.now → flight ≡ option_map flight_row (flight_in kept.now.flights.items b) → OnOk result (rows.new.items ≡ rows.old.items ++ bsc_row past b ∷ []) }
+    ensures { (settings : Settings) (past : Past) → Legal settings past → IsKept past kept.now → flight ≡ option_map flight_row (flight_in kept.now.links.items b) → OnOk result (rows.new.items ≡ rows.old.items ++ bsc_row past b ∷ []) }
 {
-    kept.register.tell_soundness();
-    let cells = kept.register.cells_of(b)?;
+    kept.plan.tell_soundness();
+    let cells = kept.plan.register().cells_of(b)?;
     let row = BscRow {
         bsc: b,
         cells: cells.as_slice().len(),
@@ -91,7 +90,7 @@ fn rows_of(alloc: Global, kept: &Kept, bscs: &[BscId]) -> Result<Vec<BscRow>, Al
 {
     let mut rows = Vec::with_capacity(alloc, bscs.len())?;
     for bsc in bscs {
-        let flight = flight_to(kept.flights.as_slice(), *bsc);
+        let flight = flight_to(kept.links.as_slice(), *bsc);
         add_row(&mut rows, kept, *bsc, flight)?;
     }
     Ok(rows)
@@ -102,7 +101,7 @@ fn rows_of(alloc: Global, kept: &Kept, bscs: &[BscId]) -> Result<Vec<BscRow>, Al
 pub fn bscs(alloc: Global, kept: &Kept) -> Result<BscRows, AllocError>
     ensures { (settings : Settings) (past : Past) → Legal settings past → IsKept past kept.now → IfOk result (λ rows. rows ≡ bsc_rows past) }
 {
-    kept.register.tell_soundness();
-    let rows = rows_of(alloc, kept, kept.register.bscs())?;
+    kept.plan.tell_soundness();
+    let rows = rows_of(alloc, kept, kept.plan.register().bscs())?;
     Ok(BscRows::from_vec(rows))
 }

@@ -38,8 +38,8 @@ fn rows_of(alloc: Global, kept: &Kept, b: BscId, cells: &[Cell]) -> Result<Vec<C
 pub fn cells(alloc: Global, kept: &Kept, b: BscId) -> Result<CellRows, AllocError>
     ensures { (past : Past) → IsKept past kept.now → IfOk result (λ rows. rows ≡ cell_rows past b) }
 {
-    kept.register.tell_soundness();
-    let cells = kept.register.cells_of(b)?;
+    kept.plan.tell_soundness();
+    let cells = kept.plan.register().cells_of(b)?;
     let rows = rows_of(alloc, kept, b, cells.as_slice())?;
     Ok(CellRows::from_vec(rows))
 }

@@ -4,7 +4,7 @@ ghost use Rattle.std.specs.Prelude.{◌≡◌, count_by};
 ghost use Rattle.centre_events.specs.Past.{Past};
 ghost use Rattle.centre_past.specs.IsKept.{IsKept};
 ghost use Rattle.centre_past.specs.Lists.{plan_counts};
-ghost use Rattle.centre_past.specs.State.{link_in, up_of};
+ghost use Rattle.centre_past.specs.Links.{link_in, up_of};
 
 use cell_register::BscId;
 use centre_past::kept::Kept;
@@ -37,14 +37,15 @@ fn active_count(warnings: &[Warning]) -> usize
 pub fn plan_counts(kept: &Kept) -> PlanCounts
     ensures { (past : Past) → IsKept past kept.now → result ≡ plan_counts past }
 {
-    kept.register.tell_soundness();
-    kept.areas.tell_soundness();
+    kept.plan.tell_soundness();
+    let register = kept.plan.register();
+    let book = kept.plan.book();
     PlanCounts {
-        bscs: kept.register.bscs().len(),
-        links_up: links_up(kept.links.as_slice(), kept.register.bscs()),
-        cells: kept.register.cell_count(),
-        areas: kept.areas.as_slice().len(),
-        warnings: kept.book.len(),
-        active: active_count(kept.book.as_slice()),
+        bscs: register.bscs().len(),
+        links_up: links_up(kept.links.as_slice(), register.bscs()),
+        cells: register.cell_count(),
+        areas: kept.plan.areas().as_slice().len(),
+        warnings: book.len(),
+        active: active_count(book.as_slice()),
     }
 }

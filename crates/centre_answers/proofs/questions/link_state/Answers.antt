@@ -1,6 +1,6 @@
 use Rattle.std.proofs.Common.{◌∙◌, ap}
 use Rattle.centre_events.specs.Pending.{all_actions}
-use Rattle.centre_past.specs.State.{link_in, generation_of, up_of}
+use Rattle.centre_past.specs.Links.{generation_of, link_in, up_of}
 use Rattle.centre_answers.proofs.QuestionLemmas.{link_told, pending_list}
 use Rattle.centre_answers.proofs.questions.link_state.Goals as goal
 

@@ -1,5 +1,5 @@
 use Rattle.std.proofs.Common.{sym, subst}
-use Rattle.centre_past.specs.State.{AreLinksOf}
+use Rattle.centre_past.specs.Links.{AreLinksOf}
 use Rattle.centre_past.proofs.ReadLemmas.{reads_none}
 use Rattle.centre_core.proofs.MeterLemmas.{other_metered}
 use Rattle.centre_core.proofs.RebuildLemmas.{other_finishes, other_followed}

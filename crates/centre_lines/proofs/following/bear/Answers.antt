@@ -1,7 +1,6 @@
 use Rattle.std.proofs.Common.{◌≡◌, ℕ, sym, subst}
 use Rattle.std.proofs.lemmas.Result.{on_ok_weaker}
 use Rattle.common.specs.declared.cell.Cell.{Cell}
-use Rattle.coverage_plan.specs.Plan.{State}
 use Rattle.kept_tables.specs.Consistent.{Consistent}
 use Rattle.mirror.specs.Table.{down_at}
 use Rattle.warning_book.specs.declared.kind.Kind.{Kind}
@@ -23,8 +22,7 @@ returns-in-Read-clause-tables c =
     (λ done.
     subst (λ ls. (y : Made r l st c.args.tables.now h c.args.reached.spots.items ls) → Consistent c.follow_edit.new.tables (facts (After (entry_of y.desk h) y.past))) (sym c.in-Read.is)
     (subst (λ xs. (y : MadeEdit r l st c.args.tables.now h c.args.reached.spots.items xs) → Consistent c.follow_edit.new.tables (facts (After (entry_of y.desk h) y.past))) c.as_slice-in-Read.ensures.value
-    (subst (λ ps. (y : MadeEdit r l st c.args.tables.now h ps c.as_slice-in-Read.result.now) → Consistent c.follow_edit.new.tables (facts (After (entry_of y.desk h) y.past))) c.as_slice.ensures.value
-    (subst (λ (p : State). (y : MadeEdit p.register p.areas p.book c.args.tables.now h c.as_slice.result.now c.as_slice-in-Read.result.now) → Consistent c.follow_edit.new.tables (facts (After (entry_of y.desk h) y.past))) c.in_ok-plan-in-Read.ensures done))))
+    (subst (λ ps. (y : MadeEdit r l st c.args.tables.now h ps c.as_slice-in-Read.result.now) → Consistent c.follow_edit.new.tables (facts (After (entry_of y.desk h) y.past))) c.as_slice.ensures.value done)))
     c.follow_edit.ensures.tables
 
 pub returns-in-Read-clause-downs : goal.returns-in-Read-clause-downs
@@ -37,8 +35,7 @@ returns-in-Read-clause-downs c =
     (λ done.
     subst (λ ls. (y : Made r l st c.args.tables.now h c.args.reached.spots.items ls) → (k : Kind) (b : ℕ) (d : Cell) → down_at c.follow_edit.new.tables.lines k b d ≡ is_down (After (entry_of y.desk h) y.past) k b d) (sym c.in-Read.is)
     (subst (λ xs. (y : MadeEdit r l st c.args.tables.now h c.args.reached.spots.items xs) → (k : Kind) (b : ℕ) (d : Cell) → down_at c.follow_edit.new.tables.lines k b d ≡ is_down (After (entry_of y.desk h) y.past) k b d) c.as_slice-in-Read.ensures.value
-    (subst (λ ps. (y : MadeEdit r l st c.args.tables.now h ps c.as_slice-in-Read.result.now) → (k : Kind) (b : ℕ) (d : Cell) → down_at c.follow_edit.new.tables.lines k b d ≡ is_down (After (entry_of y.desk h) y.past) k b d) c.as_slice.ensures.value
-    (subst (λ (p : State). (y : MadeEdit p.register p.areas p.book c.args.tables.now h c.as_slice.result.now c.as_slice-in-Read.result.now) → (k : Kind) (b : ℕ) (d : Cell) → down_at c.follow_edit.new.tables.lines k b d ≡ is_down (After (entry_of y.desk h) y.past) k b d) c.in_ok-plan-in-Read.ensures done))))
+    (subst (λ ps. (y : MadeEdit r l st c.args.tables.now h ps c.as_slice-in-Read.result.now) → (k : Kind) (b : ℕ) (d : Cell) → down_at c.follow_edit.new.tables.lines k b d ≡ is_down (After (entry_of y.desk h) y.past) k b d) c.as_slice.ensures.value done)))
     c.follow_edit.ensures.downs
 
 -- any other event
@@ -53,8 +50,7 @@ returns-clause-tables c =
     (λ done.
     subst (λ ls. (y : Made r l st c.args.tables.now h c.args.reached.spots.items ls) → Consistent c.follow_other.new.tables (facts (After (entry_of y.desk h) y.past))) (sym c.in-Unread.is)
     (subst (λ xs. (y : MadeOther r l st c.args.tables.now h c.args.reached.spots.items xs) → Consistent c.follow_other.new.tables (facts (After (entry_of y.desk h) y.past))) c.as_slice-in-Unread-2.ensures.value
-    (subst (λ ps. (y : MadeOther r l st c.args.tables.now h ps c.as_slice-in-Unread-2.result.now) → Consistent c.follow_other.new.tables (facts (After (entry_of y.desk h) y.past))) c.as_slice-in-Unread.ensures.value
-    (subst (λ (p : State). (y : MadeOther p.register p.areas p.book c.args.tables.now h c.as_slice-in-Unread.result.now c.as_slice-in-Unread-2.result.now) → Consistent c.follow_other.new.tables (facts (After (entry_of y.desk h) y.past))) c.new-plan.ensures done))))
+    (subst (λ ps. (y : MadeOther r l st c.args.tables.now h ps c.as_slice-in-Unread-2.result.now) → Consistent c.follow_other.new.tables (facts (After (entry_of y.desk h) y.past))) c.as_slice-in-Unread.ensures.value done)))
     c.follow_other.ensures.tables
 
 pub returns-clause-downs : goal.returns-clause-downs
@@ -67,6 +63,5 @@ returns-clause-downs c =
     (λ done.
     subst (λ ls. (y : Made r l st c.args.tables.now h c.args.reached.spots.items ls) → (k : Kind) (b : ℕ) (d : Cell) → down_at c.follow_other.new.tables.lines k b d ≡ is_down (After (entry_of y.desk h) y.past) k b d) (sym c.in-Unread.is)
     (subst (λ xs. (y : MadeOther r l st c.args.tables.now h c.args.reached.spots.items xs) → (k : Kind) (b : ℕ) (d : Cell) → down_at c.follow_other.new.tables.lines k b d ≡ is_down (After (entry_of y.desk h) y.past) k b d) c.as_slice-in-Unread-2.ensures.value
-    (subst (λ ps. (y : MadeOther r l st c.args.tables.now h ps c.as_slice-in-Unread-2.result.now) → (k : Kind) (b : ℕ) (d : Cell) → down_at c.follow_other.new.tables.lines k b d ≡ is_down (After (entry_of y.desk h) y.past) k b d) c.as_slice-in-Unread.ensures.value
-    (subst (λ (p : State). (y : MadeOther p.register p.areas p.book c.args.tables.now h c.as_slice-in-Unread.result.now c.as_slice-in-Unread-2.result.now) → (k : Kind) (b : ℕ) (d : Cell) → down_at c.follow_other.new.tables.lines k b d ≡ is_down (After (entry_of y.desk h) y.past) k b d) c.new-plan.ensures done))))
+    (subst (λ ps. (y : MadeOther r l st c.args.tables.now h ps c.as_slice-in-Unread-2.result.now) → (k : Kind) (b : ℕ) (d : Cell) → down_at c.follow_other.new.tables.lines k b d ≡ is_down (After (entry_of y.desk h) y.past) k b d) c.as_slice-in-Unread.ensures.value done)))
     c.follow_other.ensures.downs

@@ -1,7 +1,9 @@
-use Rattle.std.proofs.Common.{refl, ◌∙◌, ap}
+use Rattle.std.proofs.Common.{refl, sym, ◌∙◌, ap, subst}
 use Rattle.coverage_plan.specs.Plan.{State}
 use Rattle.centre_lines.specs.Following.{lines_before}
+use Rattle.centre_events.specs.Kept.{AreAreasOf}
 use Rattle.centre_past.specs.Reach.{edit_reach}
+use Rattle.centre_past.specs.Reaching.{Told}
 use Rattle.centre_past.proofs.ReadLemmas.{as_itself}
 use Rattle.centre_lines.proofs.BeforeLemmas.{told_kept, edit_was_reached, reads_as, reads_within}
 use Rattle.centre_lines.proofs.IndicatedLemmas.{cover_reached}
@@ -9,33 +11,33 @@ use Rattle.centre_lines.proofs.reached.reached_at_spots.Goals as goal
 
 pub returns-in_err-earlier-clause-reads : goal.returns-in_err-earlier-clause-reads
 returns-in_err-earlier-clause-reads c =
-    record { register = refl; areas = refl; book = refl; links = refl; flights = refl; tables = reads_as c.args.kept.now.tables c.read_all.new.tables (c.read_all.ensures.kept c.args.kept.now.tables (as_itself c.args.kept.now.tables)) }
+    record { plan = refl; links = refl; tables = reads_as c.args.kept.now.tables c.read_all.new.tables (c.read_all.ensures.kept c.args.kept.now.tables (as_itself c.args.kept.now.tables)) }
 
 pub returns-clause-reached : goal.returns-clause-reached
 returns-clause-reached c =
     λ settings past a legal kept accepted.
     edit_was_reached past c.args.kept.now c.args.edit.now a c.in_ok-reach.reach.spots.items c.in_ok-reach.reach.warnings.items c.in_ok-earlier.earlier.items kept
     (c.in_ok-reach.ensures settings past (record {
-      told = rw (c.lines.ensures) (told_kept settings past c.args.kept.now legal kept);
-      selected = kept.selected;
+      told = rw (c.lines.ensures) (subst (λ (p : State). Told settings past p.register p.book c.args.kept.now.tables.lines) (sym c.of-parts.ensures) (told_kept settings past c.args.kept.now legal kept));
+      selected = subst (λ (p : State). AreAreasOf past p.areas) (sym c.of-parts.ensures) kept.selected;
       answer = a;
       accepted = accepted;
     }))
     (c.in_ok-earlier.ensures.earlier c.args.kept.now.tables (as_itself c.args.kept.now.tables)
-    ∙ ap (λ (p : State). lines_before c.args.edit.now p.register p.areas p.book c.args.kept.now.tables c.as_slice.result.now c.as_slice-2.result.now) c.in_ok-plan.ensures
-    ∙ ap (λ ps. lines_before c.args.edit.now c.args.kept.now.register c.args.kept.now.areas c.args.kept.now.book c.args.kept.now.tables ps c.as_slice-2.result.now) c.as_slice.ensures.value
-    ∙ ap (lines_before c.args.edit.now c.args.kept.now.register c.args.kept.now.areas c.args.kept.now.book c.args.kept.now.tables c.in_ok-reach.reach.spots.items) c.as_slice-2.ensures.value)
+    ∙ ap (λ (p : State). lines_before c.args.edit.now p.register p.areas p.book c.args.kept.now.tables c.as_slice.result.now c.as_slice-2.result.now) (c.new-plan.ensures ∙ c.of-parts.ensures)
+    ∙ ap (λ ps. lines_before c.args.edit.now c.args.kept.now.plan.register c.args.kept.now.plan.areas c.args.kept.now.plan.book c.args.kept.now.tables ps c.as_slice-2.result.now) c.as_slice.ensures.value
+    ∙ ap (lines_before c.args.edit.now c.args.kept.now.plan.register c.args.kept.now.plan.areas c.args.kept.now.plan.book c.args.kept.now.tables c.in_ok-reach.reach.spots.items) c.as_slice-2.ensures.value)
 
 pub returns-clause-reads : goal.returns-clause-reads
 returns-clause-reads c =
-    record { register = refl; areas = refl; book = refl; links = refl; flights = refl; tables = reads_as c.args.kept.now.tables c.read_all.new.tables (c.read_all.ensures.kept c.args.kept.now.tables (as_itself c.args.kept.now.tables)) }
+    record { plan = refl; links = refl; tables = reads_as c.args.kept.now.tables c.read_all.new.tables (c.read_all.ensures.kept c.args.kept.now.tables (as_itself c.args.kept.now.tables)) }
 
 pub returns-in_err-earlier-clause-meter : goal.returns-in_err-earlier-clause-meter
 returns-in_err-earlier-clause-meter c =
     λ settings past a legal kept accepted.
     let reach = c.in_ok-reach.ensures settings past (record {
-      told = rw (c.lines.ensures) (told_kept settings past c.args.kept.now legal kept);
-      selected = kept.selected;
+      told = rw (c.lines.ensures) (subst (λ (p : State). Told settings past p.register p.book c.args.kept.now.tables.lines) (sym c.of-parts.ensures) (told_kept settings past c.args.kept.now legal kept));
+      selected = subst (λ (p : State). AreAreasOf past p.areas) (sym c.of-parts.ensures) kept.selected;
       answer = a;
       accepted = accepted;
     }) in
@@ -47,8 +49,8 @@ pub returns-clause-meter : goal.returns-clause-meter
 returns-clause-meter c =
     λ settings past a legal kept accepted.
     let reach = c.in_ok-reach.ensures settings past (record {
-      told = rw (c.lines.ensures) (told_kept settings past c.args.kept.now legal kept);
-      selected = kept.selected;
+      told = rw (c.lines.ensures) (subst (λ (p : State). Told settings past p.register p.book c.args.kept.now.tables.lines) (sym c.of-parts.ensures) (told_kept settings past c.args.kept.now legal kept));
+      selected = subst (λ (p : State). AreAreasOf past p.areas) (sym c.of-parts.ensures) kept.selected;
       answer = a;
       accepted = accepted;
     }) in

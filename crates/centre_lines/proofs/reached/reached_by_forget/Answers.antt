@@ -5,29 +5,19 @@ use Rattle.coverage_plan.specs.declared.edit.Edit.TheVariants as edit
 use Rattle.centre_lines.specs.Following.{before_unless}
 use Rattle.centre_past.specs.Idle.{AsBefore}
 use Rattle.centre_past.specs.Reaching.{TellsLines}
-use Rattle.centre_lines.proofs.ForgottenLemmas.{forgotten_few, forgotten_read, forgotten_told, forgotten_was_reached}
+use Rattle.centre_lines.proofs.ForgottenLemmas.{forgotten_few, forgotten_read, forgotten_was_reached}
 use Rattle.centre_lines.proofs.BeforeLemmas.{reads_as}
 use Rattle.centre_lines.proofs.reached.reached_by_forget.Goals as goal
 
 pub returns-in_err-earlier-clause-reads : goal.returns-in_err-earlier-clause-reads
 returns-in_err-earlier-clause-reads c =
     let told : AsBefore c.args.kept.now.tables c.places_of.new.self = record { lines = c.places_of.ensures.lines; downs = c.places_of.ensures.downs; same = c.places_of.ensures.same; meter = c.places_of.ensures.least } in
-    record { register = refl; areas = refl; book = refl; links = refl; flights = refl; tables = reads_as c.args.kept.now.tables c.read_keys.new.tables (c.read_keys.ensures.kept c.args.kept.now.tables told) }
+    record { plan = refl; links = refl; tables = reads_as c.args.kept.now.tables c.read_keys.new.tables (c.read_keys.ensures.kept c.args.kept.now.tables told) }
 
 pub returns-clause-reads : goal.returns-clause-reads
 returns-clause-reads c =
     let told : AsBefore c.args.kept.now.tables c.places_of.new.self = record { lines = c.places_of.ensures.lines; downs = c.places_of.ensures.downs; same = c.places_of.ensures.same; meter = c.places_of.ensures.least } in
-    record { register = refl; areas = refl; book = refl; links = refl; flights = refl; tables = reads_as c.args.kept.now.tables c.read_keys.new.tables (c.read_keys.ensures.kept c.args.kept.now.tables told) }
-
-pub returns-in_err-warnings-clause-meter : goal.returns-in_err-warnings-clause-meter
-returns-in_err-warnings-clause-meter c = λ settings past a legal kept accepted.
-    rw (c.requires)
-    (forgotten_told settings past c.args.kept.now c.args.n c.places_of.new.self.lines.meter legal kept (subst TellsLines c.lines.ensures c.tell_lines.ensures) c.in_ok-keys.keys.items c.in_ok-keys.ensures.few c.in_ok-keys.ensures.most)
-
-pub returns-in_err-plan-clause-meter : goal.returns-in_err-plan-clause-meter
-returns-in_err-plan-clause-meter c = λ settings past a legal kept accepted.
-    rw (c.requires)
-    (forgotten_told settings past c.args.kept.now c.args.n c.places_of.new.self.lines.meter legal kept (subst TellsLines c.lines.ensures c.tell_lines.ensures) c.in_ok-keys.keys.items c.in_ok-keys.ensures.few c.in_ok-keys.ensures.most)
+    record { plan = refl; links = refl; tables = reads_as c.args.kept.now.tables c.read_keys.new.tables (c.read_keys.ensures.kept c.args.kept.now.tables told) }
 
 pub returns-in_err-earlier-clause-meter : goal.returns-in_err-earlier-clause-meter
 returns-in_err-earlier-clause-meter c = λ settings past a legal kept accepted.
@@ -46,5 +36,5 @@ returns-clause-reached c = λ settings past a legal kept accepted.
     (forgotten_was_reached past c.args.kept.now c.args.n a c.in_ok-keys.keys.items c.in_ok-earlier.earlier.items kept c.in_ok-keys.ensures.which c.in_ok-keys.ensures.order
     (forgotten_few settings past c.args.kept.now c.args.n legal kept (subst TellsLines c.lines.ensures c.tell_lines.ensures) c.in_ok-keys.keys.items c.in_ok-keys.ensures.few)
     (rw (c.requires) at (c.in_ok-earlier.ensures.earlier c.args.kept.now.tables told)
-    ∙ ap (λ (p : State). flat_map (before_unless (edit.Forget c.args.n) p.register p.areas p.book c.args.kept.now.tables) c.as_slice.result.now) c.in_ok-plan.ensures
-    ∙ ap (flat_map (before_unless (edit.Forget c.args.n) c.args.kept.now.register c.args.kept.now.areas c.args.kept.now.book c.args.kept.now.tables)) c.as_slice.ensures.value))
+    ∙ ap (λ (p : State). flat_map (before_unless (edit.Forget c.args.n) p.register p.areas p.book c.args.kept.now.tables) c.as_slice.result.now) (c.new-plan.ensures ∙ c.of-parts.ensures)
+    ∙ ap (flat_map (before_unless (edit.Forget c.args.n) c.args.kept.now.plan.register c.args.kept.now.plan.areas c.args.kept.now.plan.book c.args.kept.now.tables)) c.as_slice.ensures.value))

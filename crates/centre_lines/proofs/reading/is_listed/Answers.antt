@@ -1,7 +1,11 @@
-use Rattle.std.proofs.Common.{◌≡◌, ◌∙◌, nat_eq, get_or, arith, rules, le-ltb}
+use Rattle.std.proofs.Common.{◌≡◌, ◌∙◌, nat_eq, get_or, sym, arith, rules, le-ltb}
 use Rattle.std.proofs.lemmas.List.Sorted.{IsPartitionPoint-from_clause}
-use Rattle.centre_lines.proofs.ListedLemmas.{is_below, none_at_start, parted, told_at_start}
+use Rattle.centre_lines.proofs.ListedLemmas.{is_below, none_at_start, none_between, parted, told_at_start}
 use Rattle.centre_lines.proofs.reading.is_listed.Goals as goal
+
+pub returns-then-begins_behind : goal.returns-then-begins_behind
+returns-then-begins_behind c =
+    sym (none_between c.args.n c.args.warnings.now c.args.near.now c.requires (c.ends_before.ensures.bound c.if-ends_before.true) (c.ends_before.ensures.greater c.if-ends_before.true) (c.begins_behind.ensures c.if-begins_behind.true))
 
 pub returns-then-place-warnings : goal.returns-then-place-warnings
 returns-then-place-warnings c =

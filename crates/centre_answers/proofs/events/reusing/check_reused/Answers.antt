@@ -8,14 +8,14 @@ use Rattle.centre_answers.proofs.events.reusing.check_reused.Goals as goal
 pub returns-in_default-clause-first : goal.returns-in_default-clause-first
 returns-in_default-clause-first c =
     let missing : warning_of c.args.book.now c.args.number ≡ None = search rules in
-    λ settings past legal registered booked flying tables. first_missing past c.args.book.now c.args.number booked missing
+    λ settings past legal registered booked linked tables. first_missing past c.args.book.now c.args.number booked missing
 
 pub returns-clause-first : goal.returns-clause-first
 returns-clause-first c =
     let found : warning_of c.args.book.now c.args.number ≡ Some c.in-Some.warning.now = search rules in
-    λ settings past legal registered booked flying tables.
+    λ settings past legal registered booked linked tables.
     first_found past c.args.book.now c.args.number c.in-Some.warning.now c.check_warning.result booked c.tell_soundness.ensures.ordered found
-    (c.check_warning.ensures.first settings past legal registered flying tables (found_itself past c.args.book.now c.args.number c.in-Some.warning.now booked found))
+    (c.check_warning.ensures.first settings past legal registered linked tables (found_itself past c.args.book.now c.args.number c.in-Some.warning.now booked found))
 
 pub returns-clause-meter : goal.returns-clause-meter
 returns-clause-meter c =

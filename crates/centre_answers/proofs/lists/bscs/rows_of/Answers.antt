@@ -1,6 +1,6 @@
 use Rattle.std.proofs.Common.{◌∙◌, ap, refl}
 use Rattle.std.specs.Option.{option_map}
-use Rattle.centre_events.specs.Kept.{flight_in}
+use Rattle.centre_past.specs.Links.{flight_in}
 use Rattle.centre_past.specs.Lists.{bsc_row, flight_row}
 use Rattle.centre_answers.proofs.ListLemmas.{mapped_more}
 use Rattle.centre_answers.proofs.lists.bscs.rows_of.Goals as goal

@@ -61,9 +61,9 @@ pub returns-in_err-enter-clause-lines : goal.returns-in_err-enter-clause-lines
 returns-in_err-enter-clause-lines c =
     let whole : c.self.inside.stale ≡ false = ap (λ (v : CentreState). v.known.stale) c.self.view_is ∙ c.requires.whole in
     let centre : IsWhole c.self.inside.plmn c.self.inside.journal.folded c.self.inside.journal.entries c.self.inside.kept = whole_centre (record { network = c.self.inside.plmn; limit = c.self.inside.limit }) c.self.inside.journal.folded c.self.inside.journal.entries c.self.inside.stale c.self.inside.base c.self.inside.kept whole c.self.invariant in
-    rw (← c.self.view_is) (edit_lines_then (record { network = c.self.inside.plmn; limit = c.self.inside.limit }) c.self.inside.journal.folded c.self.inside.journal.entries c.args.edit c.in_ok-answer.answer c.make.new.kept.book c.self.inside.kept.tables.lines.meter c.make.new.kept.tables.lines.meter c.enter.new.kept.tables.lines.meter c.in_ok-reached.reached.spots.items c.in_ok-reached.reached.lines
+    rw (← c.self.view_is) (edit_lines_then (record { network = c.self.inside.plmn; limit = c.self.inside.limit }) c.self.inside.journal.folded c.self.inside.journal.entries c.args.edit c.in_ok-answer.answer c.make.new.kept.plan.book c.self.inside.kept.tables.lines.meter c.make.new.kept.tables.lines.meter c.enter.new.kept.tables.lines.meter c.in_ok-reached.reached.spots.items c.in_ok-reached.reached.lines
     (subst (λ n. n ≤ c.self.inside.kept.tables.lines.meter + 3 * size (edit_reach (past_over c.self.inside.journal.folded c.self.inside.journal.entries) c.args.edit)) (sym (ap (λ (k : Kept). k.tables.lines.meter) c.in_ok-answer.ensures.made)) (c.prepare_edit.ensures.meter c.self.inside.plmn centre))
-    (subst (λ (y : Entry). c.enter.new.kept.tables.lines.meter ≤ c.make.new.kept.tables.lines.meter + most_accesses y.event y.answer c.make.new.kept.book c.in_ok-reached.reached.spots.items c.in_ok-reached.reached.lines) c.in_ok-entry.ensures.entry c.enter.ensures.meter) (c.in_ok-reached.ensures.reached c.self.inside.plmn centre c.in_ok-answer.answer (made_is (record { network = c.self.inside.plmn; limit = c.self.inside.limit }) c.self.inside.journal.folded c.self.inside.journal.entries c.args.edit c.in_ok-answer.answer c.in_ok-reached.ensures.few c.in_ok-reached.ensures.number (c.in_ok-answer.ensures.verdict (past_of (c.self.inside.journal.folded ++ c.self.inside.journal.entries)) (reads_kept (past_of (c.self.inside.journal.folded ++ c.self.inside.journal.entries)) c.self.inside.kept c.prepare_edit.new.kept (c.self.invariant.whole whole) c.prepare_edit.ensures.reads) (may_be_made (record { network = c.self.inside.plmn; limit = c.self.inside.limit }) c.self.inside.journal.folded c.self.inside.journal.entries c.args.edit c.in_ok-reached.ensures.few c.in_ok-reached.ensures.number (c.in_ok-reached.ensures.accepted c.self.inside.plmn centre))))))
+    (subst (λ (y : Entry). c.enter.new.kept.tables.lines.meter ≤ c.make.new.kept.tables.lines.meter + most_accesses y.event y.answer c.make.new.kept.plan.book c.in_ok-reached.reached.spots.items c.in_ok-reached.reached.lines) c.in_ok-entry.ensures.entry c.enter.ensures.meter) (c.in_ok-reached.ensures.reached c.self.inside.plmn centre c.in_ok-answer.answer (made_is (record { network = c.self.inside.plmn; limit = c.self.inside.limit }) c.self.inside.journal.folded c.self.inside.journal.entries c.args.edit c.in_ok-answer.answer c.in_ok-reached.ensures.few c.in_ok-reached.ensures.number (c.in_ok-answer.ensures.verdict (past_of (c.self.inside.journal.folded ++ c.self.inside.journal.entries)) (reads_kept (past_of (c.self.inside.journal.folded ++ c.self.inside.journal.entries)) c.self.inside.kept c.prepare_edit.new.kept (c.self.invariant.whole whole) c.prepare_edit.ensures.reads) (may_be_made (record { network = c.self.inside.plmn; limit = c.self.inside.limit }) c.self.inside.journal.folded c.self.inside.journal.entries c.args.edit c.in_ok-reached.ensures.few c.in_ok-reached.ensures.number (c.in_ok-reached.ensures.accepted c.self.inside.plmn centre))))))
 
 pub invariant_of-self-in_err-enter : goal.invariant_of-self-in_err-enter
 invariant_of-self-in_err-enter c =
@@ -94,6 +94,6 @@ pub returns-clause-lines : goal.returns-clause-lines
 returns-clause-lines c =
     let whole : c.self.inside.stale ≡ false = ap (λ (v : CentreState). v.known.stale) c.self.view_is ∙ c.requires.whole in
     let centre : IsWhole c.self.inside.plmn c.self.inside.journal.folded c.self.inside.journal.entries c.self.inside.kept = whole_centre (record { network = c.self.inside.plmn; limit = c.self.inside.limit }) c.self.inside.journal.folded c.self.inside.journal.entries c.self.inside.stale c.self.inside.base c.self.inside.kept whole c.self.invariant in
-    rw (← c.self.view_is) (edit_lines_then (record { network = c.self.inside.plmn; limit = c.self.inside.limit }) c.self.inside.journal.folded c.self.inside.journal.entries c.args.edit c.in_ok-answer.answer c.make.new.kept.book c.self.inside.kept.tables.lines.meter c.make.new.kept.tables.lines.meter c.enter.new.kept.tables.lines.meter c.in_ok-reached.reached.spots.items c.in_ok-reached.reached.lines
+    rw (← c.self.view_is) (edit_lines_then (record { network = c.self.inside.plmn; limit = c.self.inside.limit }) c.self.inside.journal.folded c.self.inside.journal.entries c.args.edit c.in_ok-answer.answer c.make.new.kept.plan.book c.self.inside.kept.tables.lines.meter c.make.new.kept.tables.lines.meter c.enter.new.kept.tables.lines.meter c.in_ok-reached.reached.spots.items c.in_ok-reached.reached.lines
     (subst (λ n. n ≤ c.self.inside.kept.tables.lines.meter + 3 * size (edit_reach (past_over c.self.inside.journal.folded c.self.inside.journal.entries) c.args.edit)) (sym (ap (λ (k : Kept). k.tables.lines.meter) c.in_ok-answer.ensures.made)) (c.prepare_edit.ensures.meter c.self.inside.plmn centre))
-    (subst (λ (y : Entry). c.enter.new.kept.tables.lines.meter ≤ c.make.new.kept.tables.lines.meter + most_accesses y.event y.answer c.make.new.kept.book c.in_ok-reached.reached.spots.items c.in_ok-reached.reached.lines) c.in_ok-entry.ensures.entry c.enter.ensures.meter) (c.in_ok-reached.ensures.reached c.self.inside.plmn centre c.in_ok-answer.answer (made_is (record { network = c.self.inside.plmn; limit = c.self.inside.limit }) c.self.inside.journal.folded c.self.inside.journal.entries c.args.edit c.in_ok-answer.answer c.in_ok-reached.ensures.few c.in_ok-reached.ensures.number (c.in_ok-answer.ensures.verdict (past_of (c.self.inside.journal.folded ++ c.self.inside.journal.entries)) (reads_kept (past_of (c.self.inside.journal.folded ++ c.self.inside.journal.entries)) c.self.inside.kept c.prepare_edit.new.kept (c.self.invariant.whole whole) c.prepare_edit.ensures.reads) (may_be_made (record { network = c.self.inside.plmn; limit = c.self.inside.limit }) c.self.inside.journal.folded c.self.inside.journal.entries c.args.edit c.in_ok-reached.ensures.few c.in_ok-reached.ensures.number (c.in_ok-reached.ensures.accepted c.self.inside.plmn centre))))))
+    (subst (λ (y : Entry). c.enter.new.kept.tables.lines.meter ≤ c.make.new.kept.tables.lines.meter + most_accesses y.event y.answer c.make.new.kept.plan.book c.in_ok-reached.reached.spots.items c.in_ok-reached.reached.lines) c.in_ok-entry.ensures.entry c.enter.ensures.meter) (c.in_ok-reached.ensures.reached c.self.inside.plmn centre c.in_ok-answer.answer (made_is (record { network = c.self.inside.plmn; limit = c.self.inside.limit }) c.self.inside.journal.folded c.self.inside.journal.entries c.args.edit c.in_ok-answer.answer c.in_ok-reached.ensures.few c.in_ok-reached.ensures.number (c.in_ok-answer.ensures.verdict (past_of (c.self.inside.journal.folded ++ c.self.inside.journal.entries)) (reads_kept (past_of (c.self.inside.journal.folded ++ c.self.inside.journal.entries)) c.self.inside.kept c.prepare_edit.new.kept (c.self.invariant.whole whole) c.prepare_edit.ensures.reads) (may_be_made (record { network = c.self.inside.plmn; limit = c.self.inside.limit }) c.self.inside.journal.folded c.self.inside.journal.entries c.args.edit c.in_ok-reached.ensures.few c.in_ok-reached.ensures.number (c.in_ok-reached.ensures.accepted c.self.inside.plmn centre))))))

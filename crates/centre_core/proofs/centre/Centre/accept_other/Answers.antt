@@ -5,7 +5,7 @@ use Rattle.centre_past.specs.Legal.{CentreState}
 use Rattle.centre_events.specs.Past.{past_of}
 use Rattle.centre_events.specs.declared.entry.Entry.{Entry}
 use Rattle.centre_lines.specs.Following.{most_accesses}
-use Rattle.centre_past.specs.State.{AreLinksOf}
+use Rattle.centre_past.specs.Links.{AreLinksOf}
 use Rattle.centre_past.proofs.ReadLemmas.{reads_kept}
 use Rattle.centre_core.proofs.CentreLemmas.{centre_after, centre_entered, centre_stale, whole_centre, entry_accepted, kept_entered, leaves_stale, lines_then, other_enters, refuses, refuses_starved, within_four}
 use Rattle.centre_core.proofs.centre.Centre.accept_other.Goals as goal
@@ -47,10 +47,10 @@ pub returns-in_err-enter-clause-lines : goal.returns-in_err-enter-clause-lines
 returns-in_err-enter-clause-lines c =
     let whole : c.self.inside.stale ≡ false = ap (λ (v : CentreState). v.known.stale) c.self.view_is ∙ c.requires.whole in
     let centre : IsWhole c.self.inside.plmn c.self.inside.journal.folded c.self.inside.journal.entries c.self.inside.kept = whole_centre (record { network = c.self.inside.plmn; limit = c.self.inside.limit }) c.self.inside.journal.folded c.self.inside.journal.entries c.self.inside.stale c.self.inside.base c.self.inside.kept whole c.self.invariant in
-    rw (← c.self.view_is) (lines_then (record { network = c.self.inside.plmn; limit = c.self.inside.limit }) c.self.inside.journal.folded c.self.inside.journal.entries c.args.event c.in-Ok.found.answer c.prepare_other.new.kept.book c.self.inside.kept.tables.lines.meter c.prepare_other.new.kept.tables.lines.meter c.enter.new.kept.tables.lines.meter c.in-Ok.found.reached.spots.items c.in-Ok.found.reached.lines (c.in-Ok.ensures.verdict centre)
+    rw (← c.self.view_is) (lines_then (record { network = c.self.inside.plmn; limit = c.self.inside.limit }) c.self.inside.journal.folded c.self.inside.journal.entries c.args.event c.in-Ok.found.answer c.prepare_other.new.kept.plan.book c.self.inside.kept.tables.lines.meter c.prepare_other.new.kept.tables.lines.meter c.enter.new.kept.tables.lines.meter c.in-Ok.found.reached.spots.items c.in-Ok.found.reached.lines (c.in-Ok.ensures.verdict centre)
     (reads_kept (past_of (c.self.inside.journal.folded ++ c.self.inside.journal.entries)) c.self.inside.kept c.prepare_other.new.kept centre.kept c.prepare_other.ensures.reads).booked
     (c.prepare_other.ensures.meter centre)
-    (subst (λ (y : Entry). c.enter.new.kept.tables.lines.meter ≤ c.prepare_other.new.kept.tables.lines.meter + most_accesses y.event y.answer c.prepare_other.new.kept.book c.in-Ok.found.reached.spots.items c.in-Ok.found.reached.lines) c.in_ok-entry.ensures.entry c.enter.ensures.meter) (c.in-Ok.ensures.reached centre))
+    (subst (λ (y : Entry). c.enter.new.kept.tables.lines.meter ≤ c.prepare_other.new.kept.tables.lines.meter + most_accesses y.event y.answer c.prepare_other.new.kept.plan.book c.in-Ok.found.reached.spots.items c.in-Ok.found.reached.lines) c.in_ok-entry.ensures.entry c.enter.ensures.meter) (c.in-Ok.ensures.reached centre))
 
 pub invariant_of-self-in_err-enter : goal.invariant_of-self-in_err-enter
 invariant_of-self-in_err-enter c =
@@ -81,7 +81,7 @@ pub returns-clause-lines : goal.returns-clause-lines
 returns-clause-lines c =
     let whole : c.self.inside.stale ≡ false = ap (λ (v : CentreState). v.known.stale) c.self.view_is ∙ c.requires.whole in
     let centre : IsWhole c.self.inside.plmn c.self.inside.journal.folded c.self.inside.journal.entries c.self.inside.kept = whole_centre (record { network = c.self.inside.plmn; limit = c.self.inside.limit }) c.self.inside.journal.folded c.self.inside.journal.entries c.self.inside.stale c.self.inside.base c.self.inside.kept whole c.self.invariant in
-    rw (← c.self.view_is) (lines_then (record { network = c.self.inside.plmn; limit = c.self.inside.limit }) c.self.inside.journal.folded c.self.inside.journal.entries c.args.event c.in-Ok.found.answer c.prepare_other.new.kept.book c.self.inside.kept.tables.lines.meter c.prepare_other.new.kept.tables.lines.meter c.enter.new.kept.tables.lines.meter c.in-Ok.found.reached.spots.items c.in-Ok.found.reached.lines (c.in-Ok.ensures.verdict centre)
+    rw (← c.self.view_is) (lines_then (record { network = c.self.inside.plmn; limit = c.self.inside.limit }) c.self.inside.journal.folded c.self.inside.journal.entries c.args.event c.in-Ok.found.answer c.prepare_other.new.kept.plan.book c.self.inside.kept.tables.lines.meter c.prepare_other.new.kept.tables.lines.meter c.enter.new.kept.tables.lines.meter c.in-Ok.found.reached.spots.items c.in-Ok.found.reached.lines (c.in-Ok.ensures.verdict centre)
     (reads_kept (past_of (c.self.inside.journal.folded ++ c.self.inside.journal.entries)) c.self.inside.kept c.prepare_other.new.kept centre.kept c.prepare_other.ensures.reads).booked
     (c.prepare_other.ensures.meter centre)
-    (subst (λ (y : Entry). c.enter.new.kept.tables.lines.meter ≤ c.prepare_other.new.kept.tables.lines.meter + most_accesses y.event y.answer c.prepare_other.new.kept.book c.in-Ok.found.reached.spots.items c.in-Ok.found.reached.lines) c.in_ok-entry.ensures.entry c.enter.ensures.meter) (c.in-Ok.ensures.reached centre))
+    (subst (λ (y : Entry). c.enter.new.kept.tables.lines.meter ≤ c.prepare_other.new.kept.tables.lines.meter + most_accesses y.event y.answer c.prepare_other.new.kept.plan.book c.in-Ok.found.reached.spots.items c.in-Ok.found.reached.lines) c.in_ok-entry.ensures.entry c.enter.ensures.meter) (c.in-Ok.ensures.reached centre))

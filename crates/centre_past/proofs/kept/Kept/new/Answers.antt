@@ -4,5 +4,5 @@ use Rattle.centre_past.proofs.kept.Kept.new.Goals as goal
 
 pub returns-clause-kept : goal.returns-clause-kept
 returns-clause-kept c =
-    let s : Kept = record { register = c.new.result; areas = c.new-2.result; book = c.new-3.result; links = c.new-4.result; flights = c.new-5.result; tables = c.new-6.result } in
-    empty_kept s c.new.ensures c.new-2.ensures c.new-3.ensures c.new-4.ensures.items c.new-5.ensures.items c.new-6.ensures
+    let s : Kept = record { plan = c.new.result; links = c.new-2.result; tables = c.new-3.result } in
+    empty_kept s c.new.ensures c.new-2.ensures.items c.new-3.ensures
