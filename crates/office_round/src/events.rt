@@ -1,4 +1,5 @@
-//! What the desks submit: events of the first BSC, of its one cell, of the coast and of the first warning.
+//! What the desks submit: events of the first BSC, of its eight cells, of the coast, which is their location area, and of the
+//! first warning.
 
 use areas::Selector;
 use cbsp_messages::read;
@@ -13,21 +14,25 @@ use warning_book::{Category, CbsContent, Content, ContentPages, Notice, WarningI
 /// The network code 001-01.
 pub(crate) const PLMN: [u8; 3] = [0x00, 0xf1, 0x10];
 
-const CELL: Cell = Cell { lac: 100, ci: 7 };
+/// The location area of the cells.
+const LAC: u16 = 100;
 
-/// The generation of the link, which comes up in the sixth entry.
-pub(crate) const LINK: u64 = 6;
+/// The generation of the link, which comes up in the thirteenth entry.
+pub(crate) const LINK: u64 = 13;
 
-/// The body of the WRITE-REPLACE COMPLETE of the first order.
-const COMPLETE: [u8; 16] = [
-    0x0e, 0x11, 0x12, 0x03, 0xc0, 0x00, 0x04, 0x00, 0x05, 0x01, 0x00, 0x64, 0x00, 0x07, 0x12, 0x00,
+/// The body of the WRITE-REPLACE COMPLETE of the first order, with the cells 7 to 14.
+const COMPLETE: [u8; 44] = [
+    0x0e, 0x11, 0x12, 0x03, 0xc0, 0x00, 0x04, 0x00, 0x21, 0x01, 0x00, 0x64, 0x00, 0x07, 0x00, 0x64,
+    0x00, 0x08, 0x00, 0x64, 0x00, 0x09, 0x00, 0x64, 0x00, 0x0a, 0x00, 0x64, 0x00, 0x0b, 0x00, 0x64,
+    0x00, 0x0c, 0x00, 0x64, 0x00, 0x0d, 0x00, 0x64, 0x00, 0x0e, 0x12, 0x00,
 ];
 
 /// What a desk submits.
 #[derive(Clone, Copy)]
 pub(crate) enum Step {
     AddBsc,
-    AddCell,
+    /// The cell of that cell identity.
+    AddCell(u16),
     AddArea,
     Put,
     Issue,
@@ -42,7 +47,7 @@ impl Step {
     pub(crate) fn word(self) -> &'static str {
         match self {
             Step::AddBsc => "bsc",
-            Step::AddCell => "cell",
+            Step::AddCell(_) => "cell",
             Step::AddArea => "area",
             Step::Put => "put",
             Step::Issue => "issue",
@@ -102,9 +107,9 @@ fn complete(alloc: Global, b: BscId) -> Result<Event, AllocError> {
 pub(crate) fn event_of(alloc: Global, b: BscId, step: Step) -> Result<Event, AllocError> {
     match step {
         Step::AddBsc => Ok(Event::Edit(Edit::AddBsc(b))),
-        Step::AddCell => Ok(Event::Edit(Edit::AddCell(CELL, b))),
+        Step::AddCell(ci) => Ok(Event::Edit(Edit::AddCell(Cell { lac: LAC, ci }, b))),
         Step::AddArea => Ok(Event::Edit(Edit::AddArea(coast(alloc)?))),
-        Step::Put => { Ok(Event::Edit(Edit::Put(coast(alloc)?, Selector::Cell(CELL)))) }
+        Step::Put => Ok(Event::Edit(Edit::Put(coast(alloc)?, Selector::Lac(LAC)))),
         Step::Issue => Ok(Event::Edit(issue(alloc)?)),
         Step::LinkUp => Ok(Event::LinkUp(b)),
         Step::Send => Ok(Event::Send(b, LINK)),

@@ -44,8 +44,9 @@ fn bring_on_air<L: Ledger, R: Wait + Print>(
     b: BscId,
     want: &mut Want,
 ) -> Result<(), Wrong> {
-    let begun = [Step::AddBsc, Step::AddCell];
-    enter_all(rt, alloc, office, first, b, &begun, want)?;
+    enter(rt, alloc, office, first, b, Step::AddBsc, want)?;
+    let cells = [7, 8, 9, 10, 11, 12, 13, 14].map(Step::AddCell);
+    enter_all(rt, alloc, office, first, b, &cells, want)?;
     let issued = [Step::AddArea, Step::Put, Step::Issue, Step::LinkUp];
     enter_all(rt, alloc, office, second, b, &issued, want)?;
     has_order(rt, office, first, b)?;
