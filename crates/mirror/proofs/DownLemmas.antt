@@ -1,5 +1,5 @@
 -- The counts of the cells that are down, as cells go down and come up.
-use Rattle.std.proofs.Common.{◌≡◌, ℕ, zero, suc, ◌+◌, ◌-◌, ◌*◌, ◌%◌, ◌<◌, ◌≤◌, Bool, true, false, cond, ◌||◌, nat_eq, replicate, List, [], ◌∷◌, length, filter, set, get_or, refl, sym, ◌∙◌, ap, arith, Less, Equal, Greater}
+use Rattle.std.proofs.Common.{◌≡◌, ℕ, zero, suc, ◌+◌, ◌*◌, ◌%◌, ◌<◌, Bool, true, false, cond, ◌||◌, nat_eq, replicate, List, [], ◌∷◌, length, filter, set, get_or, refl, sym, subst, ◌∙◌, ap, arith, Less, Equal, Greater}
 use Rattle.std.proofs.lemmas.Bool.{or_from, or_parts}
 use Rattle.std.proofs.lemmas.Bool.Decides.{nat_tests}
 use Rattle.std.proofs.lemmas.Grind.{common_steps}
@@ -11,18 +11,9 @@ use Rattle.std.specs.Ordering.{is_eq, match_ordering}
 use Rattle.std.specs.Set.{remove_key}
 use Rattle.std.specs.declared.cmp.Ordering.{Ordering}
 use Rattle.common.specs.declared.cell.Cell.{Cell}
-use Rattle.mirror.specs.Downs.{class_of, has_class, count_at, AreCounts}
+use Rattle.mirror.specs.Downs.{class_of, has_class, count_at, IsCount, AreCounts}
 use Rattle.mirror.specs.Order.{Place, place_cmp, place_of}
 use Rattle.mirror.specs.Table.{is_that_place}
-
--- no more pass a test than there are
-pub few_pass : {A : Type 0} (test : A → Bool) (xs : List A) → length (filter test xs) ≤ length xs
-few_pass test [] = omega arith
-few_pass {A} test (x ∷ xs) = step (test x) (few_pass test xs)
-  where
-    step : (t : Bool) → length (filter test xs) ≤ length xs → length (cond t (x ∷ filter test xs) (filter test xs)) ≤ suc (length xs)
-    step true h = omega (arith, h)
-    step false h = omega (arith, h)
 
 one_more : {A : Type 0} (t : Bool) (x : A) (xs : List A) → length (cond t (x ∷ xs) xs) ≡ cond t 1 0 + length xs
 one_more true x xs = omega arith
@@ -62,14 +53,16 @@ count_removed {A} at test v like (x ∷ xs) h = step (at x) refl h (λ g. count_
         ap (λ n. n + cond v 1 0) (one_more (test x) x (filter test (remove_key at xs))) ∙ behind (length (filter test (remove_key at xs))) (length (filter test xs)) (cond v 1 0) (cond (test x) 1 0) (rest g) ∙ sym (one_more (test x) x (filter test xs))
 
 -- counts of which one is set are those of other places, where these differ in the number of that one alone
-pub counts_set : (counts : List ℕ) (ps qs : List Place) (o v : ℕ) → o < length counts → AreCounts counts ps → v ≡ count_at o qs → ((n : ℕ) → nat_eq o n ≡ false → count_at n qs ≡ count_at n ps) → AreCounts (set counts o v) qs
+pub counts_set : (counts : List ℕ) (ps qs : List Place) (o v : ℕ) → o < length counts → AreCounts counts ps → IsCount v (count_at o qs) → ((n : ℕ) → nat_eq o n ≡ false → count_at n qs ≡ count_at n ps) → AreCounts (set counts o v) qs
 counts_set counts ps qs o v inside are new others n h = step (nat_eq o n) refl
   where
-    step : (t : Bool) → nat_eq o n ≡ t → get_or (set counts o v) n 0 ≡ count_at n qs
+    step : (t : Bool) → nat_eq o n ≡ t → IsCount (get_or (set counts o v) n 0) (count_at n qs)
     step true e =
         let same : o ≡ n = grind (arith, nat_tests, e) in
-        ap (λ m. get_or (set counts o v) m 0) (sym same) ∙ get_or-set_same counts o v 0 inside ∙ new ∙ ap (λ m. count_at m qs) same
-    step false e = get_or-set_other counts o n v 0 (λ same. absurd (grind (arith, nat_tests, e, same))) ∙ are n h ∙ sym (others n e)
+        subst (λ m. IsCount (get_or (set counts o v) m 0) (count_at m qs)) same (subst (λ x. IsCount x (count_at o qs)) (sym (get_or-set_same counts o v 0 inside)) new)
+    step false e =
+        let stays : get_or (set counts o v) n 0 ≡ get_or counts n 0 = get_or-set_other counts o n v 0 (λ same. absurd (grind (arith, nat_tests, e, same))) in
+        subst (λ x. IsCount x (count_at n qs)) (sym stays) (subst (λ x. IsCount (get_or counts n 0) x) (sym (others n e)) (are n h))
 
 -- a cell of another class is another one
 other_class : (b : ℕ) (c : Cell) (p : Place) → has_class (class_of c) p ≡ false → is_that_place b c p ≡ false
@@ -92,54 +85,46 @@ pub count_more : (b : ℕ) (c : Cell) (ps qs : List Place) → qs ≡ insert_key
 count_more b c ps qs put absent =
     ap (count_at (class_of c)) put ∙ count_inserted place_cmp (has_class (class_of c)) (place_of b c) ps absent ∙ ap (λ t. cond t 1 0 + count_at (class_of c) ps) (own_class c)
 
--- with a place more, the count of its class is greater by one
-pub counts_more : (b : ℕ) (c : Cell) (counts : List ℕ) (ps qs : List Place) (o : ℕ) → o ≡ class_of c → o < length counts → o < 1024 → AreCounts counts ps → qs ≡ insert_key place_cmp ps (place_of b c) → list_any (is_at (place_cmp (place_of b c))) ps ≡ false → AreCounts (set counts o (get_or counts o 0 + 1)) qs
-counts_more b c counts ps qs o own inside small are put absent =
-    counts_set counts ps qs o (get_or counts o 0 + 1) inside are new (λ n other. stays n (ap (λ m. nat_eq m n) (sym own) ∙ other))
+-- with a place more, the count of its class is that of one more
+pub counts_more : (b : ℕ) (c : Cell) (counts : List ℕ) (ps qs : List Place) (o v : ℕ) → o ≡ class_of c → o < length counts → o < 8192 → AreCounts counts ps → ((n : ℕ) → IsCount (get_or counts o 0) n → IsCount v (n + 1)) → qs ≡ insert_key place_cmp ps (place_of b c) → list_any (is_at (place_cmp (place_of b c))) ps ≡ false → AreCounts (set counts o v) qs
+counts_more b c counts ps qs o v own inside small are grows put absent =
+    counts_set counts ps qs o v inside are new (λ n other. stays n (ap (λ m. nat_eq m n) (sym own) ∙ other))
   where
     stays : (n : ℕ) → nat_eq (class_of c) n ≡ false → count_at n qs ≡ count_at n ps
     stays n other =
         let more : count_at n qs ≡ 0 + count_at n ps = ap (count_at n) put ∙ count_inserted place_cmp (has_class n) (place_of b c) ps absent ∙ ap (λ t. cond t 1 0 + count_at n ps) other in
         omega (arith, more)
 
-    new : get_or counts o 0 + 1 ≡ count_at o qs
+    new : IsCount v (count_at o qs)
     new =
         let more : count_at o qs ≡ 1 + count_at o ps = rw own (count_more b c ps qs put absent) in
-        let now : get_or counts o 0 ≡ count_at o ps = are o small in
-        omega (arith, more, now)
+        let one : count_at o ps + 1 ≡ count_at o qs = omega (arith, more) in
+        subst (λ n. IsCount v n) one (grows (count_at o ps) (are o small))
 
 at_class : (b : ℕ) (c : Cell) (n : ℕ) (p : Place) → is_at (place_cmp (place_of b c)) p ≡ true → has_class n p ≡ nat_eq (class_of c) n
 at_class b c n p h =
     let identity : p.cell.ci ≡ c.ci = grind (arith, nat_tests, common_steps, h) in
     let area : p.cell.lac ≡ c.lac = grind (arith, nat_tests, common_steps, h) in
-    λ i. nat_eq ((identity i + area i * 61) % 1024) n
+    λ i. nat_eq ((identity i + area i * 61) % 8192) n
 
 count_less : (b : ℕ) (c : Cell) (ps qs : List Place) → qs ≡ remove_key (is_at (place_cmp (place_of b c))) ps → list_any (is_at (place_cmp (place_of b c))) ps ≡ true → (n : ℕ) → count_at n qs + cond (nat_eq (class_of c) n) 1 0 ≡ count_at n ps
 count_less b c ps qs taken there n =
     ap (λ rs. count_at n rs + cond (nat_eq (class_of c) n) 1 0) taken ∙ count_removed (is_at (place_cmp (place_of b c))) (has_class n) (nat_eq (class_of c) n) (λ p h. at_class b c n p h) ps there
 
--- where a place is taken out, the count of its class is not 0
-pub counted_there : (b : ℕ) (c : Cell) (ps qs : List Place) → qs ≡ remove_key (is_at (place_cmp (place_of b c))) ps → list_any (is_at (place_cmp (place_of b c))) ps ≡ true → 1 ≤ count_at (class_of c) ps
-counted_there b c ps qs taken there =
-    let less : count_at (class_of c) qs + 1 ≡ count_at (class_of c) ps = sym (ap (λ t. count_at (class_of c) qs + cond t 1 0) (own_class c)) ∙ count_less b c ps qs taken there (class_of c) in
-    omega (arith, less)
-
--- and it is less by one afterwards
-pub counts_less : (b : ℕ) (c : Cell) (counts : List ℕ) (ps qs : List Place) (o : ℕ) → o ≡ class_of c → o < length counts → o < 1024 → AreCounts counts ps → qs ≡ remove_key (is_at (place_cmp (place_of b c))) ps → list_any (is_at (place_cmp (place_of b c))) ps ≡ true → AreCounts (set counts o (get_or counts o 0 - 1)) qs
-counts_less b c counts ps qs o own inside small are taken there =
-    counts_set counts ps qs o (get_or counts o 0 - 1) inside are new (λ n other. left n (count_less b c ps qs taken there n) (ap (λ m. nat_eq m n) (sym own) ∙ other))
+-- where a place is taken out, the count of its class is that of one less
+pub counts_less : (b : ℕ) (c : Cell) (counts : List ℕ) (ps qs : List Place) (o v : ℕ) → o ≡ class_of c → o < length counts → o < 8192 → AreCounts counts ps → ((n : ℕ) → IsCount (get_or counts o 0) (n + 1) → IsCount v n) → qs ≡ remove_key (is_at (place_cmp (place_of b c))) ps → list_any (is_at (place_cmp (place_of b c))) ps ≡ true → AreCounts (set counts o v) qs
+counts_less b c counts ps qs o v own inside small are falls taken there =
+    counts_set counts ps qs o v inside are new (λ n other. left n (count_less b c ps qs taken there n) (ap (λ m. nat_eq m n) (sym own) ∙ other))
   where
     left : (n : ℕ) → count_at n qs + cond (nat_eq (class_of c) n) 1 0 ≡ count_at n ps → nat_eq (class_of c) n ≡ false → count_at n qs ≡ count_at n ps
     left n e other =
         let less : count_at n qs + 0 ≡ count_at n ps = sym (ap (λ t. count_at n qs + cond t 1 0) other) ∙ e in
         omega (arith, less)
 
-    new : get_or counts o 0 - 1 ≡ count_at o qs
+    new : IsCount v (count_at o qs)
     new =
         let less : count_at (class_of c) qs + 1 ≡ count_at (class_of c) ps = sym (ap (λ t. count_at (class_of c) qs + cond t 1 0) (own_class c)) ∙ count_less b c ps qs taken there (class_of c) in
-        let now : get_or counts o 0 ≡ count_at (class_of c) ps = are o small ∙ ap (λ n. count_at n ps) own in
-        let same : count_at o qs ≡ count_at (class_of c) qs = ap (λ n. count_at n qs) own in
-        omega (arith, less, now, same)
+        falls (count_at o qs) (subst (λ n. IsCount (get_or counts o 0) n) (sym (rw own less)) (are o small))
 
 zeros : (m n : ℕ) → ◌≡◌ {A = ℕ} (get_or (replicate m 0) n 0) 0
 zeros zero n = refl
@@ -147,5 +132,5 @@ zeros (suc m) zero = refl
 zeros (suc m) (suc n) = zeros m n
 
 -- of no places each count is 0
-pub counts_none : AreCounts (replicate 1024 0) []
-counts_none n h = zeros 1024 n
+pub counts_none : AreCounts (replicate 8192 0) []
+counts_none n h few = zeros 8192 n

@@ -1,10 +1,10 @@
 //! The cells that are down.
 
-ghost use Rattle.std.specs.Prelude.{◌≡◌, ◌<◌, ◌&&◌, ℕ, true, false, [], replicate, if◌then◌else◌, nat_eq, IfOk, OnOk, OnErr};
+ghost use Rattle.std.specs.Prelude.{◌≡◌, ◌<◌, ◌&&◌, ◌+◌, ℕ, true, false, [], replicate, if◌then◌else◌, nat_eq, IfOk, OnOk, OnErr};
 ghost use Rattle.std.specs.List.{list_any};
 ghost use Rattle.common.specs.Cell.{cell_eq};
 ghost use Rattle.common.specs.declared.cell.Cell.{Cell};
-ghost use Rattle.mirror.specs.Downs.{class_of};
+ghost use Rattle.mirror.specs.Downs.{IsCount, class_of};
 ghost use Rattle.mirror.specs.Table.{is_that_place};
 
 use crate::place::Place;
@@ -15,14 +15,14 @@ use std::collections::BTreeSet;
 use std::marker::Model;
 
 /// How many classes of cells there are.
-const CLASSES: usize = 1024;
+const CLASSES: usize = 8192;
 
 /// The cells that are down, each at its BSC. Few are down, and each line that is read asks for its cell. So the places are
-/// counted by the class of their cell: where none is of that class, no place is searched for.
+/// counted by the class of their cell: where none is of that class, no place is searched for. An octet counts each, up to 255.
 #[derive(Drop)]
 pub(crate) struct Downs {
     places: BTreeSet<Place>,
-    counts: [usize; CLASSES],
+    counts: [u8; CLASSES],
 }
 
 impl Model for Downs {
@@ -40,16 +40,33 @@ impl Model for Downs {
 /// The class of a cell. Cells of the same identity in location areas that follow one another are of other classes.
 fn class_of(c: Cell) -> usize
     ensures class { result ≡ class_of c }
-    ensures small { result < 1024 }
+    ensures small { result < 8192 }
 {
     (usize::from(c.ci) + usize::from(c.lac) * 61) % CLASSES
 }
 
 /// The counts of no places.
-fn no_counts() -> [usize; CLASSES]
-    ensures { result ≡ replicate 1024 0 }
+fn no_counts() -> [u8; CLASSES]
+    ensures { result ≡ replicate 8192 0 }
 {
     [0; CLASSES]
+}
+
+/// The count of one more. That of 255 and more is 255.
+fn one_more(count: u8) -> u8
+    ensures { (n : ℕ) → IsCount count n → IsCount result (n + 1) }
+{
+    count.saturating_add(1)
+}
+
+/// The count of one less. One of 255 stays, since it isn't known of how many it is.
+fn one_less(count: u8) -> u8
+    ensures { (n : ℕ) → IsCount count (n + 1) → IsCount result n }
+{
+    match count {
+        u8::MAX => u8::MAX,
+        _ => count.saturating_sub(1),
+    }
 }
 
 impl Downs {
@@ -94,9 +111,8 @@ impl Downs {
         ensures grows { OnErr result (list_any (is_that_place b c) self.old ≡ false) }
     {
         if self.places.insert(Place::of(b, c))? {
-            // How many places there are bounds how many are counted.
-            let _ = self.places.len();
-            self.counts[class_of(c)] += 1;
+            let class = class_of(c);
+            self.counts[class] = one_more(self.counts[class]);
         }
         Ok(())
     }
@@ -106,7 +122,8 @@ impl Downs {
         ensures { (d : ℕ) (e : Cell) → list_any (is_that_place d e) self.new ≡ (if nat_eq b d && cell_eq c e then false else list_any (is_that_place d e) self.old) }
     {
         if self.places.remove(&Place::of(b, c)) {
-            self.counts[class_of(c)] -= 1;
+            let class = class_of(c);
+            self.counts[class] = one_less(self.counts[class]);
         }
     }
 }
