@@ -3,7 +3,7 @@
 use crate::values::{bsc, content, name, names, same, yes};
 use areas::Selector;
 use common::{Cell, Name};
-use coverage_plan::{Edit, Limit, Plan, PlanItem, Refusal, covered_cells};
+use coverage_plan::{Edit, Limit, Made, Plan, PlanItem, Refusal, covered_cells};
 use serials::{Scope, Serial};
 use std::alloc::Global;
 use std::process::Abort;
@@ -23,10 +23,13 @@ const AT_SEVEN: Selector = Selector::Cell(SEVEN);
 
 const AT_EIGHT: Selector = Selector::Cell(EIGHT);
 
-/// The serial number of a first warning that is sent to cells, and that of its second version.
+/// The serial number of a first warning that is sent to cells (its message code and its update number are 0), that of its
+/// second version, and that of a second warning (its message code is 1; TS 23.041, 9.4.1.2.1).
 const FIRST_SERIAL: u16 = 0xc000;
 
 const SECOND_SERIAL: u16 = 0xc001;
+
+const OTHER_SERIAL: u16 = 0xc010;
 
 fn first_id() -> WarningId {
     WarningId::new(1)
@@ -82,8 +85,7 @@ fn issue(rt: &impl Abort, alloc: Global, areas: &[&[u8]]) -> Edit {
     Edit::Issue(notice, names(rt, alloc, areas))
 }
 
-/// Two cells at BSC 1. Area A has their location area and the first cell, area B has the first cell. Warning 1 names
-/// both areas.
+/// Two cells at BSC 1. Area A has their location area and the first cell, area B has the first cell.
 const BEGUN: &[Doing] = &[
     Doing::AddBsc(1),
     Doing::AddCell(SEVEN, 1),
@@ -93,21 +95,24 @@ const BEGUN: &[Doing] = &[
     Doing::Put(b"A", LAC),
     Doing::Put(b"A", AT_SEVEN),
     Doing::Put(b"B", AT_SEVEN),
-    Doing::Issue(&[b"A", b"B"]),
 ];
 
-fn make(rt: &impl Abort, alloc: Global, plan: &mut Plan, doing: Doing) {
+/// Makes the edit, which gives that.
+fn gives(rt: &impl Abort, alloc: Global, plan: &mut Plan, doing: Doing, want: Made) {
     let edit = edit_of(rt, alloc, doing);
     let made = plan.make(&edit);
     drop(edit);
-    yes(rt, made.is_ok(), "an edit is made");
+    same(rt, &made, &Ok(want), "what an edit gives");
 }
 
+/// The plan of `BEGUN`, in which warning 1 names both areas.
 fn begun(rt: &impl Abort, alloc: Global) -> Plan {
     let mut plan = Plan::new(alloc);
     for doing in BEGUN {
-        make(rt, alloc, &mut plan, *doing);
+        gives(rt, alloc, &mut plan, *doing, Made::Done);
     }
+    let issued = Made::Issued(first_id(), Serial::from_u16(FIRST_SERIAL));
+    gives(rt, alloc, &mut plan, Doing::Issue(&[b"A", b"B"]), issued);
     plan
 }
 
@@ -264,6 +269,17 @@ fn scenarios_go_as_planned(rt: HostRuntime) {
     for steps in SCENARIOS {
         goes(&rt, rt.alloc(), steps);
     }
+}
+
+#[test]
+fn edits_give_the_numbers_of_what_they_add(rt: HostRuntime) {
+    let alloc = rt.alloc();
+    let mut plan = begun(&rt, alloc);
+    let updated = Made::Updated(Serial::from_u16(SECOND_SERIAL));
+    let issued = Made::Issued(WarningId::new(2), Serial::from_u16(OTHER_SERIAL));
+    gives(&rt, alloc, &mut plan, Update(1), updated);
+    gives(&rt, alloc, &mut plan, Issue(&[b"B"]), issued);
+    gives(&rt, alloc, &mut plan, Stop(1), Made::Done);
 }
 
 #[test]
