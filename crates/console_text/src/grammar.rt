@@ -10,6 +10,7 @@ use crate::heading::Heading;
 use crate::line::Line;
 use crate::numbers::read_number_in;
 use crate::parts::split_parts;
+use crate::word::Word;
 use crate::words::is_word;
 use areas::Selector;
 use cell_register::BscId;
@@ -19,7 +20,7 @@ use std::alloc::{AllocError, Global};
 use warning_book::{Category, WarningId};
 
 /// The line of the words; `None` where there is no such line, or a number isn't one or is out of its range.
-pub fn read_line(alloc: Global, words: &[Octets]) -> Result<Option<Line>, AllocError>
+pub fn read_line(alloc: Global, words: &[Word<'_>]) -> Result<Option<Line>, AllocError>
     ensures { IfOk result (λ line. line ≡ line_of words.now) }
 {
     match words {
@@ -116,7 +117,7 @@ pub fn read_names(alloc: Global, word: &[u8]) -> Result<Names, AllocError>
     }
     let parts = split_parts(alloc, word, b',')?;
     for part in parts {
-        names.push(Name::from_vec(part.into_vec()))?;
+        names.push(read_name(alloc, part.as_slice())?)?;
     }
     Ok(Names::from_vec(names))
 }
@@ -125,6 +126,13 @@ fn read_name(alloc: Global, word: &[u8]) -> Result<Name, AllocError>
     ensures { IfOk result (λ name. name ≡ word.now) }
 {
     Ok(Name::from_vec(Vec::from_slice(alloc, word)?))
+}
+
+/// Pages, security information or a frame, whose octets are read later.
+fn read_text(alloc: Global, word: &[u8]) -> Result<Octets, AllocError>
+    ensures { IfOk result (λ text. text ≡ word.now) }
+{
+    Ok(Octets::from_vec(Vec::from_slice(alloc, word)?))
 }
 
 /// `rebuild`, `checkpoint`
@@ -194,7 +202,7 @@ fn read_three(alloc: Global, verb: &[u8], x: &[u8], y: &[u8]) -> Result<Option<L
         Ok(read_keep(x, y))
     } else if is_word(verb, b"rx") {
         match read_bsc(x) {
-            Some(bsc) => Ok(Some(Line::Report(bsc, Octets::from_vec(Vec::from_slice(alloc, y)?)))),
+            Some(bsc) => Ok(Some(Line::Report(bsc, read_text(alloc, y)?))),
             None => Ok(None),
         }
     } else if is_word(verb, b"ask") {
@@ -303,7 +311,11 @@ fn read_moved_cell(lac: &[u8], ci: &[u8], bsc: &[u8]) -> Option<Line>
     Some(Line::MoveCell(cell, read_bsc(bsc)?))
 }
 
-fn read_content_heading(dcs: &Octets, category: &Octets, period: &Octets) -> Option<ContentHeading>
+fn read_content_heading(
+    dcs: &Word<'_>,
+    category: &Word<'_>,
+    period: &Word<'_>,
+) -> Option<ContentHeading>
     ensures { result ≡ content_heading_of dcs.now category.now period.now }
 {
     Some(ContentHeading {
@@ -314,11 +326,11 @@ fn read_content_heading(dcs: &Octets, category: &Octets, period: &Octets) -> Opt
 }
 
 fn read_heading(
-    message_id: &Octets,
-    scope: &Octets,
-    dcs: &Octets,
-    category: &Octets,
-    period: &Octets,
+    message_id: &Word<'_>,
+    scope: &Word<'_>,
+    dcs: &Word<'_>,
+    category: &Word<'_>,
+    period: &Word<'_>,
 ) -> Option<Heading>
     ensures { result ≡ heading_of message_id.now scope.now dcs.now category.now period.now }
 {
@@ -332,11 +344,11 @@ fn read_heading(
 /// `update W DCS CAT PERIOD PAGES`
 fn read_update(
     alloc: Global,
-    warning: &Octets,
-    dcs: &Octets,
-    category: &Octets,
-    period: &Octets,
-    pages: &Octets,
+    warning: &Word<'_>,
+    dcs: &Word<'_>,
+    category: &Word<'_>,
+    period: &Word<'_>,
+    pages: &Word<'_>,
 ) -> Result<Option<Line>, AllocError>
     ensures { IfOk result (λ line. line ≡ update warning.now dcs.now category.now period.now pages.now) }
 {
@@ -349,14 +361,14 @@ fn read_update(
     Ok(Some(Line::Update {
         warning,
         heading,
-        pages: pages.copied(alloc)?,
+        pages: read_text(alloc, pages.as_slice())?,
     }))
 }
 
 fn read_emergency_heading(
-    indicator: &Octets,
-    warning_type: &Octets,
-    warning_period: &Octets,
+    indicator: &Word<'_>,
+    warning_type: &Word<'_>,
+    warning_period: &Word<'_>,
 ) -> Option<EmergencyHeading>
     ensures { result ≡ emergency_heading_of indicator.now warning_type.now warning_period.now }
 {
@@ -370,11 +382,11 @@ fn read_emergency_heading(
 /// `realert W I T P SEC`
 fn read_realert(
     alloc: Global,
-    warning: &Octets,
-    indicator: &Octets,
-    warning_type: &Octets,
-    warning_period: &Octets,
-    security: &Octets,
+    warning: &Word<'_>,
+    indicator: &Word<'_>,
+    warning_type: &Word<'_>,
+    warning_period: &Word<'_>,
+    security: &Word<'_>,
 ) -> Result<Option<Line>, AllocError>
     ensures { IfOk result (λ line. line ≡ realert warning.now indicator.now warning_type.now warning_period.now security.now) }
 {
@@ -387,19 +399,19 @@ fn read_realert(
     Ok(Some(Line::Realert {
         warning,
         heading,
-        security: security.copied(alloc)?,
+        security: read_text(alloc, security.as_slice())?,
     }))
 }
 
 /// `update W DCS CAT PERIOD PAGES`, `realert W I T P SEC`
 fn read_six(
     alloc: Global,
-    verb: &Octets,
-    warning: &Octets,
-    x: &Octets,
-    y: &Octets,
-    z: &Octets,
-    text: &Octets,
+    verb: &Word<'_>,
+    warning: &Word<'_>,
+    x: &Word<'_>,
+    y: &Word<'_>,
+    z: &Word<'_>,
+    text: &Word<'_>,
 ) -> Result<Option<Line>, AllocError>
     ensures { IfOk result (λ line. line ≡ line_of (verb.now ∷ warning.now ∷ x.now ∷ y.now ∷ z.now ∷ text.now ∷ [])) }
 {
@@ -415,13 +427,13 @@ fn read_six(
 /// `issue M SCOPE DCS CAT PERIOD PAGES AREAS`
 fn read_issue(
     alloc: Global,
-    message_id: &Octets,
-    scope: &Octets,
-    dcs: &Octets,
-    category: &Octets,
-    period: &Octets,
-    pages: &Octets,
-    areas: &Octets,
+    message_id: &Word<'_>,
+    scope: &Word<'_>,
+    dcs: &Word<'_>,
+    category: &Word<'_>,
+    period: &Word<'_>,
+    pages: &Word<'_>,
+    areas: &Word<'_>,
 ) -> Result<Option<Line>, AllocError>
     ensures { IfOk result (λ line. line ≡ issue message_id.now scope.now dcs.now category.now period.now pages.now areas.now) }
 {
@@ -430,17 +442,17 @@ fn read_issue(
     };
     Ok(Some(Line::Issue {
         heading,
-        pages: pages.copied(alloc)?,
+        pages: read_text(alloc, pages.as_slice())?,
         areas: read_names(alloc, areas.as_slice())?,
     }))
 }
 
 fn read_alert_heading(
-    message_id: &Octets,
-    scope: &Octets,
-    indicator: &Octets,
-    warning_type: &Octets,
-    warning_period: &Octets,
+    message_id: &Word<'_>,
+    scope: &Word<'_>,
+    indicator: &Word<'_>,
+    warning_type: &Word<'_>,
+    warning_period: &Word<'_>,
 ) -> Option<AlertHeading>
     ensures { result ≡ alert_heading_of message_id.now scope.now indicator.now warning_type.now warning_period.now }
 {
@@ -454,13 +466,13 @@ fn read_alert_heading(
 /// `alert M SCOPE I T P SEC AREAS`
 fn read_alert(
     alloc: Global,
-    message_id: &Octets,
-    scope: &Octets,
-    indicator: &Octets,
-    warning_type: &Octets,
-    warning_period: &Octets,
-    security: &Octets,
-    areas: &Octets,
+    message_id: &Word<'_>,
+    scope: &Word<'_>,
+    indicator: &Word<'_>,
+    warning_type: &Word<'_>,
+    warning_period: &Word<'_>,
+    security: &Word<'_>,
+    areas: &Word<'_>,
 ) -> Result<Option<Line>, AllocError>
     ensures { IfOk result (λ line. line ≡ alert message_id.now scope.now indicator.now warning_type.now warning_period.now security.now areas.now) }
 {
@@ -470,7 +482,7 @@ fn read_alert(
     };
     Ok(Some(Line::Alert {
         heading,
-        security: security.copied(alloc)?,
+        security: read_text(alloc, security.as_slice())?,
         areas: read_names(alloc, areas.as_slice())?,
     }))
 }
@@ -478,14 +490,14 @@ fn read_alert(
 /// `issue M SCOPE DCS CAT PERIOD PAGES AREAS`, `alert M SCOPE I T P SEC AREAS`
 fn read_eight(
     alloc: Global,
-    verb: &Octets,
-    message_id: &Octets,
-    scope: &Octets,
-    x: &Octets,
-    y: &Octets,
-    z: &Octets,
-    text: &Octets,
-    areas: &Octets,
+    verb: &Word<'_>,
+    message_id: &Word<'_>,
+    scope: &Word<'_>,
+    x: &Word<'_>,
+    y: &Word<'_>,
+    z: &Word<'_>,
+    text: &Word<'_>,
+    areas: &Word<'_>,
 ) -> Result<Option<Line>, AllocError>
     ensures { IfOk result (λ line. line ≡ line_of (verb.now ∷ message_id.now ∷ scope.now ∷ x.now ∷ y.now ∷ z.now ∷ text.now ∷ areas.now ∷ [])) }
 {

@@ -4,6 +4,7 @@ ghost use Rattle.std.specs.Prelude.{◌≡◌, ◌++◌, IfOk, Some, bytes_eq};
 ghost use Rattle.console_text.specs.HexText.{octets_of, pages_of, all_octets_of, fifty, security_of};
 
 use crate::parts::split_parts;
+use crate::word::Word;
 use crate::words::is_word;
 use common::Octets;
 use hex::FromHexError;
@@ -32,7 +33,7 @@ pub fn read_pages(alloc: Global, word: &[u8]) -> Result<Option<ContentPages>, Al
     read_each(alloc, &texts)
 }
 
-fn read_each(alloc: Global, texts: &[Octets]) -> Result<Option<ContentPages>, AllocError>
+fn read_each(alloc: Global, texts: &[Word<'_>]) -> Result<Option<ContentPages>, AllocError>
     ensures { IfOk result (λ pages. pages ≡ all_octets_of texts.now) }
 {
     let mut pages = Vec::new(alloc);

@@ -25,6 +25,7 @@ pub mod options;
 mod parts;
 pub mod response;
 pub mod runs;
+pub mod word;
 pub mod words;
 
 pub use fault::{ReplayFault, fault_words};

@@ -4,31 +4,31 @@ ghost use Rattle.std.specs.Prelude.{◌≡◌, ◌++◌, ◌∷◌, [], IfOk, On
 ghost use Rattle.console_text.specs.Words.{is_comment, words_of, non_empty};
 
 use crate::runs::cut_at;
-use common::Octets;
+use crate::word::Word;
 use std::alloc::{AllocError, Global};
 
 /// The longest runs of octets other than the space, in their order.
 #[tactic(auto, using(crate::proofs::PartLemmas::parts_one))]
-pub fn split_words(alloc: Global, line: &[u8]) -> Result<Vec<Octets>, AllocError>
+pub fn split_words(alloc: Global, line: &[u8]) -> Result<Vec<Word<'_>>, AllocError>
     ensures { IfOk result (λ words. words.items ≡ words_of line.now) }
 {
-    let mut words = Vec::new(alloc);
+    let mut words = Vec::with_capacity(alloc, 8)?;
     let mut rest = line;
     while let Some((word, behind)) = cut_at(rest, b' ') {
-        push_word(alloc, &mut words, word)?;
+        push_word(&mut words, word)?;
         rest = behind;
     }
-    push_word(alloc, &mut words, rest)?;
+    push_word(&mut words, rest)?;
     Ok(words)
 }
 
-fn push_word(alloc: Global, words: &mut Vec<Octets>, word: &[u8]) -> Result<(), AllocError>
+fn push_word<'a>(words: &mut Vec<Word<'a>>, word: &'a [u8]) -> Result<(), AllocError>
     ensures { OnOk result (words.new.items ≡ words.old.items ++ non_empty (word.now ∷ [])) }
 {
     if word.is_empty() {
         return Ok(());
     }
-    words.push(Octets::from_vec(Vec::from_slice(alloc, word)?))?;
+    words.push(Word::of(word))?;
     Ok(())
 }
 

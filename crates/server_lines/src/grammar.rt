@@ -9,9 +9,10 @@ ghost use Rattle.server_lines.specs.declared.server_line.ServerLine.TheVariants.
 use crate::list_line::ListLine;
 use crate::server_line::ServerLine;
 use crate::text_grammar::read_text_line;
-use common::{Cell, Name, Octets};
+use common::{Cell, Name};
 use console_text::grammar;
 use console_text::grammar::{read_bsc, read_cell, read_warning};
+use console_text::word::Word;
 use console_text::words::is_word;
 use std::alloc::{AllocError, Global};
 
@@ -19,7 +20,7 @@ use std::alloc::{AllocError, Global};
 pub fn read_server_line(
     alloc: Global,
     line: &[u8],
-    words: &[Octets],
+    words: &[Word<'_>],
 ) -> Result<Option<ServerLine>, AllocError>
     ensures { IfOk result (λ found. found ≡ server_line_of line.now words.now) }
 {
@@ -30,7 +31,7 @@ pub fn read_server_line(
 }
 
 /// A line that has no text.
-fn read_textless(alloc: Global, words: &[Octets]) -> Result<Option<ServerLine>, AllocError>
+fn read_textless(alloc: Global, words: &[Word<'_>]) -> Result<Option<ServerLine>, AllocError>
     ensures { IfOk result (λ line. line ≡ or_centre (own_line_of words.now) words.now) }
 {
     match read_own(alloc, words)? {
@@ -40,7 +41,7 @@ fn read_textless(alloc: Global, words: &[Octets]) -> Result<Option<ServerLine>, 
 }
 
 /// A line of the console.
-fn read_centre(alloc: Global, words: &[Octets]) -> Result<Option<ServerLine>, AllocError>
+fn read_centre(alloc: Global, words: &[Word<'_>]) -> Result<Option<ServerLine>, AllocError>
     ensures { IfOk result (λ line. line ≡ option_map Centre (line_of words.now)) }
 {
     match grammar::read_line(alloc, words)? {
@@ -50,7 +51,7 @@ fn read_centre(alloc: Global, words: &[Octets]) -> Result<Option<ServerLine>, Al
 }
 
 /// A line that only a server has.
-fn read_own(alloc: Global, words: &[Octets]) -> Result<Option<ServerLine>, AllocError>
+fn read_own(alloc: Global, words: &[Word<'_>]) -> Result<Option<ServerLine>, AllocError>
     ensures { IfOk result (λ line. line ≡ own_line_of words.now) }
 {
     match words {

@@ -9,6 +9,7 @@ use crate::text_heading::TextHeading;
 use crate::text_line::TextLine;
 use common::Octets;
 use console_text::grammar::{read_category, read_names, read_scope, read_two_octets, read_warning};
+use console_text::word::Word;
 use console_text::words::is_word;
 use std::alloc::{AllocError, Global};
 
@@ -41,11 +42,11 @@ fn read_said_heading(
 /// `say M SCOPE CAT PERIOD AREAS TEXT`
 fn read_say(
     alloc: Global,
-    message_id: &Octets,
-    scope: &Octets,
-    category: &Octets,
-    period: &Octets,
-    areas: &Octets,
+    message_id: &Word<'_>,
+    scope: &Word<'_>,
+    category: &Word<'_>,
+    period: &Word<'_>,
+    areas: &Word<'_>,
     text: &[u8],
 ) -> Result<Option<TextLine>, AllocError>
     ensures { IfOk result (λ line. line ≡ say message_id.now scope.now category.now period.now areas.now text.now) }
@@ -68,9 +69,9 @@ fn read_say(
 /// `resay W CAT PERIOD TEXT`
 fn read_resay(
     alloc: Global,
-    warning: &Octets,
-    category: &Octets,
-    period: &Octets,
+    warning: &Word<'_>,
+    category: &Word<'_>,
+    period: &Word<'_>,
     text: &[u8],
 ) -> Result<Option<TextLine>, AllocError>
     ensures { IfOk result (λ line. line ≡ resay warning.now category.now period.now text.now) }
@@ -92,7 +93,7 @@ fn read_resay(
 fn read_say_words(
     alloc: Global,
     line: &[u8],
-    words: &[Octets],
+    words: &[Word<'_>],
 ) -> Result<Option<TextLine>, AllocError>
     ensures { IfOk result (λ found. found ≡ say_of line.now words.now) }
 {
@@ -109,7 +110,7 @@ fn read_say_words(
 fn read_resay_words(
     alloc: Global,
     line: &[u8],
-    words: &[Octets],
+    words: &[Word<'_>],
 ) -> Result<Option<TextLine>, AllocError>
     ensures { IfOk result (λ found. found ≡ resay_of line.now words.now) }
 {
@@ -126,7 +127,7 @@ fn read_resay_words(
 pub(crate) fn read_text_line(
     alloc: Global,
     line: &[u8],
-    words: &[Octets],
+    words: &[Word<'_>],
 ) -> Result<Option<TextLine>, AllocError>
     ensures { IfOk result (λ found. found ≡ text_line_of line.now words.now) }
 {

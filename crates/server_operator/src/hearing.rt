@@ -16,10 +16,11 @@ use crate::server::Server;
 use crate::submitting::{cut, edit};
 use cell_register::BscId;
 use centre_events::refusal::Refusal;
-use common::{Cell, Octets};
+use common::Cell;
 use console_text::answer_text::response_text;
 use console_text::line::Line;
 use console_text::response::Response;
+use console_text::word::Word;
 use console_text::words::{is_comment, split_words};
 use office::desk::Desk;
 use server_lines::grammar::read_server_line;
@@ -161,7 +162,7 @@ fn hear_words<L: Ledger, S: Server, R: Wait + Clock>(
     operator: &Operator<'_, L, S>,
     desk: &mut Desk<L>,
     line: &[u8],
-    words: &[Octets],
+    words: &[Word<'_>],
 ) -> Result<Heard, AllocError>
     ensures { IfOk result (IsHeardIn desk.old operator.now.may_watch line.now words.now desk.new) }
 {
