@@ -1,5 +1,5 @@
 -- That what is written of a message is one frame.
-use Rattle.std.specs.Prelude.{ℕ, ◌≤◌, List, [], ◌∷◌, length}
+use Rattle.std.specs.Prelude.{◌≤◌, [], ◌∷◌, length}
 use Rattle.cbsp_ie.specs.Frame.{longest_body}
 use Rattle.cbsp_messages.specs.Message.{type_of}
 use Rattle.cbsp_messages.specs.MessageType.{code_of}
