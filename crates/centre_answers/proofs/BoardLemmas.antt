@@ -44,10 +44,10 @@ use Rattle.centre_past.specs.Numbers.{number, broadcasts_in, broadcasts, total, 
 use Rattle.centre_events.specs.Past.{Past}
 use Rattle.centre_events.specs.Places.{added_cell, cells, place}
 use Rattle.centre_past.specs.Reach.{spot}
-use Rattle.centre_events.specs.Settings.{Settings}
 use Rattle.centre_events.specs.Warnings.{book_of, warnings_of, serials}
 use Rattle.centre_events.specs.declared.refusal.Refusal.{Refusal}
 use Rattle.centre_events.specs.declared.refusal.Refusal.TheVariants.{NoSuchArea, NoSuchWarning, AreaNotThere}
+use Rattle.centre_events.specs.declared.settings.Settings.{Settings}
 use Rattle.centre_past.proofs.AnyLemmas.{and_none, any_flat, any_never, any_pulled, any_same}
 use Rattle.centre_past.proofs.BeginningLemmas.{IsBlank, seen_blank, at_cell, cell_outside, bsc_outside, not_counted}
 use Rattle.centre_past.proofs.CountLemmas.{named_once}

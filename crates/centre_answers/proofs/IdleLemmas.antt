@@ -35,10 +35,10 @@ use Rattle.centre_events.specs.Places.{cells, place}
 use Rattle.centre_events.specs.Plan.{wanted}
 use Rattle.centre_events.specs.Presence.{presence}
 use Rattle.centre_events.specs.Reported.{is_present, is_reported_in, is_reported_at, is_reported, flight_names, is_in_flight}
-use Rattle.centre_events.specs.Settings.{Settings}
 use Rattle.centre_events.specs.Warnings.{book_of}
 use Rattle.centre_past.specs.declared.link.Link.{Link}
 use Rattle.centre_events.specs.declared.in_flight.InFlight.{InFlight}
+use Rattle.centre_events.specs.declared.settings.Settings.{Settings}
 use Rattle.centre_past.proofs.AnyLemmas.{any_at, any_gives, any_same}
 use Rattle.centre_answers.proofs.BoardLemmas.{board_is}
 use Rattle.centre_past.proofs.BscLemmas.{bsc_named, flight_bsc}

@@ -22,7 +22,7 @@ use Rattle.centre_past.specs.Legal.{Legal}
 use Rattle.centre_events.specs.Outcomes.{listed_cells}
 use Rattle.centre_events.specs.Past.{Past}
 use Rattle.centre_events.specs.Places.{added_cell, cells}
-use Rattle.centre_events.specs.Settings.{Settings}
+use Rattle.centre_events.specs.declared.settings.Settings.{Settings}
 use Rattle.centre_past.proofs.CountLemmas.{both_or_it, named_once}
 use Rattle.centre_past.proofs.KnownLemmas.{legal_unfolded}
 use Rattle.centre_past.proofs.MarkLemmas.{known_cell}

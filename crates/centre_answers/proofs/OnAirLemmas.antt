@@ -40,10 +40,10 @@ use Rattle.centre_events.specs.Places.{cells}
 use Rattle.centre_events.specs.Presence.{presence}
 use Rattle.centre_past.specs.Reach.{spot, known_at}
 use Rattle.centre_past.specs.Reaching.{TellsLines}
-use Rattle.centre_events.specs.Settings.{Settings}
 use Rattle.centre_events.specs.Warnings.{book_of}
 use Rattle.centre_events.specs.declared.answer.Answer.TheVariants.{Asked}
 use Rattle.centre_events.specs.declared.refusal.Refusal.TheVariants.{NothingToAsk}
+use Rattle.centre_events.specs.declared.settings.Settings.{Settings}
 use Rattle.centre_past.proofs.CountLemmas.{both_or_it}
 use Rattle.centre_answers.proofs.ListedLemmas.{apart, filtered}
 use Rattle.centre_past.proofs.MarkLemmas.{known_cell, known_presence}

@@ -36,8 +36,8 @@ use Rattle.centre_events.specs.Links.{is_up, last_link}
 use Rattle.centre_events.specs.Past.{Past}
 use Rattle.centre_events.specs.Pending.{actions, actions_in, all_actions, pending}
 use Rattle.centre_events.specs.Places.{place, cells}
-use Rattle.centre_events.specs.Settings.{Settings}
 use Rattle.centre_events.specs.Warnings.{book_of, warnings_of}
+use Rattle.centre_events.specs.declared.settings.Settings.{Settings}
 use Rattle.centre_past.proofs.AnyLemmas.{and_none, any_flat, any_gives, any_pulled, any_same}
 use Rattle.centre_past.proofs.BeginningLemmas.{at_cell, cell_outside, no_deeds}
 use Rattle.centre_past.proofs.BookLemmas.{owned_by, owner_of}

@@ -44,7 +44,6 @@ use Rattle.centre_events.specs.Counts.{count}
 use Rattle.centre_events.specs.Presence.{hold, presence}
 use Rattle.centre_events.specs.Refusals.{of_book}
 use Rattle.centre_events.specs.Reported.{is_key_in_flight, is_key_present, is_key_reported, is_key_reported_at, names_version}
-use Rattle.centre_events.specs.Settings.{Settings}
 use Rattle.centre_events.specs.Verdict.{by_book, reuses, unless, update, update_answer}
 use Rattle.centre_events.specs.Warnings.{book_of, warnings_of}
 use Rattle.centre_events.specs.declared.answer.Answer.{Answer}
@@ -52,6 +51,7 @@ use Rattle.centre_past.specs.declared.link.Link.{Link}
 use Rattle.centre_events.specs.declared.in_flight.InFlight.{InFlight}
 use Rattle.centre_events.specs.declared.refusal.Refusal.{Refusal}
 use Rattle.centre_events.specs.declared.refusal.Refusal.TheVariants.{StillReported, StillInFlight}
+use Rattle.centre_events.specs.declared.settings.Settings.{Settings}
 use Rattle.centre_past.specs.Facts.{facts, facts_of}
 use Rattle.centre_past.specs.Idle.{AreKnownOf}
 use Rattle.centre_past.specs.Legal.{Legal}

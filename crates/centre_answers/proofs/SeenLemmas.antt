@@ -37,8 +37,8 @@ use Rattle.centre_past.specs.Numbers.{broadcasts_in, area_broadcasts_in}
 use Rattle.centre_events.specs.Past.{Past}
 use Rattle.centre_events.specs.Places.{place}
 use Rattle.centre_events.specs.Presence.{presence, is_held}
-use Rattle.centre_events.specs.Settings.{Settings}
 use Rattle.centre_events.specs.Warnings.{book_of, serials}
+use Rattle.centre_events.specs.declared.settings.Settings.{Settings}
 use Rattle.centre_past.proofs.AnyLemmas.{and_none, any_implies, any_reverse}
 use Rattle.centre_past.proofs.LineLemmas.{covered_by}
 use Rattle.centre_past.proofs.OwnedLemmas.{turned_any, wanted_among}

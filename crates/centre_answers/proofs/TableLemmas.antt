@@ -29,9 +29,9 @@ use Rattle.centre_past.specs.Legal.{Legal}
 use Rattle.centre_events.specs.Past.{Past}
 use Rattle.centre_events.specs.Places.{place}
 use Rattle.centre_events.specs.Presence.{presence, hold}
-use Rattle.centre_events.specs.Settings.{Settings}
 use Rattle.centre_past.specs.Table.{key_if, keys_in, keys_over, key_lt, table}
 use Rattle.centre_events.specs.Warnings.{book_of, warnings_of, is_version, has_key}
+use Rattle.centre_events.specs.declared.settings.Settings.{Settings}
 use Rattle.centre_past.specs.declared.reported.reported_key.ReportedKey.{ReportedKey}
 use Rattle.centre_past.proofs.AnyLemmas.{any_implies, contrary}
 use Rattle.centre_past.proofs.BeginningLemmas.{table_over}

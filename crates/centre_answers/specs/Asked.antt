@@ -4,7 +4,7 @@ use Rattle.kept_tables.specs.Tables.{Tables}
 use Rattle.centre_past.specs.Facts.{facts}
 use Rattle.centre_past.specs.Legal.{Legal}
 use Rattle.centre_events.specs.Past.{Past}
-use Rattle.centre_events.specs.Settings.{Settings}
+use Rattle.centre_events.specs.declared.settings.Settings.{Settings}
 
 -- the past is legal, and the tables are consistent with what it says of every line
 pub record Tells (past : Past) (t : Tables) : Type 0 where

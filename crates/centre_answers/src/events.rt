@@ -23,8 +23,8 @@ ghost use Rattle.centre_past.specs.Legal.{Legal};
 ghost use Rattle.centre_events.specs.Past.{Past, position};
 ghost use Rattle.centre_events.specs.Pending.{all_actions};
 ghost use Rattle.centre_past.specs.Reach.{edit_reach, looked_at, size};
-ghost use Rattle.centre_events.specs.Settings.{Settings};
 ghost use Rattle.centre_events.specs.Verdict.{answered, edit_answered};
+ghost use Rattle.centre_events.specs.declared.settings.Settings.{Settings};
 ghost use Rattle.centre_past.specs.declared.kept.Kept.{Kept};
 
 use centre_events::answer::Answer;

@@ -17,9 +17,9 @@ ghost use Rattle.centre_events.specs.Kept.{AreAreasOf};
 ghost use Rattle.centre_past.specs.Numbers.{board, area_board};
 ghost use Rattle.centre_events.specs.Past.{Past};
 ghost use Rattle.centre_events.specs.Pending.{pending};
-ghost use Rattle.centre_events.specs.Settings.{Settings};
 ghost use Rattle.centre_past.specs.Table.{key_if, keys_in, keys_of, keys_over, table};
 ghost use Rattle.centre_events.specs.Warnings.{book_of, warnings_of};
+ghost use Rattle.centre_events.specs.declared.settings.Settings.{Settings};
 
 use areas::Areas;
 use cell_register::{BscId, Register};

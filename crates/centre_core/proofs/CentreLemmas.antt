@@ -21,7 +21,6 @@ use Rattle.centre_events.specs.Folding.{base_of}
 use Rattle.centre_events.proofs.FoldingLemmas.{past_whole}
 use Rattle.centre_events.specs.Past.{Past, After, past_of, position, since}
 use Rattle.centre_past.specs.Reach.{edit_reach, looked_at, size, reach, reach_of}
-use Rattle.centre_events.specs.Settings.{Settings}
 use Rattle.centre_events.specs.Verdict.{verdict, answered, edit_answered}
 use Rattle.centre_events.specs.Warnings.{book_of, book_then}
 use Rattle.centre_events.specs.declared.answer.Answer.{Answer}
@@ -34,6 +33,7 @@ use Rattle.centre_lines.specs.declared.lines_before.LinesBefore.TheVariants as l
 use Rattle.centre_past.specs.declared.kept.Kept.{Kept}
 use Rattle.centre_events.specs.declared.refusal.Refusal.{Refusal}
 use Rattle.centre_events.specs.declared.refusal.Refusal.TheVariants.{Stale, Memory, WrongDesk}
+use Rattle.centre_events.specs.declared.settings.Settings.{Settings}
 use Rattle.centre_past.specs.VerdictLaws.{verdict_is_no_stale, verdict_is_no_want, verdict_is_no_wrong_desk}
 use Rattle.centre_past.proofs.AreaLemmas.{areas_with}
 use Rattle.centre_core.proofs.FoldedLemmas.{answered_over, edit_size_over, lasting_is, reach_over, room_is}

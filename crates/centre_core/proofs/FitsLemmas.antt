@@ -35,7 +35,6 @@ use Rattle.centre_events.specs.Base.{Base}
 use Rattle.centre_events.specs.OrderMessage.{IsCarriable, given_content, listed, message_by, write_message}
 use Rattle.centre_events.specs.Past.{Past, position}
 use Rattle.centre_events.specs.Pending.{pending}
-use Rattle.centre_events.specs.Settings.{Settings}
 use Rattle.centre_events.specs.Verdict.{unless, answered, edit_answered, verdict, add_bsc_checks, remove_bsc_checks, add_cell_checks, move_cell_checks, remove_cell_checks, add_area_checks, drop_area_checks, put_checks, cut_checks, issue_checks, issue_answer, update_checks, update_answer, widen_checks, narrow_checks, stop_checks, forget_checks, retry_checks, link_up_checks, link_checks, send_checks, send_answer, report_checks, reply_answer, report_answer}
 use Rattle.centre_events.specs.Warnings.{book_of, warnings_of}
 use Rattle.centre_events.specs.declared.answer.Answer.{Answer}
@@ -50,6 +49,7 @@ use Rattle.order_maker.specs.declared.order_kind.OrderKind.{OrderKind}
 use Rattle.order_maker.specs.declared.order_kind.OrderKind.TheVariants.{Write, Replace, Kill}
 use Rattle.centre_events.specs.declared.refusal.Refusal.{Refusal}
 use Rattle.centre_events.specs.declared.reply.Reply.{Reply}
+use Rattle.centre_events.specs.declared.settings.Settings.{Settings}
 
 -- a cell takes four octets of a list
 listed_length : (cells : List Cell) → length (flat_map id_octets (map id_of_cell cells)) ≡ 4 * length cells

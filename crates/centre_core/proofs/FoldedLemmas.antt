@@ -7,7 +7,6 @@ use Rattle.coverage_plan.specs.declared.edit.Edit.{Edit}
 use Rattle.centre_events.specs.Base.{Base}
 use Rattle.centre_events.specs.Folding.{base_of, folded, onto}
 use Rattle.centre_events.specs.Past.{Past, entry_count, past_of, position, since}
-use Rattle.centre_events.specs.Settings.{Settings}
 use Rattle.centre_events.specs.Verdict.{answered, is_full, last_position, verdict}
 use Rattle.centre_events.specs.declared.answer.Answer.{Answer}
 use Rattle.centre_events.specs.declared.entry.Entry.{Entry}
@@ -16,6 +15,7 @@ use Rattle.centre_events.specs.declared.event.Event.{Event}
 use Rattle.centre_events.specs.declared.event.Event.TheVariants as event
 use Rattle.centre_events.specs.declared.refusal.Refusal.{Refusal}
 use Rattle.centre_events.specs.declared.refusal.Refusal.TheVariants.{JournalFull}
+use Rattle.centre_events.specs.declared.settings.Settings.{Settings}
 use Rattle.centre_events.proofs.FoldingLemmas.{alike, folded_then, past_joined, past_whole, since_onto}
 use Rattle.centre_events.proofs.PastLemmas.{count_journal, position_journal}
 use Rattle.centre_past.proofs.AlikeLemmas.{says_the_same}

@@ -10,7 +10,6 @@ use Rattle.centre_answers.specs.Asked.{Tells}
 use Rattle.centre_events.specs.Cover.{is_area}
 use Rattle.centre_events.specs.Kept.{AreAreasOf}
 use Rattle.centre_events.specs.Past.{Past}
-use Rattle.centre_events.specs.Settings.{Settings}
 use Rattle.centre_events.specs.Warnings.{book_of}
 use Rattle.centre_past.specs.Alike.{SaysTheSame}
 use Rattle.centre_past.specs.IsKept.{IsKept}
@@ -22,6 +21,7 @@ use Rattle.centre_past.specs.declared.lists.failed_row.FailedRow.{FailedRow}
 use Rattle.centre_past.specs.declared.lists.plan_counts.PlanCounts.{PlanCounts}
 use Rattle.coverage_board.specs.declared.numbers.Numbers.{Numbers}
 use Rattle.centre_events.specs.declared.refusal.Refusal.{Refusal}
+use Rattle.centre_events.specs.declared.settings.Settings.{Settings}
 use Rattle.centre_past.proofs.ListLemmas.{failed_counted}
 
 -- the tables that are kept of a legal past tell what it says

@@ -5,11 +5,11 @@ use Rattle.kept_tables.specs.declared.spot.Spot.{Spot}
 use Rattle.coverage_plan.specs.declared.edit.Edit.{Edit}
 use Rattle.coverage_plan.specs.Edited.{edited}
 use Rattle.centre_events.specs.Past.{Past, After, past_of}
-use Rattle.centre_events.specs.Settings.{Settings}
 use Rattle.centre_events.specs.Verdict.{answered, edit_answered, verdict}
 use Rattle.centre_events.specs.declared.answer.Answer.{Answer}
 use Rattle.centre_events.specs.declared.entry.Entry.{Entry}
 use Rattle.centre_events.specs.declared.event.Event.TheVariants as event
+use Rattle.centre_events.specs.declared.settings.Settings.{Settings}
 use Rattle.centre_past.specs.IsKept.{IsKept}
 use Rattle.centre_past.specs.Legal.{Legal}
 use Rattle.centre_past.specs.Reach.{edit_reach, reach_of, size}

@@ -15,12 +15,12 @@ use Rattle.centre_events.specs.Kept.{is_edit}
 use Rattle.coverage_plan.specs.Edited.{edited}
 use Rattle.centre_past.specs.Legal.{Legal}
 use Rattle.centre_events.specs.Past.{Past, After, since, past_of}
-use Rattle.centre_events.specs.Settings.{Settings}
 use Rattle.centre_events.specs.Verdict.{answered, edit_answered, verdict}
 use Rattle.centre_events.specs.declared.answer.Answer.{Answer}
 use Rattle.centre_events.specs.declared.entry.Entry.{Entry}
 use Rattle.centre_events.specs.declared.event.Event.{Event}
 use Rattle.centre_events.specs.declared.event.Event.TheVariants as event
+use Rattle.centre_events.specs.declared.settings.Settings.{Settings}
 use Rattle.centre_lines.specs.declared.lines_before.LinesBefore.{LinesBefore}
 use Rattle.centre_past.specs.declared.kept.Kept.{Kept}
 use Rattle.centre_core.specs.Centre.{all_reach, past_over}

@@ -6,13 +6,13 @@ use Rattle.centre_past.specs.Legal.{Legal, Known, lasting, past}
 use Rattle.centre_past.specs.Reach.{reach_of, size}
 use Rattle.centre_events.specs.Folding.{base_of}
 use Rattle.centre_events.specs.Past.{Past, From, After, past_of, since}
-use Rattle.centre_events.specs.Settings.{Settings}
 use Rattle.centre_events.specs.Verdict.{verdict}
 use Rattle.centre_events.specs.declared.entry.Entry.{Entry}
 use Rattle.centre_events.specs.declared.event.Event.{Event}
 use Rattle.centre_past.specs.declared.kept.Kept.{Kept}
 use Rattle.centre_events.specs.declared.refusal.Refusal.{Refusal}
 use Rattle.centre_events.specs.declared.refusal.Refusal.TheVariants.{Stale, Memory, WrongDesk}
+use Rattle.centre_events.specs.declared.settings.Settings.{Settings}
 
 -- the past of entries after others that were folded, both the oldest first
 abbrev pub past_over : List Entry → List Entry → Past

@@ -8,11 +8,11 @@ ghost use Rattle.centre_past.specs.IsKept.{IsKept, OnlyReadsIn};
 ghost use Rattle.centre_past.specs.Legal.{Legal};
 ghost use Rattle.centre_events.specs.Kept.{Gives, IsChecked, is_edit};
 ghost use Rattle.centre_events.specs.Past.{Past, past_of};
-ghost use Rattle.centre_events.specs.Settings.{Settings};
 ghost use Rattle.centre_past.specs.Reach.{edit_reach, looked_at, reach, reach_of, size};
 ghost use Rattle.centre_events.specs.Verdict.{answered, verdict};
 ghost use Rattle.centre_events.specs.declared.answer.Answer as answer_spec;
 ghost use Rattle.centre_events.specs.declared.event.Event.TheVariants as event;
+ghost use Rattle.centre_events.specs.declared.settings.Settings.{Settings};
 
 use crate::journal::Journal;
 use centre_answers::events::{self, Verdict, check_edit};

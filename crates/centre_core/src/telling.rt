@@ -8,7 +8,7 @@ ghost use Rattle.centre_answers.specs.Asked.{Tells};
 ghost use Rattle.centre_events.specs.Cover.{is_area};
 ghost use Rattle.centre_events.specs.Kept.{AreAreasOf};
 ghost use Rattle.centre_events.specs.Past.{Past};
-ghost use Rattle.centre_events.specs.Settings.{Settings};
+ghost use Rattle.centre_events.specs.declared.settings.Settings.{Settings};
 ghost use Rattle.centre_past.specs.Alike.{SaysTheSame};
 ghost use Rattle.centre_past.specs.IsKept.{IsKept};
 ghost use Rattle.centre_past.specs.Legal.{Legal};

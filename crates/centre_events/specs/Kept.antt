@@ -11,7 +11,6 @@ use Rattle.centre_events.specs.Cover.{is_area, has_selector}
 use Rattle.centre_events.specs.Links.{is_bsc}
 use Rattle.centre_events.specs.Past.{Past, IsUnfolded}
 use Rattle.centre_events.specs.Places.{place}
-use Rattle.centre_events.specs.Settings.{Settings}
 use Rattle.centre_events.specs.Verdict.{verdict}
 use Rattle.centre_events.specs.declared.answer.Answer.{Answer}
 use Rattle.centre_events.specs.declared.answer.Answer.TheVariants.{Sent, Asked, Replied, Listed}
@@ -21,6 +20,7 @@ use Rattle.centre_events.specs.declared.event.Event.{Event}
 use Rattle.centre_events.specs.declared.event.Event.TheVariants as event
 use Rattle.centre_events.specs.declared.refusal.Refusal.{Refusal}
 use Rattle.centre_events.specs.declared.refusal.Refusal.TheVariants.{Memory}
+use Rattle.centre_events.specs.declared.settings.Settings.{Settings}
 
 -- the register tells of each BSC and of each cell what the past says
 pub record IsRegisterOf (past : Past) (register : State) : Type 0 where

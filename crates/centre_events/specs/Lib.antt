@@ -3,7 +3,6 @@ pub mod Replies
 pub mod Equality
 pub mod Base
 pub mod Past
-pub mod Settings
 pub mod Places
 pub mod Cover
 pub mod Warnings

@@ -27,7 +27,6 @@ use Rattle.centre_events.specs.Pending.{pending}
 use Rattle.centre_events.specs.Places.{cells, place, is_registered, cell_count}
 use Rattle.centre_events.specs.Refusals.{of_book}
 use Rattle.centre_events.specs.Reported.{is_reported, is_in_flight, is_key_reported, is_key_in_flight}
-use Rattle.centre_events.specs.Settings.{Settings}
 use Rattle.centre_events.specs.Warnings.{book_of, warnings_of}
 use Rattle.centre_events.specs.declared.answer.Answer.{Answer}
 use Rattle.centre_events.specs.declared.answer.Answer.TheVariants as answer
@@ -41,6 +40,7 @@ use Rattle.order_maker.specs.declared.order.Order.{Order}
 use Rattle.centre_events.specs.declared.refusal.Limit.TheVariants as limit
 use Rattle.centre_events.specs.declared.refusal.Refusal.{Refusal}
 use Rattle.centre_events.specs.declared.refusal.Refusal.TheVariants as refusal
+use Rattle.centre_events.specs.declared.settings.Settings.{Settings}
 
 -- the refusal of the first check that holds, or else the answer
 abbrev pub unless : List (Bool × Refusal) → Result Answer Refusal → Result Answer Refusal

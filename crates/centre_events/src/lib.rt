@@ -23,4 +23,5 @@ pub mod refusal;
 pub mod replies;
 pub mod reply;
 pub mod replying;
+pub mod settings;
 pub mod stepping;

@@ -35,9 +35,9 @@ use Rattle.centre_events.specs.Pending.{actions, actions_in, actions_over, all_a
 use Rattle.centre_events.specs.Places.{place, cells}
 use Rattle.centre_events.specs.Plan.{wants, wanted, planned}
 use Rattle.centre_events.specs.Presence.{presence}
-use Rattle.centre_events.specs.Settings.{Settings}
 use Rattle.centre_laws.specs.Spare.{brings, brought, is_brought, AwaitedIsPending}
 use Rattle.centre_events.specs.Warnings.{book_of, warnings_of, is_version, has_key}
+use Rattle.centre_events.specs.declared.settings.Settings.{Settings}
 use Rattle.centre_past.proofs.AnyLemmas.{and_none, any_same, any_never, all_flat, contrary}
 use Rattle.order_maker.specs.GroupingLaws.{kind_same}
 use Rattle.centre_past.proofs.HeadlineLemmas.{plans, is_free_for, airs_pending, key_of_plan}

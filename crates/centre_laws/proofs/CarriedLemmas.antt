@@ -13,8 +13,8 @@ use Rattle.centre_events.specs.Lines.{stand}
 use Rattle.centre_events.specs.Links.{bscs}
 use Rattle.centre_events.specs.Past.{Past, From}
 use Rattle.centre_events.specs.Pending.{all_actions, pending}
-use Rattle.centre_events.specs.Settings.{Settings}
 use Rattle.centre_events.specs.Warnings.{book_of}
+use Rattle.centre_events.specs.declared.settings.Settings.{Settings}
 use Rattle.centre_past.specs.Legal.{Lawful, lasting}
 use Rattle.centre_past.specs.Numbers.{number}
 use Rattle.centre_past.proofs.LawfulLemmas.{whole}

@@ -24,7 +24,6 @@ use Rattle.centre_events.specs.InFlight.{in_flight, matches_flight}
 use Rattle.centre_events.specs.Past.{Past, position}
 use Rattle.centre_events.specs.Pending.{pending}
 use Rattle.centre_events.specs.Refusals.{refusal_number}
-use Rattle.centre_events.specs.Settings.{Settings}
 use Rattle.centre_events.specs.Verdict.{unless, verdict, is_full, answered, send_answer, reply_answer, report_answer, is_out_of_place, retry_checks, link_up_checks, link_checks, send_checks, ask_checks, report_checks}
 use Rattle.centre_events.specs.Warnings.{book_of}
 use Rattle.centre_events.specs.declared.answer.Answer.{Answer}
@@ -34,6 +33,7 @@ use Rattle.centre_events.specs.declared.event.Event.TheVariants as event
 use Rattle.centre_events.specs.declared.in_flight.InFlight.{InFlight}
 use Rattle.centre_events.specs.declared.refusal.Refusal.{Refusal}
 use Rattle.centre_events.specs.declared.refusal.Refusal.TheVariants as refusal
+use Rattle.centre_events.specs.declared.settings.Settings.{Settings}
 use Rattle.centre_past.proofs.EditCauseLemmas.{Decides, decides_before, decides, done, edit_decides, not_ok, none_of}
 use Rattle.centre_past.specs.VerdictLaws.{is_given, is_of_event, verdict_given}
 use Rattle.centre_laws.specs.Causes.{limit_place, is_smaller, comes_before, stands_before, is_empty, asks_no_cell, asks_none_of, asks_nothing, event_causes, causes_of, comes_no_earlier, IsLeastCause}

@@ -4,12 +4,12 @@ use Rattle.std.proofs.Common.{refl}
 use Rattle.centre_events.specs.Base.{empty_base}
 use Rattle.centre_events.specs.Folding.{folded}
 use Rattle.centre_events.specs.Past.{Past, From, entry_count, past_of, position}
-use Rattle.centre_events.specs.Settings.{Settings}
 use Rattle.centre_events.specs.Verdict.{verdict}
 use Rattle.centre_events.specs.declared.answer.Answer.TheVariants as answer
 use Rattle.centre_events.specs.declared.entry.Entry.{Entry}
 use Rattle.centre_events.specs.declared.event.Event.TheVariants as event
 use Rattle.centre_events.specs.declared.refusal.Refusal.TheVariants as refusal
+use Rattle.centre_events.specs.declared.settings.Settings.{Settings}
 use Rattle.centre_past.specs.Legal.{Checkpoint, Submit, after_calls}
 use Rattle.coverage_plan.specs.declared.edit.Edit.TheVariants as edit
 

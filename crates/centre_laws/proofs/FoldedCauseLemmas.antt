@@ -13,10 +13,10 @@ use Rattle.centre_events.specs.Base.{Base}
 use Rattle.centre_events.specs.Folding.{base_of, folded}
 use Rattle.centre_events.specs.Past.{Past, From, entry_count, position}
 use Rattle.centre_events.specs.Refusals.{of_plan}
-use Rattle.centre_events.specs.Settings.{Settings}
 use Rattle.centre_events.specs.Verdict.{answered, is_full, last_position, verdict}
 use Rattle.centre_events.specs.declared.event.Event.TheVariants as event
 use Rattle.centre_events.specs.declared.refusal.Refusal.TheVariants as refusal
+use Rattle.centre_events.specs.declared.settings.Settings.{Settings}
 use Rattle.centre_events.proofs.FoldingLemmas.{alike}
 use Rattle.centre_past.specs.EditCauses.{edit_causes, own_causes}
 use Rattle.centre_laws.specs.Causes.{stands_before, RefusesAsPlan, RefusesBefore}

@@ -21,7 +21,6 @@ use Rattle.centre_past.specs.Issued.{versions_by, message_by, is_used, IsNew, Is
 use Rattle.centre_past.specs.Legal.{Legal}
 use Rattle.centre_events.specs.Past.{Past, From, After}
 use Rattle.mirror.specs.Seen.{is_the}
-use Rattle.centre_events.specs.Settings.{Settings}
 use Rattle.centre_events.specs.Verdict.{answered, edit_answered, issue, update}
 use Rattle.centre_events.specs.Warnings.{book_of, warnings_of}
 use Rattle.centre_events.specs.declared.answer.Answer.{Answer}
@@ -29,6 +28,7 @@ use Rattle.coverage_plan.specs.declared.edit.Edit.{Edit}
 use Rattle.coverage_plan.specs.declared.edit.Edit.TheVariants as edit
 use Rattle.centre_events.specs.declared.event.Event.{Event}
 use Rattle.centre_events.specs.declared.event.Event.TheVariants as event
+use Rattle.centre_events.specs.declared.settings.Settings.{Settings}
 use Rattle.centre_past.proofs.AnyLemmas.{or_none, any_same}
 use Rattle.centre_past.proofs.FoundLemmas.{issue_told}
 use Rattle.centre_past.proofs.NumberLemmas.{passes, each_found, any_by_number}

@@ -17,12 +17,12 @@ use Rattle.warning_book.specs.declared.content.Content.{Content}
 use Rattle.centre_events.specs.Past.{Past}
 use Rattle.centre_events.specs.Refusals.{of_plan}
 use Rattle.centre_events.specs.Reported.{is_key_reported, is_key_in_flight}
-use Rattle.centre_events.specs.Settings.{Settings}
 use Rattle.centre_events.specs.Verdict.{answered, is_full, reuses, verdict}
 use Rattle.centre_events.specs.Warnings.{book_of}
 use Rattle.centre_events.specs.declared.event.Event.TheVariants as event
 use Rattle.centre_events.specs.declared.refusal.Refusal.{Refusal}
 use Rattle.centre_events.specs.declared.refusal.Refusal.TheVariants as refusal
+use Rattle.centre_events.specs.declared.settings.Settings.{Settings}
 use Rattle.centre_past.specs.EditCauses.{edit_causes, own_causes, IsPlanOf}
 use Rattle.centre_past.proofs.EditCauseLemmas.{edit_decides, first_stays, plan_first}
 use Rattle.centre_laws.specs.Causes.{comes_before, stands_before, RefusesAsPlan, RefusesBefore}

@@ -34,9 +34,9 @@ use Rattle.centre_events.specs.Pending.{actions, actions_in, all_actions, pendin
 use Rattle.centre_events.specs.Places.{added_cell, cells}
 use Rattle.centre_events.specs.Plan.{wanted, planned}
 use Rattle.centre_events.specs.Presence.{presence, is_held}
-use Rattle.centre_events.specs.Settings.{Settings}
 use Rattle.centre_laws.specs.Spare.{without_cell, Misses, NoneToSpare, acts_on, ActsOnce}
 use Rattle.centre_events.specs.Warnings.{book_of, warnings_of, serials, is_version, has_key, is_key, key_kind}
+use Rattle.centre_events.specs.declared.settings.Settings.{Settings}
 use Rattle.centre_past.proofs.ActingLemmas.{does, writes_by, any_deeds, has_serial}
 use Rattle.centre_past.proofs.AnyLemmas.{or_none, any_implies, contrary}
 use Rattle.centre_past.proofs.ApplyingLemmas.{applied_airs}

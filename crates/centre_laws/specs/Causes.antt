@@ -18,7 +18,6 @@ use Rattle.centre_events.specs.Asking.{asked_cells}
 use Rattle.centre_events.specs.Past.{Past}
 use Rattle.centre_events.specs.Pending.{pending}
 use Rattle.centre_events.specs.Refusals.{of_plan, refusal_number}
-use Rattle.centre_events.specs.Settings.{Settings}
 use Rattle.centre_events.specs.Verdict.{verdict, is_full, retry_checks, link_up_checks, link_checks, send_checks, ask_checks, report_checks}
 use Rattle.centre_events.specs.Warnings.{book_of}
 use Rattle.centre_events.specs.declared.event.Event.{Event}
@@ -26,6 +25,7 @@ use Rattle.centre_events.specs.declared.event.Event.TheVariants as event
 use Rattle.centre_events.specs.declared.refusal.Limit.TheVariants as limit
 use Rattle.centre_events.specs.declared.refusal.Refusal.{Refusal}
 use Rattle.centre_events.specs.declared.refusal.Refusal.TheVariants as refusal
+use Rattle.centre_events.specs.declared.settings.Settings.{Settings}
 use Rattle.centre_past.specs.EditCauses.{edit_causes, own_causes}
 
 -- The order of the refusals.

@@ -4,10 +4,10 @@
 ghost use Rattle.std.specs.Prelude.{◌≡◌, ◌≤◌, ◌++◌, List, length, reverse};
 ghost use Rattle.centre_events.specs.Folding.{base_of, folded};
 ghost use Rattle.centre_events.specs.Past.{Past, past_of, since};
-ghost use Rattle.centre_events.specs.Settings.{Settings};
 ghost use Rattle.centre_past.specs.Alike.{SaysTheSame};
 ghost use Rattle.centre_past.specs.Legal.{HasWhole, Known, Lawful, Legal, checkpointed, lasting, past};
 ghost use Rattle.centre_events.specs.declared.entry.Entry.{Entry};
+ghost use Rattle.centre_events.specs.declared.settings.Settings.{Settings};
 
 /// Two pasts that come to one base say the same of everything but how many entries stand after their bases.
 #[tactic(auto, using(centre_past::proofs::AlikeLemmas::says_the_same))]

@@ -5,7 +5,7 @@ ghost use Rattle.centre_events.specs.Base.{empty_base};
 ghost use Rattle.centre_past.specs.Legal.{Lawful, Call, after_calls};
 ghost use Rattle.centre_past.specs.Headline.{PendingGivesPlan};
 ghost use Rattle.centre_events.specs.Past.{Past, From};
-ghost use Rattle.centre_events.specs.Settings.{Settings};
+ghost use Rattle.centre_events.specs.declared.settings.Settings.{Settings};
 ghost use Rattle.centre_laws.specs.Spare.{NoneToSpare, ActsOnce, AwaitedIsPending};
 
 /// After every lawful history, the pending orders of each BSC, applied to what it has reported, give its part of the

@@ -21,11 +21,11 @@ ghost use Rattle.centre_events.specs.Pending.{all_actions};
 ghost use Rattle.centre_events.specs.Places.{cells};
 ghost use Rattle.centre_events.specs.Presence.{presence, hold, is_held};
 ghost use Rattle.centre_events.specs.Reported.{names_serial};
-ghost use Rattle.centre_events.specs.Settings.{Settings};
 ghost use Rattle.centre_events.specs.Warnings.{is_key};
 ghost use Rattle.order_maker.specs.declared.action.Action.{Action};
 ghost use Rattle.warning_book.specs.declared.kind.Kind.{Kind};
 ghost use Rattle.centre_events.specs.declared.in_flight.InFlight.{InFlight};
+ghost use Rattle.centre_events.specs.declared.settings.Settings.{Settings};
 
 /// Lemma: after every legal history the book has the warnings that were issued and not forgotten, in the order of issue.
 /// A warning is active where its last Issue, Stop or Forget is the Issue. Its areas are those of its Issue, with each

@@ -6,10 +6,10 @@ ghost use Rattle.centre_events.specs.Folding.{base_of};
 ghost use Rattle.centre_events.specs.Past.{Past};
 ghost use Rattle.centre_past.specs.EditCauses.{IsPlanOf};
 ghost use Rattle.centre_past.specs.VerdictLaws.{is_of_event};
-ghost use Rattle.centre_events.specs.Settings.{Settings};
 ghost use Rattle.centre_events.specs.Verdict.{verdict};
 ghost use Rattle.centre_events.specs.declared.event.Event.{Event};
 ghost use Rattle.centre_events.specs.declared.refusal.Refusal.{Refusal};
+ghost use Rattle.centre_events.specs.declared.settings.Settings.{Settings};
 
 use coverage_plan::Plan;
 

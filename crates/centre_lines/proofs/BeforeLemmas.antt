@@ -28,7 +28,6 @@ use Rattle.centre_events.specs.Past.{Past, After}
 use Rattle.centre_events.specs.Links.{bsc_of}
 use Rattle.centre_past.specs.Reach.{Reach, IsReach, reach_of, size, spot}
 use Rattle.centre_past.specs.Reaching.{Told, IsFlightOf}
-use Rattle.centre_events.specs.Settings.{Settings}
 use Rattle.centre_events.specs.Verdict.{verdict}
 use Rattle.centre_events.specs.Warnings.{book_of, kind_in}
 use Rattle.centre_events.specs.declared.answer.Answer.{Answer}
@@ -37,6 +36,7 @@ use Rattle.centre_events.specs.declared.event.Event.TheVariants as event
 use Rattle.centre_past.specs.declared.link.Link.{Link}
 use Rattle.centre_lines.specs.declared.line_before.LineBefore.{LineBefore}
 use Rattle.centre_events.specs.declared.in_flight.InFlight.{InFlight}
+use Rattle.centre_events.specs.declared.settings.Settings.{Settings}
 use Rattle.centre_past.specs.declared.kept.Kept.{Kept}
 use Rattle.coverage_plan.specs.declared.edit.Edit.{Edit}
 use Rattle.centre_lines.proofs.DownLemmas.{down_outside}

@@ -10,11 +10,11 @@ use Rattle.centre_events.specs.Down.{down_mark, listed_down, is_down}
 use Rattle.centre_events.specs.Effects.{is_among}
 use Rattle.centre_events.specs.Known.{is_known}
 use Rattle.centre_events.specs.Past.{Past}
-use Rattle.centre_events.specs.Settings.{Settings}
 use Rattle.centre_events.specs.declared.answer.Answer.{Answer}
 use Rattle.centre_events.specs.declared.answer.Answer.TheVariants.{Listed}
 use Rattle.centre_events.specs.declared.event.Event.{Event}
 use Rattle.centre_events.specs.declared.event.Event.TheVariants as event
+use Rattle.centre_events.specs.declared.settings.Settings.{Settings}
 use Rattle.coverage_plan.specs.declared.edit.Edit.TheVariants as edit
 use Rattle.centre_past.specs.Legal.{Legal}
 use Rattle.centre_past.specs.Reach.{reach_of, spot}

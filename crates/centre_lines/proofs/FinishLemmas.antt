@@ -7,7 +7,6 @@ use Rattle.centre_lines.specs.Following.{Finishes, Made, flight_before, flight_t
 use Rattle.centre_events.specs.Kept.{IsRegisterOf, AreAreasOf}
 use Rattle.centre_events.specs.Links.{bsc_of}
 use Rattle.centre_events.specs.Past.{Past, After, position}
-use Rattle.centre_events.specs.Settings.{Settings}
 use Rattle.centre_past.specs.Legal.{Legal}
 use Rattle.centre_events.specs.declared.answer.Answer.{Answer}
 use Rattle.centre_events.specs.declared.entry.Entry.{Entry}
@@ -15,6 +14,7 @@ use Rattle.centre_events.specs.declared.event.Event.{Event}
 use Rattle.centre_past.specs.declared.link.Link.{Link}
 use Rattle.centre_lines.specs.declared.lines_before.LinesBefore.{LinesBefore}
 use Rattle.centre_events.specs.declared.in_flight.InFlight.{InFlight}
+use Rattle.centre_events.specs.declared.settings.Settings.{Settings}
 use Rattle.centre_past.specs.declared.kept.Kept.{Kept}
 use Rattle.centre_past.proofs.LinkLemmas.{links_with}
 

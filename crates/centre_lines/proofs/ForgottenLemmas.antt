@@ -24,10 +24,10 @@ use Rattle.centre_past.specs.Facts.{facts}
 use Rattle.centre_events.specs.Known.{is_known}
 use Rattle.centre_events.specs.Past.{Past, After}
 use Rattle.centre_events.specs.Links.{bscs}
-use Rattle.centre_events.specs.Settings.{Settings}
 use Rattle.centre_events.specs.Verdict.{verdict}
 use Rattle.centre_events.specs.declared.answer.Answer.{Answer}
 use Rattle.centre_events.specs.declared.event.Event.TheVariants as event
+use Rattle.centre_events.specs.declared.settings.Settings.{Settings}
 use Rattle.coverage_plan.specs.declared.edit.Edit.TheVariants as edit
 use Rattle.centre_lines.specs.Following.{line_before, before_past, before_unless, keys_of, passed_over, WasRead}
 use Rattle.centre_past.specs.IsKept.{IsKept}

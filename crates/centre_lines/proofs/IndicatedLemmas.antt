@@ -30,12 +30,12 @@ use Rattle.centre_past.specs.IsKept.{IsKept}
 use Rattle.centre_past.specs.Legal.{Legal}
 use Rattle.centre_past.specs.Reach.{IsReach, edit_reach, reach_of}
 use Rattle.centre_events.specs.Past.{Past}
-use Rattle.centre_events.specs.Settings.{Settings}
 use Rattle.centre_events.specs.Warnings.{book_of, kind_in, warnings_of}
 use Rattle.centre_events.specs.declared.answer.Answer.{Answer}
 use Rattle.centre_events.specs.declared.answer.Answer.TheVariants.{Listed}
 use Rattle.centre_events.specs.declared.event.Event.{Event}
 use Rattle.centre_events.specs.declared.event.Event.TheVariants as event
+use Rattle.centre_events.specs.declared.settings.Settings.{Settings}
 use Rattle.centre_past.specs.declared.kept.Kept.{Kept}
 use Rattle.centre_lines.proofs.BlankLineLemmas.{unchanged}
 use Rattle.centre_lines.proofs.ReachedWarningLemmas.{all_listed}

@@ -32,9 +32,9 @@ use Rattle.centre_lines.specs.Following.{SameLines, Happens, Bears, LeavesDown, 
 use Rattle.centre_past.specs.Legal.{Legal}
 use Rattle.centre_events.specs.Past.{Past, After}
 use Rattle.centre_past.specs.Reach.{spot}
-use Rattle.centre_events.specs.Settings.{Settings}
 use Rattle.centre_events.specs.Warnings.{book_of, warnings_of, has_key, serials}
 use Rattle.centre_events.specs.Places.{place}
+use Rattle.centre_events.specs.declared.settings.Settings.{Settings}
 use Rattle.centre_lines.specs.declared.line_before.LineBefore.{LineBefore}
 use Rattle.centre_past.proofs.BookLemmas.{wider, owner_of, owner_is, wide_before, wide_after}
 use Rattle.centre_past.proofs.OwnedLemmas.{owned}

@@ -29,11 +29,11 @@ use Rattle.centre_events.specs.Places.{cells}
 use Rattle.centre_events.specs.Plan.{wants, wanted}
 use Rattle.centre_past.specs.Reach.{numbers_where}
 use Rattle.centre_events.specs.Reported.{names_serial, names_warning}
-use Rattle.centre_events.specs.Settings.{Settings}
 use Rattle.centre_events.specs.Warnings.{book_of, warnings_of, serials}
 use Rattle.centre_events.specs.declared.answer.Answer.{Answer}
 use Rattle.centre_events.specs.declared.in_flight.InFlight.{InFlight}
 use Rattle.centre_events.specs.declared.in_flight.InFlight.TheVariants as flight
+use Rattle.centre_events.specs.declared.settings.Settings.{Settings}
 use Rattle.centre_past.proofs.ActingLemmas.{has_serial}
 use Rattle.centre_past.proofs.AnyLemmas.{all_flat, all_joined}
 use Rattle.centre_past.proofs.AskLemmas.{IsQuery}

@@ -19,7 +19,6 @@ use Rattle.centre_events.specs.Effects.{is_given}
 use Rattle.centre_events.specs.Facts.{version_at}
 use Rattle.centre_past.specs.Legal.{Legal}
 use Rattle.centre_events.specs.Past.{Past, After}
-use Rattle.centre_events.specs.Settings.{Settings}
 use Rattle.centre_events.specs.Verdict.{verdict}
 use Rattle.centre_events.specs.Warnings.{book_of, warnings_of, is_version, has_key, is_key}
 use Rattle.coverage_plan.specs.Edited.{with_issue}
@@ -27,6 +26,7 @@ use Rattle.centre_events.specs.declared.answer.Answer.{Answer}
 use Rattle.centre_events.specs.declared.entry.Entry.{Entry}
 use Rattle.coverage_plan.specs.declared.edit.Edit.TheVariants as edit
 use Rattle.centre_events.specs.declared.event.Event.TheVariants as event
+use Rattle.centre_events.specs.declared.settings.Settings.{Settings}
 use Rattle.centre_past.proofs.AnyLemmas.{and_none, any_filter, any_implies, contrary}
 use Rattle.centre_past.proofs.BookLemmas.{found_keyed, keys_stay, owned_by, owner_of}
 use Rattle.centre_past.proofs.FoundLemmas.{view_edited}

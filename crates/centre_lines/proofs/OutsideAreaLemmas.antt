@@ -25,7 +25,6 @@ use Rattle.centre_events.specs.Past.{Past, From, After, by_edit}
 use Rattle.centre_events.specs.Places.{place}
 use Rattle.centre_past.specs.Reach.{Reach, bears, spot, placed_where, numbers_where}
 use Rattle.coverage_plan.specs.Reach.{is_named_by}
-use Rattle.centre_events.specs.Settings.{Settings}
 use Rattle.centre_events.specs.Verdict.{answered, edit_answered, add_area_checks, drop_area_checks, put_checks}
 use Rattle.centre_events.specs.Warnings.{book_of, warnings_of}
 use Rattle.centre_events.specs.declared.answer.Answer.{Answer}
@@ -34,6 +33,7 @@ use Rattle.coverage_plan.specs.declared.edit.Edit.{Edit}
 use Rattle.coverage_plan.specs.declared.edit.Edit.TheVariants as edit
 use Rattle.centre_events.specs.declared.event.Event.{Event}
 use Rattle.centre_events.specs.declared.event.Event.TheVariants as event
+use Rattle.centre_events.specs.declared.settings.Settings.{Settings}
 use Rattle.centre_past.proofs.AnyLemmas.{contrary}
 use Rattle.centre_past.proofs.CheckLemmas.{no_check}
 use Rattle.centre_past.proofs.FactsLemmas.{filter_pointwise}

@@ -22,7 +22,6 @@ use Rattle.centre_past.specs.Legal.{Legal}
 use Rattle.centre_events.specs.Past.{Past, After}
 use Rattle.centre_events.specs.Places.{place, is_registered}
 use Rattle.centre_past.specs.Reach.{spot, at_bsc, reach_of}
-use Rattle.centre_events.specs.Settings.{Settings}
 use Rattle.centre_events.specs.Verdict.{edit_answered, add_cell_checks}
 use Rattle.centre_events.specs.Warnings.{book_of, is_version}
 use Rattle.centre_events.specs.declared.answer.Answer.{Answer}
@@ -30,6 +29,7 @@ use Rattle.centre_events.specs.declared.answer.Answer.TheVariants as answer
 use Rattle.coverage_plan.specs.declared.edit.Edit.TheVariants as edit
 use Rattle.centre_events.specs.declared.effect.Effect.TheVariants.{Sets, Leaves}
 use Rattle.centre_events.specs.declared.event.Event.TheVariants as event
+use Rattle.centre_events.specs.declared.settings.Settings.{Settings}
 use Rattle.centre_past.proofs.AnyLemmas.{contrary}
 use Rattle.centre_past.proofs.CheckLemmas.{no_check}
 use Rattle.centre_past.proofs.LineLemmas.{same_kept, same_none, unknown_blank, not_down, entry_of, Outside}

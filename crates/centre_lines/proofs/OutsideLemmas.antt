@@ -6,7 +6,6 @@ use Rattle.centre_past.specs.Facts.{facts}
 use Rattle.centre_past.specs.Legal.{Legal}
 use Rattle.centre_events.specs.Past.{Past, After}
 use Rattle.centre_past.specs.Reach.{bears, reach_of}
-use Rattle.centre_events.specs.Settings.{Settings}
 use Rattle.centre_events.specs.Verdict.{verdict}
 use Rattle.centre_events.specs.declared.answer.Answer.{Answer}
 use Rattle.coverage_plan.specs.declared.edit.Edit.{Edit}
@@ -14,6 +13,7 @@ use Rattle.coverage_plan.specs.declared.edit.Edit.TheVariants as edit
 use Rattle.centre_events.specs.declared.entry.Entry.{Entry}
 use Rattle.centre_events.specs.declared.event.Event.{Event}
 use Rattle.centre_events.specs.declared.event.Event.TheVariants as event
+use Rattle.centre_events.specs.declared.settings.Settings.{Settings}
 use Rattle.centre_past.proofs.LineLemmas.{Outside}
 use Rattle.centre_lines.proofs.OutsideAreaLemmas.{outside_add_area, outside_drop_area, outside_put, outside_cut}
 use Rattle.centre_lines.proofs.OutsideCellLemmas.{outside_add_bsc, outside_remove_bsc, outside_add_cell, outside_move_cell, outside_remove_cell}

@@ -26,7 +26,6 @@ use Rattle.centre_events.specs.Links.{is_up}
 use Rattle.centre_events.specs.Past.{Past, After}
 use Rattle.centre_past.specs.Reach.{bears, spot, numbers_where, flight_reach, report_reach}
 use Rattle.centre_events.specs.Reported.{names_serial, names_warning}
-use Rattle.centre_events.specs.Settings.{Settings}
 use Rattle.centre_events.specs.Warnings.{book_of, is_version, key_kind}
 use Rattle.centre_events.specs.declared.answer.Answer.{Answer}
 use Rattle.centre_events.specs.declared.answer.Answer.TheVariants.{Replied, Listed}
@@ -37,6 +36,7 @@ use Rattle.centre_events.specs.declared.in_flight.InFlight.TheVariants as flight
 use Rattle.centre_events.specs.declared.outcome.Outcome.{Outcome}
 use Rattle.centre_events.specs.declared.outcome.Outcome.TheVariants.{Silent}
 use Rattle.centre_events.specs.declared.reply.Reply.{Reply}
+use Rattle.centre_events.specs.declared.settings.Settings.{Settings}
 use Rattle.centre_past.proofs.AnyLemmas.{contrary, any_implies}
 use Rattle.centre_past.proofs.LineLemmas.{same_kept, same_none, unknown_blank, entry_of, Outside}
 use Rattle.centre_lines.proofs.ReachLemmas.{not_there, number_there, spot_among, not_known}

@@ -34,7 +34,6 @@ use Rattle.centre_events.specs.Links.{bscs}
 use Rattle.centre_events.specs.Past.{Past, After}
 use Rattle.centre_events.specs.Places.{place}
 use Rattle.centre_past.specs.Reach.{Reach, bears, known_at, placed_where, spot, wraps}
-use Rattle.centre_events.specs.Settings.{Settings}
 use Rattle.centre_events.specs.Verdict.{verdict}
 use Rattle.centre_events.specs.Down.{is_down}
 use Rattle.centre_events.specs.Warnings.{book_of, warnings_of, is_version, has_key, is_key}
@@ -43,6 +42,7 @@ use Rattle.centre_events.specs.declared.answer.Answer.{Answer}
 use Rattle.coverage_plan.specs.declared.edit.Edit.TheVariants as edit
 use Rattle.centre_events.specs.declared.effect.Effect.TheVariants.{Frees, Leaves}
 use Rattle.centre_events.specs.declared.event.Event.TheVariants as event
+use Rattle.centre_events.specs.declared.settings.Settings.{Settings}
 use Rattle.centre_past.proofs.AnyLemmas.{and_none, contrary, any_same, any_at, any_flat}
 use Rattle.centre_past.proofs.FoundLemmas.{view_edited}
 use Rattle.centre_past.proofs.KeyLemmas.{unknown_key_presence, unknown_key_hold, unknown_key_count}

@@ -22,13 +22,13 @@ use Rattle.centre_past.specs.Legal.{Legal}
 use Rattle.centre_events.specs.Past.{Past, After}
 use Rattle.centre_events.specs.Places.{place}
 use Rattle.cell_register.specs.Register.{is_place}
-use Rattle.centre_events.specs.Settings.{Settings}
 use Rattle.centre_events.specs.Verdict.{forget, forget_checks, verdict}
 use Rattle.centre_events.specs.Warnings.{book_of, warnings_of, is_version}
 use Rattle.centre_events.specs.declared.answer.Answer.{Answer}
 use Rattle.centre_events.specs.declared.answer.Answer.TheVariants as answer
 use Rattle.centre_events.specs.declared.effect.Effect.TheVariants.{Frees, Leaves}
 use Rattle.centre_events.specs.declared.event.Event.TheVariants as event
+use Rattle.centre_events.specs.declared.settings.Settings.{Settings}
 use Rattle.coverage_plan.specs.declared.edit.Edit.{Edit}
 use Rattle.coverage_plan.specs.declared.edit.Edit.TheVariants as edit
 use Rattle.centre_past.specs.declared.kept.Kept.{Kept}

@@ -19,8 +19,8 @@ use Rattle.centre_past.specs.Legal.{Legal}
 use Rattle.centre_events.specs.Past.{Past}
 use Rattle.centre_events.specs.Places.{place, cells}
 use Rattle.centre_past.specs.Reach.{Reach, bears, spot, at_bsc, placed_where, known_at, numbers_where, all_numbers}
-use Rattle.centre_events.specs.Settings.{Settings}
 use Rattle.centre_events.specs.Warnings.{book_of}
+use Rattle.centre_events.specs.declared.settings.Settings.{Settings}
 use Rattle.centre_past.proofs.AnyLemmas.{contrary, any_at, any_pulled, any_flat}
 use Rattle.centre_past.proofs.KnownLemmas.{known_place, legal_unfolded}
 use Rattle.centre_past.proofs.MarkLemmas.{known_cell}

@@ -44,7 +44,6 @@ use Rattle.centre_past.specs.Reach.{Reach, IsReach, spot, at_bsc, placed_where, 
 use Rattle.coverage_plan.specs.Reach.{is_named_by}
 use Rattle.centre_past.specs.Reaching.{AreSpots, AreThose, Told, TellsLines, EditTold, IsFlightOf, is_placed, is_known_among, is_known_at}
 use Rattle.centre_events.specs.Reported.{names_warning}
-use Rattle.centre_events.specs.Settings.{Settings}
 use Rattle.centre_events.specs.Verdict.{answered, move_cell_checks, report_checks, report_answer}
 use Rattle.centre_events.specs.Warnings.{book_of, warnings_of}
 use Rattle.centre_events.specs.declared.answer.Answer.{Answer}
@@ -54,6 +53,7 @@ use Rattle.coverage_plan.specs.declared.edit.Edit.TheVariants as edit
 use Rattle.centre_events.specs.declared.event.Event.{Event}
 use Rattle.centre_events.specs.declared.event.Event.TheVariants as event
 use Rattle.centre_events.specs.declared.in_flight.InFlight.{InFlight}
+use Rattle.centre_events.specs.declared.settings.Settings.{Settings}
 use Rattle.centre_past.proofs.AnyLemmas.{or_none, and_none, any_same}
 use Rattle.centre_past.proofs.CheckLemmas.{unless_ok, no_check}
 use Rattle.centre_past.proofs.FactsLemmas.{covers_same}

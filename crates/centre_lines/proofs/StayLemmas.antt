@@ -33,7 +33,6 @@ use Rattle.centre_past.specs.IsKept.{IsKept}
 use Rattle.centre_events.specs.Kept.{IsRegisterOf, AreAreasOf, is_edit}
 use Rattle.centre_events.specs.Past.{Past, After}
 use Rattle.centre_events.specs.Places.{place}
-use Rattle.centre_events.specs.Settings.{Settings}
 use Rattle.centre_past.specs.State.{facts_from}
 use Rattle.centre_events.specs.Verdict.{verdict}
 use Rattle.centre_events.specs.Warnings.{book_of, kind_in}
@@ -41,6 +40,7 @@ use Rattle.centre_events.specs.declared.answer.Answer.{Answer}
 use Rattle.centre_events.specs.declared.effect.Effect.TheVariants.{Sets, Leaves}
 use Rattle.centre_events.specs.declared.event.Event.{Event}
 use Rattle.centre_events.specs.declared.event.Event.TheVariants as event
+use Rattle.centre_events.specs.declared.settings.Settings.{Settings}
 use Rattle.centre_past.specs.declared.kept.Kept.{Kept}
 use Rattle.coverage_plan.specs.declared.edit.Edit.{Edit}
 use Rattle.coverage_plan.specs.declared.edit.Edit.TheVariants as edit

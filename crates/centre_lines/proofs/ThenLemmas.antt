@@ -28,7 +28,6 @@ use Rattle.centre_past.specs.Legal.{Legal}
 use Rattle.centre_events.specs.Links.{is_up}
 use Rattle.centre_events.specs.Past.{Past, After}
 use Rattle.centre_events.specs.Presence.{effect, effect_at, edit_effect}
-use Rattle.centre_events.specs.Settings.{Settings}
 use Rattle.centre_events.specs.Stepping.{stepped}
 use Rattle.centre_events.specs.Verdict.{verdict}
 use Rattle.centre_events.specs.Warnings.{book_of, book_then, warnings_of, has_key, key_kind, kind_in, serials, is_version}
@@ -40,6 +39,7 @@ use Rattle.centre_events.specs.declared.effect.Effect.TheVariants.{Frees, Leaves
 use Rattle.centre_events.specs.declared.event.Event.{Event}
 use Rattle.centre_events.specs.declared.event.Event.TheVariants as event
 use Rattle.centre_events.specs.declared.outcome.Outcome.TheVariants.{Silent}
+use Rattle.centre_events.specs.declared.settings.Settings.{Settings}
 use Rattle.centre_past.proofs.FactsLemmas.{facts_same}
 use Rattle.centre_past.proofs.KindLemmas.{key_kind_is}
 use Rattle.centre_lines.proofs.OutsideWarningLemmas.{kept_key}

@@ -21,7 +21,6 @@ use Rattle.centre_past.specs.Facts.{facts_of, facts}
 use Rattle.centre_past.specs.Reaching.{forgets}
 use Rattle.centre_past.specs.Legal.{Legal}
 use Rattle.centre_events.specs.Past.{Past, After}
-use Rattle.centre_events.specs.Settings.{Settings}
 use Rattle.centre_events.specs.Stepping.{at_update, updates_once, WasLine}
 use Rattle.centre_events.specs.Verdict.{verdict}
 use Rattle.centre_events.specs.Warnings.{book_then, book_of, warnings_of, is_version, has_key, is_key}
@@ -31,6 +30,7 @@ use Rattle.coverage_plan.specs.declared.edit.Edit.TheVariants as edit
 use Rattle.centre_events.specs.declared.entry.Entry.{Entry}
 use Rattle.centre_events.specs.declared.event.Event.{Event}
 use Rattle.centre_events.specs.declared.event.Event.TheVariants as event
+use Rattle.centre_events.specs.declared.settings.Settings.{Settings}
 use Rattle.centre_past.proofs.BookLemmas.{keyed, keys_stay, found_keyed, owned_by, owner_of}
 use Rattle.centre_past.proofs.KeyLemmas.{unknown_key_presence, unknown_key_hold, unknown_key_count}
 use Rattle.centre_past.proofs.NextLemmas.{next_at}

@@ -36,7 +36,6 @@ use Rattle.centre_past.specs.Legal.{Legal}
 use Rattle.centre_events.specs.Past.{Past, After, position, past_of}
 use Rattle.centre_events.specs.Presence.{effect}
 use Rattle.centre_past.specs.Reach.{IsReach, reach_of, size}
-use Rattle.centre_events.specs.Settings.{Settings}
 use Rattle.centre_past.specs.State.{AreCovering, covered_facts, facts_from}
 use Rattle.centre_events.specs.Stepping.{stepped}
 use Rattle.centre_events.specs.Warnings.{book_of, kind_in, serials}
@@ -52,6 +51,7 @@ use Rattle.centre_lines.specs.declared.line_before.LineBefore.{LineBefore}
 use Rattle.centre_lines.specs.declared.lines_before.LinesBefore.{LinesBefore}
 use Rattle.centre_lines.specs.declared.lines_before.LinesBefore.TheVariants as lines
 use Rattle.centre_events.specs.declared.in_flight.InFlight.{InFlight}
+use Rattle.centre_events.specs.declared.settings.Settings.{Settings}
 use Rattle.centre_events.specs.declared.stepping.Happening.{Happening}
 use Rattle.centre_past.specs.declared.kept.Kept.{Kept}
 use Rattle.centre_past.specs.Reaching.{is_forget}

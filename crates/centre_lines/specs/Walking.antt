@@ -13,9 +13,9 @@ use Rattle.warning_book.specs.declared.kind.Kind.{Kind}
 use Rattle.centre_events.specs.Down.{is_down}
 use Rattle.centre_events.specs.Kept.{IsRegisterOf, AreAreasOf, is_edit}
 use Rattle.centre_events.specs.Past.{Past, After}
-use Rattle.centre_events.specs.Settings.{Settings}
 use Rattle.centre_events.specs.Verdict.{verdict}
 use Rattle.centre_events.specs.Warnings.{book_of}
+use Rattle.centre_events.specs.declared.settings.Settings.{Settings}
 use Rattle.centre_past.specs.Facts.{facts}
 use Rattle.centre_past.specs.Links.{up_before}
 use Rattle.centre_past.specs.Legal.{Legal}

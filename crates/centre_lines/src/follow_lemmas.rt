@@ -24,11 +24,11 @@ ghost use Rattle.centre_events.specs.Kept.{IsRegisterOf, AreAreasOf};
 ghost use Rattle.centre_past.specs.Facts.{facts};
 ghost use Rattle.centre_past.specs.Legal.{Legal};
 ghost use Rattle.centre_events.specs.Past.{Past, After};
-ghost use Rattle.centre_events.specs.Settings.{Settings};
 ghost use Rattle.centre_events.specs.Stepping.{WasLine};
 ghost use Rattle.centre_events.specs.Verdict.{verdict};
 ghost use Rattle.centre_events.specs.Warnings.{book_of, warnings_of, has_key};
 ghost use Rattle.centre_events.specs.declared.entry.Entry.{Entry};
+ghost use Rattle.centre_events.specs.declared.settings.Settings.{Settings};
 ghost use Rattle.centre_lines.specs.declared.line_before.LineBefore.{LineBefore};
 
 fn owned()

@@ -9,10 +9,10 @@ ghost use Rattle.centre_past.specs.Legal.{Legal};
 ghost use Rattle.centre_events.specs.Past.{Past, After};
 ghost use Rattle.centre_past.specs.Reach.{bears, reach_of, numbers_where};
 ghost use Rattle.centre_events.specs.Reported.{names_warning};
-ghost use Rattle.centre_events.specs.Settings.{Settings};
 ghost use Rattle.centre_events.specs.Verdict.{verdict};
 ghost use Rattle.centre_events.specs.declared.entry.Entry.{Entry};
 ghost use Rattle.centre_events.specs.declared.in_flight.InFlight.{InFlight};
+ghost use Rattle.centre_events.specs.declared.settings.Settings.{Settings};
 
 #[tactic(auto, using(crate::proofs::OutsideLemmas::outside))]
 fn outside()

@@ -9,8 +9,8 @@ ghost use Rattle.centre_events.specs.InFlight.{in_flight};
 ghost use Rattle.centre_events.specs.Past.{Past};
 ghost use Rattle.centre_past.specs.Reaching.{is_forget, AreThose, EditTold, EventTold};
 ghost use Rattle.centre_past.specs.Reach.{IsReach, flight_reach, edit_reach, report_reach, reach_of, covered_by, known_anywhere, wraps};
-ghost use Rattle.centre_events.specs.Settings.{Settings};
 ghost use Rattle.centre_events.specs.Warnings.{is_version};
+ghost use Rattle.centre_events.specs.declared.settings.Settings.{Settings};
 
 use crate::plan_parts::PlanParts;
 use crate::reached_warnings;

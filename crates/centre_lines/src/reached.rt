@@ -8,10 +8,10 @@ ghost use Rattle.centre_events.specs.Kept.{is_edit};
 ghost use Rattle.centre_past.specs.Legal.{Legal};
 ghost use Rattle.centre_events.specs.Past.{Past};
 ghost use Rattle.centre_past.specs.Reach.{edit_reach, size};
-ghost use Rattle.centre_events.specs.Settings.{Settings};
 ghost use Rattle.centre_events.specs.Verdict.{answered, edit_answered};
 ghost use Rattle.centre_events.specs.declared.answer.Answer as answer_spec;
 ghost use Rattle.centre_events.specs.declared.event.Event.TheVariants as event;
+ghost use Rattle.centre_events.specs.declared.settings.Settings.{Settings};
 ghost use Rattle.coverage_plan.specs.declared.edit.Edit.TheVariants as edit_spec;
 
 use crate::found_plan::FoundPlan;

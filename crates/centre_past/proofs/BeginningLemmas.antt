@@ -35,10 +35,10 @@ use Rattle.centre_events.specs.Places.{place, added_cell, cells}
 use Rattle.centre_events.specs.Plan.{wanted}
 use Rattle.centre_events.specs.Presence.{presence, is_held}
 use Rattle.mirror.specs.Seen.{Seen, is_absent}
-use Rattle.centre_events.specs.Settings.{Settings}
 use Rattle.coverage_board.specs.Standings.{Stand, stands, standing, is_way, is_left, is_unwanted}
 use Rattle.centre_past.specs.Table.{key_of, keys_in, keys_over, key_lt, table}
 use Rattle.centre_events.specs.Warnings.{warnings_of, serials}
+use Rattle.centre_events.specs.declared.settings.Settings.{Settings}
 use Rattle.coverage_board.specs.declared.way.Way.{Way}
 use Rattle.coverage_board.specs.declared.way.Way.TheVariants as way
 use Rattle.mirror.specs.declared.presence.Presence.{Presence}

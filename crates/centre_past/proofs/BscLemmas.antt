@@ -20,7 +20,6 @@ use Rattle.centre_events.specs.Links.{is_bsc, bsc_mark, added_bsc, bscs, is_up, 
 use Rattle.centre_events.specs.Past.{Past, From, After, IsUnfolded, by_edit, with_new, position}
 use Rattle.centre_events.specs.Pending.{pending}
 use Rattle.centre_events.specs.Places.{place, place_mark, cells}
-use Rattle.centre_events.specs.Settings.{Settings}
 use Rattle.centre_events.specs.Verdict.{answered, edit_answered, has_cells, add_bsc_checks, remove_bsc_checks, add_cell_checks, move_cell_checks, link_up_checks, send_checks, send_answer, ask_checks}
 use Rattle.centre_events.specs.Warnings.{book_of}
 use Rattle.centre_events.specs.declared.answer.Answer.{Answer}
@@ -29,6 +28,7 @@ use Rattle.coverage_plan.specs.declared.edit.Edit.{Edit}
 use Rattle.coverage_plan.specs.declared.edit.Edit.TheVariants as edit
 use Rattle.centre_events.specs.declared.event.Event.{Event}
 use Rattle.centre_events.specs.declared.event.Event.TheVariants as event
+use Rattle.centre_events.specs.declared.settings.Settings.{Settings}
 use Rattle.centre_past.proofs.AnyLemmas.{any_at}
 use Rattle.centre_past.proofs.CheckLemmas.{no_check}
 use Rattle.centre_past.proofs.CountLemmas.{among_more, among_new}

@@ -24,8 +24,8 @@ use Rattle.centre_events.specs.Places.{place, cells}
 use Rattle.centre_events.specs.Plan.{wants, wanted, planned}
 use Rattle.centre_events.specs.Presence.{presence, is_held}
 use Rattle.mirror.specs.Seen.{is_absent, is_on_air, is_the}
-use Rattle.centre_events.specs.Settings.{Settings}
 use Rattle.centre_events.specs.Warnings.{book_of, warnings_of, is_version, has_key, is_key, key_kind}
+use Rattle.centre_events.specs.declared.settings.Settings.{Settings}
 use Rattle.mirror.specs.declared.presence.Presence.{Presence}
 use Rattle.mirror.specs.declared.presence.Presence.TheVariants.{Absent, OnAir, Unknown}
 use Rattle.centre_past.proofs.AnyLemmas.{and_none, any_same}

@@ -35,7 +35,6 @@ use Rattle.centre_events.specs.Places.{cells}
 use Rattle.centre_events.specs.Plan.{wanted}
 use Rattle.centre_events.specs.Presence.{presence, hold, effect}
 use Rattle.centre_events.specs.Reported.{names_serial, flight_names, is_in_flight, is_present, is_reported_in, is_reported_at, is_reported}
-use Rattle.centre_events.specs.Settings.{Settings}
 use Rattle.centre_events.specs.Verdict.{verdict, answered, forget_checks}
 use Rattle.centre_events.specs.Warnings.{warnings_of, book_of, book_then, serials, is_version, has_key, is_key, key_kind}
 use Rattle.coverage_plan.specs.Edited.{book_after, with_issue}
@@ -48,6 +47,7 @@ use Rattle.centre_events.specs.declared.event.Event.TheVariants as event
 use Rattle.order_maker.specs.declared.action.Action.{Action}
 use Rattle.centre_events.specs.declared.in_flight.InFlight.{InFlight}
 use Rattle.centre_events.specs.declared.in_flight.InFlight.TheVariants as flight
+use Rattle.centre_events.specs.declared.settings.Settings.{Settings}
 use Rattle.order_maker.specs.declared.order.Order.{Order}
 use Rattle.order_maker.specs.declared.order_kind.OrderKind.{OrderKind}
 use Rattle.order_maker.specs.declared.order_kind.OrderKind.TheVariants.{Write, Replace, Kill}

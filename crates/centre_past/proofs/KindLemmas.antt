@@ -8,8 +8,8 @@ use Rattle.warning_book.specs.Book.{has_number, kind_of, warning_of}
 use Rattle.warning_book.specs.declared.kind.Kind.{Kind}
 use Rattle.warning_book.specs.declared.warning.Warning.{Warning}
 use Rattle.centre_events.specs.Past.{Past}
-use Rattle.centre_events.specs.Settings.{Settings}
 use Rattle.centre_events.specs.Warnings.{book_of, has_key, is_version, key_kind, kind_in}
+use Rattle.centre_events.specs.declared.settings.Settings.{Settings}
 use Rattle.centre_past.specs.Legal.{Legal}
 use Rattle.centre_past.proofs.AnyLemmas.{and_none, any_implies, contrary, or_none}
 use Rattle.centre_past.proofs.UniqueLemmas.{any_none, unique}

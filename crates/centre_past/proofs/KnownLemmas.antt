@@ -22,7 +22,6 @@ use Rattle.centre_events.specs.OrderMessage.{order_message}
 use Rattle.centre_events.specs.Past.{Past, From, After, IsUnfolded, by_edit, with_new}
 use Rattle.centre_events.specs.Pending.{pending}
 use Rattle.centre_events.specs.Places.{place, place_mark, added_cell, cells}
-use Rattle.centre_events.specs.Settings.{Settings}
 use Rattle.centre_events.specs.Verdict.{verdict, send_checks, send_answer}
 use Rattle.centre_events.specs.Warnings.{warnings_of}
 use Rattle.centre_events.specs.declared.answer.Answer.{Answer}
@@ -33,6 +32,7 @@ use Rattle.centre_events.specs.declared.event.Event.{Event}
 use Rattle.centre_events.specs.declared.event.Event.TheVariants as event
 use Rattle.centre_events.specs.declared.in_flight.InFlight.{InFlight}
 use Rattle.centre_events.specs.declared.in_flight.InFlight.TheVariants as flight
+use Rattle.centre_events.specs.declared.settings.Settings.{Settings}
 use Rattle.order_maker.specs.declared.order.Order.{Order}
 use Rattle.order_maker.specs.declared.order_kind.OrderKind.{OrderKind}
 use Rattle.centre_past.proofs.ActingLemmas.{does, any_all}

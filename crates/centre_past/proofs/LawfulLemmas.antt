@@ -7,13 +7,13 @@ use Rattle.std.proofs.lemmas.List.{length-reverse}
 use Rattle.centre_events.specs.Base.{Base, empty_base}
 use Rattle.centre_events.specs.Folding.{base_of, folded, onto}
 use Rattle.centre_events.specs.Past.{Past, From, After, entry_count, past_of, position, since}
-use Rattle.centre_events.specs.Settings.{Settings}
 use Rattle.centre_events.specs.Verdict.{answered, is_full, last_position, verdict}
 use Rattle.centre_events.specs.declared.answer.Answer.{Answer}
 use Rattle.centre_events.specs.declared.entry.Entry.{Entry}
 use Rattle.centre_events.specs.declared.event.Event.{Event}
 use Rattle.centre_events.specs.declared.refusal.Refusal.{Refusal}
 use Rattle.centre_events.specs.declared.refusal.Refusal.TheVariants as refusal
+use Rattle.centre_events.specs.declared.settings.Settings.{Settings}
 use Rattle.centre_events.proofs.FoldingLemmas.{alike, folded_one, folded_then, past_joined, since_onto}
 use Rattle.centre_past.specs.Legal.{Call, Checkpoint, HasWhole, Lawful, Legal, Submit, after_calls, lasting, with_call, with_verdict}
 

@@ -13,7 +13,6 @@ use Rattle.centre_events.specs.InFlight.{asked_flight, flight_mark, in_flight, i
 use Rattle.centre_events.specs.Links.{generation_mark, is_bsc, is_up, last_link, up_mark}
 use Rattle.centre_events.specs.Past.{Past, After, position}
 use Rattle.centre_events.specs.Pending.{pending}
-use Rattle.centre_events.specs.Settings.{Settings}
 use Rattle.centre_events.specs.Verdict.{add_bsc_checks, answered, ask_checks, edit_answered, report_answer, report_checks, send_answer, send_checks}
 use Rattle.centre_events.specs.Warnings.{book_of}
 use Rattle.centre_events.specs.declared.answer.Answer.{Answer}
@@ -22,6 +21,7 @@ use Rattle.centre_events.specs.declared.entry.Entry.{Entry}
 use Rattle.centre_events.specs.declared.event.Event.{Event}
 use Rattle.centre_events.specs.declared.event.Event.TheVariants as event
 use Rattle.centre_events.specs.declared.in_flight.InFlight.{InFlight}
+use Rattle.centre_events.specs.declared.settings.Settings.{Settings}
 use Rattle.centre_past.specs.Legal.{Legal}
 use Rattle.centre_past.specs.Links.{AreLinksOf, flight_in, flight_of, generation_of, is_link_of, link_in, links_after, links_edited, up_of, with_flight, with_link, without_link}
 use Rattle.centre_past.specs.declared.link.Link.{Link}

@@ -45,8 +45,8 @@ use Rattle.centre_events.specs.Past.{Past}
 use Rattle.centre_events.specs.Places.{added_cell, cells, is_registered, place}
 use Rattle.centre_events.specs.Plan.{wanted}
 use Rattle.centre_events.specs.Presence.{hold, presence}
-use Rattle.centre_events.specs.Settings.{Settings}
 use Rattle.centre_events.specs.Warnings.{warnings_of}
+use Rattle.centre_events.specs.declared.settings.Settings.{Settings}
 use Rattle.centre_past.specs.Legal.{Legal}
 use Rattle.centre_past.specs.Lists.{area_names, area_row, area_rows, area_selectors, cells_at, failed_at, failed_in, failed_row, failed_rows, failure_of, kept_row, registered_bscs, registered_cells, warning_lt, warning_row, warning_rows}
 use Rattle.centre_past.specs.Numbers.{number, number_at}

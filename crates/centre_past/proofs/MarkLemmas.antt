@@ -35,7 +35,6 @@ use Rattle.centre_events.specs.Past.{Past, From, After, by_edit}
 use Rattle.centre_events.specs.Places.{place, cells}
 use Rattle.centre_events.specs.Presence.{presence, hold, is_held, effect, edit_effect}
 use Rattle.centre_events.specs.Reported.{names_serial}
-use Rattle.centre_events.specs.Settings.{Settings}
 use Rattle.centre_events.specs.Verdict.{answered, report_checks, report_answer}
 use Rattle.centre_events.specs.Warnings.{warnings_of, serials, has_key, key_kind}
 use Rattle.centre_events.specs.declared.answer.Answer.{Answer}
@@ -48,6 +47,7 @@ use Rattle.centre_events.specs.declared.in_flight.InFlight.{InFlight}
 use Rattle.centre_events.specs.declared.in_flight.InFlight.TheVariants as flight
 use Rattle.centre_events.specs.declared.outcome.Outcome.{Outcome}
 use Rattle.centre_events.specs.declared.outcome.Outcome.TheVariants.{Silent}
+use Rattle.centre_events.specs.declared.settings.Settings.{Settings}
 use Rattle.centre_past.proofs.AnyLemmas.{contrary, any_gives, any_filter}
 use Rattle.centre_past.proofs.BscLemmas.{asked, bsc_named, flight_bsc, place_bsc}
 use Rattle.centre_past.proofs.CheckLemmas.{no_check, unless_ok}

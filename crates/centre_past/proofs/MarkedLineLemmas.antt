@@ -35,9 +35,9 @@ use Rattle.centre_events.specs.Past.{Past}
 use Rattle.centre_events.specs.Places.{place}
 use Rattle.centre_events.specs.Presence.{presence, hold}
 use Rattle.centre_past.specs.Reaching.{Told, TellsLines}
-use Rattle.centre_events.specs.Settings.{Settings}
 use Rattle.centre_events.specs.Stepping.{at_update, same_update, updates_once}
 use Rattle.centre_events.specs.Warnings.{warnings_of, book_of}
+use Rattle.centre_events.specs.declared.settings.Settings.{Settings}
 use Rattle.centre_past.proofs.MarkLemmas.{marks, no_presence, no_hold, no_count}
 use Rattle.centre_events.proofs.PastLemmas.{any_image}
 use Rattle.centre_past.proofs.StepLemmas.{line_at_update, none_later}

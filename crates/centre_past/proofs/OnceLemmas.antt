@@ -29,13 +29,13 @@ use Rattle.centre_events.specs.Past.{Past, From, After}
 use Rattle.centre_events.specs.Pending.{actions, actions_in, all_actions, pending}
 use Rattle.centre_events.specs.Places.{added_cell, cells}
 use Rattle.centre_events.specs.Plan.{wanted}
-use Rattle.centre_events.specs.Settings.{Settings}
 use Rattle.centre_events.specs.Warnings.{book_of, warnings_of, serials, is_version, has_key}
 use Rattle.centre_events.specs.declared.answer.Answer.{Answer}
 use Rattle.order_maker.specs.declared.action.Action.{Action}
 use Rattle.order_maker.specs.declared.deed.Deed.{Deed}
 use Rattle.centre_events.specs.declared.in_flight.InFlight.{InFlight}
 use Rattle.centre_events.specs.declared.in_flight.InFlight.TheVariants as flight
+use Rattle.centre_events.specs.declared.settings.Settings.{Settings}
 use Rattle.order_maker.specs.declared.order.Order.{Order}
 use Rattle.order_maker.specs.declared.order_kind.OrderKind.{OrderKind}
 use Rattle.order_maker.specs.declared.order_kind.OrderKind.TheVariants.{Kill}

@@ -29,8 +29,8 @@ use Rattle.centre_past.specs.Legal.{Legal}
 use Rattle.centre_events.specs.Past.{Past}
 use Rattle.centre_events.specs.Places.{place}
 use Rattle.centre_events.specs.Plan.{wants, wanted}
-use Rattle.centre_events.specs.Settings.{Settings}
 use Rattle.centre_events.specs.Warnings.{book_of, warnings_of, is_version, has_key, serials}
+use Rattle.centre_events.specs.declared.settings.Settings.{Settings}
 use Rattle.centre_past.proofs.BookLemmas.{keyed, found_keyed, owner_of}
 use Rattle.centre_past.proofs.WarningLemmas.{legal_sound}
 

@@ -16,8 +16,8 @@ use Rattle.centre_past.specs.Links.{AreLinksOf}
 use Rattle.centre_events.specs.Kept.{AreAreasOf, IsRegisterOf}
 use Rattle.centre_past.specs.Legal.{Legal}
 use Rattle.centre_events.specs.Past.{Past}
+use Rattle.centre_events.specs.declared.settings.Settings.{Settings}
 use Rattle.centre_past.specs.Reaching.{Told, TellsLines}
-use Rattle.centre_events.specs.Settings.{Settings}
 use Rattle.centre_past.specs.declared.kept.Kept.{Kept}
 use Rattle.centre_past.proofs.MarkedLineLemmas.{known_same}
 

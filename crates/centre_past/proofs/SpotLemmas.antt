@@ -27,9 +27,9 @@ use Rattle.centre_past.specs.Legal.{Legal}
 use Rattle.centre_events.specs.Links.{bscs, added_bsc}
 use Rattle.centre_events.specs.Past.{Past}
 use Rattle.centre_events.specs.Places.{place, cells, added_cell}
+use Rattle.centre_events.specs.declared.settings.Settings.{Settings}
 use Rattle.centre_past.specs.Reach.{spot, at_bsc, placed_where, known_at}
 use Rattle.centre_past.specs.Reaching.{AreSpots, AreThose, is_placed, is_known_among, is_known_at}
-use Rattle.centre_events.specs.Settings.{Settings}
 use Rattle.centre_past.proofs.AnyLemmas.{or_none, and_none, any_same, any_pulled, any_flat}
 use Rattle.centre_past.proofs.CountLemmas.{same_count, named_once, both_or_it}
 use Rattle.centre_past.proofs.KnownLemmas.{legal_unfolded, known_place}

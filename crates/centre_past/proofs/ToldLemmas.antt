@@ -15,7 +15,6 @@ use Rattle.warning_book.specs.declared.warning.Warning.{Warning}
 use Rattle.centre_past.specs.Issued.{active_mark, is_active_by, edit_makes, but, areas_then, areas_by, continued, versions_then, versions_by, message_mark, message_by, issues_then, issued_by, number_given, numbers_then, numbers_by}
 use Rattle.centre_past.specs.Legal.{Legal}
 use Rattle.centre_events.specs.Past.{Past, From, After}
-use Rattle.centre_events.specs.Settings.{Settings}
 use Rattle.centre_events.specs.Verdict.{answered, edit_answered, update, update_checks, update_answer, widen, widen_checks}
 use Rattle.centre_events.specs.Warnings.{book_of, warnings_of, book_then}
 use Rattle.coverage_plan.specs.Edited.{book_after, with_issue}
@@ -25,6 +24,7 @@ use Rattle.coverage_plan.specs.declared.edit.Edit.{Edit}
 use Rattle.coverage_plan.specs.declared.edit.Edit.TheVariants as edit
 use Rattle.centre_events.specs.declared.event.Event.{Event}
 use Rattle.centre_events.specs.declared.event.Event.TheVariants as event
+use Rattle.centre_events.specs.declared.settings.Settings.{Settings}
 use Rattle.centre_past.proofs.CheckLemmas.{unless_ok, no_check}
 use Rattle.centre_past.proofs.FoundLemmas.{found_any, view_edited, view_without, view_kept, issue_told, view_issued, mark_cond, view_then, mark_then}
 use Rattle.centre_events.proofs.PastLemmas.{map_joined}

@@ -10,12 +10,12 @@ use Rattle.warning_book.specs.declared.version.Version.{Version}
 use Rattle.warning_book.specs.declared.warning.Warning.{Warning}
 use Rattle.common.specs.Sums.{one, count_of}
 use Rattle.centre_events.specs.Past.{Past}
-use Rattle.centre_events.specs.Settings.{Settings}
 use Rattle.centre_events.specs.Verdict.{verdict, answered, is_full}
 use Rattle.centre_events.specs.Warnings.{has_key, is_version}
 use Rattle.centre_events.specs.declared.answer.Answer.{Answer}
 use Rattle.centre_events.specs.declared.event.Event.{Event}
 use Rattle.centre_events.specs.declared.refusal.Refusal.TheVariants as refusal
+use Rattle.centre_events.specs.declared.settings.Settings.{Settings}
 use Rattle.centre_past.proofs.AnyLemmas.{any_implies}
 use Rattle.centre_past.proofs.CheckLemmas.{unless_ok}
 

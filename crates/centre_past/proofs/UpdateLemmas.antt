@@ -19,11 +19,11 @@ use Rattle.centre_events.specs.Effects.{is_given}
 use Rattle.centre_events.specs.Facts.{version_at}
 use Rattle.centre_past.specs.Legal.{Legal}
 use Rattle.centre_events.specs.Past.{Past}
-use Rattle.centre_events.specs.Settings.{Settings}
 use Rattle.centre_events.specs.Verdict.{reuses, update, update_answer, update_checks}
 use Rattle.centre_events.specs.Warnings.{book_of, is_version, warnings_of}
 use Rattle.centre_events.specs.declared.answer.Answer.{Answer}
 use Rattle.centre_events.specs.declared.answer.Answer.TheVariants as answer
+use Rattle.centre_events.specs.declared.settings.Settings.{Settings}
 use Rattle.centre_past.proofs.AnyLemmas.{any_same, or_none}
 use Rattle.centre_past.proofs.CheckLemmas.{no_check}
 use Rattle.centre_past.proofs.FoundLemmas.{found_any}

@@ -15,9 +15,9 @@ use Rattle.warning_book.specs.declared.warning.Warning.{Warning}
 use Rattle.centre_events.specs.Facts.{key_state, version_at, version_state, line_of}
 use Rattle.centre_past.specs.Legal.{Legal}
 use Rattle.centre_events.specs.Past.{Past}
-use Rattle.centre_events.specs.Settings.{Settings}
 use Rattle.centre_events.specs.Stepping.{same_update, updates_once}
 use Rattle.centre_events.specs.Warnings.{book_of, warnings_of, is_version}
+use Rattle.centre_events.specs.declared.settings.Settings.{Settings}
 use Rattle.centre_past.proofs.AnyLemmas.{any_implies, contrary}
 use Rattle.centre_past.proofs.LineLemmas.{found_all}
 use Rattle.centre_past.proofs.StepLemmas.{line_at_update}

@@ -24,7 +24,6 @@ use Rattle.centre_past.specs.Legal.{Legal}
 use Rattle.centre_events.specs.Past.{Past, From, After}
 use Rattle.centre_events.specs.Refusals.{of_book}
 use Rattle.centre_events.specs.Reported.{is_key_reported, is_key_in_flight}
-use Rattle.centre_events.specs.Settings.{Settings}
 use Rattle.centre_events.specs.Verdict.{unless, answered, edit_answered, by_book, issue, issue_answer, reuses, update, update_answer}
 use Rattle.centre_events.specs.Warnings.{book_of, book_then}
 use Rattle.coverage_plan.specs.Edited.{book_after, with_issue}
@@ -36,6 +35,7 @@ use Rattle.centre_events.specs.declared.event.Event.{Event}
 use Rattle.centre_events.specs.declared.event.Event.TheVariants as event
 use Rattle.centre_events.specs.declared.refusal.Refusal.{Refusal}
 use Rattle.centre_events.specs.declared.refusal.Refusal.TheVariants as refusal
+use Rattle.centre_events.specs.declared.settings.Settings.{Settings}
 use Rattle.centre_past.proofs.CheckLemmas.{refused_first, passed, none_around, none_held, checked_after}
 use Rattle.centre_past.proofs.FoundLemmas.{found_number}
 use Rattle.centre_past.proofs.UniqueLemmas.{verdict_answered}

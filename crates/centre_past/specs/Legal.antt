@@ -4,12 +4,12 @@ use Rattle.std.specs.Prelude.{◌≡◌, ℕ, Bool, false, List, [], ◌∷◌, 
 use Rattle.centre_events.specs.Base.{empty_base}
 use Rattle.centre_events.specs.Folding.{base_of, folded}
 use Rattle.centre_events.specs.Past.{Past, From, After, past_of, since}
-use Rattle.centre_events.specs.Settings.{Settings}
 use Rattle.centre_events.specs.Verdict.{last_position, verdict}
 use Rattle.centre_events.specs.declared.answer.Answer.{Answer}
 use Rattle.centre_events.specs.declared.entry.Entry.{Entry}
 use Rattle.centre_events.specs.declared.event.Event.{Event}
 use Rattle.centre_events.specs.declared.refusal.Refusal.{Refusal}
+use Rattle.centre_events.specs.declared.settings.Settings.{Settings}
 
 -- each answer is the verdict
 abbrev pub Legal : Settings → Past → Type 0

@@ -23,7 +23,6 @@ use Rattle.centre_events.specs.Kept.{IsRegisterOf, AreAreasOf}
 use Rattle.centre_past.specs.Legal.{Legal}
 use Rattle.centre_events.specs.Links.{bsc_of}
 use Rattle.centre_events.specs.Past.{Past}
-use Rattle.centre_events.specs.Settings.{Settings}
 use Rattle.centre_events.specs.Verdict.{answered, edit_answered}
 use Rattle.centre_events.specs.Warnings.{book_of}
 use Rattle.centre_events.specs.declared.answer.Answer.{Answer}
@@ -31,6 +30,7 @@ use Rattle.coverage_plan.specs.declared.edit.Edit.{Edit}
 use Rattle.centre_events.specs.declared.event.Event.{Event}
 use Rattle.centre_events.specs.declared.event.Event.TheVariants as event
 use Rattle.centre_events.specs.declared.in_flight.InFlight.{InFlight}
+use Rattle.centre_events.specs.declared.settings.Settings.{Settings}
 use Rattle.coverage_plan.specs.declared.edit.Edit.TheVariants as edit
 
 -- the cells at BSCs that pass the test, each once, and no others

@@ -7,7 +7,6 @@ use Rattle.centre_events.specs.Asking.{asked_cells, query_of, query_of_kind, ver
 use Rattle.centre_events.specs.InFlight.{in_flight}
 use Rattle.centre_events.specs.Past.{Past, position}
 use Rattle.centre_events.specs.Pending.{pending}
-use Rattle.centre_events.specs.Settings.{Settings}
 use Rattle.centre_events.specs.Verdict.{add_area_checks, add_bsc_checks, add_cell_checks, answered, ask_checks, cut_checks, drop_area_checks, edit_answered, forget_checks, is_full, issue_answer, issue_checks, link_checks, link_up_checks, move_cell_checks, narrow_checks, put_checks, remove_bsc_checks, remove_cell_checks, reply_answer, report_answer, report_checks, retry_checks, send_answer, send_checks, stop_checks, unless, update_answer, update_checks, verdict, widen_checks}
 use Rattle.centre_events.specs.Warnings.{book_of}
 use Rattle.centre_events.specs.declared.answer.Answer.{Answer}
@@ -19,6 +18,7 @@ use Rattle.centre_events.specs.declared.event.Event.TheVariants as event
 use Rattle.centre_events.specs.declared.in_flight.InFlight.{InFlight}
 use Rattle.centre_events.specs.declared.refusal.Refusal.{Refusal}
 use Rattle.centre_events.specs.declared.refusal.Refusal.TheVariants as refusal
+use Rattle.centre_events.specs.declared.settings.Settings.{Settings}
 use Rattle.order_maker.specs.Grouping.{first}
 use Rattle.order_maker.specs.declared.order.Order.{Order}
 use Rattle.warning_book.specs.Book.{current_of, kind_of, new_serial, next_serial, warning_of}

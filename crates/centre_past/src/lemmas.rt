@@ -20,12 +20,12 @@ ghost use Rattle.coverage_board.specs.declared.way.Way.TheVariants as way;
 ghost use Rattle.centre_events.specs.Kept.{IsRegisterOf, AreAreasOf};
 ghost use Rattle.centre_events.specs.Past.{Past, After, position};
 ghost use Rattle.centre_events.specs.Presence.{effect_at};
-ghost use Rattle.centre_events.specs.Settings.{Settings};
 ghost use Rattle.centre_events.specs.Warnings.{book_of, is_version, kind_in};
 ghost use Rattle.centre_events.specs.Stepping.{stepped, updates_once, WasLine};
 ghost use Rattle.centre_past.specs.Links.{AreLinksOf, links_after};
 ghost use Rattle.centre_past.specs.State.{facts_from};
 ghost use Rattle.centre_events.specs.declared.entry.Entry.{Entry};
+ghost use Rattle.centre_events.specs.declared.settings.Settings.{Settings};
 ghost use Rattle.centre_past.specs.declared.link.Link.{Link};
 
 #[tactic(auto, using(crate::proofs::LinkLemmas::links_with))]

@@ -4,8 +4,8 @@ ghost use Rattle.centre_past.specs.Idle.{AreKnownOf};
 ghost use Rattle.centre_past.specs.IsKept.{IsKept, OnlyReadsIn};
 ghost use Rattle.centre_past.specs.Legal.{Legal};
 ghost use Rattle.centre_events.specs.Past.{Past};
+ghost use Rattle.centre_events.specs.declared.settings.Settings.{Settings};
 ghost use Rattle.centre_past.specs.Reaching.{TellsLines};
-ghost use Rattle.centre_events.specs.Settings.{Settings};
 ghost use Rattle.centre_past.specs.declared.kept.Kept.{Kept};
 
 use mirror::LineTable;

@@ -11,7 +11,6 @@ use Rattle.cbsp_messages.specs.declared.message.Message.{Message}
 use Rattle.centre_events.specs.Base.{Base}
 use Rattle.centre_events.specs.Cover.{area_mark, is_area}
 use Rattle.centre_events.specs.Past.{Past, From, After, by_edit}
-use Rattle.centre_events.specs.Settings.{Settings}
 use Rattle.centre_events.specs.Verdict.{add_area_checks, answered, cut_checks, drop_area_checks, issue_answer, issue_checks, narrow_checks, put_checks, unless, update_answer, update_checks, verdict, widen_checks}
 use Rattle.centre_events.specs.Warnings.{book_of}
 use Rattle.centre_events.specs.declared.answer.Answer.{Answer}
@@ -19,6 +18,7 @@ use Rattle.centre_events.specs.declared.answer.Answer.TheVariants as answer
 use Rattle.centre_events.specs.declared.event.Event.{Event}
 use Rattle.centre_events.specs.declared.event.Event.TheVariants as event
 use Rattle.centre_events.specs.declared.refusal.Refusal.{Refusal}
+use Rattle.centre_events.specs.declared.settings.Settings.{Settings}
 use Rattle.centre_past.specs.Legal.{Lawful, Legal, lasting}
 use Rattle.centre_past.proofs.LawfulLemmas.{accepted, whole}
 use Rattle.coverage_plan.specs.declared.edit.Edit.{Edit}

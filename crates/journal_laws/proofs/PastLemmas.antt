@@ -5,13 +5,13 @@ use Rattle.std.proofs.lemmas.List.{reverse-append}
 use Rattle.centre_events.specs.Base.{Base}
 use Rattle.centre_events.specs.Folding.{base_of, folded_with}
 use Rattle.centre_events.specs.Past.{Past, After, entry_count, past_of, since}
-use Rattle.centre_events.specs.Settings.{Settings}
 use Rattle.centre_events.specs.Verdict.{is_full, last_position, verdict}
 use Rattle.centre_events.specs.declared.answer.Answer.{Answer}
 use Rattle.centre_events.specs.declared.entry.Entry.{Entry}
 use Rattle.centre_events.specs.declared.event.Event.{Event}
 use Rattle.centre_events.specs.declared.refusal.Refusal.{Refusal}
 use Rattle.centre_events.specs.declared.refusal.Refusal.TheVariants as refusal
+use Rattle.centre_events.specs.declared.settings.Settings.{Settings}
 use Rattle.centre_events.proofs.FoldingLemmas.{alike, folded_one, past_whole}
 use Rattle.centre_past.specs.Legal.{Known, checkpointed, past}
 use Rattle.journal_laws.specs.Files.{with_entry}

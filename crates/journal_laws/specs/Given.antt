@@ -7,11 +7,11 @@ use Rattle.cbsp_messages.specs.MessageType.{is_report}
 use Rattle.cbsp_messages.specs.Spelling.{Spells}
 use Rattle.cbsp_messages.specs.declared.message.Message.{Message}
 use Rattle.centre_events.specs.Past.{Past, From, After}
-use Rattle.centre_events.specs.Settings.{Settings}
 use Rattle.centre_events.specs.Verdict.{verdict}
 use Rattle.centre_events.specs.declared.answer.Answer.{Answer}
 use Rattle.centre_events.specs.declared.event.Event.{Event}
 use Rattle.centre_events.specs.declared.event.Event.TheVariants as event
+use Rattle.centre_events.specs.declared.settings.Settings.{Settings}
 use Rattle.centre_past.specs.Legal.{Lawful, all_entries}
 use Rattle.console.specs.Replays.{new_session}
 use Rattle.console.specs.Sessions.{SessionState}

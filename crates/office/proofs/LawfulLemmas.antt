@@ -10,12 +10,12 @@ use Rattle.centre_events.specs.Folding.{base_of, folded, folded_with}
 use Rattle.centre_events.specs.Links.{is_bsc}
 use Rattle.centre_events.specs.Past.{Past, From, After, entry_count, position}
 use Rattle.centre_events.specs.Pending.{pending}
-use Rattle.centre_events.specs.Settings.{Settings}
 use Rattle.centre_events.specs.Verdict.{answered, is_full, last_position, verdict}
 use Rattle.centre_events.specs.declared.entry.Entry.{Entry}
 use Rattle.centre_events.specs.declared.event.Event.{Event}
 use Rattle.centre_events.specs.declared.event.Event.TheVariants as event
 use Rattle.centre_events.specs.declared.refusal.Refusal.TheVariants as refusal
+use Rattle.centre_events.specs.declared.settings.Settings.{Settings}
 use Rattle.centre_events.proofs.FoldingLemmas.{alike, folded_one}
 use Rattle.centre_past.specs.Legal.{HasWhole, Lawful, lasting}
 use Rattle.centre_past.proofs.LawfulLemmas.{accepted, counted, whole}

@@ -2,9 +2,9 @@
 
 ghost use Rattle.std.specs.Prelude.{◌≡◌, Ok};
 ghost use Rattle.centre_events.specs.Past.{Past};
-ghost use Rattle.centre_events.specs.Settings.{Settings};
 ghost use Rattle.centre_events.specs.Verdict.{verdict};
 ghost use Rattle.centre_events.specs.declared.entry.Entry.{Entry};
+ghost use Rattle.centre_events.specs.declared.settings.Settings.{Settings};
 ghost use Rattle.centre_past.specs.Legal.{Known, Lawful, past};
 ghost use Rattle.office.specs.Affecting.{LeavesIdle, LeavesOrders};
 

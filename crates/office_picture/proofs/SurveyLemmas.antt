@@ -10,8 +10,8 @@ use Rattle.common.specs.Order.{is_ascending}
 use Rattle.centre_events.specs.Base.{Base}
 use Rattle.centre_events.specs.Cover.{is_area}
 use Rattle.centre_events.specs.Past.{Past}
-use Rattle.centre_events.specs.Settings.{Settings}
 use Rattle.centre_events.specs.Warnings.{warnings_of}
+use Rattle.centre_events.specs.declared.settings.Settings.{Settings}
 use Rattle.centre_past.specs.Legal.{Lawful, lasting, past}
 use Rattle.centre_past.specs.Lists.{warning_row, warning_rows, warning_sheet}
 use Rattle.centre_past.proofs.LineLemmas.{found_passes}

@@ -8,13 +8,13 @@ use Rattle.std.proofs.lemmas.Slice.Eq.{bytes_eq-Decides}
 use Rattle.centre_events.specs.Base.{Base}
 use Rattle.centre_events.specs.Cover.{area_mark, is_area}
 use Rattle.centre_events.specs.Past.{Past, From, After, by_edit}
-use Rattle.centre_events.specs.Settings.{Settings}
 use Rattle.centre_events.specs.Verdict.{answered, drop_area_checks, edit_answered, is_in_use, issue_answer, issue_checks, widen_checks}
 use Rattle.centre_events.specs.Warnings.{book_of, book_then, warnings_of}
 use Rattle.centre_events.specs.declared.answer.Answer.{Answer}
 use Rattle.centre_events.specs.declared.answer.Answer.TheVariants as answer
 use Rattle.centre_events.specs.declared.event.Event.{Event}
 use Rattle.centre_events.specs.declared.event.Event.TheVariants as event
+use Rattle.centre_events.specs.declared.settings.Settings.{Settings}
 use Rattle.centre_past.specs.Legal.{Lawful, Legal, lasting}
 use Rattle.centre_past.proofs.AnyLemmas.{any_filter}
 use Rattle.centre_past.proofs.CheckLemmas.{no_check}

@@ -12,9 +12,9 @@ ghost use Rattle.centre_events.specs.Kept.{Gives};
 ghost use Rattle.centre_past.specs.Legal.{Legal};
 ghost use Rattle.centre_events.specs.Past.{Past};
 ghost use Rattle.centre_past.specs.Reach.{known_at};
-ghost use Rattle.centre_events.specs.Settings.{Settings};
 ghost use Rattle.centre_events.specs.Verdict.{ask};
 ghost use Rattle.centre_events.specs.Warnings.{book_of};
+ghost use Rattle.centre_events.specs.declared.settings.Settings.{Settings};
 
 use crate::events::Verdict;
 use crate::events::links::check_link;

@@ -8,8 +8,8 @@ ghost use Rattle.centre_events.specs.Kept.{Gives};
 ghost use Rattle.centre_past.specs.Legal.{Legal};
 ghost use Rattle.centre_events.specs.Outcomes.{listed_cells};
 ghost use Rattle.centre_events.specs.Past.{Past};
-ghost use Rattle.centre_events.specs.Settings.{Settings};
 ghost use Rattle.centre_events.specs.Verdict.{report, reply_answer, report_answer};
+ghost use Rattle.centre_events.specs.declared.settings.Settings.{Settings};
 
 use crate::events::Verdict;
 use crate::events::links::check_link;

@@ -4,7 +4,7 @@ ghost use Rattle.std.specs.Prelude.{◌≡◌, ◌++◌, ◌∷◌, [], IfOk, On
 ghost use Rattle.std.specs.Option.{option_map};
 ghost use Rattle.centre_past.specs.Links.{flight_in};
 ghost use Rattle.centre_events.specs.Past.{Past};
-ghost use Rattle.centre_events.specs.Settings.{Settings};
+ghost use Rattle.centre_events.specs.declared.settings.Settings.{Settings};
 ghost use Rattle.centre_past.specs.IsKept.{IsKept};
 ghost use Rattle.centre_past.specs.Legal.{Legal};
 ghost use Rattle.centre_past.specs.Lists.{bsc_row, bsc_rows, flight_kind_of, flight_row};

@@ -1,7 +1,7 @@
 use Rattle.std.proofs.Common.{◌≡◌, ◌++◌, Ok}
 use Rattle.centre_events.specs.Past.{past_of}
-use Rattle.centre_events.specs.Settings.{Settings}
 use Rattle.centre_events.specs.Verdict.{verdict}
+use Rattle.centre_events.specs.declared.settings.Settings.{Settings}
 use Rattle.centre_core.proofs.CentreLemmas.{answered_all}
 use Rattle.centre_past.proofs.ReadLemmas.{reads_kept}
 use Rattle.centre_core.specs.Centre.{past_over}
