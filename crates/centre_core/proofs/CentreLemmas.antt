@@ -15,7 +15,7 @@ use Rattle.centre_past.specs.IsKept.{IsKept, OnlyReadsIn}
 use Rattle.centre_past.specs.Facts.{facts}
 use Rattle.centre_events.specs.Kept.{Gives, IsChecked, is_edit, register_then, areas_then}
 use Rattle.coverage_plan.specs.Edited.{edited}
-use Rattle.centre_past.specs.Legal.{Known, Legal, lasting, past}
+use Rattle.centre_past.specs.Legal.{CentreState, Known, Legal, lasting, past}
 use Rattle.centre_events.specs.Base.{empty_base}
 use Rattle.centre_events.specs.Folding.{base_of}
 use Rattle.centre_events.proofs.FoldingLemmas.{past_whole}
@@ -115,8 +115,8 @@ place_then xs ys folded now last same_folded same is =
     omega (arith, is, ap length same_folded, ap length same, next_place xs ys)
 
 -- reading lines keeps what always holds
-pub centre_reads : (settings : Settings) (xs ys : List Entry) (stale : Bool) (b s t : Kept) → IsCentre settings xs ys stale b s → OnlyReadsIn s t → IsCentre settings xs ys stale b t
-centre_reads settings xs ys stale b s t sound reads = record {
+pub centre_reads : {settings : Settings} {xs ys : List Entry} {stale : Bool} {b s t : Kept} → IsCentre settings xs ys stale b s → OnlyReadsIn s t → IsCentre settings xs ys stale b t
+centre_reads {xs} {ys} {s} {t} sound reads = record {
   few = sound.few;
   long = sound.long;
   legal = sound.legal;
@@ -125,8 +125,12 @@ centre_reads settings xs ys stale b s t sound reads = record {
 }
 
 -- a centre that isn't stale is whole
-pub whole_centre : (settings : Settings) (xs ys : List Entry) (stale : Bool) (b s : Kept) → stale ≡ false → IsCentre settings xs ys stale b s → IsWhole settings.network xs ys s
-whole_centre settings xs ys stale b s h sound = record { legal = sound.legal; kept = sound.whole h }
+pub whole_centre : {settings : Settings} {xs ys : List Entry} {stale : Bool} {b s : Kept} → IsCentre settings xs ys stale b s → stale ≡ false → IsWhole settings.network xs ys s
+whole_centre sound h = record { legal = sound.legal; kept = sound.whole h }
+
+-- what is seen of a centre says whether it is stale
+pub not_stale : {c now : CentreState} → c ≡ now → now.known.stale ≡ false → c.known.stale ≡ false
+not_stale same h = ap (λ (v : CentreState). v.known.stale) same ∙ h
 
 -- What is found before an edit is made.
 
@@ -168,20 +172,20 @@ looked_in past e (Err x) = omega arith
 
 -- What a centre is, one event further.
 
-pub centre_after : (settings : Settings) (xs ys folded now : List Entry) (stale : Bool) (b s t : Kept) → IsCentre settings xs ys stale b s → folded ≡ xs → now ≡ ys → OnlyReadsIn s t → IsCentre settings folded now stale b t
-centre_after settings xs ys folded now stale b s t sound same_folded same reads =
+pub centre_after : {settings : Settings} {xs ys folded now : List Entry} {stale : Bool} {b s t : Kept} → IsCentre settings xs ys stale b s → folded ≡ xs → now ≡ ys → OnlyReadsIn s t → IsCentre settings folded now stale b t
+centre_after {settings} {xs} {now} {stale} {b} {t} sound same_folded same reads =
     subst (λ fs. IsCentre settings fs now stale b t) (sym same_folded)
-    (subst (λ js. IsCentre settings xs js stale b t) (sym same) (centre_reads settings xs ys stale b s t sound reads))
+    (subst (λ js. IsCentre settings xs js stale b t) (sym same) (centre_reads sound reads))
 
 -- where memory runs out while an event is entered
-pub centre_stale : (settings : Settings) (xs ys folded now : List Entry) (stale : Bool) (b s t : Kept) → IsCentre settings xs ys stale b s → folded ≡ xs → now ≡ ys → IsCentre settings folded now true b t
-centre_stale settings xs ys folded now stale b s t sound same_folded same =
+pub centre_stale : {settings : Settings} {xs ys folded now : List Entry} {stale : Bool} {b s t : Kept} → IsCentre settings xs ys stale b s → folded ≡ xs → now ≡ ys → IsCentre settings folded now true b t
+centre_stale {settings} {xs} {now} {b} {t} sound same_folded same =
     subst (λ fs. IsCentre settings fs now true b t) (sym same_folded)
     (subst (λ js. IsCentre settings xs js true b t) (sym same) (record { few = sound.few; long = sound.long; legal = sound.legal; base = sound.base; whole = λ h. cc }))
 
-pub leaves_stale : (settings : Settings) (xs ys folded now : List Entry) (stale : Bool) (r : Result Answer Refusal) → IsErrAnd r (λ y. y ≡ Memory) → folded ≡ xs → now ≡ ys → IfErr r (λ x. Leaves (record { settings = settings; folded = xs; journal = ys; stale = stale }) x (record { settings = settings; folded = folded; journal = now; stale = true }))
-leaves_stale settings xs ys folded now stale (Ok a) h same_folded same = tt
-leaves_stale settings xs ys folded now stale (Err y) h same_folded same =
+pub leaves_stale : (settings : Settings) {xs ys folded now : List Entry} (stale : Bool) (r : Result Answer Refusal) → IsErrAnd r (λ y. y ≡ Memory) → folded ≡ xs → now ≡ ys → IfErr r (λ x. Leaves (record { settings = settings; folded = xs; journal = ys; stale = stale }) x (record { settings = settings; folded = folded; journal = now; stale = true }))
+leaves_stale settings stale (Ok a) h same_folded same = tt
+leaves_stale settings {xs} {now} stale (Err y) h same_folded same =
     inr (h, ap (λ fs. let known : Known = record { settings = settings; folded = fs; journal = now; stale = true } in known) same_folded ∙ ap (λ js. let known : Known = record { settings = settings; folded = xs; journal = js; stale = true } in known) same)
 
 -- all entries, with one more
@@ -189,8 +193,8 @@ all_with : (xs ys : List Entry) (e : Entry) → past_of (xs ++ (ys ++ e ∷ []))
 all_with xs ys e = ap (λ zs. past_of zs) (sym (append_assoc xs ys (e ∷ []))) ∙ ap (λ zs. since empty_base zs) (reverse-append (xs ++ ys) (e ∷ []))
 
 -- an accepted event is entered
-pub centre_entered : (settings : Settings) (xs ys folded now : List Entry) (stale : Bool) (b s t : Kept) (e : Entry) → IsCentre settings xs ys stale b s → length ys < settings.limit → length xs + length ys < 2 ^ 64 - 1 → folded ≡ xs → now ≡ ys ++ e ∷ [] → verdict settings (past_over xs ys) e.event ≡ Ok e.answer → IsKept (After e (past_of (xs ++ ys))) t → IsCentre settings folded now false b t
-centre_entered settings xs ys folded now stale b s t e sound few low same_folded same accepted kept =
+pub centre_entered : {settings : Settings} {xs ys folded now : List Entry} {stale : Bool} {b s t : Kept} {e : Entry} → IsCentre settings xs ys stale b s → length ys < settings.limit → length xs + length ys < 2 ^ 64 - 1 → folded ≡ xs → now ≡ ys ++ e ∷ [] → verdict settings (past_over xs ys) e.event ≡ Ok e.answer → IsKept (After e (past_of (xs ++ ys))) t → IsCentre settings folded now false b t
+centre_entered {settings} {xs} {ys} {now} {b} {t} {e} sound few low same_folded same accepted kept =
     subst (λ fs. IsCentre settings fs now false b t) (sym same_folded)
     (subst (λ js. IsCentre settings xs js false b t) (sym same) (record {
       few = sound.few;
@@ -201,15 +205,14 @@ centre_entered settings xs ys folded now stale b s t e sound few low same_folded
     }))
 
 -- a refusal that is given
-pub refuses : (settings : Settings) (xs ys : List Entry) (stale : Bool) (e : Event) (r : Result Answer Refusal) (x : Refusal) → IsErrAnd r (λ y. y ≡ x) → stale ≡ false → IsRefused settings (past_over xs ys) e x → IfErr r (Refuses (record { settings = settings; folded = xs; journal = ys; stale = stale }) e)
-refuses settings xs ys stale e (Ok a) x h whole given = tt
-refuses settings xs ys stale e (Err y) x h whole (inl g) = inr (whole, inl (h ∙ g.0, g.1))
-refuses settings xs ys stale e (Err y) x h whole (inr g) = inr (whole, inr (g ∙ ap Err (sym h)))
+pub refuses : (centre : Known) (e : Event) (r : Result Answer Refusal) (x : Refusal) → IsErrAnd r (λ y. y ≡ x) → centre.stale ≡ false → IsRefused centre.settings (past centre) e x → IfErr r (Refuses centre e)
+refuses centre e (Ok a) x h whole given = tt
+refuses centre e (Err y) x h whole (inl g) = inr (whole, inl (h ∙ g.0, g.1))
+refuses centre e (Err y) x h whole (inr g) = inr (whole, inr (g ∙ ap Err (sym h)))
 
--- the same of an event that a centre is given
-pub refuses_starved : (settings : Settings) (xs ys : List Entry) (stale : Bool) (e : Event) (r : Result Answer Refusal) → IsErrAnd r (λ y. y ≡ Memory) → stale ≡ false → IsOk (verdict settings (past_over xs ys) e) → IfErr r (Refuses (record { settings = settings; folded = xs; journal = ys; stale = stale }) e)
-refuses_starved settings xs ys stale e (Ok a) h whole given = tt
-refuses_starved settings xs ys stale e (Err y) h whole given = inr (whole, inl (h, given))
+-- the same where memory runs out
+pub refuses_starved : (centre : Known) (e : Event) (r : Result Answer Refusal) → IsErrAnd r (λ y. y ≡ Memory) → centre.stale ≡ false → IsOk (verdict centre.settings (past centre) e) → IfErr r (Refuses centre e)
+refuses_starved centre e r h whole given = refuses centre e r Memory h whole (inl (refl, given))
 
 -- The lines that were read or set.
 
@@ -233,8 +236,8 @@ pub within_four : (settings : Settings) (xs ys : List Entry) (e : Event) (old ne
 within_four settings xs ys e old new looks =
     omega (arith, looks, reach_over xs ys e (verdict settings (past_over xs ys) e), looked_in (past_of (xs ++ ys)) e (verdict settings (past_over xs ys) e))
 
-pub edit_lines : (settings : Settings) (xs ys : List Entry) (e : Edit) (old new : ℕ) → new ≤ old + 3 * size (edit_reach (past_over xs ys) e) → new ≤ old + 4 * reach (past_over xs ys) (event.Edit e) (verdict settings (past_over xs ys) (event.Edit e))
-edit_lines settings xs ys e old new h = omega (arith, h, edit_reach_is (past_over xs ys) e (verdict settings (past_over xs ys) (event.Edit e)))
+pub edit_lines : (settings : Settings) (past : Past) (e : Edit) (old new : ℕ) → new ≤ old + 3 * size (edit_reach past e) → new ≤ old + 4 * reach past (event.Edit e) (verdict settings past (event.Edit e))
+edit_lines settings past e old new h = omega (arith, h, edit_reach_is past e (verdict settings past (event.Edit e)))
 
 pub edit_lines_then : (settings : Settings) (xs ys : List Entry) (e : Edit) (a : Answer) (st : book.State) (old mid new : ℕ) (spots : List Spot) (earlier : LinesBefore) → mid ≤ old + 3 * size (edit_reach (past_over xs ys) e) → new ≤ mid + most_accesses (event.Edit e) a st spots earlier → WasReached (past_of (xs ++ ys)) (event.Edit e) a spots earlier → new ≤ old + 4 * reach (past_over xs ys) (event.Edit e) (verdict settings (past_over xs ys) (event.Edit e))
 edit_lines_then settings xs ys e a st old mid new spots earlier before now was =
@@ -247,32 +250,26 @@ lines_then settings xs ys e a st old mid new spots earlier is booked before now 
 
 -- What is known where an event is entered.
 
--- an edit that is made is answered so
-pub made_is : (settings : Settings) (xs ys : List Entry) (e : Edit) (a : Answer) → length ys < settings.limit → length xs + length ys < 2 ^ 64 - 1 → edit_answered (past_of (xs ++ ys)) e ≡ Ok a → verdict settings (past_over xs ys) (event.Edit e) ≡ Ok a
-made_is settings xs ys e a few low h = room_is settings xs ys (event.Edit e) few low ∙ h
-
-pub may_be_made : (settings : Settings) (xs ys : List Entry) (e : Edit) → length ys < settings.limit → length xs + length ys < 2 ^ 64 - 1 → IsOk (verdict settings (past_over xs ys) (event.Edit e)) → IsOk (edit_answered (past_of (xs ++ ys)) e)
-may_be_made settings xs ys e few low h = subst IsOk (room_is settings xs ys (event.Edit e) few low) h
-
-pub made_refused : (settings : Settings) (xs ys : List Entry) (e : Edit) (x : Refusal) → length ys < settings.limit → length xs + length ys < 2 ^ 64 - 1 → IsOk (verdict settings (past_over xs ys) (event.Edit e)) → Gives (edit_answered (past_of (xs ++ ys)) e) (Err x) → IsRefused settings (past_over xs ys) (event.Edit e) x
-made_refused settings xs ys e x few low given (inl h) = inl (h.0, given)
-made_refused settings xs ys e x few low given (inr h) = inr (room_is settings xs ys (event.Edit e) few low ∙ h)
+-- what is answered where an edit is made that is accepted
+pub made_there : (settings : Settings) {xs ys : List Entry} {s t : Kept} (e : Edit) (r : Result Answer Refusal) → IsWhole settings.network xs ys s → OnlyReadsIn s t → length ys < settings.limit → length xs + length ys < 2 ^ 64 - 1 → IsOk (verdict settings (past_over xs ys) (event.Edit e)) → ((past : Past) → IsKept past t → IsOk (edit_answered past e) → Gives (edit_answered past e) r) → Gives (verdict settings (past_over xs ys) (event.Edit e)) r
+made_there settings {xs} {ys} {s} {t} e r centre reads few low accepted made =
+    given_there settings xs ys (event.Edit e) r few low (made (past_of (xs ++ ys)) (reads_kept (past_of (xs ++ ys)) s t centre.kept reads) (subst IsOk (room_is settings xs ys (event.Edit e) few low) accepted))
 
 pub record Enters (t : Kept) (e : Entry) (past : Past) (place : ℕ) (up : Bool) (spots : List Spot) (earlier : LinesBefore) : Type 0 where
   pub known : Finishes t e.event e.answer place up spots earlier
   pub desk : known.desk ≡ e.desk
   pub is_past : known.past ≡ past
 
-pub edit_enters : (settings : Settings) (xs ys folded now : List Entry) (desk : ℕ) (e : Edit) (a : Answer) (entry : Entry) (r s t : Kept) (last : ℕ) (spots : List Spot) (earlier : LinesBefore) → IsWhole settings.network xs ys r → length ys < settings.limit → length xs + length ys < 2 ^ 64 - 1 → folded ≡ xs → now ≡ ys → last ≡ length folded + length now → OnlyReadsIn r s → edit_answered (past_of (xs ++ ys)) e ≡ Ok a → t ≡ record s { plan = edited e s.plan } → entry ≡ record { desk = desk; event = event.Edit e; answer = a } → ((b : Answer) → verdict settings (past_over xs ys) (event.Edit e) ≡ Ok b → WasReached (past_of (xs ++ ys)) (event.Edit e) b spots earlier) → Enters t entry (past_of (xs ++ ys)) (last + 1) false spots earlier
-edit_enters settings xs ys folded now desk e a entry r s t last spots earlier centre few low same_folded same is reads answered made entered reached =
+pub edit_enters : (settings : Settings) {xs ys folded now : List Entry} {desk : ℕ} {e : Edit} {a : Answer} {entry : Entry} {r s t : Kept} {last : ℕ} {spots : List Spot} {earlier : LinesBefore} → IsWhole settings.network xs ys r → length xs + length ys < 2 ^ 64 - 1 → folded ≡ xs → now ≡ ys → last ≡ length folded + length now → OnlyReadsIn r s → verdict settings (past_over xs ys) (event.Edit e) ≡ Ok a → t ≡ record s { plan = edited e s.plan } → entry ≡ record { desk = desk; event = event.Edit e; answer = a } → WasReached (past_of (xs ++ ys)) (event.Edit e) a spots earlier → Enters t entry (past_of (xs ++ ys)) (last + 1) false spots earlier
+edit_enters settings {xs} {ys} {folded} {now} {desk} {e} {a} {r} {s} {t} {last} {spots} {earlier} centre low same_folded same is reads accepted made entered reached =
     subst (λ x. Enters t x (past_of (xs ++ ys)) (last + 1) false spots earlier) (sym entered) (record {
-      known = finishes_edit (lasting settings.network) (past_of (xs ++ ys)) desk e a s t (last + 1) spots earlier centre.legal (lasting_is settings.network xs ys (event.Edit e) low ∙ answered) (reads_kept (past_of (xs ++ ys)) r s centre.kept reads) made (place_then xs ys folded now last same_folded same is) (reached a (made_is settings xs ys e a few low answered));
+      known = finishes_edit (lasting settings.network) (past_of (xs ++ ys)) desk e a s t (last + 1) spots earlier centre.legal (accepted_all settings xs ys (event.Edit e) a low accepted) (reads_kept (past_of (xs ++ ys)) r s centre.kept reads) made (place_then xs ys folded now last same_folded same is) reached;
       desk = refl;
       is_past = refl;
     })
 
-pub other_enters : (settings : Settings) (xs ys folded now : List Entry) (desk : ℕ) (e : Event) (a : Answer) (entry : Entry) (r s : Kept) (last : ℕ) (up : Bool) (spots : List Spot) (earlier : LinesBefore) → IsWhole settings.network xs ys r → length xs + length ys < 2 ^ 64 - 1 → folded ≡ xs → now ≡ ys → last ≡ length folded + length now → OnlyReadsIn r s → verdict settings (past_over xs ys) e ≡ Ok a → is_edit e ≡ false → entry ≡ record { desk = desk; event = e; answer = a } → ((past : Past) → AreLinksOf past s.links.items → up ≡ up_before past entry.event) → WasReached (past_of (xs ++ ys)) e a spots earlier → Enters s entry (past_of (xs ++ ys)) (last + 1) up spots earlier
-other_enters settings xs ys folded now desk e a entry r s last up spots earlier centre low same_folded same is reads accepted other entered up_is reached =
+pub other_enters : (settings : Settings) {xs ys folded now : List Entry} {desk : ℕ} {e : Event} {a : Answer} {entry : Entry} {r s : Kept} {last : ℕ} {up : Bool} {spots : List Spot} {earlier : LinesBefore} → IsWhole settings.network xs ys r → length xs + length ys < 2 ^ 64 - 1 → folded ≡ xs → now ≡ ys → last ≡ length folded + length now → OnlyReadsIn r s → verdict settings (past_over xs ys) e ≡ Ok a → is_edit e ≡ false → entry ≡ record { desk = desk; event = e; answer = a } → ((past : Past) → AreLinksOf past s.links.items → up ≡ up_before past entry.event) → WasReached (past_of (xs ++ ys)) e a spots earlier → Enters s entry (past_of (xs ++ ys)) (last + 1) up spots earlier
+other_enters settings {xs} {ys} {folded} {now} {desk} {e} {a} {r} {s} {last} {up} {spots} {earlier} centre low same_folded same is reads accepted other entered up_is reached =
     subst (λ x. Enters s x (past_of (xs ++ ys)) (last + 1) up spots earlier) (sym entered) (record {
       known = finishes_other (lasting settings.network) (past_of (xs ++ ys)) desk e a s (last + 1) up spots earlier centre.legal (accepted_all settings xs ys e a low accepted) kept other (up_is (past_of (xs ++ ys)) kept.linked ∙ ap (λ (x : Entry). up_before (past_of (xs ++ ys)) x.event) entered) (place_then xs ys folded now last same_folded same is) reached;
       desk = refl;
@@ -283,18 +280,18 @@ other_enters settings xs ys folded now desk e a entry r s last up spots earlier 
     kept = reads_kept (past_of (xs ++ ys)) r s centre.kept reads
 
 -- what is kept then
-pub kept_entered : (t new : Kept) (e : Entry) (past : Past) (place : ℕ) (up : Bool) (spots : List Spot) (earlier : LinesBefore) → Enters t e past place up spots earlier → ((x : Finishes t e.event e.answer place up spots earlier) → IsKept (After (record { desk = x.desk; event = e.event; answer = e.answer }) x.past) new) → IsKept (After e past) new
-kept_entered t new e past place up spots earlier x f =
+pub kept_entered : {t new : Kept} {e : Entry} {past : Past} {place : ℕ} {up : Bool} {spots : List Spot} {earlier : LinesBefore} → Enters t e past place up spots earlier → ((x : Finishes t e.event e.answer place up spots earlier) → IsKept (After (record { desk = x.desk; event = e.event; answer = e.answer }) x.past) new) → IsKept (After e past) new
+kept_entered {new} {e} x f =
     subst (λ p. IsKept (After e p) new) x.is_past (subst (λ d. IsKept (After (record { desk = d; event = e.event; answer = e.answer }) x.known.past) new) x.desk (f x.known))
 
-pub entry_accepted : (settings : Settings) (past : Past) (desk : ℕ) (e : Event) (a : Answer) (entry : Entry) → verdict settings past e ≡ Ok a → entry ≡ record { desk = desk; event = e; answer = a } → verdict settings past entry.event ≡ Ok entry.answer
-entry_accepted settings past desk e a entry accepted is = subst (λ (x : Entry). verdict settings past x.event ≡ Ok x.answer) (sym is) accepted
+pub entry_accepted : (settings : Settings) (past : Past) {desk : ℕ} {e : Event} {a : Answer} {entry : Entry} → verdict settings past e ≡ Ok a → entry ≡ record { desk = desk; event = e; answer = a } → verdict settings past entry.event ≡ Ok entry.answer
+entry_accepted settings past accepted is = subst (λ (x : Entry). verdict settings past x.event ≡ Ok x.answer) (sym is) accepted
 
 -- Where entries are folded.
 
 -- what is kept of all entries becomes the base
-pub centre_folded : (settings : Settings) (xs ys folded now : List Entry) (stale : Bool) (b base s : Kept) → IsCentre settings xs ys stale b s → folded ≡ xs ++ ys → now ≡ [] → IsKept (past_of (xs ++ ys)) base → IsCentre settings folded now stale base s
-centre_folded settings xs ys folded now stale b base s sound all none kept =
+pub centre_folded : {settings : Settings} {xs ys folded now : List Entry} {stale : Bool} {b base s : Kept} → IsCentre settings xs ys stale b s → folded ≡ xs ++ ys → now ≡ [] → IsKept (past_of (xs ++ ys)) base → IsCentre settings folded now stale base s
+centre_folded {settings} {xs} {ys} {now} {stale} {base} {s} sound all none kept =
     subst (λ fs. IsCentre settings fs now stale base s) (sym all)
     (subst (λ js. IsCentre settings (xs ++ ys) js stale base s) (sym none) (record {
       few = sound.few;
@@ -305,8 +302,8 @@ centre_folded settings xs ys folded now stale b base s sound all none kept =
     }))
 
 -- the past comes to the same base
-pub folded_same : (xs ys folded now : List Entry) → folded ≡ xs ++ ys → now ≡ [] → base_of (past_over folded now) ≡ base_of (past_over xs ys)
-folded_same xs ys folded now all none =
+pub folded_same : (xs ys : List Entry) {folded now : List Entry} → folded ≡ xs ++ ys → now ≡ [] → base_of (past_over folded now) ≡ base_of (past_over xs ys)
+folded_same xs ys {now} all none =
     ap (λ fs. base_of (past_over fs now)) all ∙ ap (λ js. base_of (past_over (xs ++ ys) js)) none ∙ sym (past_whole xs ys)
 
 -- Where a refusal comes from.

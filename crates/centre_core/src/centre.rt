@@ -14,6 +14,7 @@ use centre_events::entry::Entry;
 use centre_events::event::Event;
 use centre_events::in_flight::InFlight;
 use centre_events::refusal::Refusal;
+use centre_events::settings::Settings;
 use centre_past::kept::Kept;
 use centre_past::link_state::LinkState;
 use centre_past::links::{flight_in, up_before};
@@ -43,8 +44,7 @@ use warning_book::WarningId;
 #[derive(Drop)]
 pub struct Centre {
     alloc: Global,
-    plmn: [u8; 3],
-    limit: u32,
+    settings: Settings,
     base: Kept,
     journal: Journal,
     stale: bool,
@@ -57,9 +57,9 @@ impl Model for Centre {
 
     ghost Value = { CentreState };
 
-    ghost view = { λ c. record { known = record { settings = record { network = c.plmn; limit = c.limit }; folded = c.journal.folded; journal = c.journal.entries; stale = c.stale }; lines = c.kept.tables.lines.meter; entries = c.journal.reads } };
+    ghost view = { λ c. record { known = record { settings = c.settings; folded = c.journal.folded; journal = c.journal.entries; stale = c.stale }; lines = c.kept.tables.lines.meter; entries = c.journal.reads } };
 
-    ghost invariant = { λ c. IsCentre (record { network = c.plmn; limit = c.limit }) c.journal.folded c.journal.entries c.stale c.base c.kept };
+    ghost invariant = { λ c. IsCentre c.settings c.journal.folded c.journal.entries c.stale c.base c.kept };
 }
 
 impl Centre {
@@ -97,8 +97,10 @@ impl Centre {
     {
         Centre {
             alloc,
-            plmn,
-            limit: journal_limit,
+            settings: Settings {
+                network: plmn,
+                limit: journal_limit,
+            },
             base: Kept::new(alloc),
             journal: Journal::new(alloc),
             stale: false,
@@ -120,7 +122,7 @@ impl Centre {
     {
         let reached = prepare_edit(
             self.alloc,
-            self.limit,
+            self.settings,
             &mut self.journal,
             &mut self.kept,
             &edit,
@@ -154,8 +156,7 @@ impl Centre {
     {
         let found = match prepare_other(
             self.alloc,
-            self.plmn,
-            self.limit,
+            self.settings,
             &mut self.journal,
             &mut self.kept,
             &event,
@@ -565,7 +566,7 @@ impl Centre {
         CentreStatus {
             entries: self.position(),
             folded: self.journal.folded(),
-            limit: self.limit,
+            limit: self.settings.limit,
             is_stale: self.stale,
             counts: self.counts(),
         }
@@ -583,7 +584,7 @@ impl Centre {
     pub fn is_full(&self) -> bool
         ensures { result ≡ is_full self.now.known.settings (past self.now.known) }
     {
-        self.journal.is_full(self.limit)
+        self.journal.is_full(self.settings.limit)
     }
 
     /// The entry of that number, from 1; `None` where it was folded away, and past the last. Each call is counted.
@@ -600,6 +601,6 @@ impl Centre {
         ensures long { length self.now.known.journal ≤ self.now.known.settings.limit }
         ensures few { self.now.known.settings.limit ≤ 4000000 }
     {
-        let _ = &self.limit;
+        let _ = &self.settings;
     }
 }

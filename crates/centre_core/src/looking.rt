@@ -19,6 +19,7 @@ use centre_answers::events::{self, Verdict, check_edit};
 use centre_events::answer::Answer;
 use centre_events::event::Event;
 use centre_events::refusal::Refusal;
+use centre_events::settings::Settings;
 use centre_lines::reached::{Reached, reached_by_edit, reached_by_other};
 use centre_past::kept::Kept;
 use centre_past::telling::{tell_known, tell_lines};
@@ -37,27 +38,31 @@ fn make_room(journal: &mut Journal) -> Result<(), Refusal>
     Ok(())
 }
 
-/// Whether the edit is accepted after the entries of the journal, which holds so many at most. Lines are read for an Update
-/// alone.
+/// Whether the edit is accepted after the entries of the journal, with these settings. Lines are read for an Update alone.
 #[tactic(auto, using(centre_past::proofs::ReadLemmas::reads_none))]
-fn look_at_edit(limit: u32, journal: &Journal, kept: &mut Kept, edit: &Edit) -> Result<(), Refusal>
-    ensures few { OnOk result (length journal.now.entries < limit) }
+fn look_at_edit(
+    settings: Settings,
+    journal: &Journal,
+    kept: &mut Kept,
+    edit: &Edit,
+) -> Result<(), Refusal>
+    ensures few { OnOk result (length journal.now.entries < settings.limit) }
     ensures number { OnOk result (length journal.now.folded + length journal.now.entries < 2 ^ 64 - 1) }
-    ensures verdict { (network : List ℕ) → IsWhole network journal.now.folded journal.now.entries kept.old → IsChecked (verdict (record { network = network; limit = limit }) (past_over journal.now.folded journal.now.entries) (event.Edit edit.now)) result }
+    ensures verdict { IsWhole settings.network journal.now.folded journal.now.entries kept.old → IsChecked (verdict settings (past_over journal.now.folded journal.now.entries) (event.Edit edit.now)) result }
     ensures reads { OnlyReadsIn kept.old kept.new }
-    ensures meter { (network : List ℕ) → IsWhole network journal.now.folded journal.now.entries kept.old → kept.new.tables.lines.meter ≤ kept.old.tables.lines.meter + size (edit_reach (past_of (journal.now.folded ++ journal.now.entries)) edit.now) }
+    ensures meter { IsWhole settings.network journal.now.folded journal.now.entries kept.old → kept.new.tables.lines.meter ≤ kept.old.tables.lines.meter + size (edit_reach (past_of (journal.now.folded ++ journal.now.entries)) edit.now) }
 {
-    if journal.is_full(limit) {
+    if journal.is_full(settings.limit) {
         return Err(Refusal::JournalFull);
     }
     check_edit(kept, edit)
 }
 
-/// Looks whether the edit is accepted after the entries of the journal, which holds so many at most and has room for one
-/// more then, and reads the lines on which it bears.
+/// Looks whether the edit is accepted after the entries of the journal, with these settings, makes room for one more entry,
+/// and reads the lines on which it bears.
 pub(crate) fn prepare_edit(
     alloc: Global,
-    limit: u32,
+    settings: Settings,
     journal: &mut Journal,
     kept: &mut Kept,
     edit: &Edit,
@@ -66,45 +71,44 @@ pub(crate) fn prepare_edit(
     ensures entries { journal.new.entries ≡ journal.old.entries }
     ensures unread { journal.new.reads ≡ journal.old.reads }
     ensures room { OnOk result (1 ≤ journal.new.room) }
-    ensures few { OnOk result (length journal.old.entries < limit) }
+    ensures few { OnOk result (length journal.old.entries < settings.limit) }
     ensures number { OnOk result (length journal.old.folded + length journal.old.entries < 2 ^ 64 - 1) }
     ensures reads { OnlyReadsIn kept.old kept.new }
-    ensures accepted { (network : List ℕ) → IsWhole network journal.old.folded journal.old.entries kept.old → OnOk result (IsOk (verdict (record { network = network; limit = limit }) (past_over journal.old.folded journal.old.entries) (event.Edit edit.now))) }
-    ensures refusal { (network : List ℕ) → IsWhole network journal.old.folded journal.old.entries kept.old → IfErr result (IsRefused (record { network = network; limit = limit }) (past_over journal.old.folded journal.old.entries) (event.Edit edit.now)) }
-    ensures reached { (network : List ℕ) → IsWhole network journal.old.folded journal.old.entries kept.old → (a : answer_spec.Answer) → verdict (record { network = network; limit = limit }) (past_over journal.old.folded journal.old.entries) (event.Edit edit.now) ≡ Ok a → IfOk result (λ x. WasReached (past_of (journal.old.folded ++ journal.old.entries)) (event.Edit edit.now) a x.spots.items x.lines) }
-    ensures meter { (network : List ℕ) → IsWhole network journal.old.folded journal.old.entries kept.old → kept.new.tables.lines.meter ≤ kept.old.tables.lines.meter + 3 * size (edit_reach (past_over journal.old.folded journal.old.entries) edit.now) }
+    ensures accepted { IsWhole settings.network journal.old.folded journal.old.entries kept.old → OnOk result (IsOk (verdict settings (past_over journal.old.folded journal.old.entries) (event.Edit edit.now))) }
+    ensures refusal { IsWhole settings.network journal.old.folded journal.old.entries kept.old → IfErr result (IsRefused settings (past_over journal.old.folded journal.old.entries) (event.Edit edit.now)) }
+    ensures reached { IsWhole settings.network journal.old.folded journal.old.entries kept.old → (a : answer_spec.Answer) → verdict settings (past_over journal.old.folded journal.old.entries) (event.Edit edit.now) ≡ Ok a → IfOk result (λ x. WasReached (past_of (journal.old.folded ++ journal.old.entries)) (event.Edit edit.now) a x.spots.items x.lines) }
+    ensures meter { IsWhole settings.network journal.old.folded journal.old.entries kept.old → kept.new.tables.lines.meter ≤ kept.old.tables.lines.meter + 3 * size (edit_reach (past_over journal.old.folded journal.old.entries) edit.now) }
 {
-    look_at_edit(limit, journal, kept, edit)?;
+    look_at_edit(settings, journal, kept, edit)?;
     make_room(journal)?;
     let reached = reached_by_edit(alloc, kept, edit)?;
     Ok(reached)
 }
 
-/// What an event that is no edit is answered after the entries of the journal, which holds so many at most. Lines are read
-/// for an Ask alone.
+/// What an event that is no edit is answered after the entries of the journal, with these settings. Lines are read for an
+/// Ask alone.
 #[tactic(auto, using(centre_past::proofs::ReadLemmas::reads_none))]
 fn look_at_other(
     alloc: Global,
-    network: [u8; 3],
-    limit: u32,
+    settings: Settings,
     journal: &Journal,
     kept: &mut Kept,
     event: &Event,
 ) -> Verdict
     requires other { is_edit event.now ≡ false }
-    ensures few { OnOk result (length journal.now.entries < limit) }
+    ensures few { OnOk result (length journal.now.entries < settings.limit) }
     ensures number { OnOk result (length journal.now.folded + length journal.now.entries < 2 ^ 64 - 1) }
-    ensures verdict { IsWhole network journal.now.folded journal.now.entries kept.old → Gives (verdict (record { network = network; limit = limit }) (past_over journal.now.folded journal.now.entries) event.now) result }
+    ensures verdict { IsWhole settings.network journal.now.folded journal.now.entries kept.old → Gives (verdict settings (past_over journal.now.folded journal.now.entries) event.now) result }
     ensures reads { OnlyReadsIn kept.old kept.new }
-    ensures meter { IsWhole network journal.now.folded journal.now.entries kept.old → kept.new.tables.lines.meter ≤ kept.old.tables.lines.meter + looked_at (past_of (journal.now.folded ++ journal.now.entries)) event.now }
+    ensures meter { IsWhole settings.network journal.now.folded journal.now.entries kept.old → kept.new.tables.lines.meter ≤ kept.old.tables.lines.meter + looked_at (past_of (journal.now.folded ++ journal.now.entries)) event.now }
 {
     tell_lines(kept.tables.lines());
     tell_known();
-    if journal.is_full(limit) {
+    if journal.is_full(settings.limit) {
         return Err(Refusal::JournalFull);
     }
     let place = journal.position() + 1;
-    events::answer(alloc, network, kept, place, event)
+    events::answer(alloc, settings.network, kept, place, event)
 }
 
 /// What is found of an event before it is entered.
@@ -135,12 +139,11 @@ fn reach_with_room(
     Ok(reached)
 }
 
-/// Finds what an event that is no edit is answered after the entries of the journal, which holds so many at most and has
-/// room for one more then, and on which lines it bears. Lines are read for an Ask alone.
+/// Finds what an event that is no edit is answered after the entries of the journal, with these settings, makes room for one
+/// more entry, and finds on which lines it bears. Lines are read for an Ask alone.
 pub(crate) fn prepare_other(
     alloc: Global,
-    network: [u8; 3],
-    limit: u32,
+    settings: Settings,
     journal: &mut Journal,
     kept: &mut Kept,
     event: &Event,
@@ -150,15 +153,15 @@ pub(crate) fn prepare_other(
     ensures entries { journal.new.entries ≡ journal.old.entries }
     ensures unread { journal.new.reads ≡ journal.old.reads }
     ensures room { OnOk result (1 ≤ journal.new.room) }
-    ensures few { OnOk result (length journal.old.entries < limit) }
+    ensures few { OnOk result (length journal.old.entries < settings.limit) }
     ensures number { OnOk result (length journal.old.folded + length journal.old.entries < 2 ^ 64 - 1) }
     ensures reads { OnlyReadsIn kept.old kept.new }
-    ensures verdict { IsWhole network journal.old.folded journal.old.entries kept.old → IfOk result (λ x. verdict (record { network = network; limit = limit }) (past_over journal.old.folded journal.old.entries) event.now ≡ Ok x.answer) }
-    ensures refusal { IsWhole network journal.old.folded journal.old.entries kept.old → IfErr result (IsRefused (record { network = network; limit = limit }) (past_over journal.old.folded journal.old.entries) event.now) }
-    ensures reached { IsWhole network journal.old.folded journal.old.entries kept.old → IfOk result (λ x. WasReached (past_of (journal.old.folded ++ journal.old.entries)) event.now x.answer x.reached.spots.items x.reached.lines) }
-    ensures meter { IsWhole network journal.old.folded journal.old.entries kept.old → kept.new.tables.lines.meter ≤ kept.old.tables.lines.meter + looked_at (past_of (journal.old.folded ++ journal.old.entries)) event.now }
+    ensures verdict { IsWhole settings.network journal.old.folded journal.old.entries kept.old → IfOk result (λ x. verdict settings (past_over journal.old.folded journal.old.entries) event.now ≡ Ok x.answer) }
+    ensures refusal { IsWhole settings.network journal.old.folded journal.old.entries kept.old → IfErr result (IsRefused settings (past_over journal.old.folded journal.old.entries) event.now) }
+    ensures reached { IsWhole settings.network journal.old.folded journal.old.entries kept.old → IfOk result (λ x. WasReached (past_of (journal.old.folded ++ journal.old.entries)) event.now x.answer x.reached.spots.items x.reached.lines) }
+    ensures meter { IsWhole settings.network journal.old.folded journal.old.entries kept.old → kept.new.tables.lines.meter ≤ kept.old.tables.lines.meter + looked_at (past_of (journal.old.folded ++ journal.old.entries)) event.now }
 {
-    let answer = look_at_other(alloc, network, limit, journal, kept, event)?;
+    let answer = look_at_other(alloc, settings, journal, kept, event)?;
     let reached = reach_with_room(alloc, journal, kept, event, &answer);
     match reached {
         Ok(reached) => Ok(Found { answer, reached }),

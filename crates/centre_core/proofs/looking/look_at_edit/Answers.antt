@@ -9,28 +9,28 @@ use Rattle.centre_core.proofs.looking.look_at_edit.Goals as goal
 pub returns-then-is_full-clause-verdict : goal.returns-then-is_full-clause-verdict
 returns-then-is_full-clause-verdict c =
     let none : c.is_full.result ≡ true = search rules in
-    λ network centre. full (record { network = network; limit = c.args.limit }) c.args.journal.now.folded c.args.journal.now.entries (event.Edit c.args.edit.now) (sym c.is_full.ensures ∙ none)
+    λ centre. full c.args.settings c.args.journal.now.folded c.args.journal.now.entries (event.Edit c.args.edit.now) (sym c.is_full.ensures ∙ none)
 
 pub returns-clause-few : goal.returns-clause-few
 returns-clause-few c =
     let room : c.is_full.result ≡ false = search rules in
-    anyway c.check_edit.result (few_of c.args.limit (length c.args.journal.now.entries) (length c.args.journal.now.folded + length c.args.journal.now.entries) (sym c.is_full.ensures ∙ room))
+    anyway c.check_edit.result (few_of c.args.settings.limit (length c.args.journal.now.entries) (length c.args.journal.now.folded + length c.args.journal.now.entries) (sym c.is_full.ensures ∙ room))
 
 pub returns-clause-number : goal.returns-clause-number
 returns-clause-number c =
     let room : c.is_full.result ≡ false = search rules in
-    anyway c.check_edit.result (number_of c.args.limit (length c.args.journal.now.entries) (length c.args.journal.now.folded + length c.args.journal.now.entries) (sym c.is_full.ensures ∙ room))
+    anyway c.check_edit.result (number_of c.args.settings.limit (length c.args.journal.now.entries) (length c.args.journal.now.folded + length c.args.journal.now.entries) (sym c.is_full.ensures ∙ room))
 
 pub returns-clause-verdict : goal.returns-clause-verdict
 returns-clause-verdict c =
     let room : c.is_full.result ≡ false = search rules in
     let is = sym c.is_full.ensures ∙ room in
-    λ network centre.
-    checked_there (record { network = network; limit = c.args.limit }) c.args.journal.now.folded c.args.journal.now.entries (event.Edit c.args.edit.now) c.check_edit.result
-    (few_of c.args.limit (length c.args.journal.now.entries) (length c.args.journal.now.folded + length c.args.journal.now.entries) is) (number_of c.args.limit (length c.args.journal.now.entries) (length c.args.journal.now.folded + length c.args.journal.now.entries) is)
-    (c.check_edit.ensures.checked (lasting network) (past_of (c.args.journal.now.folded ++ c.args.journal.now.entries)) centre.legal centre.kept)
+    λ centre.
+    checked_there c.args.settings c.args.journal.now.folded c.args.journal.now.entries (event.Edit c.args.edit.now) c.check_edit.result
+    (few_of c.args.settings.limit (length c.args.journal.now.entries) (length c.args.journal.now.folded + length c.args.journal.now.entries) is) (number_of c.args.settings.limit (length c.args.journal.now.entries) (length c.args.journal.now.folded + length c.args.journal.now.entries) is)
+    (c.check_edit.ensures.checked (lasting c.args.settings.network) (past_of (c.args.journal.now.folded ++ c.args.journal.now.entries)) centre.legal centre.kept)
 
 pub returns-clause-meter : goal.returns-clause-meter
 returns-clause-meter c =
-    λ network centre.
-    c.check_edit.ensures.meter (lasting network) (past_of (c.args.journal.now.folded ++ c.args.journal.now.entries)) centre.legal centre.kept
+    λ centre.
+    c.check_edit.ensures.meter (lasting c.args.settings.network) (past_of (c.args.journal.now.folded ++ c.args.journal.now.entries)) centre.legal centre.kept

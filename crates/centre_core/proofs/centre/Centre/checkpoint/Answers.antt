@@ -8,12 +8,12 @@ use Rattle.centre_core.proofs.centre.Centre.checkpoint.Goals as goal
 pub invariant_of-self : goal.invariant_of-self
 invariant_of-self c =
     let whole : c.self.inside.stale ≡ false = search rules in
-    centre_folded (record { network = c.self.inside.plmn; limit = c.self.inside.limit }) c.self.inside.journal.folded c.self.inside.journal.entries c.clear.new.self.folded c.clear.new.self.entries c.self.inside.stale c.self.inside.base c.in_ok-base.base c.self.inside.kept c.self.invariant c.clear.ensures.folded c.clear.ensures.entries
+    centre_folded c.self.invariant c.clear.ensures.folded c.clear.ensures.entries
     (c.in_ok-base.ensures.kept (past_of (c.self.inside.journal.folded ++ c.self.inside.journal.entries)) (c.self.invariant.whole whole))
 
 pub returns-clause-same : goal.returns-clause-same
-returns-clause-same c = rw (← c.self.view_is) (folded_same c.self.inside.journal.folded c.self.inside.journal.entries c.clear.new.self.folded c.clear.new.self.entries c.clear.ensures.folded c.clear.ensures.entries)
+returns-clause-same c = rw (← c.self.view_is) (folded_same c.self.inside.journal.folded c.self.inside.journal.entries c.clear.ensures.folded c.clear.ensures.entries)
 
 pub returns-clause-says : goal.returns-clause-says
 returns-clause-says c =
-    rw (← c.self.view_is) (says_the_same (past_over c.clear.new.self.folded c.clear.new.self.entries) (past_over c.self.inside.journal.folded c.self.inside.journal.entries) (folded_same c.self.inside.journal.folded c.self.inside.journal.entries c.clear.new.self.folded c.clear.new.self.entries c.clear.ensures.folded c.clear.ensures.entries))
+    rw (← c.self.view_is) (says_the_same (past_over c.clear.new.self.folded c.clear.new.self.entries) (past_over c.self.inside.journal.folded c.self.inside.journal.entries) (folded_same c.self.inside.journal.folded c.self.inside.journal.entries c.clear.ensures.folded c.clear.ensures.entries))

@@ -6,12 +6,12 @@ use Rattle.centre_core.proofs.centre.Centre.failed_rows.Goals as goal
 
 pub invariant_of-self : goal.invariant_of-self
 invariant_of-self c =
-    centre_reads (record { network = c.self.inside.plmn; limit = c.self.inside.limit }) c.self.inside.journal.folded c.self.inside.journal.entries c.self.inside.stale c.self.inside.base c.self.inside.kept _ c.self.invariant
+    centre_reads c.self.invariant
     (record { plan = refl; links = refl; tables = reads_as c.self.inside.kept.tables c.failed.new.tables (c.failed.ensures.kept c.self.inside.kept.tables (as_itself c.self.inside.kept.tables)) })
 
 pub invariant_of-self-2 : goal.invariant_of-self-2
 invariant_of-self-2 c =
-    centre_reads (record { network = c.self.inside.plmn; limit = c.self.inside.limit }) c.self.inside.journal.folded c.self.inside.journal.entries c.self.inside.stale c.self.inside.base c.self.inside.kept _ c.self.invariant
+    centre_reads c.self.invariant
     (record { plan = refl; links = refl; tables = reads_as c.self.inside.kept.tables c.failed.new.tables (c.failed.ensures.kept c.self.inside.kept.tables (as_itself c.self.inside.kept.tables)) })
 
 pub returns-clause-least : goal.returns-clause-least
