@@ -129,7 +129,7 @@ pub whole_centre : {settings : Settings} {xs ys : List Entry} {stale : Bool} {b 
 whole_centre sound h = record { legal = sound.legal; kept = sound.whole h }
 
 -- what is seen of a centre says whether it is stale
-pub not_stale : {c now : CentreState} → c ≡ now → now.known.stale ≡ false → c.known.stale ≡ false
+pub not_stale : {seen now : CentreState} → seen ≡ now → now.known.stale ≡ false → seen.known.stale ≡ false
 not_stale same h = ap (λ (v : CentreState). v.known.stale) same ∙ h
 
 -- What is found before an edit is made.

@@ -52,13 +52,11 @@ has_room : (limit many number : ℕ) → many < limit → number < 2 ^ 64 - 1 �
 has_room limit many number few low =
     ap (λ t. t || nat_le last_position number) (lt-leb limit many few) ∙ lt-leb last_position number (omega (arith, low))
 
-pub few_of : (limit many number : ℕ) → (nat_le limit many || nat_le last_position number) ≡ false → many < limit
-few_of limit many number h = leb-false limit many (or_parts (nat_le limit many) (nat_le last_position number) h).0
-
-pub number_of : (limit many number : ℕ) → (nat_le limit many || nat_le last_position number) ≡ false → number < 2 ^ 64 - 1
-number_of limit many number h =
-    let low : number < last_position = leb-false last_position number (or_parts (nat_le limit many) (nat_le last_position number) h).1 in
-    omega (arith, low)
+pub room_of : (limit many number : ℕ) → (nat_le limit many || nat_le last_position number) ≡ false → (many < limit) × (number < 2 ^ 64 - 1)
+room_of limit many number h =
+    let both = or_parts (nat_le limit many) (nat_le last_position number) h in
+    let low : number < last_position = leb-false last_position number both.1 in
+    (leb-false limit many both.0, omega (arith, low))
 
 -- What an event is answered.
 

@@ -1,14 +1,14 @@
 //! What is looked at before an event is entered. Nothing is changed but room in the journal, and how often lines were
 //! read.
 
-ghost use Rattle.std.specs.Prelude.{◌≡◌, ◌<◌, ◌≤◌, ◌+◌, ◌-◌, ◌*◌, ◌^◌, ◌++◌, List, ℕ, length, false, Ok, IfOk, IfErr, IsOk, OnOk};
+ghost use Rattle.std.specs.Prelude.{◌≡◌, ◌<◌, ◌≤◌, ◌+◌, ◌-◌, ◌*◌, ◌^◌, ◌++◌, length, false, Ok, IfOk, IfErr, IsOk, OnOk};
 ghost use Rattle.centre_core.specs.Centre.{IsRefused, IsWhole, past_over};
 ghost use Rattle.centre_lines.specs.Following.{WasReached};
 ghost use Rattle.centre_past.specs.IsKept.{IsKept, OnlyReadsIn};
 ghost use Rattle.centre_past.specs.Legal.{Legal};
 ghost use Rattle.centre_events.specs.Kept.{Gives, IsChecked, is_edit};
 ghost use Rattle.centre_events.specs.Past.{Past, past_of};
-ghost use Rattle.centre_past.specs.Reach.{edit_reach, looked_at, reach, reach_of, size};
+ghost use Rattle.centre_past.specs.Reach.{edit_reach, looked_at, size};
 ghost use Rattle.centre_events.specs.Verdict.{answered, verdict};
 ghost use Rattle.centre_events.specs.declared.answer.Answer as answer_spec;
 ghost use Rattle.centre_events.specs.declared.event.Event.TheVariants as event;

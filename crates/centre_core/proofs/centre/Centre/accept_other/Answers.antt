@@ -1,4 +1,4 @@
-use Rattle.std.proofs.Common.{◌≡◌, ◌≤◌, ◌+◌, ◌*◌, ◌∙◌, ◌++◌, ◌∷◌, [], Err, refl, sym, ap, subst}
+use Rattle.std.proofs.Common.{◌≤◌, ◌+◌, ◌*◌, ◌∙◌, ◌++◌, ◌∷◌, [], Err, refl, sym, ap, subst}
 use Rattle.std.specs.Prelude.{IsOk}
 use Rattle.centre_core.specs.Centre.{IsWhole, past_over}
 use Rattle.centre_events.specs.Past.{past_of}
