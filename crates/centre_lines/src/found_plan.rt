@@ -134,8 +134,8 @@ impl<'a> FoundPlan<'a> {
         self.parts.book
     }
 
-    /// Those of the areas of the warning, which has that number, that cover the cell. What the areas cover is kept for its other
-    /// lines.
+    /// Those of the areas of the warning, which has that number, that cover the cell. What the areas cover is kept for its
+    /// other lines.
     #[inline(always)]
     pub(crate) fn covering<'b>(
         &mut self,

@@ -61,7 +61,8 @@ fn reached_at_spots(alloc: Global, kept: &mut Kept, edit: &Edit) -> Result<Reach
     })
 }
 
-/// Those that a Forget may change: those of its warning that aren't blank, whatever cells it bears on. It brings no cell down or up.
+/// Those that a Forget may change: those of its warning that aren't blank, whatever cells it bears on. It brings no cell down
+/// or up.
 fn reached_by_forget(
     alloc: Global,
     kept: &mut Kept,
@@ -84,7 +85,8 @@ fn reached_by_forget(
     })
 }
 
-/// Whether the edit bears on no line: it changes what an area covers that no warning names, or a cell while there is no warning.
+/// Whether the edit bears on no line: it changes what an area covers that no warning names, or a cell while there is no
+/// warning.
 fn bears_on_none(book: &Book, edit: &Edit) -> bool
     ensures { result ≡ bears_on_none book.now edit.now }
 {

@@ -245,8 +245,8 @@ pub(crate) fn near(
     })
 }
 
-/// Reads the lines of those of the warnings that are near the cell at the BSC, and keeps how those stand that are not passed over. The
-/// lines of the others are idle.
+/// Reads the lines of those of the warnings that are near the cell at the BSC, and keeps how those stand that are not passed
+/// over. The lines of the others are idle.
 fn read_near(
     out: &mut Vec<LineBefore>,
     plan: &mut FoundPlan<'_>,
