@@ -10,7 +10,6 @@ use centre_events::answer::Answer;
 use centre_events::event::Event;
 use centre_events::stepping::Happening;
 use centre_lines::following::bear;
-use centre_lines::plan_parts::PlanParts;
 use centre_past::kept::Kept;
 use centre_past::links::{self, flight_of};
 use std::alloc::{AllocError, Global};
@@ -35,8 +34,7 @@ pub(crate) fn finish<'x>(
         up,
         flight: flight_of(kept.links.as_slice(), event),
     };
-    let parts = PlanParts::of(&kept.plan);
-    bear(alloc, &h, &parts, &mut kept.tables, reached)?;
+    bear(alloc, &h, &kept.plan, &mut kept.tables, reached)?;
     links::follow(alloc, &mut kept.links, event, answer, place)?;
     Ok(())
 }

@@ -1,10 +1,8 @@
 -- What is kept after an accepted event is what the past with its entry says.
 use Rattle.std.proofs.Common.{◌≡◌, ℕ, ◌+◌, Bool, List, Option, Some, None, refl, sym, ◌∙◌, ap, subst}
-use Rattle.coverage_plan.specs.Plan.{State}
 use Rattle.kept_tables.specs.declared.spot.Spot.{Spot}
 use Rattle.centre_past.specs.Links.{AreLinksOf, flight_at, flight_kept, links_after}
 use Rattle.centre_lines.specs.Following.{Finishes, Made, flight_before, flight_to}
-use Rattle.centre_events.specs.Kept.{IsRegisterOf, AreAreasOf}
 use Rattle.centre_events.specs.Links.{bsc_of}
 use Rattle.centre_events.specs.Past.{Past, After, position}
 use Rattle.centre_past.specs.Legal.{Legal}
@@ -25,17 +23,17 @@ flight_is past ls e linked = step (bsc_of e)
     step None = refl
     step (Some b) = linked.flights b
 
--- what is known before the lines are changed, by the plan that is kept
-abbrev pub made_of : (s : Kept) (p : State) (e : Event) (a : Answer) (place : ℕ) (up : Bool) (spots : List Spot) (earlier : LinesBefore) (f : Option InFlight) (ls : List Link) → Finishes s e a place up spots earlier → p ≡ s.plan → ls ≡ s.links.items → f ≡ flight_kept ls e → Made p.register p.areas p.book s.tables (record { event = e; answer = a; up = up; flight = f }) spots earlier
-made_of s p e a place up spots earlier f ls x planned these is = record {
+-- what is known before the lines are changed
+abbrev pub made_of : (s : Kept) (e : Event) (a : Answer) (place : ℕ) (up : Bool) (spots : List Spot) (earlier : LinesBefore) (f : Option InFlight) (ls : List Link) → Finishes s e a place up spots earlier → ls ≡ s.links.items → f ≡ flight_kept ls e → Made s.plan.register s.plan.areas s.plan.book s.tables (record { event = e; answer = a; up = up; flight = f }) spots earlier
+made_of s e a place up spots earlier f ls x these is = record {
   settings = x.settings;
   past = x.past;
   desk = x.desk;
   legal = x.legal;
   accepted = x.accepted;
-  registered = subst (λ (q : State). IsRegisterOf (After (record { desk = x.desk; event = e; answer = a }) x.past) q.register) (sym planned) x.registered;
-  selected = subst (λ (q : State). AreAreasOf (After (record { desk = x.desk; event = e; answer = a }) x.past) q.areas) (sym planned) x.selected;
-  booked = ap (λ (q : State). q.book) planned ∙ x.booked;
+  registered = x.registered;
+  selected = x.selected;
+  booked = x.booked;
   up = x.is_up;
   flight = is ∙ ap (λ xs. flight_kept xs e) these ∙ flight_is x.past s.links.items e x.linked;
   downs = x.downs;

@@ -7,7 +7,6 @@ use Rattle.common.specs.declared.cell.Cell.{Cell}
 use Rattle.coverage_board.specs.AreaSets.{mask, names_at}
 use Rattle.coverage_board.specs.Parts.{has_areas}
 use Rattle.coverage_board.specs.declared.area_bits.AreaBits.{AreaBits}
-use Rattle.coverage_plan.specs.Plan as plan
 use Rattle.kept_tables.specs.Facts.{no_facts}
 use Rattle.kept_tables.specs.declared.line_facts.LineFacts.{LineFacts}
 use Rattle.mirror.specs.declared.line.Line.{Line}
@@ -16,11 +15,6 @@ use Rattle.warning_book.specs.Book.{current_of, warning_of}
 use Rattle.warning_book.specs.declared.warning.Warning.{Warning}
 use Rattle.centre_events.specs.Warnings.{serials}
 use Rattle.centre_lines.specs.declared.known_spot.KnownSpot.{KnownSpot}
-use Rattle.centre_lines.specs.declared.plan_parts.PlanParts.{PlanParts}
-
--- the plan of these parts
-abbrev pub plan_from : PlanParts → plan.State
-plan_from parts = record { register = parts.register.now; areas = parts.areas.now; book = parts.book.now }
 
 -- what is read of a warning for its lines
 pub record WarningHead : Type 0 where

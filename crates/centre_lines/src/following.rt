@@ -20,12 +20,11 @@ use crate::found_plan::FoundPlan;
 use crate::line_before::LineBefore;
 use crate::line_in_cell::LineInCell;
 use crate::lines_before::LinesBefore;
-use crate::plan_parts::PlanParts;
 use crate::reached::Reached;
 use crate::walking::walk;
 use centre_events::event::Event;
 use centre_events::stepping::{Happening, step_line};
-use coverage_plan::Edit;
+use coverage_plan::{Edit, Plan};
 use kept_tables::{KeptTables, LineFacts, Spot, Stays};
 use mirror::{Line, LineKey};
 use std::alloc::{AllocError, Global};
@@ -207,39 +206,39 @@ fn change_lines<'b>(
 fn follow_edit<'b>(
     alloc: Global,
     h: &Happening<'_, '_>,
-    parts: PlanParts<'b>,
+    plan: &'b Plan,
     tables: &mut KeptTables,
     spots: &[Spot],
     earlier: &'b [LineBefore],
 ) -> Result<(), AllocError>
-    requires made { MadeEdit parts.register.now parts.areas.now parts.book.now tables.old (happens h.now) spots.now earlier.now }
-    ensures tables { OnOk result ((x : MadeEdit parts.entry.register.now parts.entry.areas.now parts.entry.book.now tables.old (happens h.now) spots.now earlier.now) → Consistent tables.new (facts (After (entry_of x.desk (happens h.now)) x.past))) }
-    ensures downs { OnOk result ((x : MadeEdit parts.entry.register.now parts.entry.areas.now parts.entry.book.now tables.old (happens h.now) spots.now earlier.now) → (k : Kind) (b : ℕ) (c : Cell) → down_at tables.new.lines k b c ≡ is_down (After (entry_of x.desk (happens h.now)) x.past) k b c) }
+    requires made { MadeEdit plan.now.register plan.now.areas plan.now.book tables.old (happens h.now) spots.now earlier.now }
+    ensures tables { OnOk result ((x : MadeEdit plan.now.register plan.now.areas plan.now.book tables.old (happens h.now) spots.now earlier.now) → Consistent tables.new (facts (After (entry_of x.desk (happens h.now)) x.past))) }
+    ensures downs { OnOk result ((x : MadeEdit plan.now.register plan.now.areas plan.now.book tables.old (happens h.now) spots.now earlier.now) → (k : Kind) (b : ℕ) (c : Cell) → down_at tables.new.lines k b c ≡ is_down (After (entry_of x.desk (happens h.now)) x.past) k b c) }
     ensures meter { tables.new.lines.meter ≤ tables.old.lines.meter + length earlier.now }
     ensures least { tables.old.lines.meter ≤ tables.new.lines.meter }
 {
     mark_downs(tables, spots, h.event, h.answer)?;
-    let mut plan = FoundPlan::new(alloc, &parts);
-    change_lines(h, &mut plan, tables, earlier)
+    let mut found = FoundPlan::new(alloc, plan);
+    change_lines(h, &mut found, tables, earlier)
 }
 
 /// Changes the lines by another event, each as it is read, and then brings the cells down or up that the event brings so.
 fn follow_other(
     alloc: Global,
     h: &Happening<'_, '_>,
-    parts: PlanParts<'_>,
+    plan: &Plan,
     tables: &mut KeptTables,
     spots: &[Spot],
     warnings: &[WarningId],
 ) -> Result<(), AllocError>
-    requires made { MadeOther parts.register.now parts.areas.now parts.book.now tables.old (happens h.now) spots.now warnings.now }
-    ensures tables { OnOk result ((x : MadeOther parts.entry.register.now parts.entry.areas.now parts.entry.book.now tables.old (happens h.now) spots.now warnings.now) → Consistent tables.new (facts (After (entry_of x.desk (happens h.now)) x.past))) }
-    ensures downs { OnOk result ((x : MadeOther parts.entry.register.now parts.entry.areas.now parts.entry.book.now tables.old (happens h.now) spots.now warnings.now) → (k : Kind) (b : ℕ) (c : Cell) → down_at tables.new.lines k b c ≡ is_down (After (entry_of x.desk (happens h.now)) x.past) k b c) }
-    ensures meter { tables.new.lines.meter ≤ tables.old.lines.meter + 3 * (length spots.now * length (bearing h.now.event.now h.now.answer.now parts.entry.book.now warnings.now)) }
+    requires made { MadeOther plan.now.register plan.now.areas plan.now.book tables.old (happens h.now) spots.now warnings.now }
+    ensures tables { OnOk result ((x : MadeOther plan.now.register plan.now.areas plan.now.book tables.old (happens h.now) spots.now warnings.now) → Consistent tables.new (facts (After (entry_of x.desk (happens h.now)) x.past))) }
+    ensures downs { OnOk result ((x : MadeOther plan.now.register plan.now.areas plan.now.book tables.old (happens h.now) spots.now warnings.now) → (k : Kind) (b : ℕ) (c : Cell) → down_at tables.new.lines k b c ≡ is_down (After (entry_of x.desk (happens h.now)) x.past) k b c) }
+    ensures meter { tables.new.lines.meter ≤ tables.old.lines.meter + 3 * (length spots.now * length (bearing h.now.event.now h.now.answer.now plan.now.book warnings.now)) }
     ensures least { tables.old.lines.meter ≤ tables.new.lines.meter }
 {
-    let mut plan = FoundPlan::new(alloc, &parts);
-    walk(h, &mut plan, tables, spots, warnings)?;
+    let mut found = FoundPlan::new(alloc, plan);
+    walk(h, &mut found, tables, spots, warnings)?;
     mark_downs(tables, spots, h.event, h.answer)
 }
 
@@ -248,30 +247,23 @@ fn follow_other(
 pub fn bear(
     alloc: Global,
     h: &Happening<'_, '_>,
-    parts: &PlanParts<'_>,
+    plan: &Plan,
     tables: &mut KeptTables,
     reached: Reached,
 ) -> Result<(), AllocError>
-    requires made { Made parts.now.register.now parts.now.areas.now parts.now.book.now tables.old (happens h.now) reached.spots.items reached.lines }
-    ensures tables { OnOk result ((x : Made parts.now.register.now parts.now.areas.now parts.now.book.now tables.old (happens h.now) reached.spots.items reached.lines) → Consistent tables.new (facts (After (entry_of x.desk (happens h.now)) x.past))) }
-    ensures downs { OnOk result ((x : Made parts.now.register.now parts.now.areas.now parts.now.book.now tables.old (happens h.now) reached.spots.items reached.lines) → (k : Kind) (b : ℕ) (c : Cell) → down_at tables.new.lines k b c ≡ is_down (After (entry_of x.desk (happens h.now)) x.past) k b c) }
-    ensures meter { tables.new.lines.meter ≤ tables.old.lines.meter + most_accesses h.now.event.now h.now.answer.now parts.now.book.now reached.spots.items reached.lines }
+    requires made { Made plan.now.register plan.now.areas plan.now.book tables.old (happens h.now) reached.spots.items reached.lines }
+    ensures tables { OnOk result ((x : Made plan.now.register plan.now.areas plan.now.book tables.old (happens h.now) reached.spots.items reached.lines) → Consistent tables.new (facts (After (entry_of x.desk (happens h.now)) x.past))) }
+    ensures downs { OnOk result ((x : Made plan.now.register plan.now.areas plan.now.book tables.old (happens h.now) reached.spots.items reached.lines) → (k : Kind) (b : ℕ) (c : Cell) → down_at tables.new.lines k b c ≡ is_down (After (entry_of x.desk (happens h.now)) x.past) k b c) }
+    ensures meter { tables.new.lines.meter ≤ tables.old.lines.meter + most_accesses h.now.event.now h.now.answer.now plan.now.book reached.spots.items reached.lines }
     ensures least { tables.old.lines.meter ≤ tables.new.lines.meter }
 {
     let Reached { spots, lines } = reached;
     match lines {
         LinesBefore::Read(earlier) => {
-            follow_edit(
-                alloc,
-                h,
-                *parts,
-                tables,
-                spots.as_slice(),
-                earlier.as_slice(),
-            )
+            follow_edit(alloc, h, plan, tables, spots.as_slice(), earlier.as_slice())
         }
         LinesBefore::Unread(named) => {
-            follow_other(alloc, h, *parts, tables, spots.as_slice(), named.as_slice())
+            follow_other(alloc, h, plan, tables, spots.as_slice(), named.as_slice())
         }
     }
 }

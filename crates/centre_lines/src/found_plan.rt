@@ -2,16 +2,16 @@
 
 ghost use Rattle.std.specs.Prelude.{◌≡◌, ◌<◌, Some, nat_eq, true, length, IfOk, IfSome};
 ghost use Rattle.std.specs.List.{slice_index_or};
-ghost use Rattle.centre_lines.specs.Found.{AreFound, Found, IsOf, plan_from};
+ghost use Rattle.centre_lines.specs.Found.{AreFound, Found, IsOf};
 ghost use Rattle.warning_book.specs.Book.{warning_of};
 
 use crate::facts_before::FactsBefore;
 use crate::found_warning::FoundWarning;
 use crate::line_in_cell::LineInCell;
-use crate::plan_parts::PlanParts;
 use areas::Areas;
 use common::Cell;
 use coverage_board::AreaSet;
+use coverage_plan::Plan;
 use kept_tables::Spot;
 use std::alloc::{AllocError, Global};
 use std::marker::Model;
@@ -53,7 +53,7 @@ fn place_of(found: &[FoundWarning<'_>], last: usize, n: WarningId) -> Option<usi
 #[derive(Drop)]
 pub(crate) struct FoundPlan<'a> {
     alloc: Global,
-    parts: PlanParts<'a>,
+    plan: &'a Plan,
     found: Vec<FoundWarning<'a>>,
     last: usize,
     near: usize,
@@ -61,13 +61,13 @@ pub(crate) struct FoundPlan<'a> {
 
 impl<'a> Model for FoundPlan<'a> {
     ghost use Rattle.coverage_plan.specs.Plan.{State};
-    ghost use Rattle.centre_lines.specs.Found.{AreFound, plan_from};
+    ghost use Rattle.centre_lines.specs.Found.{AreFound};
 
     ghost Value = { State };
 
-    ghost view = { λ p. plan_from p.parts };
+    ghost view = { λ p. p.plan.now };
 
-    ghost invariant = { λ p. AreFound p.parts.areas.now p.parts.book.now p.found.items };
+    ghost invariant = { λ p. AreFound p.plan.now.areas p.plan.now.book p.found.items };
 }
 
 /// Where what was read once of the warning stands, which has that number. It is read and put last where it isn't there.
@@ -75,24 +75,24 @@ impl<'a> Model for FoundPlan<'a> {
 fn place_in<'a>(
     found: &mut Vec<FoundWarning<'a>>,
     alloc: Global,
-    parts: &PlanParts<'a>,
+    plan: &'a Plan,
     last: usize,
     n: WarningId,
     w: &Warning,
 ) -> Result<usize, AllocError>
-    requires there { Some w.now ≡ warning_of parts.now.book.now n }
-    requires found { AreFound parts.now.areas.now parts.now.book.now found.old.items }
-    ensures found { AreFound parts.now.areas.now parts.now.book.now found.new.items }
+    requires there { Some w.now ≡ warning_of plan.now.book n }
+    requires found { AreFound plan.now.areas plan.now.book found.old.items }
+    ensures found { AreFound plan.now.areas plan.now.book found.new.items }
     ensures bound { IfOk result (λ i. i < length found.new.items) }
     ensures number { IfOk result (λ i. (d : Found) → nat_eq n (slice_index_or found.new.items i d).warning ≡ true) }
-    ensures place { IfOk result (λ i. (d : Found) → IsOf parts.now.areas.now (Some w.now) (slice_index_or found.new.items i d)) }
+    ensures place { IfOk result (λ i. (d : Found) → IsOf plan.now.areas (Some w.now) (slice_index_or found.new.items i d)) }
 {
     if let Some(place) = place_of(found, last, n) {
         return Ok(place);
     }
-    parts.book.tell_soundness();
+    plan.book().tell_soundness();
     let place = found.len();
-    found.push(FoundWarning::of(alloc, parts.areas, n, w)?)?;
+    found.push(FoundWarning::of(alloc, plan.areas(), n, w)?)?;
     Ok(place)
 }
 
@@ -100,17 +100,16 @@ impl<'a> FoundPlan<'a> {
     ghost use Rattle.std.specs.Prelude.{◌≡◌, Some, filter, IfOk};
     ghost use Rattle.areas.specs.Areas.{covers};
     ghost use Rattle.cell_register.specs.Register.{place_in, is_place};
-    ghost use Rattle.centre_lines.specs.Found.{plan_from};
     ghost use Rattle.centre_past.specs.State.{facts_from};
     ghost use Rattle.warning_book.specs.Book.{warning_of};
 
     /// The plan, where nothing was read of any warning.
-    pub(crate) fn new(alloc: Global, parts: &PlanParts<'a>) -> FoundPlan<'a>
-        ensures { result ≡ plan_from parts.now }
+    pub(crate) fn new(alloc: Global, plan: &'a Plan) -> FoundPlan<'a>
+        ensures { result ≡ plan.now }
     {
         FoundPlan {
             alloc,
-            parts: *parts,
+            plan,
             found: Vec::new(alloc),
             last: 0,
             near: 0,
@@ -125,13 +124,13 @@ impl<'a> FoundPlan<'a> {
     pub(crate) fn areas(&self) -> &'a Areas
         ensures { result.now ≡ self.now.areas }
     {
-        self.parts.areas
+        self.plan.areas()
     }
 
     pub(crate) fn book(&self) -> &'a Book
         ensures { result.now ≡ self.now.book }
     {
-        self.parts.book
+        self.plan.book()
     }
 
     /// Those of the areas of the warning, which has that number, that cover the cell. What the areas cover is kept for its
@@ -147,8 +146,8 @@ impl<'a> FoundPlan<'a> {
         ensures covering { IfOk result (λ names. names ≡ filter (λ a. covers self.old.areas a c) w.now.areas) }
         ensures same { self.new ≡ self.old }
     {
-        self.parts.book.tell_soundness();
-        let place = place_in(&mut self.found, self.alloc, &self.parts, self.last, n, w)?;
+        self.plan.book().tell_soundness();
+        let place = place_in(&mut self.found, self.alloc, self.plan, self.last, n, w)?;
         self.last = place;
         let digits = self.found[place].digits(c);
         Ok(AreaSet::of(w.areas(), digits))
@@ -167,8 +166,8 @@ impl<'a> FoundPlan<'a> {
         ensures same { self.new ≡ self.old }
     {
         let here = self.is_here(&there.spot);
-        self.parts.book.tell_soundness();
-        let place = place_in(&mut self.found, self.alloc, &self.parts, self.last, n, w)?;
+        self.plan.book().tell_soundness();
+        let place = place_in(&mut self.found, self.alloc, self.plan, self.last, n, w)?;
         self.last = place;
         let found = &mut self.found[place];
         let digits = found.digits(there.spot.cell);
@@ -182,7 +181,7 @@ impl<'a> FoundPlan<'a> {
         ensures here { result ≡ is_place (place_in self.old.register spot.now.cell) spot.now.bsc }
         ensures same { self.new ≡ self.old }
     {
-        match self.parts.register.bsc_near(spot.cell, &mut self.near) {
+        match self.plan.register().bsc_near(spot.cell, &mut self.near) {
             Some(other) => other == spot.bsc,
             None => false,
         }

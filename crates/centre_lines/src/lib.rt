@@ -1,8 +1,8 @@
 //! The lines on which an event bears: which they are, how they stand before it, and how they follow it.
 //!
 //! Begin with `reach`, then `reached`, which reads the lines of an edit before it, and `following`, which changes the lines.
-//! `facts_before`, `following`, `line_before`, `lines_before`, `plan_parts` and `reached` are public only for `centre_core`, where
-//! the events are entered.
+//! `facts_before`, `following`, `line_before`, `lines_before` and `reached` are public only for `centre_core`, where the events
+//! are entered.
 #![tactic(auto)]
 
 mod before_lemmas;
@@ -19,7 +19,6 @@ pub mod line_before;
 mod line_in_cell;
 pub mod lines_before;
 mod outside_lemmas;
-pub mod plan_parts;
 mod reach;
 pub mod reached;
 mod reached_warnings;

@@ -12,7 +12,6 @@ ghost use Rattle.centre_past.specs.Reach.{IsReach, flight_reach, edit_reach, rep
 ghost use Rattle.centre_events.specs.Warnings.{is_version};
 ghost use Rattle.centre_events.specs.declared.settings.Settings.{Settings};
 
-use crate::plan_parts::PlanParts;
 use crate::reached_warnings;
 use crate::spots::{covered, known_anywhere, known_at, moved, named, placed, spots_at};
 use cell_register::BscId;
@@ -22,7 +21,7 @@ use centre_events::in_flight::InFlight;
 use centre_events::replying::cells_of;
 use centre_events::stepping::Happening;
 use centre_past::telling::tell_lines;
-use coverage_plan::Edit;
+use coverage_plan::{Edit, Plan};
 use kept_tables::Spot;
 use mirror::LineTable;
 use serials::Serial;
@@ -67,35 +66,36 @@ fn wraps(book: &Book, n: WarningId) -> bool
 /// number of a version, all that are known.
 fn updated(
     alloc: Global,
-    parts: &PlanParts<'_>,
+    plan: &Plan,
     tables: &LineTable,
     edit: &Edit,
     n: WarningId,
 ) -> Result<Vec<Spot>, AllocError>
-    ensures { (settings : Settings) (past : Past) → EditTold settings past parts.now.register.now parts.now.areas.now parts.now.book.now tables.now edit.now → IfOk result (λ spots. AreThose spots.items (if wraps past n then known_anywhere past else covered_by past n)) }
+    ensures { (settings : Settings) (past : Past) → EditTold settings past plan.now.register plan.now.areas plan.now.book tables.now edit.now → IfOk result (λ spots. AreThose spots.items (if wraps past n then known_anywhere past else covered_by past n)) }
 {
     tell_lines(tables);
-    if wraps(parts.book, n) {
-        let spots = known_anywhere(alloc, parts.register, tables)?;
+    if wraps(plan.book(), n) {
+        let spots = known_anywhere(alloc, plan.register(), tables)?;
         return Ok(spots);
     }
-    let spots = covered(alloc, parts.register, parts.areas, parts.book.areas_of(n))?;
+    let names = plan.book().areas_of(n);
+    let spots = covered(alloc, plan.register(), plan.areas(), names)?;
     Ok(spots)
 }
 
 /// The cells at BSCs on which an edit bears that is no Forget.
 fn edit_spots(
     alloc: Global,
-    parts: &PlanParts<'_>,
+    plan: &Plan,
     tables: &LineTable,
     edit: &Edit,
 ) -> Result<Vec<Spot>, AllocError>
     requires { is_forget edit.now ≡ false }
-    ensures { (settings : Settings) (past : Past) → EditTold settings past parts.now.register.now parts.now.areas.now parts.now.book.now tables.now edit.now → IfOk result (λ spots. AreThose spots.items (edit_reach past edit.now).spots) }
+    ensures { (settings : Settings) (past : Past) → EditTold settings past plan.now.register plan.now.areas plan.now.book tables.now edit.now → IfOk result (λ spots. AreThose spots.items (edit_reach past edit.now).spots) }
 {
     tell_lines(tables);
-    let register = parts.register;
-    let areas = parts.areas;
+    let register = plan.register();
+    let areas = plan.areas();
     let spots = match edit {
         Edit::RemoveBsc(b) => known_at(alloc, register, tables, *b)?,
         Edit::AddCell(c, b) => spots_at(alloc, *b, &[*c])?,
@@ -103,8 +103,8 @@ fn edit_spots(
         Edit::RemoveCell(c) => placed(alloc, register, *c)?,
         Edit::Put(_, s) | Edit::Cut(_, s) => named(alloc, register, *s)?,
         Edit::Issue(_, names) => covered(alloc, register, areas, names.as_slice())?,
-        Edit::Update(n, _) => updated(alloc, parts, tables, edit, *n)?,
-        Edit::Stop(n) => covered(alloc, register, areas, parts.book.areas_of(*n))?,
+        Edit::Update(n, _) => updated(alloc, plan, tables, edit, *n)?,
+        Edit::Stop(n) => covered(alloc, register, areas, plan.book().areas_of(*n))?,
         Edit::Widen(_, a) | Edit::Narrow(_, a) => {
             covered(alloc, register, areas, slice::from_ref(a))?
         }
@@ -145,18 +145,17 @@ fn report_spots(
 /// The cells at BSCs on which an event bears that is no edit.
 fn event_spots(
     alloc: Global,
-    parts: &PlanParts<'_>,
+    plan: &Plan,
     tables: &LineTable,
     event: &Event,
     answer: &Answer,
     flight: Option<&InFlight>,
 ) -> Result<Vec<Spot>, AllocError>
-    ensures { (settings : Settings) (past : Past) → EventTold settings past parts.now.register.now parts.now.book.now tables.now (option_copied flight.entry) event.now answer.now → IfOk result (λ spots. AreThose spots.items (reach_of past event.now answer.now).spots) }
+    ensures { (settings : Settings) (past : Past) → EventTold settings past plan.now.register plan.now.book tables.now (option_copied flight.entry) event.now answer.now → IfOk result (λ spots. AreThose spots.items (reach_of past event.now answer.now).spots) }
 {
     tell_lines(tables);
-    let register = parts.register;
     let spots = match event {
-        Event::Retry(b) => known_at(alloc, register, tables, *b)?,
+        Event::Retry(b) => known_at(alloc, plan.register(), tables, *b)?,
         Event::LinkUp(b) | Event::LinkDown(b, _) => flight_spots(alloc, *b, flight)?,
         Event::Report(b, _, _) => report_spots(alloc, *b, answer, flight)?,
         Event::Send(_, _) | Event::Ask(_, _, _, _) | Event::Edit(_) => Vec::new(alloc),
@@ -167,28 +166,28 @@ fn event_spots(
 /// On which lines an edit bears that is accepted and no Forget.
 pub(crate) fn reach_of_edit(
     alloc: Global,
-    parts: &PlanParts<'_>,
+    plan: &Plan,
     tables: &LineTable,
     edit: &Edit,
 ) -> Result<Reach, AllocError>
     requires { is_forget edit.now ≡ false }
-    ensures { (settings : Settings) (past : Past) → EditTold settings past parts.now.register.now parts.now.areas.now parts.now.book.now tables.now edit.now → IfOk result (λ r. IsReach (record { spots = r.spots.items; warnings = r.warnings.items }) (edit_reach past edit.now)) }
+    ensures { (settings : Settings) (past : Past) → EditTold settings past plan.now.register plan.now.areas plan.now.book tables.now edit.now → IfOk result (λ r. IsReach (record { spots = r.spots.items; warnings = r.warnings.items }) (edit_reach past edit.now)) }
 {
-    let spots = edit_spots(alloc, parts, tables, edit)?;
-    let warnings = reached_warnings::of_edit(alloc, parts.book, edit)?;
+    let spots = edit_spots(alloc, plan, tables, edit)?;
+    let warnings = reached_warnings::of_edit(alloc, plan.book(), edit)?;
     Ok(Reach { spots, warnings })
 }
 
 /// On which lines an event bears that is no edit, and that is answered so. What is in flight is so to its BSC.
 pub(crate) fn reach_of_other(
     alloc: Global,
-    parts: &PlanParts<'_>,
+    plan: &Plan,
     tables: &LineTable,
     h: &Happening<'_, '_>,
 ) -> Result<Reach, AllocError>
-    ensures { (settings : Settings) (past : Past) → EventTold settings past parts.now.register.now parts.now.book.now tables.now (option_copied h.now.flight) h.now.event.now h.now.answer.now → IfOk result (λ r. IsReach (record { spots = r.spots.items; warnings = r.warnings.items }) (reach_of past h.now.event.now h.now.answer.now)) }
+    ensures { (settings : Settings) (past : Past) → EventTold settings past plan.now.register plan.now.book tables.now (option_copied h.now.flight) h.now.event.now h.now.answer.now → IfOk result (λ r. IsReach (record { spots = r.spots.items; warnings = r.warnings.items }) (reach_of past h.now.event.now h.now.answer.now)) }
 {
-    let spots = event_spots(alloc, parts, tables, h.event, h.answer, h.flight)?;
-    let warnings = reached_warnings::of_event(alloc, parts.book, h.event, h.answer, h.flight)?;
+    let spots = event_spots(alloc, plan, tables, h.event, h.answer, h.flight)?;
+    let warnings = reached_warnings::of_event(alloc, plan.book(), h.event, h.answer, h.flight)?;
     Ok(Reach { spots, warnings })
 }

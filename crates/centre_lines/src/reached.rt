@@ -16,7 +16,6 @@ ghost use Rattle.coverage_plan.specs.declared.edit.Edit.TheVariants as edit_spec
 
 use crate::found_plan::FoundPlan;
 use crate::lines_before::LinesBefore;
-use crate::plan_parts::PlanParts;
 use crate::reach::{reach_of_edit, reach_of_other};
 use crate::reading::{read_all, read_keys};
 use centre_events::answer::Answer;
@@ -45,9 +44,8 @@ fn reached_at_spots(alloc: Global, kept: &mut Kept, edit: &Edit) -> Result<Reach
     ensures reads { OnlyReadsIn kept.old kept.new }
     ensures meter { (settings : Settings) (past : Past) (a : answer_spec.Answer) → Legal settings past → IsKept past kept.old → edit_answered past edit.now ≡ Ok a → kept.new.tables.lines.meter ≤ kept.old.tables.lines.meter + 2 * size (edit_reach past edit.now) }
 {
-    let parts = PlanParts::of(&kept.plan);
-    let reach = reach_of_edit(alloc, &parts, kept.tables.lines(), edit)?;
-    let mut plan = FoundPlan::new(alloc, &parts);
+    let reach = reach_of_edit(alloc, &kept.plan, kept.tables.lines(), edit)?;
+    let mut plan = FoundPlan::new(alloc, &kept.plan);
     let earlier = read_all(
         &mut plan,
         &mut kept.tables,
@@ -76,8 +74,7 @@ fn reached_by_forget(
 {
     tell_lines(kept.tables.lines());
     let keys = kept.tables.places_of(n)?;
-    let parts = PlanParts::of(&kept.plan);
-    let mut plan = FoundPlan::new(alloc, &parts);
+    let mut plan = FoundPlan::new(alloc, &kept.plan);
     let earlier = read_keys(&mut plan, &mut kept.tables, keys.as_slice(), edit)?;
     Ok(Reached {
         spots: Vec::new(alloc),
@@ -135,8 +132,7 @@ pub fn reached_by_other<'x>(
         up: up_before(kept.links.as_slice(), event),
         flight: flight_of(kept.links.as_slice(), event),
     };
-    let parts = PlanParts::of(&kept.plan);
-    let reach = reach_of_other(alloc, &parts, kept.tables.lines(), &h)?;
+    let reach = reach_of_other(alloc, &kept.plan, kept.tables.lines(), &h)?;
     Ok(Reached {
         spots: reach.spots,
         lines: LinesBefore::Unread(reach.warnings),

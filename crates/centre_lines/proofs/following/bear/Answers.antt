@@ -15,9 +15,9 @@ use Rattle.centre_lines.proofs.following.bear.Goals as goal
 pub returns-in-Read-clause-tables : goal.returns-in-Read-clause-tables
 returns-in-Read-clause-tables c =
     let h : Happens = happens c.args.h.now in
-    let r = c.args.parts.now.register.now in
-    let l = c.args.parts.now.areas.now in
-    let st = c.args.parts.now.book.now in
+    let r = c.args.plan.now.register in
+    let l = c.args.plan.now.areas in
+    let st = c.args.plan.now.book in
     on_ok_weaker c.follow_edit.result
     (λ done.
     subst (λ ls. (y : Made r l st c.args.tables.now h c.args.reached.spots.items ls) → Consistent c.follow_edit.new.tables (facts (After (entry_of y.desk h) y.past))) (sym c.in-Read.is)
@@ -28,9 +28,9 @@ returns-in-Read-clause-tables c =
 pub returns-in-Read-clause-downs : goal.returns-in-Read-clause-downs
 returns-in-Read-clause-downs c =
     let h : Happens = happens c.args.h.now in
-    let r = c.args.parts.now.register.now in
-    let l = c.args.parts.now.areas.now in
-    let st = c.args.parts.now.book.now in
+    let r = c.args.plan.now.register in
+    let l = c.args.plan.now.areas in
+    let st = c.args.plan.now.book in
     on_ok_weaker c.follow_edit.result
     (λ done.
     subst (λ ls. (y : Made r l st c.args.tables.now h c.args.reached.spots.items ls) → (k : Kind) (b : ℕ) (d : Cell) → down_at c.follow_edit.new.tables.lines k b d ≡ is_down (After (entry_of y.desk h) y.past) k b d) (sym c.in-Read.is)
@@ -43,9 +43,9 @@ returns-in-Read-clause-downs c =
 pub returns-clause-tables : goal.returns-clause-tables
 returns-clause-tables c =
     let h : Happens = happens c.args.h.now in
-    let r = c.args.parts.now.register.now in
-    let l = c.args.parts.now.areas.now in
-    let st = c.args.parts.now.book.now in
+    let r = c.args.plan.now.register in
+    let l = c.args.plan.now.areas in
+    let st = c.args.plan.now.book in
     on_ok_weaker c.follow_other.result
     (λ done.
     subst (λ ls. (y : Made r l st c.args.tables.now h c.args.reached.spots.items ls) → Consistent c.follow_other.new.tables (facts (After (entry_of y.desk h) y.past))) (sym c.in-Unread.is)
@@ -56,9 +56,9 @@ returns-clause-tables c =
 pub returns-clause-downs : goal.returns-clause-downs
 returns-clause-downs c =
     let h : Happens = happens c.args.h.now in
-    let r = c.args.parts.now.register.now in
-    let l = c.args.parts.now.areas.now in
-    let st = c.args.parts.now.book.now in
+    let r = c.args.plan.now.register in
+    let l = c.args.plan.now.areas in
+    let st = c.args.plan.now.book in
     on_ok_weaker c.follow_other.result
     (λ done.
     subst (λ ls. (y : Made r l st c.args.tables.now h c.args.reached.spots.items ls) → (k : Kind) (b : ℕ) (d : Cell) → down_at c.follow_other.new.tables.lines k b d ≡ is_down (After (entry_of y.desk h) y.past) k b d) (sym c.in-Unread.is)

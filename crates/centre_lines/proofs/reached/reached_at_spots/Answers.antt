@@ -1,9 +1,7 @@
-use Rattle.std.proofs.Common.{refl, sym, ◌∙◌, ap, subst}
+use Rattle.std.proofs.Common.{refl, ◌∙◌, ap}
 use Rattle.coverage_plan.specs.Plan.{State}
 use Rattle.centre_lines.specs.Following.{lines_before}
-use Rattle.centre_events.specs.Kept.{AreAreasOf}
 use Rattle.centre_past.specs.Reach.{edit_reach}
-use Rattle.centre_past.specs.Reaching.{Told}
 use Rattle.centre_past.proofs.ReadLemmas.{as_itself}
 use Rattle.centre_lines.proofs.BeforeLemmas.{told_kept, edit_was_reached, reads_as, reads_within}
 use Rattle.centre_lines.proofs.IndicatedLemmas.{cover_reached}
@@ -18,13 +16,13 @@ returns-clause-reached c =
     λ settings past a legal kept accepted.
     edit_was_reached past c.args.kept.now c.args.edit.now a c.in_ok-reach.reach.spots.items c.in_ok-reach.reach.warnings.items c.in_ok-earlier.earlier.items kept
     (c.in_ok-reach.ensures settings past (record {
-      told = rw (c.lines.ensures) (subst (λ (p : State). Told settings past p.register p.book c.args.kept.now.tables.lines) (sym c.of-parts.ensures) (told_kept settings past c.args.kept.now legal kept));
-      selected = subst (λ (p : State). AreAreasOf past p.areas) (sym c.of-parts.ensures) kept.selected;
+      told = rw (c.lines.ensures) (told_kept settings past c.args.kept.now legal kept);
+      selected = kept.selected;
       answer = a;
       accepted = accepted;
     }))
     (c.in_ok-earlier.ensures.earlier c.args.kept.now.tables (as_itself c.args.kept.now.tables)
-    ∙ ap (λ (p : State). lines_before c.args.edit.now p.register p.areas p.book c.args.kept.now.tables c.as_slice.result.now c.as_slice-2.result.now) (c.new-plan.ensures ∙ c.of-parts.ensures)
+    ∙ ap (λ (p : State). lines_before c.args.edit.now p.register p.areas p.book c.args.kept.now.tables c.as_slice.result.now c.as_slice-2.result.now) c.new-plan.ensures
     ∙ ap (λ ps. lines_before c.args.edit.now c.args.kept.now.plan.register c.args.kept.now.plan.areas c.args.kept.now.plan.book c.args.kept.now.tables ps c.as_slice-2.result.now) c.as_slice.ensures.value
     ∙ ap (lines_before c.args.edit.now c.args.kept.now.plan.register c.args.kept.now.plan.areas c.args.kept.now.plan.book c.args.kept.now.tables c.in_ok-reach.reach.spots.items) c.as_slice-2.ensures.value)
 
@@ -36,8 +34,8 @@ pub returns-in_err-earlier-clause-meter : goal.returns-in_err-earlier-clause-met
 returns-in_err-earlier-clause-meter c =
     λ settings past a legal kept accepted.
     let reach = c.in_ok-reach.ensures settings past (record {
-      told = rw (c.lines.ensures) (subst (λ (p : State). Told settings past p.register p.book c.args.kept.now.tables.lines) (sym c.of-parts.ensures) (told_kept settings past c.args.kept.now legal kept));
-      selected = subst (λ (p : State). AreAreasOf past p.areas) (sym c.of-parts.ensures) kept.selected;
+      told = rw (c.lines.ensures) (told_kept settings past c.args.kept.now legal kept);
+      selected = kept.selected;
       answer = a;
       accepted = accepted;
     }) in
@@ -49,8 +47,8 @@ pub returns-clause-meter : goal.returns-clause-meter
 returns-clause-meter c =
     λ settings past a legal kept accepted.
     let reach = c.in_ok-reach.ensures settings past (record {
-      told = rw (c.lines.ensures) (subst (λ (p : State). Told settings past p.register p.book c.args.kept.now.tables.lines) (sym c.of-parts.ensures) (told_kept settings past c.args.kept.now legal kept));
-      selected = subst (λ (p : State). AreAreasOf past p.areas) (sym c.of-parts.ensures) kept.selected;
+      told = rw (c.lines.ensures) (told_kept settings past c.args.kept.now legal kept);
+      selected = kept.selected;
       answer = a;
       accepted = accepted;
     }) in

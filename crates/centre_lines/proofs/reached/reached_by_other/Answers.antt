@@ -1,7 +1,4 @@
-use Rattle.std.proofs.Common.{sym, subst}
 use Rattle.std.specs.Option.{option_copied}
-use Rattle.coverage_plan.specs.Plan.{State}
-use Rattle.centre_past.specs.Reaching.{Told}
 use Rattle.centre_lines.proofs.BeforeLemmas.{flying_kept, told_kept}
 use Rattle.centre_lines.proofs.IndicatedLemmas.{bears_on_all}
 use Rattle.centre_lines.proofs.reached.reached_by_other.Goals as goal
@@ -12,7 +9,7 @@ returns c = record {
     other = c.requires.other;
     reach = bears_on_all settings past legal c.args.event.now c.args.answer.now c.in_ok-reach.reach.spots.items c.in_ok-reach.reach.warnings.items
         (c.in_ok-reach.ensures settings past (record {
-          told = rw (c.lines.ensures) (subst (λ (p : State). Told settings past p.register p.book c.args.kept.now.tables.lines) (sym c.of-parts.ensures) (told_kept settings past c.args.kept.now legal kept));
+          told = rw (c.lines.ensures) (told_kept settings past c.args.kept.now legal kept);
           flying = flying_kept past c.args.kept.now.links.items c.as_slice-2.result.now c.args.event.now (option_copied c.flight_of.result) kept.linked c.requires.other c.as_slice-2.ensures.value c.flight_of.ensures;
           accepted = accepted;
         }));

@@ -12,15 +12,15 @@ use Rattle.centre_lines.proofs.found_plan.FoundPlan.covering.Goals as goal
 
 pub of-requires : goal.of-requires
 of-requires c =
-    let l = c.self.inside.parts.areas.now in
-    let there : Some c.args.w.now ≡ warning_of c.self.inside.parts.book.now c.args.n = c.requires ∙ ap (λ (p : State). warning_of p.book c.args.n) (sym c.self.view_is) in
-    let good : has_areas c.args.w.now ≡ true = areas_in_book c.self.inside.parts.book.now c.args.n c.args.w.now there c.tell_soundness.ensures.areas in
+    let l = c.self.inside.plan.now.areas in
+    let there : Some c.args.w.now ≡ warning_of c.self.inside.plan.now.book c.args.n = c.requires ∙ ap (λ (p : State). warning_of p.book c.args.n) (sym c.self.view_is) in
+    let good : has_areas c.args.w.now ≡ true = areas_in_book c.self.inside.plan.now.book c.args.n c.args.w.now there (rw (c.book.ensures) at c.tell_soundness.ensures.areas) in
     let is : IsOf l (Some c.args.w.now) c.index_mut.result.now = subst (IsOf l (Some c.args.w.now)) (sym c.index_mut.ensures.value) (c.in_ok-place.ensures.place c.index_mut.result.now) in
     rw (c.areas.ensures) (digits_in l c.args.w.now c.index_mut.result.now c.args.c c.digits-digits.result.bits good is c.digits-digits.ensures.digits)
 
 pub returns-clause-covering : goal.returns-clause-covering
 returns-clause-covering c =
-    let l = c.self.inside.parts.areas.now in
+    let l = c.self.inside.plan.now.areas in
     let is : IsOf l (Some c.args.w.now) c.index_mut.result.now = subst (IsOf l (Some c.args.w.now)) (sym c.index_mut.ensures.value) (c.in_ok-place.ensures.place c.index_mut.result.now) in
     c.of.ensures
     ∙ ap (names_at c.digits-digits.result.bits) c.areas.ensures

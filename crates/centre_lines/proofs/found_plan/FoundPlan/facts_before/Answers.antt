@@ -16,23 +16,23 @@ there n view same is = is ∙ ap (λ (s : State). warning_of s.book n) (sym (vie
 
 pub invariant_of-self-in_err-before : goal.invariant_of-self-in_err-before
 invariant_of-self-in_err-before c =
-    found_read c.self.inside.parts.areas.now c.self.inside.parts.book.now c.args.n c.args.w.now (there c.args.n c.self.view_is c.is_here-here.ensures.same c.requires) c.place_in.new.found.items c.in_ok-place.place c.index_mut-found.result.now c.digits-digits.new.self c.before-2.new.self c.in_ok-place.ensures.found c.index_mut-found.ensures.value c.in_ok-place.ensures.number c.in_ok-place.ensures.place c.digits-digits.ensures.same c.before-2.ensures.warning c.before-2.ensures.selectors c.before-2.ensures.kept
+    found_read c.self.inside.plan.now.areas c.self.inside.plan.now.book c.args.n c.args.w.now (there c.args.n c.self.view_is c.is_here-here.ensures.same c.requires) c.place_in.new.found.items c.in_ok-place.place c.index_mut-found.result.now c.digits-digits.new.self c.before-2.new.self c.in_ok-place.ensures.found c.index_mut-found.ensures.value c.in_ok-place.ensures.number c.in_ok-place.ensures.place c.digits-digits.ensures.same c.before-2.ensures.warning c.before-2.ensures.selectors c.before-2.ensures.kept
 
 pub of-requires : goal.of-requires
 of-requires c =
-    let l = c.self.inside.parts.areas.now in
-    let good : has_areas c.args.w.now ≡ true = areas_in_book c.self.inside.parts.book.now c.args.n c.args.w.now (there c.args.n c.self.view_is c.is_here-here.ensures.same c.requires) c.tell_soundness.ensures.areas in
+    let l = c.self.inside.plan.now.areas in
+    let good : has_areas c.args.w.now ≡ true = areas_in_book c.self.inside.plan.now.book c.args.n c.args.w.now (there c.args.n c.self.view_is c.is_here-here.ensures.same c.requires) (rw (c.book.ensures) at c.tell_soundness.ensures.areas) in
     let is : IsOf l (Some c.args.w.now) c.index_mut-found.result.now = subst (IsOf l (Some c.args.w.now)) (sym c.index_mut-found.ensures.value) (c.in_ok-place.ensures.place c.index_mut-found.result.now) in
     subst (λ (h : WarningHead). AreDigits c.digits-digits.result.bits h.areas) (sym c.in_ok-before.ensures.before)
     (digits_in l c.args.w.now c.index_mut-found.result.now c.args.there.now.spot.cell c.digits-digits.result.bits good is c.digits-digits.ensures.digits)
 
 pub invariant_of-self-2 : goal.invariant_of-self-2
 invariant_of-self-2 c =
-    found_read c.self.inside.parts.areas.now c.self.inside.parts.book.now c.args.n c.args.w.now (there c.args.n c.self.view_is c.is_here-here.ensures.same c.requires) c.place_in.new.found.items c.in_ok-place.place c.index_mut-found.result.now c.digits-digits.new.self c.before-2.new.self c.in_ok-place.ensures.found c.index_mut-found.ensures.value c.in_ok-place.ensures.number c.in_ok-place.ensures.place c.digits-digits.ensures.same c.before-2.ensures.warning c.before-2.ensures.selectors c.before-2.ensures.kept
+    found_read c.self.inside.plan.now.areas c.self.inside.plan.now.book c.args.n c.args.w.now (there c.args.n c.self.view_is c.is_here-here.ensures.same c.requires) c.place_in.new.found.items c.in_ok-place.place c.index_mut-found.result.now c.digits-digits.new.self c.before-2.new.self c.in_ok-place.ensures.found c.index_mut-found.ensures.value c.in_ok-place.ensures.number c.in_ok-place.ensures.place c.digits-digits.ensures.same c.before-2.ensures.warning c.before-2.ensures.selectors c.before-2.ensures.kept
 
 pub returns-clause-facts : goal.returns-clause-facts
 returns-clause-facts c =
-    let l = c.self.inside.parts.areas.now in
+    let l = c.self.inside.plan.now.areas in
     let bits = c.digits-digits.result.bits in
     let is : IsOf l (Some c.args.w.now) c.index_mut-found.result.now = subst (IsOf l (Some c.args.w.now)) (sym c.index_mut-found.ensures.value) (c.in_ok-place.ensures.place c.index_mut-found.result.now) in
     let names : names_at bits c.args.w.now.areas ≡ filter {X = List ℕ} (λ a. covers c.args.self.now.areas a c.args.there.now.spot.cell) c.args.w.now.areas =
