@@ -46,7 +46,7 @@ use Rattle.centre_lines.proofs.PassedLemmas.{passed_same}
 use Rattle.centre_lines.proofs.TellLemmas.{bears_of, keys_counted, keys_once}
 
 -- what is read of a line is what the past says
-pub facts_kept : (past : Past) (s : Kept) → IsKept past s → (k : LineKey) → facts_in s.plan.register s.plan.areas s.plan.book s.tables k ≡ facts past k
+pub facts_kept : (past : Past) (s : Kept) → IsKept past s → (k : LineKey) → facts_in s.plan s.tables k ≡ facts past k
 facts_kept past s kept k =
     rw (kept.booked)
     (facts_same past s.plan.register s.plan.areas (down_at s.tables.lines (kind_in (warning_of (book_of past) k.warning)) k.bsc k.cell) k.bsc k.cell (line_at s.tables.lines k.bsc k.cell k.warning) (warning_of (book_of past) k.warning) kept.registered kept.selected (kept.downs (kind_in (warning_of (book_of past) k.warning)) k.bsc k.cell)
@@ -85,7 +85,7 @@ failing_lines passes line was same (p ∷ ps) ns =
     ∙ sym (map_append was (failing passes (map (key_at p) ns)) (failing passes (keys_of ps ns)))
     ∙ ap (map was) (sym (filter-append (λ k. not (passes k)) (map (key_at p) ns) (keys_of ps ns)))
 
-pub before_as : (past : Past) (s : Kept) → IsKept past s → (k : LineKey) → line_before s.plan.register s.plan.areas s.plan.book s.tables k ≡ before_past past k
+pub before_as : (past : Past) (s : Kept) → IsKept past s → (k : LineKey) → line_before s.plan s.tables k ≡ before_past past k
 before_as past s kept k = ap (λ (f : LineFacts). let h : LineBefore = record { key = k; before = f } in h) (facts_kept past s kept k)
 
 -- a line of the reach that does not fail the test passes it
@@ -122,10 +122,10 @@ pub told_kept : (settings : Settings) (past : Past) (s : Kept) → Legal setting
 told_kept settings past s legal kept = record { legal = legal; registered = kept.registered; booked = kept.booked; downs = kept.downs; lines = kept.tables.lines }
 
 -- before an edit that has been accepted
-pub edit_was_reached : (past : Past) (s : Kept) (e : Edit) (a : Answer) (spots : List Spot) (numbers : List ℕ) (earlier : List LineBefore) → IsKept past s → IsReach (record { spots = spots; warnings = numbers }) (reach_of past (event.Edit e) a) → earlier ≡ lines_before e s.plan.register s.plan.areas s.plan.book s.tables spots numbers → WasRead past (event.Edit e) a spots earlier
+pub edit_was_reached : (past : Past) (s : Kept) (e : Edit) (a : Answer) (spots : List Spot) (numbers : List ℕ) (earlier : List LineBefore) → IsKept past s → IsReach (record { spots = spots; warnings = numbers }) (reach_of past (event.Edit e) a) → earlier ≡ lines_before e s.plan s.tables spots numbers → WasRead past (event.Edit e) a spots earlier
 edit_was_reached past s e a spots numbers earlier kept reach are =
     was_read past (event.Edit e) a spots numbers passed earlier reach
-    (are ∙ failing_lines passed (line_before s.plan.register s.plan.areas s.plan.book s.tables) (before_past past) (before_as past s kept) spots numbers)
+    (are ∙ failing_lines passed (line_before s.plan s.tables) (before_past past) (before_as past s kept) spots numbers)
     (λ settings desk legal accepted k h. passed_same settings past legal desk e a accepted s kept k h)
   where
     passed : LineKey → Bool

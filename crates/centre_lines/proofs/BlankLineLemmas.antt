@@ -3,12 +3,11 @@ use Rattle.std.proofs.Common.{◌≡◌, ℕ, zero, suc, Bool, true, false, not,
 use Rattle.std.proofs.lemmas.Bool.{not-false}
 use Rattle.std.specs.Prelude.{slice_set, if◌then◌else◌}
 use Rattle.std.specs.List.{slice_index_or}
-use Rattle.areas.specs.declared.area.Area.{Area}
 use Rattle.cbsp_messages.specs.declared.message.Message.{Message}
 use Rattle.cbsp_messages.specs.declared.message.Message.TheVariants.{Restart}
-use Rattle.cell_register.specs.Register as register
 use Rattle.common.specs.declared.cell.Cell.{Cell}
 use Rattle.coverage_plan.specs.declared.edit.Edit.TheVariants as edit
+use Rattle.coverage_plan.specs.Plan.{State}
 use Rattle.kept_tables.specs.Tables.{Tables}
 use Rattle.kept_tables.specs.declared.line_facts.LineFacts.{LineFacts}
 use Rattle.mirror.specs.Blank.{is_blank, line_eq}
@@ -21,7 +20,6 @@ use Rattle.mirror.specs.declared.key_state.KeyState.{KeyState}
 use Rattle.mirror.specs.declared.line.Line.{Line}
 use Rattle.mirror.specs.declared.presence.Presence.TheVariants.{Absent}
 use Rattle.serials.specs.Serials.{update_of}
-use Rattle.warning_book.specs.Book as book
 use Rattle.warning_book.specs.Book.{kind_of, warning_of}
 use Rattle.warning_book.specs.declared.warning.Warning.{Warning}
 use Rattle.centre_events.specs.Counts.{count_mark}
@@ -135,15 +133,15 @@ edit_leaves h ws b c (Some w) line e =
     sym (stepped_itself (λ s. effect (kind_of w) b c w.message_id s h.event h.answer h.up h.flight ws) (λ s. count_mark b c w.message_id s h.event h.answer h.flight ws) (λ s. leaves_effect (kind_of w) b c w.message_id s h.event h.answer h.up h.flight ws e) (λ s. leaves_count b c w.message_id s h.event h.answer h.flight ws e) line (serials w))
 
 -- so the line is itself in what is read of it then, if the line has versions then
-pub line_stays : (h : Happens) (r : register.State) (l : List Area) (st : book.State) (t : Tables) (x : LineBefore) → leaves_lines h.event ≡ true → nat_eq (length (change_of h r l st t x).after.versions) 0 ≡ false → x.before.line ≡ (change_of h r l st t x).after.line
-line_stays h r l st t x e some = step (warning_of st x.key.warning) some
+pub line_stays : (h : Happens) (p : State) (t : Tables) (x : LineBefore) → leaves_lines h.event ≡ true → nat_eq (length (change_of h p t x).after.versions) 0 ≡ false → x.before.line ≡ (change_of h p t x).after.line
+line_stays h p t x e some = step (warning_of p.book x.key.warning) some
   where
     then_read : Option Warning → LineFacts
-    then_read o = facts_from r l (down_at t.lines (kind_in o) x.key.bsc x.key.cell) x.key.bsc x.key.cell (line_now h st.warnings x.key.bsc x.key.cell o x.before.line) o
+    then_read o = facts_from p.register p.areas (down_at t.lines (kind_in o) x.key.bsc x.key.cell) x.key.bsc x.key.cell (line_now h p.book.warnings x.key.bsc x.key.cell o x.before.line) o
 
     step : (o : Option Warning) → nat_eq (length (then_read o).versions) 0 ≡ false → x.before.line ≡ (then_read o).line
     step None none = cc
-    step (Some w) there = edit_leaves h st.warnings x.key.bsc x.key.cell (Some w) x.before.line e
+    step (Some w) there = edit_leaves h p.book.warnings x.key.bsc x.key.cell (Some w) x.before.line e
 
 -- A Retry leaves a line as it is that isn't held.
 

@@ -10,6 +10,7 @@ use Rattle.cell_register.specs.Register.{is_place, place_in}
 use Rattle.common.specs.declared.cell.Cell.{Cell}
 use Rattle.coverage_board.specs.AreaSets.{names_at}
 use Rattle.coverage_board.specs.Parts.{has_areas}
+use Rattle.coverage_plan.specs.Plan.{State}
 use Rattle.kept_tables.specs.Tables.{Tables}
 use Rattle.kept_tables.specs.declared.spot.Spot.{Spot}
 use Rattle.mirror.specs.Table.{down_at}
@@ -58,9 +59,9 @@ covered_one : (r : register.State) (l : List Area) (down : Bool) (b : ℕ) (c : 
 covered_one r l down b c line names None are = refl
 covered_one r l down b c line names (Some w) are = covered_is r l down b c line names w are
 
-pub covered_before : (h : Happens) (r : register.State) (l : List Area) (st : book.State) (t : Tables) (x : LineBefore) → AreCovering l x.key.cell x.before.areas (warning_of st x.key.warning) → covered_change h r st t x ≡ change_of h r l st t x
-covered_before h r l st t x are =
-    λ i. record { key = x.key; before = x.before; after = covered_one r l (down_at t.lines (kind_in (warning_of st x.key.warning)) x.key.bsc x.key.cell) x.key.bsc x.key.cell (line_now h st.warnings x.key.bsc x.key.cell (warning_of st x.key.warning) x.before.line) x.before.areas (warning_of st x.key.warning) are i }
+pub covered_before : (h : Happens) (p : State) (t : Tables) (x : LineBefore) → AreCovering p.areas x.key.cell x.before.areas (warning_of p.book x.key.warning) → covered_change h p t x ≡ change_of h p t x
+covered_before h p t x are =
+    λ i. record { key = x.key; before = x.before; after = covered_one p.register p.areas (down_at t.lines (kind_in (warning_of p.book x.key.warning)) x.key.bsc x.key.cell) x.key.bsc x.key.cell (line_now h p.book.warnings x.key.bsc x.key.cell (warning_of p.book x.key.warning) x.before.line) x.before.areas (warning_of p.book x.key.warning) are i }
 
 -- of the line at a place
 pub covered_at : (l : List Area) (st : book.State) (xs : List LineBefore) (i : ℕ) (x : LineBefore) → AreCovered l st xs → i < length xs → x ≡ get_or xs i x → AreCovering l x.key.cell x.before.areas (warning_of st x.key.warning)
@@ -134,10 +135,10 @@ covered_keys past new l st selected same areas (k ∷ keys) =
     (covering_past past new l selected same k.bsc k.cell (warning_of (book_of past) k.warning) (warning_of st k.warning) (areas k.warning), covered_keys past new l st selected same areas keys)
 
 -- where what happens bears on the lines that were held
-pub bears_covered : {r : register.State} {l : List Area} {st : book.State} {t : Tables} {h : Happens} {spots : List Spot} {earlier : List LineBefore} (x : Bears r l st t h spots earlier) → leaves_areas_then h.event ≡ true → AreCovered l st earlier
-bears_covered {r = r} {l = l} {st = st} {t = t} {h = h} {spots = spots} {earlier = earlier} x leaves =
-    subst (AreCovered l st) (sym x.lines)
-    (covered_keys x.past (After (record { desk = x.desk; event = h.event; answer = h.answer }) x.past) l st x.selected (then_covers x.desk h.event h.answer x.past leaves)
+pub bears_covered : {p : State} {t : Tables} {h : Happens} {spots : List Spot} {earlier : List LineBefore} (x : Bears p t h spots earlier) → leaves_areas_then h.event ≡ true → AreCovered p.areas p.book earlier
+bears_covered {p = p} {t = t} {h = h} {spots = spots} {earlier = earlier} x leaves =
+    subst (AreCovered p.areas p.book) (sym x.lines)
+    (covered_keys x.past (After (record { desk = x.desk; event = h.event; answer = h.answer }) x.past) p.areas p.book x.selected (then_covers x.desk h.event h.answer x.past leaves)
     (λ m. subst (λ b. SameAreas (warning_of (book_of x.past) m) (warning_of b m)) (sym x.booked) (then_left h.event leaves (book_of x.past) m)) x.keys)
 
 -- a warning's line that versions are read of keeps the areas that were read of it
@@ -145,5 +146,5 @@ areas_in : (r : register.State) (down : Bool) (b : ℕ) (c : Cell) (line : Line)
 areas_in r down b c line names None e = cc
 areas_in r down b c line names (Some w) e = refl
 
-pub covered_areas : (h : Happens) (r : register.State) (st : book.State) (t : Tables) (x : LineBefore) → nat_eq (length (covered_change h r st t x).after.versions) 0 ≡ false → (covered_change h r st t x).after.areas ≡ x.before.areas
-covered_areas h r st t x e = areas_in r (down_at t.lines (kind_in (warning_of st x.key.warning)) x.key.bsc x.key.cell) x.key.bsc x.key.cell (line_now h st.warnings x.key.bsc x.key.cell (warning_of st x.key.warning) x.before.line) x.before.areas (warning_of st x.key.warning) e
+pub covered_areas : (h : Happens) (p : State) (t : Tables) (x : LineBefore) → nat_eq (length (covered_change h p t x).after.versions) 0 ≡ false → (covered_change h p t x).after.areas ≡ x.before.areas
+covered_areas h p t x e = areas_in p.register (down_at t.lines (kind_in (warning_of p.book x.key.warning)) x.key.bsc x.key.cell) x.key.bsc x.key.cell (line_now h p.book.warnings x.key.bsc x.key.cell (warning_of p.book x.key.warning) x.before.line) x.before.areas (warning_of p.book x.key.warning) e

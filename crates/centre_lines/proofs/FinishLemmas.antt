@@ -24,7 +24,7 @@ flight_is past ls e linked = step (bsc_of e)
     step (Some b) = linked.flights b
 
 -- what is known before the lines are changed
-abbrev pub made_of : (s : Kept) (e : Event) (a : Answer) (place : ℕ) (up : Bool) (spots : List Spot) (earlier : LinesBefore) (f : Option InFlight) (ls : List Link) → Finishes s e a place up spots earlier → ls ≡ s.links.items → f ≡ flight_kept ls e → Made s.plan.register s.plan.areas s.plan.book s.tables (record { event = e; answer = a; up = up; flight = f }) spots earlier
+abbrev pub made_of : (s : Kept) (e : Event) (a : Answer) (place : ℕ) (up : Bool) (spots : List Spot) (earlier : LinesBefore) (f : Option InFlight) (ls : List Link) → Finishes s e a place up spots earlier → ls ≡ s.links.items → f ≡ flight_kept ls e → Made s.plan s.tables (record { event = e; answer = a; up = up; flight = f }) spots earlier
 made_of s e a place up spots earlier f ls x these is = record {
   settings = x.settings;
   past = x.past;

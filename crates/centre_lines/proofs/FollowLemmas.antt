@@ -6,19 +6,16 @@ use Rattle.std.specs.List.{list_any}
 use Rattle.common.specs.Cell.{cell_eq}
 use Rattle.common.specs.Equality.{cell_decides}
 use Rattle.common.specs.OnceLaws.{turned}
+use Rattle.coverage_plan.specs.Plan.{State}
 use Rattle.mirror.specs.Table.{Table, down_at}
 use Rattle.warning_book.specs.Content.{is_same_kind}
 use Rattle.std.proofs.lemmas.List.{take_more}
 use Rattle.std.proofs.lemmas.List.Folds.{list_any-append}
-use Rattle.areas.specs.declared.area.Area.{Area}
-use Rattle.cell_register.specs.Register as register
 use Rattle.kept_tables.specs.Tables.{Tables, SameTables}
 use Rattle.common.specs.declared.cell.Cell.{Cell}
 use Rattle.kept_tables.specs.View.{spot_eq}
 use Rattle.kept_tables.specs.declared.spot.Spot.{Spot}
 use Rattle.mirror.specs.declared.line_key.LineKey.{LineKey}
-use Rattle.warning_book.specs.Book as book
-use Rattle.warning_book.specs.Book.{warning_of}
 use Rattle.centre_events.specs.Down.{down_mark}
 use Rattle.centre_events.specs.declared.answer.Answer.{Answer}
 use Rattle.centre_events.specs.declared.event.Event.{Event}
@@ -29,8 +26,8 @@ use Rattle.warning_book.specs.declared.kind.Kind.{Kind}
 use Rattle.warning_book.specs.declared.kind.Kind.TheVariants as kinds
 
 -- what is read of a line is what was
-pub facts_as : (r : register.State) (l : List Area) (st : book.State) (t u : Tables) (k : LineKey) → AsBefore t u → facts_in r l st u k ≡ facts_in r l st t k
-facts_as r l st t u k h = rw (h.lines, h.downs) refl
+pub facts_as : (p : State) (t u : Tables) (k : LineKey) → AsBefore t u → facts_in p u k ≡ facts_in p t k
+facts_as p t u k h = rw (h.lines, h.downs) refl
 
 -- setting which cells are down changes no line
 

@@ -89,11 +89,11 @@ before_apart : (j k : LineKey) → key_before j k ≡ true → key_eq j k ≡ fa
 before_apart j k h = grind (arith, nat_tests)
 
 -- these lines were read before it
-pub forgotten_was_reached : (past : Past) (s : Kept) (n : ℕ) (a : Answer) (keys : List LineKey) (earlier : List LineBefore) → IsKept past s → ((b : ℕ) (c : Cell) (v : ℕ) → list_any (λ k. is_key k b c v) keys ≡ (nat_eq n v && not (is_blank (line_at s.tables.lines b c v)))) → is_ascending key_before keys ≡ true → length keys ≤ size (edit_reach past (edit.Forget n)) → earlier ≡ flat_map (before_unless (edit.Forget n) s.plan.register s.plan.areas s.plan.book s.tables) keys → WasRead past (event.Edit (edit.Forget n)) a [] earlier
+pub forgotten_was_reached : (past : Past) (s : Kept) (n : ℕ) (a : Answer) (keys : List LineKey) (earlier : List LineBefore) → IsKept past s → ((b : ℕ) (c : Cell) (v : ℕ) → list_any (λ k. is_key k b c v) keys ≡ (nat_eq n v && not (is_blank (line_at s.tables.lines b c v)))) → is_ascending key_before keys ≡ true → length keys ≤ size (edit_reach past (edit.Forget n)) → earlier ≡ flat_map (before_unless (edit.Forget n) s.plan s.tables) keys → WasRead past (event.Edit (edit.Forget n)) a [] earlier
 forgotten_was_reached past s n a keys earlier kept which order few are = record {
   away = λ settings legal kind b c out. refl;
   keys = failing passes keys;
-  lines = are ∙ failing_keys passes (line_before s.plan.register s.plan.areas s.plan.book s.tables) (before_past past) (before_as past s kept) keys;
+  lines = are ∙ failing_keys passes (line_before s.plan s.tables) (before_past past) (before_as past s kept) keys;
   once = once_filter key_eq (λ k. not (passes k)) keys (ascending_once key_eq key_before before_apart keys order);
   few = omega (arith, few, length-filter_both (λ k. not (passes k)) passes (λ k. sym (not-not (passes k))) keys);
   rest = λ settings desk legal accepted k out. step settings desk legal accepted k out (list_any (key_eq k) keys) refl;

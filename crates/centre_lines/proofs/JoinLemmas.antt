@@ -6,11 +6,10 @@ use Rattle.std.specs.List.{list_all, list_any}
 use Rattle.std.proofs.lemmas.Bool.{and_parts}
 use Rattle.std.proofs.lemmas.Bool.Decides.{nat_tests}
 use Rattle.std.proofs.lemmas.List.{length-map}
-use Rattle.areas.specs.declared.area.Area.{Area}
-use Rattle.cell_register.specs.Register as register
 use Rattle.cell_register.specs.Register.{is_place}
 use Rattle.common.specs.Sums.{count_of}
 use Rattle.common.specs.declared.cell.Cell.{Cell}
+use Rattle.coverage_plan.specs.Plan.{State}
 use Rattle.kept_tables.specs.Changes.{Change, changes_key, Tells, mixed, Begins, FewVersions, Placed}
 use Rattle.kept_tables.specs.Consistent.{Consistent}
 use Rattle.kept_tables.specs.ConsistentLaws.{same_parts, same_tables}
@@ -22,7 +21,6 @@ use Rattle.kept_tables.specs.declared.spot.Spot.{Spot}
 use Rattle.mirror.specs.Table.{down_at}
 use Rattle.mirror.specs.declared.line_key.LineKey.{LineKey}
 use Rattle.std.specs.Cmp.{unsigned_Decides}
-use Rattle.warning_book.specs.Book as book
 use Rattle.warning_book.specs.Book.{has_number, warning_of}
 use Rattle.warning_book.specs.Sound.{has_versions}
 use Rattle.warning_book.specs.declared.warning.Warning.{Warning}
@@ -57,7 +55,7 @@ marked_then past desk h spots t downs away kind b c = ap (down_after h.event h.a
     step true e = refl
     step false e = away kind b c e
 
-pub downs_then : {r : register.State} {l : List Area} {st : book.State} {t : Tables} {h : Happens} {spots : List Spot} {earlier : List LineBefore} (x : Bears r l st t h spots earlier) (kind : Kind) (b : ℕ) (c : Cell) → down_after h.event h.answer spots kind b c (down_at t.lines kind b c) ≡ is_down (After (entry_of x.desk h) x.past) kind b c
+pub downs_then : {p : State} {t : Tables} {h : Happens} {spots : List Spot} {earlier : List LineBefore} (x : Bears p t h spots earlier) (kind : Kind) (b : ℕ) (c : Cell) → down_after h.event h.answer spots kind b c (down_at t.lines kind b c) ≡ is_down (After (entry_of x.desk h) x.past) kind b c
 downs_then {t = t} {h = h} {spots = spots} x kind b c = marked_then x.past x.desk h spots t x.downs x.away kind b c
 
 -- a cell is registered at one BSC at most
@@ -104,15 +102,15 @@ facts_few settings past legal k = step (warning_of (book_of past) k.warning) ref
         omega (arith, few, long)
 
 -- the changes are from the past to the past with the entry
-pub changes_are : {r : register.State} {l : List Area} {st : book.State} {t : Tables} {h : Happens} {spots : List Spot} {earlier : List LineBefore} (x : Bears r l st t h spots earlier) (u : Tables) → ((kind : Kind) (b : ℕ) (c : Cell) → down_at u.lines kind b c ≡ is_down (After (entry_of x.desk h) x.past) kind b c) → map (change_of h r l st u) earlier ≡ map (from_to (facts x.past) (facts (After (entry_of x.desk h) x.past))) x.keys
-changes_are {r = r} {l = l} {st = st} {h = h} {spots = spots} x u downs =
-    ap (map (change_of h r l st u)) x.lines
-    ∙ map_twice (before_past x.past) (change_of h r l st u) (from_to (facts x.past) (facts (After (entry_of x.desk h) x.past)))
-    (λ k. ap (λ (f : LineFacts). let y : Change = record { key = k; before = facts x.past k; after = f } in y) (then_is x.settings x.past x.legal x.desk h x.accepted x.up x.flight r l st u x.registered x.selected x.booked downs k))
+pub changes_are : {p : State} {t : Tables} {h : Happens} {spots : List Spot} {earlier : List LineBefore} (x : Bears p t h spots earlier) (u : Tables) → ((kind : Kind) (b : ℕ) (c : Cell) → down_at u.lines kind b c ≡ is_down (After (entry_of x.desk h) x.past) kind b c) → map (change_of h p u) earlier ≡ map (from_to (facts x.past) (facts (After (entry_of x.desk h) x.past))) x.keys
+changes_are {p = p} {h = h} {spots = spots} x u downs =
+    ap (map (change_of h p u)) x.lines
+    ∙ map_twice (before_past x.past) (change_of h p u) (from_to (facts x.past) (facts (After (entry_of x.desk h) x.past)))
+    (λ k. ap (λ (f : LineFacts). let y : Change = record { key = k; before = facts x.past k; after = f } in y) (then_is x.settings x.past x.legal x.desk h x.accepted x.up x.flight p u x.registered x.selected x.booked downs k))
     x.keys
 
-abbrev pub begins : {r : register.State} {l : List Area} {st : book.State} {t : Tables} {h : Happens} {spots : List Spot} {earlier : List LineBefore} (x : Bears r l st t h spots earlier) (u : Tables) → SameLines t u → ((kind : Kind) (b : ℕ) (c : Cell) → down_at u.lines kind b c ≡ down_after h.event h.answer spots kind b c (down_at t.lines kind b c)) → Begins u (map (change_of h r l st u) earlier)
-begins {r = r} {l = l} {st = st} {t = t} {h = h} {spots = spots} {earlier = earlier} x u same downs = record {
+abbrev pub begins : {p : State} {t : Tables} {h : Happens} {spots : List Spot} {earlier : List LineBefore} (x : Bears p t h spots earlier) (u : Tables) → SameLines t u → ((kind : Kind) (b : ℕ) (c : Cell) → down_at u.lines kind b c ≡ down_after h.event h.answer spots kind b c (down_at t.lines kind b c)) → Begins u (map (change_of h p u) earlier)
+begins {p = p} {t = t} {h = h} {spots = spots} {earlier = earlier} x u same downs = record {
   from = facts x.past;
   to = facts new;
   is = same_tables t u (facts x.past) same.same x.tables;
@@ -142,9 +140,9 @@ begins {r = r} {l = l} {st = st} {t = t} {h = h} {spots = spots} {earlier = earl
     few_after m s = unique (book_of new) (legal_sound x.settings new legal_new) m s
 
 -- once they are made, the tables are what the past with the entry says
-pub joined : {r : register.State} {l : List Area} {st : book.State} {t : Tables} {h : Happens} {spots : List Spot} {earlier : List LineBefore} (x : Bears r l st t h spots earlier) (u v : Tables) → ((kind : Kind) (b : ℕ) (c : Cell) → down_at u.lines kind b c ≡ down_after h.event h.answer spots kind b c (down_at t.lines kind b c)) → Consistent v (mixed (facts x.past) (facts (After (entry_of x.desk h) x.past)) (map (change_of h r l st u) earlier)) → Consistent v (facts (After (entry_of x.desk h) x.past))
-joined {r = r} {l = l} {st = st} {h = h} {spots = spots} {earlier = earlier} x u v downs done =
-    same_parts v (mixed (facts x.past) (facts new) (map (change_of h r l st u) earlier)) (facts new) (λ k. each k (changes_key k (map (change_of h r l st u) earlier)) refl) done
+pub joined : {p : State} {t : Tables} {h : Happens} {spots : List Spot} {earlier : List LineBefore} (x : Bears p t h spots earlier) (u v : Tables) → ((kind : Kind) (b : ℕ) (c : Cell) → down_at u.lines kind b c ≡ down_after h.event h.answer spots kind b c (down_at t.lines kind b c)) → Consistent v (mixed (facts x.past) (facts (After (entry_of x.desk h) x.past)) (map (change_of h p u) earlier)) → Consistent v (facts (After (entry_of x.desk h) x.past))
+joined {p = p} {h = h} {spots = spots} {earlier = earlier} x u v downs done =
+    same_parts v (mixed (facts x.past) (facts new) (map (change_of h p u) earlier)) (facts new) (λ k. each k (changes_key k (map (change_of h p u) earlier)) refl) done
   where
     new : Past
     new = After (entry_of x.desk h) x.past
@@ -152,19 +150,19 @@ joined {r = r} {l = l} {st = st} {h = h} {spots = spots} {earlier = earlier} x u
     itself : (f : LineFacts) → SamePart f f
     itself f = record { line = refl; deeds = refl; total = refl; area = λ a. refl }
 
-    read : (k : LineKey) → changes_key k (map (change_of h r l st u) earlier) ≡ list_any (key_eq k) x.keys
+    read : (k : LineKey) → changes_key k (map (change_of h p u) earlier) ≡ list_any (key_eq k) x.keys
     read k = ap (changes_key k) (changes_are x u (λ kind b c. downs kind b c ∙ downs_then x kind b c)) ∙ any_changes (facts x.past) (facts new) k x.keys
 
-    each : (k : LineKey) (t : Bool) → changes_key k (map (change_of h r l st u) earlier) ≡ t → SamePart (if t then facts new k else facts x.past k) (facts new k)
+    each : (k : LineKey) (t : Bool) → changes_key k (map (change_of h p u) earlier) ≡ t → SamePart (if t then facts new k else facts x.past k) (facts new k)
     each k true e = itself (facts new k)
     each k false e = x.rest k (sym (read k) ∙ e)
 
-pub settled : {r : register.State} {l : List Area} {st : book.State} {t : Tables} {h : Happens} {spots : List Spot} {earlier : List LineBefore} (x : Bears r l st t h spots earlier) (u v : Tables) (xs : List Change) → xs ≡ map (change_of h r l st u) earlier → SameLines t u → ((kind : Kind) (b : ℕ) (c : Cell) → down_at u.lines kind b c ≡ down_after h.event h.answer spots kind b c (down_at t.lines kind b c)) → ((y : Begins u xs) → Consistent v (mixed y.from y.to xs)) → Consistent v (facts (After (entry_of x.desk h) x.past))
-settled {r = r} {l = l} {st = st} {h = h} {spots = spots} {earlier = earlier} x u v xs are same downs done =
+pub settled : {p : State} {t : Tables} {h : Happens} {spots : List Spot} {earlier : List LineBefore} (x : Bears p t h spots earlier) (u v : Tables) (xs : List Change) → xs ≡ map (change_of h p u) earlier → SameLines t u → ((kind : Kind) (b : ℕ) (c : Cell) → down_at u.lines kind b c ≡ down_after h.event h.answer spots kind b c (down_at t.lines kind b c)) → ((y : Begins u xs) → Consistent v (mixed y.from y.to xs)) → Consistent v (facts (After (entry_of x.desk h) x.past))
+settled {p = p} {h = h} {spots = spots} {earlier = earlier} x u v xs are same downs done =
     joined x u v downs (subst (λ ys. (y : Begins u ys) → Consistent v (mixed y.from y.to ys)) are done (begins x u same downs))
 
 -- an edit that was made bears on the lines that were held
-abbrev pub bears_made : {r : register.State} {l : List Area} {st : book.State} {t : Tables} {h : Happens} {spots : List Spot} {earlier : List LineBefore} (x : MadeEdit r l st t h spots earlier) → Bears r l st t h spots earlier
+abbrev pub bears_made : {p : State} {t : Tables} {h : Happens} {spots : List Spot} {earlier : List LineBefore} (x : MadeEdit p t h spots earlier) → Bears p t h spots earlier
 bears_made {h = h} {spots = spots} x = record {
   settings = x.settings;
   past = x.past;

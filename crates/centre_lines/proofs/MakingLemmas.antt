@@ -2,12 +2,10 @@
 use Rattle.std.proofs.Common.{◌≡◌, ℕ, ◌+◌, ◌<◌, List, [], ◌∷◌, ◌++◌, length, get_or, map, take, drop, sym, ◌∙◌, ap}
 use Rattle.std.proofs.lemmas.List.{drop_more, map-append, take-append-drop, take_more}
 use Rattle.std.specs.List.{list_any}
-use Rattle.areas.specs.declared.area.Area.{Area}
-use Rattle.cell_register.specs.Register as register
+use Rattle.coverage_plan.specs.Plan.{State}
 use Rattle.kept_tables.specs.Changes.{Change, IsNext}
 use Rattle.kept_tables.specs.Tables.{Tables}
 use Rattle.mirror.specs.Table.{downs_of, is_that_place}
-use Rattle.warning_book.specs.Book as book
 use Rattle.warning_book.specs.Book.{warning_of}
 use Rattle.centre_events.specs.Warnings.{kind_in}
 use Rattle.centre_lines.specs.Following.{Happens, change_of, line_now}
@@ -37,6 +35,6 @@ next_as t x y same n = record {
 }
 
 -- tables with the same cells down make the same change of a line
-pub change_as : (h : Happens) (r : register.State) (l : List Area) (st : book.State) (t u : Tables) (x : LineBefore) → u.lines.downs ≡ t.lines.downs → change_of h r l st t x ≡ change_of h r l st u x
-change_as h r l st t u x same =
-    λ i. record { key = x.key; before = x.before; after = facts_from r l (list_any (is_that_place x.key.bsc x.key.cell) (downs_of (kind_in (warning_of st x.key.warning)) (sym same i))) x.key.bsc x.key.cell (line_now h st.warnings x.key.bsc x.key.cell (warning_of st x.key.warning) x.before.line) (warning_of st x.key.warning) }
+pub change_as : (h : Happens) (p : State) (t u : Tables) (x : LineBefore) → u.lines.downs ≡ t.lines.downs → change_of h p t x ≡ change_of h p u x
+change_as h p t u x same =
+    λ i. record { key = x.key; before = x.before; after = facts_from p.register p.areas (list_any (is_that_place x.key.bsc x.key.cell) (downs_of (kind_in (warning_of p.book x.key.warning)) (sym same i))) x.key.bsc x.key.cell (line_now h p.book.warnings x.key.bsc x.key.cell (warning_of p.book x.key.warning) x.before.line) (warning_of p.book x.key.warning) }

@@ -9,9 +9,9 @@ use Rattle.std.proofs.lemmas.Slice.Eq.{bytes_eq-Decides}
 use Rattle.areas.specs.Areas.{areas_of, covers}
 use Rattle.areas.specs.Laws.{among_areas_of}
 use Rattle.areas.specs.declared.area.Area.{Area}
-use Rattle.cell_register.specs.Register as register
 use Rattle.common.specs.OnceLaws.{any_turned}
 use Rattle.common.specs.declared.cell.Cell.{Cell}
+use Rattle.coverage_plan.specs.Plan.{State}
 use Rattle.kept_tables.specs.Tables.{Tables}
 use Rattle.kept_tables.specs.View.{key_at}
 use Rattle.kept_tables.specs.declared.spot.Spot.{Spot}
@@ -88,21 +88,21 @@ blank_of : (t : Bool) → not t ≡ false → t ≡ true
 blank_of true h = refl
 blank_of false h = cc
 
-far_passed : (e : Edit) (r : register.State) (l : List Area) (st : book.State) (t u : Tables) (p : Spot) (n : ℕ) → AsBefore t u → leaves_cover e ≡ true → is_near l st u.lines p.bsc p.cell n ≡ false → before_unless e r l st t (key_at p n) ≡ []
-far_passed e r l st t u p n same leaves far =
-    let parts = neither (not (is_blank (line_at u.lines p.bsc p.cell n))) (is_so n (names_one_of (areas_of l p.cell)) st.warnings) far in
-    let blank : is_blank (line_at t.lines p.bsc p.cell n) ≡ true = ap (λ ls. is_blank (unwrap_or (lookup (is_slot p.bsc p.cell n) ls) blank_line)) (sym same.lines) ∙ blank_of (is_blank (line_at u.lines p.bsc p.cell n)) parts.0 in
-    let idle = idle_there l st p.cell n (line_at t.lines p.bsc p.cell n) blank parts.1 (warning_of st n) refl in
-    ap (λ x. if x then [] else line_before r l st t (key_at p n) ∷ []) (over e l (warning_of st n) p.cell (line_at t.lines p.bsc p.cell n) leaves idle)
+far_passed : (e : Edit) (p : State) (t u : Tables) (q : Spot) (n : ℕ) → AsBefore t u → leaves_cover e ≡ true → is_near p.areas p.book u.lines q.bsc q.cell n ≡ false → before_unless e p t (key_at q n) ≡ []
+far_passed e p t u q n same leaves far =
+    let parts = neither (not (is_blank (line_at u.lines q.bsc q.cell n))) (is_so n (names_one_of (areas_of p.areas q.cell)) p.book.warnings) far in
+    let blank : is_blank (line_at t.lines q.bsc q.cell n) ≡ true = ap (λ ls. is_blank (unwrap_or (lookup (is_slot q.bsc q.cell n) ls) blank_line)) (sym same.lines) ∙ blank_of (is_blank (line_at u.lines q.bsc q.cell n)) parts.0 in
+    let idle = idle_there p.areas p.book q.cell n (line_at t.lines q.bsc q.cell n) blank parts.1 (warning_of p.book n) refl in
+    ap (λ x. if x then [] else line_before p t (key_at q n) ∷ []) (over e p.areas (warning_of p.book n) q.cell (line_at t.lines q.bsc q.cell n) leaves idle)
 
 -- and the lines that are held are those of the warnings that are near
-pub near_before : (e : Edit) (r : register.State) (l : List Area) (st : book.State) (t u : Tables) (p : Spot) (ns : List ℕ) → AsBefore t u → leaves_cover e ≡ true → before_at e r l st t (filter (is_near l st u.lines p.bsc p.cell) ns) p ≡ before_at e r l st t ns p
-near_before e r l st t u p [] same leaves = refl
-near_before e r l st t u p (n ∷ ns) same leaves = step (near_before e r l st t u p ns same leaves) (is_near l st u.lines p.bsc p.cell n) refl
+pub near_before : (e : Edit) (p : State) (t u : Tables) (q : Spot) (ns : List ℕ) → AsBefore t u → leaves_cover e ≡ true → before_at e p t (filter (is_near p.areas p.book u.lines q.bsc q.cell) ns) q ≡ before_at e p t ns q
+near_before e p t u q [] same leaves = refl
+near_before e p t u q (n ∷ ns) same leaves = step (near_before e p t u q ns same leaves) (is_near p.areas p.book u.lines q.bsc q.cell n) refl
   where
-    step : before_at e r l st t (filter (is_near l st u.lines p.bsc p.cell) ns) p ≡ before_at e r l st t ns p → (x : Bool) → is_near l st u.lines p.bsc p.cell n ≡ x → before_at e r l st t (cond x (n ∷ filter (is_near l st u.lines p.bsc p.cell) ns) (filter (is_near l st u.lines p.bsc p.cell) ns)) p ≡ before_unless e r l st t (key_at p n) ++ before_at e r l st t ns p
-    step rest true h = ap (λ xs. before_unless e r l st t (key_at p n) ++ xs) rest
-    step rest false h = rest ∙ ap (λ xs. xs ++ before_at e r l st t ns p) (sym (far_passed e r l st t u p n same leaves h))
+    step : before_at e p t (filter (is_near p.areas p.book u.lines q.bsc q.cell) ns) q ≡ before_at e p t ns q → (x : Bool) → is_near p.areas p.book u.lines q.bsc q.cell n ≡ x → before_at e p t (cond x (n ∷ filter (is_near p.areas p.book u.lines q.bsc q.cell) ns) (filter (is_near p.areas p.book u.lines q.bsc q.cell) ns)) q ≡ before_unless e p t (key_at q n) ++ before_at e p t ns q
+    step rest true h = ap (λ xs. before_unless e p t (key_at q n) ++ xs) rest
+    step rest false h = rest ∙ ap (λ xs. xs ++ before_at e p t ns q) (sym (far_passed e p t u q n same leaves h))
 
 -- an idle line stays where what happens leaves blank lines blank
 pub far_stays : (h : Happens) (l : List Area) (st : book.State) (t u : Tables) (p : Spot) (n : ℕ) → AsBefore t u → leaves_blank h.event h.answer ≡ true → is_near l st u.lines p.bsc p.cell n ≡ false → stays h l st t (key_at p n) ≡ true

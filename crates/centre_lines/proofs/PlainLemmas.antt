@@ -2,9 +2,9 @@
 use Rattle.std.proofs.Common.{◌≡◌, ℕ, Bool, false, List, Option, Some, None}
 use Rattle.areas.specs.declared.area.Area.{Area}
 use Rattle.cell_register.specs.Register as register
+use Rattle.coverage_plan.specs.Plan.{State}
 use Rattle.kept_tables.specs.declared.line_facts.LineFacts.{LineFacts}
 use Rattle.mirror.specs.declared.line_key.LineKey.{LineKey}
-use Rattle.warning_book.specs.Book as book
 use Rattle.warning_book.specs.declared.warning.Warning.{Warning}
 use Rattle.centre_events.specs.Kept.{IsRegisterOf, AreAreasOf, is_edit}
 use Rattle.centre_events.specs.Past.{Past, After}
@@ -16,9 +16,9 @@ use Rattle.centre_past.specs.State.{facts_from}
 
 -- of a line that was read so
 
-pub plain_facts : (h : Happens) (r : register.State) (l : List Area) (st : book.State) (down now : Bool) (k : LineKey) (before : LineFacts) (o : Option Warning) → before ≡ facts_from r l down k.bsc k.cell before.line o → record before { line = line_now h st.warnings k.bsc k.cell o before.line; down = now } ≡ facts_from r l now k.bsc k.cell (line_now h st.warnings k.bsc k.cell o before.line) o
-plain_facts h r l st down now k before None read = λ i. record (read i) { line = (read i).line; down = now }
-plain_facts h r l st down now k before (Some w) read = λ i. record (read i) { line = line_now h st.warnings k.bsc k.cell (Some w) before.line; down = now }
+pub plain_facts : (h : Happens) (p : State) (down now : Bool) (k : LineKey) (before : LineFacts) (o : Option Warning) → before ≡ facts_from p.register p.areas down k.bsc k.cell before.line o → record before { line = line_now h p.book.warnings k.bsc k.cell o before.line; down = now } ≡ facts_from p.register p.areas now k.bsc k.cell (line_now h p.book.warnings k.bsc k.cell o before.line) o
+plain_facts h p down now k before None read = λ i. record (read i) { line = (read i).line; down = now }
+plain_facts h p down now k before (Some w) read = λ i. record (read i) { line = line_now h p.book.warnings k.bsc k.cell (Some w) before.line; down = now }
 
 -- no event but an edit changes the register, the areas or the book
 

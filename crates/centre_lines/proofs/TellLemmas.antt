@@ -4,16 +4,14 @@ use Rattle.std.specs.List.{list_any}
 use Rattle.std.proofs.lemmas.Bool.{and_parts, and_from, not-true, or_right}
 use Rattle.std.proofs.lemmas.List.{length-map}
 use Rattle.std.proofs.lemmas.List.Folds.{list_any-append}
-use Rattle.areas.specs.declared.area.Area.{Area}
-use Rattle.cell_register.specs.Register as register
 use Rattle.common.specs.Cell.{cell_eq}
 use Rattle.common.specs.Order.{each_once}
+use Rattle.coverage_plan.specs.Plan.{State}
 use Rattle.kept_tables.specs.Changes.{Change, changes_key, Tells}
 use Rattle.kept_tables.specs.Tables.{Tables}
 use Rattle.kept_tables.specs.View.{View, key_eq, key_at, spot_of, spot_eq}
 use Rattle.kept_tables.specs.declared.spot.Spot.{Spot}
 use Rattle.mirror.specs.declared.line_key.LineKey.{LineKey}
-use Rattle.warning_book.specs.Book as book
 use Rattle.centre_past.specs.Facts.{facts}
 use Rattle.centre_lines.specs.Following.{Happens, Bears, keys_of, entry_of}
 use Rattle.centre_events.specs.Past.{After}
@@ -119,10 +117,10 @@ keys_once (p ∷ ps) ns h g =
 -- Where an event has been made, the changes of the lines on which it bears are such changes.
 
 -- both views
-abbrev was : {r : register.State} {l : List Area} {st : book.State} {t : Tables} {h : Happens} {spots : List Spot} {earlier : List LineBefore} → Bears r l st t h spots earlier → View
+abbrev was : {p : State} {t : Tables} {h : Happens} {spots : List Spot} {earlier : List LineBefore} → Bears p t h spots earlier → View
 was x = facts x.past
 
-abbrev now : {r : register.State} {l : List Area} {st : book.State} {t : Tables} {h : Happens} {spots : List Spot} {earlier : List LineBefore} → Bears r l st t h spots earlier → View
+abbrev now : {p : State} {t : Tables} {h : Happens} {spots : List Spot} {earlier : List LineBefore} → Bears p t h spots earlier → View
 now {h = h} x = facts (After (entry_of x.desk h) x.past)
 
 map_twice : {A B C : Type 0} (f : A → B) (g : B → C) (k : A → C) → ((x : A) → g (f x) ≡ k x) → (xs : List A) → map g (map f xs) ≡ map k xs

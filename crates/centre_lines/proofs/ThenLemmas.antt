@@ -3,15 +3,13 @@ use Rattle.std.proofs.Common.{◌≡◌, ℕ, Bool, true, false, ◌&&◌, ◌||
 use Rattle.std.specs.Prelude.{find, if◌then◌else◌}
 use Rattle.std.specs.List.{list_any}
 use Rattle.std.proofs.lemmas.Bool.{or_right, and_from}
-use Rattle.areas.specs.declared.area.Area.{Area}
-use Rattle.cell_register.specs.Register as register
 use Rattle.common.specs.declared.cell.Cell.{Cell}
+use Rattle.coverage_plan.specs.Plan.{State}
 use Rattle.kept_tables.specs.Tables.{Tables}
 use Rattle.mirror.specs.Line.{state_of, with_state}
 use Rattle.mirror.specs.Table.{down_at}
 use Rattle.mirror.specs.declared.line.Line.{Line}
 use Rattle.mirror.specs.declared.line_key.LineKey.{LineKey}
-use Rattle.warning_book.specs.Book as book
 use Rattle.warning_book.specs.Book.{has_number, kind_of, warning_of, without}
 use Rattle.warning_book.specs.Laws.{found_without, so_without}
 use Rattle.warning_book.specs.declared.warning.Warning.{Warning}
@@ -162,8 +160,8 @@ line_then settings past legal desk h accepted up flight k (Some w) found =
     (λ s among. count_same settings past legal desk h flight k.bsc k.cell k.warning w found s (turned_any s w.versions ∙ among))
     ∙ line_after (entry_of desk h) past k.bsc k.cell w (facts past k).line (legal_updates settings (After (entry_of desk h) past) (accepted, legal) k.warning w found) (was_line settings past legal (entry_of desk h) accepted k.bsc k.cell k.warning w found)
 
-pub then_is : (settings : Settings) (past : Past) → Legal settings past → (desk : ℕ) (h : Happens) → verdict settings past h.event ≡ Ok h.answer → h.up ≡ up_before past h.event → h.flight ≡ flight_before past h.event → (r : register.State) (l : List Area) (st : book.State) (t : Tables) → IsRegisterOf (After (entry_of desk h) past) r → AreAreasOf (After (entry_of desk h) past) l → st ≡ book_of (After (entry_of desk h) past) → ((kind : Kind) (b : ℕ) (c : Cell) → down_at t.lines kind b c ≡ is_down (After (entry_of desk h) past) kind b c) → (k : LineKey) → facts_then h r l st t k (facts past k).line ≡ facts (After (entry_of desk h) past) k
-then_is settings past legal desk h accepted up flight r l st t registered selected booked downs k =
+pub then_is : (settings : Settings) (past : Past) → Legal settings past → (desk : ℕ) (h : Happens) → verdict settings past h.event ≡ Ok h.answer → h.up ≡ up_before past h.event → h.flight ≡ flight_before past h.event → (p : State) (t : Tables) → IsRegisterOf (After (entry_of desk h) past) p.register → AreAreasOf (After (entry_of desk h) past) p.areas → p.book ≡ book_of (After (entry_of desk h) past) → ((kind : Kind) (b : ℕ) (c : Cell) → down_at t.lines kind b c ≡ is_down (After (entry_of desk h) past) kind b c) → (k : LineKey) → facts_then h p t k (facts past k).line ≡ facts (After (entry_of desk h) past) k
+then_is settings past legal desk h accepted up flight p t registered selected booked downs k =
     rw booked
-    (facts_same (After (entry_of desk h) past) r l (down_at t.lines (kind_in (warning_of (book_of (After (entry_of desk h) past)) k.warning)) k.bsc k.cell) k.bsc k.cell (line_now h (book_of (After (entry_of desk h) past)).warnings k.bsc k.cell (warning_of (book_of (After (entry_of desk h) past)) k.warning) (facts past k).line) (warning_of (book_of (After (entry_of desk h) past)) k.warning) registered selected (downs (kind_in (warning_of (book_of (After (entry_of desk h) past)) k.warning)) k.bsc k.cell)
+    (facts_same (After (entry_of desk h) past) p.register p.areas (down_at t.lines (kind_in (warning_of (book_of (After (entry_of desk h) past)) k.warning)) k.bsc k.cell) k.bsc k.cell (line_now h (book_of (After (entry_of desk h) past)).warnings k.bsc k.cell (warning_of (book_of (After (entry_of desk h) past)) k.warning) (facts past k).line) (warning_of (book_of (After (entry_of desk h) past)) k.warning) registered selected (downs (kind_in (warning_of (book_of (After (entry_of desk h) past)) k.warning)) k.bsc k.cell)
     (line_then settings past legal desk h accepted up flight k (warning_of (book_of (After (entry_of desk h) past)) k.warning) refl))

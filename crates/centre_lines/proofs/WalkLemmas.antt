@@ -255,7 +255,7 @@ step_before {p = p} {k = k} x line down before at is read =
 pub step_after : {p : State} {h : Happens} {t : Tables} {k : LineKey} (x : Walks p h t (k ∷ [])) (line next : Line) (down : Bool) (before : LineFacts) → line ≡ line_at t.lines k.bsc k.cell k.warning → down ≡ down_at t.lines (kind_in (warning_of p.book k.warning)) k.bsc k.cell → next ≡ line_now h p.book.warnings k.bsc k.cell (warning_of p.book k.warning) line → before ≡ facts_from p.register p.areas down k.bsc k.cell line (warning_of p.book k.warning) → facts (After (entry_of x.desk h) x.past) k ≡ (change_of (step_to h (kind_in (warning_of p.book k.warning)) k before next)).after
 step_after {p = p} {h = h} {k = k} x line next down before at is becomes read =
     sym ((λ i. record before { line = next_is i; down = unwrap_or mark (down_is i) })
-    ∙ plain_facts h p.register p.areas p.book down now k before o (read ∙ ap (λ l. facts_from p.register p.areas down k.bsc k.cell l o) (sym line_is))
+    ∙ plain_facts h p down now k before o (read ∙ ap (λ l. facts_from p.register p.areas down k.bsc k.cell l o) (sym line_is))
     ∙ ap (λ l. facts_from p.register p.areas now k.bsc k.cell (line_now h p.book.warnings k.bsc k.cell o l) o) was_line
     ∙ facts_new x k now (ap (unwrap_or mark) (is ∙ x.downs (kind_in o) k.bsc k.cell)))
   where
@@ -493,7 +493,7 @@ indicated_walked {p = p} {h = h} {t = t} s ns x v ws all which blanks down is =
 -- All lines on which an event bears are walked.
 
 -- before the first of them
-abbrev pub walks_all : (p : State) (t : Tables) (h : Happens) (spots : List Spot) (ns : List ℕ) (x : MadeOther p.register p.areas p.book t h spots ns) → Walks p h t (keys_of spots (bearing h.event h.answer p.book ns))
+abbrev pub walks_all : (p : State) (t : Tables) (h : Happens) (spots : List Spot) (ns : List ℕ) (x : MadeOther p t h spots ns) → Walks p h t (keys_of spots (bearing h.event h.answer p.book ns))
 walks_all p t h spots ns x = record {
   settings = x.settings;
   past = x.past;
@@ -515,7 +515,7 @@ walks_all p t h spots ns x = record {
 }
 
 -- and after the last
-pub walked_all : (p : State) (t : Tables) (h : Happens) (spots : List Spot) (ns : List ℕ) (x : MadeOther p.register p.areas p.book t h spots ns) (v : Tables) → Consistent v (walked (walks_all p t h spots ns x) (keys_of spots (bearing h.event h.answer p.book ns))) → Consistent v (facts (After (entry_of x.desk h) x.past))
+pub walked_all : (p : State) (t : Tables) (h : Happens) (spots : List Spot) (ns : List ℕ) (x : MadeOther p t h spots ns) (v : Tables) → Consistent v (walked (walks_all p t h spots ns x) (keys_of spots (bearing h.event h.answer p.book ns))) → Consistent v (facts (After (entry_of x.desk h) x.past))
 walked_all p t h spots ns x v is =
     same_parts v (walked (walks_all p t h spots ns x) keys) (facts new) (λ k. step k (list_any (key_eq k) keys) refl) is
   where
@@ -540,5 +540,5 @@ walked_all p t h spots ns x v is =
         (outside x.settings x.past x.legal (entry_of x.desk h) x.accepted k (sym (bear k) ∙ away))
 
 -- each cell away from the spots stays down, or up
-pub other_away : (p : State) (t : Tables) (h : Happens) (spots : List Spot) (ns : List ℕ) (x : MadeOther p.register p.areas p.book t h spots ns) → LeavesDown x.past h.event h.answer spots
+pub other_away : (p : State) (t : Tables) (h : Happens) (spots : List Spot) (ns : List ℕ) (x : MadeOther p t h spots ns) → LeavesDown x.past h.event h.answer spots
 other_away p t h spots ns x kind b c out = down_outside x.settings x.past x.legal h.event h.answer kind b c (sym (x.said.reach.spots (spot b c)) ∙ out)

@@ -4,7 +4,6 @@ use Rattle.std.specs.List.{flat_map, list_any}
 use Rattle.std.specs.Option.{option_copied}
 use Rattle.areas.specs.Areas.{areas_of, covers}
 use Rattle.areas.specs.declared.area.Area.{Area}
-use Rattle.cell_register.specs.Register as register
 use Rattle.common.specs.Order.{each_once}
 use Rattle.common.specs.declared.cell.Cell.{Cell}
 use Rattle.kept_tables.specs.Changes.{Change}
@@ -42,6 +41,7 @@ use Rattle.centre_events.specs.Warnings.{book_of, kind_in, serials}
 use Rattle.centre_events.specs.Verdict.{verdict}
 use Rattle.centre_events.specs.declared.answer.Answer.{Answer}
 use Rattle.centre_events.specs.declared.answer.Answer.TheVariants.{Listed}
+use Rattle.coverage_plan.specs.Plan.{State}
 use Rattle.coverage_plan.specs.declared.edit.Edit.{Edit}
 use Rattle.coverage_plan.specs.declared.edit.Edit.TheVariants as edit
 use Rattle.centre_events.specs.declared.event.Event.{Event}
@@ -57,12 +57,12 @@ use Rattle.centre_past.specs.declared.kept.Kept.{Kept}
 use Rattle.centre_past.specs.Reaching.{is_forget}
 
 -- what is read of a line, from what is kept
-abbrev pub facts_in : register.State → List Area → book.State → Tables → LineKey → LineFacts
-facts_in r l st t k = facts_from r l (down_at t.lines (kind_in (warning_of st k.warning)) k.bsc k.cell) k.bsc k.cell (line_at t.lines k.bsc k.cell k.warning) (warning_of st k.warning)
+abbrev pub facts_in : State → Tables → LineKey → LineFacts
+facts_in p t k = facts_from p.register p.areas (down_at t.lines (kind_in (warning_of p.book k.warning)) k.bsc k.cell) k.bsc k.cell (line_at t.lines k.bsc k.cell k.warning) (warning_of p.book k.warning)
 
 -- the line as it stands
-abbrev pub line_before : register.State → List Area → book.State → Tables → LineKey → LineBefore
-line_before r l st t k = record { key = k; before = facts_in r l st t k }
+abbrev pub line_before : State → Tables → LineKey → LineBefore
+line_before p t k = record { key = k; before = facts_in p t k }
 
 -- nothing is kept of the line, and no area of its warning covers the cell, if the book has the warning
 abbrev pub is_idle : List Area → Option Warning → Cell → Line → Bool
@@ -102,16 +102,16 @@ abbrev pub passed_over : Edit → List Area → Option Warning → Cell → Line
 passed_over e l o c line = if is_forget e then is_blank line else (leaves_cover e && is_idle l o c line)
 
 -- the line as it stands, if it is not passed over
-abbrev pub before_unless : Edit → register.State → List Area → book.State → Tables → LineKey → List LineBefore
-before_unless e r l st t k = if passed_over e l (warning_of st k.warning) k.cell (line_at t.lines k.bsc k.cell k.warning) then [] else line_before r l st t k ∷ []
+abbrev pub before_unless : Edit → State → Tables → LineKey → List LineBefore
+before_unless e p t k = if passed_over e p.areas (warning_of p.book k.warning) k.cell (line_at t.lines k.bsc k.cell k.warning) then [] else line_before p t k ∷ []
 
 -- the lines of each of the warnings at the spot
-abbrev pub before_at : Edit → register.State → List Area → book.State → Tables → List ℕ → Spot → List LineBefore
-before_at e r l st t ns p = flat_map (λ n. before_unless e r l st t (key_at p n)) ns
+abbrev pub before_at : Edit → State → Tables → List ℕ → Spot → List LineBefore
+before_at e p t ns spot = flat_map (λ n. before_unless e p t (key_at spot n)) ns
 
 -- at each of the spots
-abbrev pub lines_before : Edit → register.State → List Area → book.State → Tables → List Spot → List ℕ → List LineBefore
-lines_before e r l st t ps ns = flat_map (before_at e r l st t ns) ps
+abbrev pub lines_before : Edit → State → Tables → List Spot → List ℕ → List LineBefore
+lines_before e p t spots ns = flat_map (before_at e p t ns) spots
 
 -- what happens: an event with its answer, whether the link of its BSC was up before it, and what was in flight to it
 pub record Happens : Type 0 where
@@ -130,8 +130,8 @@ line_now h ws b c None line = line
 line_now h ws b c (Some w) line = stepped (λ s. effect (kind_of w) b c w.message_id s h.event h.answer h.up h.flight ws) (λ s. count_mark b c w.message_id s h.event h.answer h.flight ws) line (serials w)
 
 -- what is read of it then, from what is kept after the event
-abbrev pub facts_then : Happens → register.State → List Area → book.State → Tables → LineKey → Line → LineFacts
-facts_then h r l st t k line = facts_from r l (down_at t.lines (kind_in (warning_of st k.warning)) k.bsc k.cell) k.bsc k.cell (line_now h st.warnings k.bsc k.cell (warning_of st k.warning) line) (warning_of st k.warning)
+abbrev pub facts_then : Happens → State → Tables → LineKey → Line → LineFacts
+facts_then h p t k line = facts_from p.register p.areas (down_at t.lines (kind_in (warning_of p.book k.warning)) k.bsc k.cell) k.bsc k.cell (line_now h p.book.warnings k.bsc k.cell (warning_of p.book k.warning) line) (warning_of p.book k.warning)
 
 -- what brings a cell down, or up, leaves it as it was
 abbrev pub keeps_down : Option Bool → Bool → Bool
@@ -185,12 +185,12 @@ abbrev pub step_to : Happens → Kind → LineKey → LineFacts → Line → Ste
 step_to h kind k before next = record { key = k; before = before; line = next; down = unwrap_or (down_mark kind k.bsc k.cell h.event h.answer) before.down }
 
 -- the change of the line
-abbrev pub change_of : Happens → register.State → List Area → book.State → Tables → LineBefore → Change
-change_of h r l st t x = record { key = x.key; before = x.before; after = facts_then h r l st t x.key x.before.line }
+abbrev pub change_of : Happens → State → Tables → LineBefore → Change
+change_of h p t x = record { key = x.key; before = x.before; after = facts_then h p t x.key x.before.line }
 
 -- the change of the line where the areas that cover its cell are those that did
-abbrev pub covered_change : Happens → register.State → book.State → Tables → LineBefore → Change
-covered_change h r st t x = record { key = x.key; before = x.before; after = covered_facts r (down_at t.lines (kind_in (warning_of st x.key.warning)) x.key.bsc x.key.cell) x.key.bsc x.key.cell (line_now h st.warnings x.key.bsc x.key.cell (warning_of st x.key.warning) x.before.line) x.before.areas (warning_of st x.key.warning) }
+abbrev pub covered_change : Happens → State → Tables → LineBefore → Change
+covered_change h p t x = record { key = x.key; before = x.before; after = covered_facts p.register (down_at t.lines (kind_in (warning_of p.book x.key.warning)) x.key.bsc x.key.cell) x.key.bsc x.key.cell (line_now h p.book.warnings x.key.bsc x.key.cell (warning_of p.book x.key.warning) x.before.line) x.before.areas (warning_of p.book x.key.warning) }
 
 -- the edit leaves what each area covers, and which areas each warning has that it leaves in the book
 abbrev pub leaves_areas : Edit → Bool
@@ -250,15 +250,15 @@ abbrev pub before_past : Past → LineKey → LineBefore
 before_past past k = record { key = k; before = facts past k }
 
 -- the same of an edit, with the lines that were read before it
-pub record Bears (r : register.State) (l : List Area) (st : book.State) (t : Tables) (h : Happens) (spots : List Spot) (earlier : List LineBefore) : Type 0 where
+pub record Bears (p : State) (t : Tables) (h : Happens) (spots : List Spot) (earlier : List LineBefore) : Type 0 where
   pub settings : Settings
   pub past : Past
   pub desk : ℕ
   pub legal : Legal settings past
   pub accepted : verdict settings past h.event ≡ Ok h.answer
-  pub registered : IsRegisterOf (After (entry_of desk h) past) r
-  pub selected : AreAreasOf (After (entry_of desk h) past) l
-  pub booked : st ≡ book_of (After (entry_of desk h) past)
+  pub registered : IsRegisterOf (After (entry_of desk h) past) p.register
+  pub selected : AreAreasOf (After (entry_of desk h) past) p.areas
+  pub booked : p.book ≡ book_of (After (entry_of desk h) past)
   pub up : h.up ≡ up_before past h.event
   pub flight : h.flight ≡ flight_before past h.event
   pub downs : (k : Kind) (b : ℕ) (c : Cell) → down_at t.lines k b c ≡ is_down past k b c
@@ -297,15 +297,15 @@ most_accesses e a st spots (lines.Unread ns) = 3 * (length spots * length (beari
 
 -- what is known where an accepted event has been made, but for the lines: the past before it, that the plan follows it, and
 -- of that past what else is said
-pub record IsMade (r : register.State) (l : List Area) (st : book.State) (t : Tables) (h : Happens) (says : Past → Type 0) : Type 0 where
+pub record IsMade (p : State) (t : Tables) (h : Happens) (says : Past → Type 0) : Type 0 where
   pub settings : Settings
   pub past : Past
   pub desk : ℕ
   pub legal : Legal settings past
   pub accepted : verdict settings past h.event ≡ Ok h.answer
-  pub registered : IsRegisterOf (After (entry_of desk h) past) r
-  pub selected : AreAreasOf (After (entry_of desk h) past) l
-  pub booked : st ≡ book_of (After (entry_of desk h) past)
+  pub registered : IsRegisterOf (After (entry_of desk h) past) p.register
+  pub selected : AreAreasOf (After (entry_of desk h) past) p.areas
+  pub booked : p.book ≡ book_of (After (entry_of desk h) past)
   pub up : h.up ≡ up_before past h.event
   pub flight : h.flight ≡ flight_before past h.event
   pub downs : (k : Kind) (b : ℕ) (c : Cell) → down_at t.lines k b c ≡ is_down past k b c
@@ -313,16 +313,16 @@ pub record IsMade (r : register.State) (l : List Area) (st : book.State) (t : Ta
   pub said : says past
 
 -- what is known of the lines on which it bears is said
-abbrev pub Made : register.State → List Area → book.State → Tables → Happens → List Spot → LinesBefore → Type 0
-Made r l st t h spots earlier = IsMade r l st t h (λ past. WasReached past h.event h.answer spots earlier)
+abbrev pub Made : State → Tables → Happens → List Spot → LinesBefore → Type 0
+Made p t h spots earlier = IsMade p t h (λ past. WasReached past h.event h.answer spots earlier)
 
 -- an edit, whose lines were read before it
-abbrev pub MadeEdit : register.State → List Area → book.State → Tables → Happens → List Spot → List LineBefore → Type 0
-MadeEdit r l st t h spots earlier = IsMade r l st t h (λ past. WasRead past h.event h.answer spots earlier)
+abbrev pub MadeEdit : State → Tables → Happens → List Spot → List LineBefore → Type 0
+MadeEdit p t h spots earlier = IsMade p t h (λ past. WasRead past h.event h.answer spots earlier)
 
 -- another event, whose lines are read as they are changed
-abbrev pub MadeOther : register.State → List Area → book.State → Tables → Happens → List Spot → List ℕ → Type 0
-MadeOther r l st t h spots ns = IsMade r l st t h (λ past. IsUnread past h.event h.answer spots ns)
+abbrev pub MadeOther : State → Tables → Happens → List Spot → List ℕ → Type 0
+MadeOther p t h spots ns = IsMade p t h (λ past. IsUnread past h.event h.answer spots ns)
 
 -- what is known of what is kept where an accepted event has been made, but for the lines and the links
 pub record Finishes (s : Kept) (e : Event) (a : Answer) (place : ℕ) (up : Bool) (spots : List Spot) (earlier : LinesBefore) : Type 0 where

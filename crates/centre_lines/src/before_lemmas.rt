@@ -14,5 +14,5 @@ ghost use Rattle.centre_past.specs.declared.kept.Kept.{Kept};
 
 #[tactic(auto, using(crate::proofs::BeforeLemmas::edit_was_reached))]
 fn edit_was_reached()
-    ensures { (past : Past) (s : Kept) (e : Edit) (a : Answer) (spots : List Spot) (numbers : List ℕ) (earlier : List LineBefore) → IsKept past s → IsReach (record { spots = spots; warnings = numbers }) (reach_of past (event.Edit e) a) → earlier ≡ lines_before e s.plan.register s.plan.areas s.plan.book s.tables spots numbers → WasRead past (event.Edit e) a spots earlier }
+    ensures { (past : Past) (s : Kept) (e : Edit) (a : Answer) (spots : List Spot) (numbers : List ℕ) (earlier : List LineBefore) → IsKept past s → IsReach (record { spots = spots; warnings = numbers }) (reach_of past (event.Edit e) a) → earlier ≡ lines_before e s.plan s.tables spots numbers → WasRead past (event.Edit e) a spots earlier }
 {}

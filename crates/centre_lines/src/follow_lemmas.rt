@@ -3,6 +3,7 @@
 ghost use Rattle.std.specs.Prelude.{◌≡◌, List, ℕ, Option, Some, Ok, true, find, map, nat_eq};
 ghost use Rattle.std.specs.Option.{option_map};
 ghost use Rattle.common.specs.declared.cell.Cell.{Cell};
+ghost use Rattle.coverage_plan.specs.Plan.{State};
 ghost use Rattle.kept_tables.specs.Changes.{Begins};
 ghost use Rattle.kept_tables.specs.Consistent.{Owned};
 ghost use Rattle.common.specs.Order.{each_once};
@@ -11,12 +12,9 @@ ghost use Rattle.kept_tables.specs.declared.spot.Spot.{Spot};
 ghost use Rattle.warning_book.specs.Book.{is_so, warning_of};
 ghost use Rattle.warning_book.specs.declared.kind.Kind.{Kind};
 ghost use Rattle.warning_book.specs.declared.warning.Warning.{Warning};
-ghost use Rattle.areas.specs.declared.area.Area.{Area};
-ghost use Rattle.cell_register.specs.Register as register;
 ghost use Rattle.kept_tables.specs.Tables.{Tables};
 ghost use Rattle.mirror.specs.Table.{down_at};
 ghost use Rattle.mirror.specs.declared.line_key.LineKey.{LineKey};
-ghost use Rattle.warning_book.specs.Book as book;
 ghost use Rattle.centre_events.specs.Down.{is_down};
 ghost use Rattle.centre_past.specs.Links.{up_before};
 ghost use Rattle.centre_lines.specs.Following.{SameLines, Happens, Bears, change_of, down_after, entry_of, facts_then, flight_before, keys_of};
@@ -41,7 +39,7 @@ fn was_line()
 {}
 
 fn then_is()
-    ensures { (settings : Settings) (past : Past) → Legal settings past → (desk : ℕ) (h : Happens) → verdict settings past h.event ≡ Ok h.answer → h.up ≡ up_before past h.event → h.flight ≡ flight_before past h.event → (r : register.State) (l : List Area) (st : book.State) (t : Tables) → IsRegisterOf (After (entry_of desk h) past) r → AreAreasOf (After (entry_of desk h) past) l → st ≡ book_of (After (entry_of desk h) past) → ((k : Kind) (b : ℕ) (c : Cell) → down_at t.lines k b c ≡ is_down (After (entry_of desk h) past) k b c) → (k : LineKey) → facts_then h r l st t k (facts past k).line ≡ facts (After (entry_of desk h) past) k }
+    ensures { (settings : Settings) (past : Past) → Legal settings past → (desk : ℕ) (h : Happens) → verdict settings past h.event ≡ Ok h.answer → h.up ≡ up_before past h.event → h.flight ≡ flight_before past h.event → (p : State) (t : Tables) → IsRegisterOf (After (entry_of desk h) past) p.register → AreAreasOf (After (entry_of desk h) past) p.areas → p.book ≡ book_of (After (entry_of desk h) past) → ((k : Kind) (b : ℕ) (c : Cell) → down_at t.lines k b c ≡ is_down (After (entry_of desk h) past) k b c) → (k : LineKey) → facts_then h p t k (facts past k).line ≡ facts (After (entry_of desk h) past) k }
 {}
 
 fn keys_once()
@@ -49,5 +47,5 @@ fn keys_once()
 {}
 
 fn begins()
-    ensures { (r : register.State) (l : List Area) (st : book.State) (t : Tables) (h : Happens) (spots : List Spot) (earlier : List LineBefore) (x : Bears r l st t h spots earlier) (u : Tables) → SameLines t u → ((k : Kind) (b : ℕ) (c : Cell) → down_at u.lines k b c ≡ down_after h.event h.answer spots k b c (down_at t.lines k b c)) → Begins u (map (change_of h r l st u) earlier) }
+    ensures { (p : State) (t : Tables) (h : Happens) (spots : List Spot) (earlier : List LineBefore) (x : Bears p t h spots earlier) (u : Tables) → SameLines t u → ((k : Kind) (b : ℕ) (c : Cell) → down_at u.lines k b c ≡ down_after h.event h.answer spots k b c (down_at t.lines k b c)) → Begins u (map (change_of h p u) earlier) }
 {}

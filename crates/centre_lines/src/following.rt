@@ -67,7 +67,7 @@ fn facts_then<'b>(
     tables: &KeptTables,
     earlier: &LineBefore,
 ) -> Result<LineFacts<'b>, AllocError>
-    ensures facts { IfOk result (λ f. f ≡ facts_then (happens h.now) plan.old.register plan.old.areas plan.old.book tables.now earlier.now.key earlier.now.before.line) }
+    ensures facts { IfOk result (λ f. f ≡ facts_then (happens h.now) plan.old tables.now earlier.now.key earlier.now.before.line) }
     ensures same { plan.new ≡ plan.old }
 {
     let LineKey { bsc, cell, warning } = earlier.key;
@@ -89,7 +89,7 @@ fn covered_then<'b>(
     tables: &KeptTables,
     earlier: &'b LineBefore,
 ) -> LineFacts<'b>
-    ensures facts { result ≡ (covered_change (happens h.now) plan.old.register plan.old.book tables.now earlier.now).after }
+    ensures facts { result ≡ (covered_change (happens h.now) plan.old tables.now earlier.now).after }
     ensures same { plan.new ≡ plan.old }
 {
     let LineKey { bsc, cell, warning } = earlier.key;
@@ -132,7 +132,7 @@ fn then_of<'b>(
     earlier: &'b LineBefore,
 ) -> Result<LineFacts<'b>, AllocError>
     requires covered { leaves_areas_then h.now.event.now ≡ true → AreCovering plan.old.areas earlier.now.key.cell earlier.now.before.areas (warning_of plan.old.book earlier.now.key.warning) }
-    ensures facts { IfOk result (λ f. f ≡ facts_then (happens h.now) plan.old.register plan.old.areas plan.old.book tables.now earlier.now.key earlier.now.before.line) }
+    ensures facts { IfOk result (λ f. f ≡ facts_then (happens h.now) plan.old tables.now earlier.now.key earlier.now.before.line) }
     ensures same { plan.new ≡ plan.old }
 {
     if leaves_areas(h) {
@@ -165,8 +165,8 @@ fn change_line<'b>(
     earlier: &'b LineBefore,
 ) -> Result<(), AllocError>
     requires covered { leaves_areas_then h.now.event.now ≡ true → AreCovering plan.old.areas earlier.now.key.cell earlier.now.before.areas (warning_of plan.old.book earlier.now.key.warning) }
-    requires next { IsNext tables.old (change_of (happens h.now) plan.old.register plan.old.areas plan.old.book tables.old earlier.now) }
-    ensures made { OnOk result ((n : IsNext tables.old (change_of (happens h.now) plan.old.register plan.old.areas plan.old.book tables.old earlier.now)) → Consistent tables.new (mixed n.begins.from n.begins.to (n.done ++ change_of (happens h.now) plan.old.register plan.old.areas plan.old.book tables.old earlier.now ∷ []))) }
+    requires next { IsNext tables.old (change_of (happens h.now) plan.old tables.old earlier.now) }
+    ensures made { OnOk result ((n : IsNext tables.old (change_of (happens h.now) plan.old tables.old earlier.now)) → Consistent tables.new (mixed n.begins.from n.begins.to (n.done ++ change_of (happens h.now) plan.old tables.old earlier.now ∷ []))) }
     ensures downs { tables.new.lines.downs ≡ tables.old.lines.downs }
     ensures meter { tables.new.lines.meter ≤ tables.old.lines.meter + 1 }
     ensures least { tables.old.lines.meter ≤ tables.new.lines.meter }
@@ -189,8 +189,8 @@ fn change_lines<'b>(
     earlier: &'b [LineBefore],
 ) -> Result<(), AllocError>
     requires covered { leaves_areas_then h.now.event.now ≡ true → AreCovered plan.old.areas plan.old.book earlier.now }
-    requires begins { Begins tables.old (map (change_of (happens h.now) plan.old.register plan.old.areas plan.old.book tables.old) earlier.now) }
-    ensures made { OnOk result ((b : Begins tables.old (map (change_of (happens h.now) plan.old.register plan.old.areas plan.old.book tables.old) earlier.now)) → Consistent tables.new (mixed b.from b.to (map (change_of (happens h.now) plan.old.register plan.old.areas plan.old.book tables.old) earlier.now))) }
+    requires begins { Begins tables.old (map (change_of (happens h.now) plan.old tables.old) earlier.now) }
+    ensures made { OnOk result ((b : Begins tables.old (map (change_of (happens h.now) plan.old tables.old) earlier.now)) → Consistent tables.new (mixed b.from b.to (map (change_of (happens h.now) plan.old tables.old) earlier.now))) }
     ensures downs { tables.new.lines.downs ≡ tables.old.lines.downs }
     ensures meter { tables.new.lines.meter ≤ tables.old.lines.meter + length earlier.now }
     ensures least { tables.old.lines.meter ≤ tables.new.lines.meter }
@@ -211,9 +211,9 @@ fn follow_edit<'b>(
     spots: &[Spot],
     earlier: &'b [LineBefore],
 ) -> Result<(), AllocError>
-    requires made { MadeEdit plan.now.register plan.now.areas plan.now.book tables.old (happens h.now) spots.now earlier.now }
-    ensures tables { OnOk result ((x : MadeEdit plan.now.register plan.now.areas plan.now.book tables.old (happens h.now) spots.now earlier.now) → Consistent tables.new (facts (After (entry_of x.desk (happens h.now)) x.past))) }
-    ensures downs { OnOk result ((x : MadeEdit plan.now.register plan.now.areas plan.now.book tables.old (happens h.now) spots.now earlier.now) → (k : Kind) (b : ℕ) (c : Cell) → down_at tables.new.lines k b c ≡ is_down (After (entry_of x.desk (happens h.now)) x.past) k b c) }
+    requires made { MadeEdit plan.now tables.old (happens h.now) spots.now earlier.now }
+    ensures tables { OnOk result ((x : MadeEdit plan.now tables.old (happens h.now) spots.now earlier.now) → Consistent tables.new (facts (After (entry_of x.desk (happens h.now)) x.past))) }
+    ensures downs { OnOk result ((x : MadeEdit plan.now tables.old (happens h.now) spots.now earlier.now) → (k : Kind) (b : ℕ) (c : Cell) → down_at tables.new.lines k b c ≡ is_down (After (entry_of x.desk (happens h.now)) x.past) k b c) }
     ensures meter { tables.new.lines.meter ≤ tables.old.lines.meter + length earlier.now }
     ensures least { tables.old.lines.meter ≤ tables.new.lines.meter }
 {
@@ -231,9 +231,9 @@ fn follow_other(
     spots: &[Spot],
     warnings: &[WarningId],
 ) -> Result<(), AllocError>
-    requires made { MadeOther plan.now.register plan.now.areas plan.now.book tables.old (happens h.now) spots.now warnings.now }
-    ensures tables { OnOk result ((x : MadeOther plan.now.register plan.now.areas plan.now.book tables.old (happens h.now) spots.now warnings.now) → Consistent tables.new (facts (After (entry_of x.desk (happens h.now)) x.past))) }
-    ensures downs { OnOk result ((x : MadeOther plan.now.register plan.now.areas plan.now.book tables.old (happens h.now) spots.now warnings.now) → (k : Kind) (b : ℕ) (c : Cell) → down_at tables.new.lines k b c ≡ is_down (After (entry_of x.desk (happens h.now)) x.past) k b c) }
+    requires made { MadeOther plan.now tables.old (happens h.now) spots.now warnings.now }
+    ensures tables { OnOk result ((x : MadeOther plan.now tables.old (happens h.now) spots.now warnings.now) → Consistent tables.new (facts (After (entry_of x.desk (happens h.now)) x.past))) }
+    ensures downs { OnOk result ((x : MadeOther plan.now tables.old (happens h.now) spots.now warnings.now) → (k : Kind) (b : ℕ) (c : Cell) → down_at tables.new.lines k b c ≡ is_down (After (entry_of x.desk (happens h.now)) x.past) k b c) }
     ensures meter { tables.new.lines.meter ≤ tables.old.lines.meter + 3 * (length spots.now * length (bearing h.now.event.now h.now.answer.now plan.now.book warnings.now)) }
     ensures least { tables.old.lines.meter ≤ tables.new.lines.meter }
 {
@@ -251,9 +251,9 @@ pub fn bear(
     tables: &mut KeptTables,
     reached: Reached,
 ) -> Result<(), AllocError>
-    requires made { Made plan.now.register plan.now.areas plan.now.book tables.old (happens h.now) reached.spots.items reached.lines }
-    ensures tables { OnOk result ((x : Made plan.now.register plan.now.areas plan.now.book tables.old (happens h.now) reached.spots.items reached.lines) → Consistent tables.new (facts (After (entry_of x.desk (happens h.now)) x.past))) }
-    ensures downs { OnOk result ((x : Made plan.now.register plan.now.areas plan.now.book tables.old (happens h.now) reached.spots.items reached.lines) → (k : Kind) (b : ℕ) (c : Cell) → down_at tables.new.lines k b c ≡ is_down (After (entry_of x.desk (happens h.now)) x.past) k b c) }
+    requires made { Made plan.now tables.old (happens h.now) reached.spots.items reached.lines }
+    ensures tables { OnOk result ((x : Made plan.now tables.old (happens h.now) reached.spots.items reached.lines) → Consistent tables.new (facts (After (entry_of x.desk (happens h.now)) x.past))) }
+    ensures downs { OnOk result ((x : Made plan.now tables.old (happens h.now) reached.spots.items reached.lines) → (k : Kind) (b : ℕ) (c : Cell) → down_at tables.new.lines k b c ≡ is_down (After (entry_of x.desk (happens h.now)) x.past) k b c) }
     ensures meter { tables.new.lines.meter ≤ tables.old.lines.meter + most_accesses h.now.event.now h.now.answer.now plan.now.book reached.spots.items reached.lines }
     ensures least { tables.old.lines.meter ≤ tables.new.lines.meter }
 {

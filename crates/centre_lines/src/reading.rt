@@ -161,7 +161,7 @@ fn read_before(
     edit: &Edit,
 ) -> Result<(), AllocError>
     requires known { IsKnown plan.old.areas at.now }
-    ensures earlier { (t : Tables) → AsBefore t tables.old → OnOk result (out.new.items ≡ out.old.items ++ before_unless edit.now plan.old.register plan.old.areas plan.old.book t (key_at at.now.spot n)) }
+    ensures earlier { (t : Tables) → AsBefore t tables.old → OnOk result (out.new.items ≡ out.old.items ++ before_unless edit.now plan.old t (key_at at.now.spot n)) }
     ensures kept { (t : Tables) → AsBefore t tables.old → AsBefore t tables.new }
     ensures meter { tables.new.lines.meter ≤ tables.old.lines.meter + 1 }
     ensures same { plan.new ≡ plan.old }
@@ -192,7 +192,7 @@ fn read_at(
     edit: &Edit,
 ) -> Result<(), AllocError>
     requires known { IsKnown plan.old.areas at.now }
-    ensures earlier { (t : Tables) → AsBefore t tables.old → OnOk result (out.new.items ≡ out.old.items ++ before_at edit.now plan.old.register plan.old.areas plan.old.book t warnings.now at.now.spot) }
+    ensures earlier { (t : Tables) → AsBefore t tables.old → OnOk result (out.new.items ≡ out.old.items ++ before_at edit.now plan.old t warnings.now at.now.spot) }
     ensures kept { (t : Tables) → AsBefore t tables.old → AsBefore t tables.new }
     ensures meter { tables.new.lines.meter ≤ tables.old.lines.meter + length warnings.now }
     ensures same { plan.new ≡ plan.old }
@@ -256,7 +256,7 @@ fn read_near(
     edit: &Edit,
 ) -> Result<(), AllocError>
     requires cover { leaves_cover edit.now ≡ true }
-    ensures earlier { (t : Tables) → AsBefore t tables.old → OnOk result (out.new.items ≡ out.old.items ++ before_at edit.now plan.old.register plan.old.areas plan.old.book t warnings.now spot.now) }
+    ensures earlier { (t : Tables) → AsBefore t tables.old → OnOk result (out.new.items ≡ out.old.items ++ before_at edit.now plan.old t warnings.now spot.now) }
     ensures kept { (t : Tables) → AsBefore t tables.old → AsBefore t tables.new }
     ensures meter { LinesAreOf warnings.now tables.old → tables.new.lines.meter ≤ tables.old.lines.meter + 2 * length warnings.now }
     ensures same { plan.new ≡ plan.old }
@@ -277,7 +277,7 @@ fn read_there(
     warnings: &[WarningId],
     edit: &Edit,
 ) -> Result<(), AllocError>
-    ensures earlier { (t : Tables) → AsBefore t tables.old → OnOk result (out.new.items ≡ out.old.items ++ before_at edit.now plan.old.register plan.old.areas plan.old.book t warnings.now spot.now) }
+    ensures earlier { (t : Tables) → AsBefore t tables.old → OnOk result (out.new.items ≡ out.old.items ++ before_at edit.now plan.old t warnings.now spot.now) }
     ensures kept { (t : Tables) → AsBefore t tables.old → AsBefore t tables.new }
     ensures meter { (leaves_cover edit.now ≡ true → LinesAreOf warnings.now tables.old) → tables.new.lines.meter ≤ tables.old.lines.meter + 2 * length warnings.now }
     ensures same { plan.new ≡ plan.old }
@@ -312,7 +312,7 @@ fn read_new(
     n: WarningId,
 ) -> Result<Vec<LineBefore>, AllocError>
     requires new { warning_of plan.old.book n ≡ None }
-    ensures earlier { (e : edit_spec.Edit) → is_issue e ≡ true → (t : Tables) → AsBefore t tables.now → IfOk result (λ v. v.items ≡ lines_before e plan.old.register plan.old.areas plan.old.book t spots.now (n ∷ [])) }
+    ensures earlier { (e : edit_spec.Edit) → is_issue e ≡ true → (t : Tables) → AsBefore t tables.now → IfOk result (λ v. v.items ≡ lines_before e plan.old t spots.now (n ∷ [])) }
     ensures same { plan.new ≡ plan.old }
 {
     let mut out = Vec::with_capacity(plan.alloc(), spots.len())?;
@@ -332,7 +332,7 @@ pub(crate) fn read_all(
     warnings: &[WarningId],
     edit: &Edit,
 ) -> Result<Vec<LineBefore>, AllocError>
-    ensures earlier { (t : Tables) → AsBefore t tables.old → IfOk result (λ v. v.items ≡ lines_before edit.now plan.old.register plan.old.areas plan.old.book t spots.now warnings.now) }
+    ensures earlier { (t : Tables) → AsBefore t tables.old → IfOk result (λ v. v.items ≡ lines_before edit.now plan.old t spots.now warnings.now) }
     ensures kept { (t : Tables) → AsBefore t tables.old → AsBefore t tables.new }
     ensures meter { (leaves_cover edit.now ≡ true → LinesAreOf warnings.now tables.old) → tables.new.lines.meter ≤ tables.old.lines.meter + 2 * (length spots.now * length warnings.now) }
 {
@@ -353,7 +353,7 @@ pub(crate) fn read_keys(
     keys: &[LineKey],
     edit: &Edit,
 ) -> Result<Vec<LineBefore>, AllocError>
-    ensures earlier { (t : Tables) → AsBefore t tables.old → IfOk result (λ v. v.items ≡ flat_map (before_unless edit.now plan.old.register plan.old.areas plan.old.book t) keys.now) }
+    ensures earlier { (t : Tables) → AsBefore t tables.old → IfOk result (λ v. v.items ≡ flat_map (before_unless edit.now plan.old t) keys.now) }
     ensures kept { (t : Tables) → AsBefore t tables.old → AsBefore t tables.new }
     ensures meter { tables.new.lines.meter ≤ tables.old.lines.meter + length keys.now }
 {

@@ -15,27 +15,23 @@ use Rattle.centre_lines.proofs.following.bear.Goals as goal
 pub returns-in-Read-clause-tables : goal.returns-in-Read-clause-tables
 returns-in-Read-clause-tables c =
     let h : Happens = happens c.args.h.now in
-    let r = c.args.plan.now.register in
-    let l = c.args.plan.now.areas in
-    let st = c.args.plan.now.book in
+    let p = c.args.plan.now in
     on_ok_weaker c.follow_edit.result
     (λ done.
-    subst (λ ls. (y : Made r l st c.args.tables.now h c.args.reached.spots.items ls) → Consistent c.follow_edit.new.tables (facts (After (entry_of y.desk h) y.past))) (sym c.in-Read.is)
-    (subst (λ xs. (y : MadeEdit r l st c.args.tables.now h c.args.reached.spots.items xs) → Consistent c.follow_edit.new.tables (facts (After (entry_of y.desk h) y.past))) c.as_slice-in-Read.ensures.value
-    (subst (λ ps. (y : MadeEdit r l st c.args.tables.now h ps c.as_slice-in-Read.result.now) → Consistent c.follow_edit.new.tables (facts (After (entry_of y.desk h) y.past))) c.as_slice.ensures.value done)))
+    subst (λ ls. (y : Made p c.args.tables.now h c.args.reached.spots.items ls) → Consistent c.follow_edit.new.tables (facts (After (entry_of y.desk h) y.past))) (sym c.in-Read.is)
+    (subst (λ xs. (y : MadeEdit p c.args.tables.now h c.args.reached.spots.items xs) → Consistent c.follow_edit.new.tables (facts (After (entry_of y.desk h) y.past))) c.as_slice-in-Read.ensures.value
+    (subst (λ ps. (y : MadeEdit p c.args.tables.now h ps c.as_slice-in-Read.result.now) → Consistent c.follow_edit.new.tables (facts (After (entry_of y.desk h) y.past))) c.as_slice.ensures.value done)))
     c.follow_edit.ensures.tables
 
 pub returns-in-Read-clause-downs : goal.returns-in-Read-clause-downs
 returns-in-Read-clause-downs c =
     let h : Happens = happens c.args.h.now in
-    let r = c.args.plan.now.register in
-    let l = c.args.plan.now.areas in
-    let st = c.args.plan.now.book in
+    let p = c.args.plan.now in
     on_ok_weaker c.follow_edit.result
     (λ done.
-    subst (λ ls. (y : Made r l st c.args.tables.now h c.args.reached.spots.items ls) → (k : Kind) (b : ℕ) (d : Cell) → down_at c.follow_edit.new.tables.lines k b d ≡ is_down (After (entry_of y.desk h) y.past) k b d) (sym c.in-Read.is)
-    (subst (λ xs. (y : MadeEdit r l st c.args.tables.now h c.args.reached.spots.items xs) → (k : Kind) (b : ℕ) (d : Cell) → down_at c.follow_edit.new.tables.lines k b d ≡ is_down (After (entry_of y.desk h) y.past) k b d) c.as_slice-in-Read.ensures.value
-    (subst (λ ps. (y : MadeEdit r l st c.args.tables.now h ps c.as_slice-in-Read.result.now) → (k : Kind) (b : ℕ) (d : Cell) → down_at c.follow_edit.new.tables.lines k b d ≡ is_down (After (entry_of y.desk h) y.past) k b d) c.as_slice.ensures.value done)))
+    subst (λ ls. (y : Made p c.args.tables.now h c.args.reached.spots.items ls) → (k : Kind) (b : ℕ) (d : Cell) → down_at c.follow_edit.new.tables.lines k b d ≡ is_down (After (entry_of y.desk h) y.past) k b d) (sym c.in-Read.is)
+    (subst (λ xs. (y : MadeEdit p c.args.tables.now h c.args.reached.spots.items xs) → (k : Kind) (b : ℕ) (d : Cell) → down_at c.follow_edit.new.tables.lines k b d ≡ is_down (After (entry_of y.desk h) y.past) k b d) c.as_slice-in-Read.ensures.value
+    (subst (λ ps. (y : MadeEdit p c.args.tables.now h ps c.as_slice-in-Read.result.now) → (k : Kind) (b : ℕ) (d : Cell) → down_at c.follow_edit.new.tables.lines k b d ≡ is_down (After (entry_of y.desk h) y.past) k b d) c.as_slice.ensures.value done)))
     c.follow_edit.ensures.downs
 
 -- any other event
@@ -43,25 +39,21 @@ returns-in-Read-clause-downs c =
 pub returns-clause-tables : goal.returns-clause-tables
 returns-clause-tables c =
     let h : Happens = happens c.args.h.now in
-    let r = c.args.plan.now.register in
-    let l = c.args.plan.now.areas in
-    let st = c.args.plan.now.book in
+    let p = c.args.plan.now in
     on_ok_weaker c.follow_other.result
     (λ done.
-    subst (λ ls. (y : Made r l st c.args.tables.now h c.args.reached.spots.items ls) → Consistent c.follow_other.new.tables (facts (After (entry_of y.desk h) y.past))) (sym c.in-Unread.is)
-    (subst (λ xs. (y : MadeOther r l st c.args.tables.now h c.args.reached.spots.items xs) → Consistent c.follow_other.new.tables (facts (After (entry_of y.desk h) y.past))) c.as_slice-in-Unread-2.ensures.value
-    (subst (λ ps. (y : MadeOther r l st c.args.tables.now h ps c.as_slice-in-Unread-2.result.now) → Consistent c.follow_other.new.tables (facts (After (entry_of y.desk h) y.past))) c.as_slice-in-Unread.ensures.value done)))
+    subst (λ ls. (y : Made p c.args.tables.now h c.args.reached.spots.items ls) → Consistent c.follow_other.new.tables (facts (After (entry_of y.desk h) y.past))) (sym c.in-Unread.is)
+    (subst (λ xs. (y : MadeOther p c.args.tables.now h c.args.reached.spots.items xs) → Consistent c.follow_other.new.tables (facts (After (entry_of y.desk h) y.past))) c.as_slice-in-Unread-2.ensures.value
+    (subst (λ ps. (y : MadeOther p c.args.tables.now h ps c.as_slice-in-Unread-2.result.now) → Consistent c.follow_other.new.tables (facts (After (entry_of y.desk h) y.past))) c.as_slice-in-Unread.ensures.value done)))
     c.follow_other.ensures.tables
 
 pub returns-clause-downs : goal.returns-clause-downs
 returns-clause-downs c =
     let h : Happens = happens c.args.h.now in
-    let r = c.args.plan.now.register in
-    let l = c.args.plan.now.areas in
-    let st = c.args.plan.now.book in
+    let p = c.args.plan.now in
     on_ok_weaker c.follow_other.result
     (λ done.
-    subst (λ ls. (y : Made r l st c.args.tables.now h c.args.reached.spots.items ls) → (k : Kind) (b : ℕ) (d : Cell) → down_at c.follow_other.new.tables.lines k b d ≡ is_down (After (entry_of y.desk h) y.past) k b d) (sym c.in-Unread.is)
-    (subst (λ xs. (y : MadeOther r l st c.args.tables.now h c.args.reached.spots.items xs) → (k : Kind) (b : ℕ) (d : Cell) → down_at c.follow_other.new.tables.lines k b d ≡ is_down (After (entry_of y.desk h) y.past) k b d) c.as_slice-in-Unread-2.ensures.value
-    (subst (λ ps. (y : MadeOther r l st c.args.tables.now h ps c.as_slice-in-Unread-2.result.now) → (k : Kind) (b : ℕ) (d : Cell) → down_at c.follow_other.new.tables.lines k b d ≡ is_down (After (entry_of y.desk h) y.past) k b d) c.as_slice-in-Unread.ensures.value done)))
+    subst (λ ls. (y : Made p c.args.tables.now h c.args.reached.spots.items ls) → (k : Kind) (b : ℕ) (d : Cell) → down_at c.follow_other.new.tables.lines k b d ≡ is_down (After (entry_of y.desk h) y.past) k b d) (sym c.in-Unread.is)
+    (subst (λ xs. (y : MadeOther p c.args.tables.now h c.args.reached.spots.items xs) → (k : Kind) (b : ℕ) (d : Cell) → down_at c.follow_other.new.tables.lines k b d ≡ is_down (After (entry_of y.desk h) y.past) k b d) c.as_slice-in-Unread-2.ensures.value
+    (subst (λ ps. (y : MadeOther p c.args.tables.now h ps c.as_slice-in-Unread-2.result.now) → (k : Kind) (b : ℕ) (d : Cell) → down_at c.follow_other.new.tables.lines k b d ≡ is_down (After (entry_of y.desk h) y.past) k b d) c.as_slice-in-Unread.ensures.value done)))
     c.follow_other.ensures.downs

@@ -17,35 +17,35 @@ change_line-requires-clause-covered c =
 pub change_line-requires-clause-next : goal.change_line-requires-clause-next
 change_line-requires-clause-next c =
     let h : Happens = happens c.args.h.now in
-    let same : change_of h c.args.plan.now.register c.args.plan.now.areas c.args.plan.now.book c.args.tables.now c.line-item.result ≡ change_of h c.args.plan.now.register c.args.plan.now.areas c.args.plan.now.book c.loop-line.tables c.line-item.result = change_as h c.args.plan.now.register c.args.plan.now.areas c.args.plan.now.book c.args.tables.now c.loop-line.tables c.line-item.result c.loop-line.invariant.downs in
-    let next : IsNext c.loop-line.tables (change_of h c.args.plan.now.register c.args.plan.now.areas c.args.plan.now.book c.loop-line.tables c.line-item.result) = record {
+    let same : change_of h c.args.plan.now c.args.tables.now c.line-item.result ≡ change_of h c.args.plan.now c.loop-line.tables c.line-item.result = change_as h c.args.plan.now c.args.tables.now c.loop-line.tables c.line-item.result c.loop-line.invariant.downs in
+    let next : IsNext c.loop-line.tables (change_of h c.args.plan.now c.loop-line.tables c.line-item.result) = record {
       start = c.args.tables.now;
-      changes = map (change_of h c.args.plan.now.register c.args.plan.now.areas c.args.plan.now.book c.args.tables.now) c.args.earlier.now;
+      changes = map (change_of h c.args.plan.now c.args.tables.now) c.args.earlier.now;
       begins = c.requires.begins;
-      done = map (change_of h c.args.plan.now.register c.args.plan.now.areas c.args.plan.now.book c.args.tables.now) (take c.loop-line.line-index c.args.earlier.now);
-      later = map (change_of h c.args.plan.now.register c.args.plan.now.areas c.args.plan.now.book c.args.tables.now) (drop (c.loop-line.line-index + 1) c.args.earlier.now);
-      split = parted (change_of h c.args.plan.now.register c.args.plan.now.areas c.args.plan.now.book c.args.tables.now) c.args.earlier.now c.loop-line.line-index c.line-item.result c.loop-line-test.true c.line-item.is ∙ ap (λ x. map (change_of h c.args.plan.now.register c.args.plan.now.areas c.args.plan.now.book c.args.tables.now) (take c.loop-line.line-index c.args.earlier.now) ++ x ∷ map (change_of h c.args.plan.now.register c.args.plan.now.areas c.args.plan.now.book c.args.tables.now) (drop (c.loop-line.line-index + 1) c.args.earlier.now)) same;
+      done = map (change_of h c.args.plan.now c.args.tables.now) (take c.loop-line.line-index c.args.earlier.now);
+      later = map (change_of h c.args.plan.now c.args.tables.now) (drop (c.loop-line.line-index + 1) c.args.earlier.now);
+      split = parted (change_of h c.args.plan.now c.args.tables.now) c.args.earlier.now c.loop-line.line-index c.line-item.result c.loop-line-test.true c.line-item.is ∙ ap (λ x. map (change_of h c.args.plan.now c.args.tables.now) (take c.loop-line.line-index c.args.earlier.now) ++ x ∷ map (change_of h c.args.plan.now c.args.tables.now) (drop (c.loop-line.line-index + 1) c.args.earlier.now)) same;
       made = c.loop-line.invariant.settled c.requires.begins;
     } in
-    subst (λ (p : State). IsNext c.loop-line.tables (change_of h p.register p.areas p.book c.loop-line.tables c.line-item.result)) (sym c.loop-line.invariant.plan) next
+    subst (λ (p : State). IsNext c.loop-line.tables (change_of h p c.loop-line.tables c.line-item.result)) (sym c.loop-line.invariant.plan) next
 
 pub loop-line-preserved : goal.loop-line-preserved
 loop-line-preserved c =
     let h : Happens = happens c.args.h.now in
-    let same : change_of h c.args.plan.now.register c.args.plan.now.areas c.args.plan.now.book c.args.tables.now c.line-item.result ≡ change_of h c.args.plan.now.register c.args.plan.now.areas c.args.plan.now.book c.loop-line.tables c.line-item.result = change_as h c.args.plan.now.register c.args.plan.now.areas c.args.plan.now.book c.args.tables.now c.loop-line.tables c.line-item.result c.loop-line.invariant.downs in
-    let made : (n : IsNext c.loop-line.tables (change_of h c.args.plan.now.register c.args.plan.now.areas c.args.plan.now.book c.loop-line.tables c.line-item.result)) → Consistent c.change_line.new.tables (mixed n.begins.from n.begins.to (n.done ++ change_of h c.args.plan.now.register c.args.plan.now.areas c.args.plan.now.book c.loop-line.tables c.line-item.result ∷ [])) =
-    subst (λ (p : State). (n : IsNext c.loop-line.tables (change_of h p.register p.areas p.book c.loop-line.tables c.line-item.result)) → Consistent c.change_line.new.tables (mixed n.begins.from n.begins.to (n.done ++ change_of h p.register p.areas p.book c.loop-line.tables c.line-item.result ∷ []))) c.loop-line.invariant.plan c.in_ok-change_line.ensures.made in
+    let same : change_of h c.args.plan.now c.args.tables.now c.line-item.result ≡ change_of h c.args.plan.now c.loop-line.tables c.line-item.result = change_as h c.args.plan.now c.args.tables.now c.loop-line.tables c.line-item.result c.loop-line.invariant.downs in
+    let made : (n : IsNext c.loop-line.tables (change_of h c.args.plan.now c.loop-line.tables c.line-item.result)) → Consistent c.change_line.new.tables (mixed n.begins.from n.begins.to (n.done ++ change_of h c.args.plan.now c.loop-line.tables c.line-item.result ∷ [])) =
+    subst (λ (p : State). (n : IsNext c.loop-line.tables (change_of h p c.loop-line.tables c.line-item.result)) → Consistent c.change_line.new.tables (mixed n.begins.from n.begins.to (n.done ++ change_of h p c.loop-line.tables c.line-item.result ∷ []))) c.loop-line.invariant.plan c.in_ok-change_line.ensures.made in
     record {
       settled = λ b.
           subst (λ xs. Consistent c.change_line.new.tables (mixed b.from b.to xs))
-          (ap (λ x. map (change_of h c.args.plan.now.register c.args.plan.now.areas c.args.plan.now.book c.args.tables.now) (take c.loop-line.line-index c.args.earlier.now) ++ x ∷ []) (sym same) ∙ one_more (change_of h c.args.plan.now.register c.args.plan.now.areas c.args.plan.now.book c.args.tables.now) c.args.earlier.now c.loop-line.line-index c.line-item.result c.loop-line-test.true c.line-item.is)
+          (ap (λ x. map (change_of h c.args.plan.now c.args.tables.now) (take c.loop-line.line-index c.args.earlier.now) ++ x ∷ []) (sym same) ∙ one_more (change_of h c.args.plan.now c.args.tables.now) c.args.earlier.now c.loop-line.line-index c.line-item.result c.loop-line-test.true c.line-item.is)
           (made (record {
             start = c.args.tables.now;
-            changes = map (change_of h c.args.plan.now.register c.args.plan.now.areas c.args.plan.now.book c.args.tables.now) c.args.earlier.now;
+            changes = map (change_of h c.args.plan.now c.args.tables.now) c.args.earlier.now;
             begins = b;
-            done = map (change_of h c.args.plan.now.register c.args.plan.now.areas c.args.plan.now.book c.args.tables.now) (take c.loop-line.line-index c.args.earlier.now);
-            later = map (change_of h c.args.plan.now.register c.args.plan.now.areas c.args.plan.now.book c.args.tables.now) (drop (c.loop-line.line-index + 1) c.args.earlier.now);
-            split = parted (change_of h c.args.plan.now.register c.args.plan.now.areas c.args.plan.now.book c.args.tables.now) c.args.earlier.now c.loop-line.line-index c.line-item.result c.loop-line-test.true c.line-item.is ∙ ap (λ x. map (change_of h c.args.plan.now.register c.args.plan.now.areas c.args.plan.now.book c.args.tables.now) (take c.loop-line.line-index c.args.earlier.now) ++ x ∷ map (change_of h c.args.plan.now.register c.args.plan.now.areas c.args.plan.now.book c.args.tables.now) (drop (c.loop-line.line-index + 1) c.args.earlier.now)) same;
+            done = map (change_of h c.args.plan.now c.args.tables.now) (take c.loop-line.line-index c.args.earlier.now);
+            later = map (change_of h c.args.plan.now c.args.tables.now) (drop (c.loop-line.line-index + 1) c.args.earlier.now);
+            split = parted (change_of h c.args.plan.now c.args.tables.now) c.args.earlier.now c.loop-line.line-index c.line-item.result c.loop-line-test.true c.line-item.is ∙ ap (λ x. map (change_of h c.args.plan.now c.args.tables.now) (take c.loop-line.line-index c.args.earlier.now) ++ x ∷ map (change_of h c.args.plan.now c.args.tables.now) (drop (c.loop-line.line-index + 1) c.args.earlier.now)) same;
             made = c.loop-line.invariant.settled b;
           }));
       downs = c.change_line.ensures.downs ∙ c.loop-line.invariant.downs;
@@ -57,4 +57,4 @@ loop-line-preserved c =
 pub returns-clause-made : goal.returns-clause-made
 returns-clause-made c =
     let h : Happens = happens c.args.h.now in
-    λ b. subst (λ xs. Consistent c.loop-line.tables (mixed b.from b.to (map (change_of h c.args.plan.now.register c.args.plan.now.areas c.args.plan.now.book c.args.tables.now) xs))) (take_all c.loop-line.line-index c.args.earlier.now (omega (arith, c.loop-line-test.false))) (c.loop-line.invariant.settled b)
+    λ b. subst (λ xs. Consistent c.loop-line.tables (mixed b.from b.to (map (change_of h c.args.plan.now c.args.tables.now) xs))) (take_all c.loop-line.line-index c.args.earlier.now (omega (arith, c.loop-line-test.false))) (c.loop-line.invariant.settled b)

@@ -17,7 +17,7 @@ pub returns-clause-tables : goal.returns-clause-tables
 returns-clause-tables c =
     let h : Happens = happens c.args.h.now in
     on_ok_weaker c.change_lines.result
-    (λ done x. settled (bears_made x) c.mark_downs.new.tables c.change_lines.new.tables (map (change_of h c.args.plan.now.register c.args.plan.now.areas c.args.plan.now.book c.mark_downs.new.tables) c.args.earlier.now) refl c.in_ok-mark_downs.ensures.lines c.in_ok-mark_downs.ensures.downs done)
+    (λ done x. settled (bears_made x) c.mark_downs.new.tables c.change_lines.new.tables (map (change_of h c.args.plan.now c.mark_downs.new.tables) c.args.earlier.now) refl c.in_ok-mark_downs.ensures.lines c.in_ok-mark_downs.ensures.downs done)
     (rw (c.new-found.ensures) at c.change_lines.ensures.made)
 
 pub returns-clause-downs : goal.returns-clause-downs

@@ -22,9 +22,9 @@ returns-clause-reached c =
       accepted = accepted;
     }))
     (c.in_ok-earlier.ensures.earlier c.args.kept.now.tables (as_itself c.args.kept.now.tables)
-    ∙ ap (λ (p : State). lines_before c.args.edit.now p.register p.areas p.book c.args.kept.now.tables c.as_slice.result.now c.as_slice-2.result.now) c.new-plan.ensures
-    ∙ ap (λ ps. lines_before c.args.edit.now c.args.kept.now.plan.register c.args.kept.now.plan.areas c.args.kept.now.plan.book c.args.kept.now.tables ps c.as_slice-2.result.now) c.as_slice.ensures.value
-    ∙ ap (lines_before c.args.edit.now c.args.kept.now.plan.register c.args.kept.now.plan.areas c.args.kept.now.plan.book c.args.kept.now.tables c.in_ok-reach.reach.spots.items) c.as_slice-2.ensures.value)
+    ∙ ap (λ (p : State). lines_before c.args.edit.now p c.args.kept.now.tables c.as_slice.result.now c.as_slice-2.result.now) c.new-plan.ensures
+    ∙ ap (λ ps. lines_before c.args.edit.now c.args.kept.now.plan c.args.kept.now.tables ps c.as_slice-2.result.now) c.as_slice.ensures.value
+    ∙ ap (lines_before c.args.edit.now c.args.kept.now.plan c.args.kept.now.tables c.in_ok-reach.reach.spots.items) c.as_slice-2.ensures.value)
 
 pub returns-clause-reads : goal.returns-clause-reads
 returns-clause-reads c =

@@ -36,5 +36,5 @@ returns-clause-reached c = λ settings past a legal kept accepted.
     (forgotten_was_reached past c.args.kept.now c.args.n a c.in_ok-keys.keys.items c.in_ok-earlier.earlier.items kept c.in_ok-keys.ensures.which c.in_ok-keys.ensures.order
     (forgotten_few settings past c.args.kept.now c.args.n legal kept (subst TellsLines c.lines.ensures c.tell_lines.ensures) c.in_ok-keys.keys.items c.in_ok-keys.ensures.few)
     (rw (c.requires) at (c.in_ok-earlier.ensures.earlier c.args.kept.now.tables told)
-    ∙ ap (λ (p : State). flat_map (before_unless (edit.Forget c.args.n) p.register p.areas p.book c.args.kept.now.tables) c.as_slice.result.now) c.new-plan.ensures
-    ∙ ap (flat_map (before_unless (edit.Forget c.args.n) c.args.kept.now.plan.register c.args.kept.now.plan.areas c.args.kept.now.plan.book c.args.kept.now.tables)) c.as_slice.ensures.value))
+    ∙ ap (λ (p : State). flat_map (before_unless (edit.Forget c.args.n) p c.args.kept.now.tables) c.as_slice.result.now) c.new-plan.ensures
+    ∙ ap (flat_map (before_unless (edit.Forget c.args.n) c.args.kept.now.plan c.args.kept.now.tables)) c.as_slice.ensures.value))

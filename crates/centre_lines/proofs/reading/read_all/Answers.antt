@@ -18,8 +18,8 @@ loop-spot-preserved c = (
   λ t same.
       let before = c.loop-spot.invariant.0 t same in (
         c.read_there.ensures.kept t before.0,
-        added_more (before_at c.args.edit.now c.args.plan.now.register c.args.plan.now.areas c.args.plan.now.book t c.args.warnings.now) c.args.spots.now c.loop-spot.spot-index c.spot-item.result c.spot-item.result [] c.loop-spot.out.items c.read_there.new.out.items c.loop-spot-test.true c.spot-item.is before.1
-            (c.in_ok-read_there.ensures.earlier t before.0 ∙ ap (λ (p : State). c.loop-spot.out.items ++ before_at c.args.edit.now p.register p.areas p.book t c.args.warnings.now c.spot-item.result) c.loop-spot.invariant.1.1),
+        added_more (before_at c.args.edit.now c.args.plan.now t c.args.warnings.now) c.args.spots.now c.loop-spot.spot-index c.spot-item.result c.spot-item.result [] c.loop-spot.out.items c.read_there.new.out.items c.loop-spot-test.true c.spot-item.is before.1
+            (c.in_ok-read_there.ensures.earlier t before.0 ∙ ap (λ (p : State). c.loop-spot.out.items ++ before_at c.args.edit.now p t c.args.warnings.now c.spot-item.result) c.loop-spot.invariant.1.1),
       ),
   (
     λ of.

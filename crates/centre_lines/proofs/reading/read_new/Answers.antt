@@ -36,7 +36,7 @@ pub returns-clause-earlier : goal.returns-clause-earlier
 returns-clause-earlier c = λ e issue t same.
     c.loop-spot.invariant.out
     ∙ ap (flat_map (new_at c.args.plan.now.register c.args.tables.now c.args.n)) (take_all c.loop-spot.spot-index c.args.spots.now (omega (arith, c.loop-spot-test.false)))
-    ∙ new_lines e issue c.args.plan.now.register c.args.plan.now.areas c.args.plan.now.book t c.args.tables.now same c.args.n c.requires.new c.args.spots.now
+    ∙ new_lines e issue c.args.plan.now t c.args.tables.now same c.args.n c.requires.new c.args.spots.now
 
 pub returns-clause-same : goal.returns-clause-same
 returns-clause-same c = c.loop-spot.invariant.plan
