@@ -22,7 +22,7 @@ use Rattle.cbsp_messages.specs.Written.{Fits}
 use Rattle.bsc_sim.specs.declared.request.Request.{Request}
 use Rattle.bsc_sim.specs.declared.request.Task.{Task}
 use Rattle.bsc_sim.specs.declared.request.Task.TheVariants.{Write, Kill, Query}
-use Rattle.bsc_sim.specs.Answering.{Answered, TallyState, carried, cause_in, cell_named, cells_named, count_in, counts_of, done_part, is_taken, not_understood, part_of, reply_of, stepped, tally_from, tally_of, task_complete, task_failure}
+use Rattle.bsc_sim.specs.Answering.{Answered, TallyState, carried, cause_in, cell_named, cells_named, count_in, counts_of, done_part, is_taken, channel_of, not_understood, part_of, reply_of, stepped, tally_from, tally_of, task_complete, task_failure}
 use Rattle.bsc_sim.specs.Bsc.{BscState}
 use Rattle.bsc_sim.specs.Choices.{Chosen, count_of}
 use Rattle.bsc_sim.specs.Indications.{failure_in}
@@ -135,7 +135,7 @@ carried_fits b chosen r cells = at (is_taken cells) refl
     tally : TallyState
     tally = tally_of b.own chosen r b.keys (cells_named cells.ids)
 
-    at : (t : Bool) → is_taken cells ≡ t → Fits (cond {A = Answered} t (record { reply = reply_of chosen r tally.done tally.failed; after = record b { keys = tally.keys } }) (record { reply = not_understood; after = b })).reply
+    at : (t : Bool) → is_taken cells ≡ t → Fits (cond {A = Answered} t (record { reply = reply_of chosen r tally.done tally.failed; after = record b { keys = tally.keys } }) (record { reply = not_understood (channel_of r); after = b })).reply
     at true e =
         let parts = and_parts (form_eq cells.form form.LacCi) (nat_le (length cells.ids) 9000) e in
         let few : length cells.ids ≤ 9000 = grind (arith, nat_tests, parts.1) in

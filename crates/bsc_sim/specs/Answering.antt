@@ -160,9 +160,10 @@ abbrev pub reply_of : Chosen → Request → List Cell → List FailEntry → Me
 reply_of chosen r done [] = complete_of r done (counts_of chosen done)
 reply_of chosen r done (f ∷ failed) = failure_of r done (counts_of chosen done) (f ∷ failed)
 
--- the answer to everything else: an ERROR INDICATION that says that the message isn't recognised
-abbrev pub not_understood : Message
-not_understood = message.ErrorIndication (record { cause = cause 4; message_id = None; serial = None; old = None; channel = Some 0 })
+-- the answer to everything else: an ERROR INDICATION that says that the message isn't recognised, on this channel, if one is
+-- given
+abbrev pub not_understood : Option ℕ → Message
+not_understood channel = message.ErrorIndication (record { cause = cause 4; message_id = None; serial = None; old = None; channel = channel })
 
 -- ---- a message
 
@@ -181,7 +182,7 @@ settled b chosen r t = record { reply = reply_of chosen r t.done t.failed; after
 
 abbrev pub carried : BscState → Chosen → Request → Identifications → Answered
 carried b chosen r cells =
-    if is_taken cells then settled b chosen r (tally_of b.own chosen r b.keys (cells_named cells.ids)) else record { reply = not_understood; after = b }
+    if is_taken cells then settled b chosen r (tally_of b.own chosen r b.keys (cells_named cells.ids)) else record { reply = not_understood (channel_of r); after = b }
 
 -- what the message asks is carried out, cell by cell
 abbrev pub is_understood : Message → Bool
@@ -196,4 +197,4 @@ answered b chosen (message.WriteReplace m) = carried b chosen (record { message_
 answered b chosen (message.WriteEmergency m) = carried b chosen (record { message_id = m.message_id; serial = m.serial; task = Write m.old; has_channel = false }) m.cells
 answered b chosen (message.Kill m) = carried b chosen (record { message_id = m.message_id; serial = m.serial; task = Kill; has_channel = is_some m.channel }) m.cells
 answered b chosen (message.StatusQuery m) = carried b chosen (record { message_id = m.message_id; serial = m.serial; task = Query; has_channel = is_some m.channel }) m.cells
-answered b chosen other = record { reply = not_understood; after = b }
+answered b chosen other = record { reply = not_understood None; after = b }

@@ -13,7 +13,7 @@ use crate::choices::Choices;
 use crate::indications::{fail_message, restart_message};
 use crate::keys::Keys;
 use crate::own_cells::OwnCells;
-use crate::replying::{not_understood, reply};
+use crate::replying::{channel_of, not_understood, reply};
 use crate::request::{Request, Task};
 use crate::tally::Tally;
 use cbsp_ie::{Cause, CellIds, Form};
@@ -86,8 +86,8 @@ impl Bsc {
     /// FAILURE with the cells that failed. Both have the identifiers of the message, and list the cells in which it was
     /// done, if there are any, in their order; the answers to a query have no such list. They have the numbers of
     /// broadcasts that are chosen for these cells, if there are any; a MESSAGE STATUS QUERY COMPLETE always has that
-    /// list. Everything else is answered by an ERROR INDICATION with cause 4, which names the basic channel; the other
-    /// answers name it where the message names a channel.
+    /// list. Everything else is answered by an ERROR INDICATION with cause 4. An answer names the basic channel where the
+    /// message is one of these four and names a channel.
     ///
     /// What is done in one cell counts for the cells after it, so a cell may be named twice. An `Err` leaves the table
     /// as it was. It comes of a message that is taken alone: an ERROR INDICATION takes no memory.
@@ -125,7 +125,7 @@ impl Bsc {
                 let request = Request::of(m.message_id, m.serial, Task::Query, m.channel.is_some());
                 self.carry_out(request, &m.cells, choices)
             }
-            _ => Ok(not_understood()),
+            _ => Ok(not_understood(None)),
         }
     }
 
@@ -141,7 +141,7 @@ impl Bsc {
         ensures starved { OnErr result (is_taken cells.now ≡ true) }
     {
         if !is_taken(cells) {
-            return Ok(not_understood());
+            return Ok(not_understood(channel_of(&request)));
         }
         let Tally {
             keys,

@@ -16,21 +16,21 @@ use std::alloc::{AllocError, Global};
 /// The basic channel.
 const BASIC_CHANNEL: u8 = 0;
 
-/// The answer to what isn't taken.
-pub(crate) fn not_understood() -> Message
-    ensures { result ≡ not_understood }
+/// The answer to what isn't taken, on this channel, if one is given.
+pub(crate) fn not_understood(channel: Option<u8>) -> Message
+    ensures { result ≡ not_understood channel }
 {
     Message::ErrorIndication(ErrorIndication {
         cause: Cause::UNRECOGNISED_MESSAGE,
         message_id: None,
         serial: None,
         old: None,
-        channel: Some(BASIC_CHANNEL),
+        channel,
     })
 }
 
 /// The basic channel, if the request names a channel.
-fn channel_of(request: &Request) -> Option<u8>
+pub(crate) fn channel_of(request: &Request) -> Option<u8>
     ensures { result ≡ channel_of request.now }
 {
     if request.has_channel {

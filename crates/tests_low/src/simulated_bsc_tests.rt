@@ -59,13 +59,22 @@ fn add_octets(rt: &impl Abort, text: &str, octets: &mut Vec<u8>) {
     }
 }
 
-/// Appends a frame; behind a WRITE-REPLACE come the 78 octets that its page leaves unused.
+/// How many zeros stand behind a frame: what the page of a WRITE-REPLACE leaves unused, or the Warning Security Information.
+fn zeros_behind(frame: &str) -> usize {
+    if frame.as_bytes().ends_with(b"0104d4f29c0e") {
+        return 78;
+    }
+    if frame.as_bytes().ends_with(b"1700 11") {
+        return 50;
+    }
+    0
+}
+
+/// Appends a frame, and the zeros behind it.
 fn add_frame(rt: &impl Abort, frame: &str, octets: &mut Vec<u8>) {
     add_octets(rt, frame, octets);
-    if frame.as_bytes().starts_with(b"01") {
-        for _ in 0..78 {
-            octets.push(0).expect(rt, "memory");
-        }
+    for _ in 0..zeros_behind(frame) {
+        octets.push(0).expect(rt, "memory");
     }
 }
 
@@ -148,8 +157,10 @@ const THERE: &str = "0b00000c0e111202c000 08000101 1200";
 const WIDE: &str =
     "010000780e111203c000 04000d01006400070064000800640009 1200 0500 06001e 070000 1301 0c0f 0104d4f29c0e";
 
-/// An ERROR INDICATION: the message isn't recognised.
+/// An ERROR INDICATION: the message isn't recognised. The second answers what names no channel, or is no order.
 const NOT_UNDERSTOOD: &str = "150000040b04 1200";
+
+const NOT_UNDERSTOOD_EITHER: &str = "150000020b04";
 
 /// Frames to a BSC with the cells (100, 7) and (100, 9), and its replies.
 const SCENARIOS: [(&[&str], &[&str]); 5] = [
@@ -187,20 +198,25 @@ const SCENARIOS: [(&[&str], &[&str]); 5] = [
             "060000190e111202c000 090006010064000702 0400050100640007 1200",
         ],
     ),
-    // a list by location area, a reply, a list of no cell, and two RESTARTs: what is not an order in cells is not understood
+    // what is not an order in cells is not understood: a list by location area, with a channel, without one, and of an emergency
+    // message; a reply; two RESTARTs; a list of no cell is an order
     (
         &[
             "0400000e0e111202c000 040003050064 1200",
+            "0400000c0e111202c000 040003050064",
+            "010000460e1100034000 040003050064 0f01 100580 1700 11",
             WRITTEN,
             "0400000c0e111202c000 04000101 1200",
             OPENING,
         ],
         &[
             NOT_UNDERSTOOD,
-            NOT_UNDERSTOOD,
+            NOT_UNDERSTOOD_EITHER,
+            NOT_UNDERSTOOD_EITHER,
+            NOT_UNDERSTOOD_EITHER,
             "050000080e111202c000 1200",
-            NOT_UNDERSTOOD,
-            NOT_UNDERSTOOD,
+            NOT_UNDERSTOOD_EITHER,
+            NOT_UNDERSTOOD_EITHER,
         ],
     ),
 ];
