@@ -384,7 +384,7 @@ const HEARD: [Heard; 2] = [
     Heard {
         frames: &[WRITTEN, "08000002aabb", "130000080400010616000d01"],
         octets: 38,
-        answers: &[(20, Some(NOT_UNDERSTOOD)), (26, None)],
+        answers: &[(20, Some(NOT_UNDERSTOOD_EITHER)), (26, None)],
     },
 ];
 
