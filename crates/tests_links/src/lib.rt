@@ -25,6 +25,8 @@ mod orders_in_turn_tests;
 #[cfg(test)]
 mod passage_tests;
 #[cfg(test)]
+mod picture_tests;
+#[cfg(test)]
 mod read_side_tests;
 #[cfg(test)]
 mod saying_tests;
