@@ -16,6 +16,21 @@ class Unplanted(Exception):
     """Why an edit can't be put behind its number."""
 
 
+def changed_lines(path):
+    """Returns the (file, old line, new line) of an edit, the file below its crate."""
+    found, file, old = [], "", ""
+    with open(path) as lines:
+        for line in lines.read().split("\n"):
+            word, _, rest = line.partition(": ")
+            if word == "file":
+                file = rest.strip()
+            elif word == "old":
+                old = rest
+            elif line.startswith("new:"):
+                found.append((file, old, rest))
+    return found
+
+
 def tokens(text, at):
     """Gives the places and the texts of the brackets, semicolons and names of functions from there on, none of them in a comment or a text."""
     for it in TOKEN.finditer(text, at):
