@@ -34,10 +34,10 @@ ALONE = ["sh", "-c", 'ulimit -c 0; ip link set lo up && exec "$@"', "sh"]
 
 
 class Edit:
-    """An edit, with its number, its (file, old line, new line), the tests that its head names, and what came of it."""
+    """An edit, with its number, its name and path, its (file, old line, new line), the tests that its head names, and what came of it."""
 
-    def __init__(self, number, name, pairs, head):
-        self.number, self.name, self.pairs, self.head = number, name, pairs, head
+    def __init__(self, number, name, path, pairs, head):
+        self.number, self.name, self.path, self.pairs, self.head = number, name, path, pairs, head
         self.crates = {path.split("/")[1] for path, _, _ in pairs}
         self.alone = self.refused = None
         self.tried = []
@@ -147,7 +147,7 @@ class Suite:
     def refusal(self, edit):
         """Returns which test refuses the edit, and how, None where none does."""
         program, plain = self.chosen(edit.number), f"{self.program}-0"
-        for test in sorted(self.seconds, key=lambda it: (it.rpartition("::")[2] not in edit.head, self.seconds[it])):
+        for test in sorted(self.seconds, key=lambda it: (not any(word in edit.head for word in it.split("::")), self.seconds[it])):
             limit = LIMIT + 3 * self.seconds[test]
             passed = self.passes(program, test, limit)
             if not passed and self.passes(plain, test, limit) and (passed is None or not self.passes(program, test, limit)):
