@@ -28,6 +28,7 @@ BODY = f"""start:
 }}
 """
 PLACE = '@slips.chosen = global [%d x i8] c"%s", align 16\n' % (len(MARK) + 4, "".join(f"\\{it:02X}" for it in MARK + bytes(4)))
+CALL = re.compile(rf'@"\w+::{slips_planted.CHOSEN}"\(i32 (?:noundef )?(\d+)\)')
 # Seconds that a test has, beside three times those that it takes without an edit. A test of tests_sockets waits 25 for what does not come.
 LIMIT = 60
 ALONE = ["sh", "-c", 'ulimit -c 0; ip link set lo up && exec "$@"', "sh"]
@@ -53,11 +54,13 @@ def apart():
     return []
 
 
-def choosing(lines):
-    """Gives the lines of a module in which each edit asks for the number behind the mark."""
+def choosing(lines, reached):
+    """Gives the lines of a module in which each edit asks for the number behind the mark, and adds the numbers of those that the module has."""
     lines = iter(lines)
     for line in lines:
         yield line
+        if slips_planted.CHOSEN in line:
+            reached.update(map(int, CALL.findall(line)))
         if line.startswith("define ") and f'::{slips_planted.CHOSEN}"(i32 ' in line:
             yield BODY
             while not next(lines).startswith("}"):
@@ -70,14 +73,14 @@ class Suite:
 
     def __init__(self, room, crate, words, alone):
         self.folder, self.crate, self.words, self.alone = f"{room}/crates/{crate}", crate, words, alone
-        self.program, self.seconds, self.failing = f"{room}/slips-{crate}", {}, []
+        self.program, self.reached, self.seconds, self.failing = f"{room}/slips-{crate}", set(), {}, []
 
     def build(self, room):
         with tempfile.TemporaryDirectory(prefix="slips-build-") as here:
             module = unproved.module(room, self.crate, here, self.words is None)
             how = {"encoding": "utf-8", "errors": "surrogateescape"}
             with open(module, **how) as lines, open(f"{here}/whole.ll", "w", **how) as it:
-                it.writelines(choosing(unproved.plain_lines(lines, {})))
+                it.writelines(choosing(unproved.plain_lines(lines, {}), self.reached))
             unproved.compiled(f"{here}/whole.ll", self.program, here)
 
     def chosen(self, number):
@@ -180,7 +183,10 @@ def try_suite(suite, room, planting, edits, jobs):
     if why:
         return [f"{suite.crate}: it does not compile, so it tried nothing: {why}"]
     built = time.monotonic()
-    open_ = [it for it in edits if not it.alone]
+    open_ = [it for it in edits if not it.alone and it.number in suite.reached]
+    if not open_:
+        print(f"{suite.crate}: its code has none of {len(edits)} edits; built in {built - began:.0f} s", flush=True)
+        return []
     with concurrent.futures.ThreadPoolExecutor(jobs if suite.alone else 1) as pool:
         suite.time_unedited(pool)
         timed = time.monotonic()
@@ -192,7 +198,7 @@ def try_suite(suite, room, planting, edits, jobs):
     refused = sum(1 for it in open_ if it.refused)
     ended = time.monotonic()
     print(
-        f"{suite.crate}: {refused} of {len(open_)} edits refused; built in {built - began:.0f} s, {len(suite.seconds)} tests without an edit in {timed - built:.0f} s, "
+        f"{suite.crate}: {refused} of {len(open_)} edits refused that its code has; built in {built - began:.0f} s, {len(suite.seconds)} tests without an edit in {timed - built:.0f} s, "
         f"the edits in {ended - timed:.0f} s",
         flush=True,
     )
