@@ -1,9 +1,9 @@
 -- The counts of the cells that are down, as cells go down and come up.
-use Rattle.std.proofs.Common.{◌≡◌, ℕ, zero, suc, ◌+◌, ◌*◌, ◌%◌, ◌<◌, Bool, true, false, cond, ◌||◌, nat_eq, replicate, List, [], ◌∷◌, length, filter, set, get_or, refl, sym, subst, ◌∙◌, ap, arith, Less, Equal, Greater}
-use Rattle.std.proofs.lemmas.Bool.{or_from, or_parts}
+use Rattle.std.proofs.Common.{◌≡◌, inl, inr, ℕ, zero, suc, ◌+◌, ◌*◌, ◌%◌, ◌<◌, Bool, true, false, cond, ◌||◌, nat_eq, replicate, List, [], ◌∷◌, length, filter, set, get_or, refl, sym, subst, ◌∙◌, ap, arith, Less, Equal, Greater}
+use Rattle.std.proofs.lemmas.Bool.{or_from, or_parts, true≢false}
 use Rattle.std.proofs.lemmas.Bool.Decides.{nat_tests}
 use Rattle.std.proofs.lemmas.Grind.{common_steps}
-use Rattle.std.proofs.lemmas.List.{get_or-set_same, get_or-set_other}
+use Rattle.std.proofs.lemmas.List.{get_or-set_same, get_or-set_other, length-set}
 use Rattle.std.specs.BTreeMap.{is_at}
 use Rattle.std.specs.BTreeSet.{insert_key}
 use Rattle.std.specs.List.{list_any}
@@ -11,7 +11,7 @@ use Rattle.std.specs.Ordering.{is_eq, match_ordering}
 use Rattle.std.specs.Set.{remove_key}
 use Rattle.std.specs.declared.cmp.Ordering.{Ordering}
 use Rattle.common.specs.declared.cell.Cell.{Cell}
-use Rattle.mirror.specs.Downs.{class_of, has_class, count_at, IsCount, AreCounts}
+use Rattle.mirror.specs.Downs.{class_of, has_class, count_at, IsCount, AreCounts, AreNoneOrAll}
 use Rattle.mirror.specs.Order.{Place, place_cmp, place_of}
 use Rattle.mirror.specs.Table.{is_that_place}
 
@@ -126,11 +126,34 @@ counts_less b c counts ps qs o v own inside small are falls taken there =
         let less : count_at (class_of c) qs + 1 ≡ count_at (class_of c) ps = sym (ap (λ t. count_at (class_of c) qs + cond t 1 0) (own_class c)) ∙ count_less b c ps qs taken there (class_of c) in
         falls (count_at o qs) (subst (λ n. IsCount (get_or counts o 0) n) (sym (rw own less)) (are o small))
 
-zeros : (m n : ℕ) → ◌≡◌ {A = ℕ} (get_or (replicate m 0) n 0) 0
+-- counts of 0 each say the same as none
+pub zeros : (m n : ℕ) → ◌≡◌ {A = ℕ} (get_or (replicate m 0) n 0) 0
 zeros zero n = refl
 zeros (suc m) zero = refl
 zeros (suc m) (suc n) = zeros m n
 
--- of no places each count is 0
-pub counts_none : AreCounts (replicate 8192 0) []
-counts_none n h few = zeros 8192 n
+pub zeros_as_none : (n : ℕ) → ◌≡◌ {A = ℕ} (get_or (replicate 8192 0) n 0) (get_or {A = ℕ} [] n 0)
+zeros_as_none n = zeros 8192 n
+
+-- counts that say the same are those of the same places
+pub counts_same : (counts others : List ℕ) (ps : List Place) → ((n : ℕ) → get_or others n 0 ≡ get_or counts n 0) → AreCounts counts ps → AreCounts others ps
+counts_same counts others ps same are n h = subst (λ x. IsCount x (count_at n ps)) (sym (same n)) (are n h)
+
+-- of no places there are no counts
+pub counts_none : AreCounts [] []
+counts_none n h few = refl
+
+-- where no class has a count no cell is down
+pub none_there : (b : ℕ) (c : Cell) (ps : List Place) → AreCounts [] ps → list_any (is_that_place b c) ps ≡ false
+none_there b c ps are = none_counted b c ps (sym (are (class_of c) (omega arith) (omega arith)))
+
+-- counts stay none or all when one is set
+pub all_stay : (counts : List ℕ) (o v : ℕ) → AreNoneOrAll counts → AreNoneOrAll (set counts o v)
+all_stay counts o v (inl none) = inl (subst (λ xs. set xs o v ≡ []) (sym none) refl)
+all_stay counts o v (inr all) = inr (length-set counts o v ∙ all)
+
+-- there are counts where one is taken out
+pub counts_there : (b : ℕ) (c : Cell) (counts : List ℕ) (ps : List Place) (o : ℕ) → o ≡ class_of c → o < 8192 → AreCounts counts ps → AreNoneOrAll counts → list_any (is_that_place b c) ps ≡ true → o < length counts
+counts_there b c counts ps o own small are (inl none) there =
+    absurd (true≢false (sym there ∙ none_there b c ps (subst (λ xs. AreCounts xs ps) none are)))
+counts_there b c counts ps o own small are (inr all) there = omega (arith, small, all)

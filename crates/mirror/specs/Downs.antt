@@ -1,5 +1,5 @@
 -- How the cells that are down are counted.
-use Rattle.std.specs.Prelude.{◌≡◌, ℕ, ◌+◌, ◌*◌, ◌<◌, ◌%◌, Bool, List, nat_eq, filter, length}
+use Rattle.std.specs.Prelude.{◌≡◌, ◌⊎◌, ℕ, ◌+◌, ◌*◌, ◌<◌, ◌%◌, Bool, List, [], nat_eq, filter, length}
 use Rattle.std.specs.List.{slice_index_or}
 use Rattle.common.specs.declared.cell.Cell.{Cell}
 use Rattle.mirror.specs.Order.{Place}
@@ -23,3 +23,7 @@ IsCount count n = count < 255 → count ≡ n
 -- by the class, how many of the places are of it
 abbrev pub AreCounts : List ℕ → List Place → Type 0
 AreCounts counts ps = (n : ℕ) → n < 8192 → IsCount (slice_index_or counts n 0) (count_at n ps)
+
+-- there are no counts, or one for each class
+abbrev pub AreNoneOrAll : List ℕ → Type 0
+AreNoneOrAll counts = (counts ≡ []) ⊎ (length counts ≡ 8192)

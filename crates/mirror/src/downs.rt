@@ -1,10 +1,10 @@
 //! The cells that are down.
 
-ghost use Rattle.std.specs.Prelude.{◌≡◌, ◌<◌, ◌&&◌, ◌+◌, ℕ, true, false, [], replicate, if◌then◌else◌, nat_eq, IfOk, OnOk, OnErr};
-ghost use Rattle.std.specs.List.{list_any};
+ghost use Rattle.std.specs.Prelude.{◌≡◌, ◌<◌, ◌&&◌, ◌+◌, ℕ, true, false, [], length, if◌then◌else◌, nat_eq, IfOk, OnOk, OnErr};
+ghost use Rattle.std.specs.List.{list_any, slice_index_or};
 ghost use Rattle.common.specs.Cell.{cell_eq};
 ghost use Rattle.common.specs.declared.cell.Cell.{Cell};
-ghost use Rattle.mirror.specs.Downs.{IsCount, class_of};
+ghost use Rattle.mirror.specs.Downs.{AreNoneOrAll, IsCount, class_of};
 ghost use Rattle.mirror.specs.Table.{is_that_place};
 
 use crate::place::Place;
@@ -19,22 +19,24 @@ const CLASSES: usize = 8192;
 
 /// The cells that are down, each at its BSC. Few are down, and each line that is read asks for its cell. So the places are
 /// counted by the class of their cell: where none is of that class, no place is searched for. An octet counts each, up to 255.
+/// There are no counts until the first cell goes down.
 #[derive(Drop)]
 pub(crate) struct Downs {
+    alloc: Global,
     places: BTreeSet<Place>,
-    counts: [u8; CLASSES],
+    counts: Vec<u8>,
 }
 
 impl Model for Downs {
     ghost use Rattle.std.specs.Prelude.{List};
-    ghost use Rattle.mirror.specs.Downs.{AreCounts};
+    ghost use Rattle.mirror.specs.Downs.{AreCounts, AreNoneOrAll};
     ghost use Rattle.mirror.specs.Order.{Place};
 
     ghost Value = { List Place };
 
     ghost view = { λ d. d.places.keys };
 
-    ghost invariant = { λ d. AreCounts d.counts d.places.keys };
+    ghost invariant = { λ d. AreCounts d.counts.items d.places.keys × AreNoneOrAll d.counts.items };
 }
 
 /// The class of a cell. Cells of the same identity in location areas that follow one another are of other classes.
@@ -45,11 +47,27 @@ fn class_of(c: Cell) -> usize
     (usize::from(c.ci) + usize::from(c.lac) * 61) % CLASSES
 }
 
-/// The counts of no places.
-fn no_counts() -> [u8; CLASSES]
-    ensures { result ≡ replicate 8192 0 }
+/// The count of the class: 0 where there are no counts.
+fn count_of(counts: &[u8], class: usize) -> u8
+    ensures { result ≡ slice_index_or counts.now class 0 }
 {
-    [0; CLASSES]
+    match counts.get(class) {
+        Some(count) => *count,
+        None => 0,
+    }
+}
+
+/// Makes the counts, 0 each, where there are none. Where memory runs out there still are none.
+fn make_counts(alloc: Global, counts: &mut Vec<u8>) -> Result<(), AllocError>
+    requires { AreNoneOrAll counts.now.items }
+    ensures made { OnOk result (length counts.new.items ≡ 8192) }
+    ensures same { (n : ℕ) → slice_index_or counts.new.items n 0 ≡ slice_index_or counts.old.items n 0 }
+    ensures none { OnErr result (counts.new.items ≡ []) }
+{
+    if counts.is_empty() {
+        *counts = vec![in alloc; 0; CLASSES]?;
+    }
+    Ok(())
 }
 
 /// The count of one more. That of 255 and more is 255.
@@ -74,8 +92,9 @@ impl Downs {
         ensures { result ≡ [] }
     {
         Downs {
+            alloc,
             places: BTreeSet::new(alloc),
-            counts: no_counts(),
+            counts: Vec::new(alloc),
         }
     }
 
@@ -84,8 +103,9 @@ impl Downs {
         ensures { IfOk result (λ copy. copy ≡ self.now) }
     {
         Ok(Downs {
+            alloc: self.alloc,
             places: self.places.clone()?,
-            counts: self.counts,
+            counts: self.counts.clone()?,
         })
     }
 
@@ -100,7 +120,7 @@ impl Downs {
     pub(crate) fn is_down(&self, b: BscId, c: Cell) -> bool
         ensures { result ≡ list_any (is_that_place b c) self.now }
     {
-        self.counts[class_of(c)] != 0 && self.places.contains(&Place::of(b, c))
+        count_of(&self.counts, class_of(c)) != 0 && self.places.contains(&Place::of(b, c))
     }
 
     /// Sets the cell down at the BSC. Where memory runs out nothing changes. Memory is taken only for a cell that wasn't
@@ -110,6 +130,7 @@ impl Downs {
         ensures unchanged { OnErr result (self.new ≡ self.old) }
         ensures grows { OnErr result (list_any (is_that_place b c) self.old ≡ false) }
     {
+        make_counts(self.alloc, &mut self.counts)?;
         if self.places.insert(Place::of(b, c))? {
             let class = class_of(c);
             self.counts[class] = one_more(self.counts[class]);
@@ -123,7 +144,9 @@ impl Downs {
     {
         if self.places.remove(&Place::of(b, c)) {
             let class = class_of(c);
-            self.counts[class] = one_less(self.counts[class]);
+            if class < self.counts.len() {
+                self.counts[class] = one_less(self.counts[class]);
+            }
         }
     }
 }
