@@ -1,20 +1,34 @@
 -- What is written to a BSC that is to forget what it broadcasts.
-use Rattle.std.specs.Prelude.{ℕ, Bool, ◌&&◌, nat_eq, nat_le, List, [], ◌∷◌, None}
+use Rattle.std.specs.Prelude.{ℕ, Bool, false, ◌&&◌, nat_eq, List, [], ◌∷◌, Option, Some, None}
+use Rattle.std.specs.List.{list_any}
 use Rattle.cbsp_ie.specs.declared.cell_id.CellId.TheVariants as id
 use Rattle.cbsp_ie.specs.declared.form.Form.TheVariants as form
 use Rattle.cbsp_messages.specs.Written.{frame_of}
 use Rattle.cbsp_messages.specs.declared.message.Message.{Message}
 use Rattle.cbsp_messages.specs.declared.message.Message.TheVariants as message
+use Rattle.centre_past.specs.declared.lists.warning_row.WarningRow.{WarningRow}
 use Rattle.centre_past.specs.declared.reported.reported_key.ReportedKey.{ReportedKey}
 use Rattle.link_resets.specs.declared.emergency_key.EmergencyKey.{EmergencyKey}
+use Rattle.serials.specs.Serials.{code_of, scope_part}
+use Rattle.warning_book.specs.Content.{is_same_kind}
+use Rattle.warning_book.specs.declared.kind.Kind.TheVariants as kind
 
--- the message identifier is one of ETWS (TS 23.041, 9.4.1.2.2)
-abbrev pub is_etws : ℕ → Bool
-is_etws n = nat_le 4352 n && nat_le n 4359
+-- the serial number differs at most in its update number from that of a current version, if there is one
+abbrev pub is_version : ℕ → Option ℕ → Bool
+is_version s None = false
+is_version s (Some t) = nat_eq (scope_part s) (scope_part t) && nat_eq (code_of s) (code_of t)
+
+-- the reported key is that of a version of the warning, and this is an emergency warning
+abbrev pub is_of_emergency : WarningRow → ReportedKey → Bool
+is_of_emergency w r = is_same_kind w.kind kind.Emergency && (nat_eq w.message_id r.message_id && is_version r.serial w.serial)
+
+-- it is that of one of the warnings so
+abbrev pub is_emergency : List WarningRow → ReportedKey → Bool
+is_emergency warnings r = list_any (λ w. is_of_emergency w r) warnings
 
 -- the reported key is that of the emergency message
-abbrev pub is_key_of : EmergencyKey → ReportedKey → Bool
-is_key_of k r = is_etws r.message_id && (nat_eq k.message_id r.message_id && nat_eq k.serial r.serial)
+abbrev pub is_key_of : List WarningRow → EmergencyKey → ReportedKey → Bool
+is_key_of warnings k r = is_emergency warnings r && (nat_eq k.message_id r.message_id && nat_eq k.serial r.serial)
 
 -- the two are the same emergency message
 abbrev pub same_key : EmergencyKey → EmergencyKey → Bool

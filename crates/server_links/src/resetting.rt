@@ -5,12 +5,14 @@ use cbsp_ie::CellIds;
 use cbsp_messages::{Message, Restart};
 use centre_events::event::Event;
 use centre_events::refusal::Refusal;
-use link_resets::{emergency_keys, reset_frames};
+use centre_past::reported::ReportedKeys;
+use link_resets::{EmergencyKey, emergency_keys, reset_frames};
 use link_worker::End;
 use office::desk::Desk;
 use office::question::Question;
 use office::seen::SeenValue;
 use server_ports::{Broken, Port, SideEnd};
+use std::alloc::AllocError;
 use std::io::Write;
 use std::net::TcpStream;
 use std::sync::Wait;
@@ -57,6 +59,41 @@ fn submit_restarts<L: Ledger, E: Write + Drop, R: Wait + Clock>(
     Ok(())
 }
 
+/// What the BSC has reported.
+fn table_of<L: Ledger, E: Write + Drop, R: Wait + Clock>(
+    rt: &R,
+    shared: &Shared<L, E>,
+    port: &Port<L>,
+    desk: &Desk<L>,
+) -> Result<ReportedKeys, Refusal> {
+    let seen = shared.office.look(rt, desk, Question::Table(port.bsc))?;
+    match seen.value {
+        SeenValue::Table(keys) => Ok(keys),
+        _ => Err(Refusal::Memory),
+    }
+}
+
+/// The emergency messages that the BSC has reported. A warning of which it has reported one isn't forgotten before the book is looked at.
+fn emergencies_of<L: Ledger, E: Write + Drop, R: Wait + Clock>(
+    rt: &R,
+    shared: &Shared<L, E>,
+    desk: &Desk<L>,
+    table: &ReportedKeys,
+) -> Result<Vec<EmergencyKey>, Refusal> {
+    let seen = shared.office.look(rt, desk, Question::Warnings)?;
+    let found = match &seen.value {
+        SeenValue::Warnings(warnings) => {
+            emergency_keys(shared.alloc, table.as_slice(), warnings.as_slice())
+        }
+        _ => Err(AllocError),
+    };
+    drop(seen);
+    match found {
+        Ok(keys) => Ok(keys),
+        Err(_) => Err(Refusal::Memory),
+    }
+}
+
 /// What is to be written to the BSC, so that it forgets what it broadcasts.
 fn frames_of<L: Ledger, E: Write + Drop, R: Wait + Clock>(
     rt: &R,
@@ -64,13 +101,8 @@ fn frames_of<L: Ledger, E: Write + Drop, R: Wait + Clock>(
     port: &Port<L>,
     desk: &Desk<L>,
 ) -> Result<Vec<u8>, Refusal> {
-    let seen = shared.office.look(rt, desk, Question::Table(port.bsc))?;
-    let SeenValue::Table(keys) = seen.value else {
-        return Err(Refusal::Memory);
-    };
-    let Ok(keys) = emergency_keys(shared.alloc, keys.as_slice()) else {
-        return Err(Refusal::Memory);
-    };
+    let table = table_of(rt, shared, port, desk)?;
+    let keys = emergencies_of(rt, shared, desk, &table)?;
     match reset_frames(shared.alloc, keys.as_slice()) {
         Ok(frames) => Ok(frames),
         Err(_) => Err(Refusal::Memory),

@@ -1,4 +1,5 @@
-//! Tests of the page, the tables and the metrics of a picture: what their contracts don't say.
+//! Tests of the page, the tables and the metrics of a picture, and of what makes a BSC forget what it broadcasts: what their contracts
+//! don't say.
 #![tactic(auto)]
 
 #[cfg(test)]
@@ -11,6 +12,8 @@ mod figure_tests;
 mod page_tests;
 #[cfg(test)]
 mod pictures;
+#[cfg(test)]
+mod reset_tests;
 #[cfg(test)]
 mod standing_tests;
 #[cfg(test)]

@@ -17,14 +17,14 @@ const WRITE: u8 = 0x01;
 const WRITTEN: &[u8] =
     b"\x02\x00\x00\x10\x0e\x11\x12\x03\xc0\x00\x04\x00\x05\x01\x00\x64\x00\x07\x12\x00";
 
-/// The same of message 4352, an emergency message, in cells 100 7 and 100 8.
+/// The same of message 4371, an emergency message, in cells 100 7 and 100 8. What makes it one is its warning, and not this number.
 const ALERTED: &[u8] =
-    b"\x02\x00\x00\x12\x0e\x11\x00\x03\xc0\x00\x04\x00\x09\x01\x00\x64\x00\x07\x00\x64\x00\x08";
+    b"\x02\x00\x00\x12\x0e\x11\x13\x03\xc0\x00\x04\x00\x09\x01\x00\x64\x00\x07\x00\x64\x00\x08";
 
-/// A KILL of message 4352 with serial number C000 in all cells, and its reply.
-const KILL: &[u8] = b"\x04\x00\x00\x0a\x0e\x11\x00\x02\xc0\x00\x04\x00\x01\x06";
+/// A KILL of message 4371 with serial number C000 in all cells, and its reply.
+const KILL: &[u8] = b"\x04\x00\x00\x0a\x0e\x11\x13\x02\xc0\x00\x04\x00\x01\x06";
 
-const KILLED: &[u8] = b"\x05\x00\x00\x0a\x0e\x11\x00\x02\xc0\x00\x04\x00\x01\x06";
+const KILLED: &[u8] = b"\x05\x00\x00\x0a\x0e\x11\x13\x02\xc0\x00\x04\x00\x01\x06";
 
 const ISSUE: &str = "issue 4370 3 15 0 30 d4f29c0e Coast\n";
 
@@ -84,7 +84,7 @@ const KILLED_AFTER: Play = Play {
             5,
         ),
         Act::Types(
-            "alert 4352 3 1 1408 0 - Coast\n",
+            "alert 4371 3 1 1408 0 - Coast\n",
             "ok 6 warning 1 serial C000\n",
         ),
         Act::Connects(1, 1),

@@ -7,6 +7,6 @@ use Rattle.link_resets.proofs.emergencies.emergency_keys.Given as goal
 -- those of the keys so far, each once
 abbrev pub invariant-loop-reported : goal.invariant-loop-reported
 invariant-loop-reported l = record {
-  found : (k : EmergencyKey) → list_any (same_key k) l.found.items ≡ list_any (is_key_of k) (take l.reported-index l.keys);
+  found : (k : EmergencyKey) → list_any (same_key k) l.found.items ≡ list_any (is_key_of l.warnings k) (take l.reported-index l.keys);
   once : IsDistinct same_key l.found.items;
 }
