@@ -3,8 +3,9 @@
 The sources are compiled once a suite with all edits in them (slips_planted.py), without proofs and at -O0 (unproved.py). In the module each function
 `slip_is_chosen` becomes a comparison with a number that stands behind a mark in the data of the program, by a load that the compiler may not leave out. A
 copy of the program with another number there has another edit; with 0 it has none. Each test is run in a folder and a network namespace of its own,
-so that several run at once and no port is taken. An edit is refused where a test fails, or has not ended in time, that the program without edits passes
-right then; a failure has to come twice. The suites are asked lowest first, and which refused an edit is the only one that is named."""
+so that several run at once and no port is taken. An edit is refused where a test fails three times that passes each time without an edit, or where it
+has not ended in time; a test that fails once without an edit refuses nothing, and is named. The suites are asked lowest first, and no other suite is
+asked about an edit that one refused."""
 import concurrent.futures
 import os
 import re
@@ -73,7 +74,7 @@ class Suite:
 
     def __init__(self, room, crate, words, alone):
         self.folder, self.crate, self.words, self.alone = f"{room}/crates/{crate}", crate, words, alone
-        self.program, self.reached, self.seconds, self.failing = f"{room}/slips-{crate}", set(), {}, []
+        self.program, self.reached, self.seconds, self.failing, self.unsteady = f"{room}/slips-{crate}", set(), {}, [], set()
 
     def build(self, room):
         with tempfile.TemporaryDirectory(prefix="slips-build-") as here:
@@ -147,17 +148,38 @@ class Suite:
             else:
                 self.seconds[test] = took
 
+    def is_refusing(self, test, program):
+        """Returns whether the test fails with an edit, three times, and passes each time without one; and None where it did not end in time."""
+        limit = LIMIT + 3 * self.seconds[test]
+        for _ in range(3):
+            passed = self.passes(program, test, limit)
+            if passed:
+                return False
+            if not self.passes(f"{self.program}-0", test, limit):
+                self.unsteady.add(test)
+                return False
+            if passed is None:
+                return None
+        return True
+
     def refusal(self, edit):
         """Returns which test refuses the edit, and how, None where none does."""
-        program, plain = self.chosen(edit.number), f"{self.program}-0"
+        program, found = self.chosen(edit.number), None
         for test in sorted(self.seconds, key=lambda it: (not any(word in edit.head for word in it.split("::")), self.seconds[it])):
-            limit = LIMIT + 3 * self.seconds[test]
-            passed = self.passes(program, test, limit)
-            if not passed and self.passes(plain, test, limit) and (passed is None or not self.passes(program, test, limit)):
-                os.remove(program)
-                return f"{self.crate} {test}" + (" (time)" if passed is None else "")
+            refused = test not in self.unsteady and self.is_refusing(test, program)
+            if refused is not False:
+                found = test, f"{self.crate} {test}" + (" (time)" if refused is None else "")
+                break
         os.remove(program)
-        return None
+        return found
+
+    def refusals(self, edits, pool):
+        """Gives each edit with what refuses it. What a test refused that later failed without an edit is tried again without that test."""
+        left = edits
+        while left:
+            given = [*zip(left, pool.map(self.refusal, left))]
+            left = [edit for edit, found in given if found and found[0] in self.unsteady]
+            yield from ((edit, found and found[1]) for edit, found in given if edit not in left)
 
 
 def build(suite, room, planting, edits):
@@ -190,7 +212,7 @@ def try_suite(suite, room, planting, edits, jobs):
     with concurrent.futures.ThreadPoolExecutor(jobs if suite.alone else 1) as pool:
         suite.time_unedited(pool)
         timed = time.monotonic()
-        for edit, refused in zip(open_, pool.map(suite.refusal, open_)):
+        for edit, refused in suite.refusals(open_, pool):
             edit.refused = refused
             edit.tried.append(suite.crate)
             if refused:
@@ -202,7 +224,8 @@ def try_suite(suite, room, planting, edits, jobs):
         f"the edits in {ended - timed:.0f} s",
         flush=True,
     )
-    return [f"{suite.crate}: {it} fails without an edit, so it refuses nothing" for it in suite.failing]
+    unfit = [f"{suite.crate}: {it} fails without an edit, so it refuses nothing" for it in suite.failing]
+    return unfit + [f"{suite.crate}: {it} fails now and then without an edit, so it refuses nothing" for it in sorted(suite.unsteady)]
 
 
 def try_together(room, edits, judges, jobs):
