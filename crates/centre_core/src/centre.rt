@@ -41,7 +41,6 @@ use warning_book::WarningId;
 /// A centre is stale after memory ran out while an event was entered: its base and its journal are as they were, and what
 /// is kept beside them is of no use until `rebuild` made it anew. While it is stale, every call but `position`, `entry`,
 /// `is_full`, `is_stale`, `meter`, `status` and `rebuild` answers `Stale`.
-#[derive(Drop)]
 pub struct Centre {
     alloc: Global,
     settings: Settings,
@@ -49,6 +48,20 @@ pub struct Centre {
     journal: Journal,
     stale: bool,
     kept: Kept,
+}
+
+/// Written out, so that no crate above proves anew how its parts are dropped.
+impl Drop for Centre {
+    fn drop(self) {
+        let Centre {
+            alloc: _alloc,
+            settings: _settings,
+            base: _base,
+            journal: _journal,
+            stale: _stale,
+            kept: _kept,
+        } = self;
+    }
 }
 
 impl Model for Centre {

@@ -12,7 +12,6 @@ use std::alloc::{AllocError, Global};
 use warning_book::WarningId;
 
 /// What an accepted event is answered.
-#[derive(Drop)]
 pub enum Answer {
     Done,
     /// The number and the serial number of a warning.
@@ -37,6 +36,30 @@ pub enum Answer {
     Replied(Replies),
     /// The cells known at the BSC that an indication names, in order; none where it is about warnings of neither kind.
     Listed(Cells),
+}
+
+/// Written out, so that no crate above proves anew how its parts are dropped.
+impl Drop for Answer {
+    fn drop(self) {
+        match self {
+            Answer::Done => {}
+            Answer::Issued(_part0, _part1) => {}
+            Answer::Updated(_part) => {}
+            Answer::Link(_part) => {}
+            Answer::Sent {
+                order: _order,
+                message: _message,
+            } => {}
+            Answer::Asked {
+                message_id: _message_id,
+                serial: _serial,
+                cells: _cells,
+                message: _message,
+            } => {}
+            Answer::Replied(_part) => {}
+            Answer::Listed(_part) => {}
+        }
+    }
 }
 
 impl Answer {

@@ -8,12 +8,22 @@ use crate::event::Event;
 use std::alloc::{AllocError, Global};
 
 /// An accepted event: who submitted it, and what it was answered.
-#[derive(Drop)]
 pub struct Entry {
     /// The number of the desk, from 1.
     pub desk: u32,
     pub event: Event,
     pub answer: Answer,
+}
+
+/// Written out, so that no crate above proves anew how its parts are dropped.
+impl Drop for Entry {
+    fn drop(self) {
+        let Entry {
+            desk: _desk,
+            event: _event,
+            answer: _answer,
+        } = self;
+    }
 }
 
 impl Entry {

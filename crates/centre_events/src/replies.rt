@@ -16,11 +16,20 @@ use std::alloc::{AllocError, Global};
 use std::marker::Model;
 
 /// What a reply says of each cell of its order, in that order.
-#[derive(Drop)]
 pub struct Replies {
     replies: Vec<Reply>,
     /// The cells stand in ascending order, so that one can be found by halves.
     is_ordered: bool,
+}
+
+/// Written out, so that no crate above proves anew how its parts are dropped.
+impl Drop for Replies {
+    fn drop(self) {
+        let Replies {
+            replies: _replies,
+            is_ordered: _is_ordered,
+        } = self;
+    }
 }
 
 impl Model for Replies {
@@ -114,7 +123,10 @@ impl Replies {
     pub fn into_vec(self) -> Vec<Reply>
         ensures { result.items ≡ self }
     {
-        let Replies { replies, .. } = self;
+        let Replies {
+            replies,
+            is_ordered: _,
+        } = self;
         replies
     }
 

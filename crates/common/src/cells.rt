@@ -14,9 +14,16 @@ use std::alloc::{AllocError, Global};
 use std::marker::Model;
 
 /// Cells in the order in which they are named.
-#[derive(Clone, Debug, Drop)]
+#[derive(Clone, Debug)]
 pub struct Cells {
     cells: Vec<Cell>,
+}
+
+/// Written out, so that no crate above proves anew how its parts are dropped.
+impl Drop for Cells {
+    fn drop(self) {
+        let Cells { cells: _cells } = self;
+    }
 }
 
 impl Model for Cells {

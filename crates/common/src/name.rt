@@ -16,9 +16,16 @@ use std::marker::Model;
 const INLINE: usize = 16;
 
 /// A name, as its octets.
-#[derive(Clone, Debug, Drop)]
+#[derive(Clone, Debug)]
 pub struct Name {
     octets: SmallVec<u8, INLINE>,
+}
+
+/// Written out, so that no crate above proves anew how its parts are dropped.
+impl Drop for Name {
+    fn drop(self) {
+        let Name { octets: _octets } = self;
+    }
 }
 
 impl Model for Name {

@@ -8,9 +8,16 @@ use std::alloc::{AllocError, Global};
 use std::marker::Model;
 
 /// Octets in their order.
-#[derive(Clone, Debug, Drop)]
+#[derive(Clone, Debug)]
 pub struct Octets {
     octets: Vec<u8>,
+}
+
+/// Written out, so that no crate above proves anew how its parts are dropped.
+impl Drop for Octets {
+    fn drop(self) {
+        let Octets { octets: _octets } = self;
+    }
 }
 
 impl Model for Octets {

@@ -12,11 +12,21 @@ use std::alloc::Global;
 use std::marker::Model;
 
 /// A session, and the octets of the line that has begun.
-#[derive(Drop)]
 pub struct Console {
     alloc: Global,
     session: Session,
     begun: Vec<u8>,
+}
+
+/// Written out, so that no crate above proves anew how its parts are dropped.
+impl Drop for Console {
+    fn drop(self) {
+        let Console {
+            alloc: _alloc,
+            session: _session,
+            begun: _begun,
+        } = self;
+    }
 }
 
 impl Model for Console {

@@ -15,4 +15,4 @@ mod session;
 
 pub use laws::{one_text, stays_whole};
 pub use replaying::replay;
-pub use running::run;
+pub use running::{run, run_script};

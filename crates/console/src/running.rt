@@ -1,13 +1,13 @@
 //! A run of the program.
 
-ghost use Rattle.std.specs.Prelude.{◌≡◌, map, string_bytes};
+ghost use Rattle.std.specs.Prelude.{◌≡◌, ◌≤◌, map, string_bytes};
 ghost use Rattle.console.specs.Replays.{new_session};
 ghost use Rattle.console.specs.Running.{Ends, IsTold, Runs};
 ghost use Rattle.console_text.specs.Faults.{fault_words};
 
 use crate::replaying::replay;
 use console_text::no_run::NoRun;
-use console_text::options::{Options, read_options};
+use console_text::options::read_options;
 use console_text::{ReplayFault, fault_words};
 use framing::{Sink, Source, write_all};
 use std::alloc::Global;
@@ -31,7 +31,10 @@ pub fn run<R: Source, W: Sink, E: Sink>(
         (record { input = R.remaining reader.new; reads = R.calls reader.new; failed_reads = R.failures reader.new; output = W.written writer.new; failed_writes = W.failures writer.new; errors = E.written errors.new; unsaid = E.failures errors.new }) result }
 {
     match read_options(alloc, words) {
-        Ok(options) => Some(run_script(alloc, &options, reader, writer, errors)),
+        Ok(options) => {
+            let (plmn, limit) = (options.plmn, options.journal_limit);
+            Some(run_script(alloc, plmn, limit, reader, writer, errors))
+        }
         Err(NoRun::Serve) => None,
         Err(NoRun::Help(text)) => match write_all(writer, text.as_bytes()) {
             Ok(()) => Some(0),
@@ -59,18 +62,22 @@ pub fn run<R: Source, W: Sink, E: Sink>(
     }
 }
 
-fn run_script<R: Source, W: Sink, E: Sink>(
+/// Runs a script on a centre of the network `plmn` whose journal holds `journal_limit` entries. The answer is the exit status
+/// of the program: 0 where all of the input was read, or 1 where a fault ended the run, which is said as `cbc: ` and its words.
+pub fn run_script<R: Source, W: Sink, E: Sink>(
     alloc: Global,
-    options: &Options,
+    plmn: [u8; 3],
+    journal_limit: u32,
     reader: &mut R,
     writer: &mut W,
     errors: &mut E,
 ) -> u8
-    ensures { Runs (new_session options.now.plmn options.now.journal_limit)
+    requires { journal_limit ≤ 4000000 }
+    ensures { Runs (new_session plmn journal_limit)
         (record { input = R.remaining reader.old; reads = R.calls reader.old; failed_reads = R.failures reader.old; output = W.written writer.old; failed_writes = W.failures writer.old; errors = E.written errors.old; unsaid = E.failures errors.old })
         (record { input = R.remaining reader.new; reads = R.calls reader.new; failed_reads = R.failures reader.new; output = W.written writer.new; failed_writes = W.failures writer.new; errors = E.written errors.new; unsaid = E.failures errors.new }) result }
 {
-    match replay(alloc, reader, writer, options.plmn, options.journal_limit) {
+    match replay(alloc, reader, writer, plmn, journal_limit) {
         Ok(()) => 0,
         Err(fault) => {
             tell(errors, fault_words(fault));

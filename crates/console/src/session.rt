@@ -35,11 +35,21 @@ use warning_book::{Notice, WarningId};
 const DESK: u32 = 1;
 
 /// A centre, and for each BSC the generation that the next line about its link speaks of.
-#[derive(Drop)]
 pub struct Session {
     alloc: Global,
     centre: Centre,
     generations: Generations,
+}
+
+/// Written out, so that no crate above proves anew how its parts are dropped.
+impl Drop for Session {
+    fn drop(self) {
+        let Session {
+            alloc: _alloc,
+            centre: _centre,
+            generations: _generations,
+        } = self;
+    }
 }
 
 impl Model for Session {

@@ -15,12 +15,22 @@ use warning_book::WarningId;
 
 /// The numbers of each warning, and of each warning and area. A board follows its lines: it knows none of them, and is
 /// told how a line stood before it changed and how it stands after.
-#[derive(Drop)]
 pub struct Board {
     alloc: Global,
     rows: IndexMap<u32, Row>,
     /// The place of the row that was changed last.
     last: usize,
+}
+
+/// Written out, so that no crate above proves anew how its parts are dropped.
+impl Drop for Board {
+    fn drop(self) {
+        let Board {
+            alloc: _alloc,
+            rows: _rows,
+            last: _last,
+        } = self;
+    }
 }
 
 impl Model for Board {

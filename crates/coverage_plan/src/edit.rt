@@ -10,7 +10,6 @@ use std::alloc::{AllocError, Global};
 use warning_book::{Content, Notice, WarningId};
 
 /// An edit of the register, of the areas or of the book of warnings.
-#[derive(Drop)]
 pub enum Edit {
     /// Registers a BSC.
     AddBsc(BscId),
@@ -42,6 +41,29 @@ pub enum Edit {
     Stop(WarningId),
     /// Takes a stopped warning out of the book.
     Forget(WarningId),
+}
+
+/// Written out, so that no crate above proves anew how its parts are dropped.
+impl Drop for Edit {
+    fn drop(self) {
+        match self {
+            Edit::AddBsc(_part) => {}
+            Edit::RemoveBsc(_part) => {}
+            Edit::AddCell(_part0, _part1) => {}
+            Edit::MoveCell(_part0, _part1) => {}
+            Edit::RemoveCell(_part) => {}
+            Edit::AddArea(_part) => {}
+            Edit::DropArea(_part) => {}
+            Edit::Put(_part0, _part1) => {}
+            Edit::Cut(_part0, _part1) => {}
+            Edit::Issue(_part0, _part1) => {}
+            Edit::Update(_part0, _part1) => {}
+            Edit::Widen(_part0, _part1) => {}
+            Edit::Narrow(_part0, _part1) => {}
+            Edit::Stop(_part) => {}
+            Edit::Forget(_part) => {}
+        }
+    }
 }
 
 impl Edit {

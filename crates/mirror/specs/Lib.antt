@@ -13,5 +13,6 @@ pub mod Downs
 pub mod Lines
 pub mod Index
 pub mod Known
+pub mod NamedSet
 pub mod OnAir
 pub mod Present

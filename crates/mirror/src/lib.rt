@@ -3,9 +3,9 @@
 //!
 //! A line is what is kept of one BSC, cell and warning. Begin with `line_table`; the definitions that contracts cite
 //! are in `specs/`: `Line`, `Held`, `Seen` and `Packed` for one line, `Table` for all of them, `Lines` for how one of
-//! them is found, `Index` for which lines there are, `Known` for the cells that a report names, `OnAir` for the cells in
-//! which a version is on air, `Present` for whether it may be on air anywhere, `Downs` for how the cells that are down
-//! are counted.
+//! them is found, `Index` for which lines there are, `Known` for the cells that a report names, `NamedSet` for how
+//! they are found, `OnAir` for the cells in which a version is on air, `Present` for whether it may be on air anywhere,
+//! `Downs` for how the cells that are down are counted.
 #![tactic(auto)]
 
 mod cell_index;
@@ -18,6 +18,7 @@ mod line;
 mod line_key;
 mod line_table;
 mod lines;
+mod named_set;
 mod naming;
 mod on_air;
 mod packed_state;

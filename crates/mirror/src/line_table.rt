@@ -47,7 +47,6 @@ const FEW: usize = 16;
 /// lines take `&mut self`: `read_line`, `set_line`, `cells_on_air`, `is_present_anywhere`, `warnings_at`, `held_at` and
 /// `places_of`. No other call tells anything of one line: `known_cells` and `cells_named` tell of a cell whether it is known, by its registration, by a
 /// report or by its lines.
-#[derive(Drop)]
 pub struct LineTable {
     alloc: Global,
     /// The lines that aren't blank, by warning.
@@ -56,6 +55,19 @@ pub struct LineTable {
     index: CellIndex,
     downs: CellsDown,
     meter: u64,
+}
+
+/// Written out, so that no crate above proves anew how its parts are dropped.
+impl Drop for LineTable {
+    fn drop(self) {
+        let LineTable {
+            alloc: _alloc,
+            lines: _lines,
+            index: _index,
+            downs: _downs,
+            meter: _meter,
+        } = self;
+    }
 }
 
 impl Model for LineTable {

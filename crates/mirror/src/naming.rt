@@ -3,21 +3,10 @@
 ghost use Rattle.std.specs.Prelude.{◌≡◌, filter, IfOk};
 ghost use Rattle.mirror.specs.Known.{are_of_cells, is_named, own_cell};
 
+use crate::named_set::NamedSet;
 use cbsp_ie::CellId;
 use common::{Cell, Cells};
 use std::alloc::{AllocError, Global};
-
-/// Whether one of the identifications names the cell.
-fn is_named(network: [u8; 3], ids: &[CellId], c: Cell) -> bool
-    ensures { result ≡ is_named network ids.now c }
-{
-    for id in ids {
-        if id.names(network, c) {
-            return true;
-        }
-    }
-    false
-}
 
 /// The one cell that the identification can name, where it has a location area and a cell identity.
 pub(crate) fn own_cell(id: &CellId) -> Option<Cell>
@@ -54,9 +43,10 @@ pub(crate) fn named(
 ) -> Result<Cells, AllocError>
     ensures { IfOk result (λ found. found ≡ filter (is_named network ids.now) cells.now) }
 {
+    let set = NamedSet::of(alloc, network, ids)?;
     let mut found = Vec::new(alloc);
     for c in cells {
-        if is_named(network, ids, *c) {
+        if set.has(*c) {
             found.push(*c)?;
         }
     }

@@ -15,7 +15,6 @@ use std::sync::ledger::{Book, Ledger, Share};
 /// A caller's place at an office. Contracts see its number, its receipts, how many of them, the first, it let go of, for how
 /// many more it has room, and the amount of its share, which is the number of its receipts. Those that it let go of take no
 /// memory.
-#[derive(Drop)]
 pub struct Desk<L: Ledger> {
     number: u32,
     last: u64,
@@ -24,6 +23,13 @@ pub struct Desk<L: Ledger> {
     released_last: u64,
     receipts: Vec<Receipt>,
     share: Share<L>,
+}
+
+/// Written out, so that no crate above proves anew how its parts are dropped.
+impl<L: Ledger> Drop for Desk<L> {
+    fn drop(self) {
+        drop(self.into_share());
+    }
 }
 
 impl<L: Ledger> Model for Desk<L> {
@@ -128,7 +134,17 @@ impl<L: Ledger> Desk<L> {
     pub(crate) fn into_share(self) -> Share<L>
         ensures { result.amount ≡ length self.receipts }
     {
-        self.share
+        let Desk {
+            number: _,
+            last: _,
+            released: _,
+            released_count: _,
+            released_last: _,
+            receipts,
+            share,
+        } = self;
+        drop(receipts);
+        share
     }
 
     /// Makes room for one more receipt. It takes no memory where there is room.

@@ -38,7 +38,6 @@ use std::sync::{Condvar, Mutex, Wait};
 use warning_book::WarningId;
 
 /// One centre, for as many callers as it opens desks for. Each call takes the one lock, and does under it what `Held` does.
-#[derive(Drop)]
 pub struct Office<L: Ledger> {
     alloc: Global,
     held: Mutex<Held<L>>,
@@ -46,6 +45,19 @@ pub struct Office<L: Ledger> {
     entered: Condvar,
     /// Whoever holds this and the lock took the lock first.
     counts: Mutex<Counts>,
+}
+
+/// Written out, so that no crate above proves anew how its parts are dropped.
+impl<L: Ledger> Drop for Office<L> {
+    fn drop(self) {
+        let Office {
+            alloc: _alloc,
+            held: _held,
+            moved: _moved,
+            entered: _entered,
+            counts: _counts,
+        } = self;
+    }
 }
 
 /// Makes room for the receipt of an event that the desk submits, and copies the event for it.
@@ -368,7 +380,14 @@ impl<L: Ledger> Office<L> {
         ensures lawful_fault { IfErr result (λ u. Lawful u.centre.known.settings (past u.centre.known)) }
         ensures desks { IfErr result (λ u. u.desks ≡ desks) }
     {
-        let held = self.held.into_inner();
+        let Office {
+            alloc: _,
+            held,
+            moved: _moved,
+            entered: _entered,
+            counts: _counts,
+        } = self;
+        let held = held.into_inner();
         held.tell_soundness();
         held.settle(desks)
     }

@@ -106,6 +106,32 @@ pub(crate) fn rebuild<L: Ledger, R: Wait + Print>(
     Err(Wrong::Memory)
 }
 
+/// Folds the journal, and prints how many entries it had. A refused checkpoint folds nothing.
+pub(crate) fn checkpoint<L: Ledger, R: Wait + Print>(
+    rt: &R,
+    office: &Office<L>,
+    desk: &Desk<L>,
+    b: BscId,
+    want: &mut Want,
+) -> Result<(), Wrong> {
+    let before = ask_all(rt, office, desk, b, want);
+    for k in 0..TRIES {
+        want.take(k);
+        let result = office.checkpoint(rt);
+        want.give();
+        match result {
+            Ok(count) => {
+                let _ = println!(rt; "checkpoint: ok {count}");
+                return is_as_before(rt, office, desk, b, before, want);
+            }
+            Err(Refusal::Memory) => want.note(rt, Met::Checkpoint),
+            Err(_) => return Err(Wrong::Refused),
+        }
+        is_as_before(rt, office, desk, b, before, want)?;
+    }
+    Err(Wrong::Memory)
+}
+
 /// A stale centre ends a side that waits, and a rebuild makes it whole.
 fn is_made_whole<L: Ledger, R: Wait + Print>(
     rt: &R,

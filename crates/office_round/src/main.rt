@@ -2,8 +2,8 @@
 //!
 //! A call that is refused for want of memory is made again, after what it has to leave as it was is compared: the receipts of
 //! the desk, and what the office says. Where the centre is stale, a side that waits is told so, and the centre is rebuilt first.
-//! With a word as its argument the program makes the round once more, and takes all memory that the system gives while a call is
-//! made, but some small blocks, one more at each try.
+//! With a word as its argument the program makes the round once more, before: while a call is made it takes all memory that the
+//! system gives, but some small blocks, one more at each try. What a call needs of the stack isn't there yet from a round before.
 #![tactic(auto)]
 
 mod asking;
@@ -63,11 +63,10 @@ fn all<R: Threads + Wait + Clock + Print + Sync>(
     let Some(b) = BscId::new(1) else {
         return Err(Wrong::Refused);
     };
-    both(rt, alloc, b, &mut Want::none(alloc))?;
     if is_in_want {
         both_in_want(rt, alloc, b)?;
     }
-    Ok(())
+    both(rt, alloc, b, &mut Want::none(alloc))
 }
 
 /// Whether there is an argument.

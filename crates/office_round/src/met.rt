@@ -11,6 +11,7 @@ pub(crate) enum Met {
     WaitedStale,
     Rebuild,
     Rebuilt,
+    Checkpoint,
 }
 
 impl Met {
@@ -24,6 +25,7 @@ impl Met {
             Met::WaitedStale => "a side that waited: stale",
             Met::Rebuild => "rebuild: memory",
             Met::Rebuilt => "rebuild: ok",
+            Met::Checkpoint => "checkpoint: memory",
         }
     }
 }

@@ -2,7 +2,7 @@
 
 ghost use Rattle.std.specs.Prelude.{◌≡◌};
 
-use crate::calls::{enter, has_order, open, rebuild, show};
+use crate::calls::{checkpoint, enter, has_order, open, rebuild, show};
 use crate::events::{PLMN, Step};
 use crate::waiting::update_while_waiting;
 use crate::want::{TRIES, Want};
@@ -34,7 +34,8 @@ fn enter_all<L: Ledger, R: Wait + Print>(
     Ok(())
 }
 
-/// A warning comes on air: the desks submit what leads to it by turns, and look. Then the whole centre is rebuilt.
+/// A warning comes on air: the desks submit what leads to it by turns, and look. Then the whole centre is rebuilt,
+/// its journal is folded, and it is rebuilt from the base that the fold left.
 fn bring_on_air<L: Ledger, R: Wait + Print>(
     rt: &R,
     alloc: Global,
@@ -55,6 +56,9 @@ fn bring_on_air<L: Ledger, R: Wait + Print>(
     enter(rt, alloc, office, second, b, Step::Complete, want)?;
     show(rt, office, first, b, want)?;
     rebuild(rt, office, second, b, want)?;
+    let _ = println!(rt; "rebuild: ok");
+    checkpoint(rt, office, second, b, want)?;
+    rebuild(rt, office, first, b, want)?;
     let _ = println!(rt; "rebuild: ok");
     Ok(())
 }

@@ -17,6 +17,7 @@ pub(crate) struct Want {
     submits: bool,
     looks: bool,
     rebuilds: bool,
+    checkpoints: bool,
     stales: bool,
 }
 
@@ -30,6 +31,7 @@ impl Want {
             submits: false,
             looks: false,
             rebuilds: false,
+            checkpoints: false,
             stales: false,
         }
     }
@@ -68,6 +70,7 @@ impl Want {
             Met::Look => self.looks = true,
             Met::Stale => self.stales = true,
             Met::Rebuild => self.rebuilds = true,
+            Met::Checkpoint => self.checkpoints = true,
             Met::Open | Met::WaitStale | Met::WaitedStale | Met::Rebuilt => {}
         }
         if !self.takes {
@@ -76,8 +79,9 @@ impl Want {
         }
     }
 
-    /// Whether an event, a question and a rebuild were refused, and the centre was stale, where all memory was taken.
+    /// Whether an event, a question, a rebuild and a checkpoint were refused, and the centre was stale, where all memory was taken.
     pub(crate) fn is_met(&self) -> bool {
-        !self.is_full || (self.submits && self.looks && self.rebuilds && self.stales)
+        let is_refused = self.submits && self.looks && self.rebuilds && self.checkpoints;
+        !self.is_full || (is_refused && self.stales)
     }
 }

@@ -8,7 +8,7 @@ use serials::Serial;
 use std::alloc::{AllocError, Global};
 
 /// An order of one kind for one message, in all cells that need it.
-#[derive(Debug, PartialEq, Eq, Drop)]
+#[derive(Debug, PartialEq, Eq)]
 pub struct Order {
     pub kind: OrderKind,
     /// The message identifier (TS 23.041, 9.4.1.2.2).
@@ -17,6 +17,18 @@ pub struct Order {
     pub serial: Serial,
     /// In order of location area, then cell.
     pub cells: Cells,
+}
+
+/// Written out, so that no crate above proves anew how its parts are dropped.
+impl Drop for Order {
+    fn drop(self) {
+        let Order {
+            kind: _kind,
+            message_id: _message_id,
+            serial: _serial,
+            cells: _cells,
+        } = self;
+    }
 }
 
 impl Order {

@@ -7,9 +7,16 @@ use std::alloc::{AllocError, Global};
 use std::marker::Model;
 
 /// Orders in the order in which they are to be sent.
-#[derive(Debug, Drop)]
+#[derive(Debug)]
 pub struct Orders {
     orders: Vec<Order>,
+}
+
+/// Written out, so that no crate above proves anew how its parts are dropped.
+impl Drop for Orders {
+    fn drop(self) {
+        let Orders { orders: _orders } = self;
+    }
 }
 
 impl Model for Orders {

@@ -29,20 +29,30 @@ fn words_of(
     format!(in alloc; "a {kind} of message {message_id}, serial number {serial:04X}, in {cells}")
 }
 
+/// The order in words, with its kind, the Message Identifier, the serial number that it names first, and in how many cells.
+fn message_words(alloc: Global, message: &Message) -> Result<String, AllocError> {
+    match message {
+        Message::WriteReplace(m) => {
+            words_of(alloc, "WRITE-REPLACE", m.message_id, m.serial, &m.cells)
+        }
+        Message::WriteEmergency(m) => {
+            words_of(alloc, "WRITE-REPLACE", m.message_id, m.serial, &m.cells)
+        }
+        Message::Kill(m) => words_of(alloc, "KILL", m.message_id, m.serial, &m.cells),
+        _ => String::from_str(alloc, "an order"),
+    }
+}
+
 /// The order in words whose frame this is: its kind, the Message Identifier, the serial number that it names first, and in how
 /// many cells.
 pub fn order_words(alloc: Global, frame: &[u8]) -> Result<String, AllocError> {
     let (Some(kind), Some(body)) = (frame.first(), frame.get(4..)) else {
         return String::from_str(alloc, "an order");
     };
-    match read(alloc, *kind, body) {
-        Ok(Message::WriteReplace(m)) => {
-            words_of(alloc, "WRITE-REPLACE", m.message_id, m.serial, &m.cells)
-        }
-        Ok(Message::WriteEmergency(m)) => {
-            words_of(alloc, "WRITE-REPLACE", m.message_id, m.serial, &m.cells)
-        }
-        Ok(Message::Kill(m)) => words_of(alloc, "KILL", m.message_id, m.serial, &m.cells),
-        _ => String::from_str(alloc, "an order"),
-    }
+    let Ok(message) = read(alloc, *kind, body) else {
+        return String::from_str(alloc, "an order");
+    };
+    let words = message_words(alloc, &message);
+    drop(message);
+    words
 }

@@ -6,7 +6,6 @@ use crate::warning_list::WarningList;
 use centre_past::lists::CentreStatus;
 
 /// How a centre stood at one moment.
-#[derive(Drop)]
 pub struct Picture {
     /// When it was taken, in seconds after 1970-01-01T00:00:00Z.
     pub taken: u64,
@@ -25,4 +24,21 @@ pub struct Picture {
     pub entries: Tallies,
     /// How much memory the program takes, in octets; `None` where it isn't known.
     pub memory: Option<u64>,
+}
+
+/// Written out, so that no crate above proves anew how its parts are dropped.
+impl Drop for Picture {
+    fn drop(self) {
+        let Picture {
+            taken: _taken,
+            status: _status,
+            bscs: _bscs,
+            warnings: _warnings,
+            kept: _kept,
+            receipts: _receipts,
+            refusals: _refusals,
+            entries: _entries,
+            memory: _memory,
+        } = self;
+    }
 }

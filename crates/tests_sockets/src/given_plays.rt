@@ -5,7 +5,7 @@ ghost use Rattle.std.specs.Prelude.{◌≤◌};
 use crate::checks::{same, yes};
 use crate::console::is_told;
 use crate::given_texts::{Wanted, has, has_time, plain};
-use crate::peer::{PATIENCE, connected, fails, gets, is_closed, next_frame, sends, waits};
+use crate::peer::{PATIENCE, connected, fails, gets, is_closed, next_frame, sends};
 use console_text::options::{FOLD, MOST_ENTRIES};
 use server::{ServeOptions, serve, serve_words};
 use server_errors::{line_text, utc_text};
@@ -24,14 +24,19 @@ use std::time::{Clock, Duration, SystemTime};
 /// How often something is looked for that is to come.
 const MOST_LOOKS: u32 = 20_000;
 
+/// For so many milliseconds after the start of a server whose limits are spent nothing more is let in.
+const HELD: u64 = 2_000;
+
 /// What the operator does, or a peer. Peers are numbered from 0, in the order in which they connect.
 pub(crate) enum Act {
     /// The operator types the line. Its answer begins so.
     Types(&'static str, &'static str),
     /// The operator types the line until its answer begins so.
     Repeats(&'static str, &'static str),
-    /// The operator types the line. Its answer begins otherwise.
+    /// The operator types the line. Its answer begins otherwise, if that is less than `HELD` after the time noted.
     Unlike(&'static str, &'static str),
+    /// The time is noted. Before that it is when the server was started.
+    Notes,
     /// The operator types the lines, and passes over so many answers.
     Lines(&'static str, u32),
     /// The operator types a comment of so many octets, without its end.
@@ -56,7 +61,7 @@ pub(crate) enum Act {
     Gets(usize, &'static [u8]),
     /// The next frame that the peer gets is of this type. It sends the octets.
     Answers(usize, u8, &'static [u8]),
-    /// The next frame comes to the peer no sooner than after so many milliseconds.
+    /// The next frame comes to the peer no sooner than so many milliseconds after the time noted.
     WaitsFor(usize, u64),
     /// The server closes the peer's connection.
     IsClosed(usize),
@@ -109,6 +114,8 @@ struct Stage {
     base: u16,
     /// When the server was started, in seconds after 1970-01-01T00:00:00Z.
     begin: u64,
+    /// The time noted, in milliseconds of a clock that goes on.
+    noted: u64,
     lines: UnixStream,
     answers: BufReader<UnixStream>,
     said: BufReader<UnixStream>,
@@ -149,6 +156,17 @@ fn repeats<R: Abort + Clock>(rt: &R, alloc: Global, stage: &mut Stage, line: &st
         thread::sleep(rt, Duration::from_millis(1));
     }
     yes(rt, false, answer);
+}
+
+/// The time, in milliseconds of a clock that goes on.
+fn moment<R: Abort + Clock>(rt: &R) -> u64 {
+    let now = rt.monotonic().expect(rt, "a clock").as_millis();
+    u64::try_from(now).unwrap_or(u64::MAX)
+}
+
+/// Whether so many milliseconds went by since the time noted.
+fn is_past<R: Abort + Clock>(rt: &R, stage: &Stage, milliseconds: u64) -> bool {
+    milliseconds <= moment(rt).saturating_sub(stage.noted)
 }
 
 /// Types the lines, and passes over so many answers.
@@ -247,7 +265,6 @@ fn plays<R: Abort + Clock>(rt: &R, peer: &mut TcpStream, act: &Act) {
             same(rt, next_frame(rt, peer), *kind, "another frame");
             sends(rt, peer, octets, 1);
         }
-        Act::WaitsFor(_, least) => yes(rt, *least <= waits(rt, peer), "it comes too soon"),
         Act::IsClosed(_) => yes(rt, is_closed(peer), "it isn't closed"),
         Act::Leaves(_) => peer.shutdown(Shutdown::Both).expect(rt, "an end"),
         _ => {}
@@ -262,7 +279,13 @@ fn does<R: Abort + Clock + Net>(rt: &R, alloc: Global, stage: &mut Stage, act: &
         }
         Act::Repeats(line, answer) => repeats(rt, alloc, stage, line, answer),
         Act::Unlike(line, answer) => {
-            yes(rt, !is_answered(rt, alloc, stage, line, answer), answer);
+            let is_so = is_answered(rt, alloc, stage, line, answer);
+            yes(rt, !is_so || is_past(rt, stage, HELD), answer);
+        }
+        Act::Notes => stage.noted = moment(rt),
+        Act::WaitsFor(number, least) => {
+            next_frame(rt, peer(rt, stage, *number));
+            yes(rt, is_past(rt, stage, *least), "it comes too soon");
         }
         Act::Lines(lines, answers) => types_all(rt, alloc, stage, lines, *answers),
         Act::Comment(octets) => types_comment(stage, *octets),
@@ -276,7 +299,6 @@ fn does<R: Abort + Clock + Net>(rt: &R, alloc: Global, stage: &mut Stage, act: &
         | Act::Stops(number)
         | Act::Gets(number, _)
         | Act::Answers(number, _, _)
-        | Act::WaitsFor(number, _)
         | Act::IsClosed(number)
         | Act::Leaves(number) => plays(rt, peer(rt, stage, *number), act),
     }
@@ -348,10 +370,9 @@ fn add_word(rt: &impl Abort, alloc: Global, words: &mut Vec<String>, word: &str)
     words.push(word).expect(rt, "memory");
 }
 
-/// Limits of which so many reports and connections are spent.
+/// Limits of which so many reports and connections are spent, as if that were `HELD` from now.
 fn spent_limits<R: Abort + Clock>(rt: &R, reports: u32, connections: u32) -> LinkLimits {
-    let now = rt.monotonic().expect(rt, "a clock").as_millis();
-    let now = u64::try_from(now).unwrap_or(u64::MAX);
+    let now = moment(rt).saturating_add(HELD);
     let mut limits = LinkLimits::usual();
     for _ in 0..reports {
         limits.reports.take(now);
@@ -445,6 +466,7 @@ fn staged<R: Abort + Clock + Net>(rt: &R, alloc: Global, base: u16) -> (Stage, N
     let stage = Stage {
         base,
         begin: second_of(rt),
+        noted: moment(rt),
         lines,
         answers: BufReader::new(alloc, answers).expect(rt, "memory"),
         said: BufReader::new(alloc, said).expect(rt, "memory"),

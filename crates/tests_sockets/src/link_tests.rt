@@ -116,7 +116,8 @@ const WITHOUT_REPLY: Play = Play {
 };
 
 /// A BSC whose replies settle nothing gets the same order again and again: that is said the third time, and from the tenth time on
-/// the order waits for a second. Meanwhile another BSC and the operator go on, and the first BSC does once it settles.
+/// the order waits for a second. The time is noted before the ninth goes out. Meanwhile another BSC and the operator go on, and the
+/// first BSC does once it settles.
 #[test]
 fn a_bsc_that_never_settles_holds_up_no_other(rt: HostRuntime) {
     played(&rt, rt.alloc(), &NEVER_SETTLES);
@@ -142,6 +143,7 @@ const NEVER_SETTLES: Play = Play {
         Act::Answers(0, WRITE, CONFUSED),
         Act::Answers(0, WRITE, CONFUSED),
         Act::Answers(0, WRITE, CONFUSED),
+        Act::Notes,
         Act::Answers(0, WRITE, CONFUSED),
         Act::Answers(0, WRITE, CONFUSED),
         Act::Answers(1, WRITE, WRITTEN_8),
@@ -153,7 +155,7 @@ const NEVER_SETTLES: Play = Play {
         Act::Types("issue 4371 3 15 0 30 d4f29c0e Hills\n", "ok "),
         Act::Answers(1, WRITE, OTHER_8),
         Act::Repeats("board 2\n", ON_AIR),
-        Act::WaitsFor(0, 200),
+        Act::WaitsFor(0, 1_000),
         Act::Sends(0, WRITTEN, 1),
         Act::Repeats(
             "board 1\n",

@@ -5,10 +5,10 @@ use os::FromRawFd;
 use std::io::{ErrorKind, Read, Write};
 use std::net::TcpStream;
 use std::process::Abort;
-use std::time::{Clock, Duration};
+use std::time::Duration;
 
-/// How long it is waited for what is to come, in seconds.
-pub(crate) const PATIENCE: u64 = 25;
+/// How long it is waited for what is to come, in seconds. A test may take a minute in the gate.
+pub(crate) const PATIENCE: u64 = 50;
 
 /// The most pieces of what a server sends before it closes a connection.
 const MOST_PIECES: u32 = 100_000;
@@ -93,15 +93,6 @@ pub(crate) fn next_frame(rt: &impl Abort, stream: &mut TcpStream) -> u8 {
         next_octet(rt, stream);
     }
     kind
-}
-
-/// How long the next frame is waited for, in milliseconds.
-pub(crate) fn waits<R: Abort + Clock>(rt: &R, stream: &mut TcpStream) -> u64 {
-    let begin = rt.monotonic().expect(rt, "a clock");
-    next_frame(rt, stream);
-    let end = rt.monotonic().expect(rt, "a clock");
-    let taken = end.saturating_sub(begin);
-    u64::try_from(taken.as_millis()).unwrap_or(u64::MAX)
 }
 
 /// Whether the server closes the connection. What it sends before that is passed over.

@@ -6,9 +6,16 @@ use crate::lists::bsc_row::BscRow;
 use std::marker::Model;
 
 /// BSCs by their numbers.
-#[derive(Debug, Drop)]
+#[derive(Debug)]
 pub struct BscRows {
     rows: Vec<BscRow>,
+}
+
+/// Written out, so that no crate above proves anew how its parts are dropped.
+impl Drop for BscRows {
+    fn drop(self) {
+        let BscRows { rows: _rows } = self;
+    }
 }
 
 impl Model for BscRows {

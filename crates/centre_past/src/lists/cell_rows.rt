@@ -6,9 +6,16 @@ use crate::lists::cell_row::CellRow;
 use std::marker::Model;
 
 /// Cells by location area, then by identity.
-#[derive(Debug, Drop)]
+#[derive(Debug)]
 pub struct CellRows {
     rows: Vec<CellRow>,
+}
+
+/// Written out, so that no crate above proves anew how its parts are dropped.
+impl Drop for CellRows {
+    fn drop(self) {
+        let CellRows { rows: _rows } = self;
+    }
 }
 
 impl Model for CellRows {
