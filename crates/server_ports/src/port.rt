@@ -17,7 +17,6 @@ use std::sync::{Condvar, Mutex, Wait};
 /// A port: where its BSC connects, and the two desks of its links.
 ///
 /// Times are in milliseconds of a clock that goes on. No lock is held while somebody waits for a time or a connection.
-#[derive(Drop)]
 pub struct Port<L: Ledger> {
     pub bsc: BscId,
     pub listener: TcpListener,
@@ -28,6 +27,22 @@ pub struct Port<L: Ledger> {
     pace: Mutex<PortPace>,
     state: Mutex<PortState>,
     changed: Condvar,
+}
+
+/// Written out, so that no crate above proves anew how its parts are dropped.
+impl<L: Ledger> Drop for Port<L> {
+    fn drop(self) {
+        let Port {
+            bsc: _bsc,
+            listener: _listener,
+            address: _address,
+            read_desk: _read_desk,
+            write_desk: _write_desk,
+            pace: _pace,
+            state: _state,
+            changed: _changed,
+        } = self;
+    }
 }
 
 impl<L: Ledger> Port<L> {
