@@ -262,7 +262,10 @@ fn read_near(
     ensures same { plan.new ≡ plan.old }
 {
     let near = near(plan, tables, spot, warnings)?;
-    let at = KnownSpot::covered(*spot, near.covering.as_slice());
+    let at = KnownSpot {
+        spot: *spot,
+        covering: Some(near.covering.as_slice()),
+    };
     let near = near.warnings.as_slice();
     read_at(out, plan, tables, &at, near, edit)?;
     Ok(())

@@ -193,7 +193,10 @@ fn walk_near(
     ensures same { plan.new ≡ plan.old }
 {
     let near = near(plan, tables, spot, warnings)?;
-    let at = KnownSpot::covered(*spot, near.covering.as_slice());
+    let at = KnownSpot {
+        spot: *spot,
+        covering: Some(near.covering.as_slice()),
+    };
     walk_spot(h, plan, tables, &at, near.warnings.as_slice())
 }
 

@@ -10,8 +10,7 @@ returns-clause-earlier c =
     let before = c.near.ensures.kept t same in
     c.in_ok-read_at.ensures.earlier t before
     ∙ ap (λ xs. c.args.out.now.items ++ xs)
-    (ap (before_at c.args.edit.now c.args.plan.now t c.as_slice-near.result.now) c.covered-at.ensures.spot
-    ∙ ap (λ ns. before_at c.args.edit.now c.args.plan.now t ns c.args.spot.now) (c.as_slice-near.ensures.value ∙ c.in_ok-near.ensures.warnings)
+    (ap (λ ns. before_at c.args.edit.now c.args.plan.now t ns c.args.spot.now) (c.as_slice-near.ensures.value ∙ c.in_ok-near.ensures.warnings)
     ∙ near_before c.args.edit.now c.args.plan.now t c.near.new.tables c.args.spot.now c.args.warnings.now before c.requires.cover)
 
 pub returns-clause-meter : goal.returns-clause-meter

@@ -3,7 +3,6 @@ use Rattle.std.proofs.lemmas.Result.{on_ok_weaker}
 use Rattle.common.specs.OrderLaws.{length_filter}
 use Rattle.kept_tables.specs.Consistent.{Consistent}
 use Rattle.kept_tables.specs.View.{key_at}
-use Rattle.kept_tables.specs.declared.spot.Spot.{Spot}
 use Rattle.centre_past.proofs.ReadLemmas.{as_itself}
 use Rattle.centre_lines.specs.Following.{Happens, happens, is_near}
 use Rattle.centre_lines.specs.Walking.{Walks, walked}
@@ -14,9 +13,8 @@ pub walk_spot-requires-clause-walks : goal.walk_spot-requires-clause-walks
 walk_spot-requires-clause-walks c =
     let q = is_near c.args.plan.now.areas c.args.plan.now.book c.near.new.tables.lines c.args.spot.now.bsc c.args.spot.now.cell in
     let before = c.near.ensures.kept c.args.tables.now (as_itself c.args.tables.now) in
-    subst (λ (s : Spot). Walks c.args.plan.now (happens c.args.h.now) c.near.new.tables (map (key_at s) c.as_slice-2.result.now)) (sym c.covered-at.ensures.spot)
-    (subst (λ ns. Walks c.args.plan.now (happens c.args.h.now) c.near.new.tables (map (key_at c.args.spot.now) ns)) (sym (c.as_slice-2.ensures.value ∙ c.in_ok-near.ensures.warnings))
-    (fewer c.requires.walks c.near.new.tables (map (key_at c.args.spot.now) (filter q c.args.warnings.now)) (near_among q c.args.spot.now c.args.warnings.now) (near_once q c.args.spot.now c.args.warnings.now c.requires.walks.once) before.same before.downs))
+    subst (λ ns. Walks c.args.plan.now (happens c.args.h.now) c.near.new.tables (map (key_at c.args.spot.now) ns)) (sym (c.as_slice-2.ensures.value ∙ c.in_ok-near.ensures.warnings))
+    (fewer c.requires.walks c.near.new.tables (map (key_at c.args.spot.now) (filter q c.args.warnings.now)) (near_among q c.args.spot.now c.args.warnings.now) (near_once q c.args.spot.now c.args.warnings.now c.requires.walks.once) before.same before.downs)
 
 pub returns-clause-walked : goal.returns-clause-walked
 returns-clause-walked c =
@@ -27,7 +25,7 @@ returns-clause-walked c =
     (λ done x.
     near_walked c.args.spot.now c.args.warnings.now x c.near.new.tables c.walk_spot.new.tables before c.requires.blank
     (subst (λ ns. (y : Walks c.args.plan.now h c.near.new.tables (map (key_at c.args.spot.now) ns)) → Consistent c.walk_spot.new.tables (walked y (map (key_at c.args.spot.now) ns))) (c.as_slice-2.ensures.value ∙ c.in_ok-near.ensures.warnings)
-    (subst (λ (s : Spot). (y : Walks c.args.plan.now h c.near.new.tables (map (key_at s) c.as_slice-2.result.now)) → Consistent c.walk_spot.new.tables (walked y (map (key_at s) c.as_slice-2.result.now))) c.covered-at.ensures.spot done)
+    done
     (fewer x c.near.new.tables (map (key_at c.args.spot.now) (filter q c.args.warnings.now)) (near_among q c.args.spot.now c.args.warnings.now) (near_once q c.args.spot.now c.args.warnings.now x.once) before.same before.downs)))
     c.walk_spot.ensures.walked
 
