@@ -2,7 +2,7 @@
 
 use crate::peer::PATIENCE;
 use std::io::{Read, Write};
-use std::net::Net;
+use std::net::{Net, Shutdown};
 use std::os::unix::net::UnixStream;
 use std::process::Abort;
 use std::time::Duration;
@@ -10,7 +10,15 @@ use std::time::Duration;
 /// The most octets of an answer that is looked at.
 const MOST_OCTETS: usize = 200;
 
-/// Types the line at the socket file. The answer is whether what it is answered is this.
+/// Types no more. The answer is whether nothing else comes, up to the end of the connection.
+fn ends(stream: &mut UnixStream) -> bool {
+    let _ = stream.shutdown(Shutdown::Write);
+    let mut octet = [0u8; 1];
+    matches!(stream.read(&mut octet), Ok(0))
+}
+
+/// Types the line at the socket file. The answer is whether what it is answered is this, and the connection ends then: so the console
+/// is free again.
 pub(crate) fn is_told<R: Abort + Net>(rt: &R, path: &str, line: &str, answer: &str) -> bool {
     let mut stream = UnixStream::connect(rt, path).expect(rt, "it is connected");
     let patience = Some(Duration::from_secs(PATIENCE));
@@ -18,5 +26,5 @@ pub(crate) fn is_told<R: Abort + Net>(rt: &R, path: &str, line: &str, answer: &s
     stream.write_all(line.as_bytes()).expect(rt, "it is typed");
     let mut octets = [0u8; MOST_OCTETS];
     let place = octets.get_mut(..answer.len()).expect(rt, "a short answer");
-    stream.read_exact(place).is_ok() && octets.starts_with(answer.as_bytes())
+    stream.read_exact(place).is_ok() && octets.starts_with(answer.as_bytes()) && ends(&mut stream)
 }
