@@ -10,3 +10,4 @@ pub mod TableLemmas
 pub mod ReuseLemmas
 pub mod ListLemmas
 pub mod EditLemmas
+pub mod MergingLemmas

@@ -6,4 +6,5 @@
 
 pub mod events;
 pub mod lists;
+mod merging;
 pub mod questions;

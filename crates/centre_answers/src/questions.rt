@@ -21,6 +21,7 @@ ghost use Rattle.centre_past.specs.Table.{key_if, keys_in, keys_of, keys_over, t
 ghost use Rattle.centre_events.specs.Warnings.{book_of, warnings_of};
 ghost use Rattle.centre_events.specs.declared.settings.Settings.{Settings};
 
+use crate::merging::in_order_by_halves;
 use areas::Areas;
 use cell_register::{BscId, Register};
 use centre_events::refusal::Refusal;
@@ -29,7 +30,7 @@ use centre_past::keys::key_of;
 use centre_past::link_state::LinkState;
 use centre_past::links::{generation, is_up};
 use centre_past::reported::{ReportedKey, ReportedKeys};
-use common::{Cell, Name, in_order};
+use common::{Cell, Name};
 use coverage_board::Numbers;
 use kept_tables::KeptTables;
 use mirror::{Line, Presence};
@@ -220,5 +221,6 @@ pub fn table(
 {
     let cells = tables.known_cells(register, b)?;
     let keys = keys_among(alloc, tables, b, book.as_slice(), cells.as_slice())?;
-    Ok(ReportedKeys::from_vec(in_order(alloc, keys)?))
+    let in_order = in_order_by_halves(alloc, keys.as_slice())?;
+    Ok(ReportedKeys::from_vec(in_order))
 }
