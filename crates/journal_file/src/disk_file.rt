@@ -7,6 +7,20 @@ use crate::open_fault::OpenFault;
 use framing::{Failed, FromRead, FromWrite, Sink};
 use std::fs::{File, Files, OpenOptions, TryLockError};
 
+/// That what stands in a file of the system stands there for good.
+#[derive(Clone, Copy)]
+pub struct OnDisk {
+    _private: (),
+}
+
+/// Has all that stands in the file stand there for good.
+fn synced(file: &File) -> Result<OnDisk, Failed> {
+    match file.sync_data() {
+        Ok(()) => Ok(OnDisk { _private: () }),
+        Err(_) => Err(Failed),
+    }
+}
+
 /// A file of the system, open at its end. The lock on it ends with the process.
 #[derive(Drop)]
 pub struct DiskFile {
@@ -37,11 +51,11 @@ impl DiskFile {
     }
 
     /// Cuts off all octets behind the first `length`, for good.
-    pub fn cut(&self, length: u64) -> Result<(), Failed> {
-        if self.file.set_len(length).is_err() || self.file.sync_data().is_err() {
-            return Err(Failed);
+    pub fn cut(&self, length: u64) -> Result<OnDisk, Failed> {
+        match self.file.set_len(length) {
+            Ok(()) => synced(&self.file),
+            Err(_) => Err(Failed),
         }
-        Ok(())
     }
 }
 
@@ -55,9 +69,9 @@ impl JournalFile for DiskFile {
     }
 
     fn sync(&mut self) -> Result<(), Failed> {
-        match self.file.sync_data() {
-            Ok(()) => Ok(()),
-            Err(_) => Err(Failed),
+        match synced(&self.file) {
+            Ok(OnDisk { _private: () }) => Ok(()),
+            Err(fault) => Err(fault),
         }
     }
 }

@@ -6,6 +6,7 @@ use crate::journal_file::{JournalFile, append_all};
 use crate::line_end::has_no_end;
 use crate::loading::LONGEST_LINE;
 use crate::put_fault::PutFault;
+use crate::synced::Synced;
 use framing::Failed;
 use std::alloc::{AllocError, Global};
 use std::marker::Model;
@@ -32,7 +33,7 @@ impl Model for Writing {
 }
 
 impl Writing {
-    ghost use Rattle.std.specs.Prelude.{◌≡◌, ◌++◌, ◌∷◌, [], false, true, OnOk, OnErr, IfErr};
+    ghost use Rattle.std.specs.Prelude.{◌≡◌, ◌++◌, ◌∷◌, [], false, true, IfOk, OnOk, OnErr, IfErr};
     ghost use Rattle.journal_file.specs.File.{Grows, GrowsForGood, GrowsInPart};
     ghost use Rattle.journal_file.specs.Lines.{IsLine, line_octets};
     ghost use Rattle.journal_file.specs.Writing.{Entry, Fold, begins_after, with_item, all_kept, broken};
@@ -124,8 +125,10 @@ impl Writing {
         self.put(CHECKPOINT)
     }
 
-    /// Writes all that was put and isn't written yet, and syncs the file. At an `Err` some of it may be written.
-    pub fn keep<F: JournalFile>(&mut self, file: &mut F) -> Result<(), Failed>
+    /// Writes all that was put and isn't written yet, and syncs the file. The answer says up to which place all entries stand there now.
+    /// At an `Err` some of it may be written.
+    pub fn keep<F: JournalFile>(&mut self, file: &mut F) -> Result<Synced, Failed>
+        ensures place { IfOk result (λ synced. synced.place ≡ self.old.taken) }
         ensures sound { OnOk result (self.old.failed ≡ false) }
         ensures ok { OnOk result (self.new ≡ all_kept self.old) }
         ensures kept { OnOk result (GrowsForGood (F.state file.old) (F.state file.new) self.old.waiting) }
@@ -142,6 +145,6 @@ impl Writing {
         }
         self.waiting.clear();
         self.synced = self.taken;
-        Ok(())
+        Ok(Synced::up_to(self.taken))
     }
 }

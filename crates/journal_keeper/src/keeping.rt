@@ -42,10 +42,10 @@ fn turn<J: Followed, F: JournalFile + Drop, R: Wait>(
     keeper: &mut Keeper<F>,
 ) -> Result<(), KeepFault> {
     let made = put(rt, journal, wanted, &mut keeper.writing)?;
-    if keeper.writing.keep(&mut keeper.file).is_err() {
+    let Ok(synced) = keeper.writing.keep(&mut keeper.file) else {
         return Err(KeepFault::File);
-    }
-    kept.publish(rt, keeper.writing.synced(), made);
+    };
+    kept.publish(rt, synced, made);
     Ok(())
 }
 
@@ -57,7 +57,7 @@ fn keep_on<J: Followed, F: JournalFile + Drop, R: Wait>(
     keeper: &mut Keeper<F>,
 ) -> Result<(), KeepFault> {
     let mut interrupts = 0;
-    kept.publish(rt, keeper.writing.synced(), None);
+    turn(rt, journal, kept, None, keeper)?;
     for _ in rt.forever() {
         let seen = journal.wait_entries(rt, keeper.writing.taken(), interrupts);
         interrupts = seen.interrupts;

@@ -1,6 +1,12 @@
 //! What those who wait for a journal to be kept share with the thread that keeps it.
 
+ghost use Rattle.std.specs.Prelude.{◌≡◌, true, false, IfSome, None};
+ghost use Rattle.std.specs.Option.{is_some};
+ghost use Rattle.journal_keeper.specs.Kept.{IsKept};
+
 use crate::kept_state::KeptState;
+use crate::kept_up_to::KeptUpTo;
+use journal_file::Synced;
 use std::sync::{Condvar, Mutex, Wait};
 
 /// How far a journal is kept in its file, for those who wait for that. `A` is what a fold is answered.
@@ -19,13 +25,14 @@ impl<A: Copy + Drop> Kept<A> {
         }
     }
 
-    /// Waits until all entries up to the place are kept. The answer is whether they are: `false` where the file has failed, or the
-    /// thread that keeps them has ended.
-    pub fn wait_kept<R: Wait>(&self, rt: &R, place: u64) -> bool {
+    /// Waits until all entries up to the place are kept. `None` where the file has failed, or the thread that keeps them has ended.
+    pub fn wait_kept<R: Wait>(&self, rt: &R, place: u64) -> Option<KeptUpTo>
+        ensures { IfSome result (IsKept place) }
+    {
         let state = self
             .changed
             .wait_while(rt, self.state.lock(rt), |state| !state.is_over(place));
-        state.is_kept(place)
+        state.kept(place)
     }
 
     /// Up to which place all entries are kept.
@@ -62,10 +69,10 @@ impl<A: Copy + Drop> Kept<A> {
         (state.wanted(), state.is_ending())
     }
 
-    /// All entries up to the place are kept, and folds up to a number are made.
-    pub(crate) fn publish<R: Wait>(&self, rt: &R, place: u64, made: Option<(u64, A)>) {
+    /// All entries up to the place that is synced are kept, and folds up to a number are made.
+    pub(crate) fn publish<R: Wait>(&self, rt: &R, synced: Synced, made: Option<(u64, A)>) {
         let mut state = self.state.lock(rt);
-        state.keep(place);
+        state.keep(synced);
         if let Some((number, answer)) = made {
             state.make(number, answer);
         }
@@ -82,5 +89,21 @@ impl<A: Copy + Drop> Kept<A> {
         state.ended();
         drop(state);
         self.changed.notify_all();
+    }
+}
+
+/// Waits until all entries up to the place are kept, where the journal has a file. `None` where the file has failed, or the thread that
+/// keeps them has ended: then nobody is told of them.
+pub fn wait_kept<A: Copy + Drop, R: Wait>(
+    rt: &R,
+    kept: &Option<Kept<A>>,
+    place: u64,
+) -> Option<KeptUpTo>
+    ensures file { is_some kept.now ≡ true → IfSome result (IsKept place) }
+    ensures without { is_some kept.now ≡ false → IfSome result (λ kept. kept.place ≡ None) }
+{
+    match kept {
+        Some(kept) => kept.wait_kept(rt, place),
+        None => Some(KeptUpTo::without_file()),
     }
 }

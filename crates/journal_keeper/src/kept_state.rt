@@ -2,6 +2,8 @@
 
 ghost use Rattle.std.specs.Prelude.{◌≡◌};
 
+use crate::kept_up_to::KeptUpTo;
+use journal_file::Synced;
 use std::marker::Model;
 
 /// How far a journal is kept, which folds are asked for and made, and whether the thread is to end, or has ended.
@@ -28,8 +30,9 @@ impl<A: Copy + Drop> Model for KeptState<A> {
 }
 
 impl<A: Copy + Drop> KeptState<A> {
-    ghost use Rattle.std.specs.Prelude.{◌≡◌, ◌+◌, ◌≤◌, ◌<◌, ◌^◌, ◌-◌, ◌⊎◌, ◌↔◌, IsTrue, true, false, max, min, nat_lt, None, Some, if◌then◌else◌};
-    ghost use Rattle.journal_keeper.specs.Kept.{kept_up_to, IsOver};
+    ghost use Rattle.std.specs.Prelude.{◌≡◌, ◌+◌, ◌≤◌, ◌<◌, ◌^◌, ◌-◌, ◌⊎◌, ◌↔◌, IsTrue, true, false, max, min, nat_le, nat_lt, None, Some, IfSome, if◌then◌else◌};
+    ghost use Rattle.std.specs.Option.{is_some};
+    ghost use Rattle.journal_keeper.specs.Kept.{kept_up_to, IsKept, IsOver};
 
     /// All entries up to the place are kept, and no fold is asked for.
     pub fn new(place: u64) -> KeptState<A>
@@ -47,10 +50,10 @@ impl<A: Copy + Drop> KeptState<A> {
     }
 
     /// All entries up to the place are kept. It never goes back.
-    pub fn keep(&mut self, place: u64)
-        ensures { self.new ≡ record self.old { place = max self.old.place place } }
+    pub fn keep(&mut self, synced: Synced)
+        ensures { self.new ≡ record self.old { place = max self.old.place synced.place } }
     {
-        self.place = self.place.max(place);
+        self.place = self.place.max(synced.place());
     }
 
     /// Up to which place all entries are kept.
@@ -94,11 +97,17 @@ impl<A: Copy + Drop> KeptState<A> {
         self.failed
     }
 
-    /// Whether all entries up to the place are kept.
-    pub fn is_kept(&self, place: u64) -> bool
-        ensures { IsTrue result ↔ (place ≤ self.now.place) }
+    /// That all entries up to the place are kept, where they are.
+    pub fn kept(&self, place: u64) -> Option<KeptUpTo>
+        ensures some { is_some result ≡ nat_le place self.now.place }
+        ensures kept { IfSome result (λ kept. kept.place ≡ Some self.now.place) }
+        ensures covers { IfSome result (IsKept place) }
     {
-        place <= self.place
+        if place <= self.place {
+            Some(KeptUpTo::up_to(self.place))
+        } else {
+            None
+        }
     }
 
     /// Whether nothing is to be waited for any more: all up to the place is kept, or the thread has ended.

@@ -2,7 +2,8 @@
 //! office, as the thread sees it.
 //!
 //! Begin with `keeping`, which is what the thread does; `kept` is what it shares with those who wait, and `kept_state` what
-//! stands under its lock. Nothing is to be told of an entry before `Kept::wait_kept` answers that it is kept.
+//! stands under its lock. Whoever tells of an entry needs a `KeptUpTo`, which `wait_kept` gives once it is kept; and only with a
+//! `Synced` of `journal_file`, which a sync gives, does the thread say that something is kept.
 #![tactic(auto)]
 
 mod followed;
@@ -10,9 +11,11 @@ mod keep_fault;
 mod keeping;
 mod kept;
 mod kept_state;
+mod kept_up_to;
 
 pub use followed::{Followed, Seen};
 pub use keep_fault::KeepFault;
 pub use keeping::{Keeper, keep_journal};
-pub use kept::Kept;
+pub use kept::{Kept, wait_kept};
 pub use kept_state::KeptState;
+pub use kept_up_to::KeptUpTo;

@@ -2,6 +2,7 @@
 
 use cell_register::BscId;
 use centre_events::refusal::Refusal;
+use journal_keeper::KeptUpTo;
 use server_consoles::Program;
 use server_errors::say_of_centre;
 use server_links::Shared;
@@ -49,7 +50,7 @@ impl<'a, L: Ledger, E: Write + Drop> Server for RunningServer<'a, L, E> {
         self.shared.submitted(rt);
     }
 
-    fn is_kept<R: Wait>(&self, rt: &R) -> bool {
+    fn kept<R: Wait>(&self, rt: &R) -> Option<KeptUpTo> {
         self.shared.wait_kept(rt)
     }
 

@@ -3,6 +3,7 @@
 use crate::connection::Connection;
 use crate::entry_text::watch_text;
 use crate::program::Program;
+use journal_keeper::KeptUpTo;
 use server_operator::Operator;
 use std::io::Write;
 use std::os::unix::net::UnixStream;
@@ -12,7 +13,8 @@ use std::sync::ledger::Ledger;
 /// How many entries are handed on at once.
 const MOST_ENTRIES: u64 = 100;
 
-fn write_to(mut stream: &UnixStream, text: &[u8]) -> bool {
+/// Writes the text, as what it tells is kept.
+fn write_to(mut stream: &UnixStream, text: &[u8], _kept: KeptUpTo) -> bool {
     stream.write_all(text).is_ok()
 }
 
@@ -28,7 +30,8 @@ fn hand_on<L: Ledger, P: Program, R: Wait>(
     let made = watch_text(operator.alloc, place, &entries);
     drop(entries);
     let (text, last) = made.ok()?;
-    if operator.server.is_kept(rt) && write_to(stream, text.as_slice()) {
+    let kept = operator.server.kept(rt)?;
+    if write_to(stream, text.as_slice(), kept) {
         Some(last)
     } else {
         None

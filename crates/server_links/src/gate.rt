@@ -3,6 +3,7 @@
 use crate::orders::order_words;
 use crate::shared::{Shared, now_of};
 use cell_register::BscId;
+use journal_keeper::KeptUpTo;
 use link_rules::Repeat;
 use link_worker::{Gate, Passage};
 use server_ports::Port;
@@ -45,8 +46,8 @@ impl<'a, L: Ledger, E: Write + Drop, C: Wait + Clock> LinkGate<'a, L, E, C> {
         }
     }
 
-    /// Whether the order or the query goes out whose frame this is. It waits as long as it has to.
-    fn let_out(&self, frame: &[u8]) -> bool {
+    /// Whether the order or the query goes out whose frame this is, as its entry is kept. It waits as long as it has to.
+    fn let_out(&self, frame: &[u8], _kept: KeptUpTo) -> bool {
         for _ in self.rt.forever() {
             if !self.port.is_live(self.rt) {
                 return false;
@@ -87,7 +88,10 @@ impl<'a, L: Ledger, E: Write + Drop, C: Wait + Clock> Gate for LinkGate<'a, L, E
     fn pass<R: Wait>(&self, _rt: &R, _b: BscId, passage: Passage<'_>) -> bool {
         self.shared.submitted(self.rt);
         match passage {
-            Passage::Order(frame) => self.shared.wait_kept(self.rt) && self.let_out(frame),
+            Passage::Order(frame) => match self.shared.wait_kept(self.rt) {
+                Some(kept) => self.let_out(frame, kept),
+                None => false,
+            },
             Passage::Reply => {
                 self.port.answered(self.rt);
                 self.port.is_live(self.rt)

@@ -6,6 +6,7 @@ use cbsp_messages::{Message, Restart};
 use centre_events::event::Event;
 use centre_events::refusal::Refusal;
 use centre_past::reported::ReportedKeys;
+use journal_keeper::KeptUpTo;
 use link_resets::{EmergencyKey, emergency_keys, reset_frames};
 use link_worker::End;
 use office::desk::Desk;
@@ -109,8 +110,8 @@ fn frames_of<L: Ledger, E: Write + Drop, R: Wait + Clock>(
     }
 }
 
-/// Writes frames.
-fn write_frames(mut stream: &TcpStream, frames: &[u8]) -> Result<(), SideEnd> {
+/// Writes frames, as what they ask for is kept.
+fn write_frames(mut stream: &TcpStream, frames: &[u8], _kept: KeptUpTo) -> Result<(), SideEnd> {
     match stream.write_all(frames) {
         Ok(()) => Ok(()),
         Err(error) => Err(SideEnd {
@@ -144,10 +145,10 @@ pub(crate) fn reset_cells<L: Ledger, E: Write + Drop, R: Wait + Clock>(
 ) -> Result<(), SideEnd> {
     match prepared(rt, shared, port, desk, generation) {
         Ok(frames) => {
-            if !shared.wait_kept(rt) {
+            let Some(kept) = shared.wait_kept(rt) else {
                 return Err(SideEnd::of(End::GateShut));
-            }
-            write_frames(stream, frames.as_slice())?;
+            };
+            write_frames(stream, frames.as_slice(), kept)?;
             port.reset(rt, now_of(rt));
             Ok(())
         }

@@ -2,7 +2,7 @@
 
 use crate::options::LinkOptions;
 use centre_events::refusal::Refusal;
-use journal_keeper::Kept;
+use journal_keeper::{Kept, KeptUpTo, wait_kept};
 use link_rules::FoldPace;
 use office::office::Office;
 use server_errors::{Clearance, Errors, tell_link};
@@ -49,13 +49,10 @@ impl<L: Ledger, E: Write + Drop> Shared<L, E> {
 }
 
 impl<L: Ledger, E: Drop> Shared<L, E> {
-    /// Waits until all entries that there are now are kept in the file. The answer is whether they are: `true` where no file is kept,
-    /// `false` where the file has failed.
-    pub fn wait_kept<R: Wait>(&self, rt: &R) -> bool {
-        match &self.kept {
-            Some(kept) => kept.wait_kept(rt, self.office.position(rt)),
-            None => true,
-        }
+    /// Waits until all entries that there are now are kept, where a file is kept. `None` where the file has failed: then nobody is told of
+    /// them.
+    pub fn wait_kept<R: Wait>(&self, rt: &R) -> Option<KeptUpTo> {
+        wait_kept(rt, &self.kept, self.office.position(rt))
     }
 
     /// The last entry that is kept in the file; `None` where no file is kept.
@@ -115,6 +112,6 @@ pub(crate) fn now_of<R: Clock>(rt: &R) -> u64 {
 
 impl<L: Ledger, E: Drop> Clearance for Shared<L, E> {
     fn may_tell<R: Wait>(&self, rt: &R) -> bool {
-        self.wait_kept(rt)
+        self.wait_kept(rt).is_some()
     }
 }

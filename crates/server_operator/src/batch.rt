@@ -5,6 +5,7 @@ ghost use Rattle.std.specs.Io.KnownBytes.{Appends};
 
 use crate::server::Server;
 use console_text::ReplayFault;
+use journal_keeper::KeptUpTo;
 use std::alloc::Global;
 use std::io::Write;
 use std::mem;
@@ -87,8 +88,14 @@ impl Batch {
         self.answers.extend_from_slice(text).is_ok()
     }
 
-    /// Writes the answers, and that text behind them. At a fault nobody knows how much of them is written, so none is written again.
-    pub(crate) fn write<W: Write>(&mut self, writer: &mut W, text: &[u8]) -> Result<(), ReplayFault>
+    /// Writes the answers, and that text behind them, as what they tell is kept. At a fault nobody knows how much of them is written, so
+    /// none is written again.
+    pub(crate) fn write<W: Write>(
+        &mut self,
+        writer: &mut W,
+        text: &[u8],
+        _kept: KeptUpTo,
+    ) -> Result<(), ReplayFault>
         ensures written { OnOk result (Appends (W.contents writer.old) (W.contents writer.new) (self.old.answers.items ++ text.now)) }
         ensures none { self.new.answers.items ≡ [] }
     {

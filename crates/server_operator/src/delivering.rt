@@ -31,11 +31,11 @@ pub(crate) fn deliver<L: Ledger, S: Server, R: Wait + Clock, W: Write>(
     ensures none { batch.new.answers.items ≡ [] }
 {
     if !batch.is_written() || !text.is_empty() {
-        if !operator.server.is_kept(rt) {
+        let Some(kept) = operator.server.kept(rt) else {
             batch.forget();
             return Ok(false);
-        }
-        batch.write(writer, text)?;
+        };
+        batch.write(writer, text, kept)?;
         let _ = operator.office.release(rt, desk);
     }
     batch.tell(rt, operator.server);

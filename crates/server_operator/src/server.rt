@@ -2,6 +2,7 @@
 
 use cell_register::BscId;
 use centre_events::refusal::Refusal;
+use journal_keeper::KeptUpTo;
 use std::sync::Wait;
 use std::time::Clock;
 use warning_book::WarningId;
@@ -15,9 +16,9 @@ pub trait Server {
     /// may not be written yet.
     fn answered<R: Wait + Clock>(&self, rt: &R);
 
-    /// Waits until all entries that there are now are kept, where a file is kept. The answer is whether they are: `false` where the file
-    /// has failed. Then nothing more is answered, nor what is answered and not written.
-    fn is_kept<R: Wait>(&self, rt: &R) -> bool;
+    /// Waits until all entries that there are now are kept, where a file is kept. `None` where the file has failed: then nothing more is
+    /// answered, nor what is answered and not written.
+    fn kept<R: Wait>(&self, rt: &R) -> Option<KeptUpTo>;
 
     /// Whether no line is answered any more, since the server ends, or the file of the journal has failed.
     fn is_ending<R: Wait>(&self, rt: &R) -> bool;

@@ -2,9 +2,11 @@
 
 ghost use Rattle.std.specs.Prelude.{◌≡◌};
 
+use crate::given_program::kept_without_file;
 use cell_register::BscId;
 use centre_events::refusal::Refusal;
 use console_text::ReplayFault;
+use journal_keeper::KeptUpTo;
 use office::office::Office;
 use server_operator::{Leaving, Operator, Server, Terminal, operate};
 use std::alloc::Global;
@@ -145,11 +147,15 @@ impl Server for Keeping<'_> {
         notes(self.seen, TOLD);
     }
 
-    fn is_kept<R: Wait>(&self, _rt: &R) -> bool {
+    fn kept<R: Wait>(&self, rt: &R) -> Option<KeptUpTo> {
         notes(self.seen, ASKED);
         let left = self.left.load(Ordering::SeqCst);
         self.left.store(left.saturating_sub(1), Ordering::SeqCst);
-        left > 0
+        if left > 0 {
+            kept_without_file(rt)
+        } else {
+            None
+        }
     }
 
     fn is_ending<R: Wait>(&self, _rt: &R) -> bool {

@@ -2,12 +2,19 @@
 
 use cell_register::BscId;
 use centre_events::refusal::Refusal;
+use journal_keeper::{Kept, KeptUpTo, wait_kept};
 use server_consoles::Program;
 use server_operator::Server;
 use std::sync::Wait;
 use std::sync::atomic::{AtomicBool, Ordering};
 use std::time::Clock;
 use warning_book::WarningId;
+
+/// That all is kept of a journal without a file.
+pub(crate) fn kept_without_file<R: Wait>(rt: &R) -> Option<KeptUpTo> {
+    let kept: Option<Kept<u64>> = None;
+    wait_kept(rt, &kept, 0)
+}
 
 /// A program without links, which keeps no file.
 #[derive(Drop)]
@@ -28,8 +35,8 @@ impl Server for GivenProgram {
 
     fn answered<R: Wait + Clock>(&self, _rt: &R) {}
 
-    fn is_kept<R: Wait>(&self, _rt: &R) -> bool {
-        true
+    fn kept<R: Wait>(&self, rt: &R) -> Option<KeptUpTo> {
+        kept_without_file(rt)
     }
 
     fn is_ending<R: Wait>(&self, _rt: &R) -> bool {

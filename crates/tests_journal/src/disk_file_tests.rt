@@ -44,6 +44,13 @@ fn put(rt: &impl Abort, alloc: Global, file: &mut DiskFile, lines: &[&[u8]]) {
 }
 
 #[test]
+fn a_file_that_cannot_be_synced_says_so(rt: HostRuntime) {
+    let mut file = DiskFile::open(&rt, "/dev/null").expect(&rt, "it can be opened and locked");
+    yes(&rt, file.append(b"line\n").is_ok(), "it takes octets");
+    yes(&rt, file.sync().is_err(), "it keeps none of them");
+}
+
+#[test]
 fn a_file_keeps_its_lines_and_is_cut(rt: HostRuntime) {
     let alloc = rt.alloc();
     let path = "journal-of-lines";

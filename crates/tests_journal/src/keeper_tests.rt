@@ -34,7 +34,7 @@ fn keeps<R: Wait>(
 /// Enters an entry of this line, and waits until it is kept. The answer is whether it is.
 fn enter<R: Wait>(rt: &R, journal: &Journal, kept: &Kept<Answer>, line: &[u8]) -> bool {
     match journal.enter(rt, line) {
-        Some(place) => kept.wait_kept(rt, place),
+        Some(place) => kept.wait_kept(rt, place).is_some(),
         None => false,
     }
 }
@@ -123,8 +123,12 @@ fn all_are_kept_before_the_end(rt: HostRuntime) {
         1000,
         "the octets of the file",
     );
-    yes(&rt, kept.wait_kept(&rt, 200), "they are kept");
-    yes(&rt, !kept.wait_kept(&rt, 201), "one that never came isn't");
+    yes(&rt, kept.wait_kept(&rt, 200).is_some(), "they are kept");
+    yes(
+        &rt,
+        kept.wait_kept(&rt, 201).is_none(),
+        "one that never came isn't",
+    );
     drop(keeper);
 }
 

@@ -6,6 +6,7 @@ use crate::checks::{same, yes};
 use cell_register::BscId;
 use centre_events::refusal::Refusal;
 use console_text::ReplayFault;
+use journal_keeper::{Kept, KeptUpTo, wait_kept};
 use office::office::Office;
 use server_operator::{Leaving, Operator, Server, Terminal, operate};
 use std::alloc::Global;
@@ -19,6 +20,12 @@ use std::time::Clock;
 use std::{io, mem};
 use warning_book::WarningId;
 
+/// That all is kept of a journal without a file.
+fn kept_without_file<R: Wait>(rt: &R) -> Option<KeptUpTo> {
+    let kept: Option<Kept<u64>> = None;
+    wait_kept(rt, &kept, 0)
+}
+
 /// A server that ends once it was asked so often whether it does.
 #[derive(Drop)]
 struct Ending {
@@ -30,8 +37,8 @@ impl Server for Ending {
 
     fn answered<R: Wait + Clock>(&self, _rt: &R) {}
 
-    fn is_kept<R: Wait>(&self, _rt: &R) -> bool {
-        true
+    fn kept<R: Wait>(&self, rt: &R) -> Option<KeptUpTo> {
+        kept_without_file(rt)
     }
 
     fn is_ending<R: Wait>(&self, _rt: &R) -> bool {

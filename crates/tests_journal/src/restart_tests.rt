@@ -81,7 +81,7 @@ fn reads<L: Ledger, R: Wait>(
         entering.lose_links(&mut writing)?;
     }
     match writing.keep(&mut file) {
-        Ok(()) => Ok((result, entries, file)),
+        Ok(_) => Ok((result, entries, file)),
         Err(_) => Err(KeepFault::File),
     }
 }

@@ -4,11 +4,13 @@ ghost use Rattle.std.specs.Prelude.{◌≡◌};
 
 use crate::checks::{same, yes};
 use crate::given_events::bsc;
+use crate::given_keeping::kept_without_file;
 use crate::given_link::{COMPLETE, LINK, enters, linked, opens};
 use cbsp_messages::read;
 use cell_register::BscId;
 use centre_events::event::Event;
 use centre_events::refusal::Refusal;
+use journal_keeper::KeptUpTo;
 use office::office::Office;
 use server_operator::{Operator, Server, Terminal, operate};
 use std::alloc::Global;
@@ -43,8 +45,8 @@ impl Server for Downs {
 
     fn answered<R: Wait + Clock>(&self, _rt: &R) {}
 
-    fn is_kept<R: Wait>(&self, _rt: &R) -> bool {
-        true
+    fn kept<R: Wait>(&self, rt: &R) -> Option<KeptUpTo> {
+        kept_without_file(rt)
     }
 
     fn is_ending<R: Wait>(&self, _rt: &R) -> bool {

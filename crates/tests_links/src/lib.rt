@@ -15,6 +15,8 @@ mod following_tests;
 #[cfg(test)]
 mod given_events;
 #[cfg(test)]
+mod given_keeping;
+#[cfg(test)]
 mod given_link;
 #[cfg(test)]
 mod list_tests;

@@ -4,6 +4,7 @@ ghost use Rattle.std.specs.Prelude.{◌≡◌};
 
 use crate::checks::yes;
 use crate::given_events::{bsc, coast};
+use crate::given_keeping::kept_without_file;
 use crate::given_link::{LINK, edits, enters, linked, opens};
 use areas::Selector;
 use cbsp_messages::read;
@@ -12,6 +13,7 @@ use centre_events::event::Event;
 use centre_events::refusal::Refusal;
 use common::Cell;
 use coverage_plan::Edit;
+use journal_keeper::KeptUpTo;
 use office::desk::Desk;
 use office::office::Office;
 use server_operator::{Operator, Server, Terminal, operate};
@@ -32,8 +34,8 @@ impl Server for Alone {
 
     fn answered<R: Wait + Clock>(&self, _rt: &R) {}
 
-    fn is_kept<R: Wait>(&self, _rt: &R) -> bool {
-        true
+    fn kept<R: Wait>(&self, rt: &R) -> Option<KeptUpTo> {
+        kept_without_file(rt)
     }
 
     fn is_ending<R: Wait>(&self, _rt: &R) -> bool {
