@@ -60,7 +60,7 @@ fn accepts<L: Ledger, R: Wait + Clock>(
     accept_consoles(rt, &operator, consoles);
 }
 
-/// The script is played, and then all threads are to end.
+/// The script is played, and then all threads are to end, while the connections are open.
 fn plays_on<L: Ledger, R: Wait + Clock + Net + Abort>(
     rt: &R,
     office: &Office<L>,
@@ -69,11 +69,12 @@ fn plays_on<L: Ledger, R: Wait + Clock + Net + Abort>(
     path: &str,
     steps: &[Step],
 ) {
-    plays(rt, path, steps);
+    let streams = plays(rt, path, steps);
     program.end(rt);
     consoles.close(rt);
     office.interrupt(rt);
     consoles.finish(rt);
+    drop(streams);
 }
 
 /// Serves the consoles, and takes their connections, until they are closed.

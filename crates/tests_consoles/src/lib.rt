@@ -11,6 +11,8 @@ mod checks;
 #[cfg(test)]
 mod console_tests;
 #[cfg(test)]
+mod end_tests;
+#[cfg(test)]
 mod given_consoles;
 #[cfg(test)]
 mod given_lines;

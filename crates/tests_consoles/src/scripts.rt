@@ -9,7 +9,7 @@ use std::thread;
 use std::time::{Clock, Duration};
 
 /// How many connections there may be at once.
-const MOST: usize = 4;
+pub(crate) const MOST: usize = 4;
 
 /// How long an answer may take, in seconds.
 const MOST_TIME: u64 = 20;
@@ -22,6 +22,8 @@ const MOST_OCTETS: usize = 200;
 pub(crate) enum Step {
     Connect(usize),
     Sends(usize, &'static [u8]),
+    /// The same octets so often.
+    SendsOften(usize, &'static [u8], u32),
     /// These octets come next.
     Reads(usize, &'static [u8]),
     /// The other end has closed it.
@@ -102,6 +104,11 @@ fn takes<R: Net + Clock + Abort>(
     match step {
         Step::Connect(number) => puts(rt, streams, number, Some(connects(rt, path))),
         Step::Sends(number, octets) => sends(rt, stream_of(rt, streams, number), octets),
+        Step::SendsOften(number, octets, times) => {
+            for _ in 0..times {
+                sends(rt, stream_of(rt, streams, number), octets);
+            }
+        }
         Step::Reads(number, octets) => reads(rt, stream_of(rt, streams, number), octets),
         Step::IsClosed(number) => is_closed(rt, stream_of(rt, streams, number)),
         Step::Closes(number) => puts(rt, streams, number, None),
@@ -109,10 +116,15 @@ fn takes<R: Net + Clock + Abort>(
     }
 }
 
-/// Connections to the socket file take these steps.
-pub(crate) fn plays<R: Net + Clock + Abort>(rt: &R, path: &str, steps: &[Step]) {
+/// Connections to the socket file take these steps. The answer is those that are open then.
+pub(crate) fn plays<R: Net + Clock + Abort>(
+    rt: &R,
+    path: &str,
+    steps: &[Step],
+) -> [Option<UnixStream>; MOST] {
     let mut streams = [None, None, None, None];
     for step in steps {
         takes(rt, path, &mut streams, *step);
     }
+    streams
 }

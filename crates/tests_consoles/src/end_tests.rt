@@ -1,0 +1,75 @@
+//! What no clause says of the end of a program: how long its consoles are waited for.
+
+use crate::checks::yes;
+use crate::given_consoles::entries_of;
+use crate::scripts::Step::{Connect, Pause, Reads, Sends, SendsOften};
+use crate::scripts::{Script, Step};
+use std::alloc::Global;
+use std::fs::Files;
+use std::net::Net;
+use std::process::Abort;
+use std::sync::Wait;
+use std::thread::Threads;
+use std::time::Clock;
+
+/// How often a script is played, since a busy machine may hold up one of them.
+const TIMES: u32 = 3;
+
+/// A console that is at nothing.
+const IDLE: &[Step] = &[Connect(0), Sends(0, b"bsc add 1\n"), Reads(0, b"ok 1\n")];
+
+/// A console whose answers nobody reads, which are more than a socket takes.
+const UNREAD: &[Step] = &[
+    Connect(0),
+    Sends(0, b"bsc add 1\n"),
+    Reads(0, b"ok 1\n"),
+    SendsOften(
+        0,
+        b"help\nhelp\nhelp\nhelp\nhelp\nhelp\nhelp\nhelp\nhelp\nhelp\n",
+        20,
+    ),
+    Pause,
+];
+
+/// The least time in which the script is played and the program ends, in milliseconds.
+fn least_time<R: Wait + Threads + Clock + Files + Net + Abort + Sync>(
+    rt: &R,
+    alloc: Global,
+    path: &'static str,
+    steps: &'static [Step],
+) -> u128 {
+    let mut least = u128::MAX;
+    let script = Script {
+        path,
+        count: 1,
+        steps,
+    };
+    for _ in 0..TIMES {
+        let begin = rt.monotonic().expect(rt, "a clock");
+        let _ = entries_of(rt, alloc, &script);
+        let end = rt.monotonic().expect(rt, "a clock");
+        least = least.min(end.saturating_sub(begin).as_millis());
+    }
+    least
+}
+
+#[test]
+fn a_console_that_is_at_nothing_is_not_waited_for(rt: HostRuntime) {
+    let least = least_time(&rt, rt.alloc(), "consoles-idle", IDLE);
+    yes(
+        &rt,
+        least < 1_900,
+        "less than the two seconds that one may take",
+    );
+}
+
+#[test]
+fn a_console_that_nobody_reads_is_waited_for_two_seconds(rt: HostRuntime) {
+    let least = least_time(&rt, rt.alloc(), "consoles-unread", UNREAD);
+    yes(&rt, least >= 1_900, "it has its two seconds");
+    yes(
+        &rt,
+        least < 8_000,
+        "less than the ten that a write may take",
+    );
+}
