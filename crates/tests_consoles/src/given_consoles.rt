@@ -4,7 +4,7 @@ ghost use Rattle.std.specs.Prelude.{◌≡◌};
 
 use crate::checks::yes;
 use crate::given_program::GivenProgram;
-use crate::scripts::{Script, Step, plays};
+use crate::scripts::{MOST, Script, Step, plays};
 use office::desk::Desk;
 use office::fault::Fault;
 use office::office::Office;
@@ -16,6 +16,7 @@ use std::alloc::Global;
 use std::fs::Files;
 use std::marker::Brand;
 use std::net::Net;
+use std::os::unix::net::UnixStream;
 use std::process::Abort;
 use std::sync::Wait;
 use std::sync::ledger::{Blank, Ledger};
@@ -60,7 +61,7 @@ fn accepts<L: Ledger, R: Wait + Clock>(
     accept_consoles(rt, &operator, consoles);
 }
 
-/// The script is played, and then all threads are to end, while the connections are open.
+/// The script is played, and then all threads are to end. The answer is the connections that are open still.
 fn plays_on<L: Ledger, R: Wait + Clock + Net + Abort>(
     rt: &R,
     office: &Office<L>,
@@ -68,13 +69,13 @@ fn plays_on<L: Ledger, R: Wait + Clock + Net + Abort>(
     consoles: &Consoles<L>,
     path: &str,
     steps: &[Step],
-) {
+) -> [Option<UnixStream>; MOST] {
     let streams = plays(rt, path, steps);
     program.end(rt);
     consoles.close(rt);
     office.interrupt(rt);
     consoles.finish(rt);
-    drop(streams);
+    streams
 }
 
 /// Serves the consoles, and takes their connections, until they are closed.
@@ -98,7 +99,7 @@ fn serves_all<'x, L: Ledger + Send + Sync, R: Wait + Threads + Clock + Sync>(
     });
 }
 
-/// Serves the consoles while the script is played.
+/// Serves the consoles while the script is played. The connections that it leaves open are closed once all threads have ended.
 fn runs<'x, L: Ledger + Send + Sync, R: Wait + Threads + Clock + Net + Abort + Sync>(
     rt: &'x R,
     alloc: Global,
@@ -108,13 +109,14 @@ fn runs<'x, L: Ledger + Send + Sync, R: Wait + Threads + Clock + Net + Abort + S
     path: &'x str,
     steps: &'x [Step],
 ) {
-    thread::scope(thread::scope_env(), rt, move |scope| {
+    let streams = thread::scope(thread::scope_env(), rt, move |scope| {
         let is_started = scope
             .spawn(move || serves_all(rt, alloc, office, program, consoles))
             .is_ok();
         yes(rt, is_started, "consoles are served");
-        plays_on(rt, office, program, consoles, path, steps);
+        plays_on(rt, office, program, consoles, path, steps)
     });
+    drop(streams);
 }
 
 /// Takes the desks of the consoles.
