@@ -1,5 +1,8 @@
 //! How a start goes on from the file of a journal.
 
+ghost use Rattle.std.specs.Prelude.{◌≡◌};
+ghost use Rattle.server.specs.Folds.{fold_every};
+
 use crate::fault::ServeFault;
 use crate::options::ServeOptions;
 use crate::ports::open_desk;
@@ -82,7 +85,9 @@ fn mend(file: &mut DiskFile, plmn: [u8; 3], loaded: Loaded) -> Result<(), ServeF
 }
 
 /// After how many entries the journal is folded.
-fn fold_every(options: &ServeOptions) -> u64 {
+fn fold_every(options: &ServeOptions) -> u64
+    ensures { result ≡ fold_every options.now }
+{
     min(
         u64::from(options.fold),
         u64::from(options.journal_limit) * 9 / 10,

@@ -1,5 +1,7 @@
 //! Pictures of a running server.
 
+ghost use Rattle.std.specs.Prelude.{◌≡◌, ◌-◌, ◌*◌, ◌/◌, IfSome};
+
 use office::surveyed::Surveyed;
 use office_picture::{Moments, picture};
 use server_errors::say_of_centre;
@@ -43,11 +45,17 @@ fn moment_of<R: Clock>(rt: &R) -> u64 {
     }
 }
 
+/// The second of that moment, where the clock shows `second` and `moment` now. Moments are in milliseconds of a clock that goes on.
+fn second_at(then: u64, second: u64, moment: u64) -> u64
+    ensures { result ≡ second - (moment - then) / 1000 }
+{
+    second.saturating_sub(moment.saturating_sub(then) / 1_000)
+}
+
 /// The second at which something went out to the BSC of the port that is out still, where the clock shows those two times.
 fn since_of<L: Ledger, R: Wait>(rt: &R, port: &Port<L>, second: u64, moment: u64) -> Option<u64> {
     let out = port.out_since(rt)?;
-    let passed = moment.saturating_sub(out) / 1_000;
-    Some(second.saturating_sub(passed))
+    Some(second_at(out, second, moment))
 }
 
 /// How much memory the program takes, in kibibytes, by the line `VmRSS` of what the system says of it (proc_pid_status(5)).
@@ -58,12 +66,19 @@ fn kibibytes_in(text: &[u8]) -> Option<u64> {
     word.parse::<u64>().ok()
 }
 
+/// So many kibibytes in octets.
+fn octets_of(kibibytes: u64) -> Option<u64>
+    ensures { IfSome result (λ octets. octets ≡ kibibytes * 1024) }
+{
+    kibibytes.checked_mul(1_024)
+}
+
 /// How much memory the program takes, in octets, where the system says it.
 fn memory_of(status: &mut File) -> Option<u64> {
     let mut text = [0u8; MOST_TEXT];
     status.seek(SeekFrom::Start(0)).ok()?;
     let count = status.read(&mut text).ok()?;
-    kibibytes_in(&text[..count])?.checked_mul(1_024)
+    octets_of(kibibytes_in(&text[..count])?)
 }
 
 impl<'a, L: Ledger, E: Write + Drop> RunningPictures<'a, L, E> {

@@ -1,2 +1,3 @@
 pub mod Renewals
 pub mod Replies
+pub mod Visits

@@ -17,6 +17,7 @@ mod replying;
 mod serving;
 mod site;
 mod turns;
+mod visit;
 mod visiting;
 mod visitor;
 

@@ -22,7 +22,7 @@ pub(crate) fn now_of<R: Clock>(rt: &R) -> u64 {
 }
 
 /// The second, after 1970-01-01T00:00:00Z; 0 where it can't be read.
-fn second_of<R: Clock>(rt: &R) -> u64 {
+pub(crate) fn second_of<R: Clock>(rt: &R) -> u64 {
     let Ok(now) = SystemTime::now(rt) else {
         return 0;
     };
@@ -68,14 +68,17 @@ impl Renewed {
         }
     }
 
-    /// Takes another picture, where the last one isn't of this half second. Where there is no memory for one, the last stays.
+    /// Takes another picture, where the last one isn't of this half second. Where there is no memory for one, the last stays. `second` is
+    /// the second, after 1970-01-01T00:00:00Z.
     pub(crate) fn renew<R: Wait + Clock, P: Pictures>(
         &mut self,
         rt: &R,
         alloc: Global,
         pictures: &P,
         now: u64,
+        second: u64,
     )
+        ensures second { self.new.site.second ≡ second }
         ensures tried { self.new.tried ≡ tried_at self.old.tried now }
         ensures same { is_due self.old.tried now ≡ false → self.new.site.contents ≡ self.old.site.contents }
     {
@@ -85,6 +88,6 @@ impl Renewed {
                 self.site.set_contents(contents);
             }
         }
-        self.site.set_second(second_of(rt));
+        self.site.set_second(second);
     }
 }

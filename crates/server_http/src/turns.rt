@@ -1,9 +1,12 @@
 //! A turn of the thread: whoever is ready is served, whoever is late is closed, and who comes is taken.
 
+ghost use Rattle.std.specs.Prelude.{◌≡◌, ◌≤◌, length, position};
+ghost use Rattle.server_http.specs.Visits.{IsMostSilent, is_closed};
+
 use crate::http_port::HttpPort;
 use crate::pictures::Pictures;
-use crate::refreshing::Renewed;
-use crate::visiting::{is_late, part, visit};
+use crate::refreshing::{Renewed, second_of};
+use crate::visiting::{part, visit};
 use crate::visitor::Visitor;
 use libc::types::pollfd;
 use std::alloc::Global;
@@ -31,23 +34,25 @@ pub(crate) fn serve_ready<R: Wait + Clock, P: Pictures>(
 ) {
     for (visitor, fd) in visitors.iter_mut().zip(fds.iter().skip(1)) {
         if fd.revents != 0 {
-            renewed.renew(rt, alloc, pictures, now);
+            renewed.renew(rt, alloc, pictures, now, second_of(rt));
             visit(visitor, &mut renewed.site, now);
         }
     }
 }
 
-/// The place of one that is to be closed.
-fn place_of_last(visitors: &[Visitor], now: u64) -> Option<usize> {
+/// The place of the first that is to be closed.
+fn place_of_closed(visitors: &[Visitor], now: u64) -> Option<usize>
+    ensures { result ≡ position (λ v. is_closed now v.visit) visitors.now }
+{
     visitors
         .iter()
-        .position(|visitor| visitor.is_over || is_late(visitor, now))
+        .position(|visitor| visitor.visit.is_closed(now))
 }
 
 /// Closes those that are over or late.
 pub(crate) fn close_late(visitors: &mut Vec<Visitor>, now: u64) {
     for _ in 0..MOST_VISITORS {
-        let Some(place) = place_of_last(visitors.as_slice(), now) else {
+        let Some(place) = place_of_closed(visitors.as_slice(), now) else {
             return;
         };
         if place < visitors.len() {
@@ -56,29 +61,38 @@ pub(crate) fn close_late(visitors: &mut Vec<Visitor>, now: u64) {
     }
 }
 
-/// The place of the one that has been silent for the longest time.
-fn most_silent(visitors: &[Visitor]) -> usize {
+/// The place of the one that has been silent for the longest time, the first of several.
+fn most_silent(visitors: &[Visitor]) -> usize
+    ensures { IsMostSilent visitors.now result }
+{
     let mut found = 0;
-    let mut least = u64::MAX;
-    for (place, visitor) in visitors.iter().enumerate() {
-        if visitor.heard < least {
+    for place in 1..visitors.len() {
+        if visitors[place].visit.heard < visitors[found].visit.heard {
             found = place;
-            least = visitor.heard;
         }
     }
     found
 }
 
-/// Takes the connection. Where there are as many as there may be, the one is closed that has been silent for the longest time.
-fn take(alloc: Global, visitors: &mut Vec<Visitor>, stream: TcpStream, now: u64) {
+/// Closes the one that has been silent for the longest time, where there are as many as there may be.
+fn make_room(visitors: &mut Vec<Visitor>)
+    ensures { length visitors.old.items ≤ 64 → length visitors.new.items ≤ 63 }
+{
     if visitors.len() >= MOST_VISITORS {
         let place = most_silent(visitors.as_slice());
         if place < visitors.len() {
             part(visitors.swap_remove(place));
         }
     }
+}
+
+/// Takes the connection. Where there are as many as there may be, the one is closed that has been silent for the longest time.
+fn take(alloc: Global, visitors: &mut Vec<Visitor>, stream: TcpStream, now: u64)
+    ensures { length visitors.old.items ≤ 64 → length visitors.new.items ≤ 64 }
+{
+    make_room(visitors);
     if let Ok(visitor) = Visitor::new(alloc, stream, now) {
-        let _ = visitors.push(visitor);
+        drop(visitors.push(visitor));
     }
 }
 

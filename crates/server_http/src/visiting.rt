@@ -16,12 +16,6 @@ const MOST_PIECES: u32 = 64;
 /// How many octets such a piece has.
 const PIECE: usize = 4_096;
 
-/// How long one exchange may take, in milliseconds: from the end of the last one to that of its answer.
-const MOST_EXCHANGE: u64 = 20_000;
-
-/// How long one may take to leave, in milliseconds.
-const MOST_LEAVING: u64 = 2_000;
-
 /// What one is told whose request took too long.
 const TOO_LATE: &[u8] =
     b"HTTP/1.1 408 Request Timeout\r\nconnection: close\r\ncontent-length: 0\r\n\r\n";
@@ -65,16 +59,15 @@ fn send(visitor: &mut Visitor, site: &mut Site, now: u64) {
             return;
         }
         match write(visitor) {
-            Came::Some => visitor.heard = now,
+            Came::Some => {}
             Came::Nothing => return,
             Came::Failed => {
-                visitor.is_over = true;
+                visitor.visit.ends();
                 return;
             }
         }
-        if !visitor.connection.wants_write() {
-            visitor.since = now;
-        }
+        let is_whole = !visitor.connection.wants_write();
+        visitor.visit.written(now, is_whole);
         visitor.connection.advance(site);
     }
 }
@@ -83,13 +76,12 @@ fn send(visitor: &mut Visitor, site: &mut Site, now: u64) {
 /// answer.
 fn leave(visitor: &mut Visitor, now: u64) {
     if visitor.connection.state() == State::Aborted {
-        visitor.is_over = true;
+        visitor.visit.ends();
         return;
     }
-    visitor.is_leaving = true;
-    visitor.since = now;
+    visitor.visit.leaves(now);
     if visitor.stream.shutdown(Shutdown::Write).is_err() {
-        visitor.is_over = true;
+        visitor.visit.ends();
     }
 }
 
@@ -100,13 +92,13 @@ fn let_go(visitor: &mut Visitor) {
     for _ in 0..MOST_PIECES {
         match reader.read(&mut piece) {
             Ok(0) => {
-                visitor.is_over = true;
+                visitor.visit.ends();
                 return;
             }
             Ok(_) => {}
             Err(error) if error.kind() == ErrorKind::WouldBlock => return,
             Err(_) => {
-                visitor.is_over = true;
+                visitor.visit.ends();
                 return;
             }
         }
@@ -115,23 +107,23 @@ fn let_go(visitor: &mut Visitor) {
 
 /// Reads, answers and writes, as far as that goes now.
 pub(crate) fn visit(visitor: &mut Visitor, site: &mut Site, now: u64) {
-    if visitor.is_leaving {
+    if visitor.visit.is_leaving {
         let_go(visitor);
         return;
     }
     if visitor.connection.wants_read() {
         match read(visitor) {
-            Came::Some => visitor.heard = now,
+            Came::Some => visitor.visit.read(now),
             Came::Nothing => {}
             Came::Failed => {
-                visitor.is_over = true;
+                visitor.visit.ends();
                 return;
             }
         }
     }
     visitor.connection.advance(site);
     send(visitor, site, now);
-    if visitor.connection.is_done() && !visitor.is_over {
+    if visitor.connection.is_done() && !visitor.visit.is_over {
         leave(visitor, now);
     }
 }
@@ -142,27 +134,14 @@ fn is_asking(connection: Connection) -> bool {
     !unread.is_empty() && !pending.has_remaining()
 }
 
-/// Whether it takes too long.
-pub(crate) fn is_late(visitor: &Visitor, now: u64) -> bool {
-    let time = now.saturating_sub(visitor.since);
-    if visitor.is_leaving {
-        time > MOST_LEAVING
-    } else {
-        time > MOST_EXCHANGE
-    }
-}
-
 /// Closes the connection. One who waits for an answer to a request that didn't come whole is told so.
 pub(crate) fn part(visitor: Visitor) {
     let Visitor {
         stream,
         connection,
-        since: _,
-        heard: _,
-        is_leaving,
-        is_over,
+        visit,
     } = visitor;
-    if !is_leaving && !is_over && is_asking(connection) {
+    if visit.gets_time_out(is_asking(connection)) {
         let mut writer = &stream;
         let _ = writer.write(TOO_LATE);
     }

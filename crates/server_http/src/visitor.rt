@@ -1,6 +1,7 @@
 //! A connection of somebody who looks.
 
 use crate::counted_keys::keys;
+use crate::visit::Visit;
 use http_server::{Config, Connection};
 use http1::Limits;
 use libc::net::{POLLIN, POLLOUT};
@@ -17,19 +18,12 @@ const MOST_PENDING: usize = 65_536;
 /// How many octets a read is given room for, at least.
 const READ_SIZE: usize = 4_096;
 
-/// A connection of somebody who looks. Times are in milliseconds of a clock that goes on.
+/// A connection of somebody who looks.
 #[derive(Drop)]
 pub(crate) struct Visitor {
     pub(crate) stream: TcpStream,
     pub(crate) connection: Connection,
-    /// When its last answer had gone out whole, or it began.
-    pub(crate) since: u64,
-    /// When something came or went last.
-    pub(crate) heard: u64,
-    /// Nothing more is answered: what still comes is let go.
-    pub(crate) is_leaving: bool,
-    /// It is to be closed.
-    pub(crate) is_over: bool,
+    pub(crate) visit: Visit,
 }
 
 impl Visitor {
@@ -50,16 +44,13 @@ impl Visitor {
         Ok(Visitor {
             stream,
             connection: Connection::new(alloc, keys()?, config),
-            since: now,
-            heard: now,
-            is_leaving: false,
-            is_over: false,
+            visit: Visit::new(now),
         })
     }
 
     /// For what it waits, as `poll` is asked.
     pub(crate) fn events(&self) -> i16 {
-        if self.is_leaving {
+        if self.visit.is_leaving {
             return POLLIN;
         }
         match (self.connection.wants_read(), self.connection.wants_write()) {

@@ -6,8 +6,8 @@ use std::net::{Net, Shutdown, SocketAddr, TcpListener, TcpStream};
 use std::process::Abort;
 use std::time::Duration;
 
-/// How long it is waited for what is to come, in seconds.
-const PATIENCE: u64 = 25;
+/// How long it is waited for what is to come, in seconds. A test may take a minute in the gate.
+const PATIENCE: u64 = 50;
 
 /// The most pieces of an answer.
 const MOST_PIECES: u32 = 100_000;
