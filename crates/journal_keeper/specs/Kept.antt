@@ -1,5 +1,5 @@
 -- What those who wait for a journal to be kept share with the thread that keeps it.
-use Rattle.std.specs.Prelude.{◌≡◌, ◌⊎◌, ◌×◌, ℕ, ◌≤◌, Bool, true, false, Option, None, IfSome}
+use Rattle.std.specs.Prelude.{◌≡◌, ◌⊎◌, ℕ, ◌≤◌, Bool, true, false, Option, None, IfSome}
 use Rattle.std.specs.Option.{is_some}
 use Rattle.journal_keeper.specs.declared.kept_up_to.KeptUpTo.{KeptUpTo}
 
