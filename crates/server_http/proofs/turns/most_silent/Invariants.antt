@@ -6,4 +6,5 @@ use Rattle.server_http.proofs.turns.most_silent.Given as goal
 abbrev pub invariant-loop-place : goal.invariant-loop-place
 invariant-loop-place l = record {
   found : l.found < l.place;
-  silent : (k : ℕ) (d : Visitor) → k < l.place → (get_or l.visitors l.found d).visit.heard ≤ (get_or l.visitors k d).visit.heard }
+  silent : (k : ℕ) (d : Visitor) → k < l.place → (get_or l.visitors l.found d).visit.heard ≤ (get_or l.visitors k d).visit.heard;
+}
