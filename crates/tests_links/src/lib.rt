@@ -19,6 +19,8 @@ mod given_keeping;
 #[cfg(test)]
 mod given_link;
 #[cfg(test)]
+mod held_link_tests;
+#[cfg(test)]
 mod list_tests;
 #[cfg(test)]
 mod office_tests;
