@@ -1,4 +1,6 @@
 pub mod Buckets
+pub mod CostLimits
+pub mod Costs
 pub mod FoldPaces
 pub mod Paces
 pub mod PeerLists

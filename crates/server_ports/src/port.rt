@@ -2,13 +2,16 @@
 
 use crate::connection::Connection;
 use crate::ended::Ended;
+use crate::entered::Entered;
+use crate::figures::Figures;
 use crate::job::Job;
 use crate::port_pace::PortPace;
 use crate::port_state::PortState;
 use crate::shut::Shut;
 use crate::side_end::SideEnd;
 use cell_register::BscId;
-use link_rules::{Overdue, Repeat, Verdict};
+use link_rules::{Cost, Overdue, Repeat, Verdict};
+use link_worker::Load;
 use office::desk::Desk;
 use std::net::{IpAddr, SocketAddr, TcpListener, TcpStream};
 use std::sync::ledger::Ledger;
@@ -225,6 +228,31 @@ impl<L: Ledger> Port<L> {
     /// Whether the answer to a RESET is overdue.
     pub fn look_reset<R: Wait>(&self, rt: &R, now: u64) -> Overdue {
         self.pace.lock(rt).look_reset(now)
+    }
+
+    /// By which figures reports are charged from now on.
+    pub fn set_figures<R: Wait>(&self, rt: &R, figures: Figures) {
+        self.pace.lock(rt).set_figures(figures);
+    }
+
+    /// What a report of that load costs, which is charged; `None` where it has to wait.
+    pub fn begin_report<R: Wait>(&self, rt: &R, load: Load, now: u64) -> Option<Cost> {
+        self.pace.lock(rt).begin_report(load, now)
+    }
+
+    /// The report has the turn of the heavy ones.
+    pub fn take_turn<R: Wait>(&self, rt: &R) {
+        self.pace.lock(rt).take_turn();
+    }
+
+    /// The report was submitted, or is none any more. The answer is what was known of it.
+    pub fn end_report<R: Wait>(&self, rt: &R) -> Entered {
+        self.pace.lock(rt).end_report()
+    }
+
+    /// Whether it is to be said that reports are held back for what they cost.
+    pub fn is_first_cost<R: Wait>(&self, rt: &R) -> bool {
+        self.pace.lock(rt).costs().is_first()
     }
 
     /// Whether a report may come in now, which is counted then.
