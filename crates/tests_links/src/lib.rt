@@ -17,6 +17,8 @@ mod given_events;
 #[cfg(test)]
 mod given_link;
 #[cfg(test)]
+mod held_link_tests;
+#[cfg(test)]
 mod list_tests;
 #[cfg(test)]
 mod office_tests;
@@ -38,5 +40,7 @@ mod two_links_tests;
 mod waiting_tests;
 #[cfg(test)]
 mod waking_tests;
+#[cfg(test)]
+mod wish_tests;
 #[cfg(test)]
 mod write_side_tests;
