@@ -3,7 +3,7 @@
 ghost use Rattle.std.specs.Prelude.{◌≡◌, ◌≤◌, false, map, string_bytes, IfOk, IfErr, IfSome};
 ghost use Rattle.clap.specs.Words.{app_of, kind_of, rule_of, subcommand_rows_of};
 ghost use Rattle.clap.specs.declared.builder.command.Command.TheViews.{out-Command as fields_of};
-ghost use Rattle.console_text.specs.CommandLine.{plmn_option, journal_option, host_option, base_option, links_option, fold_option, sim_option, reset_option, reply_option, cut_option, peers_option, keep_option, console_option, consoles_option, http_option, with_watchers, with_consoles, with_common, with_ports, with_journal, with_link_rules, replay_command, serve_command, command_line, most_entries};
+ghost use Rattle.console_text.specs.CommandLine.{plmn_option, journal_option, host_option, base_option, links_option, fold_option, sim_option, reset_option, reply_option, cut_option, alive_option, peers_option, keep_option, console_option, consoles_option, http_option, with_watchers, with_consoles, with_common, with_ports, with_journal, with_link_rules, with_seconds, replay_command, serve_command, command_line, most_entries};
 ghost use Rattle.console_text.specs.CommandLine.{meets_serve, replay_rows, network_in, limit_in, Asks, ComesTo, Refuses};
 
 use crate::no_run::NoRun;
@@ -22,6 +22,9 @@ pub const FOLD: u32 = 100_000;
 /// The most seconds that an order may go without a reply before that is said, or its link is cut: a day.
 pub const MOST_SECONDS: u32 = 86_400;
 
+/// The most seconds without a word before a BSC is asked whether it is alive: longer periods aren't written.
+pub const MOST_ALIVE_SECONDS: u32 = 120;
+
 /// After how many seconds an order without a reply is said, where no number is given.
 pub const REPLY_SECONDS: u32 = 30;
 
@@ -30,6 +33,9 @@ pub const MOST_CONSOLES: u32 = 64;
 
 /// How many consoles there may be at once, where no number is given.
 pub const CONSOLES: u32 = 16;
+
+/// The number of seconds after which a BSC is asked whether it is alive, where none is given: it is never.
+const NEVER: &str = "0";
 
 /// What `--version` prints after the program's name.
 const VERSION: &str = "1.0.0";
@@ -176,6 +182,20 @@ fn cut_option<'a>(alloc: Global) -> Arg<'a>
         .help("After how many seconds an order without a reply ends its link, 0 for never")
 }
 
+fn alive_option<'a>(alloc: Global) -> Arg<'a>
+    ensures rule { rule_of result ≡ alive_option }
+    ensures own { result.global ≡ false }
+{
+    Arg::new(alloc, "keep-alive-seconds")
+        .long("keep-alive-seconds")
+        .value_name("N")
+        .default_value(NEVER)
+        .value_parser(ValueParser::unsigned(0, u64::from(MOST_ALIVE_SECONDS)))
+        .help(
+            "After how many seconds without a word a BSC is asked whether it is alive, 0 for never",
+        )
+}
+
 fn peers_option<'a>(alloc: Global) -> Arg<'a>
     ensures rule { rule_of result ≡ peers_option }
     ensures own { result.global ≡ false }
@@ -227,14 +247,24 @@ fn http_option<'a>(alloc: Global) -> Arg<'a>
         .help("The address of a page that shows the centre, and of figures for monitoring")
 }
 
+/// The options of a link that are numbers of seconds.
+fn with_seconds<'a>(alloc: Global, command: Command<'a>) -> Result<Command<'a>, AllocError>
+    requires { (fields_of command).has_globals ≡ false }
+    ensures app { IfOk result (λ c. app_of c ≡ with_seconds (app_of command.entry)) }
+    ensures own { IfOk result (λ c. (fields_of c).has_globals ≡ false) }
+{
+    let command = command.arg(reply_option(alloc))?.arg(cut_option(alloc))?;
+    command.arg(alive_option(alloc))
+}
+
 /// The options for links that are lost, taken over, or without replies.
 fn with_link_rules<'a>(alloc: Global, command: Command<'a>) -> Result<Command<'a>, AllocError>
     requires { (fields_of command).has_globals ≡ false }
     ensures app { IfOk result (λ c. app_of c ≡ with_link_rules (app_of command.entry)) }
     ensures own { IfOk result (λ c. (fields_of c).has_globals ≡ false) }
 {
-    let command = command.arg(reset_option(alloc))?.arg(reply_option(alloc))?;
-    command.arg(cut_option(alloc))?.arg(peers_option(alloc))
+    let command = with_seconds(alloc, command.arg(reset_option(alloc))?)?;
+    command.arg(peers_option(alloc))
 }
 
 /// The options of the journal: when it is folded, and where it is kept.
