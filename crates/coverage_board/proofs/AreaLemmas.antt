@@ -1,5 +1,5 @@
 -- How the numbers of one area change, and those of no other.
-use Rattle.std.proofs.Common.{eq-eqb, ◌≡◌, ℕ, ◌+◌, ◌/◌, ◌%◌, ◌<◌, Bool, true, false, ◌==◌, ◌||◌, ◌&&◌, not, cond, List, [], ◌∷◌, Some, None, slice_get, bytes_eq, if◌then◌else◌, refl, sym, ap, ◌∙◌, unwrap_or, length, drop, get_or}
+use Rattle.std.proofs.Common.{eq-eqb, ◌≡◌, ℕ, ◌+◌, ◌/◌, ◌%◌, ◌<◌, Bool, true, false, ◌==◌, ◌||◌, ◌&&◌, not, cond, List, [], ◌∷◌, Option, Some, None, slice_get, bytes_eq, if◌then◌else◌, refl, sym, ap, subst, ◌∙◌, unwrap_or, length, drop, get_or, arith}
 use Rattle.std.proofs.lemmas.Bool.{and_parts, not-true, or_parts, or_right}
 use Rattle.std.proofs.lemmas.List.{drop_more}
 use Rattle.std.specs.Bool.{Decides}
@@ -9,11 +9,11 @@ use Rattle.std.specs.List.{list_any}
 use Rattle.std.specs.Map.{lookup, lookup_key}
 use Rattle.common.specs.Order.{each_once}
 use Rattle.coverage_board.specs.AreaSets.{names_at}
-use Rattle.coverage_board.specs.Board.{area_in}
+use Rattle.coverage_board.specs.Board.{area_in, KeepsNoZeroArea}
 use Rattle.coverage_board.specs.Numbers.{moved, zero_numbers}
 use Rattle.coverage_board.specs.Parts.{has_area, part_where}
 use Rattle.coverage_board.specs.declared.numbers.Numbers.{Numbers}
-use Rattle.coverage_board.proofs.NumbersLemmas.{moved_none}
+use Rattle.coverage_board.proofs.NumbersLemmas.{moved_none, moved_to}
 
 -- the test of two names is true where they are one name, and nowhere else
 pub names_decide : (a b : List ℕ) → Decides (bytes_eq a b) (a ≡ b)
@@ -35,6 +35,58 @@ area_changed f k w old new is h a = step (bytes_eq k a) refl (h a)
     step true e g = ap (λ o. unwrap_or o zero_numbers) g ∙ is ∙ ap (λ b. f (area_in old b)) ((names_decide k a).0 e)
     step false e g = ap (λ o. unwrap_or o zero_numbers) g
 
+-- from old to new the area k has the entry w, or none, and no other changes
+abbrev pub IsSet : List ℕ → Option Numbers → List (List ℕ × Numbers) → List (List ℕ × Numbers) → Type 0
+IsSet k w old new = (q : List ℕ) → lookup (bytes_eq q) new ≡ cond (bytes_eq k q) w (lookup (bytes_eq q) old)
+
+-- where the entry that was written has 0 everywhere and is taken out, each area has the numbers that it had with it
+pub area_without : (k : List ℕ) (w : Numbers) (old mid new : List (List ℕ × Numbers)) → IsSet k (Some w) old mid → IsSet k None mid new → w ≡ zero_numbers → (a : List ℕ) → area_in new a ≡ area_in mid a
+area_without k w old mid new change taken zero a = step (bytes_eq k a) (change a) (taken a)
+  where
+    step : (t : Bool) → lookup (bytes_eq a) mid ≡ cond t (Some w) (lookup (bytes_eq a) old) → lookup (bytes_eq a) new ≡ cond t None (lookup (bytes_eq a) mid) → area_in new a ≡ area_in mid a
+    step true e g = ap (λ o. unwrap_or o zero_numbers) g ∙ sym zero ∙ sym (ap (λ o. unwrap_or o zero_numbers) e)
+    step false e g = ap (λ o. unwrap_or o zero_numbers) g
+
+-- where an entry with a number above 0 is written, no area that has 0 everywhere has an entry, as before
+pub areas_with : (k : List ℕ) (w : Numbers) (old new : List (List ℕ × Numbers)) → IsSet k (Some w) old new → (w ≡ zero_numbers → ⊥) → KeepsNoZeroArea old → (a : List ℕ) → area_in new a ≡ zero_numbers → lookup (bytes_eq a) new ≡ None
+areas_with k w old new change some kept a zero = step (bytes_eq k a) (change a)
+  where
+    step : (t : Bool) → lookup (bytes_eq a) new ≡ cond t (Some w) (lookup (bytes_eq a) old) → lookup (bytes_eq a) new ≡ None
+    step true g = absurd (some (sym (ap (λ o. unwrap_or o zero_numbers) g) ∙ zero))
+    step false g = g ∙ kept a (sym (ap (λ o. unwrap_or o zero_numbers) g) ∙ zero)
+
+-- nor where the entry that was written is taken out
+pub areas_without : (k : List ℕ) (w : Numbers) (old mid new : List (List ℕ × Numbers)) → IsSet k (Some w) old mid → IsSet k None mid new → KeepsNoZeroArea old → (a : List ℕ) → area_in new a ≡ zero_numbers → lookup (bytes_eq a) new ≡ None
+areas_without k w old mid new change taken kept a zero = step (bytes_eq k a) (change a) (taken a)
+  where
+    step : (t : Bool) → lookup (bytes_eq a) mid ≡ cond t (Some w) (lookup (bytes_eq a) old) → lookup (bytes_eq a) new ≡ cond t None (lookup (bytes_eq a) mid) → lookup (bytes_eq a) new ≡ None
+    step true e g = g
+    step false e g = g ∙ e ∙ kept a (sym (ap (λ o. unwrap_or o zero_numbers) (g ∙ e)) ∙ zero)
+
+-- where nothing comes to an area that has no entry, its numbers have moved as they stand, and no others have
+pub area_kept : (k : List ℕ) (part : Numbers) (areas : List (List ℕ × Numbers)) → lookup (bytes_eq k) areas ≡ None → part ≡ zero_numbers → (a : List ℕ) (out : Numbers) → area_in areas a ≡ (if bytes_eq k a then moved (area_in areas a) out part else area_in areas a)
+area_kept k part areas absent none a out = step (bytes_eq k a) refl
+  where
+    step : (t : Bool) → bytes_eq k a ≡ t → area_in areas a ≡ (if t then moved (area_in areas a) out part else area_in areas a)
+    step true e =
+        let zero : area_in areas a ≡ zero_numbers = ap (λ b. area_in areas b) (sym ((names_decide k a).0 e)) ∙ area_not_found k areas absent in
+        zero ∙ sym none ∙ sym (moved_to out part) ∙ ap (λ n. moved n out part) (sym zero)
+    step false e = refl
+
+-- where there is no entry each area has 0 everywhere
+pub no_numbers : (areas : List (List ℕ × Numbers)) → length areas ≡ 0 → (a : List ℕ) → area_in areas a ≡ zero_numbers
+no_numbers [] h a = refl
+no_numbers (e ∷ es) h a = absurd (omega arith)
+
+-- where each area has 0 everywhere there is no entry
+pub no_entries : (areas : List (List ℕ × Numbers)) → KeepsNoZeroArea areas → ((a : List ℕ) → area_in areas a ≡ zero_numbers) → areas ≡ []
+no_entries [] kept zero = refl
+no_entries (e ∷ es) kept zero = step (bytes_eq e.0 e.0) ((names_decide e.0 e.0).1 refl) (kept e.0 (zero e.0))
+  where
+    step : (t : Bool) → t ≡ true → cond t (Some e.1) (lookup (bytes_eq e.0) es) ≡ None → ◌≡◌ {A = List (List ℕ × Numbers)} (e ∷ es) []
+    step true h g = cc
+    step false h g = cc
+
 -- a key that is found is the one that was sought
 pub key_found : {K X : Type 0} (same : K → K → Bool) → ((a b : K) → Decides (same a b) (a ≡ b)) → (k : K) (entries : List (K × X)) (x : K) → lookup_key (same k) entries ≡ Some x → x ≡ k
 key_found same d k [] x h = cc
@@ -49,6 +101,12 @@ pub entry_is : (k : List ℕ) (entries : List (List ℕ × Numbers)) (i : ℕ) (
 entry_is k entries i x n h g =
     let both : ◌≡◌ {A = List ℕ × Numbers} (x, n) (k, area_in entries k) = cc in
     (λ j. (both j).0, λ j. (both j).1)
+
+-- where the entry of an area is written, it is that of the area, and no other changes
+pub entry_written : (k : List ℕ) (old new : List (List ℕ × Numbers)) (i : ℕ) (x : List ℕ) (n w : Numbers) → slice_get old i ≡ Some (x, n) → slice_get old i ≡ Some (k, area_in old k) → IsSet x (Some w) old new → IsSet k (Some w) old new × (n ≡ area_in old k)
+entry_written k old new i x n w h g change =
+    let is = entry_is k old i x n h g in
+    (subst (λ y. IsSet y (Some w) old new) is.0 change, is.1)
 
 -- the names from one place on
 pub has_next : (bits : ℕ) (names : List (List ℕ)) (i : ℕ) (d a : List ℕ) → i < length names → has_area (names_at bits (drop i names)) a ≡ (((bits % 2 == 1) && bytes_eq (get_or names i d) a) || has_area (names_at (bits / 2) (drop (i + 1) names)) a)

@@ -1,5 +1,5 @@
 -- The numbers that a board keeps.
-use Rattle.std.specs.Prelude.{ℕ, List, [], bytes_eq, nat_eq, unwrap_or}
+use Rattle.std.specs.Prelude.{◌≡◌, ℕ, List, [], None, bytes_eq, nat_eq, unwrap_or}
 use Rattle.std.specs.Map.{lookup}
 use Rattle.coverage_board.specs.Numbers.{zero_numbers}
 use Rattle.coverage_board.specs.declared.numbers.Numbers.{Numbers}
@@ -28,3 +28,15 @@ total_of board w = (row_of board w).total
 -- the numbers of the warning of that number and the area of that name
 abbrev pub area_of : List (ℕ × WarningNumbers) → ℕ → List ℕ → Numbers
 area_of board w a = area_in (row_of board w).areas a
+
+-- an area all of whose numbers are 0 has no entry
+abbrev pub KeepsNoZeroArea : List (List ℕ × Numbers) → Type 0
+KeepsNoZeroArea areas = (a : List ℕ) → area_in areas a ≡ zero_numbers → lookup (bytes_eq a) areas ≡ None
+
+-- nothing is counted for the warning, nor for any of its areas
+abbrev pub CountsNothing : WarningNumbers → Type 0
+CountsNothing row = (row.total ≡ zero_numbers) × ((a : List ℕ) → area_in row.areas a ≡ zero_numbers)
+
+-- a warning for which nothing is counted has no row
+abbrev pub KeepsNoZeroRow : List (ℕ × WarningNumbers) → Type 0
+KeepsNoZeroRow board = (w : ℕ) → CountsNothing (row_of board w) → lookup (nat_eq w) board ≡ None

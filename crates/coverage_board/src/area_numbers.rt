@@ -1,7 +1,8 @@
 //! The numbers of the areas of one warning.
 
-ghost use Rattle.std.specs.Prelude.{◌≡◌, ◌↔◌, IsTrue, slice_get};
-ghost use Rattle.coverage_board.specs.Board.{area_in};
+ghost use Rattle.std.specs.Prelude.{◌≡◌, ◌↔◌, IfOk, IsTrue, List, ℕ, bytes_eq, if◌then◌else◌, slice_get};
+ghost use Rattle.coverage_board.specs.Board.{area_in, KeepsNoZeroArea};
+ghost use Rattle.coverage_board.specs.Numbers.{moved, Holds, HasRoom};
 
 use crate::area_set::AreaSet;
 use crate::numbers::Numbers;
@@ -23,7 +24,40 @@ fn is_at(map: &IndexMap<Name, Numbers>, place: usize, area: &Name) -> bool
     }
 }
 
-/// Numbers by the name of an area. An area that isn't there has 0 everywhere.
+/// The same entries, in memory of their own.
+fn copied_map(map: &IndexMap<Name, Numbers>) -> Result<IndexMap<Name, Numbers>, AllocError>
+    ensures { IfOk result (λ copy. copy.entries ≡ map.now.entries) }
+{
+    let copy = map.clone()?;
+    Ok(copy)
+}
+
+/// Takes a part out of the numbers of the area, which stands at that place, and adds another. An area all of whose numbers are
+/// 0 then is taken out, which takes no memory.
+#[inline(always)]
+fn move_there(
+    map: &mut IndexMap<Name, Numbers>,
+    place: usize,
+    area: &Name,
+    out: Numbers,
+    part: Numbers,
+)
+    requires at { slice_get map.old.entries place ≡ Some (area.now, area_in map.old.entries area.now) }
+    requires there { Holds (area_in map.old.entries area.now) out }
+    requires room { HasRoom (area_in map.old.entries area.now) out part }
+    ensures moved { (a : List ℕ) → area_in map.new.entries a ≡ (if bytes_eq area.now a then moved (area_in map.old.entries a) out part else area_in map.old.entries a) }
+    ensures kept { KeepsNoZeroArea map.old.entries → KeepsNoZeroArea map.new.entries }
+{
+    let (_, numbers) = map.pair_mut(place);
+    let next = numbers.less(out).added(part);
+    *numbers = next;
+    if !next.is_zero() {
+        return;
+    }
+    map.swap_remove(area);
+}
+
+/// Numbers by the name of an area. An area that isn't there has 0 everywhere, and one that has 0 everywhere isn't there.
 #[derive(Drop)]
 pub(crate) struct AreaNumbers {
     alloc: Global,
@@ -34,11 +68,14 @@ pub(crate) struct AreaNumbers {
 
 impl Model for AreaNumbers {
     ghost use Rattle.std.specs.Prelude.{List, ℕ};
+    ghost use Rattle.coverage_board.specs.Board.{KeepsNoZeroArea};
     ghost use Rattle.coverage_board.specs.declared.numbers.Numbers.{Numbers};
 
     ghost Value = { List (List ℕ × Numbers) };
 
     ghost view = { λ n. n.map.entries };
+
+    ghost invariant = { λ n. KeepsNoZeroArea n.map.entries };
 }
 
 impl Clone for AreaNumbers {
@@ -49,19 +86,19 @@ impl Clone for AreaNumbers {
     fn clone(&self) -> Result<AreaNumbers, AllocError> {
         Ok(AreaNumbers {
             alloc: self.alloc,
-            map: self.map.clone()?,
+            map: copied_map(&self.map)?,
             places: [0; REMEMBERED],
         })
     }
 }
 
 impl AreaNumbers {
-    ghost use Rattle.std.specs.Prelude.{◌≡◌, ℕ, true, List, [], bytes_eq, if◌then◌else◌, slice_get, OnOk, IfSome, IfNone};
+    ghost use Rattle.std.specs.Prelude.{◌≡◌, ◌↔◌, ℕ, true, List, [], bytes_eq, if◌then◌else◌, slice_get, IsTrue, OnOk, IfSome, IfNone};
     ghost use Rattle.std.specs.Map.{lookup};
     ghost use Rattle.common.specs.Order.{each_once};
     ghost use Rattle.coverage_board.specs.AreaSets.{names_at};
     ghost use Rattle.coverage_board.specs.Board.{area_in};
-    ghost use Rattle.coverage_board.specs.Numbers.{moved, Holds, HasRoom};
+    ghost use Rattle.coverage_board.specs.Numbers.{zero_numbers, moved, Holds, HasRoom};
     ghost use Rattle.coverage_board.specs.Parts.{has_area, part_where};
 
     pub(crate) fn new(alloc: Global) -> AreaNumbers
@@ -81,6 +118,14 @@ impl AreaNumbers {
             Some(numbers) => *numbers,
             None => Numbers::zero(),
         }
+    }
+
+    /// Whether no area has a number above 0.
+    #[inline(always)]
+    pub(crate) fn is_empty(&self) -> bool
+        ensures { IsTrue result ↔ ((a : List ℕ) → area_in self.now a ≡ zero_numbers) }
+    {
+        self.map.is_empty()
     }
 
     /// The place of the area, if it has numbers, found by its hash and remembered for that index among the warning's areas. It
@@ -113,13 +158,16 @@ impl AreaNumbers {
         }
     }
 
-    /// Adds the area, which has no numbers, with these. It is called seldom, and isn't inlined, so that its caller stays
-    /// short.
+    /// Adds the area, which has no numbers, with these, unless they are all 0. It is called seldom, and isn't inlined, so that
+    /// its caller stays short.
     #[inline(never)]
     fn put_new(&mut self, area: &Name, part: Numbers) -> Result<(), AllocError>
         requires { lookup (bytes_eq area.now) self.old ≡ None }
         ensures { OnOk result ((a : List ℕ) (out : Numbers) → area_in self.new a ≡ (if bytes_eq area.now a then moved (area_in self.old a) out part else area_in self.old a)) }
     {
+        if part.is_zero() {
+            return Ok(());
+        }
         self.map.insert(area.copied(self.alloc)?, part)?;
         Ok(())
     }
@@ -137,8 +185,7 @@ impl AreaNumbers {
         ensures { OnOk result ((a : List ℕ) → area_in self.new a ≡ (if bytes_eq area.now a then moved (area_in self.old a) out part else area_in self.old a)) }
     {
         if let Some(place) = self.place_of(index, area) {
-            let (_, numbers) = self.map.pair_mut(place);
-            *numbers = numbers.less(out).added(part);
+            move_there(&mut self.map, place, area, out, part);
             return Ok(());
         }
         self.put_new(area, part)

@@ -1,8 +1,11 @@
 //! The numbers of all warnings.
 
-ghost use Rattle.std.specs.Prelude.{◌≡◌, nat_eq, slice_get, IfSome, IfNone};
+ghost use Rattle.std.specs.Prelude.{◌≡◌, ℕ, List, true, nat_eq, if◌then◌else◌, slice_get, IfSome, IfNone, OnOk};
 ghost use Rattle.std.specs.Map.{lookup};
-ghost use Rattle.coverage_board.specs.Board.{row_of};
+ghost use Rattle.coverage_board.specs.Board.{row_of, total_of, area_of, KeepsNoZeroRow};
+ghost use Rattle.coverage_board.specs.Numbers.{moved, Holds, HasRoom};
+ghost use Rattle.coverage_board.specs.Parts.{total_part, area_part};
+ghost use Rattle.coverage_board.specs.Reading.{stand_of};
 
 use crate::numbers::Numbers;
 use crate::row::Row;
@@ -14,7 +17,8 @@ use std::marker::Model;
 use warning_book::WarningId;
 
 /// The numbers of each warning, and of each warning and area. A board follows its lines: it knows none of them, and is
-/// told how a line stood before it changed and how it stands after.
+/// told how a line stood before it changed and how it stands after. It keeps nothing of a warning for which nothing is counted,
+/// such as one that was forgotten.
 pub struct Board {
     alloc: Global,
     rows: IndexMap<u32, Row>,
@@ -35,11 +39,13 @@ impl Drop for Board {
 
 impl Model for Board {
     ghost use Rattle.std.specs.Prelude.{List, ℕ};
-    ghost use Rattle.coverage_board.specs.Board.{WarningNumbers};
+    ghost use Rattle.coverage_board.specs.Board.{WarningNumbers, KeepsNoZeroRow};
 
     ghost Value = { List (ℕ × WarningNumbers) };
 
     ghost view = { λ b. b.rows.entries };
+
+    ghost invariant = { λ b. KeepsNoZeroRow b.rows.entries };
 }
 
 /// The place of the row of that number, if there is one. It is mostly the one that was found last; else it is found by its
@@ -58,9 +64,39 @@ fn place_of(rows: &IndexMap<u32, Row>, last: usize, number: u32) -> Option<usize
     }
 }
 
+/// Moves the numbers in the row of that number, which stands at that place. Where it counts nothing then, it is taken out, which
+/// takes no memory. The areas that cover the cell may be known to stay.
+#[inline(always)]
+fn shift_at(
+    rows: &mut IndexMap<u32, Row>,
+    place: usize,
+    number: u32,
+    before: &Stand<'_>,
+    after: &Stand<'_>,
+    stays: bool,
+) -> Result<(), AllocError>
+    requires at { slice_get rows.old.entries place ≡ Some (number, row_of rows.old.entries number) }
+    requires areas { stays ≡ true → (stand_of before.now).areas ≡ (stand_of after.now).areas }
+    requires total_there { Holds (total_of rows.old.entries number) (total_part (stand_of before.now)) }
+    requires total_room { HasRoom (total_of rows.old.entries number) (total_part (stand_of before.now)) (total_part (stand_of after.now)) }
+    requires area_there { (a : List ℕ) → Holds (area_of rows.old.entries number a) (area_part a (stand_of before.now)) }
+    requires area_room { (a : List ℕ) → HasRoom (area_of rows.old.entries number a) (area_part a (stand_of before.now)) (area_part a (stand_of after.now)) }
+    ensures total { OnOk result ((v : ℕ) → total_of rows.new.entries v ≡ (if nat_eq number v then moved (total_of rows.old.entries v) (total_part (stand_of before.now)) (total_part (stand_of after.now)) else total_of rows.old.entries v)) }
+    ensures area { OnOk result ((v : ℕ) (a : List ℕ) → area_of rows.new.entries v a ≡ (if nat_eq number v then moved (area_of rows.old.entries v a) (area_part a (stand_of before.now)) (area_part a (stand_of after.now)) else area_of rows.old.entries v a)) }
+    ensures rows { KeepsNoZeroRow rows.old.entries → KeepsNoZeroRow rows.new.entries }
+{
+    let (_, row) = rows.pair_mut(place);
+    let done = row.shift_either(before, after, stays);
+    if !row.counts_nothing() {
+        return done;
+    }
+    drop(rows.swap_remove(&number));
+    done
+}
+
 impl Board {
     ghost use Rattle.std.specs.Prelude.{◌≡◌, ℕ, List, nat_eq, if◌then◌else◌, IfOk, OnOk};
-    ghost use Rattle.coverage_board.specs.Board.{total_of, area_of};
+    ghost use Rattle.coverage_board.specs.Board.{total_of, area_of, KeepsNoZeroRow};
     ghost use Rattle.coverage_board.specs.Numbers.{zero_numbers, moved, Holds, HasRoom};
     ghost use Rattle.coverage_board.specs.Parts.{total_part, area_part};
     ghost use Rattle.coverage_board.specs.Reading.{stand_of};
@@ -86,6 +122,14 @@ impl Board {
             rows: IndexMap::new(alloc),
             last: 0,
         }
+    }
+
+    /// A lemma, not a test: it returns nothing, and its clause says that a board has no row of a warning for which nothing is
+    /// counted.
+    pub fn tell_rows(&self)
+        ensures { KeepsNoZeroRow self.now }
+    {
+        let _ = &self.rows;
     }
 
     /// The numbers of the warning: of the cells that at least one of its areas covers, each once. It takes no memory.
@@ -124,11 +168,10 @@ impl Board {
         ensures total { OnOk result ((v : ℕ) → total_of self.new v ≡ (if nat_eq w v then moved (total_of self.old v) (total_part (stand_of before.now)) (total_part (stand_of after.now)) else total_of self.old v)) }
         ensures area { OnOk result ((v : ℕ) (a : List ℕ) → area_of self.new v a ≡ (if nat_eq w v then moved (area_of self.old v a) (area_part a (stand_of before.now)) (area_part a (stand_of after.now)) else area_of self.old v a)) }
     {
-        if let Some(place) = place_of(&self.rows, self.last, w.number()) {
+        let number = w.number();
+        if let Some(place) = place_of(&self.rows, self.last, number) {
             self.last = place;
-            let (_, row) = self.rows.pair_mut(place);
-            row.shift(before, after)?;
-            return Ok(());
+            return shift_at(&mut self.rows, place, number, before, after, false);
         }
         self.add_row(w, before, after)
     }
@@ -151,6 +194,9 @@ impl Board {
     {
         let mut row = Row::new(self.alloc);
         row.shift(before, after)?;
+        if row.counts_nothing() {
+            return Ok(());
+        }
         self.rows.insert(w.number(), row)?;
         Ok(())
     }
@@ -171,11 +217,10 @@ impl Board {
         ensures total { OnOk result ((v : ℕ) → total_of self.new v ≡ (if nat_eq w v then moved (total_of self.old v) (total_part (stand_of before.now)) (total_part (stand_of after.now)) else total_of self.old v)) }
         ensures area { OnOk result ((v : ℕ) (a : List ℕ) → area_of self.new v a ≡ (if nat_eq w v then moved (area_of self.old v a) (area_part a (stand_of before.now)) (area_part a (stand_of after.now)) else area_of self.old v a)) }
     {
-        if let Some(place) = place_of(&self.rows, self.last, w.number()) {
+        let number = w.number();
+        if let Some(place) = place_of(&self.rows, self.last, number) {
             self.last = place;
-            let (_, row) = self.rows.pair_mut(place);
-            row.shift_standing(before, after)?;
-            return Ok(());
+            return shift_at(&mut self.rows, place, number, before, after, true);
         }
         self.shift(w, before, after)
     }

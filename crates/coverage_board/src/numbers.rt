@@ -42,6 +42,13 @@ impl Numbers {
         self == other
     }
 
+    /// Whether every number is 0.
+    pub(crate) fn is_zero(self) -> bool
+        ensures { IsTrue result ↔ (self ≡ zero_numbers) }
+    {
+        self == Numbers::zero()
+    }
+
     /// The numbers without a part of them.
     pub(crate) fn less(self, part: Numbers) -> Numbers
         requires { Holds self part }

@@ -37,8 +37,8 @@ impl Clone for Row {
 }
 
 impl Row {
-    ghost use Rattle.std.specs.Prelude.{◌≡◌, ℕ, List, OnOk};
-    ghost use Rattle.coverage_board.specs.Board.{nothing, area_in};
+    ghost use Rattle.std.specs.Prelude.{◌≡◌, ◌↔◌, ℕ, List, true, IsTrue, OnOk};
+    ghost use Rattle.coverage_board.specs.Board.{nothing, area_in, CountsNothing};
     ghost use Rattle.coverage_board.specs.Numbers.{moved, Holds, HasRoom};
     ghost use Rattle.coverage_board.specs.Parts.{total_part, area_part};
     ghost use Rattle.coverage_board.specs.Reading.{stand_of};
@@ -63,6 +63,14 @@ impl Row {
         ensures { result ≡ area_in self.now.areas area.now }
     {
         self.areas.area(area)
+    }
+
+    /// Whether nothing is counted for the warning, nor for any of its areas.
+    #[inline(always)]
+    pub(crate) fn counts_nothing(&self) -> bool
+        ensures { IsTrue result ↔ CountsNothing self.now }
+    {
+        self.areas.is_empty() && self.total.is_zero()
     }
 
     /// Takes a part out of the total, and adds another.
@@ -121,5 +129,28 @@ impl Row {
         let out = part_before.without_left();
         self.areas
             .exchange(&after.areas, out, part_after.without_left())
+    }
+
+    /// Moves the numbers from what a line added as it was to what it adds as it is. The areas that cover the cell may be known to
+    /// stay.
+    #[inline(always)]
+    pub(crate) fn shift_either(
+        &mut self,
+        before: &Stand<'_>,
+        after: &Stand<'_>,
+        stays: bool,
+    ) -> Result<(), AllocError>
+        requires areas { stays ≡ true → (stand_of before.now).areas ≡ (stand_of after.now).areas }
+        requires total_there { Holds self.old.total (total_part (stand_of before.now)) }
+        requires total_room { HasRoom self.old.total (total_part (stand_of before.now)) (total_part (stand_of after.now)) }
+        requires area_there { (a : List ℕ) → Holds (area_in self.old.areas a) (area_part a (stand_of before.now)) }
+        requires area_room { (a : List ℕ) → HasRoom (area_in self.old.areas a) (area_part a (stand_of before.now)) (area_part a (stand_of after.now)) }
+        ensures total { OnOk result (self.new.total ≡ moved self.old.total (total_part (stand_of before.now)) (total_part (stand_of after.now))) }
+        ensures areas { OnOk result ((a : List ℕ) → area_in self.new.areas a ≡ moved (area_in self.old.areas a) (area_part a (stand_of before.now)) (area_part a (stand_of after.now))) }
+    {
+        if stays {
+            return self.shift_standing(before, after);
+        }
+        self.shift(before, after)
     }
 }

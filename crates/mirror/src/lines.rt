@@ -49,6 +49,16 @@ fn place_of(kept: &IndexMap<WarningSlot, Line>, slot: &WarningSlot) -> Option<us
     Some(place)
 }
 
+/// Gives memory back where lines take a quarter of it, or less. Where there is no memory to put them in anew, all stays.
+fn give_back(kept: &mut IndexMap<WarningSlot, Line>)
+    ensures { kept.new.entries ≡ kept.old.entries }
+{
+    let len = kept.len();
+    if len <= kept.capacity() / 4 {
+        kept.shrink_to(len * 2);
+    }
+}
+
 impl Lines {
     pub(crate) fn new(alloc: Global) -> Lines
         ensures { result ≡ [] }
@@ -145,7 +155,7 @@ impl Lines {
         }
     }
 
-    /// Takes the line out. The result says whether it was kept.
+    /// Takes the line out. The result says whether it was kept. Memory that few lines take then is given back.
     pub(crate) fn remove(&mut self, key: LineKey) -> bool
         ensures kept { result ≡ is_some (lookup (is_slot key.bsc key.cell key.warning) self.old) }
         ensures set { IsSet key blank_line self.old self.new }
@@ -156,6 +166,7 @@ impl Lines {
             return false;
         }
         self.order.remove(&slot);
+        give_back(&mut self.kept);
         true
     }
 }

@@ -64,7 +64,7 @@ returns-clause-set c =
     let ts = c.remove.new.self.keys in
     let set : IsKept s None es fs = rw c.of-slot.ensures at c.swap_remove.ensures.updates.0 in
     let after : AreSlotsOf ts fs = slots_set s None es fs ss ts set (rw c.of-slot.ensures at c.remove.ensures.updates.0) c.self.invariant in
-    rw (← c.self.view_is) (lines_set k.bsc k.cell k.warning None (lines_at ss es) (lines_at ts fs) (set_in_order s None es fs ss ts c.self.invariant after set))
+    rw (← c.self.view_is, c.give_back.ensures) (lines_set k.bsc k.cell k.warning None (lines_at ss es) (lines_at ts fs) (set_in_order s None es fs ss ts c.self.invariant after set))
 
 pub returns-clause-entries : goal.returns-clause-entries
 returns-clause-entries c =
@@ -77,4 +77,4 @@ returns-clause-entries c =
     let set : IsKept s None es fs = rw c.of-slot.ensures at c.swap_remove.ensures.updates.0 in
     let taken : ts ≡ remove_key (is_at (warning_slot_cmp s)) ss = rw c.of-slot.ensures at c.remove.ensures.keys in
     let none : is_in s ts ≡ false = rw c.of-slot.ensures at c.remove.ensures.updates.1 in
-    rw (← c.self.view_is, taken) (taken_out s es fs set ss (rw taken at none))
+    rw (← c.self.view_is, c.give_back.ensures, taken) (taken_out s es fs set ss (rw taken at none))

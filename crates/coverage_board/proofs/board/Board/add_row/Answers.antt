@@ -1,0 +1,25 @@
+use Rattle.std.proofs.Common.{ℕ, List, ◌∙◌, ap, rules}
+use Rattle.coverage_board.specs.Board.{WarningNumbers, area_in, CountsNothing}
+use Rattle.coverage_board.specs.Numbers.{moved}
+use Rattle.coverage_board.specs.Parts.{total_part, area_part}
+use Rattle.coverage_board.specs.Reading.{stand_of}
+use Rattle.coverage_board.proofs.RowLemmas.{areas_kept, rows_with, total_kept}
+use Rattle.coverage_board.proofs.board.Board.add_row.Goals as goal
+
+pub returns-then-counts_nothing-clause-total : goal.returns-then-counts_nothing-clause-total
+returns-then-counts_nothing-clause-total c =
+    let p = total_part (stand_of c.args.before.now) in
+    let q = total_part (stand_of c.args.after.now) in
+    let none : CountsNothing c.shift.new.self = c.counts_nothing.ensures.0 (search rules) in
+    total_kept c.args.w c.shift.new.self c.args.self.now c.requires.none none p q (c.in_ok-shift.ensures.total ∙ ap (λ (r : WarningNumbers). moved r.total p q) c.new-row.ensures)
+
+pub returns-then-counts_nothing-clause-area : goal.returns-then-counts_nothing-clause-area
+returns-then-counts_nothing-clause-area c =
+    let p = λ (a : List ℕ). area_part a (stand_of c.args.before.now) in
+    let q = λ (a : List ℕ). area_part a (stand_of c.args.after.now) in
+    let none : CountsNothing c.shift.new.self = c.counts_nothing.ensures.0 (search rules) in
+    areas_kept c.args.w c.shift.new.self c.args.self.now c.requires.none none p q (λ a. c.in_ok-shift.ensures.areas a ∙ ap (λ (r : WarningNumbers). moved (area_in r.areas a) (p a) (q a)) c.new-row.ensures)
+
+pub invariant_of-self-2 : goal.invariant_of-self-2
+invariant_of-self-2 c =
+    rows_with c.args.w c.shift.new.self c.self.inside.rows.entries c.insert.new.self.entries (λ q. rw c.number.ensures at (c.in_ok-insert.ensures.updates.0 q)) (λ none. search (rules, c.counts_nothing.ensures.1 none)) c.self.invariant
