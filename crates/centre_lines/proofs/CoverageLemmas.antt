@@ -1,26 +1,30 @@
 -- What was found of the areas of warnings.
-use Rattle.std.proofs.Common.{◌≡◌, ℕ, zero, suc, ◌+◌, ◌*◌, ◌<◌, Bool, drop, true, ◌&&◌, bytes_eq, nat_eq, nat_le, eqb-true, List, [], ◌∷◌, ◌++◌, Some, map, filter, length, get_or, sym, ◌∙◌, ap, subst, arith}
+use Rattle.std.proofs.Common.{◌≡◌, ℕ, zero, suc, ◌+◌, ◌*◌, ◌<◌, Bool, drop, true, false, ◌&&◌, ◌||◌, cond, bytes_eq, nat_eq, nat_le, ltb, eqb-true, eq-eqb, List, [], ◌∷◌, ◌++◌, Some, map, filter, length, get_or, refl, sym, ◌∙◌, ap, subst, arith}
 use Rattle.std.proofs.lemmas.Bool.{and_parts}
 use Rattle.std.proofs.lemmas.Bool.Decides.{nat_tests}
 use Rattle.std.proofs.lemmas.List.{drop_more, length-map}
+use Rattle.std.proofs.lemmas.Slice.Eq.{bytes_eq-Decides}
 use Rattle.std.specs.List.{list_all, list_any}
-use Rattle.std.specs.Prelude.{slice_set, IfSome}
+use Rattle.std.specs.Prelude.{find, slice_set, IfSome}
 use Rattle.areas.specs.Areas.{areas_of, covers, selects, selectors_of}
 use Rattle.areas.specs.Laws.{among_areas_of}
 use Rattle.areas.specs.declared.area.Area.{Area}
 use Rattle.areas.specs.declared.selector.Selector.{Selector}
-use Rattle.common.specs.Order.{each_once}
+use Rattle.common.specs.OnceLaws.{any_turned}
+use Rattle.common.specs.Order.{each_once, is_ascending}
+use Rattle.common.specs.RisingLaws.{rises}
 use Rattle.common.specs.Sums.{one}
 use Rattle.common.specs.declared.cell.Cell.{Cell}
 use Rattle.coverage_board.specs.AreaSets.{AreDigits, mask, names_at}
 use Rattle.coverage_board.specs.AreaSetLaws.{mask_below, mask_map, names_mask}
 use Rattle.coverage_board.specs.Parts.{has_area}
 use Rattle.warning_book.specs.Book as book
-use Rattle.warning_book.specs.Book.{has_number, warning_of}
+use Rattle.warning_book.specs.Book.{has_number, names_one_of, number_lt, warning_of}
 use Rattle.warning_book.specs.Sound.{has_areas}
 use Rattle.warning_book.specs.declared.warning.Warning.{Warning}
 use Rattle.centre_lines.specs.Found.{AreFound, Found, IsOf, head_of}
 use Rattle.centre_past.proofs.LineLemmas.{found_all}
+use Rattle.centre_past.proofs.RegisterLemmas.{nat_apart}
 
 -- one more warning was looked for
 pub found_more : (l : List Area) (st : book.State) (xs : List Found) (x : Found) → AreFound l st xs → IsOf l (warning_of st x.warning) x → AreFound l st (xs ++ x ∷ [])
@@ -51,6 +55,43 @@ found_read l st n w there xs i z x y found at number place same warning selector
 -- whether one of the names is among all areas that cover the cell
 pub any_covering : (l : List Area) (c : Cell) (all names : List (List ℕ)) → all ≡ areas_of l c → list_any (has_area all) names ≡ list_any (λ a. covers l a c) names
 any_covering l c all names is = (λ i. list_any (has_area (is i)) names) ∙ (λ i. list_any (λ a. among_areas_of l c a i) names)
+
+-- one of some is among others just where one of those is among these
+
+none_of : {A : Type 0} (ys : List A) → list_any (λ y. false) ys ≡ false
+none_of [] = refl
+none_of (y ∷ ys) = none_of ys
+
+either_of : {A : Type 0} (p q : A → Bool) (ys : List A) → list_any (λ y. p y || q y) ys ≡ (list_any p ys || list_any q ys)
+either_of p q [] = refl
+either_of p q (y ∷ ys) = ap (λ t. (p y || q y) || t) (either_of p q ys) ∙ arranged (p y) (q y) (list_any p ys) (list_any q ys)
+  where
+    arranged : (t u v x : Bool) → ((t || u) || (v || x)) ≡ ((t || v) || (u || x))
+    arranged true u v x = refl
+    arranged false true true x = refl
+    arranged false true false x = refl
+    arranged false false v x = refl
+
+any_swapped : (xs ys : List (List ℕ)) → list_any (λ x. list_any (λ y. bytes_eq y x) ys) xs ≡ list_any (λ y. list_any (λ x. bytes_eq x y) xs) ys
+any_swapped [] ys = sym (none_of ys)
+any_swapped (x ∷ xs) ys =
+    ap (λ t. t || list_any (λ z. list_any (λ y. bytes_eq y z) ys) xs) (sym (any_turned bytes_eq bytes_eq-Decides x ys))
+    ∙ ap (λ t. list_any (bytes_eq x) ys || t) (any_swapped xs ys)
+    ∙ sym (either_of (bytes_eq x) (λ y. list_any (λ z. bytes_eq z y) xs) ys)
+
+-- a warning names one of the areas that cover the cell just where one of its own covers it
+pub names_covering : (l : List Area) (c : Cell) (w : Warning) → names_one_of (areas_of l c) w ≡ list_any (λ a. covers l a c) w.areas
+names_covering l c w = any_swapped (areas_of l c) w.areas ∙ any_covering l c (areas_of l c) w.areas refl
+
+-- a warning in the book is the one of its number
+pub of_its_number : (ws : List Warning) (i : ℕ) (w : Warning) → is_ascending number_lt ws ≡ true → i < length ws → w ≡ get_or ws i w → Some w ≡ find (has_number w.number) ws
+of_its_number [] i w ordered there is = grind (arith, there)
+of_its_number (v ∷ ws) zero w ordered there is =
+    subst (λ (x : Warning). Some x ≡ find (has_number x.number) (v ∷ ws)) (sym is) (sym (ap (λ t. cond t (Some v) (find (has_number v.number) ws)) (eq-eqb v.number v.number refl)))
+of_its_number (v ∷ ws) (suc i) w ordered there is =
+    let less : ltb v.number w.number ≡ true = ap (λ (x : Warning). ltb v.number x.number) is ∙ rises number_lt (v ∷ ws) 0 (suc i) w ordered (omega arith) there in
+    of_its_number ws i w (and_parts (list_all (number_lt v) ws) (is_ascending number_lt ws) ordered).1 (grind (arith, there)) is
+    ∙ sym (ap (λ t. cond t (Some v) (find (has_number w.number) ws)) (nat_apart v.number w.number less))
 
 -- the areas of a warning in the book are some, and each stands once
 pub areas_in_book : (st : book.State) (n : ℕ) (w : Warning) → Some w ≡ warning_of st n → list_all has_areas st.warnings ≡ true → has_areas w ≡ true

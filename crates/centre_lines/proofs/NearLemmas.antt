@@ -1,15 +1,12 @@
 -- The lines of the warnings that are not near a cell are passed over where an edit leaves what each area covers, and stay
 -- where what happens leaves blank lines blank.
 use Rattle.std.proofs.Common.{◌≡◌, ℕ, Bool, true, false, ◌&&◌, ◌||◌, not, List, [], ◌∷◌, ◌++◌, Option, Some, None, cond, filter, refl, sym, ◌∙◌, ap}
-use Rattle.std.specs.Prelude.{bytes_eq, find, if◌then◌else◌}
+use Rattle.std.specs.Prelude.{find, if◌then◌else◌}
 use Rattle.std.specs.List.{list_any}
 use Rattle.std.specs.Map.{lookup}
 use Rattle.std.specs.Option.{unwrap_or}
-use Rattle.std.proofs.lemmas.Slice.Eq.{bytes_eq-Decides}
 use Rattle.areas.specs.Areas.{areas_of, covers}
-use Rattle.areas.specs.Laws.{among_areas_of}
 use Rattle.areas.specs.declared.area.Area.{Area}
-use Rattle.common.specs.OnceLaws.{any_turned}
 use Rattle.common.specs.declared.cell.Cell.{Cell}
 use Rattle.coverage_plan.specs.Plan.{State}
 use Rattle.kept_tables.specs.Tables.{Tables}
@@ -20,13 +17,14 @@ use Rattle.mirror.specs.Line.{blank_line}
 use Rattle.mirror.specs.Table.{is_slot, line_at}
 use Rattle.mirror.specs.declared.line.Line.{Line}
 use Rattle.warning_book.specs.Book as book
-use Rattle.warning_book.specs.Book.{has_number, is_so, names, names_one_of, warning_of}
+use Rattle.warning_book.specs.Book.{has_number, is_so, names_one_of, warning_of}
 use Rattle.warning_book.specs.declared.warning.Warning.{Warning}
 use Rattle.coverage_plan.specs.declared.edit.Edit.{Edit}
 use Rattle.coverage_plan.specs.declared.edit.Edit.TheVariants as edit
 use Rattle.centre_past.specs.Idle.{AsBefore}
 use Rattle.centre_lines.specs.Following.{Happens, before_at, line_before, before_unless, is_idle, is_near, leaves_blank, leaves_cover, line_now, passed_over, stays}
 use Rattle.centre_lines.proofs.BlankLineLemmas.{blank_left}
+use Rattle.centre_lines.proofs.CoverageLemmas.{names_covering}
 
 -- neither of two is so
 
@@ -34,30 +32,6 @@ neither : (p q : Bool) → (p || q) ≡ false → (p ≡ false) × (q ≡ false)
 neither true q h = cc
 neither false true h = cc
 neither false false h = (refl, refl)
-
--- none of the names is among the others, the one way and the other
-
-none_turned : (xs ys : List (List ℕ)) → list_any (λ x. list_any (λ y. bytes_eq y x) ys) xs ≡ false → list_any (λ y. list_any (λ x. bytes_eq x y) xs) ys ≡ false
-none_turned xs [] h = refl
-none_turned xs (y ∷ ys) h =
-    let parts = split xs h in
-    ap (λ t. t || list_any (λ z. list_any (λ x. bytes_eq x z) xs) ys) (sym (any_turned bytes_eq bytes_eq-Decides y xs) ∙ parts.0) ∙ none_turned xs ys parts.1
-  where
-    split : (zs : List (List ℕ)) → list_any (λ x. list_any (λ z. bytes_eq z x) (y ∷ ys)) zs ≡ false → (list_any (bytes_eq y) zs ≡ false) × (list_any (λ x. list_any (λ z. bytes_eq z x) ys) zs ≡ false)
-    split [] g = (refl, refl)
-    split (z ∷ zs) g =
-        let first = neither (bytes_eq y z || list_any (λ x. bytes_eq x z) ys) (list_any (λ x. list_any (λ v. bytes_eq v x) (y ∷ ys)) zs) g in
-        let one = neither (bytes_eq y z) (list_any (λ x. bytes_eq x z) ys) first.0 in
-        let rest = split zs first.1 in
-        (ap (λ t. t || list_any (bytes_eq y) zs) one.0 ∙ rest.0, ap (λ t. t || list_any (λ x. list_any (λ v. bytes_eq v x) ys) zs) one.1 ∙ rest.1)
-
--- no area of a warning covers a cell where the warning names none of those that do
-
-covers_none : (l : List Area) (c : Cell) (ys : List (List ℕ)) → list_any (λ y. list_any (λ x. bytes_eq x y) (areas_of l c)) ys ≡ false → list_any (λ a. covers l a c) ys ≡ false
-covers_none l c [] h = refl
-covers_none l c (y ∷ ys) h =
-    let parts = neither (list_any (λ x. bytes_eq x y) (areas_of l c)) (list_any (λ z. list_any (λ x. bytes_eq x z) (areas_of l c)) ys) h in
-    ap (λ t. t || list_any (λ a. covers l a c) ys) (sym (among_areas_of l c y) ∙ parts.0) ∙ covers_none l c ys parts.1
 
 found_so : (n : ℕ) (f : Warning → Bool) (ws : List Warning) (w : Warning) → find (has_number n) ws ≡ Some w → is_so n f ws ≡ false → f w ≡ false
 found_so n f [] w found so = cc
@@ -72,7 +46,7 @@ found_so n f (v ∷ ws) w found so = step (has_number n v) (λ g later. found_so
 idle_there : (l : List Area) (st : book.State) (c : Cell) (n : ℕ) (line : Line) → is_blank line ≡ true → is_so n (names_one_of (areas_of l c)) st.warnings ≡ false → (o : Option Warning) → warning_of st n ≡ o → is_idle l o c line ≡ true
 idle_there l st c n line blank so None e = refl
 idle_there l st c n line blank so (Some w) e =
-    let none = covers_none l c w.areas (none_turned (areas_of l c) w.areas (found_so n (names_one_of (areas_of l c)) st.warnings w e so)) in
+    let none : list_any (λ a. covers l a c) w.areas ≡ false = sym (names_covering l c w) ∙ found_so n (names_one_of (areas_of l c)) st.warnings w e so in
     ap (λ t. t && not (list_any (λ a. covers l a c) w.areas)) blank ∙ ap not none
 
 -- so it is passed over

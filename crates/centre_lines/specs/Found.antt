@@ -1,6 +1,6 @@
 -- What is read once of a warning, for all its lines on which an event bears.
 use Rattle.std.specs.Prelude.{◌≡◌, ℕ, Bool, ◌&&◌, List, [], ◌∷◌, Option, Some, None, IfSome, map, if◌then◌else◌}
-use Rattle.areas.specs.Areas.{areas_of, selects, selectors_of}
+use Rattle.areas.specs.Areas.{selects, selectors_of}
 use Rattle.areas.specs.declared.area.Area.{Area}
 use Rattle.areas.specs.declared.selector.Selector.{Selector}
 use Rattle.common.specs.declared.cell.Cell.{Cell}
@@ -14,7 +14,6 @@ use Rattle.warning_book.specs.Book as book
 use Rattle.warning_book.specs.Book.{current_of, warning_of}
 use Rattle.warning_book.specs.declared.warning.Warning.{Warning}
 use Rattle.centre_events.specs.Warnings.{serials}
-use Rattle.centre_lines.specs.declared.known_spot.KnownSpot.{KnownSpot}
 
 -- what is read of a warning for its lines
 pub record WarningHead : Type 0 where
@@ -62,7 +61,3 @@ AreFound l st (x ∷ xs) = IsOf l (warning_of st x.warning) x × AreFound l st x
 -- if there are digits, they are those of each cell of the location area, by what selects it
 abbrev pub AreOfLac : List (List Selector) → ℕ → Option AreaBits → Type 0
 AreOfLac xs lac found = IfSome found (λ n. (c : Cell) → c.lac ≡ lac → n.bits ≡ mask (λ s. selects s c) xs)
-
--- if the areas that cover the cell are known, they are all of those
-abbrev pub IsKnown : List Area → KnownSpot → Type 0
-IsKnown l at = IfSome at.covering (λ all. all.now ≡ areas_of l at.spot.cell)

@@ -1,52 +1,19 @@
 //! What is read of one line, from what a centre keeps.
 
 ghost use Rattle.std.specs.Prelude.{◌≡◌, ◌&&◌, Some, None, IfOk, if◌then◌else◌};
-ghost use Rattle.std.specs.List.{list_any};
 ghost use Rattle.std.specs.Option.{option_copied};
-ghost use Rattle.areas.specs.Areas.{covers};
-ghost use Rattle.coverage_board.specs.Parts.{has_area};
 ghost use Rattle.warning_book.specs.Book.{warning_of};
-ghost use Rattle.centre_lines.specs.Found.{IsKnown};
 ghost use Rattle.centre_past.specs.State.{covered_facts, facts_from};
 ghost use Rattle.centre_events.specs.Warnings.{kind_in};
 
 use crate::facts_before::FactsBefore;
 use crate::found_plan::FoundPlan;
-use crate::known_spot::KnownSpot;
 use crate::line_in_cell::LineInCell;
-use areas::Areas;
-use common::Name;
 use coverage_board::AreaSet;
 use kept_tables::{LineFacts, Serials};
 use serials::Serial;
 use std::alloc::AllocError;
 use warning_book::{Kind, Warning, WarningId};
-
-/// Whether the name is among all these.
-fn is_among(all: &[Name], name: &Name) -> bool
-    ensures { result ≡ has_area all.now name.now }
-{
-    all.iter().any(|other| *other == *name)
-}
-
-/// Whether one of the names is among all these.
-fn is_one_among(names: &[Name], all: &[Name]) -> bool
-    ensures { result ≡ list_any (has_area all.now) names.now }
-{
-    names.iter().any(|name| is_among(all, name))
-}
-
-/// Whether one of the areas covers the cell.
-pub(crate) fn is_covered(areas: &Areas, names: &[Name], at: &KnownSpot<'_>) -> bool
-    requires { IsKnown areas.now at.now }
-    ensures { result ≡ list_any (λ a. covers areas.now a at.now.spot.cell) names.now }
-{
-    let c = at.spot.cell;
-    match at.covering {
-        Some(all) => is_one_among(names, all),
-        None => names.iter().any(|name| areas.covers(name, c)),
-    }
-}
 
 /// The kind of a warning; CBS where the book doesn't have it.
 pub(crate) fn kind_in(warning: Option<&Warning>) -> Kind

@@ -48,8 +48,8 @@ fn place_of(found: &[FoundWarning<'_>], last: usize, n: WarningId) -> Option<usi
     None
 }
 
-/// The plan, with what was read once of some warnings, and where the last one and the last cell were found. Contracts see
-/// the plan.
+/// The plan, with what was read once of some warnings, where the last one and the last cell were found, and whether many areas
+/// cover one of the cells. Contracts see the plan.
 #[derive(Drop)]
 pub(crate) struct FoundPlan<'a> {
     alloc: Global,
@@ -57,6 +57,7 @@ pub(crate) struct FoundPlan<'a> {
     found: Vec<FoundWarning<'a>>,
     last: usize,
     near: usize,
+    asks_each: bool,
 }
 
 impl<'a> Model for FoundPlan<'a> {
@@ -113,6 +114,7 @@ impl<'a> FoundPlan<'a> {
             found: Vec::new(alloc),
             last: 0,
             near: 0,
+            asks_each: false,
         }
     }
 
@@ -131,6 +133,18 @@ impl<'a> FoundPlan<'a> {
         ensures { result.now ≡ self.now.book }
     {
         self.plan.book()
+    }
+
+    /// Whether each warning is asked which of its areas cover a cell.
+    pub(crate) fn asks_each(&self) -> bool {
+        self.asks_each
+    }
+
+    /// From now on each warning is asked.
+    pub(crate) fn ask_each(&mut self)
+        ensures { self.new ≡ self.old }
+    {
+        self.asks_each = true;
     }
 
     /// Those of the areas of the warning, which has that number, that cover the cell. What the areas cover is kept for its

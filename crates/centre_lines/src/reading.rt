@@ -1,32 +1,29 @@
 //! The lines on which an edit bears, read before it.
 
-ghost use Rattle.std.specs.Prelude.{◌≡◌, ℕ, ◌<◌, ◌≤◌, ◌+◌, ◌-◌, ◌*◌, ◌++◌, ◌∷◌, [], None, true, length, ltb, nat_eq, IfOk, IfSome, OnOk};
+ghost use Rattle.std.specs.Prelude.{◌≡◌, ℕ, ◌<◌, ◌≤◌, ◌+◌, ◌-◌, ◌*◌, ◌||◌, ◌++◌, ◌∷◌, [], None, true, length, ltb, nat_eq, IfOk, IfSome, OnOk};
 ghost use Rattle.std.specs.List.{filter, flat_map, list_any, slice_index_or};
 ghost use Rattle.std.specs.Option.{option_copied};
-ghost use Rattle.areas.specs.Areas.{areas_of};
 ghost use Rattle.common.specs.Order.{is_ascending};
 ghost use Rattle.kept_tables.specs.Tables.{Tables};
 ghost use Rattle.kept_tables.specs.View.{key_at};
 ghost use Rattle.centre_past.specs.Idle.{AsBefore};
 ghost use Rattle.centre_lines.specs.Following.{LinesAreOf, before_unless, before_at, lines_before, is_idle, is_near, leaves_cover, passed_over, is_issue};
 ghost use Rattle.centre_past.specs.Reaching.{is_forget};
-ghost use Rattle.centre_lines.specs.Found.{IsKnown};
 ghost use Rattle.coverage_plan.specs.declared.edit.Edit as edit_spec;
 ghost use Rattle.warning_book.specs.Book.{warning_of};
 
-use crate::facts::{facts_before, is_covered, kind_in};
+use crate::facts::{facts_before, kind_in};
 use crate::facts_before::FactsBefore;
 use crate::found_plan::FoundPlan;
-use crate::known_spot::KnownSpot;
 use crate::line_before::LineBefore;
 use crate::line_in_cell::LineInCell;
-use areas::Areas;
+use crate::naming::{has_covering, named_at};
 use centre_past::keys::key_at;
-use common::Names;
+use common::Cell;
 use coverage_plan::Edit;
 use kept_tables::{KeptTables, Spot};
 use mirror::{Line, LineKey};
-use std::alloc::AllocError;
+use std::alloc::{AllocError, Global};
 use warning_book::{Kind, Warning, WarningId};
 
 /// Room for as many lines as most cells have.
@@ -42,20 +39,26 @@ fn before_of(spot: &Spot, n: WarningId, before: FactsBefore) -> LineBefore
     }
 }
 
-/// Whether nothing is kept of the line of a warning, and none of its areas covers the cell.
-pub(crate) fn is_idle(
-    areas: &Areas,
-    at: &KnownSpot<'_>,
+/// Whether nothing is kept of the line of a warning, which has that number, and none of its areas covers the cell.
+fn is_idle(
+    plan: &mut FoundPlan<'_>,
+    c: Cell,
+    n: WarningId,
     warning: Option<&Warning>,
     line: &Line,
-) -> bool
-    requires { IsKnown areas.now at.now }
-    ensures { result ≡ is_idle areas.now (option_copied warning.entry) at.now.spot.cell line.now }
+) -> Result<bool, AllocError>
+    requires { option_copied warning ≡ warning_of plan.old.book n }
+    ensures idle { IfOk result (λ found. found ≡ is_idle plan.old.areas (option_copied warning.entry) c line.now) }
+    ensures same { plan.new ≡ plan.old }
 {
-    match warning {
-        Some(w) => line.is_blank() && !is_covered(areas, w.areas(), at),
-        None => true,
+    let Some(w) = warning else {
+        return Ok(true);
+    };
+    if !line.is_blank() {
+        return Ok(false);
     }
+    let is_covered = has_covering(plan, n, w, c)?;
+    Ok(!is_covered)
 }
 
 /// Whether the warning stands at that place.
@@ -131,22 +134,28 @@ fn is_forget(edit: &Edit) -> bool
     matches!(edit, Edit::Forget(_))
 }
 
-/// Whether the edit leaves a line without a part. A warning that is forgotten isn't active, so that a blank line of it has
-/// none, whatever its areas cover.
+/// Whether the edit leaves the line of a warning, which has that number, without a part. A warning that is forgotten isn't
+/// active, so that a blank line of it has none, whatever its areas cover.
 fn is_passed_over(
     edit: &Edit,
-    areas: &Areas,
-    at: &KnownSpot<'_>,
+    plan: &mut FoundPlan<'_>,
+    c: Cell,
+    n: WarningId,
     warning: Option<&Warning>,
     line: &Line,
-) -> bool
-    requires { IsKnown areas.now at.now }
-    ensures { result ≡ passed_over edit.now areas.now (option_copied warning.entry) at.now.spot.cell line.now }
+) -> Result<bool, AllocError>
+    requires { option_copied warning ≡ warning_of plan.old.book n }
+    ensures passed { IfOk result (λ over. over ≡ passed_over edit.now plan.old.areas (option_copied warning.entry) c line.now) }
+    ensures same { plan.new ≡ plan.old }
 {
     if is_forget(edit) {
-        return line.is_blank();
+        return Ok(line.is_blank());
     }
-    leaves_cover(edit) && is_idle(areas, at, warning, line)
+    if !leaves_cover(edit) {
+        return Ok(false);
+    }
+    let idle = is_idle(plan, c, n, warning, line)?;
+    Ok(idle)
 }
 
 /// Reads a line, and keeps how it stands, unless it is passed over.
@@ -156,29 +165,28 @@ fn read_before(
     out: &mut Vec<LineBefore>,
     plan: &mut FoundPlan<'_>,
     tables: &mut KeptTables,
-    at: &KnownSpot<'_>,
+    spot: &Spot,
     n: WarningId,
     edit: &Edit,
 ) -> Result<(), AllocError>
-    requires known { IsKnown plan.old.areas at.now }
-    ensures earlier { (t : Tables) → AsBefore t tables.old → OnOk result (out.new.items ≡ out.old.items ++ before_unless edit.now plan.old t (key_at at.now.spot n)) }
+    ensures earlier { (t : Tables) → AsBefore t tables.old → OnOk result (out.new.items ≡ out.old.items ++ before_unless edit.now plan.old t (key_at spot.now n)) }
     ensures kept { (t : Tables) → AsBefore t tables.old → AsBefore t tables.new }
     ensures meter { tables.new.lines.meter ≤ tables.old.lines.meter + 1 }
     ensures same { plan.new ≡ plan.old }
 {
-    let line = tables.read_line(key_at(&at.spot, n));
+    let line = tables.read_line(key_at(spot, n));
     let warning = plan.book().find(n);
-    if is_passed_over(edit, plan.areas(), at, warning, &line) {
+    if is_passed_over(edit, plan, spot.cell, n, warning, &line)? {
         return Ok(());
     }
-    let down = tables.is_down(kind_in(warning), at.spot.bsc, at.spot.cell);
+    let down = tables.is_down(kind_in(warning), spot.bsc, spot.cell);
     let there = LineInCell {
-        spot: at.spot,
+        spot: *spot,
         line,
         down,
     };
     let before = facts_before(plan, &there, n, warning)?;
-    out.push(before_of(&at.spot, n, before))?;
+    out.push(before_of(spot, n, before))?;
     Ok(())
 }
 
@@ -187,62 +195,63 @@ fn read_at(
     out: &mut Vec<LineBefore>,
     plan: &mut FoundPlan<'_>,
     tables: &mut KeptTables,
-    at: &KnownSpot<'_>,
+    spot: &Spot,
     warnings: &[WarningId],
     edit: &Edit,
 ) -> Result<(), AllocError>
-    requires known { IsKnown plan.old.areas at.now }
-    ensures earlier { (t : Tables) → AsBefore t tables.old → OnOk result (out.new.items ≡ out.old.items ++ before_at edit.now plan.old t warnings.now at.now.spot) }
+    ensures earlier { (t : Tables) → AsBefore t tables.old → OnOk result (out.new.items ≡ out.old.items ++ before_at edit.now plan.old t warnings.now spot.now) }
     ensures kept { (t : Tables) → AsBefore t tables.old → AsBefore t tables.new }
     ensures meter { tables.new.lines.meter ≤ tables.old.lines.meter + length warnings.now }
     ensures same { plan.new ≡ plan.old }
 {
     for warning in warnings {
-        read_before(out, plan, tables, at, *warning, edit)?;
+        read_before(out, plan, tables, spot, *warning, edit)?;
     }
     Ok(())
 }
 
-/// The warnings near a cell at a BSC, and all areas that cover the cell.
-#[derive(Drop)]
-pub(crate) struct NearCell {
-    pub(crate) warnings: Vec<WarningId>,
-    pub(crate) covering: Names,
+/// Those of the warnings that stand in one of two lists.
+fn listed_in(
+    alloc: Global,
+    kept: &[WarningId],
+    named: &[WarningId],
+    warnings: &[WarningId],
+) -> Result<Vec<WarningId>, AllocError>
+    requires kept { is_ascending ltb kept.now ≡ true }
+    requires named { is_ascending ltb named.now ≡ true }
+    ensures { IfOk result (λ v. v.items ≡ filter (λ n. list_any (nat_eq n) kept.now || list_any (nat_eq n) named.now) warnings.now) }
+{
+    let mut near = Vec::with_capacity(alloc, warnings.len())?;
+    let mut at_kept = 0;
+    let mut at_named = 0;
+    for warning in warnings {
+        let is_kept = is_listed(*warning, kept, &mut at_kept);
+        let is_named = is_listed(*warning, named, &mut at_named);
+        if is_kept || is_named {
+            near.push(*warning)?;
+        }
+    }
+    Ok(near)
 }
 
 /// Those of the warnings of which something is kept at the spot, or of which an area covers its cell. The lines of which
 /// something is kept are counted.
 #[tactic(auto, using(centre_past::proofs::ReadLemmas::as_read))]
 pub(crate) fn near(
-    plan: &FoundPlan<'_>,
+    plan: &mut FoundPlan<'_>,
     tables: &mut KeptTables,
     spot: &Spot,
     warnings: &[WarningId],
-) -> Result<NearCell, AllocError>
-    ensures warnings { IfOk result (λ v. v.warnings.items ≡ filter (is_near plan.now.areas plan.now.book tables.new.lines spot.now.bsc spot.now.cell) warnings.now) }
-    ensures covering { IfOk result (λ v. v.covering ≡ areas_of plan.now.areas spot.now.cell) }
+) -> Result<Vec<WarningId>, AllocError>
+    ensures warnings { IfOk result (λ v. v.items ≡ filter (is_near plan.old.areas plan.old.book tables.new.lines spot.now.bsc spot.now.cell) warnings.now) }
     ensures kept { (t : Tables) → AsBefore t tables.old → AsBefore t tables.new }
     ensures meter { LinesAreOf warnings.now tables.old → tables.new.lines.meter ≤ tables.old.lines.meter + length warnings.now }
+    ensures same { plan.new ≡ plan.old }
 {
-    let areas = plan.areas();
-    let book = plan.book();
     let kept = tables.warnings_at(spot.bsc, spot.cell)?;
-    let covering = areas.areas_of(spot.cell)?;
-    let named = book.naming_one_of(covering.as_slice())?;
-    let mut near = Vec::with_capacity(plan.alloc(), warnings.len())?;
-    let mut at_kept = 0;
-    let mut at_named = 0;
-    for warning in warnings {
-        let is_kept = is_listed(*warning, kept.as_slice(), &mut at_kept);
-        let is_named = is_listed(*warning, named.as_slice(), &mut at_named);
-        if is_kept || is_named {
-            near.push(*warning)?;
-        }
-    }
-    Ok(NearCell {
-        warnings: near,
-        covering,
-    })
+    let named = named_at(plan, spot.cell)?;
+    let near = listed_in(plan.alloc(), kept.as_slice(), named.as_slice(), warnings)?;
+    Ok(near)
 }
 
 /// Reads the lines of those of the warnings that are near the cell at the BSC, and keeps how those stand that are not passed
@@ -262,12 +271,7 @@ fn read_near(
     ensures same { plan.new ≡ plan.old }
 {
     let near = near(plan, tables, spot, warnings)?;
-    let at = KnownSpot {
-        spot: *spot,
-        covering: Some(near.covering.as_slice()),
-    };
-    let near = near.warnings.as_slice();
-    read_at(out, plan, tables, &at, near, edit)?;
+    read_at(out, plan, tables, spot, near.as_slice(), edit)?;
     Ok(())
 }
 
@@ -288,11 +292,7 @@ fn read_there(
     if leaves_cover(edit) {
         return read_near(out, plan, tables, spot, warnings, edit);
     }
-    let at = KnownSpot {
-        spot: *spot,
-        covering: None,
-    };
-    read_at(out, plan, tables, &at, warnings, edit)
+    read_at(out, plan, tables, spot, warnings, edit)
 }
 
 /// The warning of an Issue, which isn't in the book before it, if these are that one.
@@ -363,11 +363,8 @@ pub(crate) fn read_keys(
     let mut out = Vec::with_capacity(plan.alloc(), keys.len())?;
     for key in keys {
         let LineKey { bsc, cell, warning } = *key;
-        let at = KnownSpot {
-            spot: Spot { bsc, cell },
-            covering: None,
-        };
-        read_before(&mut out, plan, tables, &at, warning, edit)?;
+        let spot = Spot { bsc, cell };
+        read_before(&mut out, plan, tables, &spot, warning, edit)?;
     }
     Ok(out)
 }

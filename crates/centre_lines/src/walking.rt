@@ -1,8 +1,7 @@
 //! The lines on which an event bears that is no edit, changed one after another, each as it is read.
 
-ghost use Rattle.std.specs.Prelude.{◌≡◌, ◌≤◌, ◌+◌, ◌*◌, ◌∷◌, [], ◌&&◌, ◌||◌, ℕ, List, true, false, nat_eq, ltb, length, map, IfOk, OnOk};
+ghost use Rattle.std.specs.Prelude.{◌≡◌, ◌≤◌, ◌+◌, ◌*◌, ◌∷◌, [], ℕ, List, true, false, nat_eq, ltb, length, map, IfOk, OnOk};
 ghost use Rattle.std.specs.List.{list_any};
-ghost use Rattle.std.specs.Option.{option_copied};
 ghost use Rattle.kept_tables.specs.Consistent.{Consistent};
 ghost use Rattle.kept_tables.specs.Tables.{Tables};
 ghost use Rattle.kept_tables.specs.View.{key_at};
@@ -11,20 +10,16 @@ ghost use Rattle.mirror.specs.Blank.{is_blank, line_eq};
 ghost use Rattle.mirror.specs.Table.{down_at, line_at};
 ghost use Rattle.warning_book.specs.Book.{numbers};
 ghost use Rattle.warning_book.specs.declared.kind.Kind.{Kind};
-ghost use Rattle.centre_events.specs.Warnings.{kind_in};
 ghost use Rattle.centre_events.specs.Down.{down_mark};
-ghost use Rattle.centre_lines.specs.Following.{LinesAreOf, bearing, happens, is_idle, keeps_down, keys_of, leaves_blank, may_change, step_to};
+ghost use Rattle.centre_lines.specs.Following.{LinesAreOf, bearing, happens, keeps_down, keys_of, leaves_blank, may_change, step_to};
 ghost use Rattle.centre_lines.specs.Walking.{Walks, walked};
 ghost use Rattle.centre_past.specs.Idle.{AsBefore};
-ghost use Rattle.centre_lines.specs.Found.{IsKnown};
 
 use crate::facts::{facts_from, kind_in};
 use crate::following::line_now;
 use crate::found_plan::FoundPlan;
-use crate::known_spot::KnownSpot;
 use crate::line_in_cell::LineInCell;
-use crate::reading::{is_idle, near};
-use areas::Areas;
+use crate::reading::near;
 use centre_events::answer::Answer;
 use centre_events::effects::down_mark;
 use centre_events::event::Event;
@@ -33,7 +28,7 @@ use centre_past::keys::key_at;
 use kept_tables::{KeptTables, LineFacts, Spot, Step};
 use mirror::{Line, LineKey};
 use std::alloc::AllocError;
-use warning_book::{Kind, Warning, WarningId};
+use warning_book::{Kind, WarningId};
 
 /// Whether what happens leaves the cell down for warnings of the kind, or up, as it was.
 fn keeps_down(h: &Happening<'_, '_>, kind: Kind, spot: &Spot, was: bool) -> bool
@@ -81,21 +76,6 @@ fn is_left(line: &Line, then: &Line, stepped: bool) -> bool
     true
 }
 
-/// Whether a line that stays itself has the same part after what happens: its cell stays down, or up, or the line is idle.
-fn keeps_part(
-    h: &Happening<'_, '_>,
-    areas: &Areas,
-    at: &KnownSpot<'_>,
-    warning: Option<&Warning>,
-    line: &Line,
-    down: bool,
-) -> bool
-    requires { IsKnown areas.now at.now }
-    ensures { result ≡ (keeps_down (down_mark (kind_in (option_copied warning.entry)) at.now.spot.bsc at.now.spot.cell h.now.event.now h.now.answer.now) down || is_idle areas.now (option_copied warning.entry) at.now.spot.cell line.now) }
-{
-    keeps_down(h, kind_in(warning), &at.spot, down) || is_idle(areas, at, warning, line)
-}
-
 /// The step from how a line of a warning of the kind stood to the line after what happens.
 fn step_to<'b>(
     h: &Happening<'_, '_>,
@@ -121,18 +101,16 @@ fn walk_line(
     h: &Happening<'_, '_>,
     plan: &mut FoundPlan<'_>,
     tables: &mut KeptTables,
-    at: &KnownSpot<'_>,
+    spot: &Spot,
     n: WarningId,
 ) -> Result<(), AllocError>
-    requires known { IsKnown plan.old.areas at.now }
-    requires walks { Walks plan.old (happens h.now) tables.old (key_at at.now.spot n ∷ []) }
-    ensures walked { OnOk result ((x : Walks plan.old (happens h.now) tables.old (key_at at.now.spot n ∷ [])) → Consistent tables.new (walked x (key_at at.now.spot n ∷ []))) }
+    requires walks { Walks plan.old (happens h.now) tables.old (key_at spot.now n ∷ []) }
+    ensures walked { OnOk result ((x : Walks plan.old (happens h.now) tables.old (key_at spot.now n ∷ [])) → Consistent tables.new (walked x (key_at spot.now n ∷ []))) }
     ensures downs { tables.new.lines.downs ≡ tables.old.lines.downs }
     ensures meter { tables.new.lines.meter ≤ tables.old.lines.meter + 2 }
     ensures least { tables.old.lines.meter ≤ tables.new.lines.meter }
     ensures same { plan.new ≡ plan.old }
 {
-    let spot = &at.spot;
     let line = tables.read_line(key_at(spot, n));
     let book = plan.book();
     let warning = book.find(n);
@@ -141,7 +119,7 @@ fn walk_line(
     let mut then = line;
     let stepped = line_now(h, book.as_slice(), spot, warning, &mut then);
     let is_left = is_left(&line, &then, stepped);
-    if is_left && keeps_part(h, plan.areas(), at, warning, &line, down) {
+    if is_left && keeps_down(h, kind, spot, down) {
         return Ok(());
     }
     let there = LineInCell {
@@ -158,19 +136,18 @@ fn walk_spot(
     h: &Happening<'_, '_>,
     plan: &mut FoundPlan<'_>,
     tables: &mut KeptTables,
-    at: &KnownSpot<'_>,
+    spot: &Spot,
     warnings: &[WarningId],
 ) -> Result<(), AllocError>
-    requires known { IsKnown plan.old.areas at.now }
-    requires walks { Walks plan.old (happens h.now) tables.old (map (key_at at.now.spot) warnings.now) }
-    ensures walked { OnOk result ((x : Walks plan.old (happens h.now) tables.old (map (key_at at.now.spot) warnings.now)) → Consistent tables.new (walked x (map (key_at at.now.spot) warnings.now))) }
+    requires walks { Walks plan.old (happens h.now) tables.old (map (key_at spot.now) warnings.now) }
+    ensures walked { OnOk result ((x : Walks plan.old (happens h.now) tables.old (map (key_at spot.now) warnings.now)) → Consistent tables.new (walked x (map (key_at spot.now) warnings.now))) }
     ensures downs { tables.new.lines.downs ≡ tables.old.lines.downs }
     ensures meter { tables.new.lines.meter ≤ tables.old.lines.meter + 2 * length warnings.now }
     ensures least { tables.old.lines.meter ≤ tables.new.lines.meter }
     ensures same { plan.new ≡ plan.old }
 {
     for warning in warnings {
-        walk_line(h, plan, tables, at, *warning)?;
+        walk_line(h, plan, tables, spot, *warning)?;
     }
     Ok(())
 }
@@ -193,11 +170,7 @@ fn walk_near(
     ensures same { plan.new ≡ plan.old }
 {
     let near = near(plan, tables, spot, warnings)?;
-    let at = KnownSpot {
-        spot: *spot,
-        covering: Some(near.covering.as_slice()),
-    };
-    walk_spot(h, plan, tables, &at, near.warnings.as_slice())
+    walk_spot(h, plan, tables, spot, near.as_slice())
 }
 
 /// The warnings whose lines at the spot may be changed by an indication, which leaves blank lines blank, or by a Retry, which
@@ -243,11 +216,7 @@ fn walk_indicated_spot(
         return walk_near(h, plan, tables, spot, all);
     }
     let indicated = indicated(h, tables, spot)?;
-    let at = KnownSpot {
-        spot: *spot,
-        covering: None,
-    };
-    walk_spot(h, plan, tables, &at, indicated.as_slice())
+    walk_spot(h, plan, tables, spot, indicated.as_slice())
 }
 
 /// Reads the lines at each of the spots that an indication or a Retry may change, and changes those that it does not leave as
@@ -288,11 +257,7 @@ fn walk_named(
     ensures least { tables.old.lines.meter ≤ tables.new.lines.meter }
 {
     for spot in spots {
-        let at = KnownSpot {
-            spot: *spot,
-            covering: None,
-        };
-        walk_spot(h, plan, tables, &at, warnings)?;
+        walk_spot(h, plan, tables, spot, warnings)?;
     }
     Ok(())
 }

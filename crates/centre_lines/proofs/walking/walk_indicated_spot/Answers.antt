@@ -10,10 +10,11 @@ use Rattle.centre_lines.proofs.WalkLemmas.{in_book_walked, indicated_walked, ind
 use Rattle.centre_lines.proofs.walking.walk_indicated_spot.Goals as goal
 
 -- those that may change are walked
-pub walk_spot-requires-clause-walks : goal.walk_spot-requires-clause-walks
-walk_spot-requires-clause-walks c =
-    subst (λ ns. Walks c.args.plan.now (happens c.args.h.now) c.indicated.new.tables (map (key_at c.args.spot.now) ns)) (sym c.as_slice.ensures.value)
-    (indicated_walks c.args.spot.now c.args.all.now c.requires.walks c.indicated.new.tables c.in_ok-indicated.indicated.items c.requires.all c.in_ok-indicated.ensures.which c.in_ok-indicated.ensures.order (c.indicated.ensures.kept c.args.tables.now (as_itself c.args.tables.now)))
+pub walk_spot-requires : goal.walk_spot-requires
+walk_spot-requires c = record {
+  walks = subst (λ ns. Walks c.args.plan.now (happens c.args.h.now) c.indicated.new.tables (map (key_at c.args.spot.now) ns)) (sym c.as_slice.ensures.value)
+      (indicated_walks c.args.spot.now c.args.all.now c.requires.walks c.indicated.new.tables c.in_ok-indicated.indicated.items c.requires.all c.in_ok-indicated.ensures.which c.in_ok-indicated.ensures.order (c.indicated.ensures.kept c.args.tables.now (as_itself c.args.tables.now)));
+}
 
 pub returns-clause-walked : goal.returns-clause-walked
 returns-clause-walked c =

@@ -1,4 +1,4 @@
-use Rattle.std.proofs.Common.{◌≡◌, true, ◌&&◌, ◌||◌, sym, ◌∙◌, ap}
+use Rattle.std.proofs.Common.{◌≡◌, Bool, true, ◌&&◌, ◌||◌, sym, ◌∙◌, ap}
 use Rattle.std.proofs.lemmas.Result.{on_ok_weaker}
 use Rattle.std.specs.List.{list_any}
 use Rattle.std.specs.Option.{option_copied}
@@ -18,11 +18,11 @@ use Rattle.centre_lines.proofs.StayLemmas.{stays_same}
 use Rattle.centre_lines.proofs.WalkLemmas.{first_there, line_old, made_walked, next_step, stays_walked}
 use Rattle.centre_lines.proofs.walking.walk_line.Goals as goal
 
-pub returns-then-keeps_part-clause-walked : goal.returns-then-keeps_part-clause-walked
-returns-then-keeps_part-clause-walked c =
+pub returns-then-keeps_down-clause-walked : goal.returns-then-keeps_down-clause-walked
+returns-then-keeps_down-clause-walked c =
     let h : Happens = happens c.args.h.now in
     let p : State = c.args.plan.now in
-    let k : LineKey = key_at c.args.at.now.spot c.args.n in
+    let k : LineKey = key_at c.args.spot.now c.args.n in
     let line = c.read_line-line.result in
     let there : option_copied c.find-warning.result ≡ warning_of p.book c.args.n = c.find-warning.ensures ∙ ap (λ st. warning_of st c.args.n) c.book-book.ensures in
     let kinds : c.kind_in-kind.result ≡ kind_in (warning_of p.book c.args.n) = c.kind_in-kind.ensures ∙ ap kind_in there in
@@ -30,11 +30,11 @@ returns-then-keeps_part-clause-walked c =
     let is : c.is_down-down.result ≡ down_at c.args.tables.now.lines (kind_in (warning_of p.book c.args.n)) k.bsc k.cell = c.is_down-down.ensures ∙ ap (λ downs. list_any (is_that_place k.bsc k.cell) (downs_of c.kind_in-kind.result downs)) c.read_line-line.ensures.downs ∙ ap (λ j. down_at c.args.tables.now.lines j k.bsc k.cell) kinds in
     let becomes : c.line_now-stepped.new.line ≡ line_now h p.book.warnings k.bsc k.cell (warning_of p.book c.args.n) line =
     c.line_now-stepped.ensures.line ∙ ap (λ ws. line_now h ws k.bsc k.cell (option_copied c.find-warning.result) line) (c.as_slice.ensures ∙ ap (λ (st : book.State). st.warnings) c.book-book.ensures) ∙ ap (λ o. line_now h p.book.warnings k.bsc k.cell o line) there in
+    let idle : Bool = is_idle p.areas (option_copied c.find-warning.result) k.cell line in
+    let keeps : keeps_down (down_mark (kind_in (option_copied c.find-warning.result)) k.bsc k.cell h.event h.answer) c.is_down-down.result ≡ true =
+    ap (λ j. keeps_down (down_mark j k.bsc k.cell h.event h.answer) c.is_down-down.result) (sym c.kind_in-kind.ensures) ∙ sym c.keeps_down.ensures ∙ c.if-keeps_down.true in
     let stays : stays_so h p.areas k (option_copied c.find-warning.result) line c.line_now-stepped.new.line c.is_down-down.result ≡ true =
-    ap (λ x. x && (keeps_down (down_mark (kind_in (option_copied c.find-warning.result)) k.bsc k.cell h.event h.answer) c.is_down-down.result || is_idle p.areas (option_copied c.find-warning.result) k.cell line)) (sym c.is_left-is_left.ensures ∙ c.if-is_left.true)
-    ∙ ap (λ l. keeps_down (down_mark (kind_in (option_copied c.find-warning.result)) k.bsc k.cell h.event h.answer) c.is_down-down.result || is_idle l (option_copied c.find-warning.result) k.cell line) (sym c.areas.ensures)
-    ∙ sym c.keeps_part.ensures
-    ∙ c.if-keeps_part.true in
+    ap (λ x. x && (keeps_down (down_mark (kind_in (option_copied c.find-warning.result)) k.bsc k.cell h.event h.answer) c.is_down-down.result || idle)) (sym c.is_left-is_left.ensures ∙ c.if-is_left.true) ∙ ap (λ x. x || idle) keeps in
     λ x.
     stays_walked x c.read_line-line.new.self c.read_line-line.ensures.same
     (stays_same x k line c.is_down-down.result (at ∙ line_old x k (first_there k)) (is ∙ x.downs (kind_in (warning_of p.book c.args.n)) k.bsc k.cell)
@@ -44,7 +44,7 @@ pub take_step-requires : goal.take_step-requires
 take_step-requires c =
     let h : Happens = happens c.args.h.now in
     let p : State = c.args.plan.now in
-    let k : LineKey = key_at c.args.at.now.spot c.args.n in
+    let k : LineKey = key_at c.args.spot.now c.args.n in
     let line = c.read_line-line.result in
     let there : option_copied c.find-warning.result ≡ warning_of p.book c.args.n = c.find-warning.ensures ∙ ap (λ st. warning_of st c.args.n) c.book-book.ensures in
     let kinds : c.kind_in-kind.result ≡ kind_in (warning_of p.book c.args.n) = c.kind_in-kind.ensures ∙ ap kind_in there in
@@ -59,7 +59,7 @@ pub returns-clause-walked : goal.returns-clause-walked
 returns-clause-walked c =
     let h : Happens = happens c.args.h.now in
     let p : State = c.args.plan.now in
-    let k : LineKey = key_at c.args.at.now.spot c.args.n in
+    let k : LineKey = key_at c.args.spot.now c.args.n in
     let line = c.read_line-line.result in
     let there : option_copied c.find-warning.result ≡ warning_of p.book c.args.n = c.find-warning.ensures ∙ ap (λ st. warning_of st c.args.n) c.book-book.ensures in
     let kinds : c.kind_in-kind.result ≡ kind_in (warning_of p.book c.args.n) = c.kind_in-kind.ensures ∙ ap kind_in there in

@@ -9,14 +9,16 @@ use Rattle.centre_lines.specs.Walking.{Walks, walked}
 use Rattle.centre_lines.proofs.WalkLemmas.{all_walked, flat_more, flat_parted, goes_on, went_on}
 use Rattle.centre_lines.proofs.walking.walk_named.Goals as goal
 
-pub walk_spot-requires-clause-walks : goal.walk_spot-requires-clause-walks
-walk_spot-requires-clause-walks c =
+pub walk_spot-requires : goal.walk_spot-requires
+walk_spot-requires c =
     let h : Happens = happens c.args.h.now in
     let at : Spot → List LineKey = λ p. map (key_at p) c.args.warnings.now in
     let i = c.loop-spot.spot-index in
-    subst (λ (p : State). Walks p h c.loop-spot.tables (at c.spot-item.result)) (sym c.loop-spot.invariant.same)
-    (goes_on c.requires.walks c.loop-spot.tables (keys_of (take i c.args.spots.now) c.args.warnings.now) (at c.spot-item.result) (keys_of (drop (i + 1) c.args.spots.now) c.args.warnings.now)
-    (flat_parted at c.args.spots.now i c.spot-item.result c.loop-spot-test.true c.spot-item.is) c.loop-spot.invariant.downs (c.loop-spot.invariant.walked c.requires.walks))
+    record {
+      walks = subst (λ (p : State). Walks p h c.loop-spot.tables (at c.spot-item.result)) (sym c.loop-spot.invariant.same)
+          (goes_on c.requires.walks c.loop-spot.tables (keys_of (take i c.args.spots.now) c.args.warnings.now) (at c.spot-item.result) (keys_of (drop (i + 1) c.args.spots.now) c.args.warnings.now)
+          (flat_parted at c.args.spots.now i c.spot-item.result c.loop-spot-test.true c.spot-item.is) c.loop-spot.invariant.downs (c.loop-spot.invariant.walked c.requires.walks));
+    }
 
 pub loop-spot-preserved : goal.loop-spot-preserved
 loop-spot-preserved c =

@@ -4,7 +4,6 @@ use Rattle.kept_tables.specs.Consistent.{Consistent}
 use Rattle.kept_tables.specs.View.{key_at}
 use Rattle.mirror.specs.declared.line_key.LineKey.{LineKey}
 use Rattle.centre_lines.specs.Following.{Happens, happens}
-use Rattle.centre_lines.specs.Found.{IsKnown}
 use Rattle.centre_lines.specs.Walking.{Walks, walked}
 use Rattle.centre_lines.proofs.MakingLemmas.{one_more, parted}
 use Rattle.centre_lines.proofs.WalkLemmas.{all_walked, goes_on, went_on}
@@ -13,9 +12,8 @@ use Rattle.centre_lines.proofs.walking.walk_spot.Goals as goal
 pub walk_line-requires : goal.walk_line-requires
 walk_line-requires c =
     let h : Happens = happens c.args.h.now in
-    let at = key_at c.args.at.now.spot in
+    let at = key_at c.args.spot.now in
     record {
-      known = subst (λ (p : State). IsKnown p.areas c.args.at.now) (sym c.loop-warning.invariant.same) c.requires.known;
       walks = subst (λ (p : State). Walks p h c.loop-warning.tables (at c.warning-item.result ∷ [])) (sym c.loop-warning.invariant.same)
           (goes_on c.requires.walks c.loop-warning.tables (map at (take c.loop-warning.warning-index c.args.warnings.now)) (at c.warning-item.result ∷ []) (map at (drop (c.loop-warning.warning-index + 1) c.args.warnings.now))
           (parted at c.args.warnings.now c.loop-warning.warning-index c.warning-item.result c.loop-warning-test.true c.warning-item.is) c.loop-warning.invariant.downs (c.loop-warning.invariant.walked c.requires.walks));
@@ -24,7 +22,7 @@ walk_line-requires c =
 pub loop-warning-preserved : goal.loop-warning-preserved
 loop-warning-preserved c =
     let h : Happens = happens c.args.h.now in
-    let at = key_at c.args.at.now.spot in
+    let at = key_at c.args.spot.now in
     let i = c.loop-warning.warning-index in
     let done : List LineKey = map at (take i c.args.warnings.now) in
     record {
@@ -41,4 +39,4 @@ loop-warning-preserved c =
 
 pub returns-clause-walked : goal.returns-clause-walked
 returns-clause-walked c =
-    λ x. all_walked x c.loop-warning.tables (map (key_at c.args.at.now.spot)) c.args.warnings.now c.loop-warning.warning-index (omega (arith, c.loop-warning-test.false)) (c.loop-warning.invariant.walked x)
+    λ x. all_walked x c.loop-warning.tables (map (key_at c.args.spot.now)) c.args.warnings.now c.loop-warning.warning-index (omega (arith, c.loop-warning-test.false)) (c.loop-warning.invariant.walked x)
