@@ -177,6 +177,18 @@ centre_after {settings} {xs} {now} {stale} {b} {t} sound same_folded same reads 
     subst (λ fs. IsCentre settings fs now stale b t) (sym same_folded)
     (subst (λ js. IsCentre settings xs js stale b t) (sym same) (centre_reads sound reads))
 
+-- where the base is copied, it stays what the folded entries come to
+pub centre_based : {settings : Settings} {xs ys folded now : List Entry} {stale : Bool} {b base s : Kept} → IsCentre settings xs ys stale b s → folded ≡ xs → now ≡ ys → ((past : Past) → IsKept past b → IsKept past base) → IsCentre settings folded now stale base s
+centre_based {settings} {xs} {ys} {now} {stale} {base} {s} sound same_folded same copied =
+    subst (λ fs. IsCentre settings fs now stale base s) (sym same_folded)
+    (subst (λ js. IsCentre settings xs js stale base s) (sym same) (record { few = sound.few; long = sound.long; legal = sound.legal; base = copied (past_of xs) sound.base; whole = sound.whole }))
+
+-- what is made anew is whole
+pub centre_rebuilt : {settings : Settings} {xs ys folded now : List Entry} {stale : Bool} {b base s t : Kept} → IsCentre settings xs ys stale b s → folded ≡ xs → now ≡ ys → ((past : Past) → IsKept past b → IsKept past base) → IsKept (past_of (xs ++ ys)) t → IsCentre settings folded now false base t
+centre_rebuilt {settings} {xs} {ys} {now} {base} {t} sound same_folded same copied kept =
+    subst (λ fs. IsCentre settings fs now false base t) (sym same_folded)
+    (subst (λ js. IsCentre settings xs js false base t) (sym same) (record { few = sound.few; long = sound.long; legal = sound.legal; base = copied (past_of xs) sound.base; whole = λ h. kept }))
+
 -- where memory runs out while an event is entered
 pub centre_stale : {settings : Settings} {xs ys folded now : List Entry} {stale : Bool} {b s t : Kept} → IsCentre settings xs ys stale b s → folded ≡ xs → now ≡ ys → IsCentre settings folded now true b t
 centre_stale {settings} {xs} {now} {b} {t} sound same_folded same =

@@ -1,6 +1,6 @@
 -- The lines that are read or set where what is kept is made anew.
 use Rattle.std.specs.Prelude.{OnOk, Some, slice_get}
-use Rattle.std.proofs.Common.{◌≡◌, ℕ, ◌+◌, ◌-◌, ◌*◌, ◌≤◌, ◌++◌, List, Result, Ok, Err, sym, ap, subst, length, take, arith}
+use Rattle.std.proofs.Common.{◌≡◌, ℕ, ◌+◌, ◌-◌, ◌*◌, ◌≤◌, List, Result, Ok, Err, sym, ap, subst, length, take, arith}
 use Rattle.kept_tables.specs.declared.spot.Spot.{Spot}
 use Rattle.coverage_plan.specs.declared.edit.Edit.{Edit}
 use Rattle.coverage_plan.specs.Edited.{edited}
@@ -17,10 +17,9 @@ use Rattle.centre_past.specs.declared.kept.Kept.{Kept}
 use Rattle.centre_past.proofs.UniqueLemmas.{verdict_answered}
 use Rattle.centre_lines.specs.Following.{Follows, IsLegal, WasReached, most_accesses}
 use Rattle.centre_lines.specs.declared.lines_before.LinesBefore.{LinesBefore}
-use Rattle.centre_core.specs.Centre.{all_reach, past_over}
+use Rattle.centre_core.specs.Centre.{all_reach}
 use Rattle.centre_core.proofs.CentreLemmas.{edit_counted, other_counted}
-use Rattle.centre_core.proofs.FoldedLemmas.{all_reach_over}
-use Rattle.centre_core.proofs.RebuildLemmas.{Here, here, past_here, take_folded, take_whole}
+use Rattle.centre_core.proofs.RebuildLemmas.{Here, here, past_here}
 
 -- how often lines were read or set
 abbrev meter_of : Kept → ℕ
@@ -44,29 +43,30 @@ other_metered r new e place spots earlier (Ok u) reached now = λ x.
     let few : most_accesses e.event e.answer r.plan.book spots earlier ≤ 3 * size (reach_of x.past e.event e.answer) = other_counted x.past e.event e.answer r.plan.book spots earlier x.kept.booked (reached x.settings x.past x.legal x.kept accepted) in
     omega (arith, few, now)
 
--- The walk over the journal, one entry further. What is counted of the folded entries is left out.
+-- The walk over the journal, one entry further.
 
-further : (past : Past) (e : Entry) (less old new : ℕ) → new ≤ old + 4 * size (reach_of past e.event e.answer) → old + less ≤ 4 * all_reach past → new + less ≤ 4 * all_reach (After e past)
-further past e less old new step before = omega (arith, step, before)
+further : (past : Past) (e : Entry) (old new : ℕ) → new ≤ old + 4 * size (reach_of past e.event e.answer) → new + 4 * all_reach past ≤ old + 4 * all_reach (After e past)
+further past e old new step = omega (arith, step)
 
-pub metered_more : {E : Type 0} (journal : List Entry) (x : IsLegal journal) (place : ℕ) (e : Entry) (less : ℕ) (s new : Kept) (o : Result Unit E) → 1 ≤ place → place ≤ length journal → Some e ≡ slice_get journal (place - 1) → IsKept (past_of (take (place - 1) journal)) s → OnOk o ((y : Follows s e place) → meter_of new ≤ meter_of s + 4 * size (reach_of y.past e.event e.answer)) → OnOk o (meter_of s + less ≤ 4 * all_reach (past_of (take (place - 1) journal)) → meter_of new + less ≤ 4 * all_reach (past_of (take place journal)))
-metered_more journal x place e less s new (Err u) first last is kept f = tt
-metered_more journal x place e less s new (Ok u) first last is kept f = λ before.
+pub metered_more : {E : Type 0} (journal : List Entry) (x : IsLegal journal) (place : ℕ) (e : Entry) (s new : Kept) (o : Result Unit E) → 1 ≤ place → place ≤ length journal → Some e ≡ slice_get journal (place - 1) → IsKept (past_of (take (place - 1) journal)) s → OnOk o ((y : Follows s e place) → meter_of new ≤ meter_of s + 4 * size (reach_of y.past e.event e.answer)) → OnOk o (meter_of new + 4 * all_reach (past_of (take (place - 1) journal)) ≤ meter_of s + 4 * all_reach (past_of (take place journal)))
+metered_more journal x place e s new (Err u) first last is kept f = tt
+metered_more journal x place e s new (Ok u) first last is kept f =
     let found : Here s e (past_of (take (place - 1) journal)) place = here journal x place e s first last is kept in
-    subst (λ p. meter_of new + less ≤ 4 * all_reach p) (sym (past_here journal place e first last is))
-    (further (past_of (take (place - 1) journal)) e less (meter_of s) (meter_of new) (subst (λ p. meter_of new ≤ meter_of s + 4 * size (reach_of p e.event e.answer)) found.is_past (f found.follows)) before)
+    subst (λ p. meter_of new + 4 * all_reach (past_of (take (place - 1) journal)) ≤ meter_of s + 4 * all_reach p) (sym (past_here journal place e first last is))
+    (further (past_of (take (place - 1) journal)) e (meter_of s) (meter_of new) (subst (λ p. meter_of new ≤ meter_of s + 4 * size (reach_of p e.event e.answer)) found.is_past (f found.follows)))
 
--- the meter, where the journal is the same
-pub metered_before : (xs ys folded now : List Entry) (done : ℕ) (s : Kept) → folded ≡ xs → now ≡ ys → meter_of s + 4 * all_reach (past_of xs) ≤ 4 * all_reach (past_of (take done (xs ++ ys))) → meter_of s + 4 * all_reach (past_of folded) ≤ 4 * all_reach (past_of (take (done + 1 - 1) (folded ++ now)))
-metered_before xs ys folded now done s same_folded same metered =
-    let back : done + 1 - 1 ≡ done = omega arith in
-    subst (λ n. meter_of s + 4 * all_reach (past_of folded) ≤ 4 * all_reach (past_of (take n (folded ++ now)))) (sym back)
-    (subst (λ fs. meter_of s + 4 * all_reach (past_of fs) ≤ 4 * all_reach (past_of (take done (fs ++ now)))) (sym same_folded)
-    (subst (λ js. meter_of s + 4 * all_reach (past_of xs) ≤ 4 * all_reach (past_of (take done (xs ++ js)))) (sym same) metered))
+-- Where the count of lines begins later than the meter.
 
--- the meter of a copy of the base, and of what is kept of all
-pub metered_first : (xs ys : List Entry) (s : Kept) → meter_of s ≡ 0 → meter_of s + 4 * all_reach (past_of xs) ≤ 4 * all_reach (past_of (take (length xs) (xs ++ ys)))
-metered_first xs ys s none = omega (arith, none, ap all_reach (take_folded xs ys))
+pub lines_most : (begun : ℕ) {old new most : ℕ} → new ≤ old + most → new - begun ≤ old - begun + most
+lines_most begun {old} {new} {most} h = omega (arith, h)
 
-pub metered_last : (xs ys : List Entry) (s : Kept) → meter_of s + 4 * all_reach (past_of xs) ≤ 4 * all_reach (past_of (take (length xs + length ys) (xs ++ ys))) → meter_of s ≤ 4 * all_reach (past_over xs ys)
-metered_last xs ys s h = omega (arith, h, ap all_reach (take_whole xs ys), all_reach_over xs ys)
+pub lines_least : (begun : ℕ) {old new : ℕ} → old ≤ new → old - begun ≤ new - begun
+lines_least begun {old} {new} h = omega (arith, h)
+
+-- what a checkpoint counts isn't among the lines
+pub lines_stay : (begun old new : ℕ) → old ≤ new → new - (new - (old - begun)) ≡ old - begun
+lines_stay begun old new h = omega (arith, h)
+
+-- a rebuild's lines are those since the copy of the base
+pub lines_since : {begun new most : ℕ} → new ≤ begun + most → new - begun ≤ most
+lines_since {begun} {new} {most} h = omega (arith, h)

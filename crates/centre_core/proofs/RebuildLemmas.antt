@@ -196,23 +196,21 @@ take_whole xs ys = ap (λ zs. past_of zs) (take_all (length xs + length ys) (xs 
 
 -- How many lines were read or set.
 
-pub metered_more : (xs ys folded now : List Entry) (done old new : ℕ) → folded ≡ xs → now ≡ ys → old + 4 * all_reach (past_of xs) ≤ 4 * all_reach (past_of (take done (xs ++ ys))) → (old + 4 * all_reach (past_of folded) ≤ 4 * all_reach (past_of (take (done + 1 - 1) (folded ++ now))) → new + 4 * all_reach (past_of folded) ≤ 4 * all_reach (past_of (take (done + 1) (folded ++ now)))) → new + 4 * all_reach (past_of xs) ≤ 4 * all_reach (past_of (take (done + 1) (xs ++ ys)))
-metered_more xs ys folded now done old new same_folded same within more =
+pub metered_more : (xs ys folded now : List Entry) (done begun old new : ℕ) → folded ≡ xs → now ≡ ys → old + 4 * all_reach (past_of xs) ≤ begun + 4 * all_reach (past_of (take done (xs ++ ys))) → new + 4 * all_reach (past_of (take (done + 1 - 1) (folded ++ now))) ≤ old + 4 * all_reach (past_of (take (done + 1) (folded ++ now))) → new + 4 * all_reach (past_of xs) ≤ begun + 4 * all_reach (past_of (take (done + 1) (xs ++ ys)))
+metered_more xs ys folded now done begun old new same_folded same within more =
     let joined : folded ++ now ≡ xs ++ ys = ap (λ fs. fs ++ now) same_folded ∙ ap (λ js. xs ++ js) same in
     let back : done + 1 - 1 ≡ done = omega arith in
-    let base : all_reach (past_of folded) ≡ all_reach (past_of xs) = ap (λ fs. all_reach (past_of fs)) same_folded in
     let before : all_reach (past_of (take (done + 1 - 1) (folded ++ now))) ≡ all_reach (past_of (take done (xs ++ ys))) = ap (λ n. all_reach (past_of (take n (folded ++ now)))) back ∙ ap (λ es. all_reach (past_of (take done es))) joined in
     let after : all_reach (past_of (take (done + 1) (folded ++ now))) ≡ all_reach (past_of (take (done + 1) (xs ++ ys))) = ap (λ es. all_reach (past_of (take (done + 1) es))) joined in
-    let given : new + 4 * all_reach (past_of folded) ≤ 4 * all_reach (past_of (take (done + 1) (folded ++ now))) = more (omega (arith, within, base, before)) in
-    omega (arith, given, base, after)
+    omega (arith, within, more, before, after)
 
-pub metered_first : (xs ys : List Entry) (done meter : ℕ) → done ≡ length xs → meter ≡ 0 → meter + 4 * all_reach (past_of xs) ≤ 4 * all_reach (past_of (take done (xs ++ ys)))
-metered_first xs ys done meter at none =
+pub metered_first : (xs ys : List Entry) (done begun meter : ℕ) → done ≡ length xs → meter ≡ begun → meter + 4 * all_reach (past_of xs) ≤ begun + 4 * all_reach (past_of (take done (xs ++ ys)))
+metered_first xs ys done begun meter at same =
     let here : all_reach (past_of (take done (xs ++ ys))) ≡ all_reach (past_of xs) = ap (λ n. all_reach (past_of (take n (xs ++ ys)))) at ∙ ap all_reach (take_folded xs ys) in
-    omega (arith, none, here)
+    omega (arith, same, here)
 
-pub metered_last : (xs ys : List Entry) (done meter : ℕ) → done ≡ length xs + length ys → meter + 4 * all_reach (past_of xs) ≤ 4 * all_reach (past_of (take done (xs ++ ys))) → meter ≤ 4 * all_reach (past_over xs ys)
-metered_last xs ys done meter at within =
+pub metered_last : (xs ys : List Entry) (done begun meter : ℕ) → done ≡ length xs + length ys → meter + 4 * all_reach (past_of xs) ≤ begun + 4 * all_reach (past_of (take done (xs ++ ys))) → meter ≤ begun + 4 * all_reach (past_over xs ys)
+metered_last xs ys done begun meter at within =
     let here : all_reach (past_of (take done (xs ++ ys))) ≡ all_reach (past_of (xs ++ ys)) = ap (λ n. all_reach (past_of (take n (xs ++ ys)))) at ∙ ap all_reach (take_whole xs ys) in
     omega (arith, within, here, all_reach_over xs ys)
 

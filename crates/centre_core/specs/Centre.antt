@@ -18,6 +18,11 @@ use Rattle.centre_events.specs.declared.settings.Settings.{Settings}
 abbrev pub past_over : List Entry → List Entry → Past
 past_over folded journal = since (base_of (past_of folded)) (reverse journal)
 
+-- what the base of a centre holds: what the folded entries come to, and the count with which that of lines begins
+pub record BaseState : Type 0 where
+  pub kept : Kept
+  pub begun : ℕ
+
 -- The entries that were folded and then those of the journal are legal over the empty base, and what is kept is what they
 -- come to.
 pub record IsWhole (network : List ℕ) (folded journal : List Entry) (s : Kept) : Type 0 where

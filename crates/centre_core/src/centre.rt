@@ -1,5 +1,6 @@
 //! The centre: its journal, what is kept beside it, and the questions that are answered from there.
 
+use crate::base::Base;
 use crate::before_entry::BeforeEntry;
 use crate::entering::{enter, make, with_entry};
 use crate::journal::{Journal, tell_over};
@@ -34,9 +35,8 @@ use warning_book::WarningId;
 
 /// A cell broadcast centre. Contracts see its settings, which are its network and the greatest number of entries of its
 /// journal, the entries that were folded away and its journal, the oldest entry first in both, whether it is stale, how
-/// often its lines were read or set, and how often entries of its journal were read.
-///
-/// `checkpoint` folds the entries of the journal into a base: what they come to is kept a second time, and they are let go.
+/// often its lines were read or set, how often entries of its journal were read, and what is counted apart. `checkpoint`
+/// folds the entries of the journal into a base: what they come to is kept a second time, and they are let go.
 ///
 /// A centre is stale after memory ran out while an event was entered: its base and its journal are as they were, and what
 /// is kept beside them is of no use until `rebuild` made it anew. While it is stale, every call but `position`, `entry`,
@@ -44,7 +44,7 @@ use warning_book::WarningId;
 pub struct Centre {
     alloc: Global,
     settings: Settings,
-    base: Kept,
+    base: Base,
     journal: Journal,
     stale: bool,
     kept: Kept,
@@ -65,14 +65,15 @@ impl Drop for Centre {
 }
 
 impl Model for Centre {
+    ghost use Rattle.std.specs.Prelude.{◌+◌, ◌-◌};
     ghost use Rattle.centre_past.specs.Legal.{CentreState};
     ghost use Rattle.centre_core.specs.Centre.{IsCentre};
 
     ghost Value = { CentreState };
 
-    ghost view = { λ c. record { known = record { settings = c.settings; folded = c.journal.folded; journal = c.journal.entries; stale = c.stale }; lines = c.kept.tables.lines.meter; entries = c.journal.reads } };
+    ghost view = { λ c. record { known = record { settings = c.settings; folded = c.journal.folded; journal = c.journal.entries; stale = c.stale }; lines = c.kept.tables.lines.meter - c.base.begun; entries = c.journal.reads; apart = c.base.begun + c.base.kept.tables.lines.meter } };
 
-    ghost invariant = { λ c. IsCentre c.settings c.journal.folded c.journal.entries c.stale c.base c.kept };
+    ghost invariant = { λ c. IsCentre c.settings c.journal.folded c.journal.entries c.stale c.base.kept c.kept };
 }
 
 impl Centre {
@@ -106,7 +107,7 @@ impl Centre {
     /// A centre of the network, without entries, whose journal holds so many at most.
     pub fn new(alloc: Global, plmn: [u8; 3], journal_limit: u32) -> Centre
         requires { journal_limit ≤ 4000000 }
-        ensures { result ≡ record { known = new_centre plmn journal_limit; lines = 0; entries = 0 } }
+        ensures { result ≡ record { known = new_centre plmn journal_limit; lines = 0; entries = 0; apart = 0 } }
     {
         Centre {
             alloc,
@@ -114,7 +115,7 @@ impl Centre {
                 network: plmn,
                 limit: journal_limit,
             },
-            base: Kept::new(alloc),
+            base: Base::new(alloc),
             journal: Journal::new(alloc),
             stale: false,
             kept: Kept::new(alloc),
@@ -132,6 +133,7 @@ impl Centre {
         ensures lines { self.new.lines ≤ self.old.lines + 4 * reach (past self.old.known) (event.Edit edit) (verdict self.old.known.settings (past self.old.known) (event.Edit edit)) }
         ensures least { self.old.lines ≤ self.new.lines }
         ensures entries { self.new.entries ≡ self.old.entries }
+        ensures apart { self.new.apart ≡ self.old.apart }
     {
         let reached = prepare_edit(
             self.alloc,
@@ -166,6 +168,7 @@ impl Centre {
         ensures lines { self.new.lines ≤ self.old.lines + 4 * reach (past self.old.known) event (verdict self.old.known.settings (past self.old.known) event) }
         ensures least { self.old.lines ≤ self.new.lines }
         ensures entries { self.new.entries ≡ self.old.entries }
+        ensures apart { self.new.apart ≡ self.old.apart }
     {
         let found = match prepare_other(
             self.alloc,
@@ -212,6 +215,7 @@ impl Centre {
         ensures lines { self.new.lines ≤ self.old.lines + 4 * reach (past self.old.known) event (verdict self.old.known.settings (past self.old.known) event) }
         ensures least { self.old.lines ≤ self.new.lines }
         ensures entries { self.new.entries ≡ self.old.entries }
+        ensures apart { self.new.apart ≡ self.old.apart }
     {
         self.tell_soundness();
         if self.stale {
@@ -231,26 +235,25 @@ impl Centre {
         self.stale
     }
 
-    /// Makes what is kept beside the journal anew from the base and its entries, each of which is read once, which makes a
-    /// stale centre whole. The count of lines begins at 0 again: it is that of the lines that were read or set to make them anew, at most
-    /// four times those on which the entries bear. The count of entries goes on. Where memory runs out the centre is as it
-    /// was, but for the entries that were read.
+    /// Makes what is kept beside the journal anew from the base and the entries, and so a stale centre whole. Each entry is
+    /// read once. The count of lines begins again, at most four for each on which the entries bear; that of entries goes on.
+    /// The copy of the base is counted apart. Where memory runs out the centre is as it was, but for reads and that copy.
     pub fn rebuild(&mut self) -> Result<(), AllocError>
         ensures rebuilt { OnOk result (self.new.known ≡ record self.old.known { stale = false }) }
-        ensures unchanged { OnErr result (self.new ≡ record self.old { entries = self.new.entries }) }
+        ensures unchanged { OnErr result (self.new ≡ record self.old { entries = self.new.entries; apart = self.new.apart }) }
         ensures entries { OnOk result (self.new.entries ≡ counted_by (length self.old.known.journal) self.old.entries) }
         ensures most { OnErr result (self.new.entries ≤ counted_by (length self.old.known.journal) self.old.entries) }
         ensures lines { OnOk result (self.new.lines ≤ 4 * all_reach (past self.old.known)) }
     {
-        let kept = kept_of(self.alloc, &self.base, &mut self.journal)?;
+        let kept = kept_of(self.alloc, &mut self.base, &mut self.journal)?;
         self.kept = kept;
+        self.base.begin();
         self.stale = false;
         Ok(())
     }
 
-    /// Folds the entries of the journal, and answers how many there were. What they come to becomes the base, in memory of
-    /// its own, and their memory is given back. Every question is answered as before, and so is every event but where the
-    /// journal was full. Places go on. `Stale`, then `Memory`; after these the centre is as it was.
+    /// Folds the entries of the journal into the base, gives their memory back, and answers how many there were. Questions are
+    /// answered as before, and events but where the journal was full. `Stale`, then `Memory`: then nothing has changed.
     pub fn checkpoint(&mut self) -> Result<u64, Refusal>
         ensures folded { IfOk result (λ n. (n ≡ length self.old.known.journal) × (self.new.known ≡ record self.old.known { folded = all_entries self.old.known; journal = [] })) }
         ensures same { OnOk result (base_of (past self.new.known) ≡ base_of (past self.old.known)) }
@@ -264,28 +267,26 @@ impl Centre {
         if self.stale {
             return Err(Refusal::Stale);
         }
-        let base = self.kept.copied(self.alloc)?;
+        self.base.fold(self.alloc, &mut self.kept)?;
         let count = self.journal.len();
-        self.base = base;
         self.journal.clear(self.alloc);
         Ok(count)
     }
 
-    /// How often lines were read or set since the centre was made or rebuilt, and how often entries were read since it was
-    /// made, each up to the greatest value, which stays.
+    /// How often lines were read or set since the centre was made or rebuilt, without what is counted apart, and how often
+    /// entries were read since it was made. At its greatest value a count stays.
     pub fn meter(&self) -> Meter
         ensures lines { result.lines ≡ self.now.lines }
         ensures entries { result.entries ≡ self.now.entries }
     {
         Meter {
-            lines: self.kept.tables.meter(),
+            lines: self.base.lines_of(&self.kept),
             entries: self.journal.entries(),
         }
     }
 
-    /// The pending orders of the BSC: writes and replaces before kills, then by message identifier, serial number and
-    /// the serial number that is replaced, none first. `Stale`, then `NoSuchBsc`, then `Memory`, which comes only where an
-    /// order is pending.
+    /// The pending orders of the BSC: writes and replaces before kills, then by message identifier, serial number and that
+    /// which is replaced, none first. `Stale`, `NoSuchBsc`, then `Memory`, which comes only where an order is pending.
     pub fn pending_of(&self, b: BscId) -> Result<Orders, Refusal>
         ensures orders { IfOk result (λ orders. (orders ≡ pending (past self.now.known) b) × (is_bsc (past self.now.known) b ≡ true)) }
         ensures whole { OnOk result (self.now.known.stale ≡ false) }
@@ -353,6 +354,7 @@ impl Centre {
         ensures refusal { IfErr result (λ r. ((r ≡ Refusal.Stale) × (self.old.known.stale ≡ true)) ⊎ ((self.old.known.stale ≡ false) × (((r ≡ Refusal.Memory) × (is_bsc (past self.old.known) b ≡ true)) ⊎ ((r ≡ Refusal.NoSuchBsc) × (is_bsc (past self.old.known) b ≡ false))))) }
         ensures unchanged { self.new.known ≡ self.old.known }
         ensures entries { self.new.entries ≡ self.old.entries }
+        ensures apart { self.new.apart ≡ self.old.apart }
         ensures least { self.old.lines ≤ self.new.lines }
     {
         if self.stale {
@@ -452,8 +454,7 @@ impl Centre {
         Ok(lists::named_areas::areas(self.alloc, self.kept.plan.areas())?)
     }
 
-    /// The selectors of the area, by location area; the whole of one comes before the cells in it. `Stale`, then
-    /// `NoSuchArea`, then `Memory`.
+    /// The selectors of the area, by location area, the whole of it first. `Stale`, then `NoSuchArea`, then `Memory`.
     pub fn selectors_of(&self, area: &Name) -> Result<Selectors, Refusal>
         ensures selectors { IfOk result (λ all. (all ≡ area_selectors (past self.now.known) area.now) × (is_area (past self.now.known) area.now ≡ true)) }
         ensures whole { OnOk result (self.now.known.stale ≡ false) }
@@ -518,6 +519,7 @@ impl Centre {
         ensures refusal { IfErr result (λ r. ((r ≡ Refusal.Stale) × (self.old.known.stale ≡ true)) ⊎ ((self.old.known.stale ≡ false) × (((r ≡ Refusal.Memory) × IsSome (failed_of (past self.old.known) number)) ⊎ ((r ≡ Refusal.NoSuchWarning) × (failed_of (past self.old.known) number ≡ None))))) }
         ensures unchanged { self.new.known ≡ self.old.known }
         ensures entries { self.new.entries ≡ self.old.entries }
+        ensures apart { self.new.apart ≡ self.old.apart }
         ensures least { self.old.lines ≤ self.new.lines }
     {
         if self.stale {
@@ -543,9 +545,8 @@ impl Centre {
         }
     }
 
-    /// The registered cells in which the warning failed, in ascending order, as many as the board's number says: of each its
-    /// BSC, and whether it is down there, or with which cause the BSC refused the order (TS 48.049, 8.2.13). `Stale`, then
-    /// `NoSuchWarning`, then `Memory`. Lines that are read are counted.
+    /// The registered cells in which the warning failed, in order, as many as the board says: of each its BSC, and whether it
+    /// is down there, or with which cause the BSC refused (TS 48.049, 8.2.13). `Stale`, `NoSuchWarning`, then `Memory`.
     pub fn failed_of(&mut self, number: WarningId) -> Result<FailedRows, Refusal>
         ensures rows { IfOk result (λ rows. failed_of (past self.old.known) number ≡ Some rows) }
         ensures count { IfOk result (λ rows. IfSome (board (past self.old.known) number) (λ n. length rows ≡ n.failed)) }
@@ -553,6 +554,7 @@ impl Centre {
         ensures refusal { IfErr result (λ r. ((r ≡ Refusal.Stale) × (self.old.known.stale ≡ true)) ⊎ ((self.old.known.stale ≡ false) × (((r ≡ Refusal.Memory) × IsSome (failed_of (past self.old.known) number)) ⊎ ((r ≡ Refusal.NoSuchWarning) × (failed_of (past self.old.known) number ≡ None))))) }
         ensures unchanged { self.new.known ≡ self.old.known }
         ensures entries { self.new.entries ≡ self.old.entries }
+        ensures apart { self.new.apart ≡ self.old.apart }
         ensures least { self.old.lines ≤ self.new.lines }
     {
         tell_over(&self.journal);
@@ -570,9 +572,8 @@ impl Centre {
         Some(lists::counts::plan_counts(&self.kept))
     }
 
-    /// How the centre stands: how many entries there are since the beginning, how many of them were folded, how many the
-    /// journal may have, whether the centre is stale, and, where it isn't, how many there are of each thing. It takes no
-    /// memory, and is told of a stale centre too.
+    /// How the centre stands: how many entries there were, how many of them were folded, how many the journal may have,
+    /// whether it is stale, and, where it isn't, how many there are of each thing. It takes no memory; never `Stale`.
     pub fn status(&self) -> CentreStatus
         ensures { result ≡ status self.now.known }
     {
@@ -592,8 +593,7 @@ impl Centre {
         self.journal.position()
     }
 
-    /// Whether the journal has as many entries as it may, or the last position is reached: every event is refused then, by
-    /// `JournalFull` where the centre is whole.
+    /// Whether the journal is full, or the last position reached: a whole centre refuses every event then, by `JournalFull`.
     pub fn is_full(&self) -> bool
         ensures { result ≡ is_full self.now.known.settings (past self.now.known) }
     {

@@ -7,6 +7,7 @@
 //! a centre and what it answers is exported from here too.
 #![tactic(auto)]
 
+mod base;
 mod before_entry;
 pub mod centre;
 mod entering;

@@ -7,10 +7,11 @@ ghost use Rattle.centre_past.specs.IsKept.{IsKept};
 ghost use Rattle.centre_core.specs.Centre.{all_reach, past_over};
 ghost use Rattle.centre_core.specs.Journal.{counted_by};
 ghost use Rattle.centre_events.specs.Kept.{is_edit};
-ghost use Rattle.centre_events.specs.Past.{After, past_of};
+ghost use Rattle.centre_events.specs.Past.{After, Past, past_of};
 ghost use Rattle.centre_past.specs.Reach.{reach_of, size};
 ghost use Rattle.centre_events.specs.declared.event.Event.TheVariants as event;
 
+use crate::base::Base;
 use crate::before_entry::BeforeEntry;
 use crate::entering::make_again;
 use crate::finishing::finish;
@@ -87,7 +88,7 @@ fn follow_next(
     requires legal { IsLegal (journal.old.folded ++ journal.old.entries) }
     requires kept { IsKept (past_of (take (place - 1) (journal.old.folded ++ journal.old.entries))) kept.old }
     ensures kept { OnOk result (IsKept (past_of (take place (journal.old.folded ++ journal.old.entries))) kept.new) }
-    ensures meter { OnOk result (kept.old.tables.lines.meter + 4 * all_reach (past_of journal.old.folded) ≤ 4 * all_reach (past_of (take (place - 1) (journal.old.folded ++ journal.old.entries))) → kept.new.tables.lines.meter + 4 * all_reach (past_of journal.old.folded) ≤ 4 * all_reach (past_of (take place (journal.old.folded ++ journal.old.entries)))) }
+    ensures meter { OnOk result (kept.new.tables.lines.meter + 4 * all_reach (past_of (take (place - 1) (journal.old.folded ++ journal.old.entries))) ≤ kept.old.tables.lines.meter + 4 * all_reach (past_of (take place (journal.old.folded ++ journal.old.entries)))) }
     ensures read { journal.new ≡ record journal.old { reads = counted journal.old.reads } }
 {
     match journal.read(place) {
@@ -96,13 +97,20 @@ fn follow_next(
     }
 }
 
-/// What the entries of a legal journal come to, with a meter that begins at 0. It begins with a copy of the base, which is
-/// what those come to that were folded away. Each of the others is read once, or at most once where memory runs out.
-pub(crate) fn kept_of(alloc: Global, base: &Kept, journal: &mut Journal) -> Result<Kept, AllocError>
+/// What the entries of a legal journal come to, with a meter that begins as that of the base. It begins with a copy of the
+/// base, which is what those come to that were folded away; the base counts each line that is copied. Each of the others is
+/// read once, or at most once where memory runs out.
+pub(crate) fn kept_of(
+    alloc: Global,
+    base: &mut Base,
+    journal: &mut Journal,
+) -> Result<Kept, AllocError>
     requires legal { IsLegal (journal.old.folded ++ journal.old.entries) }
-    requires base { IsKept (past_of journal.old.folded) base.now }
+    requires base { IsKept (past_of journal.old.folded) base.old.kept }
     ensures kept { IfOk result (IsKept (past_of (journal.old.folded ++ journal.old.entries))) }
-    ensures meter { IfOk result (λ kept. kept.tables.lines.meter ≤ 4 * all_reach (past_over journal.old.folded journal.old.entries)) }
+    ensures meter { IfOk result (λ kept. kept.tables.lines.meter ≤ base.new.kept.tables.lines.meter + 4 * all_reach (past_over journal.old.folded journal.old.entries)) }
+    ensures base { (past : Past) → IsKept past base.old.kept → IsKept past base.new.kept }
+    ensures begun { base.new.begun ≡ base.old.begun }
     ensures folded { journal.new.folded ≡ journal.old.folded }
     ensures entries { journal.new.entries ≡ journal.old.entries }
     ensures reads { OnOk result (journal.new.reads ≡ counted_by (length journal.old.entries) journal.old.reads) }

@@ -1,5 +1,5 @@
 -- The causes of each event stand in order, the first of them that holds refuses it, and the plan's are the centre's.
-use Rattle.std.proofs.Common.{◌≡◌, ℕ, ◌+◌, Bool, true, false, ◌&&◌, not, List, [], ◌∷◌, ◌++◌, Option, Some, None, Result, Ok, Err, arith, refl, sym, ◌∙◌, ap, subst}
+use Rattle.std.proofs.Common.{◌≡◌, ℕ, ◌+◌, ◌*◌, ◌≤◌, Bool, true, false, ◌&&◌, ◌||◌, not, nat_eq, ltb, List, [], ◌∷◌, ◌++◌, Option, Some, None, Result, Ok, Err, arith, refl, sym, ◌∙◌, ap, ap₂, subst}
 use Rattle.std.specs.Prelude.{IsOk}
 use Rattle.std.proofs.lemmas.Bool.{and_parts, and_from}
 use Rattle.std.proofs.lemmas.Bool.Decides.{nat_tests}
@@ -36,7 +36,7 @@ use Rattle.centre_events.specs.declared.refusal.Refusal.TheVariants as refusal
 use Rattle.centre_events.specs.declared.settings.Settings.{Settings}
 use Rattle.centre_past.proofs.EditCauseLemmas.{Decides, decides_before, decides, done, edit_decides, not_ok, none_of}
 use Rattle.centre_past.specs.VerdictLaws.{is_given, is_of_event, verdict_given}
-use Rattle.centre_laws.specs.Causes.{limit_place, is_smaller, comes_before, stands_before, is_empty, asks_no_cell, asks_none_of, asks_nothing, event_causes, causes_of, comes_no_earlier, IsLeastCause}
+use Rattle.centre_laws.specs.Causes.{limit_place, refusal_place, is_smaller, comes_before, stands_before, is_empty, asks_no_cell, asks_none_of, asks_nothing, event_causes, causes_of, comes_no_earlier, IsFirstCause}
 
 -- The causes stand in order.
 
@@ -62,6 +62,26 @@ causes_ascend settings past (event.LinkDown b generation) = refl
 causes_ascend settings past (event.Send b generation) = refl
 causes_ascend settings past (event.Ask b generation n after) = refl
 causes_ascend settings past (event.Report b generation message) = refl
+
+-- Up to 37 they stand in the order of their numbers.
+
+less_apart : (n m : ℕ) → ltb (10 * n) (10 * m) ≡ ltb n m
+less_apart n m = step (ltb n m) refl
+  where
+    step : (t : Bool) → ltb n m ≡ t → ltb (10 * n) (10 * m) ≡ t
+    step true h = grind (arith, nat_tests, common_steps)
+    step false h = grind (arith, nat_tests, common_steps)
+
+same_apart : (n m : ℕ) → nat_eq (10 * n) (10 * m) ≡ nat_eq n m
+same_apart n m = step (nat_eq n m) refl
+  where
+    step : (t : Bool) → nat_eq n m ≡ t → nat_eq (10 * n) (10 * m) ≡ t
+    step true h = grind (arith, nat_tests, common_steps)
+    step false h = grind (arith, nat_tests, common_steps)
+
+pub places_are_numbers : (r s : Refusal) → refusal_number r ≤ 37 → refusal_number s ≤ 37 → comes_before r s ≡ is_smaller (refusal_number r) (limit_place r) (refusal_number s) (limit_place s)
+places_are_numbers r s low below =
+    ap₂ (λ less same. less || (same && ltb (limit_place r) (limit_place s))) (less_apart (refusal_number r) (refusal_number s)) (same_apart (refusal_number r) (refusal_number s))
 
 -- The first cause that holds refuses an event.
 
@@ -149,7 +169,7 @@ later : (r : Refusal) (causes : List (Bool × Refusal)) → list_all (stands_bef
 later r [] before = refl
 later r ((t, s) ∷ causes) before =
     let parts = and_parts (comes_before r s) (list_all (stands_before (true, r)) causes) before in
-    and_from (not (t && comes_before s r)) (list_all (comes_no_earlier r) causes) (not_first t (comes_before s r) (asymmetric (refusal_number r) (limit_place r) (refusal_number s) (limit_place s) parts.0)) (later r causes parts.1)
+    and_from (not (t && comes_before s r)) (list_all (comes_no_earlier r) causes) (not_first t (comes_before s r) (asymmetric (refusal_place r) (limit_place r) (refusal_place s) (limit_place s) parts.0)) (later r causes parts.1)
 
 none_earlier : (causes : List (Bool × Refusal)) (r : Refusal) → is_ascending stands_before causes ≡ true → first_refusal causes ≡ Some r → list_all (comes_no_earlier r) causes ≡ true
 none_earlier [] r order head = cc
@@ -157,7 +177,7 @@ none_earlier ((true, s) ∷ causes) r order head =
     let same : s ≡ r = cc in
     let parts = and_parts (list_all (stands_before (true, s)) causes) (is_ascending stands_before causes) order in
     subst (λ q. list_all (comes_no_earlier q) ((true, s) ∷ causes) ≡ true) same
-    (and_from (not (comes_before s s)) (list_all (comes_no_earlier s) causes) (ap not (irreflexive (refusal_number s) (limit_place s))) (later s causes parts.0))
+    (and_from (not (comes_before s s)) (list_all (comes_no_earlier s) causes) (ap not (irreflexive (refusal_place s) (limit_place s))) (later s causes parts.0))
 none_earlier ((false, s) ∷ causes) r order head = none_earlier causes r (and_parts (list_all (stands_before (false, s)) causes) (is_ascending stands_before causes) order).1 head
 
 -- Both ways.
@@ -176,10 +196,10 @@ first_of causes v r given is = step (first_refusal causes) refl
     step None none = absurd (not_ok v r is (given.accepted none))
     step (Some q) head = ap (λ x. Some x) (same_refusal v q r (given.refused q head) is)
 
-pub least_cause : (settings : Settings) (past : Past) (e : Event) → IsLeastCause settings past e
-least_cause settings past e = record {
+pub first_cause : (settings : Settings) (past : Past) (e : Event) → IsFirstCause settings past e
+first_cause settings past e = record {
   refused = λ r. (first_of causes v r given, given.refused r);
-  least = λ r is. none_earlier causes r (causes_ascend settings past e) (first_of causes v r given is);
+  earliest = λ r is. none_earlier causes r (causes_ascend settings past e) (first_of causes v r given is);
   accepted = (none_of causes v given, given.accepted);
 }
   where

@@ -1,6 +1,6 @@
--- Why an event is refused: every cause that it is refused for, each with its refusal, in the order of their numbers. Of the
--- causes that hold, the refusal of the least number is the verdict. What the plan refuses the centre refuses so too.
-use Rattle.std.specs.Prelude.{◌≡◌, ◌↔◌, ◌⊎◌, ℕ, Bool, true, false, ◌&&◌, ◌||◌, not, List, [], ◌∷◌, ◌++◌, Option, Some, None, Err, IsOk, nat_eq, ltb}
+-- Why an event is refused: every cause that it is refused for, each with its refusal, in their order. The first of them that
+-- holds is the verdict. What the plan refuses the centre refuses so too.
+use Rattle.std.specs.Prelude.{◌≡◌, ◌≤◌, ◌*◌, ◌↔◌, ◌⊎◌, ℕ, Bool, true, false, ◌&&◌, ◌||◌, not, List, [], ◌∷◌, ◌++◌, Option, Some, None, Err, IsOk, nat_eq, ltb}
 use Rattle.std.specs.List.{list_all}
 use Rattle.common.specs.Checks.{first_refusal}
 use Rattle.common.specs.Order.{is_ascending}
@@ -42,13 +42,18 @@ limit_place (refusal.Limit limit.Desks) = 7
 limit_place (refusal.Limit limit.Ids) = 8
 limit_place other = 0
 
+-- the place of a refusal in the order, which isn't its number: a later refusal has a number of its own, above 37, and a place
+-- between others. Up to 37 the places are in the order of the numbers, and have room between them.
+abbrev pub refusal_place : Refusal → ℕ
+refusal_place r = 10 * refusal_number r
+
 -- a smaller number comes first, and of one number the smaller place
 abbrev pub is_smaller : ℕ → ℕ → ℕ → ℕ → Bool
 is_smaller n p m q = ltb n m || (nat_eq n m && ltb p q)
 
--- the refusal has the smaller number, or both are limits and it has the smaller place
+-- the refusal has the smaller place, or both are limits and it has the smaller place among these
 abbrev pub comes_before : Refusal → Refusal → Bool
-comes_before r s = is_smaller (refusal_number r) (limit_place r) (refusal_number s) (limit_place s)
+comes_before r s = is_smaller (refusal_place r) (limit_place r) (refusal_place s) (limit_place s)
 
 -- the refusal of the first cause comes before that of the second
 abbrev pub stands_before : Bool × Refusal → Bool × Refusal → Bool
@@ -93,6 +98,10 @@ causes_of settings past e = (is_full settings past, refusal.JournalFull) ∷ eve
 
 -- What holds of them.
 
+-- up to 37 the refusals stand in the order of their numbers, and limits in that of the limits
+abbrev pub PlacesAreNumbers : Type 0
+PlacesAreNumbers = (r s : Refusal) → refusal_number r ≤ 37 → refusal_number s ≤ 37 → comes_before r s ≡ is_smaller (refusal_number r) (limit_place r) (refusal_number s) (limit_place s)
+
 -- the causes of every event stand in the order of their refusals, no two at one place
 abbrev pub CausesAscend : Type 0
 CausesAscend = (settings : Settings) (past : Past) (e : Event) → is_ascending stands_before (causes_of settings past e) ≡ true
@@ -101,11 +110,11 @@ CausesAscend = (settings : Settings) (past : Past) (e : Event) → is_ascending 
 abbrev pub comes_no_earlier : Refusal → Bool × Refusal → Bool
 comes_no_earlier r cause = not (cause.0 && comes_before cause.1 r)
 
--- an event is refused for a cause that holds; no cause whose refusal comes earlier holds; and it is accepted where no cause
--- holds
-pub record IsLeastCause (settings : Settings) (past : Past) (e : Event) : Type 0 where
+-- an event is refused for the first cause in its list that holds; no cause whose refusal comes earlier holds; and it is
+-- accepted where no cause holds
+pub record IsFirstCause (settings : Settings) (past : Past) (e : Event) : Type 0 where
   pub refused : (r : Refusal) → (verdict settings past e ≡ Err r) ↔ (first_refusal (causes_of settings past e) ≡ Some r)
-  pub least : (r : Refusal) → verdict settings past e ≡ Err r → list_all (comes_no_earlier r) (causes_of settings past e) ≡ true
+  pub earliest : (r : Refusal) → verdict settings past e ≡ Err r → list_all (comes_no_earlier r) (causes_of settings past e) ≡ true
   pub accepted : IsOk (verdict settings past e) ↔ (first_refusal (causes_of settings past e) ≡ None)
 
 -- What the plan refuses.

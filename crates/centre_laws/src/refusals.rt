@@ -1,7 +1,7 @@
 //! Which refusal an event is answered, as the contracts of calls that do nothing.
 
 ghost use Rattle.std.specs.Prelude.{◌≡◌, true, Err};
-ghost use Rattle.centre_laws.specs.Causes.{CausesAscend, IsLeastCause, RefusesAsPlan};
+ghost use Rattle.centre_laws.specs.Causes.{CausesAscend, IsFirstCause, PlacesAreNumbers, RefusesAsPlan};
 ghost use Rattle.centre_events.specs.Folding.{base_of};
 ghost use Rattle.centre_events.specs.Past.{Past};
 ghost use Rattle.centre_past.specs.EditCauses.{IsPlanOf};
@@ -13,21 +13,26 @@ ghost use Rattle.centre_events.specs.declared.settings.Settings.{Settings};
 
 use coverage_plan::Plan;
 
-/// The causes for which an event is refused stand in the ascending order of the numbers of their refusals, of limits in the
-/// order of the limits: of every event, after every past.
+/// The causes for which an event is refused stand in one order, no two at one place: of every event, after every past.
 #[tactic(auto, using(crate::proofs::CauseLemmas::causes_ascend))]
 pub fn causes_ascend()
     ensures { CausesAscend }
 {}
 
-/// An event is refused for a cause that holds, and no cause that holds has a refusal of a smaller number. It is accepted
-/// where no cause holds.
-pub fn least_cause_refuses()
-    ensures { (settings : Settings) (past : Past) (e : Event) → IsLeastCause settings past e }
+/// Up to 37 that is the order of the refusals' numbers, of limits the order of the limits. A later refusal gets the next
+/// number, and a place between others.
+#[tactic(auto, using(crate::proofs::CauseLemmas::places_are_numbers))]
+pub fn places_are_numbers()
+    ensures { PlacesAreNumbers }
 {}
 
-/// What refuses an edit in the plan refuses it in the centre, which has five causes more, each in its place by the number of
-/// its refusal: a RemoveBsc of a BSC whose link is up, a Forget of a warning of which something is on air or in flight, and
+/// An event is refused for the first cause in its list that holds. It is accepted where none holds.
+pub fn first_cause_refuses()
+    ensures { (settings : Settings) (past : Past) (e : Event) → IsFirstCause settings past e }
+{}
+
+/// What refuses an edit in the plan refuses it in the centre, which has five causes more, each in its place among the
+/// others: a RemoveBsc of a BSC whose link is up, a Forget of a warning of which something is on air or in flight, and
 /// an Update that gives a serial number again of which something is. Where one of the last two holds it refuses an Update
 /// whose content the plan refuses. So it is after each past of the same base, however many of its entries were folded.
 pub fn plan_refuses_the_same(plan: &Plan)

@@ -2,8 +2,8 @@
 use Rattle.std.specs.Prelude.{◌≡◌}
 use Rattle.centre_past.specs.declared.kept.Kept.{Kept}
 
--- The copy is the same in memory of its own, but that no access to its lines is counted.
+-- The copy is the same in memory of its own, with the same meter.
 pub record IsCopy (kept copy : Kept) : Type 0 where
   pub plan : copy.plan ≡ kept.plan
   pub links : copy.links.items ≡ kept.links.items
-  pub tables : copy.tables ≡ record kept.tables { lines = record kept.tables.lines { meter = 0 } }
+  pub tables : copy.tables ≡ kept.tables

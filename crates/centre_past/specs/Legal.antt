@@ -39,12 +39,15 @@ pub record Known : Type 0 where
   pub journal : List Entry
   pub stale : Bool
 
--- what contracts see of a centre: what is known of it, how often its lines were read or set, and how often entries of its
--- journal were read
+-- what contracts see of a centre: what is known of it, how often its lines were read or set, how often entries of its
+-- journal were read, and what is counted apart. A copy is counted too, each line of it once. What a checkpoint or a rebuild
+-- copies isn't among `lines`: it is counted apart, and so is what is read of the base. No other call changes `apart`; so
+-- what another call reads of the base, or copies, can't be hidden.
 pub record CentreState : Type 0 where
   pub known : Known
   pub lines : ℕ
   pub entries : ℕ
+  pub apart : ℕ
 
 -- a centre of the network without entries
 abbrev pub new_centre : List ℕ → ℕ → Known

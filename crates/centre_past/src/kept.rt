@@ -26,10 +26,11 @@ impl Drop for Kept {
 }
 
 impl Kept {
-    ghost use Rattle.std.specs.Prelude.{◌≡◌, IfOk};
+    ghost use Rattle.std.specs.Prelude.{◌≡◌, length, IfOk, OnErr, OnOk};
+    ghost use Rattle.mirror.specs.Table.{counted_all};
     ghost use Rattle.centre_events.specs.Base.{empty_base};
     ghost use Rattle.centre_past.specs.Copying.{IsCopy};
-    ghost use Rattle.centre_past.specs.IsKept.{IsKept};
+    ghost use Rattle.centre_past.specs.IsKept.{IsKept, OnlyReadsIn};
     ghost use Rattle.centre_events.specs.Past.{From, Past};
 
     /// Of a centre without entries.
@@ -44,10 +45,14 @@ impl Kept {
         }
     }
 
-    /// The same, in memory of its own, with no access counted. It is what the past says wherever this is.
-    pub fn copied(&self, alloc: Global) -> Result<Kept, AllocError>
-        ensures copy { IfOk result (λ copy. IsCopy self.now copy) }
-        ensures kept { (past : Past) → IsKept past self.now → IfOk result (IsKept past) }
+    /// The same, in memory of its own, with the same meter. It is what the past says wherever this is. Each line that is
+    /// copied is counted first; none where memory runs out.
+    pub fn copied(&mut self, alloc: Global) -> Result<Kept, AllocError>
+        ensures copy { IfOk result (λ copy. IsCopy self.new copy) }
+        ensures kept { (past : Past) → IsKept past self.old → IfOk result (IsKept past) }
+        ensures reads { OnOk result (OnlyReadsIn self.old self.new) }
+        ensures counted { OnOk result (self.new.tables.lines.meter ≡ counted_all (length self.old.tables.lines.lines) self.old.tables.lines.meter) }
+        ensures unchanged { OnErr result (self.new ≡ self.old) }
     {
         Ok(Kept {
             plan: self.plan.copied()?,

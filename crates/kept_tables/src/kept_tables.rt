@@ -173,26 +173,28 @@ impl KeptTables {
         }
     }
 
-    /// The same tables, in memory of their own, with no access counted.
-    pub fn copied(&self) -> Result<KeptTables, AllocError>
-        ensures { IfOk result (λ copy. copy ≡ record self.now { lines = record self.now.lines { meter = 0 } }) }
+    /// The same tables, their meter too, in memory of their own. Each line is counted first; none where memory runs out.
+    pub fn copied(&mut self) -> Result<KeptTables, AllocError>
+        ensures copy { IfOk result (λ copy. copy ≡ self.new) }
+        ensures counted { OnOk result (self.new ≡ record self.old { lines = record self.old.lines { meter = counted_all (length self.old.lines.lines) self.old.lines.meter } }) }
+        ensures unchanged { OnErr result (self.new ≡ self.old) }
+        ensures least { self.old.lines.meter ≤ self.new.lines.meter }
     {
         Ok(KeptTables {
-            lines: self.lines.copied()?,
             pending: self.pending.copied()?,
             board: self.board.copied()?,
+            lines: self.lines.copied()?,
         })
     }
 
-    /// How often lines were read or set, up to the greatest value, which stays.
+    /// How often lines were read, set or copied, up to the greatest value, which stays.
     pub fn meter(&self) -> u64
         ensures { result ≡ self.now.lines.meter }
     {
         self.lines.meter()
     }
 
-    /// What is kept of the lines, to ask which cells are down and known: what tells of one line changes the meter, so that no
-    /// line can be read through it, nor be told of.
+    /// The lines, to ask which cells are down and known: no line can be read through it, nor be told of.
     pub fn lines(&self) -> &LineTable
         ensures { result.now ≡ self.now.lines }
     {
@@ -388,9 +390,8 @@ impl KeptTables {
         self.board.area(w, a)
     }
 
-    /// Changes one line: what is kept of it, what is pending for it, and what it adds to the numbers. The line itself is
-    /// neither read nor set where it is known to stay, and no names are compared where the areas are. At an `Err` memory
-    /// ran out, and the tables are of no use any more.
+    /// Changes one line: what is kept of it, what is pending for it, and what it adds to the numbers. It isn't set where it is
+    /// known to stay, nor are names compared where the areas are. At an `Err` the tables are of no use any more.
     fn change(
         &mut self,
         key: LineKey,
@@ -445,9 +446,8 @@ impl KeptTables {
         self.board.shift_standing(warning, &was, &then)
     }
 
-    /// Makes the change that is next. The line itself is neither read nor set where the caller knows that it stays, and no
-    /// names of areas are compared where the caller knows that these stay. At an `Err` memory ran out, and the tables are of
-    /// no use any more.
+    /// Makes the change that is next. The line is neither read nor set where the caller knows that it stays, and no names of
+    /// areas are compared where these stay. At an `Err` memory ran out, and the tables are of no use any more.
     pub fn make(
         &mut self,
         key: &LineKey,

@@ -1,5 +1,5 @@
 -- The lines that are kept, found by their slots, and in the order of these.
-use Rattle.std.proofs.Common.{◌≡◌, ℕ, Bool, true, false, cond, ◌||◌, List, [], ◌∷◌, Option, Some, None, slice_get, map, filter, if◌then◌else◌, refl, sym, ◌∙◌, ap, arith, Less, Equal, Greater}
+use Rattle.std.proofs.Common.{◌≡◌, ℕ, suc, Bool, true, false, cond, ◌||◌, List, [], ◌∷◌, Option, Some, None, slice_get, length, map, filter, if◌then◌else◌, refl, sym, ◌∙◌, ap, arith, Less, Equal, Greater}
 use Rattle.std.proofs.lemmas.Bool.{or_parts}
 use Rattle.std.proofs.lemmas.Bool.Decides.{nat_tests}
 use Rattle.std.proofs.lemmas.Grind.{common_steps}
@@ -48,6 +48,11 @@ kept_same ss es all q =
 pub slots_same : (ss : List Slot) (es : List (Slot × Line)) → keys_of (lines_at ss es) ≡ ss
 slots_same [] es = refl
 slots_same (s ∷ ss) es = ap (λ ks. s ∷ ks) (slots_same ss es)
+
+-- there are as many lines as slots
+pub as_many_lines : (ss : List Slot) (es : List (Slot × Line)) → length (lines_at ss es) ≡ length ss
+as_many_lines [] es = refl
+as_many_lines (s ∷ ss) es = ap suc (as_many_lines ss es)
 
 -- where the same is kept at each slot, the lines are the same
 pub lines_same : (ss : List Slot) (es fs : List (Slot × Line)) → ((q : Slot) → kept_at fs q ≡ kept_at es q) → lines_at ss fs ≡ lines_at ss es

@@ -1,5 +1,5 @@
 -- What a table of lines holds: a line for each BSC, cell and warning, which cells are down at each BSC for warnings
--- of each kind, and how often lines were read or set.
+-- of each kind, and how often lines were read, set or copied.
 use Rattle.std.specs.Prelude.{ℕ, Bool, ◌+◌, ◌-◌, ◌^◌, ◌&&◌, ◌||◌, List, nat_eq, min, if◌then◌else◌}
 use Rattle.std.specs.List.{list_any}
 use Rattle.std.specs.Map.{lookup}
@@ -14,7 +14,7 @@ use Rattle.mirror.specs.declared.line_key.LineKey.{LineKey}
 use Rattle.warning_book.specs.declared.kind.Kind.{Kind}
 use Rattle.warning_book.specs.declared.kind.Kind.TheVariants as kind
 
--- the lines of which something is kept, the cells that are down, and how often lines were read or set
+-- the lines of which something is kept, the cells that are down, and how often lines were read, set or copied
 pub record Table : Type 0 where
   pub lines : List (Slot × Line)
   pub downs : CellsDown

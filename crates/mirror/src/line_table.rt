@@ -43,10 +43,9 @@ use warning_book::{Kind, WarningId};
 const FEW: usize = 16;
 
 /// A line for each BSC, cell and warning, and whether each cell is down at each BSC for warnings of each kind. Each line
-/// that is read or set is counted; to be told that something is kept of a line is to read it. So the calls that read or set
-/// lines take `&mut self`: `read_line`, `set_line`, `cells_on_air`, `is_present_anywhere`, `warnings_at`, `held_at` and
-/// `places_of`. No other call tells anything of one line: `known_cells` and `cells_named` tell of a cell whether it is known, by its registration, by a
-/// report or by its lines.
+/// that is read, set or copied is counted; to be told that something is kept of a line is to read it. So the calls that do
+/// this take `&mut self`. No other call tells anything of one line: `known_cells` and `cells_named` tell of a cell whether
+/// it is known, by its registration, by a report or by its lines.
 pub struct LineTable {
     alloc: Global,
     /// The lines that aren't blank, by warning.
@@ -97,21 +96,25 @@ impl LineTable {
         }
     }
 
-    /// The same lines, in memory of their own, with the same cells down and no access counted.
-    pub fn copied(&self) -> Result<LineTable, AllocError>
-        ensures { IfOk result (λ copy. copy ≡ record self.now { meter = 0 }) }
+    /// The same table, its meter too, in memory of its own. Each line is counted first; none where memory runs out.
+    pub fn copied(&mut self) -> Result<LineTable, AllocError>
+        ensures copy { IfOk result (λ copy. copy ≡ self.new) }
+        ensures counted { OnOk result (self.new ≡ record self.old { meter = counted_all (length self.old.lines) self.old.meter }) }
+        ensures unchanged { OnErr result (self.new ≡ self.old) }
+        ensures least { self.old.meter ≤ self.new.meter }
     {
-        Ok(LineTable {
+        let copy = LineTable {
             alloc: self.alloc,
             lines: self.lines.copied()?,
             index: self.index.copied()?,
             downs: self.downs.copied()?,
-            meter: 0,
-        })
+            meter: self.meter.saturating_add(self.lines.count() as u64),
+        };
+        self.meter = copy.meter;
+        Ok(copy)
     }
 
-    /// A lemma, not a test: it returns nothing, and its clauses say that a BSC has a line of a cell exactly where one
-    /// of them isn't blank.
+    /// A lemma, not a test, which returns nothing: a BSC has a line of a cell exactly where one of them isn't blank.
     pub fn tell_soundness(&self)
         ensures none { (b : ℕ) (c : Cell) → has_line self.now b c ≡ false → (w : ℕ) → line_at self.now b c w ≡ blank_line }
         ensures some { (b : ℕ) (c : Cell) (w : ℕ) → is_blank (line_at self.now b c w) ≡ false → has_line self.now b c ≡ true }
@@ -120,15 +123,14 @@ impl LineTable {
         let _ = &self.lines;
     }
 
-    /// A lemma, not a test: it returns nothing, and its clause says that a BSC keeps no more lines of a warning than
-    /// there are cells in which the warning's line isn't blank.
+    /// A lemma, not a test, which returns nothing: a BSC keeps no more lines of a warning than cells where it isn't blank.
     pub fn tell_line_count(&self)
         ensures { (b w : ℕ) (cells : List Cell) → ((c : Cell) → is_blank (line_at self.now b c w) ≡ false → list_any (cell_eq c) cells ≡ true) → line_count self.now b w ≤ length cells }
     {
         self.lines.tell_order();
     }
 
-    /// How often lines were read or set, up to the greatest value, which stays.
+    /// How often lines were read, set or copied, up to the greatest value, which stays.
     pub fn meter(&self) -> u64
         ensures { result ≡ self.now.meter }
     {
@@ -176,8 +178,7 @@ impl LineTable {
         self.change(key, &line)
     }
 
-    /// Keeps the line, or makes it blank. Where memory runs out each line stays as it was. It isn't inlined, so that the line is
-    /// compared and copied where it stands.
+    /// Keeps the line, or makes it blank; at an `Err` no line changes. Not inlined: the line is copied where it stands.
     #[inline(never)]
     fn change(&mut self, key: LineKey, line: &Line) -> Result<(), AllocError>
         ensures set { OnOk result ((b : ℕ) (c : Cell) (w : ℕ) → line_at self.new b c w ≡ (if is_key key b c w then line.now else line_at self.old b c w)) }
@@ -248,8 +249,7 @@ impl LineTable {
 
     /// The first `most` cells at the BSC, in ascending order and after the given one, in which the version of that serial
     /// number of the warning is on air. Each line of the warning at the BSC that is read is counted: those of all cells after
-    /// the given one, or, once `most` cells are found, those up to the last of these. Memory is taken only for a cell that is
-    /// found.
+    /// the given one, or up to the last of `most` cells. Memory is taken only for a cell that is found.
     pub fn cells_on_air(
         &mut self,
         b: BscId,

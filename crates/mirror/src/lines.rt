@@ -1,6 +1,6 @@
 //! The lines that aren't blank, by warning.
 
-ghost use Rattle.std.specs.Prelude.{◌≡◌, None, Some, [], slice_get, IfOk, IfSome, OnErr, OnOk};
+ghost use Rattle.std.specs.Prelude.{◌≡◌, None, Some, [], length, slice_get, IfOk, IfSome, OnErr, OnOk};
 ghost use Rattle.std.specs.BTreeMap.{insert_entry, is_at};
 ghost use Rattle.std.specs.List.Sorted.{IsStrictlySortedBy};
 ghost use Rattle.std.specs.Map.{keys_of, lookup, remove_entry};
@@ -77,6 +77,13 @@ impl Lines {
             order: self.order.clone()?,
             kept: self.kept.clone()?,
         })
+    }
+
+    /// How many lines there are.
+    pub(crate) fn count(&self) -> usize
+        ensures { result ≡ length self.now }
+    {
+        self.order.len()
     }
 
     /// A lemma, not a test: it returns nothing, and its clause says that the lines stand in order.

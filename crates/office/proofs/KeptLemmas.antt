@@ -1,5 +1,6 @@
--- Wishes without the one for a BSC: they are fewer where there is one, and none is for that BSC.
-use Rattle.std.proofs.Common.{◌≡◌, ℕ, ◌<◌, ◌≤◌, Bool, true, false, not, List, [], ◌∷◌, Some, IsSome, length, cond, refl, sym, arith, true≢false, subst}
+-- Wishes without the one for a BSC: they are fewer where there is one, and none is for that BSC. With one, it is the one for its BSC.
+use Rattle.std.proofs.Common.{◌≡◌, ℕ, ◌<◌, ◌≤◌, Bool, true, false, not, List, [], ◌∷◌, None, Some, IsSome, length, cond, refl, sym, ap, arith, true≢false, subst}
+use Rattle.std.proofs.lemmas.Bool.Decides.{nat_tests}
 use Rattle.std.specs.List.{list_any}
 use Rattle.common.specs.OnceLaws.{once_filter, once_last}
 use Rattle.common.specs.OrderLaws.{length_filter}
@@ -29,3 +30,15 @@ once_without b ws once = once_filter is_same_bsc (λ v. not (is_wish_of b v)) ws
 
 pub once_with : (w : Wish) (ws : List Wish) → HasEachOnce ws → HasEachOnce (with_wish w ws)
 once_with w ws once = once_last is_same_bsc w (without_wish w.bsc ws) (none_left w ws) (once_without w.bsc ws once)
+
+of_its_bsc : (w : Wish) → is_wish_of w.bsc w ≡ true
+of_its_bsc w = grind (arith, nat_tests)
+
+-- the wish that is kept is the one for its BSC
+pub wish_found : (w : Wish) (ws : List Wish) → wish_for (with_wish w ws) w.bsc ≡ Some w
+wish_found w [] = ap (λ t. cond t (Some w) None) (of_its_bsc w)
+wish_found w (v ∷ ws) = step (wish_found w ws) (is_wish_of w.bsc v) refl
+  where
+    step : wish_for (with_wish w ws) w.bsc ≡ Some w → (t : Bool) → is_wish_of w.bsc v ≡ t → wish_for (with_wish w (v ∷ ws)) w.bsc ≡ Some w
+    step rest true e = rw e rest
+    step rest false e = rw e (rw e rest)

@@ -10,8 +10,11 @@ use Rattle.centre_events.specs.declared.event.Event.{Event}
 use Rattle.centre_events.specs.declared.refusal.Refusal.{Refusal}
 use Rattle.centre_events.specs.declared.refusal.Refusal.TheVariants as refusal
 use Rattle.office.specs.Desks.{DeskState, IsReleased}
-use Rattle.office.specs.Helds.{IsEntered, fits}
-use Rattle.office.specs.Offices.{IsFoldedSomewhere, IsRefusedSomewhere, IsReleasedSomewhere, IsSameDesk, IsSeenSomewhere, IsSubmitted, IsUnseenSomewhere, Meets}
+use Rattle.office.specs.Helds.{HeldState, IsEntered, fits}
+use Rattle.office.specs.Offices.{IsFoldedSomewhere, IsRebuiltSomewhere, IsRefusedSomewhere, IsReleasedSomewhere, IsSameDesk, IsSeenSomewhere, IsSubmitted, IsUnseenSomewhere, Meets}
+use Rattle.office.specs.Statuses.{IsStatusSomewhere}
+use Rattle.centre_past.specs.Lists.{status}
+use Rattle.centre_past.specs.declared.lists.centre_status.CentreStatus.{CentreStatus}
 use Rattle.centre_questions.specs.Questions.{RefusesQuestion, Shows}
 use Rattle.centre_questions.specs.declared.question.Question.{Question}
 use Rattle.office.specs.declared.receipt.Receipt.{Receipt}
@@ -73,6 +76,18 @@ unseen_by false r centre opened d q fit lawful headline wrong refuses = inl (len
 pub unseen_if : (result : Result Seen Refusal) (centre : Known) (opened : ℕ) (d : DeskState) (q : Question) → Lawful centre.settings (past centre) → PendingGivesPlan (past centre) → (fits opened (all_entries centre) d ≡ false → result ≡ Err (refusal.WrongDesk (length (all_entries centre)))) → IfErr result (λ r. fits opened (all_entries centre) d ≡ true → RefusesQuestion centre q r) → IfErr result (IsUnseenSomewhere d q)
 unseen_if (Ok s) centre opened d q lawful headline wrong refuses = refuses
 unseen_if (Err r) centre opened d q lawful headline wrong refuses = unseen_by (fits opened (all_entries centre) d) r centre opened d q refl lawful headline wrong refuses
+
+pub standing_if : (held : HeldState) (d : DeskState) (s : CentreStatus) → Lawful held.centre.settings (past held.centre) → PendingGivesPlan (past held.centre) → fits (length held.rows) (all_entries held.centre) d ≡ true → s ≡ status held.centre → IsStatusSomewhere d s
+standing_if held d s lawful headline fit is = record { centre = held.centre; meets = meets_if held.centre (length held.rows) d lawful headline fit; is = is }
+
+pub rebuilt_if : (old new : HeldState) (d : DeskState) → Lawful old.centre.settings (past old.centre) → PendingGivesPlan (past old.centre) → fits (length old.rows) (all_entries old.centre) d ≡ true → new ≡ record old { centre = record old.centre { stale = false } } → IsRebuiltSomewhere d
+rebuilt_if old new d lawful headline fit is =
+    let before : Meets old.centre d = meets_if old.centre (length old.rows) d lawful headline fit in
+    record {
+      centre = new.centre;
+      meets = subst (λ (k : Known). Meets k d) (sym (ap (λ (h : HeldState). h.centre) is)) (record { lawful = before.lawful; headline = before.headline; entries = before.entries; place = before.place; later = before.later });
+      whole = ap (λ (h : HeldState). h.centre.stale) is;
+    }
 
 pub folded_if : (result : Result ℕ Refusal) (centre new : Known) → Lawful centre.settings (past centre) → PendingGivesPlan (past centre) → IfOk result (λ n. n ≡ length centre.journal) → OnOk result (new ≡ checkpointed centre) → OnOk result (base_of (past new) ≡ base_of (past centre)) → OnOk result (centre.stale ≡ false) → IfOk result IsFoldedSomewhere
 folded_if (Ok n) centre new lawful headline counted is same whole = record { centre = centre; lawful = lawful; headline = headline; whole = whole; counted = counted; same = subst (λ (k : Known). base_of (past k) ≡ base_of (past centre)) is same }

@@ -50,6 +50,12 @@ pub record IsPositionSomewhere (n : ℕ) : Type 0 where
   pub lawful : Lawful centre.settings (past centre)
   pub position : n ≡ length (all_entries centre)
 
+-- so many entries of some such centre aren't folded
+pub record IsUnfoldedSomewhere (n : ℕ) : Type 0 where
+  pub centre : Known
+  pub lawful : Lawful centre.settings (past centre)
+  pub unfolded : n ≡ length centre.journal
+
 -- some such centre has so many entries, and these are more than those, or there was an interruption since that one
 pub record IsProgressSomewhere (after interrupts : ℕ) (p : Progress) : Type 0 where
   pub position : IsPositionSomewhere p.position

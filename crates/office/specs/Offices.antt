@@ -69,6 +69,16 @@ pub record IsUnseenIn (d : DeskState) (q : Question) (r : Refusal) : Type 0 wher
 abbrev pub IsUnseenSomewhere : DeskState → Question → Refusal → Type 0
 IsUnseenSomewhere d q r = ((position : ℕ) × (r ≡ refusal.WrongDesk position)) ⊎ IsUnseenIn d q r
 
+-- the desk isn't as the office knows it
+abbrev pub IsWrongDesk : Refusal → Type 0
+IsWrongDesk r = (position : ℕ) × (r ≡ refusal.WrongDesk position)
+
+-- in some such centre what is kept was made anew, so that it is whole
+pub record IsRebuiltSomewhere (d : DeskState) : Type 0 where
+  pub centre : Known
+  pub meets : Meets centre d
+  pub whole : centre.stale ≡ false
+
 -- In some such centre, which was whole, the journal had so many entries, and they were folded. What a past says is what its parts say
 -- that a base has; these are as before.
 pub record IsFoldedSomewhere (count : ℕ) : Type 0 where

@@ -5,11 +5,13 @@ use Rattle.centre_past.specs.Lists.{status}
 use Rattle.centre_past.specs.declared.lists.centre_status.CentreStatus.{CentreStatus}
 use Rattle.centre_questions.specs.Surveys.{survey}
 use Rattle.centre_questions.specs.declared.survey.Survey.{Survey}
+use Rattle.office.specs.Desks.{DeskState}
+use Rattle.office.specs.Offices.{Meets}
 
--- some centre with a lawful past stands so; it may be stale
-pub record IsStatusSomewhere (s : CentreStatus) : Type 0 where
+-- some centre that has as many entries of the desk as that has receipts stands so; it may be stale
+pub record IsStatusSomewhere (d : DeskState) (s : CentreStatus) : Type 0 where
   pub centre : Known
-  pub lawful : Lawful centre.settings (past centre)
+  pub meets : Meets centre d
   pub is : s ≡ status centre
 
 -- this is what is seen of some centre with a lawful past, all at one moment; it may be stale

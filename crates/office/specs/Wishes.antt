@@ -1,6 +1,7 @@
 -- Wishes for queries: those that are kept, when one is kept, and why one is refused.
-use Rattle.std.specs.Prelude.{◌≡◌, ◌⊎◌, ℕ, Bool, true, false, not, List, [], ◌∷◌, ◌++◌, Option, None, IsSome, nat_eq, find}
+use Rattle.std.specs.Prelude.{◌≡◌, ◌⊎◌, ℕ, Bool, true, false, not, List, [], ◌∷◌, ◌++◌, Option, None, Some, IsSome, nat_eq, find}
 use Rattle.std.specs.List.{filter}
+use Rattle.common.specs.declared.cell.Cell.{Cell}
 use Rattle.centre_past.specs.Headline.{PendingGivesPlan}
 use Rattle.centre_past.specs.Legal.{Known, Lawful, past}
 use Rattle.centre_past.specs.Numbers.{board}
@@ -8,6 +9,10 @@ use Rattle.centre_events.specs.Links.{is_bsc}
 use Rattle.centre_events.specs.declared.refusal.Refusal.{Refusal}
 use Rattle.centre_events.specs.declared.refusal.Refusal.TheVariants as refusal
 use Rattle.office.specs.declared.wish.Wish.{Wish}
+
+-- a wish to ask the BSC about the warning, in the cells after that one
+abbrev pub wish_of : ℕ → ℕ → Option Cell → Wish
+wish_of b w after = record { bsc = b; warning = w; after = after }
 
 -- the wish is for the BSC
 abbrev pub is_wish_of : ℕ → Wish → Bool
@@ -41,12 +46,15 @@ RefusesWish centre wishes b w r = ((r ≡ refusal.Stale) × (centre.stale ≡ tr
     ⊎ (((r ≡ refusal.NoSuchWarning) × (centre.stale ≡ false) × (is_bsc (past centre) b ≡ true) × (board (past centre) w ≡ None))
     ⊎ ((r ≡ refusal.Memory) × CanWish centre b w × (wish_for wishes b ≡ None))))
 
--- in some centre whose entries are lawful, after which the pending orders give the plan, the wish can be kept
-pub record IsWishedSomewhere (b w : ℕ) : Type 0 where
+-- in some centre whose entries are lawful, after which the pending orders give the plan, the wish can be kept, and of the wishes
+-- that are kept it is the one for the BSC, with the cell after which it asks
+pub record IsWishedSomewhere (b w : ℕ) (after : Option Cell) : Type 0 where
   pub centre : Known
+  pub wishes : List Wish
   pub lawful : Lawful centre.settings (past centre)
   pub headline : PendingGivesPlan (past centre)
   pub can : CanWish centre b w
+  pub kept : wish_for wishes b ≡ Some (wish_of b w after)
 
 -- in some such centre, beside some wishes, it is refused for that cause
 pub record IsUnwishedSomewhere (b w : ℕ) (r : Refusal) : Type 0 where

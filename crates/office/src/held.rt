@@ -122,7 +122,7 @@ impl<L: Ledger> Held<L> {
     }
 
     /// Whether the desk is as this office knows it.
-    fn knows(&self, desk: &Desk<L>) -> bool
+    pub(crate) fn knows(&self, desk: &Desk<L>) -> bool
         ensures { result ≡ fits (length self.now.rows) (all_entries self.now.centre) desk.now }
     {
         let number = desk.number() as usize;

@@ -27,6 +27,7 @@ mod row;
 pub mod seen;
 mod sending;
 mod settling;
+mod standing;
 mod submitting;
 pub mod surveyed;
 pub mod unsent;

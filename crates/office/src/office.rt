@@ -2,11 +2,11 @@
 
 ghost use Rattle.std.specs.Prelude.{◌≡◌, ◌≤◌, ◌<◌, ◌⊎◌, [], IfOk, IfErr, OnOk, OnErr};
 ghost use Rattle.centre_past.specs.Legal.{Lawful, past};
-ghost use Rattle.office.specs.Handing.{AreEntriesSomewhere, IsFoldedAfterSomewhere, IsPositionSomewhere, IsProgressSomewhere};
+ghost use Rattle.office.specs.Handing.{AreEntriesSomewhere, IsFoldedAfterSomewhere, IsProgressSomewhere};
 ghost use Rattle.office.specs.Offices.{IsFoldedSomewhere, IsRefusedSomewhere, IsReleasedSomewhere, IsSameDesk, IsSeenSomewhere, IsSubmitted, IsUnseenSomewhere};
 ghost use Rattle.office.specs.Sendings.{IsSent, IsUnsent};
 ghost use Rattle.office.specs.Shuffles.{IsSettled, IsUnsettled};
-ghost use Rattle.office.specs.Statuses.{IsStatusSomewhere, IsSurveySomewhere};
+ghost use Rattle.office.specs.Statuses.{IsSurveySomewhere};
 ghost use Rattle.office.specs.Wakes.{IsDueSomewhere};
 ghost use Rattle.office.specs.Wishes.{IsUnwishedSomewhere, IsWishedSomewhere};
 
@@ -29,7 +29,6 @@ use cell_register::BscId;
 use centre_core::centre::Centre;
 use centre_events::event::Event;
 use centre_events::refusal::{Limit, Refusal};
-use centre_past::lists::CentreStatus;
 use centre_questions::question::Question;
 use common::Cell;
 use std::alloc::{AllocError, Global};
@@ -40,7 +39,7 @@ use warning_book::WarningId;
 /// One centre, for as many callers as it opens desks for. Each call takes the one lock, and does under it what `Held` does.
 pub struct Office<L: Ledger> {
     alloc: Global,
-    held: Mutex<Held<L>>,
+    pub(crate) held: Mutex<Held<L>>,
     moved: Condvar,
     entered: Condvar,
     /// Whoever holds this and the lock took the lock first.
@@ -164,20 +163,6 @@ impl<L: Ledger> Office<L> {
         Ok(Surveyed { survey, counts })
     }
 
-    /// How the centre stands, also where it is stale. It takes no memory.
-    pub fn status<R: Wait>(&self, rt: &R) -> CentreStatus
-        ensures { IsStatusSomewhere result }
-    {
-        let guard = self.held.lock(rt);
-        guard.tell_soundness();
-        guard.status()
-    }
-
-    /// How many entries there are that aren't folded.
-    pub fn unfolded<R: Wait>(&self, rt: &R) -> u64 {
-        self.held.lock(rt).unfolded()
-    }
-
     /// Keeps a wish to ask the BSC about a warning, in the cells after that one. A BSC has one wish, the latest. `Stale`, then
     /// `NoSuchBsc`, then `NoSuchWarning`, then `Memory`, which doesn't come where it takes an earlier one's place.
     pub fn wish<R: Wait>(
@@ -187,7 +172,7 @@ impl<L: Ledger> Office<L> {
         warning: WarningId,
         after: Option<Cell>,
     ) -> Result<(), Refusal>
-        ensures wished { OnOk result (IsWishedSomewhere b warning) }
+        ensures wished { OnOk result (IsWishedSomewhere b warning after) }
         ensures refused { IfErr result (IsUnwishedSomewhere b warning) }
     {
         let mut guard = self.held.lock(rt);
@@ -268,11 +253,6 @@ impl<L: Ledger> Office<L> {
         unreachable!()
     }
 
-    /// Makes a stale centre whole.
-    pub fn rebuild<R: Wait>(&self, rt: &R) -> Result<(), AllocError> {
-        self.held.lock(rt).rebuild()
-    }
-
     /// Has the desk let go of its receipts of folded entries, and answers how many entries are folded. Where memory runs out it
     /// keeps them until the next time.
     pub fn release<R: Wait>(&self, rt: &R, desk: &mut Desk<L>) -> u64
@@ -310,15 +290,6 @@ impl<L: Ledger> Office<L> {
             self.moved.notify_all();
         }
         result
-    }
-
-    /// How many entries there are, those counted that are folded.
-    pub fn position<R: Wait>(&self, rt: &R) -> u64
-        ensures { IsPositionSomewhere result }
-    {
-        let guard = self.held.lock(rt);
-        guard.tell_soundness();
-        guard.position()
     }
 
     /// Copies of the entries behind that place, the oldest first, at most so many, and how many of those behind it can't be handed

@@ -95,7 +95,7 @@ pub(crate) fn rebuild<L: Ledger, R: Wait + Print>(
     let before = ask_all(rt, office, desk, b, want);
     for k in 0..TRIES {
         want.take(k);
-        let result = office.rebuild(rt);
+        let result = office.rebuild(rt, desk);
         want.give();
         if result.is_ok() {
             return Ok(());

@@ -1,5 +1,5 @@
 -- From what a line is answered to the text of its answer.
-use Rattle.std.proofs.Common.{◌≡◌, ◌++◌, ℕ, Bool, false, [], ◌∷◌, inl, inr, codes, List, Some, None, MatchBool, MatchOption, Result, Ok, Err, IfOk, subst, sym}
+use Rattle.std.proofs.Common.{◌≡◌, ◌++◌, ℕ, Bool, false, [], ◌∷◌, inl, inr, codes, List, Option, Some, None, MatchBool, MatchOption, Result, Ok, Err, IfOk, subst, sym}
 use Rattle.centre_events.specs.declared.event.Event.TheVariants as event
 use Rattle.centre_events.specs.declared.refusal.Refusal.{Refusal}
 use Rattle.centre_past.specs.declared.lists.centre_status.CentreStatus.{CentreStatus}
@@ -8,8 +8,10 @@ use Rattle.console_text.specs.declared.response.Response.{Response}
 use Rattle.coverage_plan.specs.declared.edit.Edit.{Edit as EditOf}
 use Rattle.lists_text.specs.ListTexts.{status_text}
 use Rattle.office.specs.Desks.{DeskState}
+use Rattle.office.specs.Offices.{IsWrongDesk}
 use Rattle.office.specs.Statuses.{IsStatusSomewhere}
 use Rattle.office.specs.Wishes.{IsUnwishedSomewhere, IsWishedSomewhere}
+use Rattle.common.specs.declared.cell.Cell.{Cell}
 use Rattle.console_text.specs.Words.{is_comment}
 use Rattle.server_lines.specs.ServerGrammar.{server_line_of}
 use Rattle.server_lines.specs.declared.list_line.ListLine.{ListLine}
@@ -44,20 +46,25 @@ bad_text bytes d d' l (Ok s) bad same is = inr (bad, is, same)
 bad_text bytes d d' l (Err e) bad same is = tt
 
 -- a wish is kept
-pub wished_text : {S E : Type 0} (bytes : S → List ℕ) (b w : ℕ) (o : Result S E) → IsWishedSomewhere b w → IfOk o (λ s. bytes s ≡ codes "wished" ++ 10 ∷ []) → IfOk o (λ s. IsWishAnswer b w (bytes s))
-wished_text bytes b w (Ok s) kept is = inl (kept, is)
-wished_text bytes b w (Err e) kept is = tt
+pub wished_text : {S E : Type 0} (bytes : S → List ℕ) (b w : ℕ) (after : Option Cell) (o : Result S E) → IsWishedSomewhere b w after → IfOk o (λ s. bytes s ≡ codes "wished" ++ 10 ∷ []) → IfOk o (λ s. IsWishAnswer b w after (bytes s))
+wished_text bytes b w after (Ok s) kept is = inl (kept, is)
+wished_text bytes b w after (Err e) kept is = tt
 
 -- or refused
-pub unwished_text : {S E : Type 0} (bytes : S → List ℕ) (b w : ℕ) (cause : Refusal) (o : Result S E) → IsUnwishedSomewhere b w cause → IfOk o (λ s. bytes s ≡ refused_text cause)
-    → IfOk o (λ s. IsWishAnswer b w (bytes s))
-unwished_text bytes b w cause (Ok s) somewhere is = inr (record { cause = cause; somewhere = somewhere; is = is })
-unwished_text bytes b w cause (Err e) somewhere is = tt
+pub unwished_text : {S E : Type 0} (bytes : S → List ℕ) (b w : ℕ) (after : Option Cell) (cause : Refusal) (o : Result S E) → IsUnwishedSomewhere b w cause → IfOk o (λ s. bytes s ≡ refused_text cause)
+    → IfOk o (λ s. IsWishAnswer b w after (bytes s))
+unwished_text bytes b w after cause (Ok s) somewhere is = inr (record { cause = cause; somewhere = somewhere; is = is })
+unwished_text bytes b w after cause (Err e) somewhere is = tt
 
 -- how a centre stands
-pub standing_text : {S E : Type 0} (bytes : S → List ℕ) (s : CentreStatus) (o : Result S E) → IsStatusSomewhere s → IfOk o (λ t. bytes t ≡ status_text s) → IfOk o (λ t. IsStatusAnswer (bytes t))
-standing_text bytes s (Ok t) somewhere is = record { status = s; somewhere = somewhere; is = is }
-standing_text bytes s (Err e) somewhere is = tt
+pub standing_text : {S E : Type 0} (bytes : S → List ℕ) (d : DeskState) (s : CentreStatus) (o : Result S E) → IsStatusSomewhere d s → IfOk o (λ t. bytes t ≡ status_text s) → IfOk o (λ t. IsStatusAnswer d (bytes t))
+standing_text bytes d s (Ok t) somewhere is = inl (record { status = s; somewhere = somewhere; is = is })
+standing_text bytes d s (Err e) somewhere is = tt
+
+-- or that its desk is unknown
+pub unknown_text : {S E : Type 0} (bytes : S → List ℕ) (d : DeskState) (cause : Refusal) (o : Result S E) → IsWrongDesk cause → IfOk o (λ t. bytes t ≡ refused_text cause) → IfOk o (λ t. IsStatusAnswer d (bytes t))
+unknown_text bytes d cause (Ok t) wrong is = inr (record { cause = cause; wrong = wrong; is = is })
+unknown_text bytes d cause (Err e) wrong is = tt
 
 -- a list is printed
 pub heard_list : {E : Type 0} (d d' : DeskState) (l : ListLine) (o : Result Heard E) → IfOk o (IsListed d l) → d' ≡ d → IfOk o (IsHeardAs d (line.List l) d')

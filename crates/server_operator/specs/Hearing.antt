@@ -1,5 +1,6 @@
 -- What comes of a line of an operator.
 use Rattle.std.specs.Prelude.{◌≡◌, ◌⊎◌, ◌++◌, ℕ, Bool, List, [], ◌∷◌, Option, Some, None, MatchBool, MatchOption, codes, string_bytes}
+use Rattle.common.specs.declared.cell.Cell.{Cell}
 use Rattle.centre_events.specs.declared.event.Event.TheVariants as event
 use Rattle.centre_events.specs.declared.refusal.Refusal.{Refusal}
 use Rattle.centre_events.specs.declared.refusal.Refusal.TheVariants as refusal
@@ -41,14 +42,14 @@ pub record IsSayText (before : DeskState) (l : TextLine) (after : DeskState) (te
 abbrev pub IsSayAnswer : DeskState → TextLine → DeskState → List ℕ → Type 0
 IsSayAnswer before l after text = IsSayText before l after text ⊎ (IsSaid l said.BadText × (text ≡ codes "bad text" ++ 10 ∷ []) × (after ≡ before))
 
--- the wish is kept, or the text is the cause for which it isn't
+-- the wish is kept, with the cell after which it asks, or the text is the cause for which it isn't
 pub record IsUnwished (b w : ℕ) (text : List ℕ) : Type 0 where
   pub cause : Refusal
   pub somewhere : IsUnwishedSomewhere b w cause
   pub is : text ≡ refused_text cause
 
-abbrev pub IsWishAnswer : ℕ → ℕ → List ℕ → Type 0
-IsWishAnswer b w text = (IsWishedSomewhere b w × (text ≡ codes "wished" ++ 10 ∷ [])) ⊎ IsUnwished b w text
+abbrev pub IsWishAnswer : ℕ → ℕ → Option Cell → List ℕ → Type 0
+IsWishAnswer b w after text = (IsWishedSomewhere b w after × (text ≡ codes "wished" ++ 10 ∷ [])) ⊎ IsUnwished b w text
 
 -- the line is answered with such a text
 abbrev pub IsAnswered : (List ℕ → Type 0) → Heard → Type 0
@@ -63,8 +64,8 @@ IsListed before l (heard.Left leaving) = ⊥
 
 -- what comes of a line that ends nothing
 abbrev pub IsHeardAs : DeskState → ServerLine → DeskState → Heard → Type 0
-IsHeardAs before (line.Wish b w after_cell) after h = IsAnswered (IsWishAnswer b w) h × (after ≡ before)
-IsHeardAs before line.Status after h = IsAnswered IsStatusAnswer h × (after ≡ before)
+IsHeardAs before (line.Wish b w after_cell) after h = IsAnswered (IsWishAnswer b w after_cell) h × (after ≡ before)
+IsHeardAs before line.Status after h = IsAnswered (IsStatusAnswer before) h × (after ≡ before)
 IsHeardAs before line.Help after h = IsAnswered (λ text. Unit {0}) h × (after ≡ before)
 IsHeardAs before (line.List l) after h = IsListed before l h × (after ≡ before)
 IsHeardAs before (line.Text l) after h = IsAnswered (IsSayAnswer before l after) h

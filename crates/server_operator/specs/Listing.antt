@@ -15,7 +15,7 @@ use Rattle.centre_questions.specs.declared.seen_value.SeenValue.TheVariants as v
 use Rattle.console_text.specs.Texts.{refused_text}
 use Rattle.lists_text.specs.ListTexts.{area_text, areas_text, bscs_text, cells_text, failed_text, links_text, sheet_text, status_text, warnings_text}
 use Rattle.office.specs.Desks.{DeskState}
-use Rattle.office.specs.Offices.{IsSeenSomewhere, IsUnseenSomewhere}
+use Rattle.office.specs.Offices.{IsSeenSomewhere, IsUnseenSomewhere, IsWrongDesk}
 use Rattle.office.specs.Statuses.{IsStatusSomewhere}
 use Rattle.office.specs.declared.seen.Seen.{Seen}
 use Rattle.server_lines.specs.declared.list_line.ListLine.{ListLine}
@@ -88,8 +88,18 @@ pub record IsUnlisted (d : DeskState) (line : ListLine) (text : List ℕ) : Type
 abbrev pub IsListAnswer : DeskState → ListLine → List ℕ → Type 0
 IsListAnswer d line text = IsListed d line text ⊎ IsUnlisted d line text
 
--- the text says how some centre with a lawful history stands
-pub record IsStatusAnswer (text : List ℕ) : Type 0 where
+-- the text says how some centre stands that has as many entries of the desk as that has receipts
+pub record IsStanding (d : DeskState) (text : List ℕ) : Type 0 where
   pub status : CentreStatus
-  pub somewhere : IsStatusSomewhere status
+  pub somewhere : IsStatusSomewhere d status
   pub is : text ≡ status_text status
+
+-- the text is that the desk isn't as the office knows it
+pub record IsUnknownDesk (text : List ℕ) : Type 0 where
+  pub cause : Refusal
+  pub wrong : IsWrongDesk cause
+  pub is : text ≡ refused_text cause
+
+-- what `status` is answered
+abbrev pub IsStatusAnswer : DeskState → List ℕ → Type 0
+IsStatusAnswer d text = IsStanding d text ⊎ IsUnknownDesk text

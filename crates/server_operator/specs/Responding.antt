@@ -9,6 +9,7 @@ use Rattle.console_text.specs.declared.line.Line.TheVariants as line
 use Rattle.console_text.specs.declared.response.Response.{Response}
 use Rattle.console_text.specs.declared.response.Response.TheVariants as response
 use Rattle.office.specs.Desks.{DeskState}
+use Rattle.office.specs.Offices.{IsRebuiltSomewhere, IsWrongDesk}
 use Rattle.server_operator.specs.Asking.{IsAskAnswer}
 use Rattle.server_operator.specs.Edits.{asked_of}
 use Rattle.server_operator.specs.Submitting.{IsSubmitAnswer}
@@ -19,6 +20,12 @@ use Rattle.server_operator.specs.declared.asked.Asked.TheVariants as asked
 abbrev pub IsAsked : DeskState → Question → DeskState → Response → Type 0
 IsAsked before q after r = IsAskAnswer before q r × (after ≡ before)
 
+-- a centre that meets the desk is whole, or it is refused since memory ran out, or the desk isn't as the office knows it
+abbrev pub IsRebuildAnswer : DeskState → Response → Type 0
+IsRebuildAnswer d response.Rebuilt = IsRebuiltSomewhere d
+IsRebuildAnswer d (response.Refused cause) = (cause ≡ refusal.Memory) ⊎ IsWrongDesk cause
+IsRebuildAnswer d other = ⊥
+
 -- how a line is answered that is no edit: a `retry`, a question, a `rebuild` or a `checkpoint`; any other is a bad line
 abbrev pub IsOtherAnswer : DeskState → Line → DeskState → Response → Type 0
 IsOtherAnswer before (line.Retry b) after r = IsSubmitAnswer before (event.Retry b) after r
@@ -26,7 +33,7 @@ IsOtherAnswer before (line.Board w) after r = IsAsked before (question.Total w) 
 IsOtherAnswer before (line.AreaBoard w a) after r = IsAsked before (question.Area w a) after r
 IsOtherAnswer before (line.Pending b) after r = IsAsked before (question.Pending b) after r
 IsOtherAnswer before (line.Table b) after r = IsAsked before (question.Table b) after r
-IsOtherAnswer before line.Rebuild after r = ((r ≡ response.Rebuilt) ⊎ (r ≡ response.Refused refusal.Memory)) × (after ≡ before)
+IsOtherAnswer before line.Rebuild after r = IsRebuildAnswer before r × (after ≡ before)
 IsOtherAnswer before line.Checkpoint after r = after ≡ before
 IsOtherAnswer before other after r = (r ≡ response.BadLine) × (after ≡ before)
 

@@ -43,7 +43,7 @@ fn wish<L: Ledger, S: Server, R: Wait>(
     warning: WarningId,
     after: Option<Cell>,
 ) -> Result<String, AllocError>
-    ensures { IfOk result (λ text. IsWishAnswer b warning (string_bytes text)) }
+    ensures { IfOk result (λ text. IsWishAnswer b warning after (string_bytes text)) }
 {
     match operator.office.wish(rt, b, warning, after) {
         Ok(()) => String::from_str(operator.alloc, "wished\n"),
@@ -127,7 +127,7 @@ fn hear_request<L: Ledger, S: Server, R: Wait + Clock>(
         ServerLine::Wish(b, warning, after) => {
             Ok(Heard::Answered(wish(rt, operator, b, warning, after)?))
         }
-        ServerLine::Status => Ok(Heard::Answered(status(rt, operator)?)),
+        ServerLine::Status => Ok(Heard::Answered(status(rt, operator, desk)?)),
         ServerLine::Help => Ok(Heard::Answered(help_text(operator.alloc)?)),
         ServerLine::Text(line) => Ok(Heard::Answered(say(rt, operator, desk, line)?)),
         ServerLine::CutLink(b) => Ok(Heard::Answered(cut_line(rt, operator, desk, b)?)),

@@ -58,13 +58,16 @@ pub(crate) fn list<L: Ledger, S: Server, R: Wait>(
 }
 
 /// What `status` is answered.
-#[tactic(auto, using(crate::proofs::HearingLemmas::standing_text))]
+#[tactic(auto, using(crate::proofs::HearingLemmas::standing_text, crate::proofs::HearingLemmas::unknown_text))]
 pub(crate) fn status<L: Ledger, S: Server, R: Wait>(
     rt: &R,
     operator: &Operator<'_, L, S>,
+    desk: &Desk<L>,
 ) -> Result<String, AllocError>
-    ensures { IfOk result (λ text. IsStatusAnswer (string_bytes text)) }
+    ensures { IfOk result (λ text. IsStatusAnswer desk.now (string_bytes text)) }
 {
-    let status = operator.office.status(rt);
-    status_text(operator.alloc, &status)
+    match operator.office.status(rt, desk) {
+        Ok(status) => status_text(operator.alloc, &status),
+        Err(refusal) => response_text(operator.alloc, Response::Refused(refusal)),
+    }
 }

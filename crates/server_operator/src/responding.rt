@@ -1,9 +1,8 @@
 //! What the lines of the console are answered.
 
-ghost use Rattle.std.specs.Prelude.{◌≡◌, ◌⊎◌, IfOk};
+ghost use Rattle.std.specs.Prelude.{IfOk};
 ghost use Rattle.console_text.specs.Texts.{ResponseFits};
-ghost use Rattle.console_text.specs.declared.response.Response.TheVariants as response_spec;
-ghost use Rattle.server_operator.specs.Responding.{IsAnswer, IsOtherAnswer};
+ghost use Rattle.server_operator.specs.Responding.{IsAnswer, IsOtherAnswer, IsRebuildAnswer};
 
 use crate::asked::Asked;
 use crate::asking::ask;
@@ -12,7 +11,6 @@ use crate::operator::Operator;
 use crate::server::Server;
 use crate::submitting::{edit, submit};
 use centre_events::event::Event;
-use centre_events::refusal::Refusal;
 use console_text::line::Line;
 use console_text::response::Response;
 use office::desk::Desk;
@@ -23,12 +21,17 @@ use std::sync::ledger::Ledger;
 use std::time::Clock;
 
 /// Makes a stale centre whole.
-fn rebuild<L: Ledger, S: Server, R: Wait>(rt: &R, operator: &Operator<'_, L, S>) -> Response
-    ensures { (result ≡ response_spec.Rebuilt) ⊎ (result ≡ response_spec.Refused Refusal.Memory) }
+fn rebuild<L: Ledger, S: Server, R: Wait>(
+    rt: &R,
+    operator: &Operator<'_, L, S>,
+    desk: &Desk<L>,
+) -> Response
+    ensures answer { IsRebuildAnswer desk.now result }
+    ensures fits { ResponseFits result }
 {
-    match operator.office.rebuild(rt) {
+    match operator.office.rebuild(rt, desk) {
         Ok(()) => Response::Rebuilt,
-        Err(_) => Response::Refused(Refusal::Memory),
+        Err(refusal) => Response::Refused(refusal),
     }
 }
 
@@ -59,7 +62,7 @@ fn respond_other<L: Ledger, S: Server, R: Wait>(
         Line::AreaBoard(warning, area) => ask(rt, operator, desk, Question::Area(warning, area)),
         Line::Pending(b) => ask(rt, operator, desk, Question::Pending(b)),
         Line::Table(b) => ask(rt, operator, desk, Question::Table(b)),
-        Line::Rebuild => rebuild(rt, operator),
+        Line::Rebuild => rebuild(rt, operator, desk),
         Line::Checkpoint => checkpoint(rt, operator),
         other => {
             drop(other);

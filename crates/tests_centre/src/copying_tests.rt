@@ -91,7 +91,7 @@ fn is_undone(rt: &impl Abort, kept: &mut Kept, b: BscId) {
 }
 
 /// A copy; where memory runs out once, what is copied is as it was.
-fn copied(rt: &impl Abort, alloc: Global, kept: &Kept, b: BscId) -> Kept {
+fn copied(rt: &impl Abort, alloc: Global, kept: &mut Kept, b: BscId) -> Kept {
     match kept.copied(alloc) {
         Ok(copy) => copy,
         Err(_) => {
@@ -108,7 +108,7 @@ fn a_copy_of_what_is_kept_stands_alone(rt: HostRuntime) {
     let mut kept = Kept::new(alloc);
     plans(&rt, alloc, &mut kept, b);
     reports(&rt, alloc, &mut kept, b);
-    let copy = copied(&rt, alloc, &kept, b);
+    let copy = copied(&rt, alloc, &mut kept, b);
     is_undone(&rt, &mut kept, b);
     is_whole(&rt, alloc, &copy, b);
 }

@@ -43,4 +43,6 @@ mod waiting_tests;
 #[cfg(test)]
 mod waking_tests;
 #[cfg(test)]
+mod wish_tests;
+#[cfg(test)]
 mod write_side_tests;

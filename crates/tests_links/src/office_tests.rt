@@ -254,7 +254,8 @@ fn calls<L: Ledger, R: Wait + Abort>(rt: &R, alloc: Global, blank: Blank)
     let mut desk = opens(rt, &office);
     lends(rt, &office, &mut desk, b);
     answers(rt, alloc, &office, &desk, b);
-    office.rebuild(rt).expect(rt, "the centre is rebuilt");
+    let rebuilt = office.rebuild(rt, &desk);
+    rebuilt.expect(rt, "the centre is rebuilt");
     edits(rt, &office, &mut desk, Edit::AddCell(SEVEN, b));
     let found = finds(rt, &office, &desk, SEVEN, b);
     yes(rt, found, "the cell isn't found");

@@ -114,8 +114,9 @@ fn wakes_after_issue<L: Ledger, R: Wait + Abort>(rt: &R, alloc: Global, blank: B
         refused,
         question == Some(Refusal::Stale),
     );
-    if office.rebuild(rt).is_err() {
-        office.rebuild(rt).expect(rt, "the centre is rebuilt");
+    if office.rebuild(rt, &desk).is_err() {
+        let rebuilt = office.rebuild(rt, &desk);
+        rebuilt.expect(rt, "the centre is rebuilt");
     }
     let wake = office.wait_pending(rt, &mut desk, b, LINK);
     same(rt, wake, Wake::Order, "rebuilt");

@@ -395,7 +395,8 @@ fn reads<L: Ledger, R: Wait + Abort>(rt: &R, alloc: Global, blank: Blank, is_reb
 {
     let (office, desk) = linked::<L, R>(rt, alloc, blank, 1000);
     if is_rebuilt {
-        office.rebuild(rt).expect(rt, "the centre is rebuilt");
+        let rebuilt = office.rebuild(rt, &desk);
+        rebuilt.expect(rt, "the centre is rebuilt");
     }
     let desks = vec![in alloc; desk].expect(rt, "memory");
     match office.settle(desks) {

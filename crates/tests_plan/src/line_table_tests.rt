@@ -254,14 +254,20 @@ fn lines_that_are_told_of_are_counted(rt: HostRuntime) {
 }
 
 /// A copy; where memory runs out once, the table is as it was. It has a line, one that is held, and a cell that is down.
+/// Both lines are counted, in the table and in the copy.
 fn copied(rt: &impl Abort, table: &mut LineTable, b: BscId) -> LineTable {
-    match table.copied() {
+    let mut before = table.meter();
+    let copy = match table.copied() {
         Ok(copy) => copy,
         Err(_) => {
             are_reported(rt, table, b);
+            before = table.meter();
             table.copied().expect(rt, "memory")
         }
-    }
+    };
+    yes(rt, table.meter().saturating_sub(before) == 2, "both lines");
+    yes(rt, copy.meter() == table.meter(), "the meter of the copy");
+    copy
 }
 
 /// The lines are blank again, and the cell is up.
@@ -274,7 +280,6 @@ fn are_taken_out(rt: &impl Abort, table: &mut LineTable, b: BscId) {
 
 /// The copy has all of that.
 fn is_whole(rt: &impl Abort, copy: &mut LineTable, register: &Register, b: BscId) {
-    yes(rt, copy.meter() == 0, "no line of the copy was read");
     are_reported(rt, copy, b);
     holds(rt, copy, MOVED, &[7]);
     names_known(rt, copy, register, b);

@@ -12,5 +12,5 @@ invariant-loop-done l = record {
   same : l.journal.entries ≡ l.initial.journal.entries;
   counted : l.journal.reads ≡ counted_by (l.done - length l.initial.journal.folded) l.initial.journal.reads;
   kept : IsKept (past_of (take l.done (l.initial.journal.folded ++ l.initial.journal.entries))) l.kept;
-  metered : l.kept.tables.lines.meter + 4 * all_reach (past_of l.initial.journal.folded) ≤ 4 * all_reach (past_of (take l.done (l.initial.journal.folded ++ l.initial.journal.entries)));
+  metered : l.kept.tables.lines.meter + 4 * all_reach (past_of l.initial.journal.folded) ≤ l.base.kept.tables.lines.meter + 4 * all_reach (past_of (take l.done (l.initial.journal.folded ++ l.initial.journal.entries)));
 }

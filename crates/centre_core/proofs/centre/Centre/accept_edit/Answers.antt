@@ -1,4 +1,4 @@
-use Rattle.std.proofs.Common.{◌≡◌, ◌+◌, ◌*◌, ◌≤◌, ◌∙◌, ◌++◌, ◌∷◌, [], false, Ok, Err, sym, ap, subst}
+use Rattle.std.proofs.Common.{◌≡◌, ◌+◌, ◌*◌, ◌≤◌, ◌∙◌, ◌++◌, ◌∷◌, [], false, Ok, Err, sym, ap, subst, arith}
 use Rattle.centre_core.specs.Centre.{IsWhole, past_over}
 use Rattle.centre_events.specs.Past.{past_of}
 use Rattle.centre_events.specs.Verdict.{verdict}
@@ -8,6 +8,7 @@ use Rattle.centre_past.specs.declared.kept.Kept.{Kept}
 use Rattle.centre_core.proofs.CentreLemmas.{Enters, centre_after, centre_entered, centre_stale, whole_centre, edit_enters, edit_lines, edit_lines_then, entry_accepted, kept_entered, leaves_stale, made_there, not_stale, refuses, refuses_starved}
 use Rattle.centre_events.specs.declared.entry.Entry.{Entry}
 use Rattle.centre_lines.specs.Following.{most_accesses}
+use Rattle.centre_core.proofs.MeterLemmas.{lines_least, lines_most}
 use Rattle.centre_core.proofs.centre.Centre.accept_edit.Goals.{After-enter, After-position-place, After-prepare_edit, In_ok-answer}
 use Rattle.centre_core.proofs.centre.Centre.accept_edit.Goals as goal
 
@@ -38,6 +39,10 @@ lines c =
     (subst (λ (y : Entry). c.enter.new.kept.tables.lines.meter ≤ c.make.new.kept.tables.lines.meter + most_accesses y.event y.answer c.make.new.kept.plan.book c.in_ok-reached.reached.spots.items c.in_ok-reached.reached.lines) c.in_ok-entry.ensures.entry c.enter.ensures.meter)
     (c.in_ok-reached.ensures.reached centre c.in_ok-answer.answer answered)
 
+-- and they are no fewer than before
+risen : (c : After-enter) → c.self.inside.kept.tables.lines.meter ≤ c.enter.new.kept.tables.lines.meter
+risen c = omega (arith, c.prepare_edit.ensures.reads.tables.meter, ap (λ (k : Kept). k.tables.lines.meter) c.in_ok-answer.ensures.made, c.enter.ensures.least)
+
 pub invariant_of-self : goal.invariant_of-self
 invariant_of-self c = centre_after c.self.invariant c.prepare_edit.ensures.folded c.prepare_edit.ensures.entries c.prepare_edit.ensures.reads
 
@@ -49,7 +54,7 @@ returns-in_err-reached-clause-refusal c =
 pub returns-in_err-reached-clause-lines : goal.returns-in_err-reached-clause-lines
 returns-in_err-reached-clause-lines c =
     let centre = whole (goal.at.returns-in_err-reached-clause-lines c).After-prepare_edit in
-    rw (← c.self.view_is) (edit_lines c.self.inside.settings (past_over c.self.inside.journal.folded c.self.inside.journal.entries) c.args.edit c.self.inside.kept.tables.lines.meter c.prepare_edit.new.kept.tables.lines.meter (c.prepare_edit.ensures.meter centre))
+    rw (← c.self.view_is) (lines_most c.self.inside.base.begun (edit_lines c.self.inside.settings (past_over c.self.inside.journal.folded c.self.inside.journal.entries) c.args.edit c.self.inside.kept.tables.lines.meter c.prepare_edit.new.kept.tables.lines.meter (c.prepare_edit.ensures.meter centre)))
 
 pub invariant_of-self-in_err-answer : goal.invariant_of-self-in_err-answer
 invariant_of-self-in_err-answer c =
@@ -64,7 +69,7 @@ returns-in_err-answer-clause-refusal c =
 pub returns-in_err-answer-clause-lines : goal.returns-in_err-answer-clause-lines
 returns-in_err-answer-clause-lines c =
     let centre = whole (goal.at.returns-in_err-answer-clause-lines c).After-prepare_edit in
-    rw (← c.self.view_is, c.in_err-answer.ensures.unchanged) (edit_lines c.self.inside.settings (past_over c.self.inside.journal.folded c.self.inside.journal.entries) c.args.edit c.self.inside.kept.tables.lines.meter c.prepare_edit.new.kept.tables.lines.meter (c.prepare_edit.ensures.meter centre))
+    rw (← c.self.view_is, c.in_err-answer.ensures.unchanged) (lines_most c.self.inside.base.begun (edit_lines c.self.inside.settings (past_over c.self.inside.journal.folded c.self.inside.journal.entries) c.args.edit c.self.inside.kept.tables.lines.meter c.prepare_edit.new.kept.tables.lines.meter (c.prepare_edit.ensures.meter centre)))
 
 pub enter-requires-clause-finishes : goal.enter-requires-clause-finishes
 enter-requires-clause-finishes c = (enters (goal.at.enter-requires-clause-finishes c).After-position-place).known
@@ -75,7 +80,7 @@ returns-in_err-enter-clause-refusal c =
     refuses_starved c.args.self.now.known (event.Edit c.args.edit) c.from_residual-in_err-enter.result c.from_residual-in_err-enter.ensures.1 c.requires.whole (rw (← c.self.view_is) (c.in_ok-reached.ensures.accepted centre))
 
 pub returns-in_err-enter-clause-lines : goal.returns-in_err-enter-clause-lines
-returns-in_err-enter-clause-lines c = rw (← c.self.view_is) (lines (goal.at.returns-in_err-enter-clause-lines c).After-enter)
+returns-in_err-enter-clause-lines c = rw (← c.self.view_is) (lines_most c.self.inside.base.begun (lines (goal.at.returns-in_err-enter-clause-lines c).After-enter))
 
 pub invariant_of-self-in_err-enter : goal.invariant_of-self-in_err-enter
 invariant_of-self-in_err-enter c =
@@ -95,4 +100,16 @@ pub returns-clause-answer : goal.returns-clause-answer
 returns-clause-answer c = rw (← c.self.view_is, c.in_ok-entry.ensures.answer) (given (goal.at.returns-clause-answer c).In_ok-answer)
 
 pub returns-clause-lines : goal.returns-clause-lines
-returns-clause-lines c = rw (← c.self.view_is) (lines (goal.at.returns-clause-lines c).After-enter)
+returns-clause-lines c = rw (← c.self.view_is) (lines_most c.self.inside.base.begun (lines (goal.at.returns-clause-lines c).After-enter))
+
+pub returns-in_err-reached-clause-least : goal.returns-in_err-reached-clause-least
+returns-in_err-reached-clause-least c = rw (← c.self.view_is) (lines_least c.self.inside.base.begun c.prepare_edit.ensures.reads.tables.meter)
+
+pub returns-in_err-answer-clause-least : goal.returns-in_err-answer-clause-least
+returns-in_err-answer-clause-least c = rw (← c.self.view_is, c.in_err-answer.ensures.unchanged) (lines_least c.self.inside.base.begun c.prepare_edit.ensures.reads.tables.meter)
+
+pub returns-in_err-enter-clause-least : goal.returns-in_err-enter-clause-least
+returns-in_err-enter-clause-least c = rw (← c.self.view_is) (lines_least c.self.inside.base.begun (risen (goal.at.returns-in_err-enter-clause-least c).After-enter))
+
+pub returns-clause-least : goal.returns-clause-least
+returns-clause-least c = rw (← c.self.view_is) (lines_least c.self.inside.base.begun (risen (goal.at.returns-clause-least c).After-enter))

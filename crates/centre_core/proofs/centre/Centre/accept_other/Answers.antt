@@ -1,4 +1,4 @@
-use Rattle.std.proofs.Common.{◌≤◌, ◌+◌, ◌*◌, ◌∙◌, ◌++◌, ◌∷◌, [], Err, refl, sym, ap, subst}
+use Rattle.std.proofs.Common.{◌≤◌, ◌+◌, ◌*◌, ◌∙◌, ◌++◌, ◌∷◌, [], Err, refl, sym, ap, subst, arith}
 use Rattle.std.specs.Prelude.{IsOk}
 use Rattle.centre_core.specs.Centre.{IsWhole, past_over}
 use Rattle.centre_events.specs.Past.{past_of}
@@ -9,6 +9,7 @@ use Rattle.centre_past.specs.Links.{AreLinksOf}
 use Rattle.centre_past.specs.Reach.{reach}
 use Rattle.centre_past.proofs.ReadLemmas.{reads_kept}
 use Rattle.centre_core.proofs.CentreLemmas.{Enters, centre_after, centre_entered, centre_stale, whole_centre, entry_accepted, kept_entered, leaves_stale, lines_then, not_stale, other_enters, refuses, refuses_starved, within_four}
+use Rattle.centre_core.proofs.MeterLemmas.{lines_least, lines_most}
 use Rattle.centre_core.proofs.centre.Centre.accept_other.Goals.{After-enter, After-position-place, After-prepare_other}
 use Rattle.centre_core.proofs.centre.Centre.accept_other.Goals as goal
 
@@ -35,6 +36,10 @@ lines c =
     (c.prepare_other.ensures.meter centre)
     (subst (λ (y : Entry). c.enter.new.kept.tables.lines.meter ≤ c.prepare_other.new.kept.tables.lines.meter + most_accesses y.event y.answer c.prepare_other.new.kept.plan.book c.in-Ok.found.reached.spots.items c.in-Ok.found.reached.lines) c.in_ok-entry.ensures.entry c.enter.ensures.meter) (c.in-Ok.ensures.reached centre)
 
+-- and they are no fewer than before
+risen : (c : After-enter) → c.self.inside.kept.tables.lines.meter ≤ c.enter.new.kept.tables.lines.meter
+risen c = omega (arith, c.prepare_other.ensures.reads.tables.meter, c.enter.ensures.least)
+
 pub invariant_of-self : goal.invariant_of-self
 invariant_of-self c = centre_after c.self.invariant c.prepare_other.ensures.folded c.prepare_other.ensures.entries c.prepare_other.ensures.reads
 
@@ -44,19 +49,19 @@ returns-in-Err-clause-refusal c =
     refuses c.args.self.now.known c.args.event (Err c.in-Err.refusal) c.in-Err.refusal refl c.requires.whole (rw (← c.self.view_is) (c.in-Err.ensures.refusal centre))
 
 pub returns-in-Err-clause-lines : goal.returns-in-Err-clause-lines
-returns-in-Err-clause-lines c = rw (← c.self.view_is) (looked (goal.at.returns-in-Err-clause-lines c).After-prepare_other)
+returns-in-Err-clause-lines c = rw (← c.self.view_is) (lines_most c.self.inside.base.begun (looked (goal.at.returns-in-Err-clause-lines c).After-prepare_other))
 
 pub invariant_of-self-in_err-entry : goal.invariant_of-self-in_err-entry
 invariant_of-self-in_err-entry c = centre_after c.self.invariant c.prepare_other.ensures.folded c.prepare_other.ensures.entries c.prepare_other.ensures.reads
 
 pub returns-in_err-entry-clause-lines : goal.returns-in_err-entry-clause-lines
-returns-in_err-entry-clause-lines c = rw (← c.self.view_is) (looked (goal.at.returns-in_err-entry-clause-lines c).After-prepare_other)
+returns-in_err-entry-clause-lines c = rw (← c.self.view_is) (lines_most c.self.inside.base.begun (looked (goal.at.returns-in_err-entry-clause-lines c).After-prepare_other))
 
 pub enter-requires-clause-finishes : goal.enter-requires-clause-finishes
 enter-requires-clause-finishes c = (enters (goal.at.enter-requires-clause-finishes c).After-position-place).known
 
 pub returns-in_err-enter-clause-lines : goal.returns-in_err-enter-clause-lines
-returns-in_err-enter-clause-lines c = rw (← c.self.view_is) (lines (goal.at.returns-in_err-enter-clause-lines c).After-enter)
+returns-in_err-enter-clause-lines c = rw (← c.self.view_is) (lines_most c.self.inside.base.begun (lines (goal.at.returns-in_err-enter-clause-lines c).After-enter))
 
 pub invariant_of-self-in_err-enter : goal.invariant_of-self-in_err-enter
 invariant_of-self-in_err-enter c =
@@ -79,4 +84,16 @@ invariant_of-self-2 c =
     (kept_entered (enters (goal.at.invariant_of-self-2 c).After-position-place) c.in_ok-enter.ensures.kept)
 
 pub returns-clause-lines : goal.returns-clause-lines
-returns-clause-lines c = rw (← c.self.view_is) (lines (goal.at.returns-clause-lines c).After-enter)
+returns-clause-lines c = rw (← c.self.view_is) (lines_most c.self.inside.base.begun (lines (goal.at.returns-clause-lines c).After-enter))
+
+pub returns-in-Err-clause-least : goal.returns-in-Err-clause-least
+returns-in-Err-clause-least c = rw (← c.self.view_is) (lines_least c.self.inside.base.begun c.prepare_other.ensures.reads.tables.meter)
+
+pub returns-in_err-entry-clause-least : goal.returns-in_err-entry-clause-least
+returns-in_err-entry-clause-least c = rw (← c.self.view_is) (lines_least c.self.inside.base.begun c.prepare_other.ensures.reads.tables.meter)
+
+pub returns-in_err-enter-clause-least : goal.returns-in_err-enter-clause-least
+returns-in_err-enter-clause-least c = rw (← c.self.view_is) (lines_least c.self.inside.base.begun (risen (goal.at.returns-in_err-enter-clause-least c).After-enter))
+
+pub returns-clause-least : goal.returns-clause-least
+returns-clause-least c = rw (← c.self.view_is) (lines_least c.self.inside.base.begun (risen (goal.at.returns-clause-least c).After-enter))

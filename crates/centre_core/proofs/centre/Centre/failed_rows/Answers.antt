@@ -1,5 +1,6 @@
 use Rattle.std.proofs.Common.{refl}
 use Rattle.centre_core.proofs.CentreLemmas.{centre_reads}
+use Rattle.centre_core.proofs.MeterLemmas.{lines_least}
 use Rattle.centre_past.proofs.ReadLemmas.{as_itself}
 use Rattle.centre_lines.proofs.BeforeLemmas.{reads_as}
 use Rattle.centre_core.proofs.centre.Centre.failed_rows.Goals as goal
@@ -15,7 +16,7 @@ invariant_of-self-2 c =
     (record { plan = refl; links = refl; tables = reads_as c.self.inside.kept.tables c.failed.new.tables (c.failed.ensures.kept c.self.inside.kept.tables (as_itself c.self.inside.kept.tables)) })
 
 pub returns-clause-least : goal.returns-clause-least
-returns-clause-least c = rw (← c.self.view_is) ((c.failed.ensures.kept c.self.inside.kept.tables (as_itself c.self.inside.kept.tables)).meter)
+returns-clause-least c = rw (← c.self.view_is) (lines_least c.self.inside.base.begun (c.failed.ensures.kept c.self.inside.kept.tables (as_itself c.self.inside.kept.tables)).meter)
 
 pub returns-in_default-clause-least : goal.returns-in_default-clause-least
-returns-in_default-clause-least c = rw (← c.self.view_is) ((c.failed.ensures.kept c.self.inside.kept.tables (as_itself c.self.inside.kept.tables)).meter)
+returns-in_default-clause-least c = rw (← c.self.view_is) (lines_least c.self.inside.base.begun (c.failed.ensures.kept c.self.inside.kept.tables (as_itself c.self.inside.kept.tables)).meter)
