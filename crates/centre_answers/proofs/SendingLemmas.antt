@@ -23,27 +23,27 @@ none_more ((true, x) ∷ checks) t e h g = cc
 none_more ((false, x) ∷ checks) t e h g = none_more checks t e h g
 
 -- what is pending decides a Send over its link while nothing is in flight
-send_is : (past : Past) (b generation : ℕ) → first_refusal (link_checks past b generation) ≡ None → is_some (in_flight past b) ≡ false → send past b generation ≡ send_answer past (first (pending past b))
-send_is past b generation h g =
-    none_left (send_checks past b generation) (send_answer past (first (pending past b))) (none_more (link_checks past b generation) (is_some (in_flight past b)) InFlight h g)
+send_is : (requested : ℕ) (past : Past) (b generation : ℕ) → first_refusal (link_checks past b generation) ≡ None → is_some (in_flight past b) ≡ false → send requested past b generation ≡ send_answer requested past (first (pending past b))
+send_is requested past b generation h g =
+    none_left (send_checks past b generation) (send_answer requested past (first (pending past b))) (none_more (link_checks past b generation) (is_some (in_flight past b)) InFlight h g)
 
 -- nothing is pending
-pub send_nothing : (past : Past) (b generation : ℕ) → first_refusal (link_checks past b generation) ≡ None → is_some (in_flight past b) ≡ false → is_some (first (pending past b)) ≡ false → send past b generation ≡ Err NothingPending
-send_nothing past b generation h g none = send_is past b generation h g ∙ step (first (pending past b)) none
+pub send_nothing : (requested : ℕ) (past : Past) (b generation : ℕ) → first_refusal (link_checks past b generation) ≡ None → is_some (in_flight past b) ≡ false → is_some (first (pending past b)) ≡ false → send requested past b generation ≡ Err NothingPending
+send_nothing requested past b generation h g none = send_is requested past b generation h g ∙ step (first (pending past b)) none
   where
-    step : (o : Option Order) → is_some o ≡ false → send_answer past o ≡ Err NothingPending
+    step : (o : Option Order) → is_some o ≡ false → send_answer requested past o ≡ Err NothingPending
     step None e = refl
     step (Some order) e = cc
 
 -- something is, so the Send is not refused
-pub send_something : (past : Past) (b generation : ℕ) → first_refusal (link_checks past b generation) ≡ None → is_some (in_flight past b) ≡ false → is_some (first (pending past b)) ≡ true → IsOk (send past b generation)
-send_something past b generation h g some = subst IsOk (sym (send_is past b generation h g)) (step (first (pending past b)) some)
+pub send_something : (requested : ℕ) (past : Past) (b generation : ℕ) → first_refusal (link_checks past b generation) ≡ None → is_some (in_flight past b) ≡ false → is_some (first (pending past b)) ≡ true → IsOk (send requested past b generation)
+send_something requested past b generation h g some = subst IsOk (sym (send_is requested past b generation h g)) (step (first (pending past b)) some)
   where
-    step : (o : Option Order) → is_some o ≡ true → IsOk (send_answer past o)
+    step : (o : Option Order) → is_some o ≡ true → IsOk (send_answer requested past o)
     step None e = cc
     step (Some order) e = refl
 
 -- what is answered for the first order that is pending
-pub send_given : (past : Past) (b generation : ℕ) (o : Option Order) (r : Result Answer Refusal) → first_refusal (link_checks past b generation) ≡ None → is_some (in_flight past b) ≡ false → o ≡ first (pending past b) → Gives (send_answer past o) r → Gives (send past b generation) r
-send_given past b generation o r h g is given =
-    subst (λ v. Gives v r) (sym (send_is past b generation h g ∙ ap (send_answer past) (sym is))) given
+pub send_given : (requested : ℕ) (past : Past) (b generation : ℕ) (o : Option Order) (r : Result Answer Refusal) → first_refusal (link_checks past b generation) ≡ None → is_some (in_flight past b) ≡ false → o ≡ first (pending past b) → Gives (send_answer requested past o) r → Gives (send requested past b generation) r
+send_given requested past b generation o r h g is given =
+    subst (λ v. Gives v r) (sym (send_is requested past b generation h g ∙ ap (send_answer requested past) (sym is))) given

@@ -29,6 +29,7 @@ ghost use Rattle.centre_past.specs.declared.kept.Kept.{Kept};
 
 use centre_events::answer::Answer;
 use centre_events::event::Event;
+use centre_events::network::Network;
 use centre_events::refusal::Refusal;
 use centre_past::kept::Kept;
 use centre_past::telling::tell_lines;
@@ -112,12 +113,12 @@ pub fn make_edit(plan: &mut Plan, edit: &Edit) -> Verdict
     Ok(answer_of(made))
 }
 
-/// What an event that is no edit is answered. Its entry would have that number. The network is the centre's, as its three
-/// octets are sent (TS 24.008, 10.5.1.3). Lines are read for an Ask alone.
+/// What an event that is no edit is answered. Its entry would have that number. The network is the centre's. Lines are read for
+/// an Ask alone.
 #[tactic(auto, using(centre_past::proofs::ReadLemmas::reads_none))]
 pub fn answer(
     alloc: Global,
-    network: [u8; 3],
+    network: Network,
     kept: &mut Kept,
     place: u64,
     event: &Event,
@@ -134,12 +135,14 @@ pub fn answer(
         Event::LinkDown(b, generation) => {
             links::link_down(kept.links.as_slice(), kept.plan.register(), *b, *generation)
         }
-        Event::Send(b, generation) => sends::send(alloc, kept, *b, *generation),
+        Event::Send(b, generation) => {
+            sends::send(alloc, network.broadcasts, kept, *b, *generation)
+        }
         Event::Ask(b, generation, warning, after) => {
             queries::ask(alloc, kept, *b, *generation, *warning, *after)
         }
         Event::Report(b, generation, message) => {
-            reports::report(alloc, network, kept, *b, *generation, message)
+            reports::report(alloc, network.plmn, kept, *b, *generation, message)
         }
     }
 }

@@ -44,6 +44,7 @@ use Rattle.coverage_plan.specs.declared.edit.Edit.TheVariants as edit
 use Rattle.centre_events.specs.declared.event.Event.{Event}
 use Rattle.centre_events.specs.declared.event.Event.TheVariants as event
 use Rattle.centre_events.specs.declared.in_flight.InFlight.{InFlight}
+use Rattle.centre_events.specs.declared.network.Network.{Network}
 use Rattle.order_maker.specs.declared.order.Order.{Order}
 use Rattle.order_maker.specs.declared.order_kind.OrderKind.{OrderKind}
 use Rattle.order_maker.specs.declared.order_kind.OrderKind.TheVariants.{Write, Replace, Kill}
@@ -71,26 +72,26 @@ pages_fit pages h =
 cells_fit : (order : Order) → length order.cells ≤ 1000 → length (cells_octets (listed order.cells)) < 65536
 cells_fit order few = listed_fits order.cells few
 
-write_fits : (order : Order) (old : Option ℕ) (content : Content) → length order.cells ≤ 1000 → have_pages content ≡ true → Fits (write_message order old content)
-write_fits order old (contents.Cbs c) few good = record { cells = cells_fit order few; counts = tt; failures = tt; pages = pages_fit c.pages good }
-write_fits order old (contents.Emergency c) few good = record { cells = cells_fit order few; counts = tt; failures = tt; pages = tt }
+write_fits : (requested : ℕ) (order : Order) (old : Option ℕ) (content : Content) → length order.cells ≤ 1000 → have_pages content ≡ true → Fits (write_message requested order old content)
+write_fits requested order old (contents.Cbs c) few good = record { cells = cells_fit order few; counts = tt; failures = tt; pages = pages_fit c.pages good }
+write_fits requested order old (contents.Emergency c) few good = record { cells = cells_fit order few; counts = tt; failures = tt; pages = tt }
 
-message_fits : (order : Order) (kind : OrderKind) (content : Option Content) → length order.cells ≤ 1000 → IsCarriable content → IfSome content (λ c. have_pages c ≡ true) → Fits (message_by order kind content)
-message_fits order Write (Some content) few there good = write_fits order None content few good
-message_fits order (Replace old) (Some content) few there good = write_fits order (Some old) content few good
-message_fits order Kill content few there good = record { cells = cells_fit order few; counts = tt; failures = tt; pages = tt }
-message_fits order Write None few there good = cc
-message_fits order (Replace old) None few there good = cc
+message_fits : (requested : ℕ) (order : Order) (kind : OrderKind) (content : Option Content) → length order.cells ≤ 1000 → IsCarriable content → IfSome content (λ c. have_pages c ≡ true) → Fits (message_by requested order kind content)
+message_fits requested order Write (Some content) few there good = write_fits requested order None content few good
+message_fits requested order (Replace old) (Some content) few there good = write_fits requested order (Some old) content few good
+message_fits requested order Kill content few there good = record { cells = cells_fit order few; counts = tt; failures = tt; pages = tt }
+message_fits requested order Write None few there good = cc
+message_fits requested order (Replace old) None few there good = cc
 
-write_carries : (order : Order) (old : Option ℕ) (content : Content) → type_of (write_message order old content) ≡ type.WriteReplace
-write_carries order old (contents.Cbs c) = refl
-write_carries order old (contents.Emergency c) = refl
+write_carries : (requested : ℕ) (order : Order) (old : Option ℕ) (content : Content) → type_of (write_message requested order old content) ≡ type.WriteReplace
+write_carries requested order old (contents.Cbs c) = refl
+write_carries requested order old (contents.Emergency c) = refl
 
 -- a KILL carries a kill, and a WRITE-REPLACE a write
-message_carries : (order : Order) (kind : OrderKind) (content : Option Content) → type_of (message_by order kind content) ≡ (if is_kill kind then type.Kill else type.WriteReplace)
-message_carries order Write content = write_carries order None (given_content content)
-message_carries order (Replace old) content = write_carries order (Some old) (given_content content)
-message_carries order Kill content = refl
+message_carries : (requested : ℕ) (order : Order) (kind : OrderKind) (content : Option Content) → type_of (message_by requested order kind content) ≡ (if is_kill kind then type.Kill else type.WriteReplace)
+message_carries requested order Write content = write_carries requested order None (given_content content)
+message_carries requested order (Replace old) content = write_carries requested order (Some old) (given_content content)
+message_carries requested order Kill content = refl
 
 few_cells : most_cells ≤ 1000
 unfolding most_cells
@@ -105,13 +106,13 @@ first_is_short (order ∷ orders) = omega (arith, few_cells, take_few most_cells
 
 -- The first pending order, if there is one.
 
-send_fits : (past : Past) (next : Option Order) → IsSound (book_of past) → IfSome next (λ o. length o.cells ≤ 1000) → IfSome next (λ (o : Order). IsCarriable (content_of o.message_id o.serial (warnings_of past))) → IfOk (send_answer past next) AnswerFits
-send_fits past None good few there = tt
-send_fits past (Some o) good few there = message_fits o o.kind (content_of o.message_id o.serial (warnings_of past)) few there (content_has_pages o.message_id o.serial (warnings_of past) good.contents)
+send_fits : (requested : ℕ) (past : Past) (next : Option Order) → IsSound (book_of past) → IfSome next (λ o. length o.cells ≤ 1000) → IfSome next (λ (o : Order). IsCarriable (content_of o.message_id o.serial (warnings_of past))) → IfOk (send_answer requested past next) AnswerFits
+send_fits requested past None good few there = tt
+send_fits requested past (Some o) good few there = message_fits requested o o.kind (content_of o.message_id o.serial (warnings_of past)) few there (content_has_pages o.message_id o.serial (warnings_of past) good.contents)
 
-send_carries : (past : Past) (next : Option Order) → IfOk (send_answer past next) IsCarried
-send_carries past None = tt
-send_carries past (Some o) = message_carries o o.kind (content_of o.message_id o.serial (warnings_of past))
+send_carries : (requested : ℕ) (past : Past) (next : Option Order) → IfOk (send_answer requested past next) IsCarried
+send_carries requested past None = tt
+send_carries requested past (Some o) = message_carries requested o o.kind (content_of o.message_id o.serial (warnings_of past))
 
 -- A query, which names no more cells.
 
@@ -149,14 +150,14 @@ of_update : (P : Answer → Type 0) → OfPlain P → (o : Option ℕ) → IfOk 
 of_update P plain None = plain.done
 of_update P plain (Some s) = plain.updated s
 
-of_reply : (P : Answer → Type 0) → OfPlain P → (network : List ℕ) (reply : Message) (o : Option InFlight) → IfOk (reply_answer network reply o) P
-of_reply P plain network reply None = tt
-of_reply P plain network reply (Some f) = plain.replied _
+of_reply : (P : Answer → Type 0) → OfPlain P → (plmn : List ℕ) (reply : Message) (o : Option InFlight) → IfOk (reply_answer plmn reply o) P
+of_reply P plain plmn reply None = tt
+of_reply P plain plmn reply (Some f) = plain.replied _
 
-of_report : (P : Answer → Type 0) → OfPlain P → (network : List ℕ) (past : Past) (b : ℕ) (report : Message) (o : Option InFlight) → IfOk (report_answer network past b report o) P
-of_report P plain network past b (Restart m) o = plain.listed _
-of_report P plain network past b (Failure m) o = plain.listed _
-of_report P plain network past b other o = of_reply P plain network other o
+of_report : (P : Answer → Type 0) → OfPlain P → (plmn : List ℕ) (past : Past) (b : ℕ) (report : Message) (o : Option InFlight) → IfOk (report_answer plmn past b report o) P
+of_report P plain plmn past b (Restart m) o = plain.listed _
+of_report P plain plmn past b (Failure m) o = plain.listed _
+of_report P plain plmn past b other o = of_reply P plain plmn other o
 
 -- an edit is answered without a message
 of_edit : (P : Answer → Type 0) → OfPlain P → (past : Past) (e : Edit) (a : Answer) → edit_answered past e ≡ Ok a → P a
@@ -179,26 +180,26 @@ of_edit P plain past (edit.Stop n) a h = holds_after P (stop_checks past n) (Ok 
 of_edit P plain past (edit.Forget n) a h = holds_after P (forget_checks past n) (Ok Done) a plain.done h
 
 -- what holds of each answer without a message, of what a Send is answered and of each query holds of every answer
-of_answer : (P : Answer → Type 0) → OfPlain P → (network : List ℕ) (past : Past) → ((b : ℕ) → IfOk (send_answer past (first (pending past b))) P) → ((b : ℕ) (a : Answer) → IsQuery past b a → P a) → (e : Event) (a : Answer) → answered network past e ≡ Ok a → P a
+of_answer : (P : Answer → Type 0) → OfPlain P → (network : Network) (past : Past) → ((b : ℕ) → IfOk (send_answer network.broadcasts past (first (pending past b))) P) → ((b : ℕ) (a : Answer) → IsQuery past b a → P a) → (e : Event) (a : Answer) → answered network past e ≡ Ok a → P a
 of_answer P plain network past sent asked (event.Edit e) a h = of_edit P plain past e a h
 of_answer P plain network past sent asked (event.Retry b) a h = holds_after P (retry_checks past b) (Ok Done) a plain.done h
 of_answer P plain network past sent asked (event.LinkUp b) a h = holds_after P (link_up_checks past b) (Ok (Link (position past + 1))) a (plain.link (position past + 1)) h
 of_answer P plain network past sent asked (event.LinkDown b generation) a h = holds_after P (link_checks past b generation) (Ok Done) a plain.done h
-of_answer P plain network past sent asked (event.Send b generation) a h = holds_after P (send_checks past b generation) (send_answer past (first (pending past b))) a (sent b) h
+of_answer P plain network past sent asked (event.Send b generation) a h = holds_after P (send_checks past b generation) (send_answer network.broadcasts past (first (pending past b))) a (sent b) h
 of_answer P plain network past sent asked (event.Ask b generation n after) a h = asked b a (ask_query past b generation n after a h)
 of_answer P plain network past sent asked (event.Report b generation report) a h =
-    holds_after P (report_checks past b generation report) (report_answer network past b report (in_flight past b)) a (of_report P plain network past b report (in_flight past b)) h
+    holds_after P (report_checks past b generation report) (report_answer network.plmn past b report (in_flight past b)) a (of_report P plain network.plmn past b report (in_flight past b)) h
 
-answer_fits : (network : List ℕ) (past : Past) (e : Event) (answer : Answer) → IsSound (book_of past) → answered network past e ≡ Ok answer → AnswerFits answer
+answer_fits : (network : Network) (past : Past) (e : Event) (answer : Answer) → IsSound (book_of past) → answered network past e ≡ Ok answer → AnswerFits answer
 answer_fits network past e answer good h =
     of_answer AnswerFits (record { done = tt; link = λ n. tt; issued = λ n s. tt; updated = λ s. tt; replied = λ replies. tt; listed = λ cells. tt }) network past
-    (λ b. send_fits past (first (pending past b)) good (first_is_short (pending past b)) (sent_carriable past b (book_of past) (pending past b) (first (pending past b)) refl refl refl))
+    (λ b. send_fits network.broadcasts past (first (pending past b)) good (first_is_short (pending past b)) (sent_carriable past b (book_of past) (pending past b) (first (pending past b)) refl refl refl))
     (query_fits past) e answer h
 
-answer_carried : (network : List ℕ) (past : Past) (e : Event) (answer : Answer) → answered network past e ≡ Ok answer → IsCarried answer
+answer_carried : (network : Network) (past : Past) (e : Event) (answer : Answer) → answered network past e ≡ Ok answer → IsCarried answer
 answer_carried network past e answer h =
     of_answer IsCarried (record { done = tt; link = λ n. tt; issued = λ n s. tt; updated = λ s. tt; replied = λ replies. tt; listed = λ cells. tt }) network past
-    (λ b. send_carries past (first (pending past b))) (query_carries past) e answer h
+    (λ b. send_carries network.broadcasts past (first (pending past b))) (query_carries past) e answer h
 
 -- the book of a lawful past is that of a legal one
 lawful_sound : (settings : Settings) (past : Past) → Lawful settings past → IsSound (book_of past)

@@ -13,6 +13,7 @@ use Rattle.centre_events.specs.declared.entry.Entry.{Entry}
 use Rattle.centre_events.specs.declared.answer.Answer.TheVariants.{Done}
 use Rattle.centre_events.specs.declared.event.Event.{Event}
 use Rattle.centre_events.specs.declared.event.Event.TheVariants as event
+use Rattle.centre_events.specs.declared.network.Network.{Network}
 use Rattle.centre_events.specs.declared.refusal.Refusal.{Refusal}
 use Rattle.centre_events.specs.declared.refusal.Refusal.TheVariants.{JournalFull}
 use Rattle.centre_events.specs.declared.settings.Settings.{Settings}
@@ -60,7 +61,7 @@ room_of limit many number h =
 
 -- What an event is answered.
 
-pub answered_over : (network : List ℕ) (xs ys : List Entry) (e : Event) → answered network (past_over xs ys) e ≡ answered network (past_of (xs ++ ys)) e
+pub answered_over : (network : Network) (xs ys : List Entry) (e : Event) → answered network (past_over xs ys) e ≡ answered network (past_of (xs ++ ys)) e
 answered_over network xs ys e = alike network (past_over xs ys) (past_of (xs ++ ys)) (past_whole xs ys) e
 
 -- where the journal has room the verdict is what the event is answered after all entries
@@ -74,12 +75,12 @@ pub full : (settings : Settings) (xs ys : List Entry) (e : Event) → (nat_le se
 full settings xs ys e h = ap (λ t. if t then Err JournalFull else answered settings.network (past_over xs ys) e) (full_is settings xs ys ∙ h)
 
 -- of all entries over the empty base the last number alone leaves no room
-lasts : (network : List ℕ) (xs ys : List Entry) → length xs + length ys < 2 ^ 64 - 1 → is_full (lasting network) (past_of (xs ++ ys)) ≡ false
+lasts : (network : Network) (xs ys : List Entry) → length xs + length ys < 2 ^ 64 - 1 → is_full (lasting network) (past_of (xs ++ ys)) ≡ false
 lasts network xs ys low =
     let few : entry_count (past_of (xs ++ ys)) < last_position = omega (arith, low, count_journal (xs ++ ys), length-append xs ys) in
     has_room last_position (entry_count (past_of (xs ++ ys))) (position (past_of (xs ++ ys))) few (omega (arith, low, position_journal (xs ++ ys), length-append xs ys))
 
-pub lasting_is : (network : List ℕ) (xs ys : List Entry) (e : Event) → length xs + length ys < 2 ^ 64 - 1 → verdict (lasting network) (past_of (xs ++ ys)) e ≡ answered network (past_of (xs ++ ys)) e
+pub lasting_is : (network : Network) (xs ys : List Entry) (e : Event) → length xs + length ys < 2 ^ 64 - 1 → verdict (lasting network) (past_of (xs ++ ys)) e ≡ answered network (past_of (xs ++ ys)) e
 lasting_is network xs ys e low =
     ap (λ t. if t then Err JournalFull else answered network (past_of (xs ++ ys)) e) (lasts network xs ys low)
 

@@ -9,6 +9,7 @@ use Rattle.centre_events.specs.Past.{Past, From, After, past_of, since}
 use Rattle.centre_events.specs.Verdict.{verdict}
 use Rattle.centre_events.specs.declared.entry.Entry.{Entry}
 use Rattle.centre_events.specs.declared.event.Event.{Event}
+use Rattle.centre_events.specs.declared.network.Network.{Network}
 use Rattle.centre_past.specs.declared.kept.Kept.{Kept}
 use Rattle.centre_events.specs.declared.refusal.Refusal.{Refusal}
 use Rattle.centre_events.specs.declared.refusal.Refusal.TheVariants.{Stale, Memory, WrongDesk}
@@ -25,7 +26,7 @@ pub record BaseState : Type 0 where
 
 -- The entries that were folded and then those of the journal are legal over the empty base, and what is kept is what they
 -- come to.
-pub record IsWhole (network : List ℕ) (folded journal : List Entry) (s : Kept) : Type 0 where
+pub record IsWhole (network : Network) (folded journal : List Entry) (s : Kept) : Type 0 where
   pub legal : Legal (lasting network) (past_of (folded ++ journal))
   pub kept : IsKept (past_of (folded ++ journal)) s
 

@@ -14,6 +14,7 @@ use centre_events::answer::Answer;
 use centre_events::entry::Entry;
 use centre_events::event::Event;
 use centre_events::in_flight::InFlight;
+use centre_events::network::Network;
 use centre_events::refusal::Refusal;
 use centre_events::settings::Settings;
 use centre_past::kept::Kept;
@@ -105,14 +106,14 @@ impl Centre {
     ghost use Rattle.centre_events.specs.declared.event.Event.TheVariants as event;
 
     /// A centre of the network, without entries, whose journal holds so many at most.
-    pub fn new(alloc: Global, plmn: [u8; 3], journal_limit: u32) -> Centre
+    pub fn new(alloc: Global, network: Network, journal_limit: u32) -> Centre
         requires { journal_limit ≤ 4000000 }
-        ensures { result ≡ record { known = new_centre plmn journal_limit; lines = 0; entries = 0; apart = 0 } }
+        ensures { result ≡ record { known = new_centre network journal_limit; lines = 0; entries = 0; apart = 0 } }
     {
         Centre {
             alloc,
             settings: Settings {
-                network: plmn,
+                network,
                 limit: journal_limit,
             },
             base: Base::new(alloc),

@@ -22,6 +22,7 @@ use Rattle.centre_events.specs.declared.entry.Entry.{Entry}
 use Rattle.centre_events.specs.declared.event.Event.{Event}
 use Rattle.centre_events.specs.declared.event.Event.TheVariants as event
 use Rattle.centre_events.specs.declared.in_flight.InFlight.{InFlight}
+use Rattle.centre_events.specs.declared.network.Network.{Network}
 
 -- pasts that come to one base have the same parts
 pub same_parts : (p q : Past) → base_of p ≡ base_of q → HasSameParts p q
@@ -124,25 +125,25 @@ query_same : (past : Past) (b : ℕ) (o : Option Warning) (after : Option Cell) 
 query_same past b None after = refl
 query_same past b (Some w) after = ap (query_of_kind (kind_of w)) (version_same past b w.message_id (current_of w) after)
 
-send_same : (past : Past) (o : Option Order) → send_answer (folded past) o ≡ send_answer past o
-send_same past None = refl
-send_same past (Some order) = refl
+send_same : (requested : ℕ) (past : Past) (o : Option Order) → send_answer requested (folded past) o ≡ send_answer requested past o
+send_same requested past None = refl
+send_same requested past (Some order) = refl
 
-report_same : (network : List ℕ) (past : Past) (b : ℕ) (m : Message) (f : Option InFlight) → report_answer network (folded past) b m f ≡ report_answer network past b m f
-report_same network past b (message.Restart m) f = refl
-report_same network past b (message.Failure m) f = refl
-report_same network past b m f = refl
+report_same : (plmn : List ℕ) (past : Past) (b : ℕ) (m : Message) (f : Option InFlight) → report_answer plmn (folded past) b m f ≡ report_answer plmn past b m f
+report_same plmn past b (message.Restart m) f = refl
+report_same plmn past b (message.Failure m) f = refl
+report_same plmn past b m f = refl
 
-pub answered_same : (network : List ℕ) (past : Past) (e : Event) → answered network (folded past) e ≡ answered network past e
+pub answered_same : (network : Network) (past : Past) (e : Event) → answered network (folded past) e ≡ answered network past e
 answered_same network past (event.Edit e) = edit_same past e
 answered_same network past (event.Retry b) = refl
 answered_same network past (event.LinkUp b) = refl
 answered_same network past (event.LinkDown b generation) = refl
-answered_same network past (event.Send b generation) = ap (unless (send_checks past b generation)) (send_same past (first (pending past b)))
+answered_same network past (event.Send b generation) = ap (unless (send_checks past b generation)) (send_same network.broadcasts past (first (pending past b)))
 answered_same network past (event.Ask b generation n after) = ap (unless (ask_checks past b generation n)) (query_same past b (warning_of (book_of past) n) after)
-answered_same network past (event.Report b generation m) = ap (unless (report_checks past b generation m)) (report_same network past b m (in_flight past b))
+answered_same network past (event.Report b generation m) = ap (unless (report_checks past b generation m)) (report_same network.plmn past b m (in_flight past b))
 
 -- pasts that come to one base answer alike
-pub alike : (network : List ℕ) (p q : Past) → base_of p ≡ base_of q → (e : Event) → answered network p e ≡ answered network q e
+pub alike : (network : Network) (p q : Past) → base_of p ≡ base_of q → (e : Event) → answered network p e ≡ answered network q e
 alike network p q same e =
     sym (answered_same network p e) ∙ ap (λ (x : Base). answered network (From x) e) same ∙ answered_same network q e

@@ -20,9 +20,10 @@ use Rattle.order_maker.specs.declared.order_kind.OrderKind.TheVariants.{Write, R
 abbrev pub listed : List Cell → Identifications
 listed cells = record { form = form.LacCi; ids = map id_of_cell cells }
 
--- a write of pages, which may replace a version: until killed, on the basic channel
-abbrev pub cbs_message : Order → Option ℕ → CbsContent → Message
-cbs_message order old c = message.WriteReplace (record {
+-- a write of pages, which may replace a version: so many broadcasts are requested, where 0 is until killed, on the basic
+-- channel
+abbrev pub cbs_message : ℕ → Order → Option ℕ → CbsContent → Message
+cbs_message requested order old c = message.WriteReplace (record {
   message_id = order.message_id;
   serial = order.serial;
   old = old;
@@ -30,12 +31,12 @@ cbs_message order old c = message.WriteReplace (record {
   channel = Some 0;
   category = category_number c.category;
   period = c.period;
-  requested = 0;
+  requested = requested;
   pages = map page_with c.pages;
   dcs = c.dcs;
 })
 
--- a write of an emergency warning, which may replace a version
+-- a write of an emergency warning, which may replace a version; it has no number of broadcasts
 abbrev pub emergency_message : Order → Option ℕ → EmergencyContent → Message
 emergency_message order old c = message.WriteEmergency (record {
   message_id = order.message_id;
@@ -49,9 +50,9 @@ emergency_message order old c = message.WriteEmergency (record {
 })
 
 -- a write of the content
-abbrev pub write_message : Order → Option ℕ → Content → Message
-write_message order old (content.Cbs c) = cbs_message order old c
-write_message order old (content.Emergency c) = emergency_message order old c
+abbrev pub write_message : ℕ → Order → Option ℕ → Content → Message
+write_message requested order old (content.Cbs c) = cbs_message requested order old c
+write_message requested order old (content.Emergency c) = emergency_message order old c
 
 -- pages are on the basic channel, an emergency warning on none
 abbrev pub channel_of : Content → Option ℕ
@@ -79,12 +80,12 @@ given_content (Some c) = c
 abbrev pub IsCarriable : Option Content → Type 0
 IsCarriable c = IsSome c
 
--- the message of an order of the kind: a KILL, or a WRITE-REPLACE with its content
-abbrev pub message_by : Order → OrderKind → Option Content → Message
-message_by order Write c = write_message order None (given_content c)
-message_by order (Replace old) c = write_message order (Some old) (given_content c)
-message_by order Kill c = kill_message order (given_content c)
+-- the message of an order of the kind: a KILL, or a WRITE-REPLACE with its content and the number of broadcasts requested
+abbrev pub message_by : ℕ → Order → OrderKind → Option Content → Message
+message_by requested order Write c = write_message requested order None (given_content c)
+message_by requested order (Replace old) c = write_message requested order (Some old) (given_content c)
+message_by requested order Kill c = kill_message order (given_content c)
 
--- the message of the order
-abbrev pub order_message : Order → Option Content → Message
-order_message order c = message_by order order.kind c
+-- the message of the order, where so many broadcasts are requested
+abbrev pub order_message : ℕ → Order → Option Content → Message
+order_message requested order c = message_by requested order order.kind c

@@ -36,6 +36,7 @@ use Rattle.coverage_plan.specs.declared.edit.Edit.TheVariants as edit
 use Rattle.centre_events.specs.declared.event.Event.{Event}
 use Rattle.centre_events.specs.declared.event.Event.TheVariants as event
 use Rattle.centre_events.specs.declared.in_flight.InFlight.{InFlight}
+use Rattle.centre_events.specs.declared.network.Network.{Network}
 use Rattle.order_maker.specs.declared.order.Order.{Order}
 use Rattle.centre_events.specs.declared.refusal.Limit.TheVariants as limit
 use Rattle.centre_events.specs.declared.refusal.Refusal.{Refusal}
@@ -223,14 +224,14 @@ link_down past b generation = unless (link_checks past b generation) (Ok answer.
 abbrev pub send_checks : Past → ℕ → ℕ → List (Bool × Refusal)
 send_checks past b generation = link_checks past b generation ++ (is_some (in_flight past b), refusal.InFlight) ∷ []
 
--- the order, and the message that carries it with its content
-abbrev pub send_answer : Past → Option Order → Result Answer Refusal
-send_answer past None = Err refusal.NothingPending
-send_answer past (Some order) = Ok (answer.Sent order (order_message order (content_of order.message_id order.serial (warnings_of past))))
+-- the order, and the message that carries it with its content, and with the number of broadcasts requested
+abbrev pub send_answer : ℕ → Past → Option Order → Result Answer Refusal
+send_answer requested past None = Err refusal.NothingPending
+send_answer requested past (Some order) = Ok (answer.Sent order (order_message requested order (content_of order.message_id order.serial (warnings_of past))))
 
 -- what a Send is answered
-abbrev pub send : Past → ℕ → ℕ → Result Answer Refusal
-send past b generation = unless (send_checks past b generation) (send_answer past (first (pending past b)))
+abbrev pub send : ℕ → Past → ℕ → ℕ → Result Answer Refusal
+send requested past b generation = unless (send_checks past b generation) (send_answer requested past (first (pending past b)))
 
 -- why an Ask is refused, whatever is on air: as a Send, but that its warning is looked for after its BSC
 abbrev pub ask_checks : Past → ℕ → ℕ → ℕ → List (Bool × Refusal)
@@ -264,18 +265,18 @@ report_checks past b generation message = link_checks past b generation ++ (is_o
 
 -- what the reply says of each cell of what was in flight
 abbrev pub reply_answer : List ℕ → Message → Option InFlight → Result Answer Refusal
-reply_answer network message None = Err refusal.NoOrder
-reply_answer network message (Some f) = Ok (answer.Replied (replies_to network message f))
+reply_answer plmn message None = Err refusal.NoOrder
+reply_answer plmn message (Some f) = Ok (answer.Replied (replies_to plmn message f))
 
 -- an indication lists the cells known at the BSC that it names, a reply answers what is in flight
 abbrev pub report_answer : List ℕ → Past → ℕ → Message → Option InFlight → Result Answer Refusal
-report_answer network past b (message.Restart m) flight = Ok (answer.Listed (listed_cells network past b m.kind m.cells.ids))
-report_answer network past b (message.Failure m) flight = Ok (answer.Listed (listed_cells network past b m.kind (failed_ids m.failures)))
-report_answer network past b other flight = reply_answer network other flight
+report_answer plmn past b (message.Restart m) flight = Ok (answer.Listed (listed_cells plmn past b m.kind m.cells.ids))
+report_answer plmn past b (message.Failure m) flight = Ok (answer.Listed (listed_cells plmn past b m.kind (failed_ids m.failures)))
+report_answer plmn past b other flight = reply_answer plmn other flight
 
 -- what a Report is answered
 abbrev pub report : List ℕ → Past → ℕ → ℕ → Message → Result Answer Refusal
-report network past b generation message = unless (report_checks past b generation message) (report_answer network past b message (in_flight past b))
+report plmn past b generation message = unless (report_checks past b generation message) (report_answer plmn past b message (in_flight past b))
 
 -- what an edit is answered
 abbrev pub edit_answered : Past → Edit → Result Answer Refusal
@@ -296,14 +297,14 @@ edit_answered past (edit.Stop n) = stop past n
 edit_answered past (edit.Forget n) = forget past n
 
 -- what an event is answered where the journal has room
-abbrev pub answered : List ℕ → Past → Event → Result Answer Refusal
+abbrev pub answered : Network → Past → Event → Result Answer Refusal
 answered network past (event.Edit e) = edit_answered past e
 answered network past (event.Retry b) = retry past b
 answered network past (event.LinkUp b) = link_up past b
 answered network past (event.LinkDown b generation) = link_down past b generation
-answered network past (event.Send b generation) = send past b generation
+answered network past (event.Send b generation) = send network.broadcasts past b generation
 answered network past (event.Ask b generation n after) = ask past b generation n after
-answered network past (event.Report b generation message) = report network past b generation message
+answered network past (event.Report b generation message) = report network.plmn past b generation message
 
 -- the last position that an entry may have: 2 ^ 64 - 1
 abbrev pub last_position : ℕ

@@ -1,12 +1,13 @@
 //! That entries can be folded away, as the contracts of calls that do nothing: what they come to is a base, and what a past
 //! says is the same however many of its entries were folded.
 
-ghost use Rattle.std.specs.Prelude.{◌≡◌, ℕ, List, ◌++◌, reverse};
+ghost use Rattle.std.specs.Prelude.{◌≡◌, List, ◌++◌, reverse};
 ghost use Rattle.centre_events.specs.Folding.{HasSameParts, base_of, folded, folded_with, onto};
 ghost use Rattle.centre_events.specs.Past.{Past, After, past_of, since};
 ghost use Rattle.centre_events.specs.Verdict.{answered};
 ghost use Rattle.centre_events.specs.declared.entry.Entry.{Entry};
 ghost use Rattle.centre_events.specs.declared.event.Event.{Event};
+ghost use Rattle.centre_events.specs.declared.network.Network.{Network};
 
 /// Lemma: one more entry comes to the same after a past and after the base of that past, part by part and as a whole.
 #[tactic(auto, using(crate::proofs::FoldingLemmas::parts_one, crate::proofs::FoldingLemmas::folded_one))]
@@ -27,5 +28,5 @@ pub fn entries_fold()
 #[tactic(auto, using(crate::proofs::FoldingLemmas::same_parts, crate::proofs::FoldingLemmas::alike))]
 pub fn one_base_answers_alike()
     ensures parts { (p q : Past) → base_of p ≡ base_of q → HasSameParts p q }
-    ensures answers { (network : List ℕ) (p q : Past) → base_of p ≡ base_of q → (e : Event) → answered network p e ≡ answered network q e }
+    ensures answers { (network : Network) (p q : Past) → base_of p ≡ base_of q → (e : Event) → answered network p e ≡ answered network q e }
 {}

@@ -17,6 +17,7 @@ pub mod in_flight;
 pub mod in_order;
 mod lookups;
 pub mod naming;
+pub mod network;
 pub mod order_message;
 pub mod outcome;
 pub mod refusal;

@@ -26,11 +26,12 @@ fn pages_of(alloc: Global, contents: &[Octets]) -> Result<Pages, AllocError>
 
 fn cbs_message(
     alloc: Global,
+    requested: u16,
     order: &Order,
     old: Option<u16>,
     content: &CbsContent,
 ) -> Result<Message, AllocError>
-    ensures { IfOk result (λ m. m ≡ cbs_message order.now old content.now) }
+    ensures { IfOk result (λ m. m ≡ cbs_message requested order.now old content.now) }
 {
     Ok(Message::WriteReplace(WriteReplace {
         message_id: order.message_id,
@@ -40,7 +41,7 @@ fn cbs_message(
         channel: Some(0),
         category: content.category.to_u8(),
         period: content.period,
-        requested: 0,
+        requested,
         pages: pages_of(alloc, content.pages.as_slice())?,
         dcs: content.dcs,
     }))
@@ -68,14 +69,15 @@ fn emergency_message(
 
 fn write_message(
     alloc: Global,
+    requested: u16,
     order: &Order,
     old: Option<u16>,
     content: &Content,
 ) -> Result<Message, AllocError>
-    ensures { IfOk result (λ m. m ≡ write_message order.now old content.now) }
+    ensures { IfOk result (λ m. m ≡ write_message requested order.now old content.now) }
 {
     match content {
-        Content::Cbs(content) => cbs_message(alloc, order, old, content),
+        Content::Cbs(content) => cbs_message(alloc, requested, order, old, content),
         Content::Emergency(content) => emergency_message(alloc, order, old, content),
     }
 }
@@ -101,22 +103,26 @@ fn kill_message(alloc: Global, order: &Order, content: &Content) -> Result<Messa
 }
 
 /// The message that carries the order (TS 48.049, 8.1.3.1 and 8.1.3.4), whose version has this content: a WRITE-REPLACE
-/// with the Old Serial Number where it replaces a message, or a KILL. Pages are on the basic channel and are broadcast
-/// until they are killed; an emergency warning is on no channel.
+/// with the Old Serial Number where it replaces a message, or a KILL. Pages are on the basic channel, and so many
+/// broadcasts of them are requested, where 0 is until they are killed. An emergency warning is on no channel, and its
+/// message has no such number.
 pub fn message_of(
     alloc: Global,
+    requested: u16,
     order: &Order,
     content: Option<&Content>,
 ) -> Result<Message, AllocError>
     requires { IsCarriable (option_copied content) }
-    ensures { IfOk result (λ m. m ≡ order_message order.now (option_copied content.entry)) }
+    ensures { IfOk result (λ m. m ≡ order_message requested order.now (option_copied content.entry)) }
 {
     let Some(content) = content else {
         unreachable!();
     };
     match order.kind {
-        OrderKind::Write => write_message(alloc, order, None, content),
-        OrderKind::Replace { old } => write_message(alloc, order, Some(old.to_u16()), content),
+        OrderKind::Write => write_message(alloc, requested, order, None, content),
+        OrderKind::Replace { old } => {
+            write_message(alloc, requested, order, Some(old.to_u16()), content)
+        }
         OrderKind::Kill => kill_message(alloc, order, content),
     }
 }

@@ -31,6 +31,7 @@ use Rattle.centre_events.specs.declared.answer.Answer.TheVariants as answer
 use Rattle.centre_events.specs.declared.event.Event.{Event}
 use Rattle.centre_events.specs.declared.event.Event.TheVariants as event
 use Rattle.centre_events.specs.declared.in_flight.InFlight.{InFlight}
+use Rattle.centre_events.specs.declared.network.Network.{Network}
 use Rattle.centre_events.specs.declared.refusal.Refusal.{Refusal}
 use Rattle.centre_events.specs.declared.refusal.Refusal.TheVariants as refusal
 use Rattle.centre_events.specs.declared.settings.Settings.{Settings}
@@ -99,9 +100,9 @@ decides_one true r v held free = record { refused = λ q head. let same : r ≡ 
 decides_one false r v held free = record { refused = λ q head. cc; accepted = λ none. free refl }
 
 -- an order is sent unless nothing is pending
-send_decides : (past : Past) (orders : List Order) → Decides ((is_empty orders, refusal.NothingPending) ∷ []) (send_answer past (first orders))
-send_decides past [] = decides_one true refusal.NothingPending (Err refusal.NothingPending) (λ held. refl) (λ free. cc)
-send_decides past (order ∷ orders) = decides_one false refusal.NothingPending (send_answer past (first (order ∷ orders))) (λ held. cc) (λ free. refl)
+send_decides : (requested : ℕ) (past : Past) (orders : List Order) → Decides ((is_empty orders, refusal.NothingPending) ∷ []) (send_answer requested past (first orders))
+send_decides requested past [] = decides_one true refusal.NothingPending (Err refusal.NothingPending) (λ held. refl) (λ free. cc)
+send_decides requested past (order ∷ orders) = decides_one false refusal.NothingPending (send_answer requested past (first (order ∷ orders))) (λ held. cc) (λ free. refl)
 
 -- a query goes out unless it names no cell
 cells_decide : (m s : ℕ) (cells : List Cell) → Decides ((is_empty cells, refusal.NothingToAsk) ∷ []) (query_of m s cells)
@@ -128,26 +129,26 @@ ask_decides past b generation n after =
     (λ none. query_decides past b (warning_of (book_of past) n) after (none_holds (ask_checks past b generation n) none).1.0)
 
 -- a report that is in place is answered
-reply_ok : (network : List ℕ) (m : Message) (f : Option InFlight) → not (matches_flight m f) ≡ false → IsOk (reply_answer network m f)
-reply_ok network m None there = cc
-reply_ok network m (Some f) there = refl
+reply_ok : (plmn : List ℕ) (m : Message) (f : Option InFlight) → not (matches_flight m f) ≡ false → IsOk (reply_answer plmn m f)
+reply_ok plmn m None there = cc
+reply_ok plmn m (Some f) there = refl
 
-report_ok : (network : List ℕ) (past : Past) (b : ℕ) (m : Message) (f : Option InFlight) → is_out_of_place m f ≡ false → IsOk (report_answer network past b m f)
-report_ok network past b (message.Restart m) f there = refl
-report_ok network past b (message.Failure m) f there = refl
-report_ok network past b m f there = reply_ok network m f there
+report_ok : (plmn : List ℕ) (past : Past) (b : ℕ) (m : Message) (f : Option InFlight) → is_out_of_place m f ≡ false → IsOk (report_answer plmn past b m f)
+report_ok plmn past b (message.Restart m) f there = refl
+report_ok plmn past b (message.Failure m) f there = refl
+report_ok plmn past b m f there = reply_ok plmn m f there
 
-event_decides : (network : List ℕ) (past : Past) (e : Event) → Decides (event_causes past e) (answered network past e)
+event_decides : (network : Network) (past : Past) (e : Event) → Decides (event_causes past e) (answered network past e)
 event_decides network past (event.Edit e) = edit_decides past e
 event_decides network past (event.Retry b) = done (retry_checks past b)
 event_decides network past (event.LinkUp b) = decides (link_up_checks past b) (Ok (answer.Link (position past + 1))) (λ none. refl)
 event_decides network past (event.LinkDown b generation) = done (link_checks past b generation)
 event_decides network past (event.Send b generation) =
-    decides_after (send_checks past b generation) ((is_empty (pending past b), refusal.NothingPending) ∷ []) (send_answer past (first (pending past b))) (λ none. send_decides past (pending past b))
+    decides_after (send_checks past b generation) ((is_empty (pending past b), refusal.NothingPending) ∷ []) (send_answer network.broadcasts past (first (pending past b))) (λ none. send_decides network.broadcasts past (pending past b))
 event_decides network past (event.Ask b generation n after) = ask_decides past b generation n after
 event_decides network past (event.Report b generation m) =
-    decides (report_checks past b generation m) (report_answer network past b m (in_flight past b))
-    (λ none. report_ok network past b m (in_flight past b) (none_holds (report_checks past b generation m) none).1.1.1.0)
+    decides (report_checks past b generation m) (report_answer network.plmn past b m (in_flight past b))
+    (λ none. report_ok network.plmn past b m (in_flight past b) (none_holds (report_checks past b generation m) none).1.1.1.0)
 
 verdict_decides : (settings : Settings) (past : Past) (e : Event) → Decides (causes_of settings past e) (verdict settings past e)
 verdict_decides settings past e =

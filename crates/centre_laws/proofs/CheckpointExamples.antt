@@ -14,7 +14,7 @@ use Rattle.centre_past.specs.Legal.{Checkpoint, Submit, after_calls}
 use Rattle.coverage_plan.specs.declared.edit.Edit.TheVariants as edit
 
 abbrev settings : Settings
-settings = record { network = []; limit = 2 }
+settings = record { network = record { plmn = []; broadcasts = 0 }; limit = 2 }
 
 abbrev entry : ℕ → Entry
 entry b = record { desk = 0; event = event.Edit (edit.AddBsc b); answer = answer.Done }

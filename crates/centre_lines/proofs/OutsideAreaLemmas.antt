@@ -33,6 +33,7 @@ use Rattle.coverage_plan.specs.declared.edit.Edit.{Edit}
 use Rattle.coverage_plan.specs.declared.edit.Edit.TheVariants as edit
 use Rattle.centre_events.specs.declared.event.Event.{Event}
 use Rattle.centre_events.specs.declared.event.Event.TheVariants as event
+use Rattle.centre_events.specs.declared.network.Network.{Network}
 use Rattle.centre_events.specs.declared.settings.Settings.{Settings}
 use Rattle.centre_past.proofs.AnyLemmas.{contrary}
 use Rattle.centre_past.proofs.CheckLemmas.{no_check}
@@ -71,7 +72,7 @@ selector_edit before (edit.Cut x t) given a s v known h = step (bytes_eq x a && 
     step false g = known g
 selector_edit before other given a s v known h = known h
 
-selector_then : (network : List ℕ) (before : Past) (e : Event) (given : Answer) (a : List ℕ) (s : Selector) → answered network before e ≡ Ok given → (has_selector before a s ≡ true → is_area before a ≡ true) → unwrap_or (by_edit (selector_mark a s) e) (has_selector before a s) ≡ true → unwrap_or (by_edit (area_mark a) e) (is_area before a) ≡ true
+selector_then : (network : Network) (before : Past) (e : Event) (given : Answer) (a : List ℕ) (s : Selector) → answered network before e ≡ Ok given → (has_selector before a s ≡ true → is_area before a ≡ true) → unwrap_or (by_edit (selector_mark a s) e) (has_selector before a s) ≡ true → unwrap_or (by_edit (area_mark a) e) (is_area before a) ≡ true
 selector_then network before (event.Edit e) given a s v known h = selector_edit before e given a s v known h
 selector_then network before other given a s v known h = known h
 

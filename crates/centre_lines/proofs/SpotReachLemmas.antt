@@ -231,29 +231,29 @@ sorted_once : (cs : List Cell) → each_once cell_eq cs ≡ true → each_once c
 sorted_once cs once =
     ascending_cells (sorted_by cell_lt cs) (sorted_ascends cell_eq cell_lt (λ x y e. cell_lt_apart x y (turned cell_eq cell_decides y x ∙ e)) cell_lt_follows cs once)
 
-named_once : (network : List ℕ) (past : Past) (b number : ℕ) (ids : List CellId) → each_once cell_eq (cells past) ≡ true → each_once cell_eq (listed_cells network past b number ids) ≡ true
-named_once network past b number ids once = step (is_about number kind.Cbs || is_about number kind.Emergency)
+named_once : (plmn : List ℕ) (past : Past) (b number : ℕ) (ids : List CellId) → each_once cell_eq (cells past) ≡ true → each_once cell_eq (listed_cells plmn past b number ids) ≡ true
+named_once plmn past b number ids once = step (is_about number kind.Cbs || is_about number kind.Emergency)
   where
     here : List Cell
-    here = filter (λ c. is_known past b c && is_named network ids c) (cells past)
+    here = filter (λ c. is_known past b c && is_named plmn ids c) (cells past)
 
     step : (t : Bool) → each_once cell_eq (if t then sorted_by cell_lt here else []) ≡ true
-    step true = sorted_once here (once_filter cell_eq (λ c. is_known past b c && is_named network ids c) (cells past) once)
+    step true = sorted_once here (once_filter cell_eq (λ c. is_known past b c && is_named plmn ids c) (cells past) once)
     step false = refl
 
-listed_once : (network : List ℕ) (past : Past) (b : ℕ) (message : Message) (f : Option InFlight) (cs : List Cell) → each_once cell_eq (cells past) ≡ true → report_answer network past b message f ≡ Ok (answer.Listed cs) → each_once cell_eq cs ≡ true
-listed_once network past b (message_is.Restart m) f cs once e =
-    let same : listed_cells network past b m.kind m.cells.ids ≡ cs = cc in ap (each_once cell_eq) (sym same) ∙ named_once network past b m.kind m.cells.ids once
-listed_once network past b (message_is.Failure m) f cs once e =
-    let same : listed_cells network past b m.kind (failed_ids m.failures) ≡ cs = cc in
-    ap (each_once cell_eq) (sym same) ∙ named_once network past b m.kind (failed_ids m.failures) once
-listed_once network past b other None cs once e = cc
-listed_once network past b other (Some f) cs once e = cc
+listed_once : (plmn : List ℕ) (past : Past) (b : ℕ) (message : Message) (f : Option InFlight) (cs : List Cell) → each_once cell_eq (cells past) ≡ true → report_answer plmn past b message f ≡ Ok (answer.Listed cs) → each_once cell_eq cs ≡ true
+listed_once plmn past b (message_is.Restart m) f cs once e =
+    let same : listed_cells plmn past b m.kind m.cells.ids ≡ cs = cc in ap (each_once cell_eq) (sym same) ∙ named_once plmn past b m.kind m.cells.ids once
+listed_once plmn past b (message_is.Failure m) f cs once e =
+    let same : listed_cells plmn past b m.kind (failed_ids m.failures) ≡ cs = cc in
+    ap (each_once cell_eq) (sym same) ∙ named_once plmn past b m.kind (failed_ids m.failures) once
+listed_once plmn past b other None cs once e = cc
+listed_once plmn past b other (Some f) cs once e = cc
 
-report_spots_once : (settings : Settings) (past : Past) → Legal settings past → (b : ℕ) (message : Message) (a : Answer) → report_answer settings.network past b message (in_flight past b) ≡ Ok a → each_once spot_eq (report_reach past b a).spots ≡ true
+report_spots_once : (settings : Settings) (past : Past) → Legal settings past → (b : ℕ) (message : Message) (a : Answer) → report_answer settings.network.plmn past b message (in_flight past b) ≡ Ok a → each_once spot_eq (report_reach past b a).spots ≡ true
 report_spots_once settings past legal b message (answer.Replied replies) e = flight_spots_once settings past legal b (in_flight past b) refl
 report_spots_once settings past legal b message (answer.Listed cs) e =
-    (spots_at b cs (listed_once settings.network past b message (in_flight past b) cs (cells_once settings past legal) e)).once
+    (spots_at b cs (listed_once settings.network.plmn past b message (in_flight past b) cs (cells_once settings past legal) e)).once
 report_spots_once settings past legal b message other e = refl
 
 -- Where the lists of another event are those of its reach.
@@ -278,7 +278,7 @@ pub report_reached : (settings : Settings) (past : Past) (e : Event) (a : Answer
 report_reached settings past e a f b generation message spots which legal flying accepted is =
     subst (IsReachedBy past spots a) (sym which)
     (those_once spots (report_reach past b a).spots (is (subst (Flies past f) which flying))
-    (report_spots_once settings past legal b message a (unless_ok (report_checks past b generation message) (report_answer settings.network past b message (in_flight past b)) a (sym (ap (answered settings.network past) which) ∙ accepted))))
+    (report_spots_once settings past legal b message a (unless_ok (report_checks past b generation message) (report_answer settings.network.plmn past b message (in_flight past b)) a (sym (ap (answered settings.network past) which) ∙ accepted))))
 
 pub nothing_reached : (past : Past) (e : Event) (a : Answer) (f : Option InFlight) (spots : List Spot) → ((b : ℕ) × (generation : ℕ) × (e ≡ event.Send b generation)) ⊎ (((b : ℕ) × (generation : ℕ) × (n : ℕ) × (after : Option Cell) × (e ≡ event.Ask b generation n after)) ⊎ ((x : Edit) × (e ≡ event.Edit x))) → Flies past f e → spots ≡ [] → IsReachedBy past spots a e
 nothing_reached past e a f spots (inl (b, generation, which)) flying is = subst (IsReachedBy past spots a) (sym which) (none_reached spots is)

@@ -30,6 +30,7 @@ use Rattle.coverage_plan.specs.declared.edit.Edit.TheVariants as edit
 use Rattle.centre_events.specs.declared.entry.Entry.{Entry}
 use Rattle.centre_events.specs.declared.event.Event.{Event}
 use Rattle.centre_events.specs.declared.event.Event.TheVariants as event
+use Rattle.centre_events.specs.declared.network.Network.{Network}
 use Rattle.centre_past.proofs.AnyLemmas.{any_same}
 use Rattle.centre_past.proofs.CheckLemmas.{no_check}
 use Rattle.centre_past.proofs.CountLemmas.{same_count, named_once, among_more, among_new, both_or_it}
@@ -65,12 +66,12 @@ area_then : (e : Event) (a : List ℕ) (l : List Area) (before : Bool) → has_a
 area_then (event.Edit e) a l before h = area_after e a l before h
 area_then other a l before h = h
 
-selector_then : (network : List ℕ) (past : Past) (e : Event) (given : Answer) (a : List ℕ) (s : Selector) (l : List Area) → answered network past e ≡ Ok given → AreAreasOf past l → kept_areas.has_selector (areas_then e l) a s ≡ unwrap_or (by_edit (selector_mark a s) e) (has_selector past a s)
+selector_then : (network : Network) (past : Past) (e : Event) (given : Answer) (a : List ℕ) (s : Selector) (l : List Area) → answered network past e ≡ Ok given → AreAreasOf past l → kept_areas.has_selector (areas_then e l) a s ≡ unwrap_or (by_edit (selector_mark a s) e) (has_selector past a s)
 selector_then network past (event.Edit e) given a s l v tied = selector_after past e given a s l v tied
 selector_then network past other given a s l v tied = tied.selectors a s
 
 -- the areas stay tied to the past, one entry further
-pub areas_with : (network : List ℕ) (e : Entry) (before : Past) (l : List Area) → answered network before e.event ≡ Ok e.answer → AreAreasOf before l → AreAreasOf (After e before) (areas_then e.event l)
+pub areas_with : (network : Network) (e : Entry) (before : Past) (l : List Area) → answered network before e.event ≡ Ok e.answer → AreAreasOf before l → AreAreasOf (After e before) (areas_then e.event l)
 areas_with network e before l v tied = record {
   unfolded = tied.unfolded;
   names = λ a. area_then e.event a l (is_area before a) (tied.names a);

@@ -28,6 +28,7 @@ use Rattle.coverage_plan.specs.declared.edit.Edit.{Edit}
 use Rattle.coverage_plan.specs.declared.edit.Edit.TheVariants as edit
 use Rattle.centre_events.specs.declared.event.Event.{Event}
 use Rattle.centre_events.specs.declared.event.Event.TheVariants as event
+use Rattle.centre_events.specs.declared.network.Network.{Network}
 use Rattle.centre_events.specs.declared.settings.Settings.{Settings}
 use Rattle.centre_past.proofs.AnyLemmas.{any_at}
 use Rattle.centre_past.proofs.CheckLemmas.{no_check}
@@ -84,7 +85,7 @@ up_edit (edit.RemoveBsc other) before a b v known h = step (nat_eq other b) refl
     step false e = known h
 up_edit other before a b v known h = known h
 
-up_event : (network : List ℕ) (e : Event) (before : Past) (a : Answer) (b : ℕ) → answered network before e ≡ Ok a → (is_up before b ≡ true → is_bsc before b ≡ true) → unwrap_or (up_mark b e) (is_up before b) ≡ true → unwrap_or (by_edit (bsc_mark b) e) (is_bsc before b) ≡ true
+up_event : (network : Network) (e : Event) (before : Past) (a : Answer) (b : ℕ) → answered network before e ≡ Ok a → (is_up before b ≡ true → is_bsc before b ≡ true) → unwrap_or (up_mark b e) (is_up before b) ≡ true → unwrap_or (by_edit (bsc_mark b) e) (is_bsc before b) ≡ true
 up_event network (event.Edit e) before a b v known h = up_edit e before a b v known h
 up_event network (event.LinkUp other) before a b v known h = step (nat_eq other b) refl h
   where
@@ -116,14 +117,14 @@ flight_edit (edit.AddBsc other) before a b v known up = step (nat_eq other b) re
     step false e = up
 flight_edit other before a b v known up = up
 
-flight_event : (network : List ℕ) (e : Event) (before : Past) (a : Answer) (b : ℕ) → answered network before e ≡ Ok a → (is_up before b ≡ true → is_bsc before b ≡ true) → (is_some (in_flight before b) ≡ true → is_up before b ≡ true) → is_some (unwrap_or (flight_mark b e a (is_up before b)) (in_flight before b)) ≡ true → unwrap_or (up_mark b e) (is_up before b) ≡ true
+flight_event : (network : Network) (e : Event) (before : Past) (a : Answer) (b : ℕ) → answered network before e ≡ Ok a → (is_up before b ≡ true → is_bsc before b ≡ true) → (is_some (in_flight before b) ≡ true → is_up before b ≡ true) → is_some (unwrap_or (flight_mark b e a (is_up before b)) (in_flight before b)) ≡ true → unwrap_or (up_mark b e) (is_up before b) ≡ true
 flight_event network (event.Edit e) before a b v known up h = flight_edit e before a b v known (up h)
 flight_event network (event.Send other generation) before a b v known up h = step (nat_eq other b) refl h
   where
     step : (t : Bool) → nat_eq other b ≡ t → is_some (unwrap_or (cond t (Some (sent_flight a)) None) (in_flight before b)) ≡ true → is_up before b ≡ true
     step true e g =
         ap (is_up before) (sym (eqb-true other b e))
-        ∙ not-false (is_up before other) (no_check (send_checks before other generation) (send_answer before (first (pending before other))) a v).1.1.0
+        ∙ not-false (is_up before other) (no_check (send_checks before other generation) (send_answer network.broadcasts before (first (pending before other))) a v).1.1.0
     step false e g = up g
 flight_event network (event.Ask other generation n after) before a b v known up h = step (nat_eq other b) refl h
   where
@@ -191,7 +192,7 @@ place_edit (edit.RemoveCell d) before a b c v unfolded placed h = step (cell_eq 
     step false g = placed g
 place_edit other before a b c v unfolded placed h = placed h
 
-place_event : (network : List ℕ) (e : Event) (before : Past) (a : Answer) (b : ℕ) (c : Cell) → answered network before e ≡ Ok a → IsUnfolded before → (is_place (place before c) b ≡ true → is_bsc before b ≡ true) → is_place (unwrap_or (by_edit (place_mark c) e) (place before c)) b ≡ true → unwrap_or (by_edit (bsc_mark b) e) (is_bsc before b) ≡ true
+place_event : (network : Network) (e : Event) (before : Past) (a : Answer) (b : ℕ) (c : Cell) → answered network before e ≡ Ok a → IsUnfolded before → (is_place (place before c) b ≡ true → is_bsc before b ≡ true) → is_place (unwrap_or (by_edit (place_mark c) e) (place before c)) b ≡ true → unwrap_or (by_edit (bsc_mark b) e) (is_bsc before b) ≡ true
 place_event network (event.Edit e) before a b c v unfolded placed h = place_edit e before a b c v unfolded placed h
 place_event network other before a b c v unfolded placed h = placed h
 

@@ -24,6 +24,7 @@ use Rattle.coverage_plan.specs.declared.edit.Edit.{Edit}
 use Rattle.coverage_plan.specs.declared.edit.Edit.TheVariants as edit
 use Rattle.centre_events.specs.declared.event.Event.{Event}
 use Rattle.centre_events.specs.declared.event.Event.TheVariants as event
+use Rattle.centre_events.specs.declared.network.Network.{Network}
 use Rattle.centre_past.proofs.CheckLemmas.{unless_ok}
 
 -- The warning of a number after each edit.
@@ -140,10 +141,10 @@ mark_cond true x y = refl
 mark_cond false x y = refl
 
 -- an event is an edit or leaves the book
-pub view_then : {A : Type 0} (view : Option Warning → A) (f : Edit → Answer → A → A) (network : List ℕ) (past : Past) (n : ℕ) (e : Event) (a : Answer) (old : A) → answered network past e ≡ Ok a → view (find (has_number n) (warnings_of past)) ≡ old → ((x : Edit) → edit_answered past x ≡ Ok a → view (find (has_number n) (book_after x (book_of past)).warnings) ≡ f x a (view (find (has_number n) (warnings_of past)))) → view (find (has_number n) (book_then e (book_of past)).warnings) ≡ edit_makes f e a old
+pub view_then : {A : Type 0} (view : Option Warning → A) (f : Edit → Answer → A → A) (network : Network) (past : Past) (n : ℕ) (e : Event) (a : Answer) (old : A) → answered network past e ≡ Ok a → view (find (has_number n) (warnings_of past)) ≡ old → ((x : Edit) → edit_answered past x ≡ Ok a → view (find (has_number n) (book_after x (book_of past)).warnings) ≡ f x a (view (find (has_number n) (warnings_of past)))) → view (find (has_number n) (book_then e (book_of past)).warnings) ≡ edit_makes f e a old
 view_then view f network past n (event.Edit x) a old h same after = after x h ∙ ap (f x a) same
 view_then view f network past n other a old h same after = same
 
-pub mark_then : {A : Type 0} (view : Option Warning → A) (mark : Answer → Edit → Option A) (network : List ℕ) (past : Past) (n : ℕ) (e : Event) (a : Answer) (old : A) → answered network past e ≡ Ok a → view (find (has_number n) (warnings_of past)) ≡ old → ((x : Edit) → edit_answered past x ≡ Ok a → view (find (has_number n) (book_after x (book_of past)).warnings) ≡ unwrap_or (mark a x) (view (find (has_number n) (warnings_of past)))) → view (find (has_number n) (book_then e (book_of past)).warnings) ≡ unwrap_or (by_edit (mark a) e) old
+pub mark_then : {A : Type 0} (view : Option Warning → A) (mark : Answer → Edit → Option A) (network : Network) (past : Past) (n : ℕ) (e : Event) (a : Answer) (old : A) → answered network past e ≡ Ok a → view (find (has_number n) (warnings_of past)) ≡ old → ((x : Edit) → edit_answered past x ≡ Ok a → view (find (has_number n) (book_after x (book_of past)).warnings) ≡ unwrap_or (mark a x) (view (find (has_number n) (warnings_of past)))) → view (find (has_number n) (book_then e (book_of past)).warnings) ≡ unwrap_or (by_edit (mark a) e) old
 mark_then view mark network past n (event.Edit x) a old h same after = after x h ∙ ap (unwrap_or (mark a x)) same
 mark_then view mark network past n other a old h same after = same

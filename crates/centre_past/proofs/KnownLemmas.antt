@@ -119,15 +119,15 @@ first_known past b c [] e h = cc
 first_known past b c (order ∷ orders) e h = pending_known past b c order orders e (among_front most_cells c order.cells h)
 
 -- the order that a Send was answered is the first one pending
-sent_first : (past : Past) (o : Option Order) (a : Answer) → send_answer past o ≡ Ok a → sent_flight a ≡ option_map flight.Order o
-sent_first past None a h = cc
-sent_first past (Some order) a h =
-    let same : Sent order (order_message order (content_of order.message_id order.serial (warnings_of past))) ≡ a = cc in
+sent_first : (requested : ℕ) (past : Past) (o : Option Order) (a : Answer) → send_answer requested past o ≡ Ok a → sent_flight a ≡ option_map flight.Order o
+sent_first requested past None a h = cc
+sent_first requested past (Some order) a h =
+    let same : Sent order (order_message requested order (content_of order.message_id order.serial (warnings_of past))) ≡ a = cc in
     ap sent_flight (sym same)
 
 sent_pending : (settings : Settings) (before : Past) (b generation : ℕ) (a : Answer) → verdict settings before (event.Send b generation) ≡ Ok a → sent_flight a ≡ option_map flight.Order (first (pending before b))
 sent_pending settings before b generation a v =
-    sent_first before (first (pending before b)) a (unless_ok (send_checks before b generation) (send_answer before (first (pending before b))) a (verdict_answered settings before (event.Send b generation) a v))
+    sent_first settings.network.broadcasts before (first (pending before b)) a (unless_ok (send_checks before b generation) (send_answer settings.network.broadcasts before (first (pending before b))) a (verdict_answered settings before (event.Send b generation) a v))
 
 -- what stays where a flight may have ended was there
 ended_from : (p : Option InFlight → Bool) (q t : Bool) (f : Option InFlight) → p None ≡ false → (p f ≡ true → q ≡ true) → p (unwrap_or (if t then Some None else None) f) ≡ true → q ≡ true

@@ -21,6 +21,7 @@ use Rattle.centre_events.specs.declared.entry.Entry.{Entry}
 use Rattle.centre_events.specs.declared.event.Event.{Event}
 use Rattle.centre_events.specs.declared.event.Event.TheVariants as event
 use Rattle.centre_events.specs.declared.in_flight.InFlight.{InFlight}
+use Rattle.centre_events.specs.declared.network.Network.{Network}
 use Rattle.centre_events.specs.declared.settings.Settings.{Settings}
 use Rattle.centre_past.specs.Legal.{Legal}
 use Rattle.centre_past.specs.Links.{AreLinksOf, flight_in, flight_of, generation_of, is_link_of, link_in, links_after, links_edited, up_of, with_flight, with_link, without_link}
@@ -126,13 +127,13 @@ up_edited : (e : Edit) (before : Past) (ls : List Link) (b : ℕ) → up_of (lin
 up_edited (edit.AddBsc d) before ls b h = without_marked up_of d b ls (is_up before b) h
 up_edited other before ls b h = h
 
-up_then : (network : List ℕ) (e : Event) (a : Answer) (before : Past) (place : ℕ) (ls : List Link) (b : ℕ) → answered network before e ≡ Ok a → up_of (link_in ls b) ≡ is_up before b → up_of (link_in (links_after e a place ls) b) ≡ unwrap_or (up_mark b e) (is_up before b)
+up_then : (network : Network) (e : Event) (a : Answer) (before : Past) (place : ℕ) (ls : List Link) (b : ℕ) → answered network before e ≡ Ok a → up_of (link_in ls b) ≡ is_up before b → up_of (link_in (links_after e a place ls) b) ≡ unwrap_or (up_mark b e) (is_up before b)
 up_then network (event.Edit x) a before place ls b v h = up_edited x before ls b h
 up_then network (event.LinkUp d) a before place ls b v h = with_marked up_of d b place (Up None) ls (is_up before b) h
 up_then network (event.LinkDown d g) a before place ls b v h = with_marked up_of d b (generation_of (link_in ls d)) Down ls (is_up before b) h
 up_then network (event.Send d g) a before place ls b v h =
     with_kept up_of d b (generation_of (link_in ls d)) (Up (sent_flight a)) ls (is_up before b) h
-    (λ e. sym (is_linked before d b (no_check (send_checks before d g) (send_answer before (first (pending before d))) a v).1.1.0 e))
+    (λ e. sym (is_linked before d b (no_check (send_checks before d g) (send_answer network.broadcasts before (first (pending before d))) a v).1.1.0 e))
 up_then network (event.Ask d g n after) a before place ls b v h =
     with_kept up_of d b (generation_of (link_in ls d)) (Up (asked_flight a)) ls (is_up before b) h
     (λ e. sym (is_linked before d b (no_check (ask_checks before d g n) (warning_query before d (warning_of (book_of before) n) after) a v).1.1.1.0 e))
@@ -141,7 +142,7 @@ up_then network (event.Report d g message) a before place ls b v h = step (is_re
     step : (t : Bool) → up_of (link_in (if t then with_flight d None ls else ls) b) ≡ is_up before b
     step true =
         with_kept up_of d b (generation_of (link_in ls d)) (Up None) ls (is_up before b) h
-        (λ e. sym (is_linked before d b (no_check (report_checks before d g message) (report_answer network before d message (in_flight before d)) a v).1.1.0 e))
+        (λ e. sym (is_linked before d b (no_check (report_checks before d g message) (report_answer network.plmn before d message (in_flight before d)) a v).1.1.0 e))
     step false = h
 up_then network (event.Retry d) a before place ls b v h = h
 
@@ -198,7 +199,7 @@ flight_if : (u : Bool) (b : ℕ) (xs ys : List Link) → flight_in (if u then xs
 flight_if true b xs ys = refl
 flight_if false b xs ys = refl
 
-flight_then : (network : List ℕ) (e : Event) (a : Answer) (before : Past) (place : ℕ) (ls : List Link) (b : ℕ) → answered network before e ≡ Ok a → (is_some (in_flight before b) ≡ true → is_bsc before b ≡ true) → (is_some (in_flight before b) ≡ true → is_up before b ≡ true) → flight_in ls b ≡ in_flight before b → flight_in (links_after e a place ls) b ≡ unwrap_or (flight_mark b e a (is_up before b)) (in_flight before b)
+flight_then : (network : Network) (e : Event) (a : Answer) (before : Past) (place : ℕ) (ls : List Link) (b : ℕ) → answered network before e ≡ Ok a → (is_some (in_flight before b) ≡ true → is_bsc before b ≡ true) → (is_some (in_flight before b) ≡ true → is_up before b ≡ true) → flight_in ls b ≡ in_flight before b → flight_in (links_after e a place ls) b ≡ unwrap_or (flight_mark b e a (is_up before b)) (in_flight before b)
 flight_then network (event.Edit x) a before place ls b v there up h = flight_edited x a before ls b v there h
 flight_then network (event.LinkUp d) a before place ls b v there up h =
     ap flight_of (in_with d b place (Up None) ls) ∙ link_begins (nat_eq d b) (is_up before b) (in_flight before b) (link_in ls b) d place up h

@@ -45,6 +45,7 @@ use Rattle.centre_events.specs.declared.event.Event.{Event}
 use Rattle.centre_events.specs.declared.event.Event.TheVariants as event
 use Rattle.centre_events.specs.declared.in_flight.InFlight.{InFlight}
 use Rattle.centre_events.specs.declared.in_flight.InFlight.TheVariants as flight
+use Rattle.centre_events.specs.declared.network.Network.{Network}
 use Rattle.centre_events.specs.declared.outcome.Outcome.{Outcome}
 use Rattle.centre_events.specs.declared.outcome.Outcome.TheVariants.{Silent}
 use Rattle.centre_events.specs.declared.settings.Settings.{Settings}
@@ -211,12 +212,12 @@ down_edit (edit.RemoveBsc other) b down before known h = step (nat_eq other b) h
     step false k = known k
 down_edit other b down before known h = known h
 
-down_event : (network : List ℕ) (e : Event) (before : Past) (a : Answer) (kind : Kind) (b : ℕ) (c : Cell) → answered network before e ≡ Ok a → (is_down before kind b c ≡ true → is_bsc before b ≡ true) → unwrap_or (down_mark kind b c e a) (is_down before kind b c) ≡ true → unwrap_or (by_edit (bsc_mark b) e) (is_bsc before b) ≡ true
+down_event : (network : Network) (e : Event) (before : Past) (a : Answer) (kind : Kind) (b : ℕ) (c : Cell) → answered network before e ≡ Ok a → (is_down before kind b c ≡ true → is_bsc before b ≡ true) → unwrap_or (down_mark kind b c e a) (is_down before kind b c) ≡ true → unwrap_or (by_edit (bsc_mark b) e) (is_bsc before b) ≡ true
 down_event network (event.Edit e) before a kind b c v known h = down_edit e b (is_down before kind b c) (is_bsc before b) known h
 down_event network (event.Report other generation message) before a kind b c v known h = step (nat_eq other b) refl h
   where
     step : (t : Bool) → nat_eq other b ≡ t → unwrap_or (if t then listed_down kind c message a else None) (is_down before kind b c) ≡ true → is_bsc before b ≡ true
-    step true e k = asked before other b (no_check (report_checks before other generation message) (report_answer network before other message (in_flight before other)) a v).0 e
+    step true e k = asked before other b (no_check (report_checks before other generation message) (report_answer network.plmn before other message (in_flight before other)) a v).0 e
     step false e k = known k
 down_event network other before a kind b c v known h = known h
 
@@ -313,7 +314,7 @@ answer_among network past b (message_is.Failure m) f cs c e h =
 answer_among network past b other None cs c e h = cc
 answer_among network past b other (Some f) cs c e h = cc
 
-down_cell_event : (network : List ℕ) (e : Event) (before : Past) (a : Answer) (kind : Kind) (b : ℕ) (c : Cell) → answered network before e ≡ Ok a → (is_down before kind b c ≡ true → is_among c (cells before) ≡ true) → unwrap_or (down_mark kind b c e a) (is_down before kind b c) ≡ true → is_among c (cells before) ≡ true
+down_cell_event : (network : Network) (e : Event) (before : Past) (a : Answer) (kind : Kind) (b : ℕ) (c : Cell) → answered network before e ≡ Ok a → (is_down before kind b c ≡ true → is_among c (cells before) ≡ true) → unwrap_or (down_mark kind b c e a) (is_down before kind b c) ≡ true → is_among c (cells before) ≡ true
 down_cell_event network (event.Edit (edit.RemoveBsc other)) before a kind b c v known h = step (nat_eq other b) h
   where
     step : (t : Bool) → unwrap_or (if t then Some false else None) (is_down before kind b c) ≡ true → is_among c (cells before) ≡ true
@@ -322,14 +323,14 @@ down_cell_event network (event.Edit (edit.RemoveBsc other)) before a kind b c v 
 down_cell_event network (event.Edit other) before a kind b c v known h = known h
 down_cell_event network (event.Report other generation message) before a kind b c v known h = step (nat_eq other b) h
   where
-    given : report_answer network before other message (in_flight before other) ≡ Ok a
-    given = unless_ok (report_checks before other generation message) (report_answer network before other message (in_flight before other)) a v
+    given : report_answer network.plmn before other message (in_flight before other) ≡ Ok a
+    given = unless_ok (report_checks before other generation message) (report_answer network.plmn before other message (in_flight before other)) a v
 
     listed : (x : Answer) → a ≡ x → unwrap_or (listed_down kind c message x) (is_down before kind b c) ≡ true → is_among c (cells before) ≡ true
     listed (Listed cs) is k = at (is_among c cs) refl k
       where
         at : (t : Bool) → is_among c cs ≡ t → unwrap_or (if t then says_down kind message else None) (is_down before kind b c) ≡ true → is_among c (cells before) ≡ true
-        at true there l = answer_among network before other message (in_flight before other) cs c (given ∙ ap (λ x. Ok x) is) there
+        at true there l = answer_among network.plmn before other message (in_flight before other) cs c (given ∙ ap (λ x. Ok x) is) there
         at false there l = known l
     listed x is k = known k
 

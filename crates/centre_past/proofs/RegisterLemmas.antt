@@ -29,6 +29,7 @@ use Rattle.coverage_plan.specs.declared.edit.Edit.TheVariants as edit
 use Rattle.centre_events.specs.declared.entry.Entry.{Entry}
 use Rattle.centre_events.specs.declared.event.Event.{Event}
 use Rattle.centre_events.specs.declared.event.Event.TheVariants as event
+use Rattle.centre_events.specs.declared.network.Network.{Network}
 use Rattle.centre_past.proofs.AnyLemmas.{any_at}
 use Rattle.centre_past.proofs.BscLemmas.{bsc_named}
 use Rattle.centre_past.proofs.CheckLemmas.{no_check}
@@ -68,12 +69,12 @@ bsc_then : (e : Event) (b : ℕ) (r : State) (before : Bool) → has_bsc r b ≡
 bsc_then (event.Edit e) b r before h = bsc_after e b r before h
 bsc_then other b r before h = h
 
-place_then : (network : List ℕ) (past : Past) (e : Event) (a : Answer) (c : Cell) (r : State) → answered network past e ≡ Ok a → ((d : Cell) → place_in r d ≡ place past d) → place_in (register_then e r) c ≡ unwrap_or (by_edit (place_mark c) e) (place past c)
+place_then : (network : Network) (past : Past) (e : Event) (a : Answer) (c : Cell) (r : State) → answered network past e ≡ Ok a → ((d : Cell) → place_in r d ≡ place past d) → place_in (register_then e r) c ≡ unwrap_or (by_edit (place_mark c) e) (place past c)
 place_then network past (event.Edit e) a c r v h = place_after past e a c r v h
 place_then network past other a c r v h = h c
 
 -- the register stays tied to the past, one entry further
-pub register_with : (network : List ℕ) (e : Entry) (before : Past) (r : State) → answered network before e.event ≡ Ok e.answer → IsRegisterOf before r → IsRegisterOf (After e before) (register_then e.event r)
+pub register_with : (network : Network) (e : Entry) (before : Past) (r : State) → answered network before e.event ≡ Ok e.answer → IsRegisterOf before r → IsRegisterOf (After e before) (register_then e.event r)
 register_with network e before r v kept = record {
   unfolded = kept.unfolded;
   bscs = λ b. bsc_then e.event b r (is_bsc before b) (kept.bscs b);

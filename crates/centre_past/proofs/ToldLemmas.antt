@@ -24,6 +24,7 @@ use Rattle.coverage_plan.specs.declared.edit.Edit.{Edit}
 use Rattle.coverage_plan.specs.declared.edit.Edit.TheVariants as edit
 use Rattle.centre_events.specs.declared.event.Event.{Event}
 use Rattle.centre_events.specs.declared.event.Event.TheVariants as event
+use Rattle.centre_events.specs.declared.network.Network.{Network}
 use Rattle.centre_events.specs.declared.settings.Settings.{Settings}
 use Rattle.centre_past.proofs.CheckLemmas.{unless_ok, no_check}
 use Rattle.centre_past.proofs.FoundLemmas.{found_any, view_edited, view_without, view_kept, issue_told, view_issued, mark_cond, view_then, mark_then}
@@ -231,7 +232,7 @@ issued_after : (past : Past) (e : Edit) (a : Answer) → edit_answered past e �
 issued_after past (edit.Issue notice areas) a h = ap (λ o. (with_issue notice areas o (book_of past)).issued) (issue_told past notice areas a h).1.0
 issued_after past other a h = refl
 
-issued_then : (network : List ℕ) (past : Past) (e : Event) (a : Answer) → answered network past e ≡ Ok a → (book_then e (book_of past)).issued ≡ edit_makes issues_then e a (book_of past).issued
+issued_then : (network : Network) (past : Past) (e : Event) (a : Answer) → answered network past e ≡ Ok a → (book_then e (book_of past)).issued ≡ edit_makes issues_then e a (book_of past).issued
 issued_then network past (event.Edit e) a h = issued_after past e a h
 issued_then network past other a h = refl
 
@@ -267,7 +268,7 @@ numbers_after past (edit.Stop m) a h = numbers_edited m stopped (λ w. refl) (wa
 numbers_after past (edit.Forget m) a h = numbers_without m (warnings_of past)
 numbers_after past other a h = refl
 
-numbered_then : (network : List ℕ) (past : Past) (e : Event) (a : Answer) → answered network past e ≡ Ok a → numbers (book_then e (book_of past)).warnings ≡ edit_makes numbers_then e a (numbers (warnings_of past))
+numbered_then : (network : Network) (past : Past) (e : Event) (a : Answer) → answered network past e ≡ Ok a → numbers (book_then e (book_of past)).warnings ≡ edit_makes numbers_then e a (numbers (warnings_of past))
 numbered_then network past (event.Edit e) a h = numbers_after past e a h
 numbered_then network past other a h = refl
 

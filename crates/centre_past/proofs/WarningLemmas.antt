@@ -33,6 +33,7 @@ use Rattle.coverage_plan.specs.declared.edit.Edit.{Edit}
 use Rattle.coverage_plan.specs.declared.edit.Edit.TheVariants as edit
 use Rattle.centre_events.specs.declared.event.Event.{Event}
 use Rattle.centre_events.specs.declared.event.Event.TheVariants as event
+use Rattle.centre_events.specs.declared.network.Network.{Network}
 use Rattle.centre_events.specs.declared.refusal.Refusal.{Refusal}
 use Rattle.centre_events.specs.declared.refusal.Refusal.TheVariants as refusal
 use Rattle.centre_events.specs.declared.settings.Settings.{Settings}
@@ -127,7 +128,7 @@ sound_after past (edit.Stop n) a h sound = sound_after_stop (book_of past) n sou
 sound_after past (edit.Forget n) a h sound = sound_after_forget (book_of past) n sound
 sound_after past other a h sound = sound
 
-sound_then : (network : List ℕ) (past : Past) (e : Event) (a : Answer) → answered network past e ≡ Ok a → IsSound (book_of past) → IsSound (book_then e (book_of past))
+sound_then : (network : Network) (past : Past) (e : Event) (a : Answer) → answered network past e ≡ Ok a → IsSound (book_of past) → IsSound (book_then e (book_of past))
 sound_then network past (event.Edit e) a h sound = sound_after past e a h sound
 sound_then network past other a h sound = sound
 

@@ -14,6 +14,7 @@ use Rattle.centre_events.specs.Plan.{planned, wanted}
 use Rattle.centre_events.specs.Verdict.{answered}
 use Rattle.centre_events.specs.declared.answer.Answer.{Answer}
 use Rattle.centre_events.specs.declared.event.Event.{Event}
+use Rattle.centre_events.specs.declared.network.Network.{Network}
 use Rattle.centre_events.specs.declared.refusal.Refusal.{Refusal}
 use Rattle.centre_past.specs.Facts.{facts}
 use Rattle.centre_past.specs.LinkStates.{link_state}
@@ -39,7 +40,7 @@ pub record SaysTheSame (p q : Past) : Type 0 where
   pub standing : (b : ℕ) (w : Warning) (c : Cell) → stand p b w c ≡ stand q b w c
   pub numbers : (n : ℕ) → board p n ≡ board q n
   pub area_numbers : (n : ℕ) (a : List ℕ) → area_board p n a ≡ area_board q n a
-  pub answers : (network : List ℕ) (e : Event) → answered network p e ≡ answered network q e
+  pub answers : (network : Network) (e : Event) → answered network p e ≡ answered network q e
   pub reach : (e : Event) (r : Result Answer Refusal) → reach p e r ≡ reach q e r
   pub listed_bscs : bsc_rows p ≡ bsc_rows q
   pub listed_cells : (b : ℕ) → cell_rows p b ≡ cell_rows q b

@@ -8,6 +8,7 @@ use Rattle.centre_events.specs.Verdict.{last_position, verdict}
 use Rattle.centre_events.specs.declared.answer.Answer.{Answer}
 use Rattle.centre_events.specs.declared.entry.Entry.{Entry}
 use Rattle.centre_events.specs.declared.event.Event.{Event}
+use Rattle.centre_events.specs.declared.network.Network.{Network}
 use Rattle.centre_events.specs.declared.refusal.Refusal.{Refusal}
 use Rattle.centre_events.specs.declared.settings.Settings.{Settings}
 
@@ -17,11 +18,11 @@ Legal settings (From base) = base ≡ empty_base
 Legal settings (After e before) = (verdict settings before e.event ≡ Ok e.answer) × Legal settings before
 
 -- the settings of a centre of the network whose journal takes entries up to the last position
-abbrev pub lasting : List ℕ → Settings
+abbrev pub lasting : Network → Settings
 lasting network = record { network = network; limit = last_position }
 
 -- the whole of a past: a legal past with nothing folded, which has every entry and comes to the same base
-pub record HasWhole (network : List ℕ) (p : Past) : Type 0 where
+pub record HasWhole (network : Network) (p : Past) : Type 0 where
   pub full : Past
   pub legal : Legal (lasting network) full
   pub same : base_of full ≡ base_of p
@@ -50,7 +51,7 @@ pub record CentreState : Type 0 where
   pub apart : ℕ
 
 -- a centre of the network without entries
-abbrev pub new_centre : List ℕ → ℕ → Known
+abbrev pub new_centre : Network → ℕ → Known
 new_centre network limit = record { settings = record { network = network; limit = limit }; folded = []; journal = []; stale = false }
 
 -- the past of a centre: what the folded entries come to, and after it those of the journal

@@ -16,6 +16,7 @@ use Rattle.coverage_plan.specs.declared.edit.Edit.TheVariants as edit
 use Rattle.centre_events.specs.declared.event.Event.{Event}
 use Rattle.centre_events.specs.declared.event.Event.TheVariants as event
 use Rattle.centre_events.specs.declared.in_flight.InFlight.{InFlight}
+use Rattle.centre_events.specs.declared.network.Network.{Network}
 use Rattle.centre_events.specs.declared.refusal.Refusal.{Refusal}
 use Rattle.centre_events.specs.declared.refusal.Refusal.TheVariants as refusal
 use Rattle.centre_events.specs.declared.settings.Settings.{Settings}
@@ -64,9 +65,9 @@ update_given : (s : Option ℕ) → is_given (update_answer s) ≡ true
 update_given None = refl
 update_given (Some s) = refl
 
-send_given : (past : Past) (o : Option Order) → is_given (send_answer past o) ≡ true
-send_given past None = refl
-send_given past (Some o) = refl
+send_given : (requested : ℕ) (past : Past) (o : Option Order) → is_given (send_answer requested past o) ≡ true
+send_given requested past None = refl
+send_given requested past (Some o) = refl
 
 query_given : (m s : ℕ) (cs : List Cell) → is_given (query_of m s cs) ≡ true
 query_given m s [] = refl
@@ -84,14 +85,14 @@ warning_given past b (Some w) after = by_kind (kind_of w)
     by_kind kind.Cbs = version_given past b w.message_id (current_of w) after
     by_kind kind.Emergency = refl
 
-reply_given : (network : List ℕ) (m : Message) (f : Option InFlight) → is_given (reply_answer network m f) ≡ true
-reply_given network m None = refl
-reply_given network m (Some f) = refl
+reply_given : (plmn : List ℕ) (m : Message) (f : Option InFlight) → is_given (reply_answer plmn m f) ≡ true
+reply_given plmn m None = refl
+reply_given plmn m (Some f) = refl
 
-report_given : (network : List ℕ) (past : Past) (b : ℕ) (m : Message) (f : Option InFlight) → is_given (report_answer network past b m f) ≡ true
-report_given network past b (message.Restart m) f = refl
-report_given network past b (message.Failure m) f = refl
-report_given network past b m f = reply_given network m f
+report_given : (plmn : List ℕ) (past : Past) (b : ℕ) (m : Message) (f : Option InFlight) → is_given (report_answer plmn past b m f) ≡ true
+report_given plmn past b (message.Restart m) f = refl
+report_given plmn past b (message.Failure m) f = refl
+report_given plmn past b m f = reply_given plmn m f
 
 edit_given : (past : Past) (e : Edit) → is_given (edit_answered past e) ≡ true
 edit_given past (edit.AddBsc b) = unless_given (add_bsc_checks past b) (Ok answer.Done) refl refl
@@ -110,15 +111,15 @@ edit_given past (edit.Narrow n a) = unless_given (narrow_checks past n a) (Ok an
 edit_given past (edit.Stop n) = unless_given (stop_checks past n) (Ok answer.Done) refl refl
 edit_given past (edit.Forget n) = unless_given (forget_checks past n) (Ok answer.Done) refl refl
 
-event_given : (network : List ℕ) (past : Past) (e : Event) → is_given (answered network past e) ≡ true
+event_given : (network : Network) (past : Past) (e : Event) → is_given (answered network past e) ≡ true
 event_given network past (event.Edit e) = edit_given past e
 event_given network past (event.Retry b) = unless_given (retry_checks past b) (Ok answer.Done) refl refl
 event_given network past (event.LinkUp b) = unless_given (link_up_checks past b) (Ok (answer.Link (position past + 1))) refl refl
 event_given network past (event.LinkDown b generation) = unless_given (link_checks past b generation) (Ok answer.Done) refl refl
-event_given network past (event.Send b generation) = unless_given (send_checks past b generation) (send_answer past (first (pending past b))) refl (send_given past (first (pending past b)))
+event_given network past (event.Send b generation) = unless_given (send_checks past b generation) (send_answer network.broadcasts past (first (pending past b))) refl (send_given network.broadcasts past (first (pending past b)))
 event_given network past (event.Ask b generation n after) = unless_given (ask_checks past b generation n) (warning_query past b (warning_of (book_of past) n) after) refl (warning_given past b (warning_of (book_of past) n) after)
 event_given network past (event.Report b generation m) =
-    unless_given (report_checks past b generation m) (report_answer network past b m (in_flight past b)) refl (report_given network past b m (in_flight past b))
+    unless_given (report_checks past b generation m) (report_answer network.plmn past b m (in_flight past b)) refl (report_given network.plmn past b m (in_flight past b))
 
 pub verdict_given : (settings : Settings) (past : Past) (e : Event) → is_given (verdict settings past e) ≡ true
 verdict_given settings past e =

@@ -2,6 +2,7 @@
 use Rattle.std.specs.Prelude.{◌≡◌, ◌⊎◌, ℕ, ◌≤◌, List, [], ◌∷◌, ◌++◌, length, Option}
 use Rattle.std.specs.Io.KnownBytes.{Appends, Consumes, IsAtEnd}
 use Rattle.centre_past.specs.Legal.{new_centre}
+use Rattle.centre_events.specs.declared.network.Network.{Network}
 use Rattle.centre_events.specs.declared.refusal.Refusal.TheVariants as refusal
 use Rattle.console.specs.Consoles.{BeginsLong, IsWritten}
 use Rattle.console.specs.Sessions.{SessionState, LineStarves}
@@ -13,8 +14,8 @@ use Rattle.console_text.specs.declared.fault.ReplayFault.TheVariants.{ReadFault,
 use Rattle.console_text.specs.declared.response.Response.TheVariants as response
 
 -- a session in which nothing has happened
-abbrev pub new_session : List ℕ → ℕ → SessionState
-new_session plmn limit = record { centre = new_centre plmn limit; kept = [] }
+abbrev pub new_session : Network → ℕ → SessionState
+new_session network limit = record { centre = new_centre network limit; kept = [] }
 
 -- memory ran out for a line where it may be: the lines before it have their text, and it is answered by that
 pub record MeetsWant (old : SessionState) (lines : List (List ℕ)) (new : SessionState) (text : List ℕ) : Type 0 where

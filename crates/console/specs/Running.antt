@@ -5,17 +5,22 @@ use Rattle.std.specs.Io.KnownBytes.{Appends}
 use Rattle.framing.specs.Sink.{AppendsFront}
 use Rattle.framing.specs.Source.{FailsToRead, counted}
 use Rattle.clap.specs.Words.{Text}
-use Rattle.console_text.specs.CommandLine.{AreTaken, Asks, AsksBadJournal, AsksBadPlmn, AsksHelp, AsksServe, IsMistaken}
+use Rattle.console_text.specs.CommandLine.{AreTaken, Asks, AsksBadBroadcasts, AsksBadJournal, AsksBadPlmn, AsksHelp, AsksServe, IsMistaken}
 use Rattle.console.specs.Replays.{new_session, Replays, BreaksOff}
 use Rattle.console.specs.Sessions.{SessionState}
 use Rattle.console_text.specs.Faults.{fault_words}
 use Rattle.console_text.specs.Texts.{newline}
 use Rattle.console_text.specs.declared.fault.ReplayFault.{ReplayFault}
 use Rattle.console_text.specs.declared.fault.ReplayFault.TheVariants.{ReadFault, WriteFault, Memory, LongLine}
+use Rattle.centre_events.specs.declared.network.Network.{Network}
 
 -- what is said of a network that isn't six hexadecimal digits
 abbrev pub bad_plmn : List ℕ
 bad_plmn = codes "cbc: bad plmn" ++ newline
+
+-- what is said of a number of broadcasts that isn't one from 0 to 65,535
+abbrev pub bad_broadcasts : List ℕ
+bad_broadcasts = codes "cbc: bad broadcasts" ++ newline
 
 -- what is said of a number of entries that isn't one from 1 to 4,000,000
 abbrev pub bad_journal : List ℕ
@@ -62,9 +67,10 @@ pub record RunsInPart (start : SessionState) (old new : Streams) : Type 0 where
 abbrev pub Runs : SessionState → Streams → Streams → ℕ → Type 0
 Runs start old new status = MatchBool (status == 0) (RunsWhole start old new) ((status ≡ 1) × RunsInPart start old new)
 
--- what is said of a network, or of a number of entries, that is bad
+-- what is said of a network, of a number of broadcasts or of a number of entries that is bad
 abbrev pub IsBadValue : List Text → List ℕ → Type 0
-IsBadValue words said = (AsksBadPlmn words × (said ≡ bad_plmn)) ⊎ (AsksBadJournal words × (said ≡ bad_journal))
+IsBadValue words said =
+    (AsksBadPlmn words × (said ≡ bad_plmn)) ⊎ ((AsksBadBroadcasts words × (said ≡ bad_broadcasts)) ⊎ (AsksBadJournal words × (said ≡ bad_journal)))
 
 -- what is said of a command line that is taken, where no script is run: memory ran out, or a value is bad
 abbrev pub IsCause : List Text → ℕ → List ℕ → Type 0
@@ -88,12 +94,12 @@ pub record RunsNone (words : List Text) (old new : Streams) (status : ℕ) : Typ
   pub silent : status ≡ 2 → new.output ≡ old.output
   pub least : (status ≡ 0) ⊎ ((status ≡ 1) ⊎ (status ≡ 2))
 
--- a script was run, with the network and the limit that the words ask for
+-- a script was run, with the network, the number of broadcasts and the limit that the words ask for
 pub record RunsSome (words : List Text) (old new : Streams) (status : ℕ) : Type 0 where
-  pub plmn : List ℕ
+  pub network : Network
   pub limit : ℕ
-  pub asked : Asks words plmn limit
-  pub runs : Runs (new_session plmn limit) old new status
+  pub asked : Asks words network limit
+  pub runs : Runs (new_session network limit) old new status
 
 -- how a run of the program ends: a script was run, or none; where the words ask for the server, nothing was done
 abbrev pub Ends : List Text → Streams → Streams → Option ℕ → Type 0

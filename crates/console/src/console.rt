@@ -3,6 +3,7 @@
 ghost use Rattle.std.specs.Prelude.{◌≡◌};
 
 use crate::session::Session;
+use centre_events::network::Network;
 use console_text::ReplayFault;
 use console_text::answer_text::response_text;
 use console_text::lines::{LONGEST_LINE, without_return};
@@ -44,13 +45,13 @@ impl Console {
     ghost use Rattle.console_text.specs.Parts.{HasNone};
     ghost use Rattle.console.specs.Replays.{new_session};
 
-    pub fn new(alloc: Global, plmn: [u8; 3], journal_limit: u32) -> Console
+    pub fn new(alloc: Global, network: Network, journal_limit: u32) -> Console
         requires { journal_limit ≤ 4000000 }
-        ensures { result ≡ record { session = new_session plmn journal_limit; begun = [] } }
+        ensures { result ≡ record { session = new_session network journal_limit; begun = [] } }
     {
         Console {
             alloc,
-            session: Session::new(alloc, plmn, journal_limit),
+            session: Session::new(alloc, network, journal_limit),
             begun: Vec::new(alloc),
         }
     }

@@ -7,6 +7,7 @@ ghost use Rattle.console.specs.Consoles.{Reads, ReadsAndStops, is_read_fault, is
 ghost use Rattle.console.specs.Replays.{new_session, Replays, BreaksOff};
 
 use crate::console::Console;
+use centre_events::network::Network;
 use console_text::ReplayFault;
 use framing::{MOST_READS, Sink, Source};
 use std::alloc::Global;
@@ -76,7 +77,7 @@ fn answer_all<R: Source, W: Sink>(
     Err(ReplayFault::ReadFault)
 }
 
-/// Answers the lines that the reader gives, each at once, on a centre of the network `plmn` whose journal holds
+/// Answers the lines that the reader gives, each at once, on a centre of the network whose journal holds
 /// `journal_limit` entries. The reads are at most 1,000,000,000,000.
 ///
 /// A line ends at 0A or at the end of the input; one 0D before that is dropped. Every bad line is answered and the
@@ -87,16 +88,16 @@ pub fn replay<R: Source, W: Sink>(
     alloc: Global,
     reader: &mut R,
     writer: &mut W,
-    plmn: [u8; 3],
+    network: Network,
     journal_limit: u32,
 ) -> Result<(), ReplayFault>
     requires { journal_limit ≤ 4000000 }
-    ensures all { OnOk result (Replays (new_session plmn journal_limit) (R.remaining reader.old) (R.remaining reader.new) (W.written writer.old) (W.written writer.new)) }
-    ensures part { IfErr result (BreaksOff (new_session plmn journal_limit) (R.remaining reader.old) (R.remaining reader.new) (W.written writer.old) (W.written writer.new)) }
+    ensures all { OnOk result (Replays (new_session network journal_limit) (R.remaining reader.old) (R.remaining reader.new) (W.written writer.old) (W.written writer.new)) }
+    ensures part { IfErr result (BreaksOff (new_session network journal_limit) (R.remaining reader.old) (R.remaining reader.new) (W.written writer.old) (W.written writer.new)) }
     ensures read_fault { is_read_fault result ≡ true → FailsToRead (R.calls reader.old) (R.calls reader.new) (R.failures reader.old) (R.failures reader.new) }
     ensures read_failed { is_read_fault result ≡ false → R.failures reader.new ≡ R.failures reader.old }
     ensures write_fault { W.failures writer.new ≡ with_failure (W.failures writer.old) (is_write_fault result) }
 {
-    let mut console = Console::new(alloc, plmn, journal_limit);
+    let mut console = Console::new(alloc, network, journal_limit);
     answer_all(&mut console, reader, writer)
 }

@@ -6,6 +6,7 @@ ghost use Rattle.console.specs.Running.{Ends, IsTold, Runs};
 ghost use Rattle.console_text.specs.Faults.{fault_words};
 
 use crate::replaying::replay;
+use centre_events::network::Network;
 use console_text::no_run::NoRun;
 use console_text::options::read_options;
 use console_text::{ReplayFault, fault_words};
@@ -17,8 +18,8 @@ use std::alloc::Global;
 /// here: nothing is read or written then.
 ///
 /// 0: all of the input was read, or help was asked for. 1: a fault ended the run, which is said as `cbc: ` and its
-/// words. 2: the command line was refused, with clap's text, or with `cbc: bad plmn` or `cbc: bad journal` where that
-/// had none.
+/// words. 2: the command line was refused, with clap's text, or with `cbc: bad plmn`, `cbc: bad broadcasts` or
+/// `cbc: bad journal` where that had none.
 pub fn run<R: Source, W: Sink, E: Sink>(
     alloc: Global,
     words: &[String],
@@ -32,8 +33,8 @@ pub fn run<R: Source, W: Sink, E: Sink>(
 {
     match read_options(alloc, words) {
         Ok(options) => {
-            let (plmn, limit) = (options.plmn, options.journal_limit);
-            Some(run_script(alloc, plmn, limit, reader, writer, errors))
+            let (network, limit) = (options.network, options.journal_limit);
+            Some(run_script(alloc, network, limit, reader, writer, errors))
         }
         Err(NoRun::Serve) => None,
         Err(NoRun::Help(text)) => match write_all(writer, text.as_bytes()) {
@@ -51,6 +52,10 @@ pub fn run<R: Source, W: Sink, E: Sink>(
             tell(errors, b"cbc: bad plmn\n");
             Some(2)
         }
+        Err(NoRun::BadBroadcasts) => {
+            tell(errors, b"cbc: bad broadcasts\n");
+            Some(2)
+        }
         Err(NoRun::BadJournal) => {
             tell(errors, b"cbc: bad journal\n");
             Some(2)
@@ -62,22 +67,22 @@ pub fn run<R: Source, W: Sink, E: Sink>(
     }
 }
 
-/// Runs a script on a centre of the network `plmn` whose journal holds `journal_limit` entries. The answer is the exit status
-/// of the program: 0 where all of the input was read, or 1 where a fault ended the run, which is said as `cbc: ` and its words.
+/// Runs a script on a centre of the network whose journal holds `journal_limit` entries. The answer is the exit status of
+/// the program: 0 where all of the input was read, or 1 where a fault ended the run, which is said as `cbc: ` and its words.
 pub fn run_script<R: Source, W: Sink, E: Sink>(
     alloc: Global,
-    plmn: [u8; 3],
+    network: Network,
     journal_limit: u32,
     reader: &mut R,
     writer: &mut W,
     errors: &mut E,
 ) -> u8
     requires { journal_limit ≤ 4000000 }
-    ensures { Runs (new_session plmn journal_limit)
+    ensures { Runs (new_session network journal_limit)
         (record { input = R.remaining reader.old; reads = R.calls reader.old; failed_reads = R.failures reader.old; output = W.written writer.old; failed_writes = W.failures writer.old; errors = E.written errors.old; unsaid = E.failures errors.old })
         (record { input = R.remaining reader.new; reads = R.calls reader.new; failed_reads = R.failures reader.new; output = W.written writer.new; failed_writes = W.failures writer.new; errors = E.written errors.new; unsaid = E.failures errors.new }) result }
 {
-    match replay(alloc, reader, writer, plmn, journal_limit) {
+    match replay(alloc, reader, writer, network, journal_limit) {
         Ok(()) => 0,
         Err(fault) => {
             tell(errors, fault_words(fault));

@@ -10,6 +10,7 @@ use cell_register::BscId;
 use centre_core::centre::Centre;
 use centre_events::answer::Answer;
 use centre_events::event::Event;
+use centre_events::network::Network;
 use centre_events::refusal::Refusal;
 use centre_questions::asking::ask;
 use centre_questions::question::Question;
@@ -68,13 +69,13 @@ impl Session {
     ghost use Rattle.console.specs.Sessions.{AnswersOrStarves, AsksOrStarves, BodyStarves, FrameStarves, HasLine, ReportsBody, ReportsFrame, RespondsOrStarves, SubmitsOrStarves};
     ghost use Rattle.console_text.specs.declared.line.Line.TheVariants as request;
 
-    pub fn new(alloc: Global, plmn: [u8; 3], journal_limit: u32) -> Session
+    pub fn new(alloc: Global, network: Network, journal_limit: u32) -> Session
         requires { journal_limit ≤ 4000000 }
-        ensures { result ≡ new_session plmn journal_limit }
+        ensures { result ≡ new_session network journal_limit }
     {
         Session {
             alloc,
-            centre: Centre::new(alloc, plmn, journal_limit),
+            centre: Centre::new(alloc, network, journal_limit),
             generations: Generations::new(alloc),
         }
     }

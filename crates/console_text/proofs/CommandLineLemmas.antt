@@ -19,9 +19,9 @@ use Rattle.clap.specs.declared.error.kind.ErrorKind.TheVariants.{OutOfMemory}
 use Rattle.clap.specs.declared.parser.matches.ArgMatches.{ArgMatches}
 use Rattle.clap.specs.declared.parser.matches.ArgMatches.TheViews.{out-ArgMatches, out-SubCommand}
 use Rattle.clap.specs.declared.parser.matches.SubCommand.{SubCommand}
-use Rattle.console_text.specs.CommandLine.{command_line, entry_numbers, limit_in, limit_of, meets_serve, most_entries, network_in, network_of, replay_rows, AreTaken, AsksHelp, ComesTo, HasNoFault, Refuses}
+use Rattle.console_text.specs.CommandLine.{broadcast_numbers, broadcasts_in, broadcasts_of, command_line, entry_numbers, limit_in, limit_of, meets_serve, most_entries, network_in, network_of, replay_rows, AreTaken, AsksHelp, ComesTo, HasNoFault, Refuses}
 use Rattle.console_text.specs.declared.no_run.NoRun.{NoRun}
-use Rattle.console_text.specs.declared.no_run.NoRun.TheVariants.{Help, Refused, Serve, BadPlmn, BadJournal, Memory}
+use Rattle.console_text.specs.declared.no_run.NoRun.TheVariants.{Help, Refused, Serve, BadPlmn, BadBroadcasts, BadJournal, Memory}
 
 is_plain : is_simple command_line ≡ true
 unfolding clap_on_literals
@@ -48,6 +48,7 @@ module _ (words : List Text) (e : Error) (taken : AreTaken words → kind_of e �
       ((λ t. cc (memory (taken t))), (kind_of e, among (Refused text) memory (λ same. cc same), comes.0, comes.1))
   refuses_so Serve memory comes = absurd comes
   refuses_so BadPlmn memory comes = absurd comes
+  refuses_so BadBroadcasts memory comes = absurd comes
   refuses_so BadJournal memory comes = absurd comes
   refuses_so Memory memory comes = tt
 
@@ -108,6 +109,26 @@ limit_of_none (Some t) r value out = go (accepts false entry_numbers t) refl r (
         let passed = accepts-Accepts false entry_numbers t e in
         absurd (read.1.0 (passed.0, omega (arith, passed.3)))
 
+-- what the reader of 16 bits answers for a text
+abbrev pub ReadsHalf : List ℕ → Result ℕ ParseIntError → Type 0
+ReadsHalf text r = ParsesUnsigned 16 10 text r × ExplainsUnsignedError 10 text r × HasUnsignedDigitsIfOk text r
+
+-- what is read is the number of broadcasts, where there is one
+pub broadcasts_read : (o : Option Text) (r : Option ℕ) → (o ≡ None → r ≡ None) → ((t : Text) → o ≡ Some t → ReadsOne ReadsHalf t r) → r ≡ option_and_then broadcasts_of o
+broadcasts_read None r none value = none refl
+broadcasts_read (Some t) r none value = go (accepts false broadcast_numbers t) refl r (value t refl)
+  where
+    go : (b : Bool) → accepts false broadcast_numbers t ≡ b → (r : Option ℕ) → ReadsOne ReadsHalf t r → r ≡ cond b (Some (digits_value 10 (without_leading_plus t))) None
+    go true e (Some n) read = ap Some read.0.1
+    go true e None read =
+        let passed = accepts-Accepts false broadcast_numbers t e in
+        absurd (read.1.0 (passed.0, omega (arith, passed.3)))
+    go false e (Some n) read =
+        let taken : accepts false broadcast_numbers t ≡ true =
+        Accepts-accepts false broadcast_numbers t (read.0.0.0, omega (arith, read.0.0.1), omega (arith, read.0.0.1), omega (arith, read.0.0.1)) in
+        cc (sym e ∙ taken)
+    go false e None read = refl
+
 -- the matches of the command that is met
 met_rows : (met : Option (Text × List Row)) (rows : List Row) → option_map (λ p. p.0) met ≡ Some (codes "replay") → option_map (λ p. p.1) met ≡ Some rows → replay_rows met ≡ rows
 met_rows None rows name is = cc is
@@ -140,11 +161,16 @@ replay_rows_met : (m replay : ArgMatches) → subcommand_name_of m ≡ Some (cod
 replay_rows_met m replay name rows =
     met_rows (subcommand_rows_of m) (rows_of (found_of replay)) (name_of_met (out-ArgMatches m).subcommand ∙ name) rows
 
--- the limit and the network of the values that are read of it
+-- the limit, the number of broadcasts and the network of the values that are read of it
 pub met_limit : (m replay : ArgMatches) → subcommand_name_of m ≡ Some (codes "replay") → Met m replay
     → option_and_then limit_of (one_text (found_of replay) (codes "journal")) ≡ limit_in (replay_rows (subcommand_rows_of m))
 met_limit m replay name rows =
     ap (option_and_then limit_of) (one_text-rows (found_of replay) (codes "journal")) ∙ ap limit_in (sym (replay_rows_met m replay name rows))
+
+pub met_broadcasts : (m replay : ArgMatches) → subcommand_name_of m ≡ Some (codes "replay") → Met m replay
+    → option_and_then broadcasts_of (one_text (found_of replay) (codes "broadcasts")) ≡ broadcasts_in (replay_rows (subcommand_rows_of m))
+met_broadcasts m replay name rows =
+    ap (option_and_then broadcasts_of) (one_text-rows (found_of replay) (codes "broadcasts")) ∙ ap broadcasts_in (sym (replay_rows_met m replay name rows))
 
 pub met_network : (m replay : ArgMatches) (value : Option (Bor Text)) → subcommand_name_of m ≡ Some (codes "replay") → Met m replay
     → option_map (λ s. s.now) value ≡ first_value (found_of replay) (codes "plmn")

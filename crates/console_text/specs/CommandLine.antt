@@ -1,4 +1,4 @@
--- The command line: `cbc replay [--plmn HEX] [--journal N]`, and `cbc serve` with these and options of its own.
+-- The command line: `cbc replay [--plmn HEX] [--broadcasts N] [--journal N]`, and `cbc serve` with these and options of its own.
 use Rattle.std.specs.Prelude.{◌≡◌, ◌≢◌, ◌⊎◌, Bool, true, false, ℕ, List, [], ◌∷◌, Option, Some, None, codes, bytes_eq, option_and_then, if◌then◌else◌}
 use Rattle.std.specs.Result.{result_ok}
 use Rattle.std.specs.Str.Parse.{digits_value, without_leading_plus}
@@ -10,8 +10,9 @@ use Rattle.clap.specs.declared.builder.value_parser.ValueParser.{ValueParser}
 use Rattle.clap.specs.declared.builder.value_parser.ValueParser.TheVariants.{Unsigned}
 use Rattle.clap.specs.declared.error.kind.ErrorKind.{ErrorKind}
 use Rattle.clap.specs.declared.error.kind.ErrorKind.TheVariants as kind
+use Rattle.centre_events.specs.declared.network.Network.{Network}
 use Rattle.console_text.specs.declared.no_run.NoRun.{NoRun}
-use Rattle.console_text.specs.declared.no_run.NoRun.TheVariants.{Help, Refused, Serve, BadPlmn, BadJournal, Memory}
+use Rattle.console_text.specs.declared.no_run.NoRun.TheVariants.{Help, Refused, Serve, BadPlmn, BadBroadcasts, BadJournal, Memory}
 
 -- the most entries that a journal may hold, and the number where none is given
 abbrev pub most_entries : ℕ
@@ -20,6 +21,14 @@ most_entries = 4000000
 -- HEX is any text here
 abbrev pub plmn_option : Rule
 plmn_option = record (new_rule (codes "plmn")) { long = Some (codes "plmn"); value_names = 1; defaults = codes "00f110" ∷ [] }
+
+-- N is a number from 0 to 65,535
+abbrev pub broadcast_numbers : ValueParser
+broadcast_numbers = Unsigned 0 65535
+
+-- how many broadcasts a write requests
+abbrev pub broadcasts_option : Rule
+broadcasts_option = record (new_rule (codes "broadcasts")) { long = Some (codes "broadcasts"); value_names = 1; defaults = codes "0" ∷ []; parser = Some broadcast_numbers }
 
 -- N is a number from 1 to 4,000,000
 abbrev pub entry_numbers : ValueParser
@@ -31,9 +40,9 @@ journal_option = record (new_rule (codes "journal")) { long = Some (codes "journ
 
 -- the options of both commands
 abbrev pub with_common : App → App
-with_common a = with_rule (with_rule a plmn_option) journal_option
+with_common a = with_rule (with_rule (with_rule a plmn_option) broadcasts_option) journal_option
 
--- `replay`, with its two options
+-- `replay`, with its three options
 abbrev pub replay_command : App
 replay_command = with_common (new_app (codes "replay"))
 
@@ -113,7 +122,7 @@ with_link_rules a = with_rule (with_rule (with_rule (with_rule a reset_option) r
 abbrev pub with_journal : App → App
 with_journal a = with_rule (with_rule a fold_option) keep_option
 
--- `serve`, with its fifteen options
+-- `serve`, with its sixteen options
 abbrev pub serve_command : App
 serve_command = with_watchers (with_consoles (with_link_rules (with_journal (with_ports (with_common (new_app (codes "serve")))))))
 
@@ -147,9 +156,17 @@ meets_serve (Some met) = bytes_eq met.0 (codes "serve")
 abbrev pub network_of : Text → Option (List ℕ)
 network_of text = result_ok (decode_sized text 3)
 
--- the network of the value of `--plmn`
+-- the network code of the value of `--plmn`
 abbrev pub network_in : List Row → Option (List ℕ)
 network_in rows = option_and_then network_of (first_of (codes "plmn") rows)
+
+-- the number of broadcasts that the text writes, if the option takes it
+abbrev pub broadcasts_of : Text → Option ℕ
+broadcasts_of text = if accepts false broadcast_numbers text then Some (digits_value 10 (without_leading_plus text)) else None
+
+-- the number of the value of `--broadcasts`
+abbrev pub broadcasts_in : List Row → Option ℕ
+broadcasts_in rows = option_and_then broadcasts_of (one_of (codes "broadcasts") rows)
 
 -- the number that the text writes, if the option takes it
 abbrev pub limit_of : Text → Option ℕ
@@ -159,23 +176,32 @@ limit_of text = if accepts false entry_numbers text then Some (digits_value 10 (
 abbrev pub limit_in : List Row → Option ℕ
 limit_in rows = option_and_then limit_of (one_of (codes "journal") rows)
 
--- the network that the words ask for, by the matches that clap's rules give; none where the value isn't six hexadecimal digits
+-- the network code that the words ask for, by the matches that clap's rules give; none where the value isn't six hexadecimal digits
 abbrev pub asked_network : List Text → Option (List ℕ)
 asked_network words = network_in (replay_rows (subcommand_of command_line words))
+
+-- the number of broadcasts that they ask for; none where the value isn't a number from 0 to 65,535
+abbrev pub asked_broadcasts : List Text → Option ℕ
+asked_broadcasts words = broadcasts_in (replay_rows (subcommand_of command_line words))
 
 -- the greatest number of entries that they ask for; none where the value isn't a number from 1 to 4,000,000
 abbrev pub asked_limit : List Text → Option ℕ
 asked_limit words = limit_in (replay_rows (subcommand_of command_line words))
 
 -- the words ask for a script to be run with this network and this limit
-pub record Asks (words : List Text) (plmn : List ℕ) (limit : ℕ) : Type 0 where
+pub record Asks (words : List Text) (network : Network) (limit : ℕ) : Type 0 where
   pub well_formed : HasNoFault words
-  pub network : asked_network words ≡ Some plmn
+  pub code : asked_network words ≡ Some network.plmn
+  pub broadcasts : asked_broadcasts words ≡ Some network.broadcasts
   pub entries : asked_limit words ≡ Some limit
 
 -- the words have no fault and don't ask for the server, and the value of `--plmn` isn't six hexadecimal digits
 abbrev pub AsksBadPlmn : List Text → Type 0
 AsksBadPlmn words = HasNoFault words × (meets_serve (subcommand_of command_line words) ≡ false) × (asked_network words ≡ None)
+
+-- the words have no fault and don't ask for the server, and the value of `--broadcasts` isn't a number from 0 to 65,535
+abbrev pub AsksBadBroadcasts : List Text → Type 0
+AsksBadBroadcasts words = HasNoFault words × (meets_serve (subcommand_of command_line words) ≡ false) × (asked_broadcasts words ≡ None)
 
 -- the words have no fault and don't ask for the server, and the value of `--journal` isn't a number from 1 to 4,000,000
 abbrev pub AsksBadJournal : List Text → Type 0
@@ -199,14 +225,16 @@ ComesTo k (Help text) = (k ≡ kind.DisplayHelp) ⊎ (k ≡ kind.DisplayVersion)
 ComesTo k (Refused text) = (k ≢ kind.DisplayHelp) × (k ≢ kind.DisplayVersion)
 ComesTo k Serve = ⊥
 ComesTo k BadPlmn = ⊥
+ComesTo k BadBroadcasts = ⊥
 ComesTo k BadJournal = ⊥
 ComesTo k Memory = Unit {0}
 
--- what no script is run for: help is asked for, or the server, the words have a mistake, the network or the number of entries is bad, or memory ran out
+-- what no script is run for: help is asked for, or the server, the words have a mistake, the network or one of the two numbers is bad, or memory ran out
 abbrev pub Refuses : List Text → NoRun → Type 0
 Refuses words (Help text) = (AreTaken words → ⊥) × AsksHelp words
 Refuses words (Refused text) = (AreTaken words → ⊥) × IsMistaken words
 Refuses words Serve = AsksServe words
 Refuses words BadPlmn = AsksBadPlmn words
+Refuses words BadBroadcasts = AsksBadBroadcasts words
 Refuses words BadJournal = AsksBadJournal words
 Refuses words Memory = Unit {0}

@@ -13,6 +13,8 @@ pub enum NoRun {
     Serve,
     /// The network code isn't six hexadecimal digits.
     BadPlmn,
+    /// The number of broadcasts isn't one from 0 to 65,535.
+    BadBroadcasts,
     /// The number of entries isn't one from 1 to 4,000,000.
     BadJournal,
     Memory,

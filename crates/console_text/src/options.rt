@@ -3,10 +3,11 @@
 ghost use Rattle.std.specs.Prelude.{◌≡◌, ◌≤◌, false, map, string_bytes, IfOk, IfErr, IfSome};
 ghost use Rattle.clap.specs.Words.{app_of, kind_of, rule_of, subcommand_rows_of};
 ghost use Rattle.clap.specs.declared.builder.command.Command.TheViews.{out-Command as fields_of};
-ghost use Rattle.console_text.specs.CommandLine.{plmn_option, journal_option, host_option, base_option, links_option, fold_option, sim_option, reset_option, reply_option, cut_option, peers_option, keep_option, console_option, consoles_option, http_option, with_watchers, with_consoles, with_common, with_ports, with_journal, with_link_rules, replay_command, serve_command, command_line, most_entries};
-ghost use Rattle.console_text.specs.CommandLine.{meets_serve, replay_rows, network_in, limit_in, Asks, ComesTo, Refuses};
+ghost use Rattle.console_text.specs.CommandLine.{plmn_option, broadcasts_option, journal_option, host_option, base_option, links_option, fold_option, sim_option, reset_option, reply_option, cut_option, peers_option, keep_option, console_option, consoles_option, http_option, with_watchers, with_consoles, with_common, with_ports, with_journal, with_link_rules, replay_command, serve_command, command_line, most_entries};
+ghost use Rattle.console_text.specs.CommandLine.{meets_serve, replay_rows, network_in, broadcasts_in, limit_in, Asks, ComesTo, Refuses};
 
 use crate::no_run::NoRun;
+use centre_events::network::Network;
 use clap::builder::ValueParser;
 use clap::error::ErrorKind;
 use clap::{Arg, ArgAction, ArgMatches, Command, Error};
@@ -37,8 +38,8 @@ const VERSION: &str = "1.0.0";
 /// What a script is run with.
 #[derive(Clone, Copy, Debug)]
 pub struct Options {
-    /// The network code, as TS 24.008 writes it in three octets.
-    pub plmn: [u8; 3],
+    /// The network, and how many broadcasts a message requests.
+    pub network: Network,
     pub journal_limit: u32,
     ghost few: { journal_limit ≤ most_entries },
 }
@@ -52,6 +53,18 @@ fn plmn_option<'a>(alloc: Global) -> Arg<'a>
         .value_name("HEX")
         .default_value("00f110")
         .help("The network code, six hexadecimal digits")
+}
+
+fn broadcasts_option<'a>(alloc: Global) -> Arg<'a>
+    ensures rule { rule_of result ≡ broadcasts_option }
+    ensures own { result.global ≡ false }
+{
+    Arg::new(alloc, "broadcasts")
+        .long("broadcasts")
+        .value_name("N")
+        .default_value("0")
+        .value_parser(ValueParser::unsigned(0, 65535))
+        .help("How many broadcasts of a text a BSC is asked for, 0 for no end")
 }
 
 fn journal_option<'a>(alloc: Global) -> Arg<'a>
@@ -72,7 +85,10 @@ fn with_common<'a>(alloc: Global, command: Command<'a>) -> Result<Command<'a>, A
     ensures app { IfOk result (λ c. app_of c ≡ with_common (app_of command.entry)) }
     ensures own { IfOk result (λ c. (fields_of c).has_globals ≡ false) }
 {
-    command.arg(plmn_option(alloc))?.arg(journal_option(alloc))
+    let command = command.arg(plmn_option(alloc))?;
+    command
+        .arg(broadcasts_option(alloc))?
+        .arg(journal_option(alloc))
 }
 
 fn replay_command<'a>(alloc: Global) -> Result<Command<'a>, AllocError>
@@ -302,7 +318,7 @@ pub fn command_line<'a>(alloc: Global) -> Result<Command<'a>, AllocError>
 
 /// What the words ask for; the program's own is the first.
 pub fn read_options<'a>(alloc: Global, words: &'a [String]) -> Result<Options, NoRun>
-    ensures asked { IfOk result (λ options. Asks (map string_bytes words.now) options.plmn options.journal_limit) }
+    ensures asked { IfOk result (λ options. Asks (map string_bytes words.now) options.network options.journal_limit) }
     ensures refused { IfErr result (Refuses (map string_bytes words.now)) }
 {
     let matches = match command_line(alloc)?.try_get_matches_from(words) {
@@ -315,11 +331,14 @@ pub fn read_options<'a>(alloc: Global, words: &'a [String]) -> Result<Options, N
     let Some(plmn) = asked_plmn(&matches) else {
         return Err(NoRun::BadPlmn);
     };
+    let Some(broadcasts) = asked_broadcasts(&matches) else {
+        return Err(NoRun::BadBroadcasts);
+    };
     let Some(journal_limit) = asked_journal(&matches) else {
         return Err(NoRun::BadJournal);
     };
     Ok(Options {
-        plmn,
+        network: Network { plmn, broadcasts },
         journal_limit,
     })
 }
@@ -337,6 +356,15 @@ fn asked_plmn(matches: &ArgMatches<'_>) -> Option<[u8; 3]>
 {
     let replay = matches.subcommand_matches("replay")?;
     <[u8; 3] as FromHex>::from_hex(replay.get_str("plmn")?).ok()
+}
+
+/// How many broadcasts a message requests; `None` where that isn't a number from 0 to 65,535. The parser refuses other
+/// values, but no contract of its names the values of a command below the first.
+fn asked_broadcasts(matches: &ArgMatches<'_>) -> Option<u16>
+    ensures { result ≡ broadcasts_in (replay_rows (subcommand_rows_of matches.now)) }
+{
+    let replay = matches.subcommand_matches("replay")?;
+    replay.get_one::<u16>("broadcasts")
 }
 
 /// How many entries the journal may hold; `None` where that isn't a number from 1 to 4,000,000. The parser refuses

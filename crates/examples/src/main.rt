@@ -8,7 +8,7 @@ mod rebuilding;
 mod rows;
 
 use anyhow::Result;
-use comparing::difference;
+use comparing::{USUAL, difference};
 use rebuilding::{first_changed, first_changed_row};
 use rows::{Row, read_rows};
 use std::fs;
@@ -35,7 +35,7 @@ const SCRIPTS: [&str; 12] = [
 const SCRIPTS_DRAWN: u64 = 300;
 
 /// Files of rows. A row may begin with one of an earlier file.
-const ROWS: [&str; 11] = [
+const ROWS: [&str; 12] = [
     "first-warning.rows",
     "bad-lines.rows",
     "changes.rows",
@@ -47,13 +47,14 @@ const ROWS: [&str; 11] = [
     "alerts.rows",
     "updates.rows",
     "checkpoints.rows",
+    "broadcasts.rows",
 ];
 
 /// Runs one script, prints whether its answers agree, and tells it.
 fn script_agrees<R: Files + Print + AllocGlobal>(rt: &R, name: &str) -> Result<bool> {
     let script = fs::read_to_string(rt, format!(in rt.alloc(); "{name}.txt")?)?;
     let wanted = fs::read_to_string(rt, format!(in rt.alloc(); "{name}.answers")?)?;
-    match difference(rt.alloc(), script.as_str(), wanted.as_str(), 4_000_000)? {
+    match difference(rt.alloc(), script.as_str(), wanted.as_str(), USUAL)? {
         None => {
             println!(rt; "{name} agrees")?;
             Ok(true)
@@ -69,7 +70,7 @@ fn script_agrees<R: Files + Print + AllocGlobal>(rt: &R, name: &str) -> Result<b
 fn rows_agree<R: Print + AllocGlobal>(rt: &R, file: &str, rows: &[Row]) -> Result<bool> {
     for row in rows {
         let (script, answers) = (row.script.as_str(), row.answers.as_str());
-        if let Some(number) = difference(rt.alloc(), script, answers, row.journal)? {
+        if let Some(number) = difference(rt.alloc(), script, answers, row.setup)? {
             let name = row.name.as_str();
             println!(rt; "{file}: '{name}' differs at answer {number}")?;
             return Ok(false);

@@ -1,5 +1,6 @@
 //! Rows: scripts with their answers in one text. `data/first-warning.rows` says how it is laid out.
 
+use crate::comparing::{Setup, USUAL};
 use anyhow::{Context, Result};
 use std::alloc::Global;
 
@@ -9,8 +10,7 @@ pub struct Row {
     pub name: String,
     pub script: String,
     pub answers: String,
-    /// The greatest number of journal entries.
-    pub journal: u32,
+    pub setup: Setup,
 }
 
 /// The row of that name.
@@ -25,7 +25,7 @@ fn read_row(alloc: Global, text: &str, before: &[Row], rows: &[Row]) -> Result<R
         name: String::from_str(alloc, lines.next().context("a row has no name")?)?,
         script: String::new(alloc),
         answers: String::new(alloc),
-        journal: 4_000_000,
+        setup: USUAL,
     };
     for line in lines.filter(|line| !line.is_empty() && !line.starts_with('#')) {
         if let Some(other) = line.strip_prefix("after ") {
@@ -34,7 +34,9 @@ fn read_row(alloc: Global, text: &str, before: &[Row], rows: &[Row]) -> Result<R
             row.script.push_str(other.script.as_str())?;
             row.answers.push_str(other.answers.as_str())?;
         } else if let Some(limit) = line.strip_prefix("journal ") {
-            row.journal = limit.parse()?;
+            row.setup.journal = limit.parse()?;
+        } else if let Some(number) = line.strip_prefix("broadcasts ") {
+            row.setup.broadcasts = number.parse()?;
         } else if let Some(asked) = line.strip_prefix("> ") {
             row.script.push_str(asked)?;
             row.script.push('\n')?;

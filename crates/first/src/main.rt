@@ -2,13 +2,18 @@
 //! reader of command lines, so it is the quickest way to see the centre answer.
 #![tactic(auto)]
 
+use centre_events::network::Network;
 use console::run_script;
 use framing::{FromRead, FromWrite};
 use std::process::ExitCode;
 use std::{env, io};
 
-/// The network of the centre, as TS 24.008 writes it in three octets: MCC 001, MNC 01.
-const PLMN: [u8; 3] = [0x00, 0xf1, 0x10];
+/// The network of the centre, whose code TS 24.008 writes in three octets: MCC 001, MNC 01. Messages are broadcast until they
+/// are killed.
+const NETWORK: Network = Network {
+    plmn: [0x00, 0xf1, 0x10],
+    broadcasts: 0,
+};
 
 /// How many entries its journal holds.
 const JOURNAL_LIMIT: u32 = 4_000_000;
@@ -31,7 +36,7 @@ fn main(rt: HostRuntime) -> ExitCode {
     let alloc = rt.alloc();
     ExitCode::from(run_script(
         alloc,
-        PLMN,
+        NETWORK,
         JOURNAL_LIMIT,
         &mut reader,
         &mut writer,

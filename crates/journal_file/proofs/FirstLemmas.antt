@@ -1,26 +1,83 @@
 -- The first line of a journal's file.
-use Rattle.std.proofs.Common.{◌≡◌, ℕ, zero, suc, ◌+◌, ◌-◌, ◌*◌, ◌<◌, ◌≤◌, List, [], ◌∷◌, ◌++◌, length, take, drop, get_or, replicate, ◌≢◌, append_assoc, Result, Ok, Err, refl, sym, ap, ◌∙◌, arith, inl, inr}
-use Rattle.std.proofs.lemmas.Bool.{cases_lt}
-use Rattle.std.proofs.lemmas.List.{get_or_append_left, get_or-take, length-take-le}
+use Rattle.std.proofs.Common.{◌≡◌, ℕ, zero, suc, ◌+◌, ◌-◌, ◌*◌, ◌<◌, ◌≤◌, Bool, true, false, List, [], ◌∷◌, ◌++◌, length, take, drop, get_or, replicate, ◌≢◌, append_assoc, codes, cond, Result, Ok, Err, refl, sym, ap, subst, ◌∙◌, arith, inl, inr, length-append}
+use Rattle.std.proofs.lemmas.Bool.{cases_lt, eqb-true}
+use Rattle.std.proofs.lemmas.List.{drop-append-le, drop_all, get_or_append_left, get_or-take, length-take-le, take-append-le, take_all}
 use Rattle.std.proofs.Math.Seq.{take-suc}
+use Rattle.std.specs.Prelude.{◌==◌, IsUtf8, decimal}
+use Rattle.std.specs.Str.Parse.{ParsesUnsigned}
+use Rattle.std.proofs.lemmas.Fmt.{length-decimal-le, parse-decimal, IsAscii-decimal}
+use Rattle.std.proofs.lemmas.Str.{IsUtf8-from_ascii}
 use Rattle.hex.specs.Hex.{encode_lower, decode_sized, IsBytes, lower_digits}
 use Rattle.hex.specs.declared.error.FromHexError.{FromHexError}
 use Rattle.hex.proofs.HexLemmas.{decode_sized-twice, decode_sized-ok, decode_of-ok, decode_of-encode_lower, length-encode_with}
-use Rattle.journal_file.specs.First.{IsNetwork, IsHeader, header_line}
+use Rattle.journal_file.specs.First.{IsNetwork, IsHeading, broadcasts_text, header_line}
 use Rattle.journal_file.specs.FirstFault.{IsWithoutZeros}
+use Rattle.journal_file.specs.declared.heading.Heading.{Heading}
 
--- how long it is
-pub length-header_line : (plmn : List ℕ) → length (header_line plmn) ≡ 23 + 2 * length plmn
-length-header_line plmn = omega (arith, length-encode_with lower_digits plmn)
+-- how long what it says of the broadcasts is
+broadcasts_short : (n : ℕ) → n < 65536 → length (broadcasts_text n) ≤ 18
+broadcasts_short n small = step (n == 0)
+  where
+    step : (b : Bool) → length (cond b [] (codes ", broadcasts " ++ decimal n)) ≤ 18
+    step true = omega arith
+    step false = omega (arith, length-append (codes ", broadcasts ") (decimal n), length-decimal-le 5 n (omega arith) (omega arith) (omega arith))
 
--- the network is read from it
-pub header_reads : (line digits : List ℕ) (found : Result (List ℕ) FromHexError) → digits ≡ drop 23 line → found ≡ decode_sized digits 3 → (h : IsHeader line) → found ≡ Ok h.0
-header_reads line digits found behind is h =
-    let plmn : List ℕ = h.0 in
-    let network : IsNetwork plmn = h.1 in
-    let shown : digits ≡ encode_lower plmn = behind ∙ ap (drop 23) h.2 in
-    let long : length (encode_lower plmn) ≡ 2 * 3 = omega (arith, length-encode_with lower_digits plmn, network.0) in
-    is ∙ ap (λ s. decode_sized s 3) shown ∙ decode_sized-twice (encode_lower plmn) 3 long ∙ decode_of-encode_lower plmn network.1
+-- and how long it is
+pub length-header_line : (heading : Heading) → IsHeading heading → length (header_line heading) ≤ 47
+length-header_line heading is =
+    omega (
+      arith,
+      length-append (codes "# cbc journal, network " ++ encode_lower heading.plmn) (broadcasts_text heading.broadcasts),
+      length-encode_with lower_digits heading.plmn,
+      is.0.0,
+      broadcasts_short heading.broadcasts is.1,
+    )
+
+-- the digits of a network code are six
+pub length-network : (plmn : List ℕ) → IsNetwork plmn → length (encode_lower plmn) ≡ 6
+length-network plmn network = omega (arith, length-encode_with lower_digits plmn, network.0)
+
+-- the network is read from its digits
+pub network_reads : (digits plmn : List ℕ) → IsNetwork plmn → digits ≡ encode_lower plmn → decode_sized digits 3 ≡ Ok plmn
+network_reads digits plmn network shown =
+    let long : length (encode_lower plmn) ≡ 2 * 3 = omega (arith, length-network plmn network) in
+    ap (λ s. decode_sized s 3) shown ∙ decode_sized-twice (encode_lower plmn) 3 long ∙ decode_of-encode_lower plmn network.1
+
+-- the front of a line in which the network's digits stand, and what is behind it
+pub parts_read : (line digits end : List ℕ) → length digits ≡ 6 → line ≡ (codes "# cbc journal, network " ++ digits) ++ end
+    → (take 23 line ≡ codes "# cbc journal, network ") × (take 6 (drop 23 line) ≡ digits) × (drop 6 (drop 23 line) ≡ end)
+parts_read line digits end six is = (
+  ap (take 23) is,
+  ap (λ s. take 6 (drop 23 s)) is ∙ take-append-le 6 digits end (omega (arith, six)) ∙ take_all 6 digits (omega (arith, six)),
+  ap (λ s. drop 6 (drop 23 s)) is ∙ drop-append-le 6 digits end (omega (arith, six)) ∙ ap (λ s. s ++ end) (drop_all 6 digits (omega (arith, six))),
+)
+
+-- a number that isn't 0 is said
+pub said : (n : ℕ) (digits : List ℕ) → (n == 0) ≡ false → digits ≡ decimal n → codes ", broadcasts " ++ digits ≡ broadcasts_text n
+said n digits some is = ap (λ s. codes ", broadcasts " ++ s) is ∙ ap (λ b. cond b [] (codes ", broadcasts " ++ decimal n)) (sym some)
+
+-- where nothing stands behind the network the number is 0
+pub none_read : (n : ℕ) (end : List ℕ) → end ≡ [] → end ≡ broadcasts_text n → n ≡ 0
+none_read n end none is = step (n == 0) refl (sym none ∙ is)
+  where
+    step : (b : Bool) → (n == 0) ≡ b → [] ≡ cond b [] (codes ", broadcasts " ++ decimal n) → n ≡ 0
+    step true same e = eqb-true n 0 same
+    step false some e = cc e
+
+-- and where something does, the number is behind the word
+pub some_read : (n : ℕ) (end : List ℕ) → end ≢ [] → end ≡ broadcasts_text n → end ≡ codes ", broadcasts " ++ decimal n
+some_read n end some is = step (n == 0) is
+  where
+    step : (b : Bool) → end ≡ cond b [] (codes ", broadcasts " ++ decimal n) → end ≡ codes ", broadcasts " ++ decimal n
+    step true e = absurd (some e)
+    step false e = e
+
+-- the digits of a number are letters, and are read as it
+pub decimal_utf8 : (n : ℕ) (digits : List ℕ) → n < 65536 → digits ≡ decimal n → IsUtf8 digits
+decimal_utf8 n digits small is = subst IsUtf8 (sym is) (IsUtf8-from_ascii (decimal n) (IsAscii-decimal n (omega arith)))
+
+pub number_reads : {E : Type 0} (n : ℕ) (digits : List ℕ) (r : Result ℕ E) → n < 65536 → digits ≡ decimal n → ParsesUnsigned 16 10 digits r → r ≡ Ok n
+number_reads n digits r small is parses = parse-decimal 16 n digits r (omega arith) (omega arith) is parses
 
 -- digits that are read as three octets name a network
 pub IsNetwork-read : (digits plmn : List ℕ) → decode_sized digits 3 ≡ Ok plmn → IsNetwork plmn

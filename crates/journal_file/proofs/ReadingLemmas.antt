@@ -4,13 +4,14 @@ use Rattle.std.proofs.KnownBytes.{Consumes-kept, Consumes-nil, Consumes-trans}
 use Rattle.std.specs.Io.KnownBytes.{Consumes, IsAtEnd, Keeps}
 use Rattle.std.specs.List.{AllByRecursion}
 use Rattle.journal_file.specs.Lines.{HasNoEnd, IsLine, longest_line, line_octets, lines_octets, kept_of}
-use Rattle.journal_file.specs.First.{header_line, IsHeader, IsTornHeader}
+use Rattle.journal_file.specs.First.{header_line, with_broadcasts, IsHeader, IsOfOtherNetwork, IsOfOtherBroadcasts, IsTornHeader}
 use Rattle.journal_file.specs.Loading.{LoadingState, nothing_yet, TakesLine, TakesNone}
 use Rattle.journal_file.specs.Loads.{TakesLines, Passes, BeginsWithHeader, BeginsWithLine, MayBegin, Loads, Stops, BreaksOff}
 use Rattle.journal_file.specs.Reading.{PassesOne, IsFault, StopsAt, Passing, Breaking, ReadsOn, Finds, FindsNone}
+use Rattle.journal_file.specs.declared.heading.Heading.{Heading}
 use Rattle.journal_file.specs.declared.loaded.Loaded.{Loaded}
 use Rattle.journal_file.specs.declared.load_fault.LoadFault.{LoadFault}
-use Rattle.journal_file.specs.declared.load_fault.LoadFault.TheVariants.{ReadFault, Memory, NotJournal, OtherNetwork, LongLine, BadLine}
+use Rattle.journal_file.specs.declared.load_fault.LoadFault.TheVariants.{ReadFault, Memory, NotJournal, OtherNetwork, OtherBroadcasts, LongLine, BadLine}
 use Rattle.journal_file.proofs.FirstLemmas.{length-header_line}
 use Rattle.journal_file.proofs.LineLemmas.{HasNoEnd-nil, HasNoEnd-append, one_line_more, behind_line, AllByRecursion-append, kept_of-append, kept_of-nil, kept_short, length-kept_of}
 
@@ -39,17 +40,17 @@ long_line line long = omega (arith, length-kept_of line)
 
 -- a header is short enough
 header_fits : (line : List ℕ) → IsHeader line → length line ≤ 600001
-header_fits line h = omega (arith, ap length h.2, length-header_line h.0, h.1.0)
+header_fits line h = omega (arith, ap length h.2, length-header_line h.0 h.1)
 
 kept_header : (line : List ℕ) → IsHeader line → IsHeader (kept_of line)
 kept_header line h = subst IsHeader (sym (kept_short line (header_fits line h))) h
 
 whole_header : (line : List ℕ) → IsHeader (kept_of line) → line ≡ kept_of line
-whole_header line h = whole_line line (omega (arith, ap length h.2, length-header_line h.0, h.1.0))
+whole_header line h = whole_line line (omega (arith, ap length h.2, length-header_line h.0 h.1))
 
 -- nothing came yet
-pub Passing-start : (plmn : List ℕ) (a : Option (List (List ℕ))) → Passing plmn [] nothing_yet a a
-Passing-start plmn a = record {
+pub Passing-start : (heading : Heading) (a : Option (List (List ℕ))) → Passing heading [] nothing_yet a a
+Passing-start heading a = record {
   lines = [];
   rest = [];
   passed = record { whole = refl; each = tt; first = tt; taken = TakesLines-nothing a };
@@ -61,9 +62,9 @@ Passing-start plmn a = record {
 }
 
 -- more octets behind lines that passed
-Passes-more : (plmn octets more : List ℕ) (lines : List (List ℕ)) (behind : List ℕ) (a b c : Option (List (List ℕ))) → Passes plmn octets lines behind a b → TakesLines b c []
-    → Passes plmn (octets ++ more) lines (behind ++ more) a c
-Passes-more plmn octets more lines behind a b c passed none = record {
+Passes-more : (heading : Heading) (octets more : List ℕ) (lines : List (List ℕ)) (behind : List ℕ) (a b c : Option (List (List ℕ))) → Passes heading octets lines behind a b → TakesLines b c []
+    → Passes heading (octets ++ more) lines (behind ++ more) a c
+Passes-more heading octets more lines behind a b c passed none = record {
   whole = ap (λ s. s ++ more) passed.whole ∙ append_assoc (lines_octets lines) behind more;
   each = passed.each;
   first = passed.first;
@@ -71,7 +72,7 @@ Passes-more plmn octets more lines behind a b c passed none = record {
 }
 
 -- a line ends and passes
-module _ (plmn octets rest run : List ℕ) (a b c : Option (List (List ℕ))) (number : ℕ) (kept : List ℕ) (none : HasNoEnd (rest ++ run)) (kept_is : kept ≡ kept_of (rest ++ run)) where
+module _ (heading : Heading) (octets rest run : List ℕ) (a b c : Option (List (List ℕ))) (number : ℕ) (kept : List ℕ) (none : HasNoEnd (rest ++ run)) (kept_is : kept ≡ kept_of (rest ++ run)) where
   whole_of : length kept ≤ longest_line → (rest ++ run ≡ kept) × IsLine (rest ++ run)
   whole_of fits =
       let same : rest ++ run ≡ kept_of (rest ++ run) = whole_line (rest ++ run) (omega (arith, ap length kept_is)) in
@@ -82,8 +83,8 @@ module _ (plmn octets rest run : List ℕ) (a b c : Option (List (List ℕ))) (n
       ap (λ s. s ++ (run ++ 10 ∷ [])) whole ∙ append_assoc (lines_octets lines) rest (run ++ 10 ∷ [])
       ∙ ap (λ s. lines_octets lines ++ s) (sym (append_assoc rest run (10 ∷ []))) ∙ one_line_more lines (rest ++ run) []
 
-  Passes-line : (lines : List (List ℕ)) → Passes plmn octets lines rest a b → number ≡ length lines + 1 → PassesOne plmn number kept b c
-      → Passes plmn (octets ++ (run ++ 10 ∷ [])) (lines ++ (rest ++ run) ∷ []) [] a c
+  Passes-line : (lines : List (List ℕ)) → Passes heading octets lines rest a b → number ≡ length lines + 1 → PassesOne heading number kept b c
+      → Passes heading (octets ++ (run ++ 10 ∷ [])) (lines ++ (rest ++ run) ∷ []) [] a c
   Passes-line [] passed is one =
       let first = one.first (omega (arith, is)) in
       let line = whole_of first.1 in
@@ -108,33 +109,38 @@ module _ (plmn octets rest run : List ℕ) (a b c : Option (List (List ℕ))) (n
   no_lines [] is first = refl
   no_lines (line ∷ lines) is first = absurd (omega (arith, is))
 
-  Stops-line : (behind : List ℕ) (lines : List (List ℕ)) (fault : LoadFault) → number ≡ length lines + 1 → IsFault plmn number kept fault → Stops plmn lines (rest ++ (run ++ 10 ∷ behind)) fault
+  Stops-line : (behind : List ℕ) (lines : List (List ℕ)) (fault : LoadFault) → number ≡ length lines + 1 → IsFault heading number kept fault → Stops heading lines (rest ++ (run ++ 10 ∷ behind)) fault
   Stops-line behind lines fault is at =
       let begins : BeginsWithLine (rest ++ (run ++ 10 ∷ behind)) (rest ++ run) =
       record { behind = behind; whole = sym (append_assoc rest run (10 ∷ behind)) ∙ sym (behind_line (rest ++ run) behind); none = none } in
       go fault at begins
     where
-      go : (fault : LoadFault) → IsFault plmn number kept fault → BeginsWithLine (rest ++ (run ++ 10 ∷ behind)) (rest ++ run) → Stops plmn lines (rest ++ (run ++ 10 ∷ behind)) fault
+      go : (fault : LoadFault) → IsFault heading number kept fault → BeginsWithLine (rest ++ (run ++ 10 ∷ behind)) (rest ++ run) → Stops heading lines (rest ++ (run ++ 10 ∷ behind)) fault
       go ReadFault at begins = absurd at
       go Memory at begins = tt
       go NotJournal at begins = (no_lines lines is at.0, inl (rest ++ run, begins, λ h. at.1 (subst IsHeader (sym kept_is) (kept_header (rest ++ run) h))))
       go OtherNetwork at begins =
-          let same : rest ++ run ≡ kept = whole_header (rest ++ run) (subst IsHeader kept_is at.1) ∙ sym kept_is in
-          (no_lines lines is at.0, (rest ++ run, begins, subst IsHeader (sym same) at.1, λ own. at.2 (sym same ∙ own)))
+          let header : IsHeader kept = (at.1.0, at.1.1, at.1.2) in
+          let same : rest ++ run ≡ kept = whole_header (rest ++ run) (subst IsHeader kept_is header) ∙ sym kept_is in
+          (no_lines lines is at.0, (rest ++ run, begins, subst (IsOfOtherNetwork heading) (sym same) at.1))
+      go (OtherBroadcasts found asked) at begins =
+          let header : IsHeader kept = (with_broadcasts found heading, at.2.0, at.2.1) in
+          let same : rest ++ run ≡ kept = whole_header (rest ++ run) (subst IsHeader kept_is header) ∙ sym kept_is in
+          (no_lines lines is at.0, at.1, (rest ++ run, begins, subst (λ line. IsOfOtherBroadcasts heading line found) (sym same) at.2))
       go (LongLine n) at begins = (at.0 ∙ is, (rest ++ run, begins, long_line (rest ++ run) (omega (arith, at.2, ap length kept_is))))
       go (BadLine n) at begins = (at.0 ∙ is, (rest ++ run, begins, (whole_of at.2).1.1))
 
 -- a line of a piece passes
-pub Passing-line : (plmn octets : List ℕ) (a b c : Option (List (List ℕ))) (old new : LoadingState) (piece line behind : List ℕ) (takes : TakesLine old piece new line behind)
-    → Passing plmn octets old a b → PassesOne plmn new.ended line b c → Passing plmn (octets ++ (takes.run ++ 10 ∷ [])) new a c
-Passing-line plmn octets a b c old new piece line behind takes passing one =
+pub Passing-line : (heading : Heading) (octets : List ℕ) (a b c : Option (List (List ℕ))) (old new : LoadingState) (piece line behind : List ℕ) (takes : TakesLine old piece new line behind)
+    → Passing heading octets old a b → PassesOne heading new.ended line b c → Passing heading (octets ++ (takes.run ++ 10 ∷ [])) new a c
+Passing-line heading octets a b c old new piece line behind takes passing one =
     let run = takes.run in
     let rest = passing.rest in
     let none : HasNoEnd (rest ++ run) = HasNoEnd-append rest run passing.open_end takes.none in
     let kept_is : line ≡ kept_of (rest ++ run) = takes.line_is ∙ ap (λ s. kept_of (s ++ run)) passing.held ∙ kept_of-append rest run in
     let number : new.ended ≡ length passing.lines + 1 = omega (arith, ap (λ (s : LoadingState). s.ended) takes.state, passing.ended) in
-    let passed = Passes-line plmn octets rest run a b c new.ended line none kept_is passing.lines passing.passed number one in
-    subst (λ (s : LoadingState). Passing plmn (octets ++ (run ++ 10 ∷ [])) s a c) (sym takes.state) (record {
+    let passed = Passes-line heading octets rest run a b c new.ended line none kept_is passing.lines passing.passed number one in
+    subst (λ (s : LoadingState). Passing heading (octets ++ (run ++ 10 ∷ [])) s a c) (sym takes.state) (record {
       lines = passing.lines ++ (rest ++ run) ∷ [];
       rest = [];
       passed = passed;
@@ -146,30 +152,30 @@ Passing-line plmn octets a b c old new piece line behind takes passing one =
     })
 
 -- or doesn't
-pub Breaking-line : (plmn octets : List ℕ) (a b c : Option (List (List ℕ))) (old new : LoadingState) (piece line behind : List ℕ) (fault : LoadFault) (takes : TakesLine old piece new line behind)
-    → Passing plmn octets old a b → StopsAt plmn new.ended line b c fault → Breaking plmn (octets ++ piece) a c fault
-Breaking-line plmn octets a b c old new piece line behind fault takes passing stops =
+pub Breaking-line : (heading : Heading) (octets : List ℕ) (a b c : Option (List (List ℕ))) (old new : LoadingState) (piece line behind : List ℕ) (fault : LoadFault) (takes : TakesLine old piece new line behind)
+    → Passing heading octets old a b → StopsAt heading new.ended line b c fault → Breaking heading (octets ++ piece) a c fault
+Breaking-line heading octets a b c old new piece line behind fault takes passing stops =
     let run = takes.run in
     let rest = passing.rest in
     let none : HasNoEnd (rest ++ run) = HasNoEnd-append rest run passing.open_end takes.none in
     let kept_is : line ≡ kept_of (rest ++ run) = takes.line_is ∙ ap (λ s. kept_of (s ++ run)) passing.held ∙ kept_of-append rest run in
     let number : new.ended ≡ length passing.lines + 1 = omega (arith, ap (λ (s : LoadingState). s.ended) takes.state, passing.ended) in
-    let at = Stops-line plmn octets rest run a b c new.ended line none kept_is behind passing.lines fault number stops.fault_is in
+    let at = Stops-line heading octets rest run a b c new.ended line none kept_is behind passing.lines fault number stops.fault_is in
     record {
       lines = passing.lines;
       behind = rest ++ piece;
-      passed = Passes-more plmn octets piece passing.lines rest a b c passing.passed stops.none;
-      stops = subst (λ s. Stops plmn passing.lines (rest ++ s) fault) (sym takes.cut) at;
+      passed = Passes-more heading octets piece passing.lines rest a b c passing.passed stops.none;
+      stops = subst (λ s. Stops heading passing.lines (rest ++ s) fault) (sym takes.cut) at;
     }
 
 -- no line ends in a piece
-pub Passing-run : (plmn octets : List ℕ) (a b : Option (List (List ℕ))) (old new : LoadingState) (piece : List ℕ) → Passing plmn octets old a b → TakesNone old piece new
-    → Passing plmn (octets ++ piece) new a b
-Passing-run plmn octets a b old new piece passing takes =
-    subst (λ (s : LoadingState). Passing plmn (octets ++ piece) s a b) (sym takes.1) (record {
+pub Passing-run : (heading : Heading) (octets : List ℕ) (a b : Option (List (List ℕ))) (old new : LoadingState) (piece : List ℕ) → Passing heading octets old a b → TakesNone old piece new
+    → Passing heading (octets ++ piece) new a b
+Passing-run heading octets a b old new piece passing takes =
+    subst (λ (s : LoadingState). Passing heading (octets ++ piece) s a b) (sym takes.1) (record {
       lines = passing.lines;
       rest = passing.rest ++ piece;
-      passed = Passes-more plmn octets piece passing.lines passing.rest a b b passing.passed (TakesLines-nothing b);
+      passed = Passes-more heading octets piece passing.lines passing.rest a b b passing.passed (TakesLines-nothing b);
       open_end = HasNoEnd-append passing.rest piece passing.open_end takes.0;
       held = ap (λ s. kept_of (s ++ piece)) passing.held ∙ kept_of-append passing.rest piece;
       begun = omega (arith, passing.begun, length-append passing.rest piece);
@@ -178,29 +184,29 @@ Passing-run plmn octets a b old new piece passing takes =
     })
 
 -- there is no memory for a piece
-pub Breaking-memory : (plmn octets more : List ℕ) (a b : Option (List (List ℕ))) (old : LoadingState) → Passing plmn octets old a b → Breaking plmn (octets ++ more) a b Memory
-Breaking-memory plmn octets more a b old passing = record {
+pub Breaking-memory : (heading : Heading) (octets more : List ℕ) (a b : Option (List (List ℕ))) (old : LoadingState) → Passing heading octets old a b → Breaking heading (octets ++ more) a b Memory
+Breaking-memory heading octets more a b old passing = record {
   lines = passing.lines;
   behind = passing.rest ++ more;
-  passed = Passes-more plmn octets more passing.lines passing.rest a b b passing.passed (TakesLines-nothing b);
+  passed = Passes-more heading octets more passing.lines passing.rest a b b passing.passed (TakesLines-nothing b);
   stops = tt;
 }
 
 -- a source gives more octets, whose lines pass
-pub ReadsOn-more : (plmn : List ℕ) (given mid left : Option (List ℕ)) (a b c : Option (List (List ℕ))) (old new : LoadingState) (piece : List ℕ)
-    → ReadsOn plmn given mid old a b → Consumes mid left piece
-    → ((octets : List ℕ) (before : Option (List (List ℕ))) → Passing plmn octets old before b → Passing plmn (octets ++ piece) new before c) → ReadsOn plmn given left new a c
-ReadsOn-more plmn given mid left a b c old new piece reads consumed more = record {
+pub ReadsOn-more : (heading : Heading) (given mid left : Option (List ℕ)) (a b c : Option (List (List ℕ))) (old new : LoadingState) (piece : List ℕ)
+    → ReadsOn heading given mid old a b → Consumes mid left piece
+    → ((octets : List ℕ) (before : Option (List (List ℕ))) → Passing heading octets old before b → Passing heading (octets ++ piece) new before c) → ReadsOn heading given left new a c
+ReadsOn-more heading given mid left a b c old new piece reads consumed more = record {
   octets = reads.octets ++ piece;
   consumed = Consumes-trans given mid left reads.octets piece reads.consumed consumed;
   passing = more reads.octets a reads.passing;
 }
 
 -- or don't
-pub BreaksOff-more : (plmn : List ℕ) (given mid left : Option (List ℕ)) (a b c : Option (List (List ℕ))) (old : LoadingState) (piece : List ℕ) (fault : LoadFault)
-    → ReadsOn plmn given mid old a b → Consumes mid left piece
-    → ((octets : List ℕ) (before : Option (List (List ℕ))) → Passing plmn octets old before b → Breaking plmn (octets ++ piece) before c fault) → BreaksOff plmn given left a c fault
-BreaksOff-more plmn given mid left a b c old piece fault reads consumed more =
+pub BreaksOff-more : (heading : Heading) (given mid left : Option (List ℕ)) (a b c : Option (List (List ℕ))) (old : LoadingState) (piece : List ℕ) (fault : LoadFault)
+    → ReadsOn heading given mid old a b → Consumes mid left piece
+    → ((octets : List ℕ) (before : Option (List (List ℕ))) → Passing heading octets old before b → Breaking heading (octets ++ piece) before c fault) → BreaksOff heading given left a c fault
+BreaksOff-more heading given mid left a b c old piece fault reads consumed more =
     let breaking = more reads.octets a reads.passing in
     record {
       octets = reads.octets ++ piece;
@@ -212,9 +218,9 @@ BreaksOff-more plmn given mid left a b c old piece fault reads consumed more =
     }
 
 -- a fault behind all octets that came
-BreaksOff-here : (plmn : List ℕ) (given left : Option (List ℕ)) (a b : Option (List (List ℕ))) (now : LoadingState) (fault : LoadFault) (reads : ReadsOn plmn given left now a b)
-    → Stops plmn reads.passing.lines reads.passing.rest fault → BreaksOff plmn given left a b fault
-BreaksOff-here plmn given left a b now fault reads stops = record {
+BreaksOff-here : (heading : Heading) (given left : Option (List ℕ)) (a b : Option (List (List ℕ))) (now : LoadingState) (fault : LoadFault) (reads : ReadsOn heading given left now a b)
+    → Stops heading reads.passing.lines reads.passing.rest fault → BreaksOff heading given left a b fault
+BreaksOff-here heading given left a b now fault reads stops = record {
   octets = reads.octets;
   lines = reads.passing.lines;
   behind = reads.passing.rest;
@@ -224,33 +230,33 @@ BreaksOff-here plmn given left a b now fault reads stops = record {
 }
 
 -- so many reads came to no end
-pub BreaksOff-unended : (plmn : List ℕ) (given left : Option (List ℕ)) (a b : Option (List (List ℕ))) (now : LoadingState) → ReadsOn plmn given left now a b → BreaksOff plmn given left a b ReadFault
-BreaksOff-unended plmn given left a b now reads = BreaksOff-here plmn given left a b now ReadFault reads tt
+pub BreaksOff-unended : (heading : Heading) (given left : Option (List ℕ)) (a b : Option (List (List ℕ))) (now : LoadingState) → ReadsOn heading given left now a b → BreaksOff heading given left a b ReadFault
+BreaksOff-unended heading given left a b now reads = BreaksOff-here heading given left a b now ReadFault reads tt
 
 -- a read failed
-pub BreaksOff-read : (plmn : List ℕ) (given mid left : Option (List ℕ)) (a b : Option (List (List ℕ))) (now : LoadingState) → ReadsOn plmn given mid now a b → Keeps mid left
-    → BreaksOff plmn given left a b ReadFault
-BreaksOff-read plmn given mid left a b now reads kept =
-    BreaksOff-here plmn given left a b now ReadFault (record { octets = reads.octets; consumed = Consumes-kept given mid left reads.octets reads.consumed kept; passing = reads.passing }) tt
+pub BreaksOff-read : (heading : Heading) (given mid left : Option (List ℕ)) (a b : Option (List (List ℕ))) (now : LoadingState) → ReadsOn heading given mid now a b → Keeps mid left
+    → BreaksOff heading given left a b ReadFault
+BreaksOff-read heading given mid left a b now reads kept =
+    BreaksOff-here heading given left a b now ReadFault (record { octets = reads.octets; consumed = Consumes-kept given mid left reads.octets reads.consumed kept; passing = reads.passing }) tt
 
 -- nothing is read yet
-pub ReadsOn-start : (plmn : List ℕ) (given : Option (List ℕ)) (a : Option (List (List ℕ))) → ReadsOn plmn given given nothing_yet a a
-ReadsOn-start plmn given a = record { octets = []; consumed = Consumes-nil given; passing = Passing-start plmn a }
+pub ReadsOn-start : (heading : Heading) (given : Option (List ℕ)) (a : Option (List (List ℕ))) → ReadsOn heading given given nothing_yet a a
+ReadsOn-start heading given a = record { octets = []; consumed = Consumes-nil given; passing = Passing-start heading a }
 
 -- there was no memory to read with
-pub BreaksOff-starved : (plmn : List ℕ) (given : Option (List ℕ)) (a : Option (List (List ℕ))) → BreaksOff plmn given given a a Memory
-BreaksOff-starved plmn given a = BreaksOff-here plmn given given a a nothing_yet Memory (ReadsOn-start plmn given a) tt
+pub BreaksOff-starved : (heading : Heading) (given : Option (List ℕ)) (a : Option (List (List ℕ))) → BreaksOff heading given given a a Memory
+BreaksOff-starved heading given a = BreaksOff-here heading given given a a nothing_yet Memory (ReadsOn-start heading given a) tt
 
 -- all was read
-module _ (plmn : List ℕ) (given left : Option (List ℕ)) (a b : Option (List (List ℕ))) (now : LoadingState) (reads : ReadsOn plmn given left now a b) where
-  may_begin : (lines : List (List ℕ)) → now.ended ≡ length lines → (now.ended ≡ 0 → IsTornHeader plmn now.held × (length now.held ≤ longest_line)) → MayBegin plmn lines reads.passing.rest
+module _ (heading : Heading) (given left : Option (List ℕ)) (a b : Option (List (List ℕ))) (now : LoadingState) (reads : ReadsOn heading given left now a b) where
+  may_begin : (lines : List (List ℕ)) → now.ended ≡ length lines → (now.ended ≡ 0 → IsTornHeader heading now.held × (length now.held ≤ longest_line)) → MayBegin heading lines reads.passing.rest
   may_begin [] is begins =
       let torn = begins is in
       let same : reads.passing.rest ≡ now.held = whole_line reads.passing.rest (omega (arith, torn.1, ap length reads.passing.held)) ∙ sym reads.passing.held in
-      (subst (IsTornHeader plmn) (sym same) torn.0, omega (arith, torn.1, ap length same))
+      (subst (IsTornHeader heading) (sym same) torn.0, omega (arith, torn.1, ap length same))
   may_begin (first ∷ lines) is begins = tt
 
-  pub Loads-end : (loaded : Loaded) → IsAtEnd left → Finds plmn now loaded → Loads plmn given left a b loaded
+  pub Loads-end : (loaded : Loaded) → IsAtEnd left → Finds heading now loaded → Loads heading given left a b loaded
   Loads-end loaded ended finds = record {
     octets = reads.octets;
     lines = reads.passing.lines;
@@ -270,15 +276,15 @@ module _ (plmn : List ℕ) (given left : Option (List ℕ)) (a b : Option (List 
   none_ended (line ∷ lines) is none = absurd (omega (arith, is, none))
 
   -- and it is no journal
-  pub BreaksOff-end : (fault : LoadFault) → FindsNone plmn now fault → BreaksOff plmn given left a b fault
+  pub BreaksOff-end : (fault : LoadFault) → FindsNone heading now fault → BreaksOff heading given left a b fault
   BreaksOff-end fault finds =
-      let stops : Stops plmn reads.passing.lines reads.passing.rest NotJournal = (
+      let stops : Stops heading reads.passing.lines reads.passing.rest NotJournal = (
         none_ended reads.passing.lines reads.passing.ended finds.none_ended,
         inr (
           reads.passing.open_end,
           λ torn.
               let same : now.held ≡ reads.passing.rest = reads.passing.held ∙ kept_short reads.passing.rest (omega (arith, torn.1)) in
-              finds.no_header (subst (IsTornHeader plmn) (sym same) torn.0, omega (arith, torn.1, ap length same)),
+              finds.no_header (subst (IsTornHeader heading) (sym same) torn.0, omega (arith, torn.1, ap length same)),
         ),
       ) in
-      subst (BreaksOff plmn given left a b) (sym finds.fault_is) (BreaksOff-here plmn given left a b now NotJournal reads stops)
+      subst (BreaksOff heading given left a b) (sym finds.fault_is) (BreaksOff-here heading given left a b now NotJournal reads stops)

@@ -1,13 +1,16 @@
--- Why a line isn't the first one of a network's journal.
+-- Why a line isn't the first one of a journal.
 use Rattle.std.specs.Prelude.{◌≡◌, ◌≢◌, ℕ, ◌-◌, ◌<◌, List, ◌++◌, length, slice_index, replicate}
-use Rattle.journal_file.specs.First.{IsHeader, header_line}
+use Rattle.journal_file.specs.First.{IsHeader, IsOfOtherNetwork, IsOfOtherBroadcasts}
+use Rattle.journal_file.specs.declared.heading.Heading.{Heading}
 use Rattle.journal_file.specs.declared.load_fault.LoadFault.{LoadFault}
-use Rattle.journal_file.specs.declared.load_fault.LoadFault.TheVariants.{NotJournal, OtherNetwork}
+use Rattle.journal_file.specs.declared.load_fault.LoadFault.TheVariants.{NotJournal, OtherNetwork, OtherBroadcasts}
 
-abbrev pub IsFirstFault : List ℕ → List ℕ → LoadFault → Type 0
-IsFirstFault plmn line NotJournal = ¬ IsHeader line
-IsFirstFault plmn line OtherNetwork = IsHeader line × ¬ (line ≡ header_line plmn)
-IsFirstFault plmn line other = ⊥
+-- it is the first of none, or of the journal of another network, or of one with another number of broadcasts
+abbrev pub IsFirstFault : Heading → List ℕ → LoadFault → Type 0
+IsFirstFault heading line NotJournal = ¬ IsHeader line
+IsFirstFault heading line OtherNetwork = IsOfOtherNetwork heading line
+IsFirstFault heading line (OtherBroadcasts found asked) = (asked ≡ heading.broadcasts) × IsOfOtherBroadcasts heading line found
+IsFirstFault heading line other = ⊥
 
 -- the octets are these, and octets 00 behind them, as many as there are
 pub record IsWithoutZeros (octets front : List ℕ) : Type 0 where

@@ -7,6 +7,7 @@
 
 mod disk_file;
 mod first_line;
+mod heading;
 mod journal_file;
 pub mod laws;
 mod line_end;
@@ -23,6 +24,7 @@ mod writing;
 
 pub use disk_file::{DiskFile, OnDisk};
 pub use first_line::header;
+pub use heading::Heading;
 pub use journal_file::{JournalFile, append_all};
 pub use load_fault::LoadFault;
 pub use loaded::Loaded;

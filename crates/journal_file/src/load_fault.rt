@@ -3,7 +3,7 @@
 use std::alloc::AllocError;
 use thiserror::Error;
 
-/// Why a file isn't read as the journal of a network. Nothing in the file was changed. Lines are numbered from 1.
+/// Why a file isn't read as the journal that is asked for. Nothing in the file was changed. Lines are numbered from 1.
 #[derive(Clone, Copy, Debug, PartialEq, Eq, Error)]
 pub enum LoadFault {
     /// A read failed, or 1,000,000,000,000 reads didn't come to the end.
@@ -17,6 +17,9 @@ pub enum LoadFault {
     /// The first line names another network.
     #[error("journal of another network")]
     OtherNetwork,
+    /// The first line names another number of broadcasts: the one that it names, and the one that is asked for.
+    #[error("journal of {0} broadcasts, not of {1}")]
+    OtherBroadcasts(u16, u16),
     /// The line has more than 600,000 octets.
     #[error("journal line {0} too long")]
     LongLine(u64),

@@ -6,6 +6,7 @@ ghost use Rattle.journal_file.specs.Loads.{Loads, BreaksOff};
 ghost use Rattle.journal_file.specs.Reading.{PassesOne, StopsAt, Passing, Breaking, ReadsOn, Finds, FindsNone};
 
 use crate::first_line::{check_first, is_torn_header};
+use crate::heading::Heading;
 use crate::load_fault::LoadFault;
 use crate::loaded::Loaded;
 use crate::loading::{LONGEST_LINE, Loading};
@@ -18,16 +19,16 @@ const PIECE: usize = 65_536;
 
 /// Takes a line that has ended; `number` is its number.
 fn take_one<T: TakeLine>(
-    plmn: [u8; 3],
+    heading: Heading,
     number: u64,
     line: &[u8],
     taker: &mut T,
 ) -> Result<(), LoadFault>
-    ensures ok { OnOk result (PassesOne plmn number line.now (T.taken taker.old) (T.taken taker.new)) }
-    ensures err { IfErr result (StopsAt plmn number line.now (T.taken taker.old) (T.taken taker.new)) }
+    ensures ok { OnOk result (PassesOne heading number line.now (T.taken taker.old) (T.taken taker.new)) }
+    ensures err { IfErr result (StopsAt heading number line.now (T.taken taker.old) (T.taken taker.new)) }
 {
     if number <= 1 {
-        return check_first(plmn, line);
+        return check_first(heading, line);
     }
     if line.len() > LONGEST_LINE {
         return Err(LoadFault::LongLine(number));
@@ -41,31 +42,31 @@ fn take_one<T: TakeLine>(
 
 /// Takes the lines that end in the piece.
 fn take_piece<T: TakeLine>(
-    plmn: [u8; 3],
+    heading: Heading,
     loading: &mut Loading,
     piece: &[u8],
     taker: &mut T,
 ) -> Result<(), LoadFault>
     requires { loading.old.octets + length piece.now < 2 ^ 64 }
-    ensures ok { OnOk result ((octets : List ℕ) (before : Option (List (List ℕ))) → Passing plmn octets loading.old before (T.taken taker.old) → Passing plmn (octets ++ piece.now) loading.new before (T.taken taker.new)) }
-    ensures err { IfErr result (λ fault. (octets : List ℕ) (before : Option (List (List ℕ))) → Passing plmn octets loading.old before (T.taken taker.old) → Breaking plmn (octets ++ piece.now) before (T.taken taker.new) fault) }
+    ensures ok { OnOk result ((octets : List ℕ) (before : Option (List (List ℕ))) → Passing heading octets loading.old before (T.taken taker.old) → Passing heading (octets ++ piece.now) loading.new before (T.taken taker.new)) }
+    ensures err { IfErr result (λ fault. (octets : List ℕ) (before : Option (List (List ℕ))) → Passing heading octets loading.old before (T.taken taker.old) → Breaking heading (octets ++ piece.now) before (T.taken taker.new) fault) }
     ensures count { OnOk result (loading.new.octets ≡ loading.old.octets + length piece.now) }
 {
     let mut rest = piece;
     while let Some((line, behind)) = loading.take(rest)? {
-        take_one(plmn, loading.ended(), line.as_slice(), taker)?;
+        take_one(heading, loading.ended(), line.as_slice(), taker)?;
         rest = behind;
     }
     Ok(())
 }
 
 /// What was found, at the end of the file.
-fn found(plmn: [u8; 3], loading: &Loading) -> Result<Loaded, LoadFault>
-    ensures ok { IfOk result (Finds plmn loading.now) }
-    ensures err { IfErr result (FindsNone plmn loading.now) }
+fn found(heading: Heading, loading: &Loading) -> Result<Loaded, LoadFault>
+    ensures ok { IfOk result (Finds heading loading.now) }
+    ensures err { IfErr result (FindsNone heading loading.now) }
 {
     if loading.ended() == 0
-        && (loading.held().len() > LONGEST_LINE || !is_torn_header(plmn, loading.held()))
+        && (loading.held().len() > LONGEST_LINE || !is_torn_header(heading, loading.held()))
     {
         return Err(LoadFault::NotJournal);
     }
@@ -78,7 +79,7 @@ fn found(plmn: [u8; 3], loading: &Loading) -> Result<Loaded, LoadFault>
 
 /// Reads once into the piece, and takes the lines that end. The answer is whether more may come.
 fn turn<S: Source, T: TakeLine>(
-    plmn: [u8; 3],
+    heading: Heading,
     loading: &mut Loading,
     source: &mut S,
     piece: &mut [u8],
@@ -86,14 +87,14 @@ fn turn<S: Source, T: TakeLine>(
 ) -> Result<bool, LoadFault>
     requires room { loading.old.octets + length piece.old < 2 ^ 64 }
     requires some { 0 < length piece.old }
-    ensures ok { OnOk result ((given : Option (List ℕ)) (before : Option (List (List ℕ))) → ReadsOn plmn given (S.remaining source.old) loading.old before (T.taken taker.old) → ReadsOn plmn given (S.remaining source.new) loading.new before (T.taken taker.new)) }
+    ensures ok { OnOk result ((given : Option (List ℕ)) (before : Option (List (List ℕ))) → ReadsOn heading given (S.remaining source.old) loading.old before (T.taken taker.old) → ReadsOn heading given (S.remaining source.new) loading.new before (T.taken taker.new)) }
     ensures end { IfOk result (λ more. more ≡ false → IsAtEnd (S.remaining source.new)) }
-    ensures err { IfErr result (λ fault. (given : Option (List ℕ)) (before : Option (List (List ℕ))) → ReadsOn plmn given (S.remaining source.old) loading.old before (T.taken taker.old) → BreaksOff plmn given (S.remaining source.new) before (T.taken taker.new) fault) }
+    ensures err { IfErr result (λ fault. (given : Option (List ℕ)) (before : Option (List (List ℕ))) → ReadsOn heading given (S.remaining source.old) loading.old before (T.taken taker.old) → BreaksOff heading given (S.remaining source.new) before (T.taken taker.new) fault) }
     ensures count { OnOk result (loading.new.octets ≤ loading.old.octets + length piece.old) }
 {
     match source.read(piece) {
         Ok(count) => {
-            take_piece(plmn, loading, &piece[..count], taker)?;
+            take_piece(heading, loading, &piece[..count], taker)?;
             Ok(count > 0)
         }
         Err(_) => Err(LoadFault::ReadFault),
@@ -102,7 +103,7 @@ fn turn<S: Source, T: TakeLine>(
 
 /// Reads to the end, with room for so many octets at once.
 fn load_all<S: Source, T: TakeLine>(
-    plmn: [u8; 3],
+    heading: Heading,
     loading: &mut Loading,
     source: &mut S,
     piece: &mut [u8],
@@ -110,33 +111,33 @@ fn load_all<S: Source, T: TakeLine>(
 ) -> Result<(), LoadFault>
     requires fresh { loading.old.octets ≡ 0 }
     requires size { length piece.old ≡ 65536 }
-    ensures ok { OnOk result ((given : Option (List ℕ)) (before : Option (List (List ℕ))) → ReadsOn plmn given (S.remaining source.old) loading.old before (T.taken taker.old) → ReadsOn plmn given (S.remaining source.new) loading.new before (T.taken taker.new)) }
+    ensures ok { OnOk result ((given : Option (List ℕ)) (before : Option (List (List ℕ))) → ReadsOn heading given (S.remaining source.old) loading.old before (T.taken taker.old) → ReadsOn heading given (S.remaining source.new) loading.new before (T.taken taker.new)) }
     ensures end { OnOk result (IsAtEnd (S.remaining source.new)) }
-    ensures err { IfErr result (λ fault. (given : Option (List ℕ)) (before : Option (List (List ℕ))) → ReadsOn plmn given (S.remaining source.old) loading.old before (T.taken taker.old) → BreaksOff plmn given (S.remaining source.new) before (T.taken taker.new) fault) }
+    ensures err { IfErr result (λ fault. (given : Option (List ℕ)) (before : Option (List (List ℕ))) → ReadsOn heading given (S.remaining source.old) loading.old before (T.taken taker.old) → BreaksOff heading given (S.remaining source.new) before (T.taken taker.new) fault) }
 {
     for _turn in 0..MOST_READS {
-        if !turn(plmn, loading, source, piece, taker)? {
+        if !turn(heading, loading, source, piece, taker)? {
             return Ok(());
         }
     }
     Err(LoadFault::ReadFault)
 }
 
-/// Reads what the source gives as the journal of the network `plmn`, and has each line but the first taken, one after another.
+/// Reads what the source gives as the journal of the heading, and has each line but the first taken, one after another.
 ///
 /// A file in which no line ends holds no journal yet: it is empty, or holds what a torn write left of the first line. The lines
 /// are the same in whatever pieces the source gives the octets.
 pub fn load<S: Source, T: TakeLine>(
     alloc: Global,
-    plmn: [u8; 3],
+    heading: Heading,
     source: &mut S,
     taker: &mut T,
 ) -> Result<Loaded, LoadFault>
-    ensures ok { IfOk result (Loads plmn (S.remaining source.old) (S.remaining source.new) (T.taken taker.old) (T.taken taker.new)) }
-    ensures err { IfErr result (BreaksOff plmn (S.remaining source.old) (S.remaining source.new) (T.taken taker.old) (T.taken taker.new)) }
+    ensures ok { IfOk result (Loads heading (S.remaining source.old) (S.remaining source.new) (T.taken taker.old) (T.taken taker.new)) }
+    ensures err { IfErr result (BreaksOff heading (S.remaining source.old) (S.remaining source.new) (T.taken taker.old) (T.taken taker.new)) }
 {
     let mut loading = Loading::new(alloc);
     let mut piece = vec![in alloc; 0; PIECE]?;
-    load_all(plmn, &mut loading, source, &mut piece, taker)?;
-    found(plmn, &loading)
+    load_all(heading, &mut loading, source, &mut piece, taker)?;
+    found(heading, &loading)
 }

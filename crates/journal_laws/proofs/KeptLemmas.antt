@@ -3,7 +3,7 @@ use Rattle.std.proofs.Common.{◌≡◌, ◌∙◌, ℕ, ◌+◌, eqb, Bool, tru
 use Rattle.std.proofs.lemmas.Bool.{eqb-true}
 use Rattle.centre_events.specs.Links.{is_bsc, is_up, last_link}
 use Rattle.centre_events.specs.Past.{Past, After, position}
-use Rattle.centre_events.specs.Verdict.{answered, verdict}
+use Rattle.centre_events.specs.Verdict.{link_up, verdict}
 use Rattle.centre_events.specs.declared.answer.Answer.{Answer}
 use Rattle.centre_events.specs.declared.answer.Answer.TheVariants as answer
 use Rattle.centre_events.specs.declared.entry.Entry.{Entry}
@@ -127,7 +127,7 @@ kept_after other a kept = kept
 abbrev entry_with : ℕ → Event → Answer → Entry
 entry_with desk e a = record { desk = desk; event = e; answer = a }
 
-link_answer : (past : Past) (b : ℕ) (a : Answer) → answered [] past (event.LinkUp b) ≡ Ok a → answer.Link (position past + 1) ≡ a
+link_answer : (past : Past) (b : ℕ) (a : Answer) → link_up past b ≡ Ok a → answer.Link (position past + 1) ≡ a
 link_answer past b a is =
     let rest = (passed (not (is_bsc past b)) _ _ a is).1 in cc rest
 

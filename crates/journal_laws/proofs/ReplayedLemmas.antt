@@ -16,6 +16,7 @@ use Rattle.journal_laws.specs.Files.{AreLegal, AreLines, Checkpoint, Entered, Is
 use Rattle.journal_laws.specs.Replayed.{JournalIsReplayed, answers_text}
 use Rattle.journal_laws.proofs.FileLemmas.{lines_of_file}
 use Rattle.journal_laws.proofs.StepLemmas.{Mirrors, answered_item, mirrors_then, session_then}
+use Rattle.centre_events.specs.declared.network.Network.{Network}
 
 -- the session after items
 abbrev session_of : SessionState → List Item → SessionState
@@ -62,7 +63,7 @@ mirrors_items centre s m (item ∷ items) legal =
     mirrors_items (after_item item centre) (session_then s item) (mirrors_then centre s m item legal.0) items legal.1
 
 -- where nothing has happened
-mirrors_new : (network : List ℕ) (limit : ℕ) → Mirrors (new_centre network limit) (new_session network limit)
+mirrors_new : (network : Network) (limit : ℕ) → Mirrors (new_centre network limit) (new_session network limit)
 mirrors_new network limit = record {
   same = refl;
   whole = refl;

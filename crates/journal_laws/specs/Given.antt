@@ -11,6 +11,7 @@ use Rattle.centre_events.specs.Verdict.{verdict}
 use Rattle.centre_events.specs.declared.answer.Answer.{Answer}
 use Rattle.centre_events.specs.declared.event.Event.{Event}
 use Rattle.centre_events.specs.declared.event.Event.TheVariants as event
+use Rattle.centre_events.specs.declared.network.Network.{Network}
 use Rattle.centre_events.specs.declared.settings.Settings.{Settings}
 use Rattle.centre_past.specs.Legal.{Lawful, all_entries}
 use Rattle.console.specs.Replays.{new_session}
@@ -65,5 +66,5 @@ EntriesHaveLines = (settings : Settings) (past : Past) → Lawful settings past 
 -- and so has every entry that the console made of lines, whatever they were, also where memory ran out for some of them
 abbrev pub AllEnteredHaveLines : Type 0
 AllEnteredHaveLines =
-    (network : List ℕ) (limit : ℕ) (lines : List (List ℕ)) (session : SessionState) (text : List ℕ) → IsTextOrStarves (new_session network limit) lines session text
+    (network : Network) (limit : ℕ) (lines : List (List ℕ)) (session : SessionState) (text : List ℕ) → IsTextOrStarves (new_session network limit) lines session text
     → AllByRecursion (λ e. HasLine e.event) (all_entries session.centre)

@@ -2,6 +2,7 @@
 use Rattle.std.specs.Prelude.{◌≡◌, ℕ, List, map}
 use Rattle.std.specs.List.{flat_map}
 use Rattle.centre_events.specs.declared.entry.Entry.{Entry}
+use Rattle.centre_events.specs.declared.network.Network.{Network}
 use Rattle.centre_past.specs.Legal.{Known, new_centre}
 use Rattle.console.specs.Replays.{new_session}
 use Rattle.console.specs.Sessions.{SessionState}
@@ -19,11 +20,11 @@ abbrev pub all_by_desk_1 : Known → Known
 all_by_desk_1 centre = record centre { folded = map by_desk_1 centre.folded; journal = map by_desk_1 centre.journal }
 
 -- what is written for the items
-abbrev pub answers_text : List ℕ → ℕ → List Item → List ℕ
+abbrev pub answers_text : Network → ℕ → List Item → List ℕ
 answers_text network limit items = flat_map response_text (item_answers (new_centre network limit) items)
 
 -- the lines have one text: each is accepted, and the centre has the same events with the same answers then
-pub record IsReplayed (network : List ℕ) (limit : ℕ) (items : List Item) (octets : List ℕ) : Type 0 where
+pub record IsReplayed (network : Network) (limit : ℕ) (items : List Item) (octets : List ℕ) : Type 0 where
   pub session : SessionState
   pub told : IsText (new_session network limit) (lines_of octets) session (answers_text network limit items)
   pub centre : session.centre ≡ all_by_desk_1 (after_items items (new_centre network limit))
@@ -32,5 +33,5 @@ pub record IsReplayed (network : List ℕ) (limit : ℕ) (items : List Item) (oc
 -- every legal journal whose events have lines is replayed so
 abbrev pub JournalIsReplayed : Type 0
 JournalIsReplayed =
-    (network : List ℕ) (limit : ℕ) (items : List Item) (lines : List (List ℕ)) → AreLegal (new_centre network limit) items → AreLines items lines
+    (network : Network) (limit : ℕ) (items : List Item) (lines : List (List ℕ)) → AreLegal (new_centre network limit) items → AreLines items lines
     → IsReplayed network limit items (file_of lines)

@@ -19,6 +19,7 @@ use Rattle.centre_events.specs.declared.entry.Entry.{Entry}
 use Rattle.centre_events.specs.declared.event.Event.{Event}
 use Rattle.centre_events.specs.declared.event.Event.TheVariants as event
 use Rattle.centre_events.specs.declared.in_flight.InFlight.{InFlight}
+use Rattle.centre_events.specs.declared.network.Network.{Network}
 use Rattle.centre_past.specs.Legal.{Known, Lawful, past}
 use Rattle.centre_past.proofs.CheckLemmas.{no_check}
 use Rattle.centre_past.proofs.LineLemmas.{entry_of}
@@ -93,7 +94,7 @@ edit_stays_up past desk (edit.Narrow n x) a v b there up = (there, refl, up)
 edit_stays_up past desk (edit.Stop n) a v b there up = (there, refl, up)
 edit_stays_up past desk (edit.Forget n) a v b there up = (there, refl, up)
 
-stays_up : (network : List ℕ) (past : Past) (desk : ℕ) (e : Event) (a : Answer) → answered network past e ≡ Ok a → (b : ℕ) → affects past e b ≡ false → is_bsc past b ≡ true → is_up past b ≡ true → StaysUp past (After (entry_of desk e a) past) b
+stays_up : (network : Network) (past : Past) (desk : ℕ) (e : Event) (a : Answer) → answered network past e ≡ Ok a → (b : ℕ) → affects past e b ≡ false → is_bsc past b ≡ true → is_up past b ≡ true → StaysUp past (After (entry_of desk e a) past) b
 stays_up network past desk (event.Edit e) a v b other there up = edit_stays_up past desk e a v b there up
 stays_up network past desk (event.Retry d) a v b other there up = (there, refl, up)
 stays_up network past desk (event.LinkUp d) a v b other there up = cc
@@ -113,13 +114,13 @@ not_sent past d b now idle flying = at (nat_eq d b) refl
         let no : false ≡ true = sym idle ∙ ap (λ n. is_some (in_flight past n)) (same_bsc d b is) ∙ flying in cc
     at false is = flying
 
-stays_flying : (network : List ℕ) (past : Past) (desk : ℕ) (e : Event) (a : Answer) → answered network past e ≡ Ok a → (b : ℕ) → affects past e b ≡ false → is_some (in_flight past b) ≡ true → is_some (in_flight (After (entry_of desk e a) past) b) ≡ true
+stays_flying : (network : Network) (past : Past) (desk : ℕ) (e : Event) (a : Answer) → answered network past e ≡ Ok a → (b : ℕ) → affects past e b ≡ false → is_some (in_flight past b) ≡ true → is_some (in_flight (After (entry_of desk e a) past) b) ≡ true
 stays_flying network past desk (event.Edit e) a v b other flying = flying
 stays_flying network past desk (event.Retry d) a v b other flying = flying
 stays_flying network past desk (event.LinkUp d) a v b other flying = cc
 stays_flying network past desk (event.LinkDown d generation) a v b other flying = cc
 stays_flying network past desk (event.Send d generation) a v b other flying =
-    not_sent past d b (sent_flight a) (no_check (send_checks past d generation) (send_answer past (first (pending past d))) a v).1.1.1.0 flying
+    not_sent past d b (sent_flight a) (no_check (send_checks past d generation) (send_answer network.broadcasts past (first (pending past d))) a v).1.1.1.0 flying
 stays_flying network past desk (event.Ask d generation n after) a v b other flying =
     not_sent past d b (asked_flight a) (no_check (ask_checks past d generation n) _ a v).1.1.1.1.0 flying
 stays_flying network past desk (event.Report d generation m) a v b other flying =

@@ -19,6 +19,7 @@ use crate::wishes::{keep, take_out};
 use cell_register::BscId;
 use centre_core::centre::Centre;
 use centre_events::event::Event;
+use centre_events::network::Network;
 use centre_events::refusal::{Limit, Refusal};
 use centre_laws::headline::pending_gives_plan;
 use centre_past::lists::CentreStatus;
@@ -84,7 +85,7 @@ impl<L: Ledger> Held<L> {
     /// What stands under the lock of a new office: a centre of the network without entries, and no desk.
     pub(crate) fn new(
         alloc: Global,
-        plmn: [u8; 3],
+        network: Network,
         journal_limit: u32,
         book: Book<L>,
         rest: Share<L>,
@@ -93,11 +94,11 @@ impl<L: Ledger> Held<L> {
         requires total { book.total ≡ 0 }
         requires parts { rest.parts ≡ 1025 }
         requires nothing { rest.amount ≡ 0 }
-        ensures { result ≡ record { centre = new_centre plmn journal_limit; rows = []; base_rows = []; total = 0; rest_parts = 1025; rest_amount = 0; wishes = [] } }
+        ensures { result ≡ record { centre = new_centre network journal_limit; rows = []; base_rows = []; total = 0; rest_parts = 1025; rest_amount = 0; wishes = [] } }
     {
         Held {
             alloc,
-            centre: Centre::new(alloc, plmn, journal_limit),
+            centre: Centre::new(alloc, network, journal_limit),
             rows: Vec::new(alloc),
             base_rows: Vec::new(alloc),
             folded: 0,

@@ -28,6 +28,7 @@ use crate::wish::Wish;
 use cell_register::BscId;
 use centre_core::centre::Centre;
 use centre_events::event::Event;
+use centre_events::network::Network;
 use centre_events::refusal::{Limit, Refusal};
 use centre_questions::question::Question;
 use common::Cell;
@@ -74,8 +75,8 @@ fn prepared<L: Ledger>(
 }
 
 impl<L: Ledger> Office<L> {
-    /// An office over a centre without entries. The blank has a part for each desk that may be opened, and one more.
-    pub fn new(alloc: Global, blank: Blank, plmn: [u8; 3], journal_limit: u32) -> Office<L>
+    /// An office over a centre of the network without entries. The blank has a part for each desk that may be opened, and one more.
+    pub fn new(alloc: Global, blank: Blank, network: Network, journal_limit: u32) -> Office<L>
         requires name { blank.name ≡ L.name }
         requires parts { blank.parts ≡ L.parts }
         requires desks { blank.parts ≡ 1025 }
@@ -84,7 +85,7 @@ impl<L: Ledger> Office<L> {
         let (book, rest) = blank.open::<L>();
         Office {
             alloc,
-            held: Mutex::new(Held::new(alloc, plmn, journal_limit, book, rest)),
+            held: Mutex::new(Held::new(alloc, network, journal_limit, book, rest)),
             moved: Condvar::new(),
             entered: Condvar::new(),
             counts: Mutex::new(Counts::new()),

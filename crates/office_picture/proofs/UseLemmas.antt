@@ -14,6 +14,7 @@ use Rattle.centre_events.specs.declared.answer.Answer.{Answer}
 use Rattle.centre_events.specs.declared.answer.Answer.TheVariants as answer
 use Rattle.centre_events.specs.declared.event.Event.{Event}
 use Rattle.centre_events.specs.declared.event.Event.TheVariants as event
+use Rattle.centre_events.specs.declared.network.Network.{Network}
 use Rattle.centre_events.specs.declared.settings.Settings.{Settings}
 use Rattle.centre_past.specs.Legal.{Lawful, Legal, lasting}
 use Rattle.centre_past.proofs.AnyLemmas.{any_filter}
@@ -112,7 +113,7 @@ edit_use past (edit.Forget n) given a v known h = known (any_filter (names a) (�
 edit_use past other given a v known h = known h
 
 -- no other event changes the warnings or the areas
-use_then : (network : List ℕ) (past : Past) (e : Event) (given : Answer) (a : List ℕ) → answered network past e ≡ Ok given → (is_in_use past a ≡ true → is_area past a ≡ true) → are_using a (book_then e (book_of past)).warnings ≡ true → unwrap_or (by_edit (area_mark a) e) (is_area past a) ≡ true
+use_then : (network : Network) (past : Past) (e : Event) (given : Answer) (a : List ℕ) → answered network past e ≡ Ok given → (is_in_use past a ≡ true → is_area past a ≡ true) → are_using a (book_then e (book_of past)).warnings ≡ true → unwrap_or (by_edit (area_mark a) e) (is_area past a) ≡ true
 use_then network past (event.Edit e) given a v known h = edit_use past e given a v known h
 use_then network past other given a v known h = known h
 

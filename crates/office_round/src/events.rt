@@ -5,14 +5,18 @@ use areas::Selector;
 use cbsp_messages::read;
 use cell_register::BscId;
 use centre_events::event::Event;
+use centre_events::network::Network;
 use common::{Cell, Name, Names, Octets};
 use coverage_plan::Edit;
 use serials::Scope;
 use std::alloc::{AllocError, Global};
 use warning_book::{Category, CbsContent, Content, ContentPages, Notice, WarningId};
 
-/// The network code 001-01.
-pub(crate) const PLMN: [u8; 3] = [0x00, 0xf1, 0x10];
+/// The network 001-01, in which messages are broadcast until they are killed.
+pub(crate) const NETWORK: Network = Network {
+    plmn: [0x00, 0xf1, 0x10],
+    broadcasts: 0,
+};
 
 /// The location area of the cells.
 const LAC: u16 = 100;

@@ -3,7 +3,7 @@
 ghost use Rattle.std.specs.Prelude.{◌≡◌};
 
 use crate::calls::{checkpoint, enter, has_order, open, rebuild, show};
-use crate::events::{PLMN, Step};
+use crate::events::{NETWORK, Step};
 use crate::waiting::update_while_waiting;
 use crate::want::{TRIES, Want};
 use crate::wrong::Wrong;
@@ -126,7 +126,7 @@ pub(crate) fn round<L: Ledger + Send + Sync, R: Threads + Wait + Clock + Print +
     requires parts { blank.parts ≡ L.parts }
     requires desks { blank.parts ≡ 1025 }
 {
-    let office = Office::<L>::new(alloc, blank, PLMN, 1_000);
+    let office = Office::<L>::new(alloc, blank, NETWORK, 1_000);
     let desks = desks_after(rt, alloc, &office, b, want)?;
     want.take(0);
     let settled = settled(office, desks);
@@ -189,7 +189,7 @@ pub(crate) fn miss_a_desk<L: Ledger, R: Wait + Print>(
     requires desks { blank.parts ≡ 1025 }
 {
     let mut desks = room(alloc)?;
-    let office = Office::<L>::new(alloc, blank, PLMN, 1_000);
+    let office = Office::<L>::new(alloc, blank, NETWORK, 1_000);
     let first = one_of_two(rt, alloc, &office, b, want)?;
     drop(desks.push(first));
     want.take(0);

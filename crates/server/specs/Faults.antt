@@ -10,6 +10,7 @@ abbrev pub words_of : ServeFault → List ℕ
 words_of serve_fault.Peers = codes "cbc: peers fault" ++ newline
 words_of serve_fault.JournalInUse = codes "cbc: journal in use" ++ newline
 words_of serve_fault.OtherNetwork = codes "cbc: journal of another network" ++ newline
+words_of serve_fault.OtherBroadcasts = []
 words_of serve_fault.NotJournal = codes "cbc: not a journal" ++ newline
 words_of serve_fault.JournalLine = []
 words_of serve_fault.JournalRead = codes "cbc: journal read fault" ++ newline

@@ -14,6 +14,8 @@ pub enum ServeFault {
     JournalInUse,
     /// The file holds the journal of another network.
     OtherNetwork,
+    /// The file holds a journal with another number of broadcasts. Both numbers were said.
+    OtherBroadcasts,
     /// The file holds no journal.
     NotJournal,
     /// The file has a line that is no event, isn't accepted or is too long. Its number was said.
@@ -39,6 +41,7 @@ impl ServeFault {
             ServeFault::Peers => b"cbc: peers fault\n",
             ServeFault::JournalInUse => b"cbc: journal in use\n",
             ServeFault::OtherNetwork => b"cbc: journal of another network\n",
+            ServeFault::OtherBroadcasts => b"",
             ServeFault::NotJournal => b"cbc: not a journal\n",
             ServeFault::JournalLine => b"",
             ServeFault::JournalRead => b"cbc: journal read fault\n",

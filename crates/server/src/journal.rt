@@ -8,7 +8,7 @@ use crate::options::ServeOptions;
 use crate::ports::open_desk;
 use console_text::ReplayFault;
 use journal_file::{
-    DiskFile, JournalFile, LoadFault, Loaded, OpenFault, Writing, append_all, header, load,
+    DiskFile, Heading, JournalFile, LoadFault, Loaded, OpenFault, Writing, append_all, header, load,
 };
 use journal_keeper::{KeepFault, Keeper};
 use journal_office::Entering;
@@ -39,7 +39,29 @@ pub(crate) fn open_journal<R: Files<File = File>>(
     }
 }
 
-/// What ends a start that can't read the file. The number of a line is said.
+/// What the first line of the file names.
+fn heading_of(options: &ServeOptions) -> Heading
+    ensures { result ≡ record { plmn = options.now.network.plmn; broadcasts = options.now.network.broadcasts } }
+{
+    Heading {
+        plmn: options.network.plmn,
+        broadcasts: options.network.broadcasts,
+    }
+}
+
+/// Says why the file can't be read.
+fn say_unread<E: Write + Drop, R: Wait + Clock>(
+    rt: &R,
+    alloc: Global,
+    errors: &Errors<E>,
+    fault: LoadFault,
+) {
+    if let Ok(text) = format!(in alloc; "cbc: {fault}\n") {
+        errors.say_last(rt, alloc, text.as_bytes());
+    }
+}
+
+/// What ends a start that can't read the file. The number of a line is said, and two numbers of broadcasts.
 fn unread<E: Write + Drop, R: Wait + Clock>(
     rt: &R,
     alloc: Global,
@@ -51,10 +73,12 @@ fn unread<E: Write + Drop, R: Wait + Clock>(
         LoadFault::Memory => ServeFault::Lines(ReplayFault::Memory),
         LoadFault::NotJournal => ServeFault::NotJournal,
         LoadFault::OtherNetwork => ServeFault::OtherNetwork,
+        LoadFault::OtherBroadcasts(..) => {
+            say_unread(rt, alloc, errors, fault);
+            ServeFault::OtherBroadcasts
+        }
         LoadFault::LongLine(_) | LoadFault::BadLine(_) => {
-            if let Ok(text) = format!(in alloc; "cbc: {fault}\n") {
-                errors.say_last(rt, alloc, text.as_bytes());
-            }
+            say_unread(rt, alloc, errors, fault);
             ServeFault::JournalLine
         }
     }
@@ -68,14 +92,14 @@ fn unkept(fault: KeepFault) -> ServeFault {
 }
 
 /// Cuts off what is torn, and writes the first line where there is none.
-fn mend(file: &mut DiskFile, plmn: [u8; 3], loaded: Loaded) -> Result<(), ServeFault> {
+fn mend(file: &mut DiskFile, heading: Heading, loaded: Loaded) -> Result<(), ServeFault> {
     if loaded.torn > 0 && file.cut(loaded.whole).is_err() {
         return Err(ServeFault::Journal);
     }
     if loaded.lines > 0 {
         return Ok(());
     }
-    let is_written = append_all(file, header(plmn).as_slice()).is_ok()
+    let is_written = append_all(file, header(heading).as_slice()).is_ok()
         && append_all(file, b"\n").is_ok();
     if is_written && file.sync().is_ok() {
         Ok(())
@@ -128,11 +152,11 @@ fn enter_lines<L: Ledger, E: Write + Drop, R: Wait + Clock>(
 ) -> Result<(), ServeFault> {
     let read = {
         let mut source = file.source();
-        load(alloc, options.plmn, &mut source, entering)
+        load(alloc, heading_of(options), &mut source, entering)
     };
     match read {
         Ok(loaded) => {
-            mend(file, options.plmn, loaded)?;
+            mend(file, heading_of(options), loaded)?;
             tell_torn(rt, alloc, errors, loaded);
             Ok(())
         }

@@ -2,6 +2,7 @@
 
 ghost use Rattle.std.specs.Prelude.{◌≡◌, ◌≤◌, ◌&&◌, IfSome, if◌then◌else◌, nat_lt};
 
+use centre_events::network::Network;
 use clap::ArgMatches;
 use console_text::options::{
     CONSOLES, FOLD, MOST_CONSOLES, MOST_ENTRIES, MOST_SECONDS, REPLY_SECONDS, command_line,
@@ -13,8 +14,8 @@ use std::alloc::{AllocError, Global};
 /// What the server is run with. BSC b connects to port `base` + b - 1, for b from 1 to `links`, which is at most 256.
 #[derive(Debug, Drop)]
 pub struct ServeOptions {
-    /// The network code, as TS 24.008 writes it in three octets.
-    pub plmn: [u8; 3],
+    /// The network, and how many broadcasts a message requests.
+    pub network: Network,
     /// How many entries the journal may have since the last checkpoint. With `keep` it is to be at least 20,480, else it may be full
     /// before it is folded.
     pub journal_limit: u32,
@@ -70,6 +71,11 @@ impl From<AllocError> for OptionsFault {
 /// The network code; `None` where it isn't six hexadecimal digits.
 fn asked_plmn(matches: &ArgMatches<'_>) -> Option<[u8; 3]> {
     <[u8; 3] as FromHex>::from_hex(matches.get_str("plmn")?).ok()
+}
+
+/// How many broadcasts a message requests.
+fn asked_broadcasts(matches: &ArgMatches<'_>) -> u16 {
+    matches.get_one::<u16>("broadcasts").unwrap_or(0)
 }
 
 /// How many entries the journal may hold.
@@ -217,7 +223,10 @@ fn options_of(alloc: Global, matches: &ArgMatches<'_>) -> Result<ServeOptions, O
         http,
     } = names_of(alloc, matches)?;
     Ok(ServeOptions {
-        plmn,
+        network: Network {
+            plmn,
+            broadcasts: asked_broadcasts(matches),
+        },
         journal_limit: held(keep.is_some(), asked_journal(matches)),
         fold: asked_fold(matches),
         host,

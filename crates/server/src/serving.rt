@@ -200,7 +200,7 @@ fn run_begun<
     let Opened { ports, peers } = opened;
     let shared = Shared {
         alloc,
-        office: Office::new(alloc, blank, options.plmn, options.journal_limit),
+        office: Office::new(alloc, blank, options.network, options.journal_limit),
         ports,
         errors,
         options: LinkOptions {
@@ -289,9 +289,10 @@ fn run_office<
 /// orders are held back, for each BSC that has no port or is down while a warning that it may have on air is stopped or updated, and
 /// for each port that can't be listened on or is closed since a thread of it can't be started. Each line begins with the UTC time.
 /// The answer is the exit status: 0, or 1 after a fault, which is said there as `cbc: ` and its words: `peers fault` where the file
-/// of peers can't be read or has a bad line, `journal in use`, `journal of another network`, `not a journal`, `journal line N`, `journal read
-/// fault` or `journal fault` where the file of the journal is in use, isn't this network's, can't be read or fails, `listen fault` where a port can't be listened on, `settle fault`, or what ended the
-/// lines: `read fault`, `write fault`, `line too long` or `out of memory`.
+/// of peers can't be read or has a bad line, `journal in use`, `journal of another network`, `journal of N broadcasts, not of
+/// M`, `not a journal`, `journal line N`, `journal read fault` or `journal fault` where the file of the journal is in use, isn't
+/// this network's, has another number of broadcasts, can't be read or fails, `listen fault` where a port can't be listened on,
+/// `settle fault`, or what ended the lines: `read fault`, `write fault`, `line too long` or `out of memory`.
 pub fn serve<
     R: Files<File = File>
         + Wait

@@ -5,7 +5,7 @@
 use crate::checks::{same, yes};
 use crate::day::DAY;
 use crate::stale_tests::{enters, is_whole, rebuilds};
-use crate::steps::{COAST, Change, PLMN, SEVEN, Step, bsc, event_of, refusal, takes};
+use crate::steps::{COAST, Change, NETWORK, SEVEN, Step, bsc, event_of, refusal, takes};
 use areas::Selector;
 use centre_core::centre::Centre;
 use centre_core::{Answer, Refusal, Serial};
@@ -61,7 +61,7 @@ fn refuses(rt: &impl Abort, alloc: Global, centre: &mut Centre, step: Step, want
 #[test]
 fn a_full_journal_has_room_after_a_checkpoint(rt: HostRuntime) {
     let alloc = rt.alloc();
-    let mut centre = Centre::new(alloc, PLMN, 2);
+    let mut centre = Centre::new(alloc, NETWORK, 2);
     let [first, second, third] = [1, 2, 3].map(|b| Step::Plan(Change::AddBsc(b)));
     takes(&rt, alloc, &mut centre, first);
     takes(&rt, alloc, &mut centre, second);
@@ -92,7 +92,7 @@ fn is_updated(rt: &impl Abort, centre: &mut Centre, place: u64, want: Serial) {
 #[test]
 fn what_is_in_flight_is_answered_after_a_checkpoint(rt: HostRuntime) {
     let alloc = rt.alloc();
-    let mut centre = Centre::new(alloc, PLMN, 100);
+    let mut centre = Centre::new(alloc, NETWORK, 100);
     for step in SENT {
         takes(&rt, alloc, &mut centre, step);
     }
@@ -120,7 +120,7 @@ fn is_made_anew(rt: &impl Abort, centre: &mut Centre, numbers: [u64; 6]) {
 #[test]
 fn a_day_goes_on_over_checkpoints(rt: HostRuntime) {
     let alloc = rt.alloc();
-    let mut centre = Centre::new(alloc, PLMN, 1);
+    let mut centre = Centre::new(alloc, NETWORK, 1);
     let mut before = [0, 0, 0, 0, 0, 0];
     for (step, after) in DAY.iter() {
         enters(&rt, alloc, &mut centre, *step, before);
@@ -136,7 +136,7 @@ fn a_day_goes_on_over_checkpoints(rt: HostRuntime) {
 #[test]
 fn a_rebuild_begins_with_the_base(rt: HostRuntime) {
     let alloc = rt.alloc();
-    let mut centre = Centre::new(alloc, PLMN, 100);
+    let mut centre = Centre::new(alloc, NETWORK, 100);
     for (step, _) in DAY.iter().take(14) {
         takes(&rt, alloc, &mut centre, *step);
     }

@@ -1,6 +1,6 @@
 //! A day at two BSCs, with events of every kind but a query, and the numbers that the centre tells after each of them.
 
-use crate::steps::{COAST, Change, EIGHT, HILLS, PLMN, SEVEN, Step, takes};
+use crate::steps::{COAST, Change, EIGHT, HILLS, NETWORK, SEVEN, Step, takes};
 use areas::Selector;
 use centre_core::centre::Centre;
 use std::alloc::Global;
@@ -92,7 +92,7 @@ pub(crate) static DAY: [(Step, [u64; 6]); 34] = [
 
 /// A centre after so many steps.
 pub(crate) fn after(rt: &impl Abort, alloc: Global, count: usize) -> Centre {
-    let mut centre = Centre::new(alloc, PLMN, 100);
+    let mut centre = Centre::new(alloc, NETWORK, 100);
     for (step, _) in DAY.iter().take(count) {
         takes(rt, alloc, &mut centre, *step);
     }

@@ -2,7 +2,7 @@
 //! not by those that are there.
 
 use crate::checks::{same, yes};
-use crate::steps::{COAST, Change, PLMN, Step, first_id, takes};
+use crate::steps::{COAST, Change, NETWORK, Step, first_id, takes};
 use areas::Selector;
 use centre_core::centre::Centre;
 use common::Cell;
@@ -52,7 +52,7 @@ const THEN: [(Step, u64, [u64; 2]); 4] = [
 
 /// A centre with a warning on air in 1,001 cells of one BSC.
 fn on_air(rt: &impl Abort, alloc: Global) -> Centre {
-    let mut centre = Centre::new(alloc, PLMN, 2000);
+    let mut centre = Centre::new(alloc, NETWORK, 2000);
     takes(rt, alloc, &mut centre, Step::Plan(Change::AddBsc(1)));
     for ci in 1..=1001u16 {
         let cell = Cell { lac: LAC, ci };

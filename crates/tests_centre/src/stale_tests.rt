@@ -4,7 +4,7 @@
 
 use crate::checks::{same, yes};
 use crate::day::{DAY, NOT_THERE, WRITE_FAILURE, after};
-use crate::steps::{EIGHT, PLMN, SEVEN, Step, bsc, event_of, first_id, refusal, takes};
+use crate::steps::{EIGHT, NETWORK, SEVEN, Step, bsc, event_of, first_id, refusal, takes};
 use cbsp_ie::Cause;
 use cell_register::BscId;
 use centre_core::centre::Centre;
@@ -117,7 +117,7 @@ pub(crate) fn enters(
 
 /// A centre after so many steps of the day, each of which leaves what it is to leave.
 fn entered(rt: &impl Abort, alloc: Global, count: usize) -> Centre {
-    let mut centre = Centre::new(alloc, PLMN, 100);
+    let mut centre = Centre::new(alloc, NETWORK, 100);
     let mut before = [0, 0, 0, 0, 0, 0];
     for (step, after) in DAY.iter().take(count) {
         enters(rt, alloc, &mut centre, *step, before);
@@ -229,7 +229,7 @@ fn want_of_memory_in_a_rebuild_leaves_a_centre_as_it_was(rt: HostRuntime) {
 /// A new centre that is rebuilt has read no line.
 #[test]
 fn a_new_centre_is_rebuilt(rt: HostRuntime) {
-    let mut centre = Centre::new(rt.alloc(), PLMN, 100);
+    let mut centre = Centre::new(rt.alloc(), NETWORK, 100);
     rebuilds(&rt, &mut centre);
     yes(&rt, centre.meter().lines == 0, "no line is read");
     drop(centre);

@@ -8,6 +8,7 @@ use centre_core::centre::Centre;
 use centre_core::{Content, ContentPages, Notice, Scope, Serial, WarningId};
 use centre_events::answer::Answer;
 use centre_events::event::Event;
+use centre_events::network::Network;
 use centre_events::refusal::Refusal;
 use common::{Cell, Name, Names, Octets};
 use coverage_plan::Edit;
@@ -15,8 +16,11 @@ use std::alloc::{AllocError, Global};
 use std::process::Abort;
 use warning_book::{Category, CbsContent};
 
-/// The network code 001-01.
-pub(crate) const PLMN: [u8; 3] = [0x00, 0xf1, 0x10];
+/// The network 001-01, in which messages are broadcast until they are killed.
+pub(crate) const NETWORK: Network = Network {
+    plmn: [0x00, 0xf1, 0x10],
+    broadcasts: 0,
+};
 
 pub(crate) const SEVEN: Cell = Cell { lac: 100, ci: 7 };
 

@@ -5,6 +5,7 @@ ghost use Rattle.std.specs.Prelude.{◌≡◌};
 use crate::checks::yes;
 use crate::given_program::GivenProgram;
 use crate::scripts::{MOST, Script, Step, plays};
+use centre_events::network::Network;
 use office::desk::Desk;
 use office::fault::Fault;
 use office::office::Office;
@@ -24,7 +25,10 @@ use std::thread::Threads;
 use std::time::Clock;
 use std::{fs, thread};
 
-const PLMN: [u8; 3] = [0x00, 0xf1, 0x10];
+const NETWORK: Network = Network {
+    plmn: [0x00, 0xf1, 0x10],
+    broadcasts: 0,
+};
 
 /// Serves one of the consoles.
 fn serves<L: Ledger, R: Wait + Clock>(
@@ -204,7 +208,7 @@ fn served<L: Ledger + Send + Sync, R: Wait + Threads + Clock + Files + Net + Abo
     requires parts { blank.parts ≡ L.parts }
     requires desks { blank.parts ≡ 1025 }
 {
-    let office: Office<L> = Office::new(alloc, blank, PLMN, 1000);
+    let office: Office<L> = Office::new(alloc, blank, NETWORK, 1000);
     let desks = desks_after(rt, alloc, &office, script);
     let entries = settled(office, desks);
     entries.expect(

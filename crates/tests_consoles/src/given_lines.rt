@@ -4,6 +4,7 @@ ghost use Rattle.std.specs.Prelude.{◌≡◌};
 
 use crate::given_program::kept_without_file;
 use cell_register::BscId;
+use centre_events::network::Network;
 use centre_events::refusal::Refusal;
 use console_text::ReplayFault;
 use journal_keeper::KeptUpTo;
@@ -175,6 +176,12 @@ impl Server for Keeping<'_> {
     fn stays_on_air<R: Wait + Clock>(&self, _rt: &R, _warning: WarningId, _b: BscId) {}
 }
 
+/// The network of the office.
+const NETWORK: Network = Network {
+    plmn: [0x00, 0xf1, 0x10],
+    broadcasts: 0,
+};
+
 /// Answers the lines at a desk of the office.
 fn answers_at<L: Ledger, R: Wait + Clock + Abort>(
     rt: &R,
@@ -227,7 +234,7 @@ fn answered<L: Ledger, R: Wait + Clock + Abort>(
     requires parts { blank.parts ≡ L.parts }
     requires desks { blank.parts ≡ 1025 }
 {
-    let office: Office<L> = Office::new(alloc, blank, [0x00, 0xf1, 0x10], 1000);
+    let office: Office<L> = Office::new(alloc, blank, NETWORK, 1000);
     let seen = AtomicU64::new(0);
     answers_at(rt, alloc, &office, &seen, given)
 }

@@ -4,14 +4,18 @@ ghost use Rattle.std.specs.Prelude.{◌≡◌, None};
 
 use crate::checks::{same, yes};
 use journal_file::{
-    DiskFile, JournalFile, LoadFault, Loaded, NotTaken, OpenFault, TakeLine, Writing, header, load,
+    DiskFile, Heading, JournalFile, LoadFault, Loaded, NotTaken, OpenFault, TakeLine, Writing,
+    header, load,
 };
 use std::alloc::Global;
 use std::fs;
 use std::process::Abort;
 use std::rt::Files;
 
-const PLMN: [u8; 3] = [0x00, 0xf1, 0x10];
+const HEADING: Heading = Heading {
+    plmn: [0x00, 0xf1, 0x10],
+    broadcasts: 0,
+};
 
 /// Counts the lines that it takes.
 #[derive(Drop)]
@@ -30,7 +34,7 @@ impl TakeLine for Count {
 fn found(file: &DiskFile, alloc: Global) -> (Result<Loaded, LoadFault>, u64) {
     let mut count = Count(0);
     let mut source = file.source();
-    let result = load(alloc, PLMN, &mut source, &mut count);
+    let result = load(alloc, HEADING, &mut source, &mut count);
     (result, count.0)
 }
 
@@ -72,7 +76,7 @@ fn a_file_keeps_its_lines_and_is_cut(rt: HostRuntime) {
         &rt,
         alloc,
         &mut file,
-        &[header(PLMN).as_slice(), b"bsc add 1", b"up 1"],
+        &[header(HEADING).as_slice(), b"bsc add 1", b"up 1"],
     );
     yes(&rt, file.append(b"down").is_ok(), "a torn line");
     drop(file);

@@ -6,6 +6,7 @@ ghost use Rattle.std.specs.Prelude.{◌≡◌};
 use crate::checks::{same, yes};
 use cell_register::BscId;
 use centre_events::event::Event;
+use centre_events::network::Network;
 use coverage_plan::Edit;
 use framing::Failed;
 use journal_file::{JournalFile, MemoryFile, Writing};
@@ -28,6 +29,12 @@ use std::{io, thread};
 
 /// How many entries the journal may hold. It is folded at nine tenths of that.
 const LIMIT: u32 = 40;
+
+/// The network of the office.
+const NETWORK: Network = Network {
+    plmn: [0x00, 0xf1, 0x10],
+    broadcasts: 0,
+};
 
 /// What is said at the end.
 const LAST: &[u8] = b"cbc: journal fault\n";
@@ -208,7 +215,7 @@ fn enters_at_four_desks<L: Ledger + Send + Sync, R: Wait + Clock + Threads + Syn
         rt,
         octets: &octets,
     };
-    let office: Office<L> = Office::new(alloc, blank, [0x00, 0xf1, 0x10], LIMIT);
+    let office: Office<L> = Office::new(alloc, blank, NETWORK, LIMIT);
     let shared = shared_of(alloc, office, said);
     let lent = &shared;
     let (result, refused) = thread::join(
@@ -273,7 +280,7 @@ fn enters_one_more<L: Ledger + Send + Sync, R: Wait + Clock + Threads + Sync + A
     requires parts { blank.parts ≡ L.parts }
     requires desks { blank.parts ≡ 1025 }
 {
-    let office: Office<L> = Office::new(alloc, blank, [0x00, 0xf1, 0x10], LIMIT);
+    let office: Office<L> = Office::new(alloc, blank, NETWORK, LIMIT);
     let shared = shared_of(alloc, office, Vec::new(alloc));
     let lent = &shared;
     let (result, left) = thread::join(rt, move || keeps(rt, lent), move || one_more(rt, lent));

@@ -4,6 +4,7 @@ ghost use Rattle.std.specs.Prelude.{◌≡◌};
 
 use crate::checks::{same, yes};
 use cell_register::BscId;
+use centre_events::network::Network;
 use centre_events::refusal::Refusal;
 use console_text::ReplayFault;
 use journal_keeper::{Kept, KeptUpTo, wait_kept};
@@ -99,6 +100,12 @@ impl BufRead for Pieces<'_> {
     }
 }
 
+/// The network of the office.
+const NETWORK: Network = Network {
+    plmn: [0x00, 0xf1, 0x10],
+    broadcasts: 0,
+};
+
 /// What the lines are answered by a server that ends once it was asked so often.
 fn answers<L: Ledger, R: Wait + Clock + Abort>(
     rt: &R,
@@ -111,7 +118,7 @@ fn answers<L: Ledger, R: Wait + Clock + Abort>(
     requires parts { blank.parts ≡ L.parts }
     requires desks { blank.parts ≡ 1025 }
 {
-    let office: Office<L> = Office::new(alloc, blank, [0x00, 0xf1, 0x10], 100);
+    let office: Office<L> = Office::new(alloc, blank, NETWORK, 100);
     let desk = office.open_desk(rt).expect(rt, "a desk");
     let server = Ending {
         left: AtomicU64::new(asks),

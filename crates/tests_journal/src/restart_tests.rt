@@ -3,8 +3,9 @@
 ghost use Rattle.std.specs.Prelude.{◌≡◌, ◌≤◌};
 
 use crate::checks::{same, yes};
+use centre_events::network::Network;
 use framing::FromRead;
-use journal_file::{LoadFault, Loaded, MemoryFile, Writing, load};
+use journal_file::{Heading, LoadFault, Loaded, MemoryFile, Writing, load};
 use journal_keeper::KeepFault;
 use journal_office::Entering;
 use office::desk::Desk;
@@ -15,7 +16,15 @@ use std::process::Abort;
 use std::sync::Wait;
 use std::sync::ledger::{Blank, Ledger};
 
-const PLMN: [u8; 3] = [0x00, 0xf1, 0x10];
+const NETWORK: Network = Network {
+    plmn: [0x00, 0xf1, 0x10],
+    broadcasts: 0,
+};
+
+const HEADING: Heading = Heading {
+    plmn: [0x00, 0xf1, 0x10],
+    broadcasts: 0,
+};
 
 /// The first line, and twenty entries: a warning of two cells goes on air in both, is asked for, fails in one, and the link is lost and
 /// comes back.
@@ -73,7 +82,7 @@ fn reads<L: Ledger, R: Wait>(
 ) -> Result<(Result<Loaded, LoadFault>, u64, MemoryFile), KeepFault> {
     let mut entering = Entering::new(rt, alloc, office, desk, every);
     let mut source = FromRead::new(octets);
-    let result = load(alloc, PLMN, &mut source, &mut entering);
+    let result = load(alloc, HEADING, &mut source, &mut entering);
     let entries = office.position(rt);
     let mut writing = Writing::new(alloc, entries);
     let mut file = MemoryFile::new(Vec::new(alloc), 1_000_000, 1_000);
@@ -100,7 +109,7 @@ fn starts<L: Ledger, R: Wait + Abort>(
     requires desks { blank.parts ≡ 1025 }
     requires limit { limit ≤ 4000000 }
 {
-    let office: Office<L> = Office::new(alloc, blank, PLMN, limit);
+    let office: Office<L> = Office::new(alloc, blank, NETWORK, limit);
     let mut desk = office.open_desk(rt).expect(rt, "a desk");
     let (result, entries, file) = reads(rt, alloc, &office, &mut desk, octets, every).expect(
         rt,

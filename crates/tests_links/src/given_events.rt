@@ -2,6 +2,7 @@
 
 use cell_register::BscId;
 use centre_events::event::Event;
+use centre_events::network::Network;
 use common::{Cell, Name, Names, Octets};
 use coverage_plan::Edit;
 use serials::{Scope, Serial};
@@ -9,8 +10,11 @@ use std::alloc::Global;
 use std::process::Abort;
 use warning_book::{Category, CbsContent, Content, ContentPages, Notice, WarningId};
 
-/// The network code 001-01.
-pub(crate) const PLMN: [u8; 3] = [0x00, 0xf1, 0x10];
+/// The network 001-01, in which messages are broadcast until they are killed.
+pub(crate) const NETWORK: Network = Network {
+    plmn: [0x00, 0xf1, 0x10],
+    broadcasts: 0,
+};
 
 pub(crate) const SEVEN: Cell = Cell { lac: 100, ci: 7 };
 

@@ -2,7 +2,7 @@
 
 ghost use Rattle.std.specs.Prelude.{◌≡◌};
 
-use crate::given_events::{PLMN, SEVEN, bsc, coast, issue};
+use crate::given_events::{NETWORK, SEVEN, bsc, coast, issue};
 use areas::Selector;
 use cell_register::BscId;
 use centre_events::event::Event;
@@ -76,7 +76,7 @@ pub(crate) fn new_office<L: Ledger>(alloc: Global, blank: Blank, journal_limit: 
     requires parts { blank.parts ≡ L.parts }
     requires desks { blank.parts ≡ 1025 }
 {
-    Office::new(alloc, blank, PLMN, journal_limit.min(4_000_000))
+    Office::new(alloc, blank, NETWORK, journal_limit.min(4_000_000))
 }
 
 /// A cell is registered at the BSC, a warning is issued there, and the link of the BSC comes up.

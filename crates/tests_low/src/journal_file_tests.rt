@@ -6,13 +6,16 @@ use crate::values::{same, yes};
 use framing::FromRead;
 use framing::faulty::{FailsAtRead, InPieces};
 use journal_file::{
-    LoadFault, Loaded, MemoryFile, NotTaken, PutFault, TakeLine, Writing, header, load,
+    Heading, LoadFault, Loaded, MemoryFile, NotTaken, PutFault, TakeLine, Writing, load,
 };
 use std::alloc::Global;
 use std::process::Abort;
 
-/// The network 001-01 (TS 24.008).
-const PLMN: [u8; 3] = [0x00, 0xf1, 0x10];
+/// The network 001-01 (TS 24.008), and broadcasts until a message is killed.
+const HEADING: Heading = Heading {
+    plmn: [0x00, 0xf1, 0x10],
+    broadcasts: 0,
+};
 
 /// The first line of its journal.
 const HEADER: &[u8] = b"# cbc journal, network 00f110";
@@ -49,6 +52,7 @@ impl TakeLine for Lines {
 fn read(
     rt: &impl Abort,
     alloc: Global,
+    heading: Heading,
     octets: &[u8],
     size: usize,
     taken: &[u8],
@@ -56,7 +60,7 @@ fn read(
     yes(rt, size > 0, "a piece has some octets");
     let mut lines = Lines::new(alloc);
     let mut source = InPieces::new(FromRead::new(octets), size.max(1));
-    let found = load(alloc, PLMN, &mut source, &mut lines);
+    let found = load(alloc, heading, &mut source, &mut lines);
     same(
         rt,
         &lines.octets.as_slice(),
@@ -67,9 +71,10 @@ fn read(
 }
 
 /// The octets are read in pieces of one, seven and all octets, and the same is found.
-fn finds(
+pub(crate) fn finds(
     rt: &impl Abort,
     alloc: Global,
+    heading: Heading,
     octets: &[u8],
     taken: &[u8],
     want: Result<Loaded, LoadFault>,
@@ -77,7 +82,7 @@ fn finds(
     for size in [1, 7, 70_000] {
         same(
             rt,
-            &read(rt, alloc, octets, size, taken),
+            &read(rt, alloc, heading, octets, size, taken),
             &want,
             "what is found",
         );
@@ -90,11 +95,6 @@ fn joined(rt: &impl Abort, alloc: Global, parts: &[&[u8]]) -> Vec<u8> {
         octets.extend_from_slice(part).expect(rt, "memory");
     }
     octets
-}
-
-#[test]
-fn the_first_line_names_the_network(rt: HostRuntime) {
-    same(&rt, &header(PLMN).as_slice(), &HEADER, "the first line");
 }
 
 #[test]
@@ -166,7 +166,7 @@ fn a_file_has_lines_and_what_is_torn(rt: HostRuntime) {
         ),
     ];
     for (octets, taken, want) in rows {
-        finds(&rt, alloc, octets, taken, Ok(want));
+        finds(&rt, alloc, HEADING, octets, taken, Ok(want));
     }
 }
 
@@ -203,7 +203,7 @@ fn each_fault_is_named(rt: HostRuntime) {
         ),
     ];
     for (octets, taken, want) in rows {
-        finds(&rt, alloc, octets, taken, Err(want));
+        finds(&rt, alloc, HEADING, octets, taken, Err(want));
     }
 }
 
@@ -216,6 +216,7 @@ fn a_line_may_have_600_000_octets(rt: HostRuntime) {
     finds(
         &rt,
         alloc,
+        HEADING,
         octets.as_slice(),
         lines.as_slice(),
         Ok(Loaded {
@@ -228,6 +229,7 @@ fn a_line_may_have_600_000_octets(rt: HostRuntime) {
     finds(
         &rt,
         alloc,
+        HEADING,
         octets.as_slice(),
         b"up 1\n",
         Err(LoadFault::LongLine(3)),
@@ -236,6 +238,7 @@ fn a_line_may_have_600_000_octets(rt: HostRuntime) {
     finds(
         &rt,
         alloc,
+        HEADING,
         octets.as_slice(),
         b"up 1\n",
         Ok(Loaded {
@@ -254,7 +257,7 @@ fn a_read_that_fails_is_told(rt: HostRuntime) {
         let mut lines = Lines::new(alloc);
         let pieces = InPieces::new(FromRead::new(octets.as_slice()), 20);
         let mut source = FailsAtRead::new(pieces, fatal);
-        let found = load(alloc, PLMN, &mut source, &mut lines);
+        let found = load(alloc, HEADING, &mut source, &mut lines);
         same(&rt, &found, &Err(LoadFault::ReadFault), "the read is told");
     }
 }
@@ -304,7 +307,7 @@ fn survives(rt: &impl Abort, alloc: Global, room: usize, syncs: usize) {
         let left = file.after_crash(alloc, lost).expect(rt, "memory");
         let mut lines = Lines::new(alloc);
         let mut source = FromRead::new(left.as_slice());
-        let found = load(alloc, PLMN, &mut source, &mut lines);
+        let found = load(alloc, HEADING, &mut source, &mut lines);
         yes(rt, found.is_ok(), "the file is a journal");
         yes(
             rt,

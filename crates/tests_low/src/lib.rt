@@ -12,6 +12,8 @@ mod book_tests;
 #[cfg(test)]
 mod element_tests;
 #[cfg(test)]
+mod first_line_tests;
+#[cfg(test)]
 mod frame_tests;
 #[cfg(test)]
 mod journal_file_tests;

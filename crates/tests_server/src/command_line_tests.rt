@@ -75,7 +75,14 @@ const STATUSES: &[(&[&str], u8, &str)] = &[
         0,
         "",
     ),
+    (&["cbc", "replay", "--broadcasts", "0"], 0, ""),
+    (&["cbc", "replay", "--broadcasts=65535"], 0, ""),
     (&["cbc", "replay", "--plmn", "00f1"], 2, "cbc: bad plmn\n"),
+    (
+        &["cbc", "replay", "--broadcasts", "65535", "--plmn", "00f1"],
+        2,
+        "cbc: bad plmn\n",
+    ),
     (&["cbc", "replay", "--plmn", "00f11g"], 2, "cbc: bad plmn\n"),
     (
         &["cbc", "replay", "--plmn", "00f1100"],
@@ -119,6 +126,12 @@ const REFUSED: &[&[&str]] = &[
     &["cbc", "serve", "--console"],
     &["cbc", "serve", "--consoles", "0"],
     &["cbc", "serve", "--consoles", "65"],
+    &["cbc", "serve", "--broadcasts", "65536"],
+    &["cbc", "serve", "--broadcasts", "-1"],
+    &["cbc", "serve", "--broadcasts"],
+    &["cbc", "replay", "--broadcasts", "65536"],
+    &["cbc", "replay", "--broadcasts", ""],
+    &["cbc", "replay", "--broadcasts", "many"],
     &["cbc", "replay", "--reset"],
     &["cbc", "replay", "--version"],
     &["cbc", "replay", "--fold", "1"],
@@ -145,6 +158,10 @@ fn other_command_lines_are_refused(rt: HostRuntime) {
         ends(&rt, rt.alloc(), &row);
     }
 }
+
+/// A warning in one cell, and its first order.
+const FIRST_WRITE: &str = "bsc add 1\ncell add 100 7 1\narea add Coast\narea put Coast 100 7\n\
+issue 4370 3 15 0 30 d4f29c0e Coast\nup 1\nsend 1\n";
 
 const ROWS: &[Row] = &[
     // Help goes to standard output.
@@ -204,6 +221,20 @@ const ROWS: &[Row] = &[
         room: ROOM,
         status: Some(0),
         wrote: Wanted::Is("ok 1\nno 2 JournalFull\n"),
+        said: Wanted::Is(""),
+    },
+    // The number of broadcasts reaches the write.
+    Row {
+        words: &["cbc", "replay", "--broadcasts", "65535"],
+        script: &[Text(FIRST_WRITE)],
+        fatal_read: 0,
+        room: ROOM,
+        status: Some(0),
+        wrote: Wanted::Bounds(
+            "ok 1\nok 2\nok 3\nok 4\nok 5 warning 1 serial C000\nok 6 link 6\n\
+ok 7 tx 010000700e111203c00004000501006400071200050006001e07ffff13010c0f0104d4f29c0e0000",
+            "0000\n",
+        ),
         said: Wanted::Is(""),
     },
     // Each fault of a run is said.

@@ -4,6 +4,7 @@
 use crate::checks::{same, yes};
 use crate::given_texts::Part::{Numbered, Text, Times};
 use crate::given_texts::{Part, are_as_wanted, text_of};
+use centre_events::network::Network;
 use console::replay;
 use console_text::ReplayFault;
 use framing::faulty::{EndsAtRead, FailsAfter, FailsAtRead, InPieces};
@@ -11,8 +12,11 @@ use framing::{FromRead, FromWrite};
 use std::alloc::Global;
 use std::process::Abort;
 
-/// The network code 001-01.
-const PLMN: [u8; 3] = [0x00, 0xf1, 0x10];
+/// The network 001-01, in which messages are broadcast until they are killed.
+const NETWORK: Network = Network {
+    plmn: [0x00, 0xf1, 0x10],
+    broadcasts: 0,
+};
 
 /// How a script is read and its answers are written.
 #[derive(Clone, Copy)]
@@ -43,7 +47,7 @@ fn replayed(alloc: Global, script: &[u8], streams: &Streams) -> (Result<(), Repl
     let mut reader = EndsAtRead::new(fails, streams.last_read);
     let sink = InPieces::new(FromWrite::new(Vec::new(alloc)), streams.written.max(1));
     let mut writer = FailsAfter::new(sink, streams.room);
-    let ended = replay(alloc, &mut reader, &mut writer, PLMN, 4_000_000);
+    let ended = replay(alloc, &mut reader, &mut writer, NETWORK, 4_000_000);
     (ended, writer.into_inner().into_inner().into_inner())
 }
 

@@ -6,6 +6,7 @@ use crate::checks::{same, yes};
 use crate::console::is_told;
 use crate::given_texts::{Wanted, has, has_time, plain};
 use crate::peer::{PATIENCE, connected, fails, gets, is_closed, next_frame, sends};
+use centre_events::network::Network;
 use console_text::options::{FOLD, MOST_ENTRIES};
 use server::{ServeOptions, serve, serve_words};
 use server_errors::{line_text, utc_text};
@@ -386,7 +387,10 @@ fn spent_limits<R: Abort + Clock>(rt: &R, reports: u32, connections: u32) -> Lin
 /// The options of a server with these limits.
 fn limited(rt: &impl Abort, alloc: Global, base: u16, limits: LinkLimits) -> ServeOptions {
     ServeOptions {
-        plmn: [0x00, 0xf1, 0x10],
+        network: Network {
+            plmn: [0x00, 0xf1, 0x10],
+            broadcasts: 0,
+        },
         journal_limit: MOST_ENTRIES,
         fold: FOLD,
         host: String::from_str(alloc, "127.0.0.1").expect(rt, "memory"),

@@ -212,6 +212,10 @@ const REFUSED: &[(&str, &str)] = &[
         "cbc: journal of another network\n",
     ),
     (
+        "# cbc journal, network 00f110, broadcasts 65535\nbsc add 1\n",
+        "cbc: journal of 65535 broadcasts, not of 0\n",
+    ),
+    (
         "# cbc journal, network 00f110\nbsc add 1\nquit\n",
         "cbc: journal line 3\n",
     ),
@@ -223,6 +227,53 @@ const REFUSED: &[(&str, &str)] = &[
         "# cbc journal, network 00f110\nboard 1\n",
         "cbc: journal line 2\n",
     ),
+];
+
+/// The number of broadcasts stands in the first line, and a start with the same number goes on from there. A file without it is
+/// one of 0 broadcasts, and stays as it is.
+#[test]
+fn the_number_of_broadcasts_is_kept(rt: HostRuntime) {
+    for kept in BROADCASTS {
+        keeps(&rt, kept);
+    }
+}
+
+const BROADCASTS: &[Kept] = &[
+    Kept {
+        path: "journal-of-broadcasts",
+        before: None,
+        after: "# cbc journal, network 00f110, broadcasts 65535\nbsc add 1\n",
+        play: Play {
+            words: &["--keep", "journal-of-broadcasts", "--broadcasts", "65535"],
+            acts: &[Act::Lines("bsc add 1\nquit\n", 0)],
+            answers: Wanted::Is("ok 1\nsettled 1\n"),
+            ..USUAL
+        },
+    },
+    Kept {
+        path: "journal-of-broadcasts",
+        before: Some("# cbc journal, network 00f110, broadcasts 65535\nbsc add 1\n"),
+        after: "# cbc journal, network 00f110, broadcasts 65535\nbsc add 1\nbsc add 2\n",
+        play: Play {
+            words: &["--keep", "journal-of-broadcasts", "--broadcasts", "65535"],
+            acts: &[Act::Lines("bsc add 2\nquit\n", 0)],
+            answers: Wanted::Is("ok 2\nsettled 2\n"),
+            ..USUAL
+        },
+    },
+    Kept {
+        path: "journal-of-broadcasts",
+        before: Some("# cbc journal, network 00f110\nbsc add 1\n"),
+        after: "# cbc journal, network 00f110\nbsc add 1\n",
+        play: Play {
+            words: &["--keep", "journal-of-broadcasts", "--broadcasts", "65535"],
+            acts: &[Act::Ends],
+            status: 1,
+            answers: Wanted::Is(""),
+            said: Wanted::Bounds("", "cbc: journal of 0 broadcasts, not of 65535\n"),
+            ..USUAL
+        },
+    },
 ];
 
 #[test]

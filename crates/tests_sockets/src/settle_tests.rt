@@ -3,6 +3,7 @@
 ghost use Rattle.std.specs.Prelude.{◌≡◌};
 
 use crate::checks::same;
+use centre_events::network::Network;
 use office::office::Office;
 use server::{ServeFault, settle};
 use std::alloc::Global;
@@ -10,6 +11,12 @@ use std::marker::Brand;
 use std::process::Abort;
 use std::sync::Wait;
 use std::sync::ledger::{Blank, Ledger};
+
+/// The network of the office.
+const NETWORK: Network = Network {
+    plmn: [0x00, 0xf1, 0x10],
+    broadcasts: 0,
+};
 
 /// What becomes of an office of two desks, both of which are handed in, or the first alone; and what is written.
 fn settles<L: Ledger, R: Wait + Abort>(
@@ -22,7 +29,7 @@ fn settles<L: Ledger, R: Wait + Abort>(
     requires parts { blank.parts ≡ L.parts }
     requires desks { blank.parts ≡ 1025 }
 {
-    let office = Office::<L>::new(alloc, blank, [0x00, 0xf1, 0x10], 10);
+    let office = Office::<L>::new(alloc, blank, NETWORK, 10);
     let first = office.open_desk(rt).expect(rt, "a desk is opened");
     let second = office.open_desk(rt).expect(rt, "a desk is opened");
     let mut desks = vec![in alloc; first].expect(rt, "memory");

@@ -174,6 +174,28 @@ const NETWORK: Play = Play {
     ..USUAL
 };
 
+/// A write requests the number of broadcasts that the words ask for.
+#[test]
+fn a_number_of_broadcasts_is_requested(rt: HostRuntime) {
+    played(&rt, rt.alloc(), &REQUESTED);
+}
+
+/// The front of a WRITE-REPLACE of message 4370 with serial number C000 in cell 100 7, to the number of its pages. Behind 07 is the
+/// Number of Broadcasts Requested.
+const WRITE: &[u8] = b"\x01\x00\x00\x70\x0e\x11\x12\x03\xc0\x00\x04\x00\x05\x01\x00\x64\x00\x07\x12\x00\x05\x00\x06\x00\x1e\x07\xff\xff\x13\x01";
+
+const REQUESTED: Play = Play {
+    words: &["--broadcasts", "65535"],
+    acts: &[
+        Act::Lines(WARNING, 5),
+        Act::Connects(1, 1),
+        Act::Gets(0, WRITE),
+        Act::Lines("quit\n", 0),
+    ],
+    answers: Wanted::Settled("20"),
+    ..USUAL
+};
+
 /// What a server listens on is said first, with the time: that is between its start and now.
 #[test]
 fn what_is_listened_on_is_said(rt: HostRuntime) {

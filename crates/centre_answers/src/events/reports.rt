@@ -28,7 +28,7 @@ use std::alloc::{AllocError, Global};
 use warning_book::Kind;
 
 /// The cells known at the BSC that the identifications of an indication name, in order; none where the indication is about
-/// warnings of neither kind (TS 48.049, 8.2.24). The network is the centre's, as its three octets are sent.
+/// warnings of neither kind (TS 48.049, 8.2.24). The network code is the centre's, as its three octets are sent.
 fn listed_cells(
     alloc: Global,
     network: [u8; 3],

@@ -25,9 +25,10 @@ use order_maker::Order;
 use std::alloc::Global;
 use warning_book::Book;
 
-/// What is answered where that is the first pending order. In every legal past it can be carried.
-fn send_answer(alloc: Global, book: &Book, order: Option<Order>) -> Verdict
-    ensures { (past : Past) → book.now ≡ book_of past → IfSome order (λ o. IsCarriable (content_of o.message_id o.serial book.now.warnings)) → Gives (send_answer past order) result }
+/// What is answered where that is the first pending order, and so many broadcasts are requested. In every legal past it can be
+/// carried.
+fn send_answer(alloc: Global, requested: u16, book: &Book, order: Option<Order>) -> Verdict
+    ensures { (past : Past) → book.now ≡ book_of past → IfSome order (λ o. IsCarriable (content_of o.message_id o.serial book.now.warnings)) → Gives (send_answer requested past order) result }
 {
     let Some(order) = order else {
         return Err(Refusal::NothingPending);
@@ -36,13 +37,20 @@ fn send_answer(alloc: Global, book: &Book, order: Option<Order>) -> Verdict
     if content.is_none() {
         return Err(Refusal::NothingPending);
     }
-    let message = message_of(alloc, &order, content)?;
+    let message = message_of(alloc, requested, &order, content)?;
     Ok(Answer::Sent { order, message })
 }
 
-/// Send: takes the first pending order of a BSC, over its link. Whether one is pending is asked before any memory is taken.
-pub(crate) fn send(alloc: Global, kept: &Kept, b: BscId, generation: u64) -> Verdict
-    ensures { (settings : Settings) (past : Past) → Legal settings past → IsKept past kept.now → IsListOf (all_actions past b) kept.now.tables.pending b → Gives (send past b generation) result }
+/// Send: takes the first pending order of a BSC, over its link. A message that broadcasts pages requests so many broadcasts.
+/// Whether an order is pending is asked before any memory is taken.
+pub(crate) fn send(
+    alloc: Global,
+    requested: u16,
+    kept: &Kept,
+    b: BscId,
+    generation: u64,
+) -> Verdict
+    ensures { (settings : Settings) (past : Past) → Legal settings past → IsKept past kept.now → IsListOf (all_actions past b) kept.now.tables.pending b → Gives (send requested past b generation) result }
 {
     check_link(kept.links.as_slice(), kept.plan.register(), b, generation)?;
     if flight_in(kept.links.as_slice(), b).is_some() {
@@ -52,5 +60,5 @@ pub(crate) fn send(alloc: Global, kept: &Kept, b: BscId, generation: u64) -> Ver
         return Err(Refusal::NothingPending);
     }
     let order = kept.tables.first(b)?;
-    send_answer(alloc, kept.plan.book(), order)
+    send_answer(alloc, requested, kept.plan.book(), order)
 }

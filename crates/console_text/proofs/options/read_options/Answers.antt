@@ -1,5 +1,5 @@
 use Rattle.std.proofs.Common.{◌≡◌, true, false, map, string_bytes, ap, rules, sym, ◌∙◌}
-use Rattle.console_text.specs.CommandLine.{limit_in, meets_serve, network_in, replay_rows}
+use Rattle.console_text.specs.CommandLine.{broadcasts_in, limit_in, meets_serve, network_in, replay_rows}
 use Rattle.console_text.proofs.CommandLineLemmas.{kinds_of_line, refuses_so, taken_has_matches, taken_has_no_fault, taken_wants_memory}
 use Rattle.console_text.proofs.options.read_options.Goals as goal
 
@@ -20,6 +20,15 @@ returns-in_default-clause-refused c =
     let met = ap meets_serve (sym (taken_has_matches _ words c.in-Ok.matches c.in_ok-command_line.ensures c.in-Ok.ensures.matches)) in
     let other : c.asks_server.result ≡ false = search rules in
     (taken_has_no_fault _ words c.in_ok-command_line.ensures c.in-Ok.ensures.kinds, met ∙ (sym c.asks_server.ensures ∙ other), ap network_in rows ∙ (sym c.asked_plmn.ensures ∙ c.in_default.is))
+
+-- or whose number of broadcasts isn't one
+pub returns-in_default-asked_broadcasts-clause-refused : goal.returns-in_default-asked_broadcasts-clause-refused
+returns-in_default-asked_broadcasts-clause-refused c =
+    let words = map string_bytes c.args.words.now in
+    let rows = ap replay_rows (sym (taken_has_matches _ words c.in-Ok.matches c.in_ok-command_line.ensures c.in-Ok.ensures.matches)) in
+    let met = ap meets_serve (sym (taken_has_matches _ words c.in-Ok.matches c.in_ok-command_line.ensures c.in-Ok.ensures.matches)) in
+    let other : c.asks_server.result ≡ false = search rules in
+    (taken_has_no_fault _ words c.in_ok-command_line.ensures c.in-Ok.ensures.kinds, met ∙ (sym c.asks_server.ensures ∙ other), ap broadcasts_in rows ∙ (sym c.asked_broadcasts.ensures ∙ c.in_default-asked_broadcasts.is))
 
 -- or whose number of entries isn't one
 pub returns-in_default-asked_journal-clause-refused : goal.returns-in_default-asked_journal-clause-refused
@@ -44,6 +53,7 @@ returns-clause-asked c =
     let rows = ap replay_rows (sym (taken_has_matches _ words c.in-Ok.matches c.in_ok-command_line.ensures c.in-Ok.ensures.matches)) in
     record {
       well_formed = taken_has_no_fault _ words c.in_ok-command_line.ensures c.in-Ok.ensures.kinds;
-      network = ap network_in rows ∙ (sym c.asked_plmn.ensures ∙ c.in-Some.is);
+      code = ap network_in rows ∙ (sym c.asked_plmn.ensures ∙ c.in-Some.is);
+      broadcasts = ap broadcasts_in rows ∙ (sym c.asked_broadcasts.ensures ∙ c.in-Some-asked_broadcasts.is);
       entries = ap limit_in rows ∙ (sym c.asked_journal.ensures.asked ∙ c.in-Some-asked_journal.is);
     }

@@ -10,7 +10,7 @@ pub returns : goal.returns
 returns c =
     let shown = c.without_zeros.result.now in
     let without = c.without_zeros.ensures in
-    let is : c.as_slice.result.now ≡ header_line c.args.plmn = c.as_slice.ensures ∙ c.header.ensures.line in
+    let is : c.as_slice.result.now ≡ header_line c.args.heading = c.as_slice.ensures.value ∙ c.header.ensures.line in
     let starts = starts_is Decides-eqb c.as_slice.result.now shown c.starts_with.result c.starts_with.ensures.value in (
       λ yes. record { shown = shown; zeros = without.zeros; more = drop (length shown) c.as_slice.result.now; octets_are = without.whole; header_is = sym is ∙ starts.0 yes },
       λ torn.

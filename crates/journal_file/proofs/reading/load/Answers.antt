@@ -12,7 +12,7 @@ returns-in_err-load_all-clause-err g c =
     let p = err_from_is_err_and c.from_residual-in_err-load_all.result c.from_residual-in_err-load_all.ensures.1 in
     let given = g.S.Source.remaining c.args.source.now in
     let taken = g.T.TakeLine.taken c.args.taker.now in
-    let start = subst (λ (s : LoadingState). ReadsOn c.args.plmn given given s taken taken) (sym c.new-loading.ensures) (ReadsOn-start c.args.plmn given taken) in
+    let start = subst (λ (s : LoadingState). ReadsOn c.args.heading given given s taken taken) (sym c.new-loading.ensures) (ReadsOn-start c.args.heading given taken) in
     rw (p.1, p.2) (c.in_err-load_all.ensures.err given taken start)
 
 -- all was read
@@ -23,10 +23,10 @@ returns-clause-ok g c =
     let taken = g.T.TakeLine.taken c.args.taker.now in
     let after = g.T.TakeLine.taken c.load_all.new.taker in
     let now = c.load_all.new.loading in
-    let start = subst (λ (s : LoadingState). ReadsOn c.args.plmn given given s taken taken) (sym c.new-loading.ensures) (ReadsOn-start c.args.plmn given taken) in
+    let start = subst (λ (s : LoadingState). ReadsOn c.args.heading given given s taken taken) (sym c.new-loading.ensures) (ReadsOn-start c.args.heading given taken) in
     let reads = c.in_ok-load_all.ensures.ok given taken start in
-    IfOk-weaker c.found.result (Finds c.args.plmn now) (Loads c.args.plmn given left taken after)
-    (λ loaded finds. Loads-end c.args.plmn given left taken after now reads loaded c.in_ok-load_all.ensures.end finds) c.found.ensures.ok
+    IfOk-weaker c.found.result (Finds c.args.heading now) (Loads c.args.heading given left taken after)
+    (λ loaded finds. Loads-end c.args.heading given left taken after now reads loaded c.in_ok-load_all.ensures.end finds) c.found.ensures.ok
 
 -- and is no journal
 pub returns-clause-err : goal.returns-clause-err
@@ -36,7 +36,7 @@ returns-clause-err g c =
     let taken = g.T.TakeLine.taken c.args.taker.now in
     let after = g.T.TakeLine.taken c.load_all.new.taker in
     let now = c.load_all.new.loading in
-    let start = subst (λ (s : LoadingState). ReadsOn c.args.plmn given given s taken taken) (sym c.new-loading.ensures) (ReadsOn-start c.args.plmn given taken) in
+    let start = subst (λ (s : LoadingState). ReadsOn c.args.heading given given s taken taken) (sym c.new-loading.ensures) (ReadsOn-start c.args.heading given taken) in
     let reads = c.in_ok-load_all.ensures.ok given taken start in
-    IfErr-weaker c.found.result (FindsNone c.args.plmn now) (BreaksOff c.args.plmn given left taken after)
-    (λ fault finds. BreaksOff-end c.args.plmn given left taken after now reads fault finds) c.found.ensures.err
+    IfErr-weaker c.found.result (FindsNone c.args.heading now) (BreaksOff c.args.heading given left taken after)
+    (λ fault finds. BreaksOff-end c.args.heading given left taken after now reads fault finds) c.found.ensures.err

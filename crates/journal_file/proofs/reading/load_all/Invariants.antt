@@ -7,6 +7,6 @@ abbrev pub invariant-loop-turn : goal.invariant-loop-turn
 invariant-loop-turn g l = record {
   size : length l.piece ≡ 65536;
   count : l.loading.octets ≤ l._turn * 65536;
-  reads : (given : Option (List ℕ)) (before : Option (List (List ℕ))) → ReadsOn l.plmn given (g.S.Source.remaining l.initial.source) l.initial.loading before (g.T.TakeLine.taken l.initial.taker)
-      → ReadsOn l.plmn given (g.S.Source.remaining l.source) l.loading before (g.T.TakeLine.taken l.taker);
+  reads : (given : Option (List ℕ)) (before : Option (List (List ℕ))) → ReadsOn l.heading given (g.S.Source.remaining l.initial.source) l.initial.loading before (g.T.TakeLine.taken l.initial.taker)
+      → ReadsOn l.heading given (g.S.Source.remaining l.source) l.loading before (g.T.TakeLine.taken l.taker);
 }
