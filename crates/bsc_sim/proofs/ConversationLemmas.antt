@@ -1,5 +1,5 @@
 -- Parts of a conversation, one after another.
-use Rattle.std.proofs.Common.{◌≡◌, ◌⊎◌, inl, inr, ℕ, ◌+◌, ◌<◌, List, [], ◌∷◌, ◌++◌, Option, length, take, drop, refl, sym, ap, ◌∙◌, subst, arith, append_assoc, append-nil, length-append, length-drop, take-append-drop}
+use Rattle.std.proofs.Common.{◌≡◌, ◌⊎◌, inl, inr, ℕ, ◌+◌, ◌<◌, List, [], ◌∷◌, ◌++◌, Option, None, length, take, drop, refl, sym, ap, ◌∙◌, subst, arith, append_assoc, append-nil, length-append, length-drop, take-append-drop}
 use Rattle.std.proofs.lemmas.Grind.{flat_map-append}
 use Rattle.std.proofs.KnownBytes.{Appends-nil, Appends-trans, Consumes-nil, Consumes-trans}
 use Rattle.std.specs.Io.KnownBytes.{Appends, Consumes, IsAtEnd}
@@ -20,90 +20,119 @@ use Rattle.bsc_sim.specs.declared.end.SimEnd.TheVariants.{PeerEnded, CutFrame, R
 use Rattle.bsc_sim.specs.Answering.{answered}
 use Rattle.bsc_sim.specs.Bsc.{BscState, emptied}
 use Rattle.bsc_sim.specs.Choices.{Chosen}
-use Rattle.bsc_sim.specs.Conversation.{Answers, Breaks, Converses, Hears, HearsInPart, IsBehind, IsLeft, IsSendStop, IsStop, IsUncut, IsWaiting, IsWritten, Replies, SendsInPart, Turns, TurnsInPart, end_of, frames_of, opening}
+use Rattle.bsc_sim.specs.Conversation.{alive_complete, Answers, Breaks, Converses, Hears, HearsInPart, IsAnswered, IsBehind, IsLeft, IsSendStop, IsStop, IsUncut, IsWaiting, IsWritten, Replies, SendsInPart, Turns, TurnsInPart, end_of, frames_of, link_answer, opening, reset_complete}
 
 -- ---- what is written
 
--- what is written of some messages, behind others
-written_after : (end : SimEnd) (ms ns : List Message) (part : List ℕ) → IsWritten end ns part → IsWritten end (ms ++ ns) (frames_of ms ++ part)
+-- what is written of some frames, behind others
+written_after : (end : SimEnd) (ms ns : List (List ℕ)) (part : List ℕ) → IsWritten end ns part → IsWritten end (ms ++ ns) (frames_of ms ++ part)
 written_after WriteFault ms ns part w =
-    (w.0, flat_map-append frame_of ms ns ∙ ap (λ xs. frames_of ms ++ xs) w.1 ∙ sym (append_assoc (frames_of ms) part w.0), w.2)
+    (w.0, flat_map-append (λ (x : List ℕ). x) ms ns ∙ ap (λ xs. frames_of ms ++ xs) w.1 ∙ sym (append_assoc (frames_of ms) part w.0), w.2)
 written_after Memory ms ns part w =
-    (ms ++ w.0, w.1, ap (λ xs. ms ++ xs) w.2 ∙ sym (append_assoc ms w.0 w.1), ap (λ xs. frames_of ms ++ xs) w.3 ∙ sym (flat_map-append frame_of ms w.0))
-written_after end ms ns part w = ap (λ xs. frames_of ms ++ xs) w ∙ sym (flat_map-append frame_of ms ns)
+    (ms ++ w.0, w.1, ap (λ xs. ms ++ xs) w.2 ∙ sym (append_assoc ms w.0 w.1), ap (λ xs. frames_of ms ++ xs) w.3 ∙ sym (flat_map-append (λ (x : List ℕ). x) ms w.0))
+written_after end ms ns part w = ap (λ xs. frames_of ms ++ xs) w ∙ sym (flat_map-append (λ (x : List ℕ). x) ms ns)
 
--- what is written of some messages, before others that are due then
-written_before : (end : SimEnd) (ms ns : List Message) (part : List ℕ) → IsSendStop end → IsWritten end ms part → IsWritten end (ms ++ ns) part
+-- what is written of some frames, before others that are due then
+written_before : (end : SimEnd) (ms ns : List (List ℕ)) (part : List ℕ) → IsSendStop end → IsWritten end ms part → IsWritten end (ms ++ ns) part
 written_before WriteFault ms ns part stops w =
-    (w.0 ++ frames_of ns, flat_map-append frame_of ms ns ∙ ap (λ xs. xs ++ frames_of ns) w.1 ∙ append_assoc part w.0 (frames_of ns), omega (arith, w.2, length-append w.0 (frames_of ns)))
+    (w.0 ++ frames_of ns, flat_map-append (λ (x : List ℕ). x) ms ns ∙ ap (λ xs. xs ++ frames_of ns) w.1 ∙ append_assoc part w.0 (frames_of ns), omega (arith, w.2, length-append w.0 (frames_of ns)))
 written_before Memory ms ns part stops w = (w.0, w.1 ++ ns, ap (λ xs. xs ++ ns) w.2 ∙ append_assoc w.0 w.1 ns, w.3)
 written_before end ms ns part stops w = absurd stops
 
--- one message is written in part
-pub sent_in_part : (m : Message) (p q : Option (List ℕ)) → AppendsFront p q (frame_of m) → SendsInPart (m ∷ []) p q WriteFault
+-- one frame is written in part
+pub sent_in_part : (m : List ℕ) (p q : Option (List ℕ)) → AppendsFront p q m → SendsInPart (m ∷ []) p q WriteFault
 sent_in_part m p q front = record {
-  part = take front.count (frame_of m);
+  part = take front.count m;
   stops = tt;
-  written = (drop front.count (frame_of m), append-nil (frame_of m) ∙ sym (take-append-drop front.count (frame_of m)), omega (arith, front.short, length-drop front.count (frame_of m)));
+  written = (drop front.count m, append-nil m ∙ sym (take-append-drop front.count m), omega (arith, front.short, length-drop front.count m));
   appended = front.appended;
 }
 
--- none of the messages is written where memory runs out
-pub sent_none : (ms : List Message) (p : Option (List ℕ)) → SendsInPart ms p p Memory
+-- none of the frames is written where memory runs out
+pub sent_none : (ms : List (List ℕ)) (p : Option (List ℕ)) → SendsInPart ms p p Memory
 sent_none ms p = record { part = []; stops = tt; written = ([], ms, refl, refl); appended = Appends-nil p }
 
--- some messages are written in part, and others are due
-pub sends_before : (ms ns : List Message) (p q : Option (List ℕ)) (end : SimEnd) → SendsInPart ms p q end → SendsInPart (ms ++ ns) p q end
+-- some frames are written in part, and others are due
+pub sends_before : (ms ns : List (List ℕ)) (p q : Option (List ℕ)) (end : SimEnd) → SendsInPart ms p q end → SendsInPart (ms ++ ns) p q end
 sends_before ms ns p q end s = record { part = s.part; stops = s.stops; written = written_before end ms ns s.part s.stops s.written; appended = s.appended }
 
--- some messages are written, and the others in part
-pub sends_after : (ms ns : List Message) (p q r : Option (List ℕ)) (end : SimEnd) → Appends p q (frames_of ms) → SendsInPart ns q r end → SendsInPart (ms ++ ns) p r end
+-- some frames are written, and the others in part
+pub sends_after : (ms ns : List (List ℕ)) (p q r : Option (List ℕ)) (end : SimEnd) → Appends p q (frames_of ms) → SendsInPart ns q r end → SendsInPart (ms ++ ns) p r end
 sends_after ms ns p q r end all s = record { part = frames_of ms ++ s.part; stops = s.stops; written = written_after end ms ns s.part s.written; appended = Appends-trans p q r (frames_of ms) s.part all s.appended }
 
--- one message is written, and then another
-pub sends_both : (m n : Message) (p q r : Option (List ℕ)) → Appends p q (frame_of m) → Appends q r (frame_of n) → Appends p r (frames_of (m ∷ n ∷ []))
-sends_both m n p q r one two =
-    subst (Appends p r) (ap (λ xs. frame_of m ++ xs) (sym (append-nil (frame_of n)))) (Appends-trans p q r (frame_of m) (frame_of n) one two)
+-- one frame is written, and then another
+pub sends_both : (m n : List ℕ) (p q r : Option (List ℕ)) → Appends p q m → Appends q r n → Appends p r (frames_of (m ∷ n ∷ []))
+sends_both m n p q r one two = subst (Appends p r) (ap (λ xs. m ++ xs) (sym (append-nil n))) (Appends-trans p q r m n one two)
 
 -- ---- one frame
 
+-- it is a message
+pub answers_message : (chosen : Chosen) (b after : BscState) (f : Frame) (m reply : Message) → link_answer f.kind ≡ None → Spells f.kind f.body m
+    → reply ≡ (answered b chosen m).reply → after ≡ (answered b chosen m).after → IsAnswered chosen b f (frame_of reply) after
+answers_message chosen b after f m reply other spells same then = inr (record { message = m; other = other; spells = spells; reply = ap frame_of same; after = then })
+
+-- it is a RESET
+answers_reset : (chosen : Chosen) (b after : BscState) (f : Frame) → f.kind ≡ 16 → after ≡ emptied b → IsAnswered chosen b f reset_complete after
+answers_reset chosen b after f reset then = inl (rw reset refl, rw reset then)
+
+-- it is a KEEP ALIVE
+answers_alive : (chosen : Chosen) (b : BscState) (f : Frame) → f.kind ≡ 22 → IsAnswered chosen b f alive_complete b
+answers_alive chosen b f alive = inl (rw alive refl, rw alive refl)
+
 -- it is answered, and the answer written
-pub replies_one : (chosen : Chosen) (b after : BscState) (f : Frame) (m reply : Message) (p q : Option (List ℕ)) → Spells f.kind f.body m
-    → reply ≡ (answered b chosen m).reply → after ≡ (answered b chosen m).after → Appends p q (frame_of reply) → Replies chosen b (f ∷ []) after p q
-replies_one chosen b after f m reply p q spells same then sent = record {
-  replies = reply ∷ [];
-  answers = (m, [], spells, ap (λ r. r ∷ []) same, (refl, then));
-  written = subst (Appends p q) (sym (append-nil (frame_of reply))) sent;
+pub replies_one : (chosen : Chosen) (b after : BscState) (f : Frame) (octets : List ℕ) (p q : Option (List ℕ)) → IsAnswered chosen b f octets after → Appends p q octets
+    → Replies chosen b (f ∷ []) after p q
+replies_one chosen b after f octets p q is sent = record {
+  replies = octets ∷ [];
+  answers = (octets, [], after, is, refl, (refl, refl));
+  written = subst (Appends p q) (sym (append-nil octets)) sent;
 }
 
 -- it is answered, and the answer written in part
-pub breaks_sending : (chosen : Chosen) (b after : BscState) (f : Frame) (m reply : Message) (p q : Option (List ℕ)) (end : SimEnd) → Spells f.kind f.body m
-    → reply ≡ (answered b chosen m).reply → after ≡ (answered b chosen m).after → SendsInPart (reply ∷ []) p q end → Breaks chosen b (f ∷ []) after p q end
-breaks_sending chosen b after f m reply p q WriteFault spells same then sent = record {
+pub breaks_sending : (chosen : Chosen) (b after : BscState) (f : Frame) (octets : List ℕ) (p q : Option (List ℕ)) (end : SimEnd) → IsAnswered chosen b f octets after
+    → SendsInPart (octets ∷ []) p q end → Breaks chosen b (f ∷ []) after p q end
+breaks_sending chosen b after f octets p q WriteFault is sent = record {
   done = f ∷ [];
   behind = [];
-  replies = reply ∷ [];
+  replies = octets ∷ [];
   part = sent.part;
   stops = tt;
   parts = refl;
-  answers = (m, [], spells, ap (λ r. r ∷ []) same, (refl, then));
+  answers = (octets, [], after, is, refl, (refl, refl));
   is_behind = tt;
   written = sent.written;
   appended = sent.appended;
 }
-breaks_sending chosen b after f m reply p q Memory spells same then sent = record {
+breaks_sending chosen b after f octets p q Memory is sent = record {
   done = f ∷ [];
   behind = [];
-  replies = reply ∷ [];
+  replies = octets ∷ [];
   part = sent.part;
   stops = tt;
   parts = refl;
-  answers = (m, [], spells, ap (λ r. r ∷ []) same, (refl, then));
+  answers = (octets, [], after, is, refl, (refl, refl));
   is_behind = tt;
   written = sent.written;
   appended = sent.appended;
 }
-breaks_sending chosen b after f m reply p q end spells same then sent = absurd sent.stops
+breaks_sending chosen b after f octets p q end is sent = absurd sent.stops
+
+-- a RESET is answered, and the answer written, or written in part
+pub replies_reset : (chosen : Chosen) (b after : BscState) (f : Frame) (p q : Option (List ℕ)) → f.kind ≡ 16 → after ≡ emptied b → Appends p q reset_complete
+    → Replies chosen b (f ∷ []) after p q
+replies_reset chosen b after f p q reset then sent = replies_one chosen b after f reset_complete p q (answers_reset chosen b after f reset then) sent
+
+pub breaks_reset : (chosen : Chosen) (b after : BscState) (f : Frame) (p q : Option (List ℕ)) (end : SimEnd) → f.kind ≡ 16 → after ≡ emptied b
+    → SendsInPart (reset_complete ∷ []) p q end → Breaks chosen b (f ∷ []) after p q end
+breaks_reset chosen b after f p q end reset then sent = breaks_sending chosen b after f reset_complete p q end (answers_reset chosen b after f reset then) sent
+
+-- and a KEEP ALIVE
+pub replies_alive : (chosen : Chosen) (b : BscState) (f : Frame) (p q : Option (List ℕ)) → f.kind ≡ 22 → Appends p q alive_complete → Replies chosen b (f ∷ []) b p q
+replies_alive chosen b f p q alive sent = replies_one chosen b b f alive_complete p q (answers_alive chosen b f alive) sent
+
+pub breaks_alive : (chosen : Chosen) (b : BscState) (f : Frame) (p q : Option (List ℕ)) (end : SimEnd) → f.kind ≡ 22 → SendsInPart (alive_complete ∷ []) p q end
+    → Breaks chosen b (f ∷ []) b p q end
+breaks_alive chosen b f p q end alive sent = breaks_sending chosen b b f alive_complete p q end (answers_alive chosen b f alive) sent
 
 -- there is no memory for the answer
 pub breaks_starved : (chosen : Chosen) (b : BscState) (f : Frame) (p : Option (List ℕ)) → Breaks chosen b (f ∷ []) b p p Memory
@@ -121,8 +150,9 @@ breaks_starved chosen b f p = record {
 }
 
 -- it can't be read
-breaks_badly : (chosen : Chosen) (b : BscState) (f : Frame) (p : Option (List ℕ)) (bad : MessageFault) → IsFault f.kind f.body bad → Breaks chosen b (f ∷ []) b p p (BadMessage bad)
-breaks_badly chosen b f p bad is = record {
+breaks_badly : (chosen : Chosen) (b : BscState) (f : Frame) (p : Option (List ℕ)) (bad : MessageFault) → link_answer f.kind ≡ None → IsFault f.kind f.body bad
+    → Breaks chosen b (f ∷ []) b p p (BadMessage bad)
+breaks_badly chosen b f p bad other is = record {
   done = [];
   behind = f ∷ [];
   replies = [];
@@ -130,19 +160,19 @@ breaks_badly chosen b f p bad is = record {
   stops = tt;
   parts = refl;
   answers = (refl, refl);
-  is_behind = is;
+  is_behind = (other, is);
   written = refl;
   appended = Appends-nil p;
 }
 
-pub breaks_reading : (chosen : Chosen) (b : BscState) (f : Frame) (p : Option (List ℕ)) (bad : MessageFault) → (bad ≡ fault.Memory) ⊎ IsFault f.kind f.body bad
-    → Breaks chosen b (f ∷ []) b p p (end_of bad)
-breaks_reading chosen b f p fault.Memory h = breaks_starved chosen b f p
-breaks_reading chosen b f p (fault.Element e) h = elim h [ inl same ↦ cc | inr is ↦ breaks_badly chosen b f p (fault.Element e) is ]
-breaks_reading chosen b f p (fault.Repeated i) h = elim h [ inl same ↦ cc | inr is ↦ breaks_badly chosen b f p (fault.Repeated i) is ]
-breaks_reading chosen b f p (fault.Missing i) h = elim h [ inl same ↦ cc | inr is ↦ breaks_badly chosen b f p (fault.Missing i) is ]
-breaks_reading chosen b f p fault.BadPages h = elim h [ inl same ↦ cc | inr is ↦ breaks_badly chosen b f p fault.BadPages is ]
-breaks_reading chosen b f p fault.NotInProfile h = elim h [ inl same ↦ cc | inr is ↦ breaks_badly chosen b f p fault.NotInProfile is ]
+pub breaks_reading : (chosen : Chosen) (b : BscState) (f : Frame) (p : Option (List ℕ)) (bad : MessageFault) → link_answer f.kind ≡ None
+    → (bad ≡ fault.Memory) ⊎ IsFault f.kind f.body bad → Breaks chosen b (f ∷ []) b p p (end_of bad)
+breaks_reading chosen b f p fault.Memory other h = breaks_starved chosen b f p
+breaks_reading chosen b f p (fault.Element e) other h = elim h [ inl same ↦ cc | inr is ↦ breaks_badly chosen b f p (fault.Element e) other is ]
+breaks_reading chosen b f p (fault.Repeated i) other h = elim h [ inl same ↦ cc | inr is ↦ breaks_badly chosen b f p (fault.Repeated i) other is ]
+breaks_reading chosen b f p (fault.Missing i) other h = elim h [ inl same ↦ cc | inr is ↦ breaks_badly chosen b f p (fault.Missing i) other is ]
+breaks_reading chosen b f p fault.BadPages other h = elim h [ inl same ↦ cc | inr is ↦ breaks_badly chosen b f p fault.BadPages other is ]
+breaks_reading chosen b f p fault.NotInProfile other h = elim h [ inl same ↦ cc | inr is ↦ breaks_badly chosen b f p fault.NotInProfile other is ]
 
 -- ---- frames in turn
 
@@ -151,7 +181,7 @@ pub replies_none : (chosen : Chosen) (b : BscState) (p : Option (List ℕ)) → 
 replies_none chosen b p = record { replies = []; answers = (refl, refl); written = Appends-nil p }
 
 -- some frames are answered, and then others
-answers_append : (chosen : Chosen) (a b c : BscState) (fs gs : List Frame) (rs ss : List Message) → Answers chosen a fs rs b → Answers chosen b gs ss c
+answers_append : (chosen : Chosen) (a b c : BscState) (fs gs : List Frame) (rs ss : List (List ℕ)) → Answers chosen a fs rs b → Answers chosen b gs ss c
     → Answers chosen a (fs ++ gs) (rs ++ ss) c
 answers_append chosen a b c [] gs rs ss one two =
     subst (λ x. Answers chosen x gs (rs ++ ss) c) one.1 (subst (λ xs. Answers chosen b gs (xs ++ ss) c) (sym one.0) two)
@@ -159,8 +189,9 @@ answers_append chosen a b c (f ∷ fs) gs rs ss one two = (
   one.0,
   one.1 ++ ss,
   one.2,
-  ap (λ xs. xs ++ ss) one.3,
-  answers_append chosen (answered a chosen one.0).after b c fs gs one.1 ss one.4 two,
+  one.3,
+  ap (λ xs. xs ++ ss) one.4,
+  answers_append chosen one.2 b c fs gs one.1 ss one.5 two,
 )
 
 pub replies_append : (chosen : Chosen) (a b c : BscState) (fs gs : List Frame) (p q r : Option (List ℕ)) → Replies chosen a fs b p q → Replies chosen b gs c q r
@@ -168,7 +199,7 @@ pub replies_append : (chosen : Chosen) (a b c : BscState) (fs gs : List Frame) (
 replies_append chosen a b c fs gs p q r one two = record {
   replies = one.replies ++ two.replies;
   answers = answers_append chosen a b c fs gs one.replies two.replies one.answers two.answers;
-  written = subst (Appends p r) (sym (flat_map-append frame_of one.replies two.replies)) (Appends-trans p q r (frames_of one.replies) (frames_of two.replies) one.written two.written);
+  written = subst (Appends p r) (sym (flat_map-append (λ (x : List ℕ). x) one.replies two.replies)) (Appends-trans p q r (frames_of one.replies) (frames_of two.replies) one.written two.written);
 }
 
 -- more frames stand behind

@@ -1,5 +1,5 @@
 -- A conversation of a simulated BSC over a stream: what it writes for what it reads (3GPP TS 48.049, clause 8).
-use Rattle.std.specs.Prelude.{◌≡◌, ℕ, ◌<◌, Bool, true, false, List, [], ◌∷◌, ◌++◌, length, Option, Result, Ok, Err}
+use Rattle.std.specs.Prelude.{◌≡◌, ◌⊎◌, ℕ, ◌<◌, Bool, true, false, List, [], ◌∷◌, ◌++◌, length, nat_eq, Option, Some, None, Result, Ok, Err, if◌then◌else◌}
 use Rattle.std.specs.List.{flat_map}
 use Rattle.std.specs.Io.KnownBytes.{Appends, Consumes, IsAtEnd}
 use Rattle.framing.specs.Framers.{Framing}
@@ -48,25 +48,57 @@ abbrev pub ends_by : (SimEnd → Bool) → Result Unit SimEnd → Bool
 ends_by test (Ok x) = false
 ends_by test (Err end) = test end
 
--- the messages with which it begins: all cells can broadcast again, messages of either type, and their data are lost
-abbrev pub opening : List Message
-opening = restart_message 0 true ∷ restart_message 1 true ∷ []
+-- the frames with which it begins: all cells can broadcast again, messages of either type, and their data are lost
+abbrev pub opening : List (List ℕ)
+opening = frame_of (restart_message 0 true) ∷ frame_of (restart_message 1 true) ∷ []
 
--- the frames of messages, one after another
-abbrev pub frames_of : List Message → List ℕ
-frames_of messages = flat_map frame_of messages
+-- the octets of frames, one after another
+abbrev pub frames_of : List (List ℕ) → List ℕ
+frames_of frames = flat_map (λ (frame : List ℕ). frame) frames
 
--- the frames are messages, and these are the answers to them in turn
-abbrev pub Answers : Chosen → BscState → List Frame → List Message → BscState → Type 0
+-- RESET COMPLETE of all cells: type 11, and a Cell List of form All
+abbrev pub reset_complete : List ℕ
+reset_complete = 17 ∷ 0 ∷ 0 ∷ 4 ∷ 4 ∷ 0 ∷ 1 ∷ 6 ∷ []
+
+-- KEEP ALIVE COMPLETE: type 17
+abbrev pub alive_complete : List ℕ
+alive_complete = 23 ∷ 0 ∷ 0 ∷ 0 ∷ []
+
+-- the answer to a frame of the link itself, by its type: that to a RESET, type 10, and that to a KEEP ALIVE, type 16
+abbrev pub link_answer : ℕ → Option (List ℕ)
+link_answer kind = if nat_eq kind 16 then Some reset_complete else (if nat_eq kind 22 then Some alive_complete else None)
+
+-- the BSC after such a frame: a RESET takes every message off air, whatever cells it names
+abbrev pub after_link : ℕ → BscState → BscState
+after_link kind b = if nat_eq kind 16 then emptied b else b
+
+-- the frame is one of the link itself, and this is its answer
+abbrev pub IsOfLink : BscState → Frame → List ℕ → BscState → Type 0
+IsOfLink old f octets new = (link_answer f.kind ≡ Some octets) × (new ≡ after_link f.kind old)
+
+-- the frame is a message, and this is the frame of its answer
+pub record IsOfMessage (chosen : Chosen) (old : BscState) (f : Frame) (octets : List ℕ) (new : BscState) : Type 0 where
+  pub message : Message
+  pub other : link_answer f.kind ≡ None
+  pub spells : Spells f.kind f.body message
+  pub reply : octets ≡ frame_of (answered old chosen message).reply
+  pub after : new ≡ (answered old chosen message).after
+
+-- the frame is answered by these octets
+abbrev pub IsAnswered : Chosen → BscState → Frame → List ℕ → BscState → Type 0
+IsAnswered chosen old f octets new = IsOfLink old f octets new ⊎ IsOfMessage chosen old f octets new
+
+-- these are the answers to the frames in turn
+abbrev pub Answers : Chosen → BscState → List Frame → List (List ℕ) → BscState → Type 0
 Answers chosen old [] replies new = (replies ≡ []) × (new ≡ old)
 Answers chosen old (f ∷ frames) replies new =
-    (m : Message) × (others : List Message) × Spells f.kind f.body m × (replies ≡ (answered old chosen m).reply ∷ others)
-    × Answers chosen (answered old chosen m).after frames others new
+    (reply : List ℕ) × (others : List (List ℕ)) × (next : BscState) × IsAnswered chosen old f reply next × (replies ≡ reply ∷ others)
+    × Answers chosen next frames others new
 
--- the first of the frames is no message: its body has the fault
+-- the first of the frames is neither of the link itself nor a message: its body has the fault
 abbrev pub BeginsBadly : List Frame → MessageFault → Type 0
 BeginsBadly [] f = ⊥
-BeginsBadly (bad ∷ frames) f = IsFault bad.kind bad.body f
+BeginsBadly (bad ∷ frames) f = (link_answer bad.kind ≡ None) × IsFault bad.kind bad.body f
 
 -- what an end says of the whole frames that were read and not answered
 abbrev pub IsBehind : SimEnd → List Frame → Type 0
@@ -82,12 +114,12 @@ IsLeft CutFrame rest left = (0 < length rest) × ¬ IsTooLong rest × IsAtEnd le
 IsLeft TooLong rest left = IsTooLong rest
 IsLeft other rest left = Unit {0}
 
--- how much of the messages is written: all; but at a fault of writing a part of their octets, and where memory ran out some
--- whole ones
-abbrev pub IsWritten : SimEnd → List Message → List ℕ → Type 0
-IsWritten WriteFault messages part = (back : List ℕ) × (frames_of messages ≡ part ++ back) × (0 < length back)
-IsWritten Memory messages part = (front : List Message) × (back : List Message) × (messages ≡ front ++ back) × (part ≡ frames_of front)
-IsWritten other messages part = part ≡ frames_of messages
+-- how much of the frames is written: all; but at a fault of writing a part of their octets, and where memory ran out some whole
+-- ones
+abbrev pub IsWritten : SimEnd → List (List ℕ) → List ℕ → Type 0
+IsWritten WriteFault frames part = (back : List ℕ) × (frames_of frames ≡ part ++ back) × (0 < length back)
+IsWritten Memory frames part = (front : List (List ℕ)) × (back : List (List ℕ)) × (frames ≡ front ++ back) × (part ≡ frames_of front)
+IsWritten other frames part = part ≡ frames_of frames
 
 -- only where memory ran out were octets read of which no frame was cut
 abbrev pub IsUncut : SimEnd → List ℕ → Type 0
@@ -102,7 +134,7 @@ pub record Converses (chosen : Chosen) (old new : BscState) (given left before a
   pub frames : List Frame
   pub behind : List Frame
   pub rest : List ℕ
-  pub replies : List Message
+  pub replies : List (List ℕ)
   pub part : List ℕ
   pub consumed : Consumes given left (heard ++ uncut)
   pub none_uncut : IsUncut end uncut
@@ -121,11 +153,11 @@ IsSendStop WriteFault = Unit {0}
 IsSendStop Memory = Unit {0}
 IsSendStop other = ⊥
 
--- the messages are written in part
-pub record SendsInPart (messages : List Message) (before after : Option (List ℕ)) (end : SimEnd) : Type 0 where
+-- the frames are written in part
+pub record SendsInPart (frames : List (List ℕ)) (before after : Option (List ℕ)) (end : SimEnd) : Type 0 where
   pub part : List ℕ
   pub stops : IsSendStop end
-  pub written : IsWritten end messages part
+  pub written : IsWritten end frames part
   pub appended : Appends before after part
 
 -- an answer ends so
@@ -137,7 +169,7 @@ IsStop other = ⊥
 
 -- the frames are answered in turn, and the answers written
 pub record Replies (chosen : Chosen) (old : BscState) (frames : List Frame) (new : BscState) (before after : Option (List ℕ)) : Type 0 where
-  pub replies : List Message
+  pub replies : List (List ℕ)
   pub answers : Answers chosen old frames replies new
   pub written : Appends before after (frames_of replies)
 
@@ -145,7 +177,7 @@ pub record Replies (chosen : Chosen) (old : BscState) (frames : List Frame) (new
 pub record Breaks (chosen : Chosen) (old : BscState) (frames : List Frame) (new : BscState) (before after : Option (List ℕ)) (end : SimEnd) : Type 0 where
   pub done : List Frame
   pub behind : List Frame
-  pub replies : List Message
+  pub replies : List (List ℕ)
   pub part : List ℕ
   pub stops : IsStop end
   pub parts : frames ≡ done ++ behind
@@ -173,7 +205,7 @@ pub record HearsInPart (chosen : Chosen) (old : BscState) (rest octets : List �
   pub frames : List Frame
   pub behind : List Frame
   pub now : List ℕ
-  pub replies : List Message
+  pub replies : List (List ℕ)
   pub part : List ℕ
   pub parts : octets ≡ heard ++ uncut
   pub none_uncut : IsUncut end uncut

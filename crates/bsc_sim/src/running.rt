@@ -1,11 +1,11 @@
 //! A conversation of a simulated BSC over a stream.
 
-ghost use Rattle.std.specs.Prelude.{◌≡◌, ℕ, ◌∷◌, [], true, false, List, Option, IfErr, OnOk};
+ghost use Rattle.std.specs.Prelude.{◌≡◌, ℕ, ◌∷◌, [], true, false, List, None, Option, IfErr, OnOk};
 ghost use Rattle.std.specs.Io.KnownBytes.{Appends};
 ghost use Rattle.framing.specs.Source.{FailsToRead, counted, with_failure};
 ghost use Rattle.cbsp_messages.specs.Written.{Fits, frame_of};
 ghost use Rattle.bsc_sim.specs.Bsc.{emptied};
-ghost use Rattle.bsc_sim.specs.Conversation.{Breaks, Converses, Hears, HearsInPart, IsWaiting, Replies, SendsInPart, Turns, TurnsInPart, ends_by, frames_of, is_read_fault, is_write_fault, opening};
+ghost use Rattle.bsc_sim.specs.Conversation.{Breaks, Converses, Hears, HearsInPart, IsWaiting, Replies, SendsInPart, Turns, TurnsInPart, ends_by, frames_of, is_read_fault, is_write_fault, link_answer, opening};
 
 use crate::bsc::Bsc;
 use crate::choices::Choices;
@@ -15,21 +15,43 @@ use cbsp_messages::{Message, read, write};
 use framing::{Frame, FrameFault, Framer, MOST_READS, Sink, Source, write_all};
 use std::alloc::Global;
 
+/// The types of RESET and KEEP ALIVE (3GPP TS 48.049, 8.2.3).
+const RESET: u8 = 0x10;
+
+const KEEP_ALIVE: u8 = 0x16;
+
+/// The frame of a RESET COMPLETE of all cells: its type, the length of its body, and a Cell List of form All.
+const RESET_COMPLETE: [u8; 8] = [0x11, 0x00, 0x00, 0x04, 0x04, 0x00, 0x01, 0x06];
+
+/// The frame of a KEEP ALIVE COMPLETE.
+const KEEP_ALIVE_COMPLETE: [u8; 4] = [0x17, 0x00, 0x00, 0x00];
+
+/// Writes the octets of a frame.
+#[tactic(auto, using(crate::proofs::ConversationLemmas::sent_in_part))]
+fn send_frame<W: Sink>(octets: &[u8], writer: &mut W) -> Result<(), SimEnd>
+    ensures ok { OnOk result (Appends (W.written writer.old) (W.written writer.new) octets.now) }
+    ensures err { IfErr result (SendsInPart (octets.now ∷ []) (W.written writer.old) (W.written writer.new)) }
+    ensures failed { W.failures writer.new ≡ with_failure (W.failures writer.old) (ends_by is_write_fault result) }
+    ensures reads { ends_by is_read_fault result ≡ false }
+{
+    match write_all(writer, octets) {
+        Ok(()) => Ok(()),
+        Err(_) => Err(SimEnd::WriteFault),
+    }
+}
+
 /// Writes the message.
 fn send<W: Sink>(alloc: Global, message: Message, writer: &mut W) -> Result<(), SimEnd>
     requires { Fits message }
     ensures ok { OnOk result (Appends (W.written writer.old) (W.written writer.new) (frame_of message)) }
-    ensures err { IfErr result (SendsInPart (message ∷ []) (W.written writer.old) (W.written writer.new)) }
+    ensures err { IfErr result (SendsInPart (frame_of message ∷ []) (W.written writer.old) (W.written writer.new)) }
     ensures failed { W.failures writer.new ≡ with_failure (W.failures writer.old) (ends_by is_write_fault result) }
     ensures reads { ends_by is_read_fault result ≡ false }
 {
     let octets = write(alloc, &message);
     drop(message);
     let octets = octets?;
-    match write_all(writer, &octets) {
-        Ok(()) => Ok(()),
-        Err(_) => Err(SimEnd::WriteFault),
-    }
+    send_frame(&octets, writer)
 }
 
 /// Takes every message off air, and writes the messages that say so.
@@ -49,6 +71,26 @@ fn open<W: Sink>(bsc: &mut Bsc, writer: &mut W) -> Result<(), SimEnd>
 }
 
 /// Reads the message of a frame, and writes the answer to it.
+fn answer_message<W: Sink>(
+    bsc: &mut Bsc,
+    choices: &Choices,
+    frame: &Frame,
+    writer: &mut W,
+) -> Result<(), SimEnd>
+    requires { link_answer frame.now.kind ≡ None }
+    ensures ok { OnOk result (Replies choices.now bsc.old (frame.now ∷ []) bsc.new (W.written writer.old) (W.written writer.new)) }
+    ensures err { IfErr result (Breaks choices.now bsc.old (frame.now ∷ []) bsc.new (W.written writer.old) (W.written writer.new)) }
+    ensures failed { W.failures writer.new ≡ with_failure (W.failures writer.old) (ends_by is_write_fault result) }
+    ensures reads { ends_by is_read_fault result ≡ false }
+{
+    let message = read(bsc.alloc(), frame.kind, frame.body.as_slice())?;
+    let reply = bsc.answer(&message, choices);
+    drop(message);
+    send(bsc.alloc(), reply?, writer)?;
+    Ok(())
+}
+
+/// Writes the answer to a frame: of the link itself, or of a message.
 fn answer_frame<W: Sink>(
     bsc: &mut Bsc,
     choices: &Choices,
@@ -60,11 +102,14 @@ fn answer_frame<W: Sink>(
     ensures failed { W.failures writer.new ≡ with_failure (W.failures writer.old) (ends_by is_write_fault result) }
     ensures reads { ends_by is_read_fault result ≡ false }
 {
-    let message = read(bsc.alloc(), frame.kind, frame.body.as_slice())?;
-    let reply = bsc.answer(&message, choices);
-    drop(message);
-    send(bsc.alloc(), reply?, writer)?;
-    Ok(())
+    match frame.kind {
+        RESET => {
+            bsc.clear();
+            send_frame(&RESET_COMPLETE, writer)
+        }
+        KEEP_ALIVE => send_frame(&KEEP_ALIVE_COMPLETE, writer),
+        _ => answer_message(bsc, choices, frame, writer),
+    }
 }
 
 /// Answers the frames that are ready.
@@ -143,8 +188,10 @@ fn turn<R: Source, W: Sink>(
 
 impl Bsc {
     /// Converses over a stream: writes two RESTARTs of all cells, for broadcast message types 0 and 1, which say that the
-    /// data are lost, and from then on the answer to each message that it reads. Nothing is on air at the beginning. The
-    /// reads are at most 1,000,000,000,000, and the last of them ends the conversation with `ReadFault`.
+    /// data are lost, and from then on the answer to each message that it reads. A RESET takes every message off air, whatever
+    /// cells it names, and is answered by RESET COMPLETE of all cells, and a KEEP ALIVE by KEEP ALIVE COMPLETE; nothing in these
+    /// two is looked at but their types. Nothing is on air at the beginning. The reads are at most 1,000,000,000,000, and the
+    /// last of them ends the conversation with `ReadFault`.
     ///
     /// A frame that can't be read ends it with `BadMessage`, and one whose body is longer than is read with `TooLong`,
     /// each after the frames before it were answered. At `WriteFault` what is written is a part of the frames that are

@@ -86,6 +86,10 @@ reply_option = record (new_rule (codes "reply-seconds")) { long = Some (codes "r
 abbrev pub cut_option : Rule
 cut_option = record (new_rule (codes "cut-seconds")) { long = Some (codes "cut-seconds"); value_names = 1; defaults = codes "0" ∷ []; parser = Some seconds }
 
+-- after how many seconds without a word a BSC is sent a KEEP ALIVE, two minutes at most; 0 for never
+abbrev pub alive_option : Rule
+alive_option = record (new_rule (codes "keep-alive-seconds")) { long = Some (codes "keep-alive-seconds"); value_names = 1; defaults = codes "0" ∷ []; parser = Some (Unsigned 0 120) }
+
 -- the file of the addresses that BSCs may connect from, where one is given; FILE is any text here
 abbrev pub peers_option : Rule
 peers_option = record (new_rule (codes "peers")) { long = Some (codes "peers"); value_names = 1 }
@@ -114,9 +118,13 @@ http_option = record (new_rule (codes "http")) { long = Some (codes "http"); val
 abbrev pub with_watchers : App → App
 with_watchers a = with_rule a http_option
 
+-- the options of a link that are numbers of seconds
+abbrev pub with_seconds : App → App
+with_seconds a = with_rule (with_rule (with_rule a reply_option) cut_option) alive_option
+
 -- the options for links that are lost, taken over, or without replies
 abbrev pub with_link_rules : App → App
-with_link_rules a = with_rule (with_rule (with_rule (with_rule a reset_option) reply_option) cut_option) peers_option
+with_link_rules a = with_rule (with_seconds (with_rule a reset_option)) peers_option
 
 -- the options of the journal
 abbrev pub with_journal : App → App

@@ -1,17 +1,12 @@
-//! What the command line asks for.
+//! The commands of the program and their options.
 
-ghost use Rattle.std.specs.Prelude.{◌≡◌, ◌≤◌, false, map, string_bytes, IfOk, IfErr, IfSome};
-ghost use Rattle.clap.specs.Words.{app_of, kind_of, rule_of, subcommand_rows_of};
+ghost use Rattle.std.specs.Prelude.{◌≡◌, false, IfOk};
+ghost use Rattle.clap.specs.Words.{app_of, rule_of};
 ghost use Rattle.clap.specs.declared.builder.command.Command.TheViews.{out-Command as fields_of};
-ghost use Rattle.console_text.specs.CommandLine.{plmn_option, broadcasts_option, journal_option, host_option, base_option, links_option, fold_option, sim_option, reset_option, reply_option, cut_option, peers_option, keep_option, console_option, consoles_option, http_option, with_watchers, with_consoles, with_common, with_ports, with_journal, with_link_rules, replay_command, serve_command, command_line, most_entries};
-ghost use Rattle.console_text.specs.CommandLine.{meets_serve, replay_rows, network_in, broadcasts_in, limit_in, Asks, ComesTo, Refuses};
+ghost use Rattle.console_text.specs.CommandLine.{plmn_option, broadcasts_option, journal_option, host_option, base_option, links_option, fold_option, sim_option, reset_option, reply_option, cut_option, alive_option, peers_option, keep_option, console_option, consoles_option, http_option, with_watchers, with_consoles, with_common, with_ports, with_journal, with_link_rules, with_seconds, replay_command, serve_command, command_line};
 
-use crate::no_run::NoRun;
-use centre_events::network::Network;
 use clap::builder::ValueParser;
-use clap::error::ErrorKind;
-use clap::{Arg, ArgAction, ArgMatches, Command, Error};
-use hex::FromHex;
+use clap::{Arg, ArgAction, Command};
 use std::alloc::{AllocError, Global};
 
 /// The most entries that a journal may hold, and the number where none is given.
@@ -23,6 +18,9 @@ pub const FOLD: u32 = 100_000;
 /// The most seconds that an order may go without a reply before that is said, or its link is cut: a day.
 pub const MOST_SECONDS: u32 = 86_400;
 
+/// The most seconds without a word before a BSC is asked whether it is alive: longer periods aren't written.
+pub const MOST_ALIVE_SECONDS: u32 = 120;
+
 /// After how many seconds an order without a reply is said, where no number is given.
 pub const REPLY_SECONDS: u32 = 30;
 
@@ -32,17 +30,14 @@ pub const MOST_CONSOLES: u32 = 64;
 /// How many consoles there may be at once, where no number is given.
 pub const CONSOLES: u32 = 16;
 
+/// How many broadcasts of a text a BSC is asked for, where no number is given: they have no end.
+const NO_END: &str = "0";
+
+/// The number of seconds after which a BSC is asked whether it is alive, where none is given: it is never.
+const NEVER: &str = "0";
+
 /// What `--version` prints after the program's name.
 const VERSION: &str = "1.0.0";
-
-/// What a script is run with.
-#[derive(Clone, Copy, Debug)]
-pub struct Options {
-    /// The network, and how many broadcasts a message requests.
-    pub network: Network,
-    pub journal_limit: u32,
-    ghost few: { journal_limit ≤ most_entries },
-}
 
 fn plmn_option<'a>(alloc: Global) -> Arg<'a>
     ensures rule { rule_of result ≡ plmn_option }
@@ -62,7 +57,7 @@ fn broadcasts_option<'a>(alloc: Global) -> Arg<'a>
     Arg::new(alloc, "broadcasts")
         .long("broadcasts")
         .value_name("N")
-        .default_value("0")
+        .default_value(NO_END)
         .value_parser(ValueParser::unsigned(0, 65535))
         .help("How many broadcasts of a text a BSC is asked for, 0 for no end")
 }
@@ -192,6 +187,20 @@ fn cut_option<'a>(alloc: Global) -> Arg<'a>
         .help("After how many seconds an order without a reply ends its link, 0 for never")
 }
 
+fn alive_option<'a>(alloc: Global) -> Arg<'a>
+    ensures rule { rule_of result ≡ alive_option }
+    ensures own { result.global ≡ false }
+{
+    Arg::new(alloc, "keep-alive-seconds")
+        .long("keep-alive-seconds")
+        .value_name("N")
+        .default_value(NEVER)
+        .value_parser(ValueParser::unsigned(0, u64::from(MOST_ALIVE_SECONDS)))
+        .help(
+            "After how many seconds without a word a BSC is asked whether it is alive, 0 for never",
+        )
+}
+
 fn peers_option<'a>(alloc: Global) -> Arg<'a>
     ensures rule { rule_of result ≡ peers_option }
     ensures own { result.global ≡ false }
@@ -243,14 +252,24 @@ fn http_option<'a>(alloc: Global) -> Arg<'a>
         .help("The address of a page that shows the centre, and of figures for monitoring")
 }
 
+/// The options of a link that are numbers of seconds.
+fn with_seconds<'a>(alloc: Global, command: Command<'a>) -> Result<Command<'a>, AllocError>
+    requires { (fields_of command).has_globals ≡ false }
+    ensures app { IfOk result (λ c. app_of c ≡ with_seconds (app_of command.entry)) }
+    ensures own { IfOk result (λ c. (fields_of c).has_globals ≡ false) }
+{
+    let command = command.arg(reply_option(alloc))?.arg(cut_option(alloc))?;
+    command.arg(alive_option(alloc))
+}
+
 /// The options for links that are lost, taken over, or without replies.
 fn with_link_rules<'a>(alloc: Global, command: Command<'a>) -> Result<Command<'a>, AllocError>
     requires { (fields_of command).has_globals ≡ false }
     ensures app { IfOk result (λ c. app_of c ≡ with_link_rules (app_of command.entry)) }
     ensures own { IfOk result (λ c. (fields_of c).has_globals ≡ false) }
 {
-    let command = command.arg(reset_option(alloc))?.arg(reply_option(alloc))?;
-    command.arg(cut_option(alloc))?.arg(peers_option(alloc))
+    let command = with_seconds(alloc, command.arg(reset_option(alloc))?)?;
+    command.arg(peers_option(alloc))
 }
 
 /// The options of the journal: when it is folded, and where it is kept.
@@ -314,86 +333,4 @@ pub fn command_line<'a>(alloc: Global) -> Result<Command<'a>, AllocError>
         .subcommand_required(true)
         .subcommand(replay)?
         .subcommand(serve)
-}
-
-/// What the words ask for; the program's own is the first.
-pub fn read_options<'a>(alloc: Global, words: &'a [String]) -> Result<Options, NoRun>
-    ensures asked { IfOk result (λ options. Asks (map string_bytes words.now) options.network options.journal_limit) }
-    ensures refused { IfErr result (Refuses (map string_bytes words.now)) }
-{
-    let matches = match command_line(alloc)?.try_get_matches_from(words) {
-        Ok(matches) => matches,
-        Err(error) => return Err(no_run(alloc, &error)),
-    };
-    if asks_server(&matches) {
-        return Err(NoRun::Serve);
-    }
-    let Some(plmn) = asked_plmn(&matches) else {
-        return Err(NoRun::BadPlmn);
-    };
-    let Some(broadcasts) = asked_broadcasts(&matches) else {
-        return Err(NoRun::BadBroadcasts);
-    };
-    let Some(journal_limit) = asked_journal(&matches) else {
-        return Err(NoRun::BadJournal);
-    };
-    Ok(Options {
-        network: Network { plmn, broadcasts },
-        journal_limit,
-    })
-}
-
-/// Whether the server is asked for.
-fn asks_server(matches: &ArgMatches<'_>) -> bool
-    ensures { result ≡ meets_serve (subcommand_rows_of matches.now) }
-{
-    matches.subcommand_matches("serve").is_some()
-}
-
-/// The network code; `None` where it isn't six hexadecimal digits.
-fn asked_plmn(matches: &ArgMatches<'_>) -> Option<[u8; 3]>
-    ensures { result ≡ network_in (replay_rows (subcommand_rows_of matches.now)) }
-{
-    let replay = matches.subcommand_matches("replay")?;
-    <[u8; 3] as FromHex>::from_hex(replay.get_str("plmn")?).ok()
-}
-
-/// How many broadcasts a message requests; `None` where that isn't a number from 0 to 65,535. The parser refuses other
-/// values, but no contract of its names the values of a command below the first.
-fn asked_broadcasts(matches: &ArgMatches<'_>) -> Option<u16>
-    ensures { result ≡ broadcasts_in (replay_rows (subcommand_rows_of matches.now)) }
-{
-    let replay = matches.subcommand_matches("replay")?;
-    replay.get_one::<u16>("broadcasts")
-}
-
-/// How many entries the journal may hold; `None` where that isn't a number from 1 to 4,000,000. The parser refuses
-/// other numbers, but no contract of its names the values of a command below the first.
-fn asked_journal(matches: &ArgMatches<'_>) -> Option<u32>
-    ensures asked { result ≡ limit_in (replay_rows (subcommand_rows_of matches.now)) }
-    ensures few { IfSome result (λ limit. limit ≤ most_entries) }
-{
-    let replay = matches.subcommand_matches("replay")?;
-    match replay.get_one::<u32>("journal") {
-        Some(limit @ 1..=MOST_ENTRIES) => Some(limit),
-        _ => None,
-    }
-}
-
-/// Why the parser of command lines gave no matches.
-fn no_run(alloc: Global, error: &Error) -> NoRun
-    ensures memory { kind_of error.now ≡ ErrorKind.OutOfMemory → result ≡ NoRun.Memory }
-    ensures kind { ComesTo (kind_of error.now) result }
-{
-    if error.kind() == ErrorKind::OutOfMemory {
-        return NoRun::Memory;
-    }
-    let Ok(text) = format!(in alloc; "{error}") else {
-        return NoRun::Memory;
-    };
-    if error.use_stderr() {
-        NoRun::Refused(text)
-    } else {
-        NoRun::Help(text)
-    }
 }

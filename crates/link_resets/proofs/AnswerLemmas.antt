@@ -2,15 +2,14 @@
 use Rattle.std.proofs.Common.{◌≡◌, ◌∷◌, List, Option, Some, None, refl}
 use Rattle.std.specs.Option.{option_or}
 use Rattle.framing.specs.declared.frame.Frame.{Frame}
-use Rattle.link_resets.specs.Resets.{answer_of_type, first_answer}
-use Rattle.link_resets.specs.declared.reset_answer.ResetAnswer.{ResetAnswer}
+use Rattle.link_resets.specs.Resets.{answer_in, first_answer}
 
 -- the answers found so far, and the next
-pub next_answer : (a : Option ResetAnswer) (frame : Frame) (frames : List Frame) → option_or (option_or a (answer_of_type frame.kind)) (first_answer frames) ≡ option_or a (first_answer (frame ∷ frames))
+pub next_answer : (a : Option Frame) (frame : Frame) (frames : List Frame) → option_or (option_or a (answer_in frame)) (first_answer frames) ≡ option_or a (first_answer (frame ∷ frames))
 next_answer None frame frames = refl
 next_answer (Some a) frame frames = refl
 
 -- no frames, no answer
-pub no_answer : (a : Option ResetAnswer) → option_or a None ≡ a
+pub no_answer : (a : Option Frame) → option_or a None ≡ a
 no_answer None = refl
 no_answer (Some a) = refl

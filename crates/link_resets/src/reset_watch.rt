@@ -1,10 +1,9 @@
 //! The answer to a RESET, among what a BSC sends.
 
 ghost use Rattle.std.specs.Prelude.{◌≡◌, [], IfOk};
-ghost use Rattle.link_resets.specs.Resets.{first_answer};
+ghost use Rattle.link_resets.specs.Resets.{answer_in, first_answer};
 
-use crate::reset_answer::ResetAnswer;
-use framing::{FrameFault, Framer};
+use framing::{Frame, FrameFault, Framer};
 use std::alloc::Global;
 use std::marker::Model;
 
@@ -25,16 +24,26 @@ impl Model for ResetWatch {
     ghost invariant = { λ s. s.framer.frames ≡ [] };
 }
 
+/// The frame, where it answers a RESET: RESET COMPLETE or RESET FAILURE (3GPP TS 48.049, 8.2.3).
+fn answer_in(frame: Frame) -> Option<Frame>
+    ensures { result ≡ answer_in frame }
+{
+    match frame.kind {
+        0x11 | 0x12 => Some(frame),
+        _ => None,
+    }
+}
+
 /// The first answer in the frames that the framer has, which are taken out.
 #[tactic(auto, using(crate::proofs::AnswerLemmas::next_answer, crate::proofs::AnswerLemmas::no_answer))]
-fn first_answer(framer: &mut Framer) -> Option<ResetAnswer>
+fn first_answer(framer: &mut Framer) -> Option<Frame>
     ensures answer { result ≡ first_answer framer.old.frames }
     ensures none { framer.new.frames ≡ [] }
     ensures rest { framer.new.rest ≡ framer.old.rest }
 {
     let mut answer = None;
     while let Some(frame) = framer.next() {
-        answer = answer.or(ResetAnswer::of_type(frame.kind));
+        answer = answer.or(answer_in(frame));
     }
     answer
 }
@@ -54,7 +63,7 @@ impl ResetWatch {
 
     /// Takes the next octets that the BSC sent. The answer is the first one in the frames that end in them. `Err` where a frame is
     /// too long, or memory runs out; nothing is found after that, or in those octets.
-    pub fn see(&mut self, octets: &[u8]) -> Result<Option<ResetAnswer>, FrameFault>
+    pub fn see(&mut self, octets: &[u8]) -> Result<Option<Frame>, FrameFault>
         ensures seen { IfOk result (λ answer. Sees self.old octets.now answer self.new) }
     {
         let fed = self.framer.feed(octets);

@@ -1,3 +1,4 @@
+pub mod BlockLemmas
 pub mod BucketLemmas
 pub mod PartLemmas
 pub mod NumberLemmas

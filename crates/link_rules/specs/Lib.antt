@@ -1,3 +1,5 @@
+pub mod Alives
+pub mod Blocks
 pub mod Buckets
 pub mod FoldPaces
 pub mod Paces

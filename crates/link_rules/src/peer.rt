@@ -1,11 +1,11 @@
-//! An address that a BSC may come from.
+//! From where a BSC may come.
 
+use crate::block::Block;
 use cell_register::BscId;
-use std::net::IpAddr;
 
-/// An address that a BSC may come from.
+/// A block of addresses that a BSC may come from.
 #[derive(Clone, Copy)]
 pub struct Peer {
     pub bsc: BscId,
-    pub address: IpAddr,
+    pub block: Block,
 }

@@ -1,7 +1,8 @@
 //! From which addresses the BSCs may come.
 
-ghost use Rattle.std.specs.Prelude.{◌≡◌, ◌↔◌, [], Contains, IfErr, IfOk, IsTrue, OnOk};
-ghost use Rattle.link_rules.specs.PeerLists.{AreNamedBy, IsFaultOf, IsListOfPeers, peer_of};
+ghost use Rattle.std.specs.Prelude.{◌≡◌, [], IfErr, IfOk, OnOk, count_by, length};
+ghost use Rattle.std.specs.List.{list_any};
+ghost use Rattle.link_rules.specs.PeerLists.{AreNamedBy, IsFaultOf, IsListOfPeers, has_peer, is_new, lets_in};
 
 use crate::peer::Peer;
 use crate::peers_fault::PeersFault;
@@ -29,7 +30,8 @@ impl Model for Peers {
 
 impl Peers {
     /// Reads a list of peers. Each line has the number of a BSC, 1 to 65,535 in decimal digits, and one or more IPv4 or IPv6
-    /// addresses that it may come from. Between these words stand spaces, tabs or carriage returns. A BSC may stand on several
+    /// addresses that it may come from. Behind an address a slash and a number may stand: how many of its leading bits count, 0 to 32
+    /// or 0 to 128; without them all do. Between these words stand spaces, tabs or carriage returns. A BSC may stand on several
     /// lines. A line without words, and one whose first word begins with `#`, says nothing. A line ends at a line feed, or where
     /// the text does.
     pub fn read(alloc: Global, text: &[u8]) -> Result<Peers, PeersFault>
@@ -54,12 +56,33 @@ impl Peers {
         }
     }
 
+    /// How many blocks of addresses the list names, each as often as it is named.
+    pub fn count(&self) -> usize
+        ensures { result ≡ length self.now }
+    {
+        self.all.len()
+    }
+
+    /// Whether the list names that block for that BSC.
+    fn has(&self, other: &Peer) -> bool
+        ensures { result ≡ has_peer self.now other.now }
+    {
+        self.all.iter().any(|peer| peer.bsc == other.bsc && peer.block.is_same(&other.block))
+    }
+
+    /// How many of its blocks the list before doesn't name.
+    pub fn count_new(&self, before: &Peers) -> usize
+        ensures { result ≡ count_by (is_new before.now) self.now }
+    {
+        self.all.iter().filter(|peer| !before.has(peer)).count()
+    }
+
     /// Whether the list names the address for the BSC. An IPv4-mapped IPv6 address is another than the IPv4 address.
     pub fn is_named(&self, bsc: BscId, address: IpAddr) -> bool
-        ensures { IsTrue result ↔ Contains self.now (peer_of bsc address) }
+        ensures { result ≡ list_any (lets_in bsc address) self.now }
     {
         self.all
             .iter()
-            .any(|peer| peer.bsc == bsc && peer.address == address)
+            .any(|peer| peer.bsc == bsc && peer.block.has(address))
     }
 }

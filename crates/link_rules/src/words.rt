@@ -1,6 +1,7 @@
 //! The lines of a text, and the words of a line.
 
 ghost use Rattle.std.specs.Prelude.{◌≡◌, ◌<◌, [], ◌∷◌, false, MatchOption, length, position};
+ghost use Rattle.link_rules.specs.Blocks.{is_slash};
 ghost use Rattle.link_rules.specs.Words.{is_blank, is_empty, is_end, lines_of, parts_by, words_of};
 
 /// A space, a tab or a carriage return.
@@ -17,6 +18,13 @@ fn is_end(octet: u8) -> bool
     octet == b'\n'
 }
 
+/// A slash.
+fn is_slash(octet: u8) -> bool
+    ensures { result ≡ is_slash octet }
+{
+    octet == b'/'
+}
+
 /// Where the first line of the text ends.
 fn end_place(text: &[u8]) -> Option<usize>
     ensures { result ≡ position is_end text.now }
@@ -29,6 +37,23 @@ fn blank_place(text: &[u8]) -> Option<usize>
     ensures { result ≡ position is_blank text.now }
 {
     text.iter().position(|octet| is_blank(*octet))
+}
+
+/// Where the first slash of the text stands.
+fn slash_place(text: &[u8]) -> Option<usize>
+    ensures { result ≡ position is_slash text.now }
+{
+    text.iter().position(|octet| is_slash(*octet))
+}
+
+/// What stands before the first slash, and what stands behind it; `None` where there is none.
+pub(crate) fn cut_slash(text: &[u8]) -> Option<(&[u8], &[u8])>
+    ensures { MatchOption result (parts_by is_slash text.now ≡ text.now ∷ []) (λ cut. parts_by is_slash text.now ≡ cut.0.now ∷ parts_by is_slash cut.1.now) }
+{
+    match slash_place(text) {
+        Some(place) => Some((&text[..place], &text[place + 1..])),
+        None => None,
+    }
 }
 
 /// The first line of the text, and what stands behind its end; `None` where no line ends.

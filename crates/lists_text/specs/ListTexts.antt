@@ -1,9 +1,9 @@
 -- What an operator is told of each thing in a list, line by line.
-use Rattle.std.specs.Prelude.{ℕ, Bool, true, false, ◌==◌, List, [], ◌∷◌, ◌++◌, Option, Some, None, codes, count_by, decimal, length, map, if◌then◌else◌}
+use Rattle.std.specs.Prelude.{ℕ, ◌-◌, ◌/◌, ◌%◌, Bool, true, false, ◌&&◌, ◌==◌, not, slice_index_or, List, [], ◌∷◌, ◌++◌, Option, Some, None, codes, count_by, decimal, length, map, if◌then◌else◌}
 use Rattle.std.specs.Char.{encode_utf8, is_control}
 use Rattle.std.specs.Int.{bytes_high_first}
 use Rattle.std.specs.List.{flat_map}
-use Rattle.std.specs.Option.{option_map}
+use Rattle.std.specs.Option.{is_some, option_map}
 use Rattle.std.specs.Str.{chars, encode_utf8_all}
 use Rattle.areas.specs.declared.selector.Selector.{Selector}
 use Rattle.areas.specs.declared.selector.Selector.TheVariants as selector
@@ -70,31 +70,50 @@ abbrev pub flight_text : Option FlightRow → List ℕ
 flight_text None = codes "none"
 flight_text (Some f) = flight_name f.kind ++ (codes " " ++ (identifier_text f.message_id ++ (codes " " ++ four_digits f.serial)))
 
--- whether a link is up, and then its generation
-abbrev pub link_text : Bool → ℕ → List ℕ
-link_text true generation = codes "up " ++ decimal generation
-link_text false generation = codes "down"
+-- the time of day of a second after 1970-01-01T00:00:00Z, in two digits each for hours, minutes and seconds
+abbrev pub time_text : ℕ → List ℕ
+time_text s =
+    decimal (s / 3600 % 24 / 10) ++ (decimal (s / 3600 % 24 % 10) ++ (codes ":"
+    ++ (decimal (s / 60 % 60 / 10) ++ (decimal (s / 60 % 60 % 10) ++ (codes ":"
+    ++ (decimal (s % 60 / 10) ++ decimal (s % 60 % 10)))))))
+
+-- since when a RESET is out over the link of the BSC that isn't answered; the list has that of BSC 1 first
+abbrev pub reset_of : List (Option ℕ) → BscRow → Option ℕ
+reset_of resets r = if r.is_up then slice_index_or resets (r.bsc - 1) None else None
+
+-- whether orders go out over the link
+abbrev pub is_in_service : List (Option ℕ) → BscRow → Bool
+is_in_service resets r = r.is_up && not (is_some (reset_of resets r))
+
+-- a link that is up: its generation, or since when a RESET is out over it
+abbrev pub up_text : Option ℕ → ℕ → List ℕ
+up_text None generation = codes "up " ++ decimal generation
+up_text (Some since) generation = codes "reset since " ++ time_text since
+
+-- whether a link is up
+abbrev pub link_text : List (Option ℕ) → BscRow → List ℕ
+link_text resets r = if r.is_up then up_text (reset_of resets r) r.last else codes "down"
 
 -- the line of a BSC
-abbrev pub bsc_text : BscRow → List ℕ
-bsc_text r =
-    codes "bsc " ++ (decimal r.bsc ++ (codes " cells " ++ (decimal r.cells ++ (codes " link " ++ (link_text r.is_up r.last ++ (codes " flight " ++ (flight_text r.flight ++ (codes " pending " ++ (decimal r.pending ++ newline)))))))))
+abbrev pub bsc_text : List (Option ℕ) → BscRow → List ℕ
+bsc_text resets r =
+    codes "bsc " ++ (decimal r.bsc ++ (codes " cells " ++ (decimal r.cells ++ (codes " link " ++ (link_text resets r ++ (codes " flight " ++ (flight_text r.flight ++ (codes " pending " ++ (decimal r.pending ++ newline)))))))))
 
 -- a line for each BSC, and their number
-abbrev pub bscs_text : List BscRow → List ℕ
-bscs_text rows = flat_map bsc_text rows ++ count_text (codes "bscs") (length rows)
+abbrev pub bscs_text : List (Option ℕ) → List BscRow → List ℕ
+bscs_text resets rows = flat_map (bsc_text resets) rows ++ count_text (codes "bscs") (length rows)
 
 -- the line of a BSC's link
-abbrev pub link_line : BscRow → List ℕ
-link_line r = codes "link " ++ (decimal r.bsc ++ (codes " " ++ (link_text r.is_up r.last ++ (codes " pending " ++ (decimal r.pending ++ newline)))))
+abbrev pub link_line : List (Option ℕ) → BscRow → List ℕ
+link_line resets r = codes "link " ++ (decimal r.bsc ++ (codes " " ++ (link_text resets r ++ (codes " pending " ++ (decimal r.pending ++ newline)))))
 
--- how many links there are, and how many of them are up
-abbrev pub links_count : List BscRow → List ℕ
-links_count rows = codes "links " ++ (decimal (length rows) ++ (codes " up " ++ (decimal (count_by (λ r. r.is_up) rows) ++ newline)))
+-- how many links there are, and over how many of them orders go out
+abbrev pub links_count : List (Option ℕ) → List BscRow → List ℕ
+links_count resets rows = codes "links " ++ (decimal (length rows) ++ (codes " up " ++ (decimal (count_by (is_in_service resets) rows) ++ newline)))
 
 -- a line for each BSC's link, and their numbers
-abbrev pub links_text : List BscRow → List ℕ
-links_text rows = flat_map link_line rows ++ links_count rows
+abbrev pub links_text : List (Option ℕ) → List BscRow → List ℕ
+links_text resets rows = flat_map (link_line resets) rows ++ links_count resets rows
 
 -- Cells.
 

@@ -22,13 +22,21 @@ use Rattle.status_figures.specs.declared.warning_figures.WarningFigures.{Warning
 
 -- BSCs.
 
+-- what a list has for the BSC, that of BSC 1 first
+abbrev pub of_bsc : List (Option ℕ) → BscRow → Option ℕ
+of_bsc times row = slice_index_or times (row.bsc - 1) None
+
 -- since when what is in flight to the BSC is out, where that is known
 abbrev pub since_of : List (Option ℕ) → BscRow → Option ℕ
-since_of sinces row = if is_some row.flight then slice_index_or sinces (row.bsc - 1) None else None
+since_of sinces row = if is_some row.flight then of_bsc sinces row else None
+
+-- since when a RESET is out over the BSC's link, where that is up
+abbrev pub reset_of : List (Option ℕ) → BscRow → Option ℕ
+reset_of resets row = if row.is_up then of_bsc resets row else None
 
 -- a BSC
-abbrev pub figures_of : List (Option ℕ) → BscRow → BscFigures
-figures_of sinces row = record { row = row; since = since_of sinces row }
+abbrev pub figures_of : List (Option ℕ) → List (Option ℕ) → BscRow → BscFigures
+figures_of sinces resets row = record { row = row; since = since_of sinces row; reset = reset_of resets row }
 
 -- Warnings.
 
@@ -78,7 +86,7 @@ abbrev pub picture : Surveyed → Moments → Picture
 picture s m = record {
   taken = m.taken;
   status = s.survey.status;
-  bscs = map (figures_of m.sinces.items) s.survey.bscs;
+  bscs = map (figures_of m.sinces.items m.resets.items) s.survey.bscs;
   warnings = map warning_of s.survey.warnings;
   kept = m.kept;
   receipts = s.counts.receipts;

@@ -1,11 +1,22 @@
 //! The BSCs of a survey, as a picture has them.
 
 ghost use Rattle.std.specs.Prelude.{◌≡◌, map, IfOk};
-ghost use Rattle.office_picture.specs.Pictures.{figures_of, since_of};
+ghost use Rattle.office_picture.specs.Pictures.{figures_of, of_bsc, reset_of, since_of};
 
 use centre_past::lists::BscRow;
 use status_figures::{BscFigures, BscList};
 use std::alloc::{AllocError, Global};
+
+/// What the list has for the BSC, that of BSC 1 first.
+fn of_bsc(times: &[Option<u64>], row: &BscRow) -> Option<u64>
+    ensures { result ≡ of_bsc times.now row.now }
+{
+    let place = usize::from(row.bsc.number()).saturating_sub(1);
+    match times.get(place) {
+        Some(time) => *time,
+        None => None,
+    }
+}
 
 /// Since when what is in flight to the BSC is out, where that is known.
 fn since_of(sinces: &[Option<u64>], row: &BscRow) -> Option<u64>
@@ -14,19 +25,23 @@ fn since_of(sinces: &[Option<u64>], row: &BscRow) -> Option<u64>
     if row.flight.is_none() {
         return None;
     }
-    let place = usize::from(row.bsc.number()).saturating_sub(1);
-    match sinces.get(place) {
-        Some(since) => *since,
-        None => None,
-    }
+    of_bsc(sinces, row)
 }
 
-fn figures_of(sinces: &[Option<u64>], row: &BscRow) -> BscFigures
-    ensures { result ≡ figures_of sinces.now row.now }
+/// Since when a RESET is out over the BSC's link, where that is up.
+fn reset_of(resets: &[Option<u64>], row: &BscRow) -> Option<u64>
+    ensures { result ≡ reset_of resets.now row.now }
+{
+    if row.is_up { of_bsc(resets, row) } else { None }
+}
+
+fn figures_of(sinces: &[Option<u64>], resets: &[Option<u64>], row: &BscRow) -> BscFigures
+    ensures { result ≡ figures_of sinces.now resets.now row.now }
 {
     BscFigures {
         row: *row,
         since: since_of(sinces, row),
+        reset: reset_of(resets, row),
     }
 }
 
@@ -35,12 +50,13 @@ pub(crate) fn bscs(
     alloc: Global,
     rows: &[BscRow],
     sinces: &[Option<u64>],
+    resets: &[Option<u64>],
 ) -> Result<BscList, AllocError>
-    ensures { IfOk result (λ bscs. bscs ≡ map (figures_of sinces.now) rows.now) }
+    ensures { IfOk result (λ bscs. bscs ≡ map (figures_of sinces.now resets.now) rows.now) }
 {
     let mut bscs = Vec::new(alloc);
     for row in rows {
-        bscs.push(figures_of(sinces, row))?;
+        bscs.push(figures_of(sinces, resets, row))?;
     }
     Ok(BscList::from_vec(bscs))
 }

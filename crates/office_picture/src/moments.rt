@@ -7,6 +7,8 @@ pub struct Moments {
     pub taken: u64,
     /// Since when something is out to each BSC, that of BSC 1 first, in seconds after 1970-01-01T00:00:00Z.
     pub sinces: Vec<Option<u64>>,
+    /// Since when a RESET is out to each BSC that isn't answered, in the same way.
+    pub resets: Vec<Option<u64>>,
     /// The last entry that stands in the kept file.
     pub kept: Option<u64>,
     /// How much memory the program takes, in octets.

@@ -22,7 +22,8 @@ pub fn picture(alloc: Global, surveyed: Surveyed, moments: &Moments) -> Result<P
         bscs: rows,
         warnings: surveyed,
     } = survey;
-    let bscs = bscs(alloc, rows.as_slice(), moments.sinces.as_slice())?;
+    let (sinces, resets) = (moments.sinces.as_slice(), moments.resets.as_slice());
+    let bscs = bscs(alloc, rows.as_slice(), sinces, resets)?;
     let warnings = warnings(alloc, surveyed.into_vec())?;
     let refusals = refusals(alloc, &counts)?;
     let entries = entries(alloc, &counts)?;

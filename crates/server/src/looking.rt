@@ -72,7 +72,7 @@ pub(crate) fn open_looking<
 pub(crate) fn run_looking<
     'x,
     L: Ledger + Send + Sync,
-    R: Wait + Threads + Clock + Sync + Net<Stream = TcpStream, Listener = TcpListener>,
+    R: Files + Wait + Threads + Clock + Sync + Net<Stream = TcpStream, Listener = TcpListener>,
     I: BufRead + Send + Drop,
     W: Write + Send + Drop,
     E: Write + Send + Drop,

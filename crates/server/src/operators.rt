@@ -9,6 +9,7 @@ use server_consoles::{Consoles, accept_consoles, serve_console};
 use server_errors::say_of_centre;
 use server_links::Shared;
 use server_operator::{Leaving, Operator, Terminal, operate};
+use std::fs::Files;
 use std::io::{BufRead, Write};
 use std::sync::ledger::Ledger;
 use std::sync::{Mutex, Wait};
@@ -21,7 +22,7 @@ const FEWER: &str = "no thread can be started: there are fewer consoles";
 const UNTAKEN: &str = "no thread can be started: no console is taken";
 
 /// Serves the console of that slot.
-fn serve_at<L: Ledger, E: Write + Drop, R: Wait + Clock>(
+fn serve_at<L: Ledger, E: Write + Drop, R: Files + Wait + Clock>(
     rt: &R,
     shared: &Shared<L, E>,
     consoles: &Consoles<L>,
@@ -30,14 +31,14 @@ fn serve_at<L: Ledger, E: Write + Drop, R: Wait + Clock>(
     let operator = Operator {
         alloc: shared.alloc,
         office: &shared.office,
-        server: &RunningServer { shared },
+        server: &RunningServer { files: rt, shared },
         may_watch: true,
     };
     serve_console(rt, &operator, consoles, slot);
 }
 
 /// Takes the connections of the consoles.
-fn accept_at<L: Ledger, E: Write + Drop, R: Wait + Clock>(
+fn accept_at<L: Ledger, E: Write + Drop, R: Files + Wait + Clock>(
     rt: &R,
     shared: &Shared<L, E>,
     consoles: &Consoles<L>,
@@ -45,7 +46,7 @@ fn accept_at<L: Ledger, E: Write + Drop, R: Wait + Clock>(
     let operator = Operator {
         alloc: shared.alloc,
         office: &shared.office,
-        server: &RunningServer { shared },
+        server: &RunningServer { files: rt, shared },
         may_watch: true,
     };
     accept_consoles(rt, &operator, consoles);
@@ -73,7 +74,13 @@ fn wait_for_consoles<L: Ledger, E: Write + Drop, R: Wait + Clock>(
 }
 
 /// Answers the lines of standard input. Where there are consoles, only `quit` or `shutdown` ends the program there.
-fn run_terminal<L: Ledger, E: Write + Drop, R: Wait + Clock, I: BufRead + Drop, W: Write + Drop>(
+fn run_terminal<
+    L: Ledger,
+    E: Write + Drop,
+    R: Files + Wait + Clock,
+    I: BufRead + Drop,
+    W: Write + Drop,
+>(
     rt: &R,
     shared: &Shared<L, E>,
     has_consoles: bool,
@@ -82,7 +89,7 @@ fn run_terminal<L: Ledger, E: Write + Drop, R: Wait + Clock, I: BufRead + Drop, 
     let operator = Operator {
         alloc: shared.alloc,
         office: &shared.office,
-        server: &RunningServer { shared },
+        server: &RunningServer { files: rt, shared },
         may_watch: false,
     };
     let ended = operate(rt, &operator, terminal);
@@ -114,7 +121,7 @@ fn close_consoles<L: Ledger, E: Drop, R: Wait + Clock>(
 pub(crate) fn run_operators<
     'x,
     L: Ledger + Send + Sync,
-    R: Wait + Threads + Clock + Sync,
+    R: Files + Wait + Threads + Clock + Sync,
     I: BufRead + Send + Drop,
     W: Write + Send + Drop,
     E: Write + Send + Drop,

@@ -27,12 +27,14 @@ pub struct ServeOptions {
     pub links: u16,
     /// Whether a simulated BSC connects to each port, once its BSC is registered.
     pub with_simulator: bool,
-    /// Whether a BSC that connects is sent a RESET of all its cells before any order.
+    /// Whether a BSC that connects is sent a RESET of all its cells, and has to answer it before any order.
     pub reset: bool,
     /// After how many seconds an order without a reply is said; 0 for never.
     pub reply_seconds: u32,
-    /// After how many seconds an order without a reply ends its link; 0 for never.
+    /// After how many seconds an order without a reply, or a RESET without an answer, ends its link; 0 for never.
     pub cut_seconds: u32,
+    /// After how many seconds without a word a BSC is sent a KEEP ALIVE; 0 for never.
+    pub alive_seconds: u32,
     /// The file of the addresses that BSCs may connect from; without it they may connect from any.
     pub peers: Option<String>,
     /// The file that the journal is kept in; without it nothing is kept.
@@ -236,6 +238,7 @@ fn options_of(alloc: Global, matches: &ArgMatches<'_>) -> Result<ServeOptions, O
         reset: matches.get_flag("reset"),
         reply_seconds: asked_seconds(matches, "reply-seconds", REPLY_SECONDS),
         cut_seconds: asked_seconds(matches, "cut-seconds", 0),
+        alive_seconds: asked_seconds(matches, "keep-alive-seconds", 0),
         peers,
         keep,
         console,

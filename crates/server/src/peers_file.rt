@@ -5,16 +5,27 @@ use crate::options::ServeOptions;
 use console_text::ReplayFault;
 use link_rules::{Peers, PeersFault};
 use server_errors::{Errors, say_of_centre};
-use std::alloc::Global;
-use std::fmt::Display;
+use std::alloc::{AllocError, Global};
 use std::fs::{Files, OpenOptions};
 use std::io;
 use std::io::{ErrorKind, Read, Write};
 use std::sync::Wait;
 use std::time::Clock;
+use thiserror::Error;
 
 /// The most octets that the file may have.
 const MOST_OCTETS: u64 = 10_000_000;
+
+/// Why the file can't be taken.
+#[derive(Debug, Drop, Error)]
+pub(crate) enum PeersError {
+    #[error("the file is too long")]
+    TooLong,
+    #[error("{0}")]
+    List(PeersFault),
+    #[error("{0}")]
+    File(io::Error),
+}
 
 /// The octets of the file, and one more than it may have at most.
 fn octets_of<R: Files>(rt: &R, alloc: Global, name: &str) -> io::Result<Vec<u8>> {
@@ -24,34 +35,44 @@ fn octets_of<R: Files>(rt: &R, alloc: Global, name: &str) -> io::Result<Vec<u8>>
     Ok(octets)
 }
 
+/// The peers in the file of that name.
+pub(crate) fn load_peers<R: Files>(rt: &R, alloc: Global, name: &str) -> Result<Peers, PeersError> {
+    let octets = match octets_of(rt, alloc, name) {
+        Ok(octets) => octets,
+        Err(error) => return Err(PeersError::File(error)),
+    };
+    if octets.len() as u64 > MOST_OCTETS {
+        return Err(PeersError::TooLong);
+    }
+    match Peers::read(alloc, octets.as_slice()) {
+        Ok(peers) => Ok(peers),
+        Err(fault) => Err(PeersError::List(fault)),
+    }
+}
+
+/// Whether memory ran out.
+fn is_starved(error: &PeersError) -> bool {
+    match error {
+        PeersError::List(PeersFault::Memory) => true,
+        PeersError::File(error) => error.kind() == ErrorKind::OutOfMemory,
+        _ => false,
+    }
+}
+
 /// Says why the file can't be taken.
-fn refuse<R: Wait + Clock, E: Write + Drop, D: Display + Drop>(
+fn refuse<R: Wait + Clock, E: Write + Drop>(
     rt: &R,
     alloc: Global,
     errors: &Errors<E>,
-    why: D,
+    why: &PeersError,
 ) -> ServeFault {
+    if is_starved(why) {
+        return ServeFault::Lines(ReplayFault::Memory);
+    }
     if let Ok(text) = format!(in alloc; "peers: {why}") {
         say_of_centre(rt, alloc, errors, text);
     }
     ServeFault::Peers
-}
-
-/// The peers in the octets of a file.
-fn peers_of<R: Wait + Clock, E: Write + Drop>(
-    rt: &R,
-    alloc: Global,
-    octets: &[u8],
-    errors: &Errors<E>,
-) -> Result<Peers, ServeFault> {
-    if octets.len() as u64 > MOST_OCTETS {
-        return Err(refuse(rt, alloc, errors, "the file is too long"));
-    }
-    match Peers::read(alloc, octets) {
-        Ok(peers) => Ok(peers),
-        Err(PeersFault::Memory) => Err(ServeFault::Lines(ReplayFault::Memory)),
-        Err(fault) => Err(refuse(rt, alloc, errors, fault)),
-    }
 }
 
 /// Reads the file of peers, where one is given. What is wrong with it is said: `peers: line 3 can't be read`, or the error of the
@@ -65,11 +86,23 @@ pub(crate) fn read_peers<R: Files + Wait + Clock, E: Write + Drop>(
     let Some(name) = &options.peers else {
         return Ok(None);
     };
-    match octets_of(rt, alloc, name.as_str()) {
-        Ok(octets) => Ok(Some(peers_of(rt, alloc, octets.as_slice(), errors)?)),
-        Err(error) if error.kind() == ErrorKind::OutOfMemory => {
-            Err(ServeFault::Lines(ReplayFault::Memory))
+    match load_peers(rt, alloc, name.as_str()) {
+        Ok(peers) => Ok(Some(peers)),
+        Err(error) => {
+            let fault = refuse(rt, alloc, errors, &error);
+            drop(error);
+            Err(fault)
         }
-        Err(error) => Err(refuse(rt, alloc, errors, error)),
+    }
+}
+
+/// The name of the file of peers, where one is given.
+pub(crate) fn peers_name(
+    alloc: Global,
+    options: &ServeOptions,
+) -> Result<Option<String>, AllocError> {
+    match &options.peers {
+        Some(name) => Ok(Some(String::from_str(alloc, name.as_str())?)),
+        None => Ok(None),
     }
 }

@@ -6,7 +6,7 @@ use office::surveyed::Surveyed;
 use office_picture::{Moments, picture};
 use server_errors::say_of_centre;
 use server_http::Pictures;
-use server_links::Shared;
+use server_links::{Shared, second_of};
 use server_ports::Port;
 use status_figures::Picture;
 use std::alloc::AllocError;
@@ -14,7 +14,7 @@ use std::fs::File;
 use std::io::{Read, Seek, SeekFrom, Write};
 use std::sync::ledger::Ledger;
 use std::sync::{Mutex, Wait};
-use std::time::{Clock, SystemTime};
+use std::time::Clock;
 
 /// How many octets are read of what the system says of the program.
 const MOST_TEXT: usize = 2_048;
@@ -24,17 +24,6 @@ const MOST_TEXT: usize = 2_048;
 pub(crate) struct RunningPictures<'a, L: Ledger, E: Drop> {
     pub(crate) shared: &'a Shared<L, E>,
     pub(crate) status: &'a Mutex<Option<File>>,
-}
-
-/// The second, after 1970-01-01T00:00:00Z; 0 where it can't be read.
-fn second_of<R: Clock>(rt: &R) -> u64 {
-    let Ok(now) = SystemTime::now(rt) else {
-        return 0;
-    };
-    match now.duration_since(SystemTime::UNIX_EPOCH) {
-        Ok(since) => since.as_secs(),
-        Err(_) => 0,
-    }
 }
 
 /// The time, in milliseconds of a clock that goes on; 0 where it can't be read.
@@ -91,12 +80,15 @@ impl<'a, L: Ledger, E: Write + Drop> RunningPictures<'a, L, E> {
         let taken = second_of(rt);
         let moment = moment_of(rt);
         let mut sinces = Vec::new(self.shared.alloc);
+        let mut resets = Vec::new(self.shared.alloc);
         for port in &self.shared.ports {
             sinces.push(since_of(rt, port, taken, moment))?;
+            resets.push(port.reset_since(rt))?;
         }
         Ok(Moments {
             taken,
             sinces,
+            resets,
             kept: self.shared.kept_place(rt),
             memory: self.memory(rt),
         })

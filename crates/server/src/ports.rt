@@ -2,7 +2,7 @@
 
 use crate::fault::ServeFault;
 use crate::options::ServeOptions;
-use crate::peers_file::read_peers;
+use crate::peers_file::{peers_name, read_peers};
 use cell_register::BscId;
 use console_text::ReplayFault;
 use link_rules::Peers;
@@ -19,6 +19,14 @@ use std::sync::Wait;
 use std::sync::ledger::Ledger;
 use std::time::Clock;
 
+/// The host without its brackets: an IPv6 address is written as in front of a port, `[::1]`, and may be without them.
+fn plain_host(host: &str) -> &str {
+    match host.strip_prefix("[") {
+        Some(inner) => inner.strip_suffix("]").unwrap_or(host),
+        None => host,
+    }
+}
+
 /// Listens on the port of a BSC.
 fn bind<R: Net<Stream = TcpStream, Listener = TcpListener>, L: Ledger>(
     rt: &R,
@@ -27,13 +35,15 @@ fn bind<R: Net<Stream = TcpStream, Listener = TcpListener>, L: Ledger>(
     b: BscId,
     port: u16,
 ) -> io::Result<Port<L>> {
-    let listener = TcpListener::bind(rt, (options.host.as_str(), port))?;
+    let host = plain_host(options.host.as_str());
+    let listener = TcpListener::bind(rt, (host, port))?;
     let address = listener.local_addr()?;
     let pace = PortPace::new(
         alloc,
         options.limits,
         options.reply_seconds,
         options.cut_seconds,
+        options.alive_seconds,
     );
     Ok(Port::new(b, listener, address, pace))
 }
@@ -94,6 +104,8 @@ fn tell_listening<R: Wait + Clock, L: Ledger, E: Write + Drop>(
 pub(crate) struct Opened<L: Ledger> {
     pub(crate) ports: Vec<Port<L>>,
     pub(crate) peers: Option<Peers>,
+    /// The file of the peers.
+    pub(crate) peers_file: Option<String>,
 }
 
 /// Reads the file of peers, and listens on the port of each BSC. What it listens on is said, or what is wrong.
@@ -108,9 +120,16 @@ pub(crate) fn open_ports<
     errors: &Errors<E>,
 ) -> Result<Opened<L>, ServeFault> {
     let peers = read_peers(rt, alloc, options, errors)?;
+    let Ok(peers_file) = peers_name(alloc, options) else {
+        return Err(ServeFault::Lines(ReplayFault::Memory));
+    };
     let ports: Vec<Port<L>> = bind_all(rt, alloc, options, errors)?;
     tell_listening(rt, alloc, ports.as_slice(), errors);
-    Ok(Opened { ports, peers })
+    Ok(Opened {
+        ports,
+        peers,
+        peers_file,
+    })
 }
 
 pub(crate) fn push<T: Drop>(items: &mut Vec<T>, item: T) -> Result<(), ServeFault> {

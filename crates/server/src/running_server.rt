@@ -1,26 +1,42 @@
 //! The server, as its operator knows it.
 
+use crate::peers_file::load_peers;
 use cell_register::BscId;
 use centre_events::refusal::Refusal;
 use journal_keeper::KeptUpTo;
 use server_consoles::Program;
 use server_errors::say_of_centre;
-use server_links::Shared;
+use server_links::{Renamed, Shared};
 use server_operator::Server;
 use server_ports::Port;
+use std::alloc::{AllocError, Global};
+use std::fs::Files;
 use std::io::Write;
 use std::sync::Wait;
 use std::sync::ledger::Ledger;
 use std::time::Clock;
 use warning_book::WarningId;
 
+/// What an operator is told of another list of peers.
+fn renamed_text(alloc: Global, renamed: Renamed) -> Result<String, AllocError> {
+    let Renamed {
+        named,
+        new,
+        gone,
+        cut,
+    } = renamed;
+    format!(in alloc; "peers {named} new {new} gone {gone} cut {cut}\n")
+}
+
 /// What the threads of a server share, as its operator knows it.
 #[derive(Drop)]
-pub(crate) struct RunningServer<'a, L: Ledger, E: Drop> {
+pub(crate) struct RunningServer<'a, L: Ledger, E: Drop, F> {
+    /// The files.
+    pub(crate) files: &'a F,
     pub(crate) shared: &'a Shared<L, E>,
 }
 
-impl<'a, L: Ledger, E: Write + Drop> RunningServer<'a, L, E> {
+impl<'a, L: Ledger, E: Write + Drop, F: Files> RunningServer<'a, L, E, F> {
     /// The port of the BSC.
     fn port_of(&self, b: BscId) -> Option<&'a Port<L>> {
         self.shared.ports.iter().find(|port| port.bsc == b)
@@ -37,7 +53,7 @@ impl<'a, L: Ledger, E: Write + Drop> RunningServer<'a, L, E> {
     }
 }
 
-impl<'a, L: Ledger, E: Write + Drop> Server for RunningServer<'a, L, E> {
+impl<'a, L: Ledger, E: Write + Drop, F: Files> Server for RunningServer<'a, L, E, F> {
     /// Has the simulated BSC of the port connect, or says that there is no port.
     fn added<R: Wait + Clock>(&self, rt: &R, b: BscId) {
         match self.port_of(b) {
@@ -75,6 +91,29 @@ impl<'a, L: Ledger, E: Write + Drop> Server for RunningServer<'a, L, E> {
         }
     }
 
+    /// Whole or not at all: a file that can't be taken leaves the list as it was.
+    fn reread_peers<R: Wait + Clock>(&self, rt: &R) -> Result<String, AllocError> {
+        let alloc = self.shared.alloc;
+        let Some(name) = &self.shared.options.peers_file else {
+            return String::from_str(alloc, "no peers: there is no --peers\n");
+        };
+        match load_peers(self.files, alloc, name.as_str()) {
+            Ok(peers) => renamed_text(alloc, self.shared.rename(rt, peers)),
+            Err(why) => {
+                let text = format!(in alloc; "bad peers: {why}\n");
+                drop(why);
+                text
+            }
+        }
+    }
+
+    fn reset_since<R: Wait>(&self, rt: &R, b: BscId) -> Option<u64> {
+        match self.port_of(b) {
+            Some(port) => port.reset_since(rt),
+            None => None,
+        }
+    }
+
     /// Says that the older message stays on air.
     fn stays_on_air<R: Wait + Clock>(&self, rt: &R, warning: WarningId, b: BscId) {
         let warning = warning.number();
@@ -88,7 +127,7 @@ impl<'a, L: Ledger, E: Write + Drop> Server for RunningServer<'a, L, E> {
     }
 }
 
-impl<'a, L: Ledger, E: Write + Drop> Program for RunningServer<'a, L, E> {
+impl<'a, L: Ledger, E: Write + Drop, F: Files> Program for RunningServer<'a, L, E, F> {
     fn end<R: Wait>(&self, rt: &R) {
         self.shared.close(rt);
     }

@@ -59,7 +59,7 @@ pub fn settle<L: Ledger, W: Write>(
 /// Serves until the lines of the operators end, from desks of the ports and the consoles.
 fn run_from_desks<
     L: Ledger + Send + Sync,
-    R: Wait + Threads + Clock + Sync + Net<Stream = TcpStream, Listener = TcpListener>,
+    R: Files + Wait + Threads + Clock + Sync + Net<Stream = TcpStream, Listener = TcpListener>,
     I: BufRead + Send + Drop,
     W: Write + Send + Drop,
     E: Write + Send + Drop,
@@ -87,7 +87,7 @@ fn run_from_desks<
 /// the desks.
 fn run_desks<
     L: Ledger + Send + Sync,
-    R: Wait + Threads + Clock + Sync + Net<Stream = TcpStream, Listener = TcpListener>,
+    R: Files + Wait + Threads + Clock + Sync + Net<Stream = TcpStream, Listener = TcpListener>,
     I: BufRead + Send + Drop,
     W: Write + Send + Drop,
     E: Write + Send + Drop,
@@ -197,17 +197,24 @@ fn run_begun<
         looking,
         consoles,
     } = begun;
-    let Opened { ports, peers } = opened;
+    let Opened {
+        ports,
+        peers,
+        peers_file,
+    } = opened;
     let shared = Shared {
         alloc,
         office: Office::new(alloc, blank, options.network, options.journal_limit),
         ports,
         errors,
         options: LinkOptions {
+            plmn: options.plmn,
             reset: options.reset,
             reply_seconds: options.reply_seconds,
             cut_seconds: options.cut_seconds,
-            peers,
+            alive_seconds: options.alive_seconds,
+            peers: Mutex::new(peers),
+            peers_file,
         },
         folds: Mutex::new(FoldPace::new(options.fold, options.journal_limit)),
         kept: options.keep.as_ref().map(|_file| Kept::new(0)),

@@ -11,6 +11,7 @@ use server_links::{
 };
 use server_operator::Terminal;
 use server_ports::Port;
+use std::fs::Files;
 use std::io::{BufRead, Write};
 use std::net::{Net, TcpListener, TcpStream};
 use std::sync::ledger::Ledger;
@@ -26,7 +27,7 @@ const UNWATCHED: &str =
 fn run_simulators<
     'x,
     L: Ledger + Send + Sync,
-    R: Wait + Threads + Clock + Sync + Net<Stream = TcpStream, Listener = TcpListener>,
+    R: Files + Wait + Threads + Clock + Sync + Net<Stream = TcpStream, Listener = TcpListener>,
     I: BufRead + Send + Drop,
     W: Write + Send + Drop,
     E: Write + Send + Drop,
@@ -54,7 +55,7 @@ fn run_simulators<
 fn run_watch<
     'x,
     L: Ledger + Send + Sync,
-    R: Wait + Threads + Clock + Sync + Net<Stream = TcpStream, Listener = TcpListener>,
+    R: Files + Wait + Threads + Clock + Sync + Net<Stream = TcpStream, Listener = TcpListener>,
     I: BufRead + Send + Drop,
     W: Write + Send + Drop,
     E: Write + Send + Drop,
@@ -77,7 +78,7 @@ fn run_watch<
 fn run_acceptors<
     'x,
     L: Ledger + Send + Sync,
-    R: Wait + Threads + Clock + Sync + Net<Stream = TcpStream, Listener = TcpListener>,
+    R: Files + Wait + Threads + Clock + Sync + Net<Stream = TcpStream, Listener = TcpListener>,
     I: BufRead + Send + Drop,
     W: Write + Send + Drop,
     E: Write + Send + Drop,
@@ -102,7 +103,7 @@ fn run_acceptors<
 fn run_writers<
     'x,
     L: Ledger + Send + Sync,
-    R: Wait + Threads + Clock + Sync + Net<Stream = TcpStream, Listener = TcpListener>,
+    R: Files + Wait + Threads + Clock + Sync + Net<Stream = TcpStream, Listener = TcpListener>,
     I: BufRead + Send + Drop,
     W: Write + Send + Drop,
     E: Write + Send + Drop,
@@ -127,7 +128,7 @@ fn run_writers<
 fn run_readers<
     'x,
     L: Ledger + Send + Sync,
-    R: Wait + Threads + Clock + Sync + Net<Stream = TcpStream, Listener = TcpListener>,
+    R: Files + Wait + Threads + Clock + Sync + Net<Stream = TcpStream, Listener = TcpListener>,
     I: BufRead + Send + Drop,
     W: Write + Send + Drop,
     E: Write + Send + Drop,
@@ -153,7 +154,7 @@ fn run_readers<
 fn run_threads<
     'x,
     L: Ledger + Send + Sync,
-    R: Wait + Threads + Clock + Sync + Net<Stream = TcpStream, Listener = TcpListener>,
+    R: Files + Wait + Threads + Clock + Sync + Net<Stream = TcpStream, Listener = TcpListener>,
     I: BufRead + Send + Drop,
     W: Write + Send + Drop,
     E: Write + Send + Drop,
@@ -177,7 +178,7 @@ fn run_threads<
 pub(crate) fn run_keeper<
     'x,
     L: Ledger + Send + Sync,
-    R: Wait + Threads + Clock + Sync + Net<Stream = TcpStream, Listener = TcpListener>,
+    R: Files + Wait + Threads + Clock + Sync + Net<Stream = TcpStream, Listener = TcpListener>,
     I: BufRead + Send + Drop,
     W: Write + Send + Drop,
     E: Write + Send + Drop,

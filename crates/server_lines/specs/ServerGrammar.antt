@@ -7,7 +7,7 @@ use Rattle.server_lines.specs.TextGrammar.{text_line_of}
 use Rattle.server_lines.specs.declared.list_line.ListLine.TheVariants as list
 use Rattle.server_lines.specs.declared.server_line.ServerLine.{ServerLine}
 use Rattle.server_lines.specs.declared.text_line.TextLine.{TextLine}
-use Rattle.server_lines.specs.declared.server_line.ServerLine.TheVariants.{Quit, Shutdown, Watch, CutLink, Wish, Status, Help, List as ListOf, Text, Centre}
+use Rattle.server_lines.specs.declared.server_line.ServerLine.TheVariants.{Quit, Shutdown, Watch, CutLink, Wish, Peers, Status, Help, List as ListOf, Text, Centre}
 
 -- B and W of `wish`, where that cell is given or none
 abbrev pub wish : List ℕ → List ℕ → Option Cell → Option ServerLine
@@ -27,6 +27,7 @@ own_line_of (verb ∷ []) =
     else if bytes_eq verb (codes "links") then Some (ListOf list.Links)
     else if bytes_eq verb (codes "areas") then Some (ListOf list.Areas)
     else if bytes_eq verb (codes "warnings") then Some (ListOf list.Warnings)
+    else if bytes_eq verb (codes "peers") then Some Peers
     else if bytes_eq verb (codes "status") then Some Status
     else if bytes_eq verb (codes "help") then Some Help
     else None

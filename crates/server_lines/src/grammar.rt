@@ -69,7 +69,7 @@ fn read_own(alloc: Global, words: &[Word<'_>]) -> Result<Option<ServerLine>, All
     }
 }
 
-/// `quit`, `shutdown`, `watch`, `bscs`, `links`, `areas`, `warnings`, `status`, `help`
+/// `quit`, `shutdown`, `watch`, `bscs`, `links`, `areas`, `warnings`, `peers`, `status`, `help`
 fn read_one(verb: &[u8]) -> Option<ServerLine>
     ensures { result ≡ own_line_of (verb.now ∷ []) }
 {
@@ -87,6 +87,8 @@ fn read_one(verb: &[u8]) -> Option<ServerLine>
         Some(ServerLine::List(ListLine::Areas))
     } else if is_word(verb, b"warnings") {
         Some(ServerLine::List(ListLine::Warnings))
+    } else if is_word(verb, b"peers") {
+        Some(ServerLine::Peers)
     } else if is_word(verb, b"status") {
         Some(ServerLine::Status)
     } else if is_word(verb, b"help") {

@@ -43,6 +43,7 @@ area put N L, area put N L C
 area cut N L, area cut N L C
 retry B                         orders again what BSC B has refused
 cut B                           ends the link of BSC B
+peers                           reads the file of --peers again
 checkpoint                      folds the journal
 rebuild                         makes a stale centre whole
 watch                           at the socket file: shows each entry as it comes

@@ -20,6 +20,8 @@ pub enum ServerLine {
     CutLink(BscId),
     /// `wish B W` and `wish B W L C`: after that cell
     Wish(BscId, WarningId, Option<Cell>),
+    /// `peers`
+    Peers,
     /// `status`
     Status,
     /// `help`

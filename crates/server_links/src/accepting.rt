@@ -5,6 +5,7 @@ ghost use Rattle.std.specs.Net.Addr.{IsCanonicalOf, MatchIp};
 ghost use Rattle.std.specs.Net.Socket.{socket_ip, socket_port};
 
 use crate::shared::{Shared, now_of};
+use crate::tcp::watch_connection;
 use link_rules::Verdict;
 use server_errors::{tell, tell_link};
 use server_ports::{Connection, Port};
@@ -22,7 +23,7 @@ const NO_MEMORY: &str = "a connection is closed: out of memory";
 
 const TOO_MANY: &str = "more connections are closed than is said";
 
-const UNNAMED: &str = "a connection is closed: its address isn't named for this BSC";
+pub(crate) const UNNAMED: &str = "a connection is closed: its address isn't named for this BSC";
 
 /// Says that no connection can be taken, if it wasn't said since the last one that was.
 fn tell_untaken<L: Ledger, E: Write + Drop, R: Wait + Clock>(
@@ -91,7 +92,7 @@ fn offer<L: Ledger, E: Write + Drop, R: Wait + Clock>(
     stream: TcpStream,
     from: &SocketAddr,
 ) {
-    let is_named = shared.options.is_named(port.bsc, from.ip());
+    let is_named = shared.options.is_named(rt, port.bsc, from.ip());
     match Connection::new(shared.alloc, stream, *from) {
         Ok(connection) => {
             let verdict = port.offer(rt, connection, is_named);
@@ -113,7 +114,8 @@ fn take_stream<L: Ledger, E: Write + Drop, R: Wait + Clock>(
     from: &SocketAddr,
 ) {
     let _ = stream.set_nodelay(true);
-    let is_named = shared.options.is_named(port.bsc, from.ip());
+    watch_connection(&stream);
+    let is_named = shared.options.is_named(rt, port.bsc, from.ip());
     let verdict = port.verdict(rt, from.ip(), is_named);
     if is_refused(verdict) {
         drop(stream);

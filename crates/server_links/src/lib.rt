@@ -3,12 +3,15 @@
 //! A port (`Port` of `server_ports`) has three threads: one accepts connections and decides which gets the link (`accepting`), one
 //! brings up a link and reads from it (`reading`), one writes to it (`writing`). A fourth may be a simulated BSC (`simulating`). `gate`
 //! keeps to how fast reports and orders may pass, and `watching` sees to it that an order without a reply is said. `resetting` has a BSC
-//! forget what it broadcasts when it connects. `folding` folds the journal where that is due, `keeping` keeps it in a file.
+//! forget what it broadcasts when it connects, and `awaiting` waits until it has. `alive` asks a BSC that says nothing whether it
+//! is there. `folding` folds the journal where that is due, `keeping` keeps it in a file.
 //! What happens to links is said by a thread of its own (`server_errors`). No clause says what a socket gives or when a thread goes
 //! on; what is promised of the two sides of a link stands in `link_worker`, and by which rules a link goes on in `link_rules`.
 #![tactic(auto)]
 
 mod accepting;
+mod alive;
+mod awaiting;
 mod closing;
 mod folding;
 mod gate;
@@ -17,9 +20,11 @@ mod keeping;
 mod options;
 mod orders;
 mod reading;
+mod renaming;
 mod resetting;
 mod shared;
 mod simulating;
+mod tcp;
 mod watching;
 mod writing;
 
@@ -29,7 +34,8 @@ pub use keeping::keep;
 pub use options::LinkOptions;
 pub use orders::order_words;
 pub use reading::read_links;
-pub use shared::Shared;
+pub use renaming::Renamed;
+pub use shared::{Shared, second_of};
 pub use simulating::simulate;
 pub use watching::watch;
 pub use writing::write_links;

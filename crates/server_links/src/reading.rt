@@ -1,5 +1,6 @@
 //! The thread of a port that brings up its links and reads from them.
 
+use crate::accepting::UNNAMED;
 use crate::gate::LinkGate;
 use crate::incoming::Incoming;
 use crate::resetting::reset_cells;
@@ -8,7 +9,6 @@ use centre_events::answer::Answer;
 use centre_events::event::Event;
 use centre_events::refusal::Refusal;
 use framing::FromRead;
-use link_resets::ResetWatch;
 use link_worker::{End, read_side};
 use office::desk::Desk;
 use server_errors::tell;
@@ -78,32 +78,18 @@ fn tell_end<L: Ledger, E: Write + Drop, R: Wait + Clock>(
 
 /// Reads the reports of a link whose write side has begun, until it ends.
 fn read_link<L: Ledger, E: Write + Drop, R: Wait + Clock>(
-    rt: &R,
-    shared: &Shared<L, E>,
-    port: &Port<L>,
+    incoming: Incoming<'_, L, E, R>,
     desk: &mut Desk<L>,
-    connection: &Connection,
     generation: u64,
 ) -> SideEnd {
+    let (rt, shared, port) = (incoming.rt, incoming.shared, incoming.port);
     let gate = LinkGate {
         rt,
         shared,
         port,
-        peer: connection.peer,
+        peer: incoming.peer,
     };
-    let mut source = FromRead::new(Incoming {
-        rt,
-        shared,
-        port,
-        peer: connection.peer,
-        stream: &connection.stream,
-        broken: None,
-        watch: if shared.options.reset {
-            Some(ResetWatch::new(shared.alloc))
-        } else {
-            None
-        },
-    });
+    let mut source = FromRead::new(incoming);
     let end = read_side(
         rt,
         shared.alloc,
@@ -116,21 +102,19 @@ fn read_link<L: Ledger, E: Write + Drop, R: Wait + Clock>(
     );
     SideEnd {
         end,
-        broken: source.into_inner().broken,
+        broken: source.into_inner().broken(),
     }
 }
 
-/// Has the write side of a link begin, after a RESET where one is to be sent. `Err` is how the link ends.
+/// Has the write side of a link begin, once the BSC has answered a RESET where one is to be sent. `Err` is how the link ends.
 fn begin<L: Ledger, E: Write + Drop, R: Wait + Clock>(
-    rt: &R,
-    shared: &Shared<L, E>,
-    port: &Port<L>,
+    incoming: &mut Incoming<'_, L, E, R>,
     desk: &mut Desk<L>,
     connection: &Connection,
     generation: u64,
 ) -> Result<(), SideEnd> {
-    if shared.options.reset {
-        reset_cells(rt, shared, port, desk, generation, &connection.stream)?;
+    if incoming.shared.options.reset {
+        reset_cells(incoming, desk, generation)?;
     }
     let Ok(connection) = connection.shared() else {
         return Err(SideEnd::of(End::Refused(Refusal::Memory)));
@@ -139,7 +123,7 @@ fn begin<L: Ledger, E: Write + Drop, R: Wait + Clock>(
         generation,
         connection,
     };
-    if port.begin(rt, job) {
+    if incoming.port.begin(incoming.rt, job) {
         Ok(())
     } else {
         Err(SideEnd::of(End::GateShut))
@@ -155,8 +139,9 @@ fn run_link<L: Ledger, E: Write + Drop, R: Wait + Clock>(
     connection: &Connection,
     generation: u64,
 ) -> SideEnd {
-    match begin(rt, shared, port, desk, connection, generation) {
-        Ok(()) => read_link(rt, shared, port, desk, connection, generation),
+    let mut incoming = Incoming::new(rt, shared, port, connection);
+    match begin(&mut incoming, desk, connection, generation) {
+        Ok(()) => read_link(incoming, desk, generation),
         Err(end) => end,
     }
 }
@@ -170,19 +155,30 @@ fn serve_link<L: Ledger, E: Write + Drop, R: Wait + Clock>(
     connection: &Connection,
     generation: u64,
 ) {
-    port.name_link(rt, generation);
+    port.name_link(rt, generation, now_of(rt));
     if let Ok(text) = format!(in shared.alloc; "link {generation} is up") {
         shared.tell(rt, port, &connection.peer, text);
     }
     let read = run_link(rt, shared, port, desk, connection, generation);
     let ended = port.end_read(rt);
-    port.end_pace(rt);
+    port.end_pace(rt, now_of(rt));
     submit_loss(rt, shared, port, desk, generation);
     tell_end(rt, shared, port, connection, generation, read, ended);
 }
 
+/// Whether the list of peers has changed since the connection was taken, and names its address no more.
+fn is_unnamed<L: Ledger, E: Write + Drop, R: Wait + Clock>(
+    rt: &R,
+    shared: &Shared<L, E>,
+    port: &Port<L>,
+    connection: &Connection,
+) -> bool {
+    let from = connection.peer.ip();
+    shared.options.is_named(rt, port.bsc, from) == Some(false)
+}
+
 /// Brings up the link of a connection, and serves it.
-fn take_connection<L: Ledger, E: Write + Drop, R: Wait + Clock>(
+fn bring_up<L: Ledger, E: Write + Drop, R: Wait + Clock>(
     rt: &R,
     shared: &Shared<L, E>,
     port: &Port<L>,
@@ -202,6 +198,21 @@ fn take_connection<L: Ledger, E: Write + Drop, R: Wait + Clock>(
                 shared.tell(rt, port, &connection.peer, text);
             }
         }
+    }
+}
+
+/// Brings up the link of a connection, and serves it, unless its address isn't named any more.
+fn take_connection<L: Ledger, E: Write + Drop, R: Wait + Clock>(
+    rt: &R,
+    shared: &Shared<L, E>,
+    port: &Port<L>,
+    desk: &mut Desk<L>,
+    connection: &Connection,
+) {
+    if is_unnamed(rt, shared, port, connection) {
+        shared.tell(rt, port, &connection.peer, UNNAMED);
+    } else {
+        bring_up(rt, shared, port, desk, connection);
     }
     connection.shut();
     port.finish(rt);

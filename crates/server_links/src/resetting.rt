@@ -1,6 +1,7 @@
 //! A BSC forgets what it broadcasts when it connects.
 
-use crate::shared::{Shared, now_of};
+use crate::incoming::Incoming;
+use crate::shared::{Shared, now_of, second_of};
 use cbsp_ie::CellIds;
 use cbsp_messages::{Message, Restart};
 use centre_events::event::Event;
@@ -121,37 +122,30 @@ fn write_frames(mut stream: &TcpStream, frames: &[u8], _kept: KeptUpTo) -> Resul
     }
 }
 
-/// What is to be written to the BSC of a link that has come up. The board is made right before, whatever it says afterwards.
-fn prepared<L: Ledger, E: Write + Drop, R: Wait + Clock>(
-    rt: &R,
-    shared: &Shared<L, E>,
-    port: &Port<L>,
-    desk: &mut Desk<L>,
-    generation: u64,
-) -> Result<Vec<u8>, Refusal> {
-    let frames = frames_of(rt, shared, port, desk)?;
-    submit_restarts(rt, shared, port, desk, generation)?;
-    Ok(frames)
-}
-
-/// Has the BSC of a link that has come up forget what it broadcasts, before any order is written. `Err` is how the link ends.
+/// Has the BSC of a link that has come up forget what it broadcasts, before any order is written, and waits until it has. Only then
+/// does the board count its messages as gone. What it sent before its answer is read after that. `Err` is how the link ends.
 pub(crate) fn reset_cells<L: Ledger, E: Write + Drop, R: Wait + Clock>(
-    rt: &R,
-    shared: &Shared<L, E>,
-    port: &Port<L>,
+    incoming: &mut Incoming<'_, L, E, R>,
     desk: &mut Desk<L>,
     generation: u64,
-    stream: &TcpStream,
 ) -> Result<(), SideEnd> {
-    match prepared(rt, shared, port, desk, generation) {
-        Ok(frames) => {
-            let Some(kept) = shared.wait_kept(rt) else {
-                return Err(SideEnd::of(End::GateShut));
-            };
-            write_frames(stream, frames.as_slice(), kept)?;
-            port.reset(rt, now_of(rt));
-            Ok(())
-        }
+    let (rt, shared, port) = (incoming.rt, incoming.shared, incoming.port);
+    let frames = match frames_of(rt, shared, port, desk) {
+        Ok(frames) => frames,
+        Err(refusal) => return Err(SideEnd::of(End::Refused(refusal))),
+    };
+    let Some(kept) = shared.wait_kept(rt) else {
+        return Err(SideEnd::of(End::GateShut));
+    };
+    port.reset(rt, now_of(rt), second_of(rt));
+    let written = write_frames(incoming.stream, frames.as_slice(), kept);
+    drop(frames);
+    written?;
+    incoming.wait_reset(desk)?;
+    let entered = submit_restarts(rt, shared, port, desk, generation);
+    port.reset_done(rt);
+    match entered {
+        Ok(()) => Ok(()),
         Err(refusal) => Err(SideEnd::of(End::Refused(refusal))),
     }
 }

@@ -13,7 +13,7 @@ use std::io::Write;
 use std::net::SocketAddr;
 use std::sync::ledger::Ledger;
 use std::sync::{Condvar, Mutex, Wait};
-use std::time::{Clock, Duration};
+use std::time::{Clock, Duration, SystemTime};
 
 /// The office, the ports, and where it is said what happens to them.
 #[derive(Drop)]
@@ -106,6 +106,17 @@ impl<L: Ledger, E: Drop> Shared<L, E> {
 pub(crate) fn now_of<R: Clock>(rt: &R) -> u64 {
     match rt.monotonic() {
         Ok(now) => u64::try_from(now.as_millis()).unwrap_or(u64::MAX),
+        Err(_) => 0,
+    }
+}
+
+/// The time, in seconds after 1970-01-01T00:00:00Z; 0 where it can't be read.
+pub fn second_of<R: Clock>(rt: &R) -> u64 {
+    let Ok(now) = SystemTime::now(rt) else {
+        return 0;
+    };
+    match now.duration_since(SystemTime::UNIX_EPOCH) {
+        Ok(since) => since.as_secs(),
         Err(_) => 0,
     }
 }

@@ -34,18 +34,24 @@ fn look_at_reply<L: Ledger, E: Write + Drop, R: Wait + Clock>(
     }
 }
 
-/// Says that a RESET has no answer.
+/// Sees to a RESET that has no answer.
 fn look_at_reset<L: Ledger, E: Write + Drop, R: Wait + Clock>(
     rt: &R,
     shared: &Shared<L, E>,
     port: &Port<L>,
     peer: &SocketAddr,
 ) {
-    if let Overdue::Tell { seconds } = port.look_reset(rt, now_of(rt)) {
-        if let Ok(text) = format!(in shared.alloc;
-            "no answer to the RESET for {seconds} s: old messages may still be on air"
-        ) {
-            shared.tell(rt, port, peer, text);
+    match port.look_reset(rt, now_of(rt)) {
+        Overdue::No => {}
+        Overdue::Tell { seconds } => {
+            if let Ok(text) = format!(in shared.alloc;
+                "no answer to the RESET for {seconds} s: old messages may still be on air, and nothing is ordered"
+            ) {
+                shared.tell(rt, port, peer, text);
+            }
+        }
+        Overdue::Cut { seconds } => {
+            port.shut(rt, Shut::ResetUnanswered { seconds });
         }
     }
 }

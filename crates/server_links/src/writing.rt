@@ -25,7 +25,7 @@ fn write_link<L: Ledger, E: Write + Drop, R: Wait + Clock>(
         port,
         peer: job.connection.peer,
     };
-    let mut sink = FromWrite::new(Outgoing::new(&job.connection.stream));
+    let mut sink = FromWrite::new(Outgoing::new(rt, port, &job.connection.stream));
     let end = write_side(
         rt,
         shared.alloc,

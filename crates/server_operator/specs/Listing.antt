@@ -1,5 +1,5 @@
 -- What a line that asks for a list is answered, and `status`.
-use Rattle.std.specs.Prelude.{◌≡◌, ◌⊎◌, ℕ, List, []}
+use Rattle.std.specs.Prelude.{◌≡◌, ◌⊎◌, ℕ, List, [], Option}
 use Rattle.areas.specs.declared.selector.Selector.{Selector}
 use Rattle.centre_events.specs.declared.refusal.Refusal.{Refusal}
 use Rattle.centre_past.specs.declared.lists.area_row.AreaRow.{AreaRow}
@@ -61,22 +61,23 @@ abbrev pub failed_in : SeenValue → List FailedRow
 failed_in (value.Failed rows) = rows
 failed_in other = []
 
--- how the line is answered, where that was seen
-abbrev pub list_text : ListLine → SeenValue → List ℕ
-list_text line.Bscs v = bscs_text (bscs_in v)
-list_text line.Links v = links_text (bscs_in v)
-list_text (line.Cells b) v = cells_text b (cells_in v)
-list_text line.Areas v = areas_text (areas_in v)
-list_text (line.Area a) v = area_text a (selectors_in v)
-list_text line.Warnings v = warnings_text (warnings_in v)
-list_text (line.Warning w) v = sheet_in v
-list_text (line.Failed w) v = failed_text (failed_in v)
+-- how the line is answered, where that was seen; of the links a RESET is out over some, since these times
+abbrev pub list_text : List (Option ℕ) → ListLine → SeenValue → List ℕ
+list_text resets line.Bscs v = bscs_text resets (bscs_in v)
+list_text resets line.Links v = links_text resets (bscs_in v)
+list_text resets (line.Cells b) v = cells_text b (cells_in v)
+list_text resets line.Areas v = areas_text (areas_in v)
+list_text resets (line.Area a) v = area_text a (selectors_in v)
+list_text resets line.Warnings v = warnings_text (warnings_in v)
+list_text resets (line.Warning w) v = sheet_in v
+list_text resets (line.Failed w) v = failed_text (failed_in v)
 
--- the text is that of what was seen in one centre, that is at one moment
+-- the text is that of what was seen in one centre, that is at one moment, and of what the server says of RESETs
 pub record IsListed (d : DeskState) (line : ListLine) (text : List ℕ) : Type 0 where
   pub seen : Seen
+  pub resets : List (Option ℕ)
   pub somewhere : IsSeenSomewhere d (question_of line) seen
-  pub is : text ≡ list_text line seen.value
+  pub is : text ≡ list_text resets line seen.value
 
 -- the text is the cause for which the centre refuses the question
 pub record IsUnlisted (d : DeskState) (line : ListLine) (text : List ℕ) : Type 0 where

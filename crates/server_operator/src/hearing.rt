@@ -127,6 +127,7 @@ fn hear_request<L: Ledger, S: Server, R: Wait + Clock>(
         ServerLine::Wish(b, warning, after) => {
             Ok(Heard::Answered(wish(rt, operator, b, warning, after)?))
         }
+        ServerLine::Peers => Ok(Heard::Answered(operator.server.reread_peers(rt)?)),
         ServerLine::Status => Ok(Heard::Answered(status(rt, operator, desk)?)),
         ServerLine::Help => Ok(Heard::Answered(help_text(operator.alloc)?)),
         ServerLine::Text(line) => Ok(Heard::Answered(say(rt, operator, desk, line)?)),

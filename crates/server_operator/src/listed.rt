@@ -94,17 +94,18 @@ fn sheet_in(alloc: Global, value: &SeenValue) -> Result<Vec<u8>, AllocError>
     }
 }
 
-/// How the line is answered, where that was seen.
+/// How the line is answered, where that was seen. `resets` has since when a RESET is out to each BSC, for the lines that show it.
 pub(crate) fn list_text(
     alloc: Global,
     line: &ListLine,
     value: &SeenValue,
+    resets: &[Option<u64>],
 ) -> Result<Vec<u8>, AllocError>
-    ensures { IfOk result (λ text. text.items ≡ list_text line.now value.now) }
+    ensures { IfOk result (λ text. text.items ≡ list_text resets.now line.now value.now) }
 {
     match line {
-        ListLine::Bscs => bscs_text(alloc, bscs_in(value)),
-        ListLine::Links => links_text(alloc, bscs_in(value)),
+        ListLine::Bscs => bscs_text(alloc, bscs_in(value), resets),
+        ListLine::Links => links_text(alloc, bscs_in(value), resets),
         ListLine::Cells(b) => cells_text(alloc, *b, cells_in(value)),
         ListLine::Areas => areas_text(alloc, areas_in(value)),
         ListLine::Area(name) => area_text(alloc, name, selectors_in(value)),

@@ -8,6 +8,7 @@ ghost use Rattle.server_operator.specs.Listing.{IsListAnswer, IsStatusAnswer, li
 use crate::listed::{list_text, question_of};
 use crate::operator::Operator;
 use crate::server::Server;
+use cell_register::BscId;
 use centre_events::refusal::Refusal;
 use common::Octets;
 use console_text::answer_text::response_text;
@@ -20,11 +21,47 @@ use std::alloc::{AllocError, Global};
 use std::sync::Wait;
 use std::sync::ledger::Ledger;
 
+/// The most BSCs that there may be.
+const MOST_BSCS: u16 = 256;
+
+/// Since when a RESET is out to each BSC that isn't answered, that of BSC 1 first.
+fn all_resets<L: Ledger, S: Server, R: Wait>(
+    rt: &R,
+    operator: &Operator<'_, L, S>,
+) -> Result<Vec<Option<u64>>, AllocError> {
+    let mut resets = Vec::new(operator.alloc);
+    for number in 1..=MOST_BSCS {
+        let since = match BscId::new(number) {
+            Some(b) => operator.server.reset_since(rt, b),
+            None => None,
+        };
+        resets.push(since)?;
+    }
+    Ok(resets)
+}
+
+/// The same, for a line that shows it; for another one, nothing.
+fn shown_resets<L: Ledger, S: Server, R: Wait>(
+    rt: &R,
+    operator: &Operator<'_, L, S>,
+    line: &ListLine,
+) -> Result<Vec<Option<u64>>, AllocError> {
+    match line {
+        ListLine::Bscs | ListLine::Links => all_resets(rt, operator),
+        _ => Ok(Vec::new(operator.alloc)),
+    }
+}
+
 /// The text of what was seen.
-fn seen_octets(alloc: Global, line: &ListLine, seen: &Seen) -> Result<Octets, AllocError>
-    ensures { IfOk result (λ text. text ≡ list_text line.now seen.now.value) }
+fn seen_octets(
+    alloc: Global,
+    line: &ListLine,
+    seen: &Seen,
+    resets: &[Option<u64>],
+) -> Result<Octets, AllocError>
+    ensures { IfOk result (λ text. text ≡ list_text resets.now line.now seen.now.value) }
 {
-    let text = list_text(alloc, line, &seen.value)?;
+    let text = list_text(alloc, line, &seen.value, resets)?;
     Ok(Octets::from_vec(text))
 }
 
@@ -46,10 +83,11 @@ pub(crate) fn list<L: Ledger, S: Server, R: Wait>(
 ) -> Result<Octets, AllocError>
     ensures { IfOk result (IsListAnswer desk.now line.now) }
 {
+    let resets = shown_resets(rt, operator, line)?;
     let question = question_of(operator.alloc, line)?;
     match operator.office.look(rt, desk, question) {
         Ok(seen) => {
-            let text = seen_octets(operator.alloc, line, &seen);
+            let text = seen_octets(operator.alloc, line, &seen, resets.as_slice());
             drop(seen);
             text
         }

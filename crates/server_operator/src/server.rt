@@ -3,6 +3,7 @@
 use cell_register::BscId;
 use centre_events::refusal::Refusal;
 use journal_keeper::KeptUpTo;
+use std::alloc::AllocError;
 use std::sync::Wait;
 use std::time::Clock;
 use warning_book::WarningId;
@@ -32,6 +33,12 @@ pub trait Server {
 
     /// Whether the BSC may connect, and no link of its is up.
     fn is_down<R: Wait>(&self, rt: &R, b: BscId) -> bool;
+
+    /// Reads the list of peers again. The answer is what it says to the operator, with the end of its line.
+    fn reread_peers<R: Wait + Clock>(&self, rt: &R) -> Result<String, AllocError>;
+
+    /// When a RESET went out to the BSC that isn't answered, in seconds after 1970-01-01T00:00:00Z; `None` where none is out.
+    fn reset_since<R: Wait>(&self, rt: &R, b: BscId) -> Option<u64>;
 
     /// The warning was stopped or updated, while the BSC is down and may have an older message of it on air.
     fn stays_on_air<R: Wait + Clock>(&self, rt: &R, warning: WarningId, b: BscId);

@@ -65,6 +65,10 @@ abbrev pub shut_end : Shut → LinkEnd
 shut_end shut.Replaced = link_end.Replaced
 shut_end shut.Cut = link_end.Cut
 shut_end (shut.Unanswered seconds) = link_end.Unanswered seconds
+shut_end (shut.ResetUnanswered seconds) = link_end.ResetUnanswered seconds
+shut_end (shut.Silent seconds) = link_end.Silent seconds
+shut_end shut.Unnamed = link_end.Unnamed
+shut_end shut.NotReset = link_end.NotReset
 
 -- what the first side to end says; but where that is a failed write, and the read side knows why, what that one says
 abbrev pub sides_end : SideEnd → Option SideEnd → LinkEnd

@@ -17,6 +17,10 @@ fn shut_end(shut: Shut) -> LinkEnd
         Shut::Replaced => LinkEnd::Replaced,
         Shut::Cut => LinkEnd::Cut,
         Shut::Unanswered { seconds } => LinkEnd::Unanswered { seconds },
+        Shut::ResetUnanswered { seconds } => LinkEnd::ResetUnanswered { seconds },
+        Shut::Silent { seconds } => LinkEnd::Silent { seconds },
+        Shut::Unnamed => LinkEnd::Unnamed,
+        Shut::NotReset => LinkEnd::NotReset,
     }
 }
 

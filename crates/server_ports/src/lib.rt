@@ -20,6 +20,7 @@ mod shut;
 mod side_end;
 mod up_link;
 mod write_state;
+mod write_turn;
 
 pub use broken::Broken;
 pub use causes::cause_of;

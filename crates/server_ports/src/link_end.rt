@@ -15,6 +15,18 @@ pub enum LinkEnd {
     /// An order or a query had no reply for so many seconds, after which links are cut.
     #[error("cut, since there was no reply for {seconds} s")]
     Unanswered { seconds: u64 },
+    /// A RESET had no answer for so many seconds, after which links are cut.
+    #[error("cut, since there was no answer to the RESET for {seconds} s")]
+    ResetUnanswered { seconds: u64 },
+    /// Nothing came for so many seconds after a KEEP ALIVE, and the BSC had answered one before.
+    #[error("cut, since nothing came for {seconds} s after a KEEP ALIVE")]
+    Silent { seconds: u64 },
+    /// The list of peers doesn't name its address any more.
+    #[error("cut, since its address isn't named for this BSC any more")]
+    Unnamed,
+    /// The BSC answered the RESET, and not that it was done in all its cells.
+    #[error("cut, since the BSC didn't reset all its cells")]
+    NotReset,
     /// The BSC reset the connection.
     #[error("the BSC reset the connection")]
     Reset,

@@ -8,7 +8,7 @@ use crate::port_state::PortState;
 use crate::shut::Shut;
 use crate::side_end::SideEnd;
 use cell_register::BscId;
-use link_rules::{Overdue, Repeat, Verdict};
+use link_rules::{AliveStep, Overdue, Repeat, Verdict};
 use office::desk::Desk;
 use std::net::{IpAddr, SocketAddr, TcpListener, TcpStream};
 use std::sync::ledger::Ledger;
@@ -116,9 +116,9 @@ impl<L: Ledger> Port<L> {
     }
 
     /// The link has come up with this generation: nothing is out, and no order went out again.
-    pub fn name_link<R: Wait>(&self, rt: &R, generation: u64) {
+    pub fn name_link<R: Wait>(&self, rt: &R, generation: u64, now: u64) {
         self.state.lock(rt).name(generation);
-        self.pace.lock(rt).begin();
+        self.pace.lock(rt).begin(now);
     }
 
     /// Has the write side of the link begin. `false` where something has ended the link.
@@ -144,8 +144,8 @@ impl<L: Ledger> Port<L> {
     }
 
     /// Nothing is out any more, since the link has ended.
-    pub fn end_pace<R: Wait>(&self, rt: &R) {
-        self.pace.lock(rt).begin();
+    pub fn end_pace<R: Wait>(&self, rt: &R, now: u64) {
+        self.pace.lock(rt).begin(now);
     }
 
     /// Waits for a link whose write side has to begin; `None` once the port is closing.
@@ -202,9 +202,14 @@ impl<L: Ledger> Port<L> {
         self.pace.lock(rt).changed();
     }
 
-    /// A RESET is out from now on.
-    pub fn reset<R: Wait>(&self, rt: &R, now: u64) {
-        self.pace.lock(rt).reset(now);
+    /// A RESET is out from now on. `second` is the time in seconds after 1970-01-01T00:00:00Z.
+    pub fn reset<R: Wait>(&self, rt: &R, now: u64, second: u64) {
+        self.pace.lock(rt).reset(now, second);
+    }
+
+    /// Since when a RESET is out, in seconds after 1970-01-01T00:00:00Z; `None` where none is.
+    pub fn reset_since<R: Wait>(&self, rt: &R) -> Option<u64> {
+        self.pace.lock(rt).reset_since()
     }
 
     /// The RESET is answered.
@@ -225,6 +230,46 @@ impl<L: Ledger> Port<L> {
     /// Whether the answer to a RESET is overdue.
     pub fn look_reset<R: Wait>(&self, rt: &R, now: u64) -> Overdue {
         self.pace.lock(rt).look_reset(now)
+    }
+
+    /// Something was read from the BSC; `is_answer` where an answer to a KEEP ALIVE is among it.
+    pub fn heard<R: Wait>(&self, rt: &R, now: u64, is_answer: bool) {
+        self.pace.lock(rt).heard(now, is_answer);
+    }
+
+    /// A KEEP ALIVE went out.
+    pub fn asked_alive<R: Wait>(&self, rt: &R, now: u64) {
+        self.pace.lock(rt).asked_alive(now);
+    }
+
+    /// What is to be done about a BSC from which nothing is read.
+    pub fn look_alive<R: Wait>(&self, rt: &R, now: u64) -> AliveStep {
+        self.pace.lock(rt).look_alive(now)
+    }
+
+    /// Waits until no frame of the link itself is being written. Then a piece of the write side's frame may be.
+    pub fn begin_piece<R: Wait>(&self, rt: &R) {
+        let mut state = self
+            .changed
+            .wait_while(rt, self.state.lock(rt), |state| state.is_alive_written());
+        state.begin_piece();
+    }
+
+    /// The piece was written, or couldn't be. `is_whole` is whether its frame is written in full.
+    pub fn end_piece<R: Wait>(&self, rt: &R, is_whole: bool) {
+        self.state.lock(rt).end_piece(is_whole);
+    }
+
+    /// Whether a frame of the link itself may be written now: not while one of the write side's is half written, which waits from now
+    /// on. `end_alive` has to follow.
+    pub fn begin_alive<R: Wait>(&self, rt: &R) -> bool {
+        self.state.lock(rt).begin_alive()
+    }
+
+    /// The frame of the link itself was written, or couldn't be.
+    pub fn end_alive<R: Wait>(&self, rt: &R) {
+        self.state.lock(rt).end_alive();
+        self.changed.notify_all();
     }
 
     /// Whether a report may come in now, which is counted then.

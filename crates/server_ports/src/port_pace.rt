@@ -1,7 +1,7 @@
 //! How fast the links of a port go on.
 
 use crate::link_limits::LinkLimits;
-use link_rules::{Overdue, RateLimit, Repeat, Repeats, ReplyPace};
+use link_rules::{AlivePace, AliveStep, Overdue, RateLimit, Repeat, Repeats, ReplyPace};
 use std::alloc::Global;
 
 /// The first octet of a MESSAGE STATUS QUERY (3GPP TS 48.049, 8.2.3).
@@ -18,24 +18,32 @@ pub struct PortPace {
     replies: ReplyPace,
     /// Since when a RESET is out.
     resets: ReplyPace,
+    /// The second after 1970-01-01T00:00:00Z in which the last RESET went out.
+    reset_second: u64,
+    /// For how long nothing was read.
+    alive: AlivePace,
     orders: Repeats,
 }
 
 impl PortPace {
-    /// That of a port to which nobody connected yet. What is out is said after `reply_seconds`, and after `cut_seconds` the link
-    /// is cut; 0 is never.
+    /// That of a port to which nobody connected yet. What is out, a RESET too, is said after `reply_seconds`, and after `cut_seconds`
+    /// the link is cut; 0 is never.
+    /// A BSC that says nothing is sent a KEEP ALIVE after `alive_seconds`, 0 for never.
     pub fn new(
         alloc: Global,
         limits: LinkLimits,
         reply_seconds: u32,
         cut_seconds: u32,
+        alive_seconds: u32,
     ) -> PortPace {
         PortPace {
             reports: limits.reports,
             connections: limits.connections,
             closed: RateLimit::for_connections(),
             replies: ReplyPace::new(reply_seconds, cut_seconds),
-            resets: ReplyPace::new(reply_seconds, 0),
+            resets: ReplyPace::new(reply_seconds, cut_seconds),
+            reset_second: 0,
+            alive: AlivePace::new(alive_seconds, reply_seconds),
             orders: Repeats::new(alloc),
         }
     }
@@ -64,10 +72,30 @@ impl PortPace {
     }
 
     /// A link came up, or ended: nothing is out.
-    pub(crate) fn begin(&mut self) {
+    pub(crate) fn begin(&mut self, now: u64) {
         self.replies.ended();
         self.resets.ended();
         self.orders.changed();
+        self.alive.begin(now);
+    }
+
+    /// Something was read; `is_answer` where an answer to a KEEP ALIVE is among it.
+    pub(crate) fn heard(&mut self, now: u64, is_answer: bool) {
+        self.alive.heard(now);
+        if is_answer {
+            self.alive.answered();
+        }
+    }
+
+    /// A KEEP ALIVE went out.
+    pub(crate) fn asked_alive(&mut self, now: u64) {
+        self.alive.asked(now);
+    }
+
+    /// What is to be done about a BSC from which nothing is read.
+    pub(crate) fn look_alive(&mut self, now: u64) -> AliveStep {
+        let is_out = self.replies.since().is_some() || self.resets.since().is_some();
+        self.alive.look(now, is_out)
     }
 
     /// Since when an order or a query is out.
@@ -75,9 +103,18 @@ impl PortPace {
         self.replies.since()
     }
 
-    /// A RESET went out.
-    pub(crate) fn reset(&mut self, now: u64) {
+    /// A RESET goes out, in that second after 1970-01-01T00:00:00Z.
+    pub(crate) fn reset(&mut self, now: u64, second: u64) {
         self.resets.sent(now);
+        self.reset_second = second;
+    }
+
+    /// The second in which a RESET went out that is out still.
+    pub(crate) fn reset_since(&self) -> Option<u64> {
+        match self.resets.since() {
+            Some(_) => Some(self.reset_second),
+            None => None,
+        }
     }
 
     /// The RESET is answered.

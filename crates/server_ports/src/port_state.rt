@@ -7,6 +7,7 @@ use crate::shut::Shut;
 use crate::side_end::SideEnd;
 use crate::up_link::UpLink;
 use crate::write_state::WriteState;
+use crate::write_turn::WriteTurn;
 use link_rules::{Verdict, decide};
 use std::mem;
 use std::net::{IpAddr, Shutdown, SocketAddr, TcpStream};
@@ -24,6 +25,8 @@ pub(crate) struct PortState {
     next: Option<Connection>,
     link: Option<UpLink>,
     write: WriteState,
+    /// Who writes to the connection of the link.
+    turn: WriteTurn,
     /// The simulated BSC's end of its connection.
     simulated: Option<TcpStream>,
 }
@@ -37,6 +40,7 @@ impl PortState {
             next: None,
             link: None,
             write: WriteState::Idle,
+            turn: WriteTurn::Nobody,
             simulated: None,
         }
     }
@@ -201,6 +205,38 @@ impl PortState {
     pub(crate) fn end_link(&mut self) {
         self.link = None;
         self.write = WriteState::Idle;
+        self.turn = WriteTurn::Nobody;
+    }
+
+    /// Whether a frame of the link itself is being written.
+    pub(crate) fn is_alive_written(&self) -> bool {
+        self.turn == WriteTurn::Alive
+    }
+
+    /// A piece of the write side's frame is to be written.
+    pub(crate) fn begin_piece(&mut self) {
+        self.turn = WriteTurn::Order;
+    }
+
+    /// A piece of the write side's frame was written, or couldn't be. `is_whole` is whether the frame is written in full.
+    pub(crate) fn end_piece(&mut self, is_whole: bool) {
+        if is_whole {
+            self.turn = WriteTurn::Nobody;
+        }
+    }
+
+    /// A frame of the link itself is to be written. `false` where one of the write side's is half written.
+    pub(crate) fn begin_alive(&mut self) -> bool {
+        let is_free = self.turn == WriteTurn::Nobody;
+        if is_free {
+            self.turn = WriteTurn::Alive;
+        }
+        is_free
+    }
+
+    /// The frame of the link itself was written, or couldn't be.
+    pub(crate) fn end_alive(&mut self) {
+        self.turn = WriteTurn::Nobody;
     }
 
     /// Has the simulated BSC connect.

@@ -9,4 +9,12 @@ pub enum Shut {
     Cut,
     /// An order or a query had no reply for so many seconds.
     Unanswered { seconds: u64 },
+    /// A RESET had no answer for so many seconds.
+    ResetUnanswered { seconds: u64 },
+    /// Nothing came for so many seconds after a KEEP ALIVE.
+    Silent { seconds: u64 },
+    /// The list of peers doesn't name its address any more.
+    Unnamed,
+    /// The BSC answered the RESET, and not that it was done in all its cells.
+    NotReset,
 }

@@ -5,7 +5,7 @@ use Rattle.std.specs.List.{flat_map}
 use Rattle.centre_past.specs.declared.lists.plan_counts.PlanCounts.{PlanCounts}
 use Rattle.coverage_board.specs.declared.numbers.Numbers.{Numbers}
 use Rattle.status_figures.specs.Labels.{label_text}
-use Rattle.status_figures.specs.Words.{newline}
+use Rattle.status_figures.specs.Words.{is_in_service, newline}
 use Rattle.status_figures.specs.declared.bsc_figures.BscFigures.{BscFigures}
 use Rattle.status_figures.specs.declared.bsc_metrics.BscMetric.{BscMetric}
 use Rattle.status_figures.specs.declared.bsc_metrics.BscMetric.TheVariants as of_bsc
@@ -230,14 +230,16 @@ bsc_metric_name of_bsc.Cells = codes "cbc_bsc_cells"
 bsc_metric_name of_bsc.Pending = codes "cbc_bsc_pending_orders"
 bsc_metric_name of_bsc.InFlight = codes "cbc_bsc_in_flight"
 bsc_metric_name of_bsc.Since = codes "cbc_bsc_in_flight_since_timestamp_seconds"
+bsc_metric_name of_bsc.Reset = codes "cbc_bsc_reset_since_timestamp_seconds"
 
 -- what it is
 abbrev pub bsc_metric_help : BscMetric → List ℕ
-bsc_metric_help of_bsc.LinkUp = codes "Whether the link of a BSC is up."
+bsc_metric_help of_bsc.LinkUp = codes "Whether the link of a BSC is up, and no RESET is out over it."
 bsc_metric_help of_bsc.Cells = codes "Cells that are registered at a BSC."
 bsc_metric_help of_bsc.Pending = codes "Messages that a BSC is still to write, replace or kill, one in flight too."
 bsc_metric_help of_bsc.InFlight = codes "Orders and queries that are in flight to a BSC, one at most."
 bsc_metric_help of_bsc.Since = codes "When what is in flight to a BSC went out."
+bsc_metric_help of_bsc.Reset = codes "When the RESET went out that a BSC has not answered."
 
 -- how many things are in flight
 abbrev pub one_if : {A : Type 0} → Option A → ℕ
@@ -246,11 +248,12 @@ one_if (Some a) = 1
 
 -- its number, where there is one
 abbrev pub bsc_metric_value : BscMetric → BscFigures → Option ℕ
-bsc_metric_value of_bsc.LinkUp b = Some (flag b.row.is_up)
+bsc_metric_value of_bsc.LinkUp b = Some (flag (is_in_service b))
 bsc_metric_value of_bsc.Cells b = Some b.row.cells
 bsc_metric_value of_bsc.Pending b = Some b.row.pending
 bsc_metric_value of_bsc.InFlight b = Some (one_if b.row.flight)
 bsc_metric_value of_bsc.Since b = b.since
+bsc_metric_value of_bsc.Reset b = b.reset
 
 -- a sample of a metric of a BSC
 abbrev pub bsc_sample : List ℕ → ℕ → ℕ → List ℕ
@@ -275,7 +278,8 @@ bscs_text bscs =
     bsc_metric_text of_bsc.LinkUp bscs
     ++ (bsc_metric_text of_bsc.Cells bscs
     ++ (bsc_metric_text of_bsc.Pending bscs
-    ++ (bsc_metric_text of_bsc.InFlight bscs ++ bsc_metric_text of_bsc.Since bscs)))
+    ++ (bsc_metric_text of_bsc.InFlight bscs
+    ++ (bsc_metric_text of_bsc.Since bscs ++ bsc_metric_text of_bsc.Reset bscs))))
 
 -- The whole text.
 

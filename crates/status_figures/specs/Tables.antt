@@ -1,13 +1,13 @@
 -- The tables of a picture, in CSV: a line of names, and a record for each warning and each of its areas, or for each BSC.
 use Rattle.std.specs.Prelude.{◌≡◌, ℕ, List, [], ◌∷◌, ◌++◌, Option, Some, None, codes, decimal}
 use Rattle.std.specs.List.{flat_map}
+use Rattle.std.specs.Option.{option_or}
 use Rattle.csv.specs.Records.{Row, partial_of}
 use Rattle.csv.specs.Writing.{default_writer, row_text}
-use Rattle.centre_past.specs.declared.lists.bsc_row.BscRow.{BscRow}
 use Rattle.centre_past.specs.declared.lists.flight_row.FlightRow.{FlightRow}
 use Rattle.centre_past.specs.declared.lists.warning_row.WarningRow.{WarningRow}
 use Rattle.coverage_board.specs.declared.numbers.Numbers.{Numbers}
-use Rattle.status_figures.specs.Words.{flight_name, four_digits, kind_name, link_name, newline, state_name}
+use Rattle.status_figures.specs.Words.{flight_name, four_digits, kind_name, link_word, newline, state_name}
 use Rattle.status_figures.specs.declared.area_board.AreaBoard.{AreaBoard}
 use Rattle.status_figures.specs.declared.bsc_figures.BscFigures.{BscFigures}
 use Rattle.status_figures.specs.declared.picture.Picture.{Picture}
@@ -65,12 +65,16 @@ flight_fields None = [] ∷ [] ∷ [] ∷ []
 flight_fields (Some f) = flight_name f.kind ∷ decimal f.message_id ∷ four_digits f.serial ∷ []
 
 -- a BSC, its cells, its link and the generation of its latest one
-abbrev pub link_fields : BscRow → List (List ℕ)
-link_fields r = decimal r.bsc ∷ decimal r.cells ∷ link_name r.is_up ∷ decimal r.last ∷ []
+abbrev pub link_fields : BscFigures → List (List ℕ)
+link_fields b = decimal b.row.bsc ∷ decimal b.row.cells ∷ link_word b ∷ decimal b.row.last ∷ []
+
+-- since when something is out to it: what is in flight, or else a RESET
+abbrev pub out_since : BscFigures → Option ℕ
+out_since b = option_or b.since b.reset
 
 -- a BSC, with what is in flight to it, since when, and how many orders are pending
 abbrev pub bsc_fields : BscFigures → List (List ℕ)
-bsc_fields b = link_fields b.row ++ (flight_fields b.row.flight ++ number_if b.since ∷ decimal b.row.pending ∷ [])
+bsc_fields b = link_fields b ++ (flight_fields b.row.flight ++ number_if (out_since b) ∷ decimal b.row.pending ∷ [])
 
 -- the record of a BSC
 abbrev pub bsc_record : BscFigures → List ℕ

@@ -1,9 +1,11 @@
 -- Words and digits that stand in tables, in metrics and on the page.
-use Rattle.std.specs.Prelude.{ℕ, Bool, true, false, List, [], ◌∷◌, Option, Some, None, codes, decimal}
+use Rattle.std.specs.Prelude.{ℕ, Bool, true, false, ◌&&◌, not, List, [], ◌∷◌, Option, Some, None, codes, decimal, if◌then◌else◌}
 use Rattle.std.specs.Int.{bytes_high_first}
+use Rattle.std.specs.Option.{is_some}
 use Rattle.hex.specs.Hex.{encode_upper}
 use Rattle.centre_past.specs.declared.lists.flight_kind.FlightKind.{FlightKind}
 use Rattle.centre_past.specs.declared.lists.flight_kind.FlightKind.TheVariants.{Write, Replace, Kill, Query}
+use Rattle.status_figures.specs.declared.bsc_figures.BscFigures.{BscFigures}
 use Rattle.warning_book.specs.declared.kind.Kind.{Kind}
 use Rattle.warning_book.specs.declared.kind.Kind.TheVariants.{Cbs, Emergency}
 
@@ -29,6 +31,14 @@ state_name false = codes "stopped"
 abbrev pub link_name : Bool → List ℕ
 link_name true = codes "up"
 link_name false = codes "down"
+
+-- the link of a BSC: over one that is up a RESET may be out
+abbrev pub link_word : BscFigures → List ℕ
+link_word b = if is_some b.reset then codes "reset" else link_name b.row.is_up
+
+-- whether orders go out over the link of a BSC
+abbrev pub is_in_service : BscFigures → Bool
+is_in_service b = b.row.is_up && not (is_some b.reset)
 
 -- what kind of request is in flight
 abbrev pub flight_name : FlightKind → List ℕ

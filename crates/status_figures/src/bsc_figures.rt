@@ -9,4 +9,7 @@ pub struct BscFigures {
     /// When what is in flight to it went out, in seconds after 1970-01-01T00:00:00Z; `None` where nothing is in flight, or where
     /// that isn't known.
     pub since: Option<u64>,
+    /// When a RESET went out over its link that it hasn't answered, in seconds after 1970-01-01T00:00:00Z. Until it has, no order
+    /// goes out over the link.
+    pub reset: Option<u64>,
 }

@@ -6,6 +6,7 @@ ghost use Rattle.status_figures.specs.Metrics.{bsc_line, bsc_metric_help, bsc_me
 
 use crate::bsc_figures::BscFigures;
 use crate::samples::{flag, push_head};
+use crate::words::is_in_service;
 use centre_past::lists::FlightRow;
 use std::alloc::{AllocError, Global};
 
@@ -17,6 +18,7 @@ pub(crate) enum BscMetric {
     Pending,
     InFlight,
     Since,
+    Reset,
 }
 
 /// How many things are in flight.
@@ -39,6 +41,7 @@ impl BscMetric {
             BscMetric::Pending => "cbc_bsc_pending_orders",
             BscMetric::InFlight => "cbc_bsc_in_flight",
             BscMetric::Since => "cbc_bsc_in_flight_since_timestamp_seconds",
+            BscMetric::Reset => "cbc_bsc_reset_since_timestamp_seconds",
         }
     }
 
@@ -46,12 +49,13 @@ impl BscMetric {
         ensures { result.now ≡ bsc_metric_help self }
     {
         match self {
-            BscMetric::LinkUp => "Whether the link of a BSC is up.",
+            BscMetric::LinkUp => "Whether the link of a BSC is up, and no RESET is out over it.",
             BscMetric::Cells => "Cells that are registered at a BSC.",
             BscMetric::Pending =>
                 "Messages that a BSC is still to write, replace or kill, one in flight too.",
             BscMetric::InFlight => "Orders and queries that are in flight to a BSC, one at most.",
             BscMetric::Since => "When what is in flight to a BSC went out.",
+            BscMetric::Reset => "When the RESET went out that a BSC has not answered.",
         }
     }
 
@@ -59,11 +63,12 @@ impl BscMetric {
         ensures { result ≡ bsc_metric_value self bsc.now }
     {
         match self {
-            BscMetric::LinkUp => Some(flag(bsc.row.is_up)),
+            BscMetric::LinkUp => Some(flag(is_in_service(bsc))),
             BscMetric::Cells => Some(bsc.row.cells as u64),
             BscMetric::Pending => Some(bsc.row.pending as u64),
             BscMetric::InFlight => Some(one_if(bsc.row.flight)),
             BscMetric::Since => bsc.since,
+            BscMetric::Reset => bsc.reset,
         }
     }
 }
@@ -136,5 +141,6 @@ pub(crate) fn push_bscs(
     push_metric(alloc, out, BscMetric::Cells, bscs)?;
     push_metric(alloc, out, BscMetric::Pending, bscs)?;
     push_metric(alloc, out, BscMetric::InFlight, bscs)?;
-    push_metric(alloc, out, BscMetric::Since, bscs)
+    push_metric(alloc, out, BscMetric::Since, bscs)?;
+    push_metric(alloc, out, BscMetric::Reset, bscs)
 }

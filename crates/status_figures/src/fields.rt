@@ -4,8 +4,9 @@ ghost use Rattle.std.specs.Prelude.{◌≡◌, ◌++◌, ◌∷◌, [], OnOk, de
 ghost use Rattle.csv.specs.Records.{fields_of};
 ghost use Rattle.status_figures.specs.Tables.{HasWholeFields, flight_fields, link_fields, number_fields, number_if, serial_if, warning_fields};
 
-use crate::words::{flight_name, four_digits, kind_name, link_name, state_name};
-use centre_past::lists::{BscRow, FlightRow, WarningRow};
+use crate::bsc_figures::BscFigures;
+use crate::words::{flight_name, four_digits, kind_name, link_word, state_name};
+use centre_past::lists::{FlightRow, WarningRow};
 use coverage_board::Numbers;
 use csv::ByteRecord;
 use serials::Serial;
@@ -109,15 +110,19 @@ pub(crate) fn push_warning(
 }
 
 /// Appends the fields of a BSC and its link.
-pub(crate) fn push_link(alloc: Global, row: &mut ByteRecord, bsc: &BscRow) -> Result<(), AllocError>
+pub(crate) fn push_link(
+    alloc: Global,
+    row: &mut ByteRecord,
+    bsc: &BscFigures,
+) -> Result<(), AllocError>
     requires { HasWholeFields row.old }
     ensures fields { OnOk result (fields_of row.new ≡ fields_of row.old ++ link_fields bsc.now) }
     ensures whole { OnOk result (HasWholeFields row.new) }
 {
-    push_number(alloc, row, u64::from(bsc.bsc.number()))?;
-    push_number(alloc, row, bsc.cells as u64)?;
-    push_text(row, link_name(bsc.is_up).as_bytes())?;
-    push_number(alloc, row, bsc.last)
+    push_number(alloc, row, u64::from(bsc.row.bsc.number()))?;
+    push_number(alloc, row, bsc.row.cells as u64)?;
+    push_text(row, link_word(bsc).as_bytes())?;
+    push_number(alloc, row, bsc.row.last)
 }
 
 /// Appends the fields of what is in flight.

@@ -40,4 +40,4 @@ pub use tallies::Tallies;
 pub use tally::Tally;
 pub use warning_figures::WarningFigures;
 pub use warning_list::WarningList;
-pub use words::{flight_name, four_digits, kind_name, link_name, state_name};
+pub use words::{flight_name, four_digits, is_in_service, kind_name, link_word, state_name};

@@ -91,9 +91,9 @@ pub(crate) fn push_bsc(alloc: Global, out: &mut Vec<u8>, bsc: &BscFigures) -> Re
     ensures { OnOk result (out.new.items ≡ out.old.items ++ bsc_record bsc.now) }
 {
     let mut row = ByteRecord::new(alloc);
-    push_link(alloc, &mut row, &bsc.row)?;
+    push_link(alloc, &mut row, bsc)?;
     push_flight(alloc, &mut row, bsc.row.flight)?;
-    push_number_if(alloc, &mut row, bsc.since)?;
+    push_number_if(alloc, &mut row, bsc.since.or(bsc.reset))?;
     push_number(alloc, &mut row, bsc.row.pending as u64)?;
     push_record(alloc, out, &row)
 }

@@ -3,7 +3,7 @@ use Rattle.std.specs.Prelude.{ℕ, ◌-◌, List, [], ◌++◌, Option, Some, No
 use Rattle.std.specs.List.{flat_map}
 use Rattle.centre_past.specs.declared.lists.bsc_row.BscRow.{BscRow}
 use Rattle.centre_past.specs.declared.lists.flight_row.FlightRow.{FlightRow}
-use Rattle.status_figures.specs.Words.{flight_name, four_digits, link_name}
+use Rattle.status_figures.specs.Words.{flight_name, four_digits, is_in_service, link_word}
 use Rattle.status_figures.specs.declared.bsc_figures.BscFigures.{BscFigures}
 use Rattle.status_pages.specs.Standings.{bsc_standing, bsc_stands}
 use Rattle.status_pages.specs.WarningParts.{section_front, section_if, standing_class}
@@ -29,18 +29,23 @@ front_with number class =
 unfoldable pub bsc_front : ℕ → BscFigures → List ℕ
 bsc_front taken b = front_with b.row.bsc (standing_class (bsc_standing taken b))
 
--- its link, its cells, and how many orders are pending for it
-unfoldable pub link_html : BscRow → List ℕ
-link_html r =
-    codes "<p class=\"" ++ (link_name r.is_up
-    ++ (codes "\">link " ++ (link_name r.is_up
-    ++ (codes "</p><p>cells <b>" ++ (decimal r.cells ++ (codes "</b></p><p>pending <b>" ++ (decimal r.pending ++ codes "</b></p>")))))))
+-- whether orders go out over its link
+abbrev pub link_class : BscFigures → List ℕ
+link_class b = if is_in_service b then codes "up" else codes "down"
+
+-- its link
+unfoldable pub link_html : BscFigures → List ℕ
+link_html b = codes "<p class=\"" ++ (link_class b ++ (codes "\">link " ++ link_word b))
+
+-- its cells, and how many orders are pending for it
+unfoldable pub counts_html : BscRow → List ℕ
+counts_html r = codes "<p>cells <b>" ++ (decimal r.cells ++ (codes "</b></p><p>pending <b>" ++ (decimal r.pending ++ codes "</b></p>")))
 
 -- a number of seconds
 unfoldable pub seconds_html : ℕ → List ℕ
 seconds_html n = codes ", out for <b>" ++ (decimal n ++ codes "</b> s</p>")
 
--- for how long what is in flight is out
+-- for how long something is out
 abbrev pub out_for : ℕ → Option ℕ → List ℕ
 out_for taken None = piece_html piece.ParagraphEnd
 out_for taken (Some since) = seconds_html (taken - since)
@@ -58,7 +63,11 @@ flight_if taken (Some f) since = flight_html f ++ out_for taken since
 
 -- a BSC
 unfoldable pub bsc_html : ℕ → BscFigures → List ℕ
-bsc_html taken b = bsc_front taken b ++ (link_html b.row ++ (flight_if taken b.row.flight b.since ++ piece_html piece.ArticleEnd))
+bsc_html taken b =
+    bsc_front taken b
+    ++ (link_html b
+    ++ (out_for taken b.reset
+    ++ (counts_html b.row ++ (flight_if taken b.row.flight b.since ++ piece_html piece.ArticleEnd))))
 
 -- a BSC, if it stands so
 abbrev pub bsc_if : ℕ → Standing → BscFigures → List ℕ

@@ -2,7 +2,6 @@
 use Rattle.std.specs.Prelude.{ℕ, Bool, true, false, ◌-◌, ◌==◌, ◌&&◌, ◌||◌, not, nat_le, List, Option, Some, None, count_by, if◌then◌else◌}
 use Rattle.std.specs.List.{filter}
 use Rattle.std.specs.Option.{is_some}
-use Rattle.centre_past.specs.declared.lists.bsc_row.BscRow.{BscRow}
 use Rattle.centre_past.specs.declared.lists.warning_row.WarningRow.{WarningRow}
 use Rattle.coverage_board.specs.declared.numbers.Numbers.{Numbers}
 use Rattle.status_figures.specs.declared.bsc_figures.BscFigures.{BscFigures}
@@ -43,15 +42,19 @@ abbrev pub is_long_out : ℕ → Option ℕ → Bool
 is_long_out taken None = false
 is_long_out taken (Some since) = nat_le long_out (taken - since)
 
--- something is in flight to the BSC, or pending for it
-abbrev pub is_busy : BscRow → Bool
-is_busy r = is_some r.flight || not (r.pending == 0)
+-- something is in flight to the BSC, or pending for it, or a RESET is out
+abbrev pub is_busy : BscFigures → Bool
+is_busy b = is_some b.row.flight || (not (b.row.pending == 0) || is_some b.reset)
+
+-- something is out to the BSC, an order or a RESET, and has been for that long
+abbrev pub is_late : ℕ → BscFigures → Bool
+is_late taken b = is_long_out taken b.since || is_long_out taken b.reset
 
 -- how a BSC stands in a picture that was taken then
 unfoldable pub bsc_standing : ℕ → BscFigures → Standing
 bsc_standing taken b =
-    if not b.row.is_up || is_long_out taken b.since then Wrong
-    else (if is_busy b.row then UnderWay else InOrder)
+    if not b.row.is_up || is_late taken b then Wrong
+    else (if is_busy b then UnderWay else InOrder)
 
 -- the two are the same
 abbrev pub is_same : Standing → Standing → Bool

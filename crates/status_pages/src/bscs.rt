@@ -2,14 +2,14 @@
 
 ghost use Rattle.std.specs.Prelude.{◌≡◌, ◌++◌, OnOk};
 ghost use Rattle.std.specs.List.{flat_map};
-ghost use Rattle.status_pages.specs.BscParts.{bsc_front, bsc_html, bsc_if, bscs_html, bscs_section, bscs_title, flight_html, flight_if, front_with, link_html, out_for, seconds_html, some_bscs};
+ghost use Rattle.status_pages.specs.BscParts.{bsc_front, bsc_html, bsc_if, bscs_html, bscs_section, bscs_title, counts_html, flight_html, flight_if, front_with, link_class, link_html, out_for, seconds_html, some_bscs};
 
 use crate::piece::{Piece, push_piece};
 use crate::standing::Standing;
 use crate::standings::{bsc_standing, bsc_stands, count_bscs};
 use crate::warnings::{push_section_front, standing_class};
 use centre_past::lists::{BscRow, FlightRow};
-use status_figures::{BscFigures, flight_name, four_digits, link_name};
+use status_figures::{BscFigures, flight_name, four_digits, is_in_service, link_word};
 use std::alloc::{AllocError, Global};
 
 fn title(standing: Standing) -> &'static str
@@ -51,16 +51,29 @@ fn push_front(
     push_front_with(alloc, out, bsc.row.bsc.number(), class)
 }
 
-#[tactic(auto, unfolding(crate::specs::BscParts::link_html))]
-fn push_link(alloc: Global, out: &mut Vec<u8>, row: &BscRow) -> Result<(), AllocError>
-    ensures { OnOk result (out.new.items ≡ out.old.items ++ link_html row.now) }
+fn link_class(bsc: &BscFigures) -> &'static str
+    ensures { result.now ≡ link_class bsc.now }
 {
-    let link = link_name(row.is_up);
+    if is_in_service(bsc) { "up" } else { "down" }
+}
+
+#[tactic(auto, unfolding(crate::specs::BscParts::link_html))]
+fn push_link(alloc: Global, out: &mut Vec<u8>, bsc: &BscFigures) -> Result<(), AllocError>
+    ensures { OnOk result (out.new.items ≡ out.old.items ++ link_html bsc.now) }
+{
+    let class = link_class(bsc);
+    let link = link_word(bsc);
+    let text = format!(in alloc; "<p class=\"{class}\">link {link}")?;
+    out.extend_from_slice(text.as_bytes())
+}
+
+#[tactic(auto, unfolding(crate::specs::BscParts::counts_html))]
+fn push_counts(alloc: Global, out: &mut Vec<u8>, row: &BscRow) -> Result<(), AllocError>
+    ensures { OnOk result (out.new.items ≡ out.old.items ++ counts_html row.now) }
+{
     let cells = row.cells;
     let pending = row.pending;
-    let text = format!(in alloc;
-        "<p class=\"{link}\">link {link}</p><p>cells <b>{cells}</b></p><p>pending <b>{pending}</b></p>"
-    )?;
+    let text = format!(in alloc; "<p>cells <b>{cells}</b></p><p>pending <b>{pending}</b></p>")?;
     out.extend_from_slice(text.as_bytes())
 }
 
@@ -125,7 +138,9 @@ fn push_bsc(
     ensures { OnOk result (out.new.items ≡ out.old.items ++ bsc_html taken bsc.now) }
 {
     push_front(alloc, out, taken, bsc)?;
-    push_link(alloc, out, &bsc.row)?;
+    push_link(alloc, out, bsc)?;
+    push_out_for(alloc, out, taken, bsc.reset)?;
+    push_counts(alloc, out, &bsc.row)?;
     push_flight_if(alloc, out, taken, bsc.row.flight, bsc.since)?;
     push_piece(out, Piece::ArticleEnd)
 }

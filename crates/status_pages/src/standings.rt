@@ -1,10 +1,10 @@
 //! How warnings and BSCs stand.
 
 ghost use Rattle.std.specs.Prelude.{◌≡◌, count_by};
-ghost use Rattle.status_pages.specs.Standings.{are_moving, bsc_standing, bsc_stands, is_busy, is_long_out, is_nowhere, is_same, is_stuck, is_under_way, is_wrong, warning_standing, warning_stands};
+ghost use Rattle.status_pages.specs.Standings.{are_moving, bsc_standing, bsc_stands, is_busy, is_late, is_long_out, is_nowhere, is_same, is_stuck, is_under_way, is_wrong, warning_standing, warning_stands};
 
 use crate::standing::Standing;
-use centre_past::lists::{BscRow, WarningRow};
+use centre_past::lists::WarningRow;
 use coverage_board::Numbers;
 use status_figures::{BscFigures, WarningFigures};
 
@@ -63,10 +63,18 @@ fn is_long_out(taken: u64, since: Option<u64>) -> bool
     }
 }
 
-fn is_busy(bsc: &BscRow) -> bool
+/// Whether it has orders to take, or a reply or the answer to a RESET to give.
+fn is_busy(bsc: &BscFigures) -> bool
     ensures { result ≡ is_busy bsc.now }
 {
-    bsc.flight.is_some() || bsc.pending != 0
+    bsc.row.flight.is_some() || (bsc.row.pending != 0 || bsc.reset.is_some())
+}
+
+/// Whether an order or a RESET has been out to it for too long.
+fn is_late(taken: u64, bsc: &BscFigures) -> bool
+    ensures { result ≡ is_late taken bsc.now }
+{
+    is_long_out(taken, bsc.since) || is_long_out(taken, bsc.reset)
 }
 
 /// How a BSC stands in a picture that was taken then.
@@ -74,9 +82,9 @@ fn is_busy(bsc: &BscRow) -> bool
 pub(crate) fn bsc_standing(taken: u64, bsc: &BscFigures) -> Standing
     ensures { result ≡ bsc_standing taken bsc.now }
 {
-    if !bsc.row.is_up || is_long_out(taken, bsc.since) {
+    if !bsc.row.is_up || is_late(taken, bsc) {
         Standing::Wrong
-    } else if is_busy(&bsc.row) {
+    } else if is_busy(bsc) {
         Standing::UnderWay
     } else {
         Standing::InOrder

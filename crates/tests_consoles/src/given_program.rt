@@ -5,6 +5,7 @@ use centre_events::refusal::Refusal;
 use journal_keeper::{Kept, KeptUpTo, wait_kept};
 use server_consoles::Program;
 use server_operator::Server;
+use std::alloc::AllocError;
 use std::sync::Wait;
 use std::sync::atomic::{AtomicBool, Ordering};
 use std::time::Clock;
@@ -51,6 +52,14 @@ impl Server for GivenProgram {
 
     fn is_down<R: Wait>(&self, _rt: &R, _b: BscId) -> bool {
         false
+    }
+
+    fn reread_peers<R: Wait + Clock>(&self, _rt: &R) -> Result<String, AllocError> {
+        Err(AllocError)
+    }
+
+    fn reset_since<R: Wait>(&self, _rt: &R, _b: BscId) -> Option<u64> {
+        None
     }
 
     fn stays_on_air<R: Wait + Clock>(&self, _rt: &R, _warning: WarningId, _b: BscId) {}

@@ -10,7 +10,7 @@ use console_text::ReplayFault;
 use journal_keeper::{Kept, KeptUpTo, wait_kept};
 use office::office::Office;
 use server_operator::{Leaving, Operator, Server, Terminal, operate};
-use std::alloc::Global;
+use std::alloc::{AllocError, Global};
 use std::io::{BufRead, Error, ErrorKind, Read};
 use std::marker::Brand;
 use std::process::Abort;
@@ -56,6 +56,14 @@ impl Server for Ending {
 
     fn is_down<R: Wait>(&self, _rt: &R, _b: BscId) -> bool {
         false
+    }
+
+    fn reread_peers<R: Wait + Clock>(&self, _rt: &R) -> Result<String, AllocError> {
+        Err(AllocError)
+    }
+
+    fn reset_since<R: Wait>(&self, _rt: &R, _b: BscId) -> Option<u64> {
+        None
     }
 
     fn stays_on_air<R: Wait + Clock>(&self, _rt: &R, _warning: WarningId, _b: BscId) {}

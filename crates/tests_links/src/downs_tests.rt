@@ -13,7 +13,7 @@ use centre_events::refusal::Refusal;
 use journal_keeper::KeptUpTo;
 use office::office::Office;
 use server_operator::{Operator, Server, Terminal, operate};
-use std::alloc::Global;
+use std::alloc::{AllocError, Global};
 use std::marker::Brand;
 use std::process::Abort;
 use std::sync::atomic::{AtomicU64, Ordering};
@@ -63,6 +63,14 @@ impl Server for Downs {
 
     fn is_down<R: Wait>(&self, _rt: &R, _b: BscId) -> bool {
         true
+    }
+
+    fn reread_peers<R: Wait + Clock>(&self, _rt: &R) -> Result<String, AllocError> {
+        Err(AllocError)
+    }
+
+    fn reset_since<R: Wait>(&self, _rt: &R, _b: BscId) -> Option<u64> {
+        None
     }
 
     fn stays_on_air<R: Wait + Clock>(&self, _rt: &R, warning: WarningId, b: BscId) {

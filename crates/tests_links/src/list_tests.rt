@@ -17,7 +17,7 @@ use journal_keeper::KeptUpTo;
 use office::desk::Desk;
 use office::office::Office;
 use server_operator::{Operator, Server, Terminal, operate};
-use std::alloc::Global;
+use std::alloc::{AllocError, Global};
 use std::marker::Brand;
 use std::process::Abort;
 use std::sync::ledger::{Blank, Ledger};
@@ -50,6 +50,14 @@ impl Server for Alone {
 
     fn is_down<R: Wait>(&self, _rt: &R, _b: BscId) -> bool {
         false
+    }
+
+    fn reread_peers<R: Wait + Clock>(&self, _rt: &R) -> Result<String, AllocError> {
+        Err(AllocError)
+    }
+
+    fn reset_since<R: Wait>(&self, _rt: &R, _b: BscId) -> Option<u64> {
+        None
     }
 
     fn stays_on_air<R: Wait + Clock>(&self, _rt: &R, _warning: WarningId, _b: BscId) {}

@@ -32,6 +32,7 @@ fn pictured<L: Ledger, R: Wait + Abort>(rt: &R, alloc: Global, office: &Office<L
     let moments = Moments {
         taken: 0,
         sinces: Vec::new(alloc),
+        resets: Vec::new(alloc),
         kept: None,
         memory: None,
     };

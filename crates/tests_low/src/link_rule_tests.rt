@@ -3,7 +3,8 @@
 
 use crate::values::{bsc, same, yes};
 use link_rules::{
-    FoldPace, Overdue, Peers, PeersFault, RateLimit, Repeat, Repeats, ReplyPace, Verdict, decide,
+    AlivePace, AliveStep, FoldPace, Overdue, Peers, PeersFault, RateLimit, Repeat, Repeats,
+    ReplyPace, Verdict, decide,
 };
 use std::alloc::Global;
 use std::net::{IpAddr, Ipv4Addr};
@@ -84,6 +85,47 @@ fn a_link_without_a_reply_is_cut(rt: HostRuntime) {
     let mut never = ReplyPace::new(0, 0);
     never.sent(0);
     looks(&rt, &mut never, 9_000_000, Overdue::No);
+}
+
+/// What is to be done about a BSC that says nothing, while nothing else is out.
+fn steps(rt: &impl Abort, pace: &mut AlivePace, now_ms: u64, want: AliveStep) {
+    same(rt, &pace.look(now_ms, false), &want, "a BSC that is silent");
+}
+
+/// It is asked after 30 seconds, and cut 20 seconds later, where it answered before; else that is said once.
+#[test]
+fn a_silent_bsc_is_asked_and_then_cut(rt: HostRuntime) {
+    let mut pace = AlivePace::new(30, 20);
+    pace.begin(1_000);
+    steps(&rt, &mut pace, 30_999, AliveStep::Wait);
+    steps(&rt, &mut pace, 31_000, AliveStep::Ask);
+    pace.asked(31_000);
+    steps(&rt, &mut pace, 50_999, AliveStep::Wait);
+    steps(&rt, &mut pace, 51_000, AliveStep::Tell { seconds: 20 });
+    steps(&rt, &mut pace, 99_000, AliveStep::Wait);
+    pace.heard(100_000);
+    pace.answered();
+    steps(&rt, &mut pace, 130_000, AliveStep::Ask);
+    pace.asked(130_000);
+    steps(&rt, &mut pace, 149_999, AliveStep::Wait);
+    steps(&rt, &mut pace, 150_000, AliveStep::Cut { seconds: 20 });
+}
+
+#[test]
+fn nobody_is_asked_while_something_is_out(rt: HostRuntime) {
+    let mut pace = AlivePace::new(30, 0);
+    pace.begin(0);
+    yes(
+        &rt,
+        pace.look(90_000, true) == AliveStep::Wait,
+        "an order is out",
+    );
+    steps(&rt, &mut pace, 90_000, AliveStep::Ask);
+    pace.asked(90_000);
+    steps(&rt, &mut pace, 120_000, AliveStep::Tell { seconds: 30 });
+    let mut never = AlivePace::new(0, 20);
+    never.begin(0);
+    steps(&rt, &mut never, 9_000_000, AliveStep::Wait);
 }
 
 fn goes(rt: &impl Abort, repeats: &mut Repeats, frame: &[u8], now_ms: u64, want: Repeat) {
@@ -172,8 +214,34 @@ fn peers_are_named_by_their_list(rt: HostRuntime) {
     is_named(&rt, &none, 1, b"10.0.0.1", false);
 }
 
+/// Blocks of addresses.
+const BLOCKS: &[u8] = b"1 192.0.2.16/28 10.0.0.0/8\n2 2001:db8::/32 0.0.0.0/0\n3 ::/0 10.0.0.1/32";
+
+#[test]
+fn a_block_names_its_addresses(rt: HostRuntime) {
+    let peers = list(&rt, rt.alloc(), BLOCKS);
+    is_named(&rt, &peers, 1, b"192.0.2.16", true);
+    is_named(&rt, &peers, 1, b"192.0.2.31", true);
+    is_named(&rt, &peers, 1, b"192.0.2.15", false);
+    is_named(&rt, &peers, 1, b"192.0.2.32", false);
+    is_named(&rt, &peers, 1, b"10.255.0.7", true);
+    is_named(&rt, &peers, 1, b"11.0.0.0", false);
+    is_named(&rt, &peers, 2, b"2001:db8:ffff::1", true);
+    is_named(&rt, &peers, 2, b"2001:db9::1", false);
+    is_named(&rt, &peers, 2, b"255.255.255.255", true);
+    is_named(&rt, &peers, 3, b"ff02::1", true);
+    is_named(&rt, &peers, 3, b"10.0.0.1", true);
+    is_named(&rt, &peers, 3, b"10.0.0.2", false);
+}
+
 /// Texts, and the first line of each that can't be read.
-const FAULTS: [(&[u8], u64); 10] = [
+const FAULTS: [(&[u8], u64); 16] = [
+    (b"1 10.0.0.0/33", 1),
+    (b"1 ::/129", 1),
+    (b"1 10.0.0.0/", 1),
+    (b"1 /8", 1),
+    (b"1 10.0.0.0/8/8", 1),
+    (b"1 10.0.0.0/+8", 1),
     (b"1", 1),
     (b"1 10.0.0.1\n2\n3", 2),
     (b"0 10.0.0.1", 1),

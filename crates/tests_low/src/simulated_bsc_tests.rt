@@ -163,7 +163,19 @@ const NOT_UNDERSTOOD: &str = "150000040b04 1200";
 const NOT_UNDERSTOOD_EITHER: &str = "150000020b04";
 
 /// Frames to a BSC with the cells (100, 7) and (100, 9), and its replies.
-const SCENARIOS: [(&[&str], &[&str]); 5] = [
+const SCENARIOS: [(&[&str], &[&str]); 6] = [
+    // a RESET takes what is on air off, and a KEEP ALIVE changes nothing
+    (
+        &[WRITE, "1000000404000106", KILL, WRITE, "160000021805", KILL],
+        &[
+            WRITTEN,
+            "1100000404000106",
+            "060000110e111202c000 090006010064000702 1200",
+            WRITTEN,
+            "17000000",
+            KILLED,
+        ],
+    ),
     // a replace takes the older message off
     (
         &[REPLACE, WRITE, REPLACE, KILL, REPLACE, KILL_NEWER, REPLACE],
@@ -342,7 +354,7 @@ const ENDS: [(&[&str], SimEnd, &[&str]); 6] = [
         &[],
     ),
     (
-        &[KILL, "16000000"],
+        &[KILL, "07000000"],
         SimEnd::BadMessage(MessageFault::NotInProfile),
         &[KILL_REFUSED],
     ),

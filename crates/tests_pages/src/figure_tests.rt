@@ -79,7 +79,7 @@ cbc_left_places{warning="8"} 0
 # TYPE cbc_broadcasts gauge
 cbc_broadcasts{warning="3"} 60
 cbc_broadcasts{warning="8"} 0
-# HELP cbc_bsc_link_up Whether the link of a BSC is up.
+# HELP cbc_bsc_link_up Whether the link of a BSC is up, and no RESET is out over it.
 # TYPE cbc_bsc_link_up gauge
 cbc_bsc_link_up{bsc="1"} 1
 cbc_bsc_link_up{bsc="12"} 0
@@ -98,6 +98,8 @@ cbc_bsc_in_flight{bsc="12"} 0
 # HELP cbc_bsc_in_flight_since_timestamp_seconds When what is in flight to a BSC went out.
 # TYPE cbc_bsc_in_flight_since_timestamp_seconds gauge
 cbc_bsc_in_flight_since_timestamp_seconds{bsc="1"} 1764309116
+# HELP cbc_bsc_reset_since_timestamp_seconds When the RESET went out that a BSC has not answered.
+# TYPE cbc_bsc_reset_since_timestamp_seconds gauge
 # HELP cbc_events_total Events that were entered since the start, by kind.
 # TYPE cbc_events_total counter
 cbc_events_total{kind="issue"} 3

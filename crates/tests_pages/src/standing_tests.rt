@@ -6,7 +6,7 @@ use crate::values::{TAKEN, bsc, numbers};
 use centre_past::lists::{FlightKind, FlightRow};
 use coverage_board::Numbers;
 use serials::Serial;
-use status_figures::BscFigures;
+use status_figures::{BscFigures, bscs_csv, metrics};
 use status_pages::page;
 use std::alloc::Global;
 use std::process::Abort;
@@ -44,6 +44,19 @@ const IN_ORDER: Wanted = Wanted {
 const NO_BSCS: Wanted = Wanted {
     word: b"<header class=\"busy\"><h1>NO BSCS</h1><p>No BSC is registered. The centre knows nothing of what is on air.</p>",
     title: b"<section class=\"off\"><h2>Stopped warnings <b>1</b></h2>",
+    stuck: false,
+};
+
+/// A warning that is on air, while a BSC is under way, and while somebody has to look at one.
+const RESET_IS_OUT: Wanted = Wanted {
+    word: b"<header class=\"busy\"><h1>UNDER WAY</h1>",
+    title: b"<section class=\"good\"><h2>Warnings on air <b>1</b></h2>",
+    stuck: false,
+};
+
+const RESET_HANGS: Wanted = Wanted {
+    word: b"<header class=\"bad\"><h1>ATTENTION</h1>",
+    title: b"<section class=\"good\"><h2>Warnings on air <b>1</b></h2>",
     stuck: false,
 };
 
@@ -119,6 +132,37 @@ fn an_active_warning_stands_by_its_numbers(rt: HostRuntime) {
     let old = numbers(0, 6, 1, 1);
     says(&rt, alloc, serial, old, &busy, FAILED, "failed");
     says(&rt, alloc, serial, old, &idle, IS_STUCK, "failed, left");
+}
+
+/// A BSC over whose link a RESET has been out for so long.
+fn in_reset(rt: &impl Abort, seconds: u64) -> BscFigures {
+    let mut figures = up(rt, None, 0);
+    figures.reset = Some(TAKEN.saturating_sub(seconds));
+    figures
+}
+
+/// A RESET that isn't answered: the page, the table and the metrics say so.
+#[test]
+fn a_reset_without_an_answer_is_shown(rt: HostRuntime) {
+    let alloc = rt.alloc();
+    let serial = Some(0x4031);
+    let on_air = numbers(0, 7, 0, 0);
+    let bscs = [in_reset(&rt, 29)];
+    says(&rt, alloc, serial, on_air, &bscs, RESET_IS_OUT, "a RESET");
+    let bscs = [in_reset(&rt, 30)];
+    says(&rt, alloc, serial, on_air, &bscs, RESET_HANGS, "no answer");
+    let picture = picture_of_one(&rt, alloc, serial, on_air, &bscs);
+    let found = page(alloc, &picture).expect(&rt, "memory");
+    let link = b"<p class=\"down\">link reset, out for <b>30</b> s</p><p>cells <b>9</b></p>";
+    yes(&rt, has(found.as_slice(), link), "the link on the page");
+    let found = bscs_csv(alloc, &picture).expect(&rt, "memory");
+    let row = b"\n1,9,reset,3,,,,1764309093,0\n";
+    yes(&rt, has(found.as_slice(), row), "the BSC in the table");
+    let found = metrics(alloc, &picture).expect(&rt, "memory");
+    let up = b"cbc_bsc_link_up{bsc=\"1\"} 0\n";
+    yes(&rt, has(found.as_slice(), up), "whether the link is up");
+    let since = b"cbc_bsc_reset_since_timestamp_seconds{bsc=\"1\"} 1764309093\n";
+    yes(&rt, has(found.as_slice(), since), "since when");
 }
 
 #[test]

@@ -120,7 +120,11 @@ pub(crate) fn bsc(
         flight,
         pending,
     };
-    BscFigures { row, since }
+    BscFigures {
+        row,
+        since,
+        reset: None,
+    }
 }
 
 pub(crate) fn bscs(rt: &impl Abort, alloc: Global, all: &[BscFigures]) -> BscList {

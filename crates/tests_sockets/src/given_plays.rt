@@ -18,9 +18,9 @@ use std::net::{Net, Shutdown, TcpListener, TcpStream};
 use std::os::unix::net::UnixStream;
 use std::process::Abort;
 use std::sync::Wait;
-use std::thread;
 use std::thread::Threads;
 use std::time::{Clock, Duration, SystemTime};
+use std::{fs, thread};
 
 /// How often something is looked for that is to come.
 const MOST_LOOKS: u32 = 20_000;
@@ -38,10 +38,14 @@ pub(crate) enum Act {
     Unlike(&'static str, &'static str),
     /// The time is noted. Before that it is when the server was started.
     Notes,
+    /// So many milliseconds go by.
+    Rests(u64),
     /// The operator types the lines, and passes over so many answers.
     Lines(&'static str, u32),
     /// The operator types a comment of so many octets, without its end.
     Comment(u32),
+    /// The text stands in the file from now on.
+    Stands(&'static str, &'static str),
     /// The operator types no more.
     Ends,
     /// A console at that socket file is typed the line. Its answer is this.
@@ -273,7 +277,12 @@ fn plays<R: Abort + Clock>(rt: &R, peer: &mut TcpStream, act: &Act) {
 }
 
 /// Does the act.
-fn does<R: Abort + Clock + Net>(rt: &R, alloc: Global, stage: &mut Stage, act: &Act) {
+fn does<R: Abort + Clock + Files<File = File> + Net>(
+    rt: &R,
+    alloc: Global,
+    stage: &mut Stage,
+    act: &Act,
+) {
     match act {
         Act::Types(line, answer) => {
             yes(rt, is_answered(rt, alloc, stage, line, answer), answer);
@@ -284,12 +293,14 @@ fn does<R: Abort + Clock + Net>(rt: &R, alloc: Global, stage: &mut Stage, act: &
             yes(rt, !is_so || is_past(rt, stage, HELD), answer);
         }
         Act::Notes => stage.noted = moment(rt),
+        Act::Rests(milliseconds) => thread::sleep(rt, Duration::from_millis(*milliseconds)),
         Act::WaitsFor(number, least) => {
             next_frame(rt, peer(rt, stage, *number));
             yes(rt, is_past(rt, stage, *least), "it comes too soon");
         }
         Act::Lines(lines, answers) => types_all(rt, alloc, stage, lines, *answers),
         Act::Comment(octets) => types_comment(stage, *octets),
+        Act::Stands(path, text) => fs::write(rt, *path, *text).expect(rt, "the file is written"),
         Act::Ends => ends(rt, stage),
         Act::Asks(path, line, answer) => yes(rt, is_told(rt, path, line, answer), answer),
         Act::Says(text) => says(rt, alloc, stage, text),
@@ -313,7 +324,7 @@ fn rest_of(rt: &impl Abort, alloc: Global, reader: &mut BufReader<UnixStream>) -
 }
 
 /// Does the acts one after another, and types no more. The answer is what the server still answers and says.
-fn acts_all<R: Abort + Clock + Net>(
+fn acts_all<R: Abort + Clock + Files<File = File> + Net>(
     rt: &R,
     alloc: Global,
     mut stage: Stage,
@@ -400,6 +411,7 @@ fn limited(rt: &impl Abort, alloc: Global, base: u16, limits: LinkLimits) -> Ser
         reset: false,
         reply_seconds: 30,
         cut_seconds: 0,
+        alive_seconds: 0,
         peers: None,
         keep: None,
         console: None,

@@ -340,7 +340,7 @@ const PEERS: Kept = Kept {
     },
 };
 
-/// A server that listens on `::` takes a BSC that comes back over IPv4 for the same, and it may be named by its IPv4 address. A
+/// A server that listens on `::`, written with brackets or without, takes a BSC that comes back over IPv4 for the same, and it may be named by its IPv4 address. A
 /// system without IPv6 can't listen so.
 #[test]
 fn a_bsc_over_ipv4_comes_back_where_ipv6_is_listened_on(rt: HostRuntime) {
@@ -351,7 +351,7 @@ fn a_bsc_over_ipv4_comes_back_where_ipv6_is_listened_on(rt: HostRuntime) {
 }
 
 const MAPPED: Play = Play {
-    words: &["--host", "::"],
+    words: &["--host", "[::]"],
     acts: &[
         Act::Types("bsc add 1\n", "ok 1\n"),
         Act::Connects(1, 1),
@@ -383,6 +383,45 @@ const MAPPED_PEER: Kept = Kept {
             Act::Connects(2, 1),
             Act::IsClosed(1),
             Act::Says("link 2 ended: another connection took its place"),
+            Act::Lines("quit\n", 0),
+        ],
+        answers: Wanted::Settled("10"),
+        ..USUAL
+    },
+};
+
+/// The list of peers is read again while the server runs, whole or not at all. The link whose address is gone is cut, and its BSC may
+/// come from the new address; the other link goes on.
+#[test]
+fn peers_are_read_again(rt: HostRuntime) {
+    keeps(&rt, &READ_AGAIN);
+}
+
+const READ_AGAIN: Kept = Kept {
+    path: "peers-again",
+    before: Some("1 127.0.0.1\n2 127.0.0.0/24\n"),
+    after: "1 127.0.0.1\none\n",
+    play: Play {
+        words: &["--peers", "peers-again", "--links", "2"],
+        acts: &[
+            Act::Lines("bsc add 1\nbsc add 2\n", 2),
+            Act::Connects(1, 1),
+            Act::Says("link 3 is up"),
+            Act::Connects(1, 2),
+            Act::Says("link 4 is up"),
+            Act::Stands("peers-again", "1 127.0.0.2\n2 127.0.0.0/24\n"),
+            Act::Types("peers\n", "peers 2 new 1 gone 1 cut 1\n"),
+            Act::Says("link 3 ended: cut, since its address isn't named for this BSC any more"),
+            Act::IsClosed(0),
+            Act::Connects(1, 1),
+            Act::IsClosed(2),
+            Act::Connects(2, 1),
+            Act::Says("link 6 is up"),
+            Act::Stands("peers-again", "1 127.0.0.1\none\n"),
+            Act::Types("peers\n", "bad peers: line 2 can't be read\n"),
+            Act::Types("links\n", "link 1 up 6 pending 0\n"),
+            Act::Types("", "link 2 up 4 pending 0\n"),
+            Act::Types("", "links 2 up 2\n"),
             Act::Lines("quit\n", 0),
         ],
         answers: Wanted::Settled("10"),

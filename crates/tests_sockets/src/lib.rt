@@ -7,6 +7,8 @@
 #![tactic(auto)]
 
 #[cfg(test)]
+mod alive_tests;
+#[cfg(test)]
 mod checks;
 #[cfg(test)]
 mod console;

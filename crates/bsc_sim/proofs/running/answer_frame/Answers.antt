@@ -1,25 +1,21 @@
-use Rattle.std.proofs.lemmas.Result.{err_from_is_err_and}
-use Rattle.bsc_sim.proofs.ConversationLemmas.{breaks_reading, breaks_sending, breaks_starved, replies_one}
+use Rattle.std.proofs.lemmas.Result.{IfErr-weaker, on_ok_weaker}
+use Rattle.bsc_sim.proofs.ConversationLemmas.{breaks_alive, breaks_reset, replies_alive, replies_reset}
 use Rattle.bsc_sim.proofs.running.answer_frame.Goals as goal
 
-pub returns-in_err-message-clause-err : goal.returns-in_err-message-clause-err
-returns-in_err-message-clause-err g c =
-    let p = err_from_is_err_and c.from_residual.result c.from_residual.ensures.1 in
-    rw (p.1, p.2) (breaks_reading c.args.choices.now c.args.bsc.now c.args.frame.now _ c.in_err-message.field-0.0 (rw c.as_slice.ensures at c.in_err-message.ensures.fault))
+-- a RESET
+pub returns-in-16-clause-ok : goal.returns-in-16-clause-ok
+returns-in-16-clause-ok g c =
+    on_ok_weaker c.send_frame.result (λ sent. replies_reset c.args.choices.now c.args.bsc.now c.clear.new.self c.args.frame.now _ _ c.in-16.is c.clear.ensures sent) c.send_frame.ensures.ok
 
-pub returns-in_err-reply-clause-err : goal.returns-in_err-reply-clause-err
-returns-in_err-reply-clause-err g c =
-    let p = err_from_is_err_and c.from_residual-in_err-reply.result c.from_residual-in_err-reply.ensures.1 in
-    rw (p.1, p.2, c.in_err-reply.ensures.unchanged) (breaks_starved c.args.choices.now c.args.bsc.now c.args.frame.now _)
+pub returns-in-16-clause-err : goal.returns-in-16-clause-err
+returns-in-16-clause-err g c =
+    IfErr-weaker c.send_frame.result _ _ (λ end sent. breaks_reset c.args.choices.now c.args.bsc.now c.clear.new.self c.args.frame.now _ _ end c.in-16.is c.clear.ensures sent) c.send_frame.ensures.err
 
-pub returns-in_err-send-clause-err : goal.returns-in_err-send-clause-err
-returns-in_err-send-clause-err g c =
-    let p = err_from_is_err_and c.from_residual-in_err-send.result c.from_residual-in_err-send.ensures.1 in
-    rw (p.1, p.2)
-    (breaks_sending c.args.choices.now c.args.bsc.now _ c.args.frame.now c.in_ok-message.message _ _ _ _ (rw c.as_slice.ensures at c.in_ok-message.ensures.found) c.in_ok-reply.ensures.reply
-    c.in_ok-reply.ensures.table c.in_err-send.ensures.err)
+-- a KEEP ALIVE
+pub returns-in-22-clause-ok : goal.returns-in-22-clause-ok
+returns-in-22-clause-ok g c =
+    on_ok_weaker c.send_frame-in-22.result (λ sent. replies_alive c.args.choices.now c.args.bsc.now c.args.frame.now _ _ c.in-22.is sent) c.send_frame-in-22.ensures.ok
 
-pub returns-clause-ok : goal.returns-clause-ok
-returns-clause-ok g c =
-    replies_one c.args.choices.now c.args.bsc.now _ c.args.frame.now c.in_ok-message.message _ _ _ (rw c.as_slice.ensures at c.in_ok-message.ensures.found) c.in_ok-reply.ensures.reply
-    c.in_ok-reply.ensures.table c.in_ok-send.ensures.ok
+pub returns-in-22-clause-err : goal.returns-in-22-clause-err
+returns-in-22-clause-err g c =
+    IfErr-weaker c.send_frame-in-22.result _ _ (λ end sent. breaks_alive c.args.choices.now c.args.bsc.now c.args.frame.now _ _ end c.in-22.is sent) c.send_frame-in-22.ensures.err

@@ -5,4 +5,4 @@ use Rattle.lists_text.proofs.bscs.links_text.Given as goal
 
 -- the lines so far, and those of the rows ahead, are all of them
 abbrev pub invariant-loop-row : goal.invariant-loop-row
-invariant-loop-row l = l.text.items ++ flat_map link_line (drop l.row-index l.rows) ≡ flat_map link_line l.rows
+invariant-loop-row l = l.text.items ++ flat_map (link_line l.resets) (drop l.row-index l.rows) ≡ flat_map (link_line l.resets) l.rows
