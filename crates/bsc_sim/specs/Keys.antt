@@ -7,7 +7,6 @@ use Rattle.std.specs.Ordering.{nat_cmp, ordering_then}
 use Rattle.std.specs.Set.{remove_key}
 use Rattle.std.specs.declared.cmp.Ordering.{Ordering}
 use Rattle.common.specs.Cell.{cell_cmp}
-use Rattle.common.specs.declared.cell.Cell.{Cell}
 use Rattle.bsc_sim.specs.declared.key.Key.{Key}
 
 -- the order of keys: by cell, then by message identifier, then by serial number

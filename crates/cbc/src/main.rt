@@ -3,7 +3,7 @@
 
 use console::run;
 use framing::{FromRead, FromWrite};
-use server::serve_words;
+use server::{PeersSource, serve_words};
 use server_operator::TimedInput;
 use std::alloc::Global;
 use std::fs::{File, Files};
@@ -41,6 +41,7 @@ fn main(rt: HostRuntime) -> ExitCode {
 fn serve<
     R: Files<File = File>
         + Wait
+        + PeersSource
         + Threads
         + Clock
         + Sync

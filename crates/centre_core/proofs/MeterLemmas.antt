@@ -57,16 +57,16 @@ metered_more journal x place e s new (Ok u) first last is kept f =
 
 -- Where the count of lines begins later than the meter.
 
-pub lines_most : (begun : ℕ) {old new most : ℕ} → new ≤ old + most → new - begun ≤ old - begun + most
-lines_most begun {old} {new} {most} h = omega (arith, h)
+pub lines_most : (begun old new most : ℕ) → new ≤ old + most → new - begun ≤ old - begun + most
+lines_most begun old new most h = omega (arith, h)
 
-pub lines_least : (begun : ℕ) {old new : ℕ} → old ≤ new → old - begun ≤ new - begun
-lines_least begun {old} {new} h = omega (arith, h)
+pub lines_least : (begun old new : ℕ) → old ≤ new → old - begun ≤ new - begun
+lines_least begun old new h = omega (arith, h)
 
 -- what a checkpoint counts isn't among the lines
 pub lines_stay : (begun old new : ℕ) → old ≤ new → new - (new - (old - begun)) ≡ old - begun
 lines_stay begun old new h = omega (arith, h)
 
 -- a rebuild's lines are those since the copy of the base
-pub lines_since : {begun new most : ℕ} → new ≤ begun + most → new - begun ≤ most
-lines_since {begun} {new} {most} h = omega (arith, h)
+pub lines_since : (begun new most : ℕ) → new ≤ begun + most → new - begun ≤ most
+lines_since begun new most h = omega (arith, h)

@@ -7,8 +7,8 @@ ghost use Rattle.console_text.specs.Faults.{fault_words};
 
 use crate::replaying::replay;
 use centre_events::network::Network;
+use console_text::asked::read_options;
 use console_text::no_run::NoRun;
-use console_text::options::read_options;
 use console_text::{ReplayFault, fault_words};
 use framing::{Sink, Source, write_all};
 use std::alloc::Global;

@@ -130,7 +130,7 @@ with_link_rules a = with_rule (with_seconds (with_rule a reset_option)) peers_op
 abbrev pub with_journal : App → App
 with_journal a = with_rule (with_rule a fold_option) keep_option
 
--- `serve`, with its sixteen options
+-- `serve`, with its seventeen options
 abbrev pub serve_command : App
 serve_command = with_watchers (with_consoles (with_link_rules (with_journal (with_ports (with_common (new_app (codes "serve")))))))
 

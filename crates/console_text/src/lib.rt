@@ -2,11 +2,12 @@
 //!
 //! Octets become lines (`lines`), a line becomes words (`words`) and a `Line` (`grammar`), and a `Response` becomes text
 //! (`answer_text`). Begin with `line` and `response`; what they mean stands in `specs/Grammar` and `specs/Texts`. What the command
-//! line asks for is read by `options`.
+//! line asks for is read by `asked`; its commands and options stand in `options`.
 #![tactic(auto)]
 
 pub mod alert_heading;
 pub mod answer_text;
+pub mod asked;
 pub mod content_heading;
 mod digits;
 pub mod emergency_heading;

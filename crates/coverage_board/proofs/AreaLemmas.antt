@@ -5,7 +5,7 @@ use Rattle.std.proofs.lemmas.List.{drop_more}
 use Rattle.std.specs.Bool.{Decides}
 use Rattle.std.specs.Cmp.{unsigned_Decides}
 use Rattle.std.specs.Cmp.Lexicographic.{pointwise_decides}
-use Rattle.std.specs.List.{list_any}
+use Rattle.std.specs.List.{list_any, AllZip}
 use Rattle.std.specs.Map.{lookup, lookup_key}
 use Rattle.common.specs.Order.{each_once}
 use Rattle.coverage_board.specs.AreaSets.{names_at}
@@ -86,6 +86,13 @@ no_entries (e ∷ es) kept zero = step (bytes_eq e.0 e.0) ((names_decide e.0 e.0
     step : (t : Bool) → t ≡ true → cond t (Some e.1) (lookup (bytes_eq e.0) es) ≡ None → ◌≡◌ {A = List (List ℕ × Numbers)} (e ∷ es) []
     step true h g = cc
     step false h g = cc
+
+-- where each entry of a copy is like that of the list, the copy is the list
+pub same_entries : {K X : Type 0} (xs ys : List (K × X)) → AllZip (λ (p q : K × X). (q.0 ≡ p.0) × (q.1 ≡ p.1)) xs ys → ys ≡ xs
+same_entries [] [] h = refl
+same_entries [] (y ∷ ys) h = absurd h
+same_entries (x ∷ xs) [] h = absurd h
+same_entries (x ∷ xs) (y ∷ ys) h = λ i. (h.0.0 i, h.0.1 i) ∷ same_entries xs ys h.1 i
 
 -- a key that is found is the one that was sought
 pub key_found : {K X : Type 0} (same : K → K → Bool) → ((a b : K) → Decides (same a b) (a ≡ b)) → (k : K) (entries : List (K × X)) (x : K) → lookup_key (same k) entries ≡ Some x → x ≡ k

@@ -1,6 +1,6 @@
 -- The first line of a journal's file.
 use Rattle.std.proofs.Common.{◌≡◌, ℕ, zero, suc, ◌+◌, ◌-◌, ◌*◌, ◌<◌, ◌≤◌, Bool, true, false, List, [], ◌∷◌, ◌++◌, length, take, drop, get_or, replicate, ◌≢◌, append_assoc, codes, cond, Result, Ok, Err, refl, sym, ap, subst, ◌∙◌, arith, inl, inr, length-append}
-use Rattle.std.proofs.lemmas.Bool.{cases_lt, eqb-true}
+use Rattle.std.proofs.lemmas.Bool.{cases_lt, eqb-true, ne_eqb}
 use Rattle.std.proofs.lemmas.List.{drop-append-le, drop_all, get_or_append_left, get_or-take, length-take-le, take-append-le, take_all}
 use Rattle.std.proofs.Math.Seq.{take-suc}
 use Rattle.std.specs.Prelude.{◌==◌, IsUtf8, decimal}
@@ -53,8 +53,8 @@ parts_read line digits end six is = (
 )
 
 -- a number that isn't 0 is said
-pub said : (n : ℕ) (digits : List ℕ) → (n == 0) ≡ false → digits ≡ decimal n → codes ", broadcasts " ++ digits ≡ broadcasts_text n
-said n digits some is = ap (λ s. codes ", broadcasts " ++ s) is ∙ ap (λ b. cond b [] (codes ", broadcasts " ++ decimal n)) (sym some)
+pub said : (n : ℕ) (digits : List ℕ) → n ≢ 0 → digits ≡ decimal n → codes ", broadcasts " ++ digits ≡ broadcasts_text n
+said n digits some is = ap (λ s. codes ", broadcasts " ++ s) is ∙ ap (λ b. cond b [] (codes ", broadcasts " ++ decimal n)) (sym (ne_eqb n 0 some))
 
 -- where nothing stands behind the network the number is 0
 pub none_read : (n : ℕ) (end : List ℕ) → end ≡ [] → end ≡ broadcasts_text n → n ≡ 0

@@ -4,10 +4,14 @@ ghost use Rattle.std.specs.Prelude.{◌≡◌};
 ghost use Rattle.link_resets.specs.Alive.{alive_complete, alive_frame, period_code};
 
 /// The frame of a KEEP ALIVE COMPLETE.
-pub const KEEP_ALIVE_COMPLETE: [u8; 4] = [0x17, 0x00, 0x00, 0x00];
+pub fn alive_complete() -> [u8; 4]
+    ensures { result ≡ alive_complete }
+{
+    [0x17, 0x00, 0x00, 0x00]
+}
 
-/// The Keep Alive Repetition Period of so many seconds (3GPP TS 48.049, 8.2.28 and 8.2.25), or of the next longer time that has a
-/// code; at most two minutes.
+/// The Keep Alive Repetition Period of so many seconds, in the code of a Warning Period (3GPP TS 48.049, 8.2.25), or of the next
+/// longer time that has a code; at most two minutes.
 fn period_code(seconds: u32) -> u8
     ensures { result ≡ period_code seconds }
 {

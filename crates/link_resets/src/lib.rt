@@ -16,7 +16,7 @@ mod judging;
 mod reset_answer;
 mod reset_watch;
 
-pub use alive_frames::{KEEP_ALIVE_COMPLETE, alive_frame};
+pub use alive_frames::{alive_complete, alive_frame};
 pub use alive_seen::AliveSeen;
 pub use alive_watch::AliveWatch;
 pub use emergencies::emergency_keys;

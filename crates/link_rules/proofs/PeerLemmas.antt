@@ -112,7 +112,7 @@ going_ends of now old left all false none going = λ are. omega (arith, are.0, a
 one_number : (word : List ℕ) (a b : ℕ) → IsBscText word a → IsBscText word b → a ≡ b
 one_number word a b of_a of_b = sym of_a.0.1 ∙ of_b.0.1
 
--- what the blockes behind a number say of the line
+-- what the blocks behind a number say of the line
 numbered : (bsc : ℕ) (word : List ℕ) (words : List (List ℕ)) (old new : List Peer) (good : Bool) → is_comment word ≡ false → IsBscText word bsc
     → MatchBool good (AreAddresses words × Adds (NamesFor bsc words) old new) (¬ AreAddresses words)
     → MatchBool good (IsReadable (word ∷ words) × Adds (Names (word ∷ words)) old new) (¬ IsReadable (word ∷ words))

@@ -1,5 +1,5 @@
 -- A BSC that says nothing: when it is sent a KEEP ALIVE (3GPP TS 48.049, 8.1.3), and when its link is cut.
-use Rattle.std.specs.Prelude.{ℕ, ◌-◌, ◌*◌, ◌/◌, Bool, true, false, ◌&&◌, not, nat_eq, nat_le, Option, Some, None, if◌then◌else◌}
+use Rattle.std.specs.Prelude.{ℕ, ◌-◌, ◌*◌, ◌/◌, Bool, true, false, ◌&&◌, not, nat_eq, nat_le, Some, None, if◌then◌else◌}
 use Rattle.link_rules.specs.declared.alive_pace.AlivePace.{AlivePace}
 use Rattle.link_rules.specs.declared.alive_step.AliveStep.{AliveStep}
 use Rattle.link_rules.specs.declared.alive_step.AliveStep.TheVariants.{Wait, Ask, Tell, Cut}

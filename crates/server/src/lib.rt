@@ -13,6 +13,7 @@ mod looking;
 mod operators;
 mod options;
 mod peers_file;
+mod peers_source;
 mod picturing;
 mod ports;
 mod running_server;
@@ -21,4 +22,6 @@ mod threads;
 
 pub use fault::ServeFault;
 pub use options::ServeOptions;
+pub use peers_file::PeersError;
+pub use peers_source::PeersSource;
 pub use serving::{serve, serve_words, settle};

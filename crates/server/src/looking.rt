@@ -2,6 +2,7 @@
 
 use crate::fault::ServeFault;
 use crate::options::ServeOptions;
+use crate::peers_source::PeersSource;
 use crate::picturing::RunningPictures;
 use crate::threads::run_keeper;
 use console_text::ReplayFault;
@@ -72,7 +73,12 @@ pub(crate) fn open_looking<
 pub(crate) fn run_looking<
     'x,
     L: Ledger + Send + Sync,
-    R: Files + Wait + Threads + Clock + Sync + Net<Stream = TcpStream, Listener = TcpListener>,
+    R: PeersSource
+        + Wait
+        + Threads
+        + Clock
+        + Sync
+        + Net<Stream = TcpStream, Listener = TcpListener>,
     I: BufRead + Send + Drop,
     W: Write + Send + Drop,
     E: Write + Send + Drop,

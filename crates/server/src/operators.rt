@@ -3,13 +3,13 @@
 ghost use Rattle.std.specs.Prelude.{◌≡◌};
 ghost use Rattle.server.specs.Ends.{ends_program};
 
+use crate::peers_source::PeersSource;
 use crate::running_server::RunningServer;
 use console_text::ReplayFault;
 use server_consoles::{Consoles, accept_consoles, serve_console};
 use server_errors::say_of_centre;
 use server_links::Shared;
 use server_operator::{Leaving, Operator, Terminal, operate};
-use std::fs::Files;
 use std::io::{BufRead, Write};
 use std::sync::ledger::Ledger;
 use std::sync::{Mutex, Wait};
@@ -22,7 +22,7 @@ const FEWER: &str = "no thread can be started: there are fewer consoles";
 const UNTAKEN: &str = "no thread can be started: no console is taken";
 
 /// Serves the console of that slot.
-fn serve_at<L: Ledger, E: Write + Drop, R: Files + Wait + Clock>(
+fn serve_at<L: Ledger, E: Write + Drop, R: PeersSource + Wait + Clock>(
     rt: &R,
     shared: &Shared<L, E>,
     consoles: &Consoles<L>,
@@ -38,7 +38,7 @@ fn serve_at<L: Ledger, E: Write + Drop, R: Files + Wait + Clock>(
 }
 
 /// Takes the connections of the consoles.
-fn accept_at<L: Ledger, E: Write + Drop, R: Files + Wait + Clock>(
+fn accept_at<L: Ledger, E: Write + Drop, R: PeersSource + Wait + Clock>(
     rt: &R,
     shared: &Shared<L, E>,
     consoles: &Consoles<L>,
@@ -77,7 +77,7 @@ fn wait_for_consoles<L: Ledger, E: Write + Drop, R: Wait + Clock>(
 fn run_terminal<
     L: Ledger,
     E: Write + Drop,
-    R: Files + Wait + Clock,
+    R: PeersSource + Wait + Clock,
     I: BufRead + Drop,
     W: Write + Drop,
 >(
@@ -121,7 +121,7 @@ fn close_consoles<L: Ledger, E: Drop, R: Wait + Clock>(
 pub(crate) fn run_operators<
     'x,
     L: Ledger + Send + Sync,
-    R: Files + Wait + Threads + Clock + Sync,
+    R: PeersSource + Wait + Threads + Clock + Sync,
     I: BufRead + Send + Drop,
     W: Write + Send + Drop,
     E: Write + Send + Drop,

@@ -18,7 +18,7 @@ const MOST_OCTETS: u64 = 10_000_000;
 
 /// Why the file can't be taken.
 #[derive(Debug, Drop, Error)]
-pub(crate) enum PeersError {
+pub enum PeersError {
     #[error("the file is too long")]
     TooLong,
     #[error("{0}")]

@@ -1,6 +1,6 @@
 //! The server, as its operator knows it.
 
-use crate::peers_file::load_peers;
+use crate::peers_source::PeersSource;
 use cell_register::BscId;
 use centre_events::refusal::Refusal;
 use journal_keeper::KeptUpTo;
@@ -10,7 +10,6 @@ use server_links::{Renamed, Shared};
 use server_operator::Server;
 use server_ports::Port;
 use std::alloc::{AllocError, Global};
-use std::fs::Files;
 use std::io::Write;
 use std::sync::Wait;
 use std::sync::ledger::Ledger;
@@ -36,7 +35,7 @@ pub(crate) struct RunningServer<'a, L: Ledger, E: Drop, F> {
     pub(crate) shared: &'a Shared<L, E>,
 }
 
-impl<'a, L: Ledger, E: Write + Drop, F: Files> RunningServer<'a, L, E, F> {
+impl<'a, L: Ledger, E: Write + Drop, F: PeersSource> RunningServer<'a, L, E, F> {
     /// The port of the BSC.
     fn port_of(&self, b: BscId) -> Option<&'a Port<L>> {
         self.shared.ports.iter().find(|port| port.bsc == b)
@@ -53,7 +52,7 @@ impl<'a, L: Ledger, E: Write + Drop, F: Files> RunningServer<'a, L, E, F> {
     }
 }
 
-impl<'a, L: Ledger, E: Write + Drop, F: Files> Server for RunningServer<'a, L, E, F> {
+impl<'a, L: Ledger, E: Write + Drop, F: PeersSource> Server for RunningServer<'a, L, E, F> {
     /// Has the simulated BSC of the port connect, or says that there is no port.
     fn added<R: Wait + Clock>(&self, rt: &R, b: BscId) {
         match self.port_of(b) {
@@ -97,7 +96,7 @@ impl<'a, L: Ledger, E: Write + Drop, F: Files> Server for RunningServer<'a, L, E
         let Some(name) = &self.shared.options.peers_file else {
             return String::from_str(alloc, "no peers: there is no --peers\n");
         };
-        match load_peers(self.files, alloc, name.as_str()) {
+        match self.files.load(alloc, name.as_str()) {
             Ok(peers) => renamed_text(alloc, self.shared.rename(rt, peers)),
             Err(why) => {
                 let text = format!(in alloc; "bad peers: {why}\n");
@@ -127,7 +126,7 @@ impl<'a, L: Ledger, E: Write + Drop, F: Files> Server for RunningServer<'a, L, E
     }
 }
 
-impl<'a, L: Ledger, E: Write + Drop, F: Files> Program for RunningServer<'a, L, E, F> {
+impl<'a, L: Ledger, E: Write + Drop, F: PeersSource> Program for RunningServer<'a, L, E, F> {
     fn end<R: Wait>(&self, rt: &R) {
         self.shared.close(rt);
     }

@@ -8,6 +8,7 @@ use crate::fault::ServeFault;
 use crate::journal::{begin_journal, open_journal};
 use crate::looking::{Looking, open_looking, run_looking};
 use crate::options::{OptionsFault, ServeOptions, read_options};
+use crate::peers_source::PeersSource;
 use crate::ports::{Opened, open_desks, open_ports};
 use console_text::{ReplayFault, fault_words};
 use journal_file::DiskFile;
@@ -59,7 +60,13 @@ pub fn settle<L: Ledger, W: Write>(
 /// Serves until the lines of the operators end, from desks of the ports and the consoles.
 fn run_from_desks<
     L: Ledger + Send + Sync,
-    R: Files + Wait + Threads + Clock + Sync + Net<Stream = TcpStream, Listener = TcpListener>,
+    R: Files
+        + PeersSource
+        + Wait
+        + Threads
+        + Clock
+        + Sync
+        + Net<Stream = TcpStream, Listener = TcpListener>,
     I: BufRead + Send + Drop,
     W: Write + Send + Drop,
     E: Write + Send + Drop,
@@ -87,7 +94,13 @@ fn run_from_desks<
 /// the desks.
 fn run_desks<
     L: Ledger + Send + Sync,
-    R: Files + Wait + Threads + Clock + Sync + Net<Stream = TcpStream, Listener = TcpListener>,
+    R: Files
+        + PeersSource
+        + Wait
+        + Threads
+        + Clock
+        + Sync
+        + Net<Stream = TcpStream, Listener = TcpListener>,
     I: BufRead + Send + Drop,
     W: Write + Send + Drop,
     E: Write + Send + Drop,
@@ -173,7 +186,13 @@ fn end<L: Ledger, R: Wait, I: BufRead + Drop, W: Write + Drop, E: Write + Drop>(
 /// Serves over an office of what is open, and settles it.
 fn run_begun<
     L: Ledger + Send + Sync,
-    R: Files + Wait + Threads + Clock + Sync + Net<Stream = TcpStream, Listener = TcpListener>,
+    R: Files
+        + PeersSource
+        + Wait
+        + Threads
+        + Clock
+        + Sync
+        + Net<Stream = TcpStream, Listener = TcpListener>,
     I: BufRead + Send + Drop,
     W: Write + Send + Drop,
     E: Write + Send + Drop,
@@ -208,7 +227,7 @@ fn run_begun<
         ports,
         errors,
         options: LinkOptions {
-            plmn: options.plmn,
+            plmn: options.network.plmn,
             reset: options.reset,
             reply_seconds: options.reply_seconds,
             cut_seconds: options.cut_seconds,
@@ -239,6 +258,7 @@ fn run_begun<
 fn run<
     L: Ledger + Send + Sync,
     R: Files<File = File>
+        + PeersSource
         + Wait
         + Threads
         + Clock
@@ -270,6 +290,7 @@ fn run<
 /// Serves over an office of its own.
 fn run_office<
     R: Files<File = File>
+        + PeersSource
         + Wait
         + Threads
         + Clock
@@ -302,6 +323,7 @@ fn run_office<
 /// `settle fault`, or what ended the lines: `read fault`, `write fault`, `line too long` or `out of memory`.
 pub fn serve<
     R: Files<File = File>
+        + PeersSource
         + Wait
         + Threads
         + Clock
@@ -332,6 +354,7 @@ pub fn serve<
 /// where the network, the ports or the address of the page are bad: `cbc: bad plmn`, `cbc: bad ports` or `cbc: bad http` is said then.
 pub fn serve_words<
     R: Files<File = File>
+        + PeersSource
         + Wait
         + Threads
         + Clock

@@ -1,6 +1,7 @@
 //! The threads of a run, in scopes one inside the other. The innermost answers the lines of the operators.
 
 use crate::operators::run_operators;
+use crate::peers_source::PeersSource;
 use console_text::ReplayFault;
 use journal_file::DiskFile;
 use journal_keeper::Keeper;
@@ -11,7 +12,6 @@ use server_links::{
 };
 use server_operator::Terminal;
 use server_ports::Port;
-use std::fs::Files;
 use std::io::{BufRead, Write};
 use std::net::{Net, TcpListener, TcpStream};
 use std::sync::ledger::Ledger;
@@ -27,7 +27,12 @@ const UNWATCHED: &str =
 fn run_simulators<
     'x,
     L: Ledger + Send + Sync,
-    R: Files + Wait + Threads + Clock + Sync + Net<Stream = TcpStream, Listener = TcpListener>,
+    R: PeersSource
+        + Wait
+        + Threads
+        + Clock
+        + Sync
+        + Net<Stream = TcpStream, Listener = TcpListener>,
     I: BufRead + Send + Drop,
     W: Write + Send + Drop,
     E: Write + Send + Drop,
@@ -55,7 +60,12 @@ fn run_simulators<
 fn run_watch<
     'x,
     L: Ledger + Send + Sync,
-    R: Files + Wait + Threads + Clock + Sync + Net<Stream = TcpStream, Listener = TcpListener>,
+    R: PeersSource
+        + Wait
+        + Threads
+        + Clock
+        + Sync
+        + Net<Stream = TcpStream, Listener = TcpListener>,
     I: BufRead + Send + Drop,
     W: Write + Send + Drop,
     E: Write + Send + Drop,
@@ -78,7 +88,12 @@ fn run_watch<
 fn run_acceptors<
     'x,
     L: Ledger + Send + Sync,
-    R: Files + Wait + Threads + Clock + Sync + Net<Stream = TcpStream, Listener = TcpListener>,
+    R: PeersSource
+        + Wait
+        + Threads
+        + Clock
+        + Sync
+        + Net<Stream = TcpStream, Listener = TcpListener>,
     I: BufRead + Send + Drop,
     W: Write + Send + Drop,
     E: Write + Send + Drop,
@@ -103,7 +118,12 @@ fn run_acceptors<
 fn run_writers<
     'x,
     L: Ledger + Send + Sync,
-    R: Files + Wait + Threads + Clock + Sync + Net<Stream = TcpStream, Listener = TcpListener>,
+    R: PeersSource
+        + Wait
+        + Threads
+        + Clock
+        + Sync
+        + Net<Stream = TcpStream, Listener = TcpListener>,
     I: BufRead + Send + Drop,
     W: Write + Send + Drop,
     E: Write + Send + Drop,
@@ -128,7 +148,12 @@ fn run_writers<
 fn run_readers<
     'x,
     L: Ledger + Send + Sync,
-    R: Files + Wait + Threads + Clock + Sync + Net<Stream = TcpStream, Listener = TcpListener>,
+    R: PeersSource
+        + Wait
+        + Threads
+        + Clock
+        + Sync
+        + Net<Stream = TcpStream, Listener = TcpListener>,
     I: BufRead + Send + Drop,
     W: Write + Send + Drop,
     E: Write + Send + Drop,
@@ -154,7 +179,12 @@ fn run_readers<
 fn run_threads<
     'x,
     L: Ledger + Send + Sync,
-    R: Files + Wait + Threads + Clock + Sync + Net<Stream = TcpStream, Listener = TcpListener>,
+    R: PeersSource
+        + Wait
+        + Threads
+        + Clock
+        + Sync
+        + Net<Stream = TcpStream, Listener = TcpListener>,
     I: BufRead + Send + Drop,
     W: Write + Send + Drop,
     E: Write + Send + Drop,
@@ -178,7 +208,12 @@ fn run_threads<
 pub(crate) fn run_keeper<
     'x,
     L: Ledger + Send + Sync,
-    R: Files + Wait + Threads + Clock + Sync + Net<Stream = TcpStream, Listener = TcpListener>,
+    R: PeersSource
+        + Wait
+        + Threads
+        + Clock
+        + Sync
+        + Net<Stream = TcpStream, Listener = TcpListener>,
     I: BufRead + Send + Drop,
     W: Write + Send + Drop,
     E: Write + Send + Drop,

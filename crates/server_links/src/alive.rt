@@ -2,7 +2,7 @@
 
 use crate::incoming::Incoming;
 use crate::shared::now_of;
-use link_resets::{AliveSeen, KEEP_ALIVE_COMPLETE, alive_frame};
+use link_resets::{AliveSeen, alive_complete, alive_frame};
 use link_rules::AliveStep;
 use server_ports::Shut;
 use std::io::Write;
@@ -25,7 +25,7 @@ impl<'a, L: Ledger, E: Write + Drop, C: Wait + Clock> Incoming<'a, L, E, C> {
 
     /// Answers a KEEP ALIVE of the BSC's, where that is still to be done.
     fn answer_alive(&mut self) {
-        if self.owes && self.write_alive(&KEEP_ALIVE_COMPLETE) {
+        if self.owes && self.write_alive(&alive_complete()) {
             self.owes = false;
         }
     }

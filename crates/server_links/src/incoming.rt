@@ -1,6 +1,7 @@
 //! What is read from a connection.
 
-ghost use Rattle.std.specs.Io.{IsPrefixLen, ReadsAtMost};
+ghost use Rattle.std.specs.Counts.{IsPrefixLen};
+ghost use Rattle.std.specs.Io.{ReadsAtMost};
 ghost use Rattle.std.specs.Prelude.{IfOk, IfSome};
 
 use crate::shared::Shared;

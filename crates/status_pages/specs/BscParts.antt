@@ -37,9 +37,17 @@ link_class b = if is_in_service b then codes "up" else codes "down"
 unfoldable pub link_html : BscFigures → List ℕ
 link_html b = codes "<p class=\"" ++ (link_class b ++ (codes "\">link " ++ link_word b))
 
--- its cells, and how many orders are pending for it
-unfoldable pub counts_html : BscRow → List ℕ
-counts_html r = codes "<p>cells <b>" ++ (decimal r.cells ++ (codes "</b></p><p>pending <b>" ++ (decimal r.pending ++ codes "</b></p>")))
+-- how many cells it has
+unfoldable pub cells_html : ℕ → List ℕ
+cells_html count = codes "<p>cells <b>" ++ (decimal count ++ codes "</b></p>")
+
+-- how many orders are pending for it
+unfoldable pub pending_html : ℕ → List ℕ
+pending_html count = codes "<p>pending <b>" ++ (decimal count ++ codes "</b></p>")
+
+-- both
+unfoldable pub bsc_counts_html : BscRow → List ℕ
+bsc_counts_html r = cells_html r.cells ++ pending_html r.pending
 
 -- a number of seconds
 unfoldable pub seconds_html : ℕ → List ℕ
@@ -67,7 +75,7 @@ bsc_html taken b =
     bsc_front taken b
     ++ (link_html b
     ++ (out_for taken b.reset
-    ++ (counts_html b.row ++ (flight_if taken b.row.flight b.since ++ piece_html piece.ArticleEnd))))
+    ++ (bsc_counts_html b.row ++ (flight_if taken b.row.flight b.since ++ piece_html piece.ArticleEnd))))
 
 -- a BSC, if it stands so
 abbrev pub bsc_if : ℕ → Standing → BscFigures → List ℕ

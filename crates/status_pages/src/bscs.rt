@@ -2,7 +2,7 @@
 
 ghost use Rattle.std.specs.Prelude.{◌≡◌, ◌++◌, OnOk};
 ghost use Rattle.std.specs.List.{flat_map};
-ghost use Rattle.status_pages.specs.BscParts.{bsc_front, bsc_html, bsc_if, bscs_html, bscs_section, bscs_title, counts_html, flight_html, flight_if, front_with, link_class, link_html, out_for, seconds_html, some_bscs};
+ghost use Rattle.status_pages.specs.BscParts.{bsc_counts_html, bsc_front, bsc_html, bsc_if, bscs_html, bscs_section, bscs_title, cells_html, flight_html, flight_if, front_with, link_class, link_html, out_for, pending_html, seconds_html, some_bscs};
 
 use crate::piece::{Piece, push_piece};
 use crate::standing::Standing;
@@ -67,14 +67,29 @@ fn push_link(alloc: Global, out: &mut Vec<u8>, bsc: &BscFigures) -> Result<(), A
     out.extend_from_slice(text.as_bytes())
 }
 
-#[tactic(auto, unfolding(crate::specs::BscParts::counts_html))]
-fn push_counts(alloc: Global, out: &mut Vec<u8>, row: &BscRow) -> Result<(), AllocError>
-    ensures { OnOk result (out.new.items ≡ out.old.items ++ counts_html row.now) }
+#[tactic(auto, unfolding(crate::specs::BscParts::cells_html))]
+fn push_cells(alloc: Global, out: &mut Vec<u8>, count: usize) -> Result<(), AllocError>
+    ensures { OnOk result (out.new.items ≡ out.old.items ++ cells_html count) }
 {
-    let cells = row.cells;
-    let pending = row.pending;
-    let text = format!(in alloc; "<p>cells <b>{cells}</b></p><p>pending <b>{pending}</b></p>")?;
+    let text = format!(in alloc; "<p>cells <b>{count}</b></p>")?;
     out.extend_from_slice(text.as_bytes())
+}
+
+#[tactic(auto, unfolding(crate::specs::BscParts::pending_html))]
+fn push_pending(alloc: Global, out: &mut Vec<u8>, count: usize) -> Result<(), AllocError>
+    ensures { OnOk result (out.new.items ≡ out.old.items ++ pending_html count) }
+{
+    let text = format!(in alloc; "<p>pending <b>{count}</b></p>")?;
+    out.extend_from_slice(text.as_bytes())
+}
+
+/// Appends how many cells it has, and how many orders are pending for it.
+#[tactic(auto, unfolding(crate::specs::BscParts::bsc_counts_html))]
+fn push_bsc_counts(alloc: Global, out: &mut Vec<u8>, row: &BscRow) -> Result<(), AllocError>
+    ensures { OnOk result (out.new.items ≡ out.old.items ++ bsc_counts_html row.now) }
+{
+    push_cells(alloc, out, row.cells)?;
+    push_pending(alloc, out, row.pending)
 }
 
 fn push_out_for(
@@ -140,7 +155,7 @@ fn push_bsc(
     push_front(alloc, out, taken, bsc)?;
     push_link(alloc, out, bsc)?;
     push_out_for(alloc, out, taken, bsc.reset)?;
-    push_counts(alloc, out, &bsc.row)?;
+    push_bsc_counts(alloc, out, &bsc.row)?;
     push_flight_if(alloc, out, taken, bsc.row.flight, bsc.since)?;
     push_piece(out, Piece::ArticleEnd)
 }

@@ -6,9 +6,10 @@ use crate::checks::{same, yes};
 use crate::console::is_told;
 use crate::given_texts::{Wanted, has, has_time, plain};
 use crate::peer::{PATIENCE, connected, fails, gets, is_closed, next_frame, sends};
+use crate::text_files::TextFiles;
 use centre_events::network::Network;
 use console_text::options::{FOLD, MOST_ENTRIES};
-use server::{ServeOptions, serve, serve_words};
+use server::{PeersSource, ServeOptions, serve, serve_words};
 use server_errors::{line_text, utc_text};
 use server_ports::LinkLimits;
 use std::alloc::Global;
@@ -18,9 +19,9 @@ use std::net::{Net, Shutdown, TcpListener, TcpStream};
 use std::os::unix::net::UnixStream;
 use std::process::Abort;
 use std::sync::Wait;
+use std::thread;
 use std::thread::Threads;
 use std::time::{Clock, Duration, SystemTime};
-use std::{fs, thread};
 
 /// How often something is looked for that is to come.
 const MOST_LOOKS: u32 = 20_000;
@@ -277,12 +278,7 @@ fn plays<R: Abort + Clock>(rt: &R, peer: &mut TcpStream, act: &Act) {
 }
 
 /// Does the act.
-fn does<R: Abort + Clock + Files<File = File> + Net>(
-    rt: &R,
-    alloc: Global,
-    stage: &mut Stage,
-    act: &Act,
-) {
+fn does<R: Abort + Clock + Net + TextFiles>(rt: &R, alloc: Global, stage: &mut Stage, act: &Act) {
     match act {
         Act::Types(line, answer) => {
             yes(rt, is_answered(rt, alloc, stage, line, answer), answer);
@@ -300,7 +296,7 @@ fn does<R: Abort + Clock + Files<File = File> + Net>(
         }
         Act::Lines(lines, answers) => types_all(rt, alloc, stage, lines, *answers),
         Act::Comment(octets) => types_comment(stage, *octets),
-        Act::Stands(path, text) => fs::write(rt, *path, *text).expect(rt, "the file is written"),
+        Act::Stands(path, text) => yes(rt, rt.put(path, text), path),
         Act::Ends => ends(rt, stage),
         Act::Asks(path, line, answer) => yes(rt, is_told(rt, path, line, answer), answer),
         Act::Says(text) => says(rt, alloc, stage, text),
@@ -324,7 +320,7 @@ fn rest_of(rt: &impl Abort, alloc: Global, reader: &mut BufReader<UnixStream>) -
 }
 
 /// Does the acts one after another, and types no more. The answer is what the server still answers and says.
-fn acts_all<R: Abort + Clock + Files<File = File> + Net>(
+fn acts_all<R: Abort + Clock + Net + TextFiles>(
     rt: &R,
     alloc: Global,
     mut stage: Stage,
@@ -452,6 +448,7 @@ fn runs<
         + Files<File = File>
         + Net<Stream = TcpStream, Listener = TcpListener>
         + Sync
+        + PeersSource
         + Threads
         + Wait,
 >(rt: &R, alloc: Global, words: &[String], options: Option<&ServeOptions>, near: Near) -> u8 {
@@ -503,6 +500,8 @@ fn ran<
         + Files<File = File>
         + Net<Stream = TcpStream, Listener = TcpListener>
         + Sync
+        + PeersSource
+        + TextFiles
         + Threads
         + Wait,
 >(rt: &R, alloc: Global, play: &Play, base: u16) -> (u8, Vec<u8>, Vec<u8>) {
@@ -527,6 +526,8 @@ pub(crate) fn played<
         + Files<File = File>
         + Net<Stream = TcpStream, Listener = TcpListener>
         + Sync
+        + PeersSource
+        + TextFiles
         + Threads
         + Wait,
 >(rt: &R, alloc: Global, play: &Play) {

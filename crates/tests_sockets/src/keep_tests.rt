@@ -4,7 +4,9 @@
 use crate::checks::yes;
 use crate::given_plays::{Act, Play, USUAL, played};
 use crate::given_texts::Wanted;
+use crate::text_files::TextFiles;
 use journal_file::DiskFile;
+use server::PeersSource;
 use std::alloc::Global;
 use std::fs;
 use std::fs::{File, Files};
@@ -37,6 +39,8 @@ fn keeps<
         + Files<File = File>
         + Net<Stream = TcpStream, Listener = TcpListener>
         + Sync
+        + PeersSource
+        + TextFiles
         + Threads
         + Wait,
 >(rt: &R, kept: &Kept) {

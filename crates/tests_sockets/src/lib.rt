@@ -33,4 +33,6 @@ mod serving_tests;
 #[cfg(test)]
 mod settle_tests;
 #[cfg(test)]
+mod text_files;
+#[cfg(test)]
 mod word_tests;

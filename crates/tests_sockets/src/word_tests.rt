@@ -182,7 +182,8 @@ fn a_number_of_broadcasts_is_requested(rt: HostRuntime) {
 
 /// The front of a WRITE-REPLACE of message 4370 with serial number C000 in cell 100 7, to the number of its pages. Behind 07 is the
 /// Number of Broadcasts Requested.
-const WRITE: &[u8] = b"\x01\x00\x00\x70\x0e\x11\x12\x03\xc0\x00\x04\x00\x05\x01\x00\x64\x00\x07\x12\x00\x05\x00\x06\x00\x1e\x07\xff\xff\x13\x01";
+const WRITE: &[u8] =
+    b"\x01\x00\x00\x70\x0e\x11\x12\x03\xc0\x00\x04\x00\x05\x01\x00\x64\x00\x07\x12\x00\x05\x00\x06\x00\x1e\x07\xff\xff\x13\x01";
 
 const REQUESTED: Play = Play {
     words: &["--broadcasts", "65535"],

@@ -43,13 +43,7 @@ fn send_answer(alloc: Global, requested: u16, book: &Book, order: Option<Order>)
 
 /// Send: takes the first pending order of a BSC, over its link. A message that broadcasts pages requests so many broadcasts.
 /// Whether an order is pending is asked before any memory is taken.
-pub(crate) fn send(
-    alloc: Global,
-    requested: u16,
-    kept: &Kept,
-    b: BscId,
-    generation: u64,
-) -> Verdict
+pub(crate) fn send(alloc: Global, requested: u16, kept: &Kept, b: BscId, generation: u64) -> Verdict
     ensures { (settings : Settings) (past : Past) → Legal settings past → IsKept past kept.now → IsListOf (all_actions past b) kept.now.tables.pending b → Gives (send requested past b generation) result }
 {
     check_link(kept.links.as_slice(), kept.plan.register(), b, generation)?;

@@ -1,8 +1,8 @@
-use Rattle.std.proofs.Common.{◌≡◌, Some, None, ◌∙◌, ap, rules}
+use Rattle.std.proofs.Common.{◌≡◌, ◌∙◌, ap, rules}
 use Rattle.std.specs.Cmp.Lexicographic.{nat_list_eq_equiv}
 use Rattle.indexmap.proofs.CallerLemmas.{updates-with_value_at}
 use Rattle.coverage_board.specs.Numbers.{zero_numbers, less, added, moved}
-use Rattle.coverage_board.proofs.AreaLemmas.{IsSet, area_changed, area_without, areas_with, areas_without, entry_written}
+use Rattle.coverage_board.proofs.AreaLemmas.{area_changed, area_without, areas_with, areas_without, entry_written}
 use Rattle.coverage_board.proofs.area_numbers.move_there.Goals as goal
 
 pub returns-then-not-is_zero-clause-moved : goal.returns-then-not-is_zero-clause-moved

@@ -9,8 +9,8 @@ returns-in_default c n small is = absurd (c.in_default.ensures.cases.0 (decimal_
 -- and are read as it
 pub returns-in-Ok-parse : goal.returns-in-Ok-parse
 returns-in-Ok-parse c n small is =
-    cc (sym c.in-Ok-parse.is ∙ number_reads n c.in-Ok.text.now c.parse.result small (c.in-Ok.ensures.cases.0 ∙ is) c.parse.ensures.0)
+    cc (sym c.in-Ok-parse.is ∙ number_reads n c.in-Ok.text.now c.parse.result small (c.in-Ok.ensures.cases.0 ∙ is) c.parse.ensures.value.0)
 
 pub returns-in-Err : goal.returns-in-Err
 returns-in-Err c n small is =
-    cc (sym c.in-Err.is ∙ number_reads n c.in-Ok.text.now c.parse.result small (c.in-Ok.ensures.cases.0 ∙ is) c.parse.ensures.0)
+    cc (sym c.in-Err.is ∙ number_reads n c.in-Ok.text.now c.parse.result small (c.in-Ok.ensures.cases.0 ∙ is) c.parse.ensures.value.0)

@@ -54,7 +54,7 @@ returns-in_err-reached-clause-refusal c =
 pub returns-in_err-reached-clause-lines : goal.returns-in_err-reached-clause-lines
 returns-in_err-reached-clause-lines c =
     let centre = whole (goal.at.returns-in_err-reached-clause-lines c).After-prepare_edit in
-    rw (← c.self.view_is) (lines_most c.self.inside.base.begun (edit_lines c.self.inside.settings (past_over c.self.inside.journal.folded c.self.inside.journal.entries) c.args.edit c.self.inside.kept.tables.lines.meter c.prepare_edit.new.kept.tables.lines.meter (c.prepare_edit.ensures.meter centre)))
+    rw (← c.self.view_is) (lines_most c.self.inside.base.begun _ _ _ (edit_lines c.self.inside.settings (past_over c.self.inside.journal.folded c.self.inside.journal.entries) c.args.edit c.self.inside.kept.tables.lines.meter c.prepare_edit.new.kept.tables.lines.meter (c.prepare_edit.ensures.meter centre)))
 
 pub invariant_of-self-in_err-answer : goal.invariant_of-self-in_err-answer
 invariant_of-self-in_err-answer c =
@@ -69,7 +69,7 @@ returns-in_err-answer-clause-refusal c =
 pub returns-in_err-answer-clause-lines : goal.returns-in_err-answer-clause-lines
 returns-in_err-answer-clause-lines c =
     let centre = whole (goal.at.returns-in_err-answer-clause-lines c).After-prepare_edit in
-    rw (← c.self.view_is, c.in_err-answer.ensures.unchanged) (lines_most c.self.inside.base.begun (edit_lines c.self.inside.settings (past_over c.self.inside.journal.folded c.self.inside.journal.entries) c.args.edit c.self.inside.kept.tables.lines.meter c.prepare_edit.new.kept.tables.lines.meter (c.prepare_edit.ensures.meter centre)))
+    rw (← c.self.view_is, c.in_err-answer.ensures.unchanged) (lines_most c.self.inside.base.begun _ _ _ (edit_lines c.self.inside.settings (past_over c.self.inside.journal.folded c.self.inside.journal.entries) c.args.edit c.self.inside.kept.tables.lines.meter c.prepare_edit.new.kept.tables.lines.meter (c.prepare_edit.ensures.meter centre)))
 
 pub enter-requires-clause-finishes : goal.enter-requires-clause-finishes
 enter-requires-clause-finishes c = (enters (goal.at.enter-requires-clause-finishes c).After-position-place).known
@@ -80,7 +80,7 @@ returns-in_err-enter-clause-refusal c =
     refuses_starved c.args.self.now.known (event.Edit c.args.edit) c.from_residual-in_err-enter.result c.from_residual-in_err-enter.ensures.1 c.requires.whole (rw (← c.self.view_is) (c.in_ok-reached.ensures.accepted centre))
 
 pub returns-in_err-enter-clause-lines : goal.returns-in_err-enter-clause-lines
-returns-in_err-enter-clause-lines c = rw (← c.self.view_is) (lines_most c.self.inside.base.begun (lines (goal.at.returns-in_err-enter-clause-lines c).After-enter))
+returns-in_err-enter-clause-lines c = rw (← c.self.view_is) (lines_most c.self.inside.base.begun _ _ _ (lines (goal.at.returns-in_err-enter-clause-lines c).After-enter))
 
 pub invariant_of-self-in_err-enter : goal.invariant_of-self-in_err-enter
 invariant_of-self-in_err-enter c =
@@ -100,16 +100,16 @@ pub returns-clause-answer : goal.returns-clause-answer
 returns-clause-answer c = rw (← c.self.view_is, c.in_ok-entry.ensures.answer) (given (goal.at.returns-clause-answer c).In_ok-answer)
 
 pub returns-clause-lines : goal.returns-clause-lines
-returns-clause-lines c = rw (← c.self.view_is) (lines_most c.self.inside.base.begun (lines (goal.at.returns-clause-lines c).After-enter))
+returns-clause-lines c = rw (← c.self.view_is) (lines_most c.self.inside.base.begun _ _ _ (lines (goal.at.returns-clause-lines c).After-enter))
 
 pub returns-in_err-reached-clause-least : goal.returns-in_err-reached-clause-least
-returns-in_err-reached-clause-least c = rw (← c.self.view_is) (lines_least c.self.inside.base.begun c.prepare_edit.ensures.reads.tables.meter)
+returns-in_err-reached-clause-least c = rw (← c.self.view_is) (lines_least c.self.inside.base.begun _ _ c.prepare_edit.ensures.reads.tables.meter)
 
 pub returns-in_err-answer-clause-least : goal.returns-in_err-answer-clause-least
-returns-in_err-answer-clause-least c = rw (← c.self.view_is, c.in_err-answer.ensures.unchanged) (lines_least c.self.inside.base.begun c.prepare_edit.ensures.reads.tables.meter)
+returns-in_err-answer-clause-least c = rw (← c.self.view_is, c.in_err-answer.ensures.unchanged) (lines_least c.self.inside.base.begun _ _ c.prepare_edit.ensures.reads.tables.meter)
 
 pub returns-in_err-enter-clause-least : goal.returns-in_err-enter-clause-least
-returns-in_err-enter-clause-least c = rw (← c.self.view_is) (lines_least c.self.inside.base.begun (risen (goal.at.returns-in_err-enter-clause-least c).After-enter))
+returns-in_err-enter-clause-least c = rw (← c.self.view_is) (lines_least c.self.inside.base.begun _ _ (risen (goal.at.returns-in_err-enter-clause-least c).After-enter))
 
 pub returns-clause-least : goal.returns-clause-least
-returns-clause-least c = rw (← c.self.view_is) (lines_least c.self.inside.base.begun (risen (goal.at.returns-clause-least c).After-enter))
+returns-clause-least c = rw (← c.self.view_is) (lines_least c.self.inside.base.begun _ _ (risen (goal.at.returns-clause-least c).After-enter))

@@ -49,19 +49,19 @@ returns-in-Err-clause-refusal c =
     refuses c.args.self.now.known c.args.event (Err c.in-Err.refusal) c.in-Err.refusal refl c.requires.whole (rw (← c.self.view_is) (c.in-Err.ensures.refusal centre))
 
 pub returns-in-Err-clause-lines : goal.returns-in-Err-clause-lines
-returns-in-Err-clause-lines c = rw (← c.self.view_is) (lines_most c.self.inside.base.begun (looked (goal.at.returns-in-Err-clause-lines c).After-prepare_other))
+returns-in-Err-clause-lines c = rw (← c.self.view_is) (lines_most c.self.inside.base.begun _ _ _ (looked (goal.at.returns-in-Err-clause-lines c).After-prepare_other))
 
 pub invariant_of-self-in_err-entry : goal.invariant_of-self-in_err-entry
 invariant_of-self-in_err-entry c = centre_after c.self.invariant c.prepare_other.ensures.folded c.prepare_other.ensures.entries c.prepare_other.ensures.reads
 
 pub returns-in_err-entry-clause-lines : goal.returns-in_err-entry-clause-lines
-returns-in_err-entry-clause-lines c = rw (← c.self.view_is) (lines_most c.self.inside.base.begun (looked (goal.at.returns-in_err-entry-clause-lines c).After-prepare_other))
+returns-in_err-entry-clause-lines c = rw (← c.self.view_is) (lines_most c.self.inside.base.begun _ _ _ (looked (goal.at.returns-in_err-entry-clause-lines c).After-prepare_other))
 
 pub enter-requires-clause-finishes : goal.enter-requires-clause-finishes
 enter-requires-clause-finishes c = (enters (goal.at.enter-requires-clause-finishes c).After-position-place).known
 
 pub returns-in_err-enter-clause-lines : goal.returns-in_err-enter-clause-lines
-returns-in_err-enter-clause-lines c = rw (← c.self.view_is) (lines_most c.self.inside.base.begun (lines (goal.at.returns-in_err-enter-clause-lines c).After-enter))
+returns-in_err-enter-clause-lines c = rw (← c.self.view_is) (lines_most c.self.inside.base.begun _ _ _ (lines (goal.at.returns-in_err-enter-clause-lines c).After-enter))
 
 pub invariant_of-self-in_err-enter : goal.invariant_of-self-in_err-enter
 invariant_of-self-in_err-enter c =
@@ -84,16 +84,16 @@ invariant_of-self-2 c =
     (kept_entered (enters (goal.at.invariant_of-self-2 c).After-position-place) c.in_ok-enter.ensures.kept)
 
 pub returns-clause-lines : goal.returns-clause-lines
-returns-clause-lines c = rw (← c.self.view_is) (lines_most c.self.inside.base.begun (lines (goal.at.returns-clause-lines c).After-enter))
+returns-clause-lines c = rw (← c.self.view_is) (lines_most c.self.inside.base.begun _ _ _ (lines (goal.at.returns-clause-lines c).After-enter))
 
 pub returns-in-Err-clause-least : goal.returns-in-Err-clause-least
-returns-in-Err-clause-least c = rw (← c.self.view_is) (lines_least c.self.inside.base.begun c.prepare_other.ensures.reads.tables.meter)
+returns-in-Err-clause-least c = rw (← c.self.view_is) (lines_least c.self.inside.base.begun _ _ c.prepare_other.ensures.reads.tables.meter)
 
 pub returns-in_err-entry-clause-least : goal.returns-in_err-entry-clause-least
-returns-in_err-entry-clause-least c = rw (← c.self.view_is) (lines_least c.self.inside.base.begun c.prepare_other.ensures.reads.tables.meter)
+returns-in_err-entry-clause-least c = rw (← c.self.view_is) (lines_least c.self.inside.base.begun _ _ c.prepare_other.ensures.reads.tables.meter)
 
 pub returns-in_err-enter-clause-least : goal.returns-in_err-enter-clause-least
-returns-in_err-enter-clause-least c = rw (← c.self.view_is) (lines_least c.self.inside.base.begun (risen (goal.at.returns-in_err-enter-clause-least c).After-enter))
+returns-in_err-enter-clause-least c = rw (← c.self.view_is) (lines_least c.self.inside.base.begun _ _ (risen (goal.at.returns-in_err-enter-clause-least c).After-enter))
 
 pub returns-clause-least : goal.returns-clause-least
-returns-clause-least c = rw (← c.self.view_is) (lines_least c.self.inside.base.begun (risen (goal.at.returns-clause-least c).After-enter))
+returns-clause-least c = rw (← c.self.view_is) (lines_least c.self.inside.base.begun _ _ (risen (goal.at.returns-clause-least c).After-enter))

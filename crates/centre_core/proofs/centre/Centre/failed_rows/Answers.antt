@@ -16,7 +16,7 @@ invariant_of-self-2 c =
     (record { plan = refl; links = refl; tables = reads_as c.self.inside.kept.tables c.failed.new.tables (c.failed.ensures.kept c.self.inside.kept.tables (as_itself c.self.inside.kept.tables)) })
 
 pub returns-clause-least : goal.returns-clause-least
-returns-clause-least c = rw (← c.self.view_is) (lines_least c.self.inside.base.begun (c.failed.ensures.kept c.self.inside.kept.tables (as_itself c.self.inside.kept.tables)).meter)
+returns-clause-least c = rw (← c.self.view_is) (lines_least c.self.inside.base.begun _ _ (c.failed.ensures.kept c.self.inside.kept.tables (as_itself c.self.inside.kept.tables)).meter)
 
 pub returns-in_default-clause-least : goal.returns-in_default-clause-least
-returns-in_default-clause-least c = rw (← c.self.view_is) (lines_least c.self.inside.base.begun (c.failed.ensures.kept c.self.inside.kept.tables (as_itself c.self.inside.kept.tables)).meter)
+returns-in_default-clause-least c = rw (← c.self.view_is) (lines_least c.self.inside.base.begun _ _ (c.failed.ensures.kept c.self.inside.kept.tables (as_itself c.self.inside.kept.tables)).meter)

@@ -14,4 +14,4 @@ invariant_of-self-2 c =
     rw c.begin.ensures (centre_rebuilt c.self.invariant c.kept_of.ensures.folded c.kept_of.ensures.entries c.kept_of.ensures.base c.in_ok-kept.ensures.kept)
 
 pub returns-clause-lines : goal.returns-clause-lines
-returns-clause-lines c = rw (← c.self.view_is, c.begin.ensures) (lines_since c.in_ok-kept.ensures.meter)
+returns-clause-lines c = rw (← c.self.view_is, c.begin.ensures) (lines_since _ _ _ c.in_ok-kept.ensures.meter)

@@ -16,7 +16,7 @@ invariant_of-self-2 c =
     (record { plan = refl; links = refl; tables = reads_as c.self.inside.kept.tables c.table.new.tables (c.table.ensures.kept c.self.inside.kept.tables (as_itself c.self.inside.kept.tables)) })
 
 pub returns-in_err-table-clause-least : goal.returns-in_err-table-clause-least
-returns-in_err-table-clause-least c = rw (← c.self.view_is) (lines_least c.self.inside.base.begun (c.table.ensures.kept c.self.inside.kept.tables (as_itself c.self.inside.kept.tables)).meter)
+returns-in_err-table-clause-least c = rw (← c.self.view_is) (lines_least c.self.inside.base.begun _ _ (c.table.ensures.kept c.self.inside.kept.tables (as_itself c.self.inside.kept.tables)).meter)
 
 pub returns-clause-least : goal.returns-clause-least
-returns-clause-least c = rw (← c.self.view_is) (lines_least c.self.inside.base.begun (c.table.ensures.kept c.self.inside.kept.tables (as_itself c.self.inside.kept.tables)).meter)
+returns-clause-least c = rw (← c.self.view_is) (lines_least c.self.inside.base.begun _ _ (c.table.ensures.kept c.self.inside.kept.tables (as_itself c.self.inside.kept.tables)).meter)

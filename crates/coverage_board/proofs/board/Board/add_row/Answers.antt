@@ -23,3 +23,6 @@ returns-then-counts_nothing-clause-area c =
 pub invariant_of-self-2 : goal.invariant_of-self-2
 invariant_of-self-2 c =
     rows_with c.args.w c.shift.new.self c.self.inside.rows.entries c.insert.new.self.entries (λ q. rw c.number.ensures at (c.in_ok-insert.ensures.updates.0 q)) (λ none. search (rules, c.counts_nothing.ensures.1 none)) c.self.invariant
+
+pub invariant_of-self : goal.invariant_of-self
+invariant_of-self c = rw c.in_err-insert.ensures.err c.self.invariant

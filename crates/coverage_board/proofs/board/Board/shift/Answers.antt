@@ -6,5 +6,5 @@ returns-in-Some-clause-total c = rw (← c.self.view_is) (rw c.number-number.ens
 pub returns-in-Some-clause-area : goal.returns-in-Some-clause-area
 returns-in-Some-clause-area c = rw (← c.self.view_is) (rw c.number-number.ensures at c.shift_at.ensures.area)
 
-pub invariant_of-self-in-Some : goal.invariant_of-self-in-Some
-invariant_of-self-in-Some c = c.shift_at.ensures.rows c.self.invariant
+pub invariant_of-self : goal.invariant_of-self
+invariant_of-self c = c.shift_at.ensures.rows c.self.invariant

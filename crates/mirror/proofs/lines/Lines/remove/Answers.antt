@@ -78,3 +78,15 @@ returns-clause-entries c =
     let taken : ts ≡ remove_key (is_at (warning_slot_cmp s)) ss = rw c.of-slot.ensures at c.remove.ensures.keys in
     let none : is_in s ts ≡ false = rw c.of-slot.ensures at c.remove.ensures.updates.1 in
     rw (← c.self.view_is, c.give_back.ensures, taken) (taken_out s es fs set ss (rw taken at none))
+
+pub invariant_of-self-2 : goal.invariant_of-self-2
+invariant_of-self-2 c =
+    let k = c.args.key in
+    let s = slot_of k.bsc k.cell k.warning in
+    let ss = c.self.inside.order.keys in
+    let es = c.self.inside.kept.entries in
+    let fs = c.swap_remove.new.self.entries in
+    let ts = c.remove.new.self.keys in
+    let set : IsKept s None es fs = rw c.of-slot.ensures at c.swap_remove.ensures.updates.0 in
+    let after : AreSlotsOf ts fs = slots_set s None es fs ss ts set (rw c.of-slot.ensures at c.remove.ensures.updates.0) c.self.invariant in
+    rw c.give_back.ensures after

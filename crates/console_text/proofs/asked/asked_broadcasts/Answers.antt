@@ -1,6 +1,6 @@
 use Rattle.std.proofs.Common.{◌∙◌, rules}
 use Rattle.console_text.proofs.CommandLineLemmas.{broadcasts_read, met_broadcasts}
-use Rattle.console_text.proofs.options.asked_broadcasts.Goals as goal
+use Rattle.console_text.proofs.asked.asked_broadcasts.Goals as goal
 
 pub returns : goal.returns
 returns c =

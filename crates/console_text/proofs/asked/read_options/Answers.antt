@@ -1,7 +1,7 @@
 use Rattle.std.proofs.Common.{◌≡◌, true, false, map, string_bytes, ap, rules, sym, ◌∙◌}
 use Rattle.console_text.specs.CommandLine.{broadcasts_in, limit_in, meets_serve, network_in, replay_rows}
 use Rattle.console_text.proofs.CommandLineLemmas.{kinds_of_line, refuses_so, taken_has_matches, taken_has_no_fault, taken_wants_memory}
-use Rattle.console_text.proofs.options.read_options.Goals as goal
+use Rattle.console_text.proofs.asked.read_options.Goals as goal
 
 -- the parser refuses a command line that it takes for lack of memory alone, and another for a fault of its words
 pub returns-in-Err-clause-refused : goal.returns-in-Err-clause-refused

@@ -1,7 +1,7 @@
 use Rattle.std.proofs.Common.{◌≡◌, ◌∙◌, ◌<◌, rules, arith, sym}
 use Rattle.console_text.specs.CommandLine.{most_entries}
 use Rattle.console_text.proofs.CommandLineLemmas.{limit_of_number, limit_of_none, met_limit}
-use Rattle.console_text.proofs.options.asked_journal.Goals as goal
+use Rattle.console_text.proofs.asked.asked_journal.Goals as goal
 
 pub returns-in-Some-1-to-4000000-clause-asked : goal.returns-in-Some-1-to-4000000-clause-asked
 returns-in-Some-1-to-4000000-clause-asked c =

@@ -3,7 +3,7 @@ use Rattle.std.specs.Prelude.{option_and_then, option_map}
 use Rattle.std.specs.Result.{result_ok}
 use Rattle.console_text.specs.CommandLine.{network_of}
 use Rattle.console_text.proofs.CommandLineLemmas.{met_network}
-use Rattle.console_text.proofs.options.asked_plmn.Goals as goal
+use Rattle.console_text.proofs.asked.asked_plmn.Goals as goal
 
 -- no value, no network
 pub returns-in_err-get_str : goal.returns-in_err-get_str
