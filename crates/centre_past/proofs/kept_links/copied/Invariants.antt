@@ -1,5 +1,5 @@
 use Rattle.std.proofs.Common.{◌≡◌, take}
-use Rattle.centre_past.proofs.links.copied.Given as goal
+use Rattle.centre_past.proofs.kept_links.copied.Given as goal
 
 -- the links that the walk has passed are copied
 abbrev pub invariant-loop-link : goal.invariant-loop-link
