@@ -9,5 +9,6 @@ pub mod WishLemmas
 pub mod PendingLemmas
 pub mod LawfulLemmas
 pub mod DueLemmas
+pub mod WakingLemmas
 pub mod SendingLemmas
 pub mod HandingLemmas

@@ -13,7 +13,7 @@ use crate::row::Row;
 use crate::seen::Seen;
 use crate::settling::{mismatch, missing};
 use crate::wake::Wake;
-use crate::waking::{has_work, wake_of};
+use crate::waking::{has_any_work, wake_of, wakes};
 use crate::wish::Wish;
 use crate::wishes::{keep, take_out};
 use cell_register::BscId;
@@ -72,8 +72,7 @@ impl<L: Ledger> Held<L> {
     ghost use Rattle.centre_past.specs.Lists.{status};
     ghost use Rattle.centre_events.specs.Folding.{base_of};
     ghost use Rattle.centre_events.specs.Links.{last_link};
-    ghost use Rattle.cell_register.specs.Register.{is_place};
-    ghost use Rattle.office.specs.Affecting.{affects, includes};
+    ghost use Rattle.office.specs.Affecting.{affects, changes_link, includes, is_link, wakes};
     ghost use Rattle.office.specs.Handing.{AreAllAfter, AreEntriesAfter};
     ghost use Rattle.office.specs.Helds.{HasEachOnce, IsEntered, IsHeld, RefusesFold, fits, no_row, row_at};
     ghost use Rattle.centre_questions.specs.Questions.{RefusesQuestion, Shows};
@@ -231,7 +230,8 @@ impl<L: Ledger> Held<L> {
 
     /// The BSCs for which the event may make something to do where it is accepted.
     pub(crate) fn affected_by(&self, event: &Event) -> Affected
-        ensures { self.now.centre.stale ≡ false → (b : ℕ) → includes result b ≡ affects (past self.now.centre) event.now b }
+        ensures bscs { self.now.centre.stale ≡ false → (b : ℕ) → includes result b ≡ affects (past self.now.centre) event.now b }
+        ensures link { is_link result ≡ changes_link event.now }
     {
         affected_by(&self.centre, event)
     }
@@ -281,30 +281,22 @@ impl<L: Ledger> Held<L> {
         Ok(keep(&mut self.wishes, wish)?)
     }
 
-    /// Whether there is something to do for one of the BSCs, or for whoever waits, since the centre is stale or its journal full.
-    pub(crate) fn has_work(&self, affected: Affected) -> bool
+    /// Whether there may be something to do for one of the BSCs, or for whoever waits, since the centre is stale or its journal full.
+    /// Where there isn't, nobody is to be woken.
+    pub(crate) fn has_work(&self, affected: &Affected) -> bool
         ensures whole { result ≡ false → self.now.centre.stale ≡ false }
         ensures room { result ≡ false → is_full self.now.centre ≡ false }
-        ensures none { result ≡ false → (b : ℕ) → includes affected b ≡ true → due self.now.centre self.now.wishes b (last_link (past self.now.centre) b) ≡ None }
+        ensures link { result ≡ false → is_link affected.now ≡ false }
+        ensures none { result ≡ false → (b : ℕ) → includes affected.now b ≡ true → due self.now.centre self.now.wishes b (last_link (past self.now.centre) b) ≡ None }
     {
-        if self.is_stale() || self.is_full() {
-            return true;
-        }
-        match affected {
-            Affected::None => false,
-            Affected::These(one, other) => self.has_work_for(one) || self.has_work_for(other),
-            Affected::All => true,
-        }
+        has_any_work(&self.centre, self.wishes.as_slice(), self.is_full(), affected)
     }
 
-    /// Whether there is something to do for the latest link of the BSC.
-    fn has_work_for(&self, b: Option<BscId>) -> bool
-        ensures { result ≡ false → (n : ℕ) → is_place b n ≡ true → due self.now.centre self.now.wishes n (last_link (past self.now.centre) n) ≡ None }
+    /// Whether those who wait for the BSC are to be woken, where these are affected.
+    pub(crate) fn wakes(&self, affected: &Affected, b: BscId) -> bool
+        ensures { result ≡ wakes self.now.centre self.now.wishes affected.now b }
     {
-        match b {
-            Some(b) => has_work(&self.centre, self.wishes.as_slice(), self.is_full(), b),
-            None => false,
-        }
+        wakes(&self.centre, self.wishes.as_slice(), self.is_full(), affected, b)
     }
 
     /// Makes a stale centre whole.

@@ -11,6 +11,7 @@ ghost use Rattle.office.specs.Wakes.{IsDueSomewhere};
 ghost use Rattle.office.specs.Wishes.{IsUnwishedSomewhere, IsWishedSomewhere};
 
 use crate::affected::Affected;
+use crate::conditions::Conditions;
 use crate::counting::count_sent;
 use crate::counts::Counts;
 use crate::desk::Desk;
@@ -41,7 +42,9 @@ use warning_book::WarningId;
 pub struct Office<L: Ledger> {
     alloc: Global,
     pub(crate) held: Mutex<Held<L>>,
-    moved: Condvar,
+    /// On which those wait who have something to do for a link.
+    conditions: Conditions,
+    /// On which those wait who follow the journal.
     entered: Condvar,
     /// Whoever holds this and the lock took the lock first.
     counts: Mutex<Counts>,
@@ -53,7 +56,7 @@ impl<L: Ledger> Drop for Office<L> {
         let Office {
             alloc: _alloc,
             held: _held,
-            moved: _moved,
+            conditions: _conditions,
             entered: _entered,
             counts: _counts,
         } = self;
@@ -86,7 +89,7 @@ impl<L: Ledger> Office<L> {
         Office {
             alloc,
             held: Mutex::new(Held::new(alloc, network, journal_limit, book, rest)),
-            moved: Condvar::new(),
+            conditions: Conditions::new(alloc),
             entered: Condvar::new(),
             counts: Mutex::new(Counts::new()),
         }
@@ -119,9 +122,8 @@ impl<L: Ledger> Office<L> {
         let result = guard.submit(desk, event, copy);
         self.counts.lock(rt).count(kind, result);
         self.entered.notify_all();
-        if guard.has_work(affected) {
-            self.moved.notify_all();
-        }
+        let entered = affected.if_entered(result);
+        self.conditions.wake(rt, &guard, &entered);
         result
     }
 
@@ -183,9 +185,8 @@ impl<L: Ledger> Office<L> {
             warning,
             after,
         });
-        if guard.has_work(Affected::These(Some(b), None)) {
-            self.moved.notify_all();
-        }
+        let affected = Affected::These(Some(b), None);
+        self.conditions.wake(rt, &guard, &affected);
         self.count_refused(rt, &result);
         result
     }
@@ -208,9 +209,9 @@ impl<L: Ledger> Office<L> {
     {
         for _ in rt.forever() {
             let folded = self.release(rt, desk);
-            let mut guard = self.moved.wait_while(rt, self.held.lock(rt), |held| {
-                held.folded() == folded && held.wake_of(b, generation).is_none()
-            });
+            let mut guard = self
+                .conditions
+                .wait(rt, &self.held, b, generation, folded);
             guard.tell_soundness();
             if let Some(wake) = guard.take_wake(b, generation) {
                 return wake;
@@ -238,16 +239,14 @@ impl<L: Ledger> Office<L> {
     {
         for _ in rt.forever() {
             let folded = self.release(rt, desk);
-            let mut guard = self.moved.wait_while(rt, self.held.lock(rt), |held| {
-                held.folded() == folded && held.wake_of(b, generation).is_none()
-            });
+            let mut guard = self
+                .conditions
+                .wait(rt, &self.held, b, generation, folded);
             guard.tell_soundness();
             if let Some(result) = guard.send_due(desk, b, generation) {
                 count_sent(&mut self.counts.lock(rt), desk, &result);
                 self.entered.notify_all();
-                if guard.has_work(Affected::None) {
-                    self.moved.notify_all();
-                }
+                self.conditions.wake(rt, &guard, &Affected::None);
                 return result;
             }
         }
@@ -288,7 +287,7 @@ impl<L: Ledger> Office<L> {
         guard.tell_soundness();
         let result = guard.checkpoint();
         if result.is_ok() {
-            self.moved.notify_all();
+            self.conditions.wake_all(rt);
         }
         result
     }
@@ -312,7 +311,7 @@ impl<L: Ledger> Office<L> {
         let mut guard = self.held.lock(rt);
         guard.tell_soundness();
         let result = guard.checkpoint_after(after);
-        self.moved.notify_all();
+        self.conditions.wake_all(rt);
         result
     }
 
@@ -355,7 +354,7 @@ impl<L: Ledger> Office<L> {
         let Office {
             alloc: _,
             held,
-            moved: _moved,
+            conditions: _conditions,
             entered: _entered,
             counts: _counts,
         } = self;

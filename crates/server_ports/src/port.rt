@@ -8,9 +8,11 @@ use crate::port_state::PortState;
 use crate::shut::Shut;
 use crate::side_end::SideEnd;
 use cell_register::BscId;
+use libc::net::{SHUT_RDWR, shutdown};
 use link_rules::{AliveStep, Overdue, Repeat, Verdict};
 use office::desk::Desk;
 use std::net::{IpAddr, SocketAddr, TcpListener, TcpStream};
+use std::os::fd::AsRawFd;
 use std::sync::ledger::Ledger;
 use std::sync::{Condvar, Mutex, Wait};
 
@@ -172,21 +174,6 @@ impl<L: Ledger> Port<L> {
         self.state.lock(rt).cut(generation)
     }
 
-    /// A thread begins to take connections. `false` where none is to be taken.
-    pub fn begin_accepting<R: Wait>(&self, rt: &R) -> bool {
-        self.state.lock(rt).begin_accepting()
-    }
-
-    /// No thread takes connections any more.
-    pub fn end_accepting<R: Wait>(&self, rt: &R) {
-        self.state.lock(rt).end_accepting();
-    }
-
-    /// Whether a thread takes connections.
-    pub fn is_accepting<R: Wait>(&self, rt: &R) -> bool {
-        self.state.lock(rt).is_accepting()
-    }
-
     /// Whether an order or a query may go out whose frame this is, or has to wait. Where it may, it is out from now on.
     pub fn send<R: Wait>(&self, rt: &R, frame: &[u8], now: u64) -> Repeat {
         self.pace.lock(rt).send(frame, now)
@@ -327,9 +314,11 @@ impl<L: Ledger> Port<L> {
         self.state.lock(rt).end_simulated();
     }
 
-    /// Takes no further connection, and shuts those that are there.
+    /// Takes no further connection, and shuts those that are there. The port isn't listened on any more: whoever waits for a
+    /// connection to it goes on, and so does whoever waits later. This takes no descriptor, so it is done also where none is left.
     pub fn close<R: Wait>(&self, rt: &R) {
         self.state.lock(rt).close();
         self.changed.notify_all();
+        let _ = shutdown(self.listener.as_raw_fd(), SHUT_RDWR);
     }
 }

@@ -39,6 +39,8 @@ mod sending_tests;
 #[cfg(test)]
 mod two_links_tests;
 #[cfg(test)]
+mod two_waits_tests;
+#[cfg(test)]
 mod waiting_tests;
 #[cfg(test)]
 mod waking_tests;
