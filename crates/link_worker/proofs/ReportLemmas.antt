@@ -26,8 +26,9 @@ use Rattle.framing.specs.declared.fault.FrameFault.TheVariants as fault
 use Rattle.framing.proofs.StreamLemmas.{no_frame-nil, pieces_join}
 use Rattle.link_worker.specs.declared.end.End.{End}
 use Rattle.link_worker.specs.declared.end.End.TheVariants as end
+use Rattle.link_worker.specs.declared.entered.Entered.{Entered}
 use Rattle.link_worker.specs.Ends.{IfShut, IsRefusedEnd, fault_end, report_end}
-use Rattle.link_worker.specs.Reports.{AreReceiptsFor, BeginsWithRefused, EndsAt, EndsBefore, EndsReading, EndsWithin, IsFirstRefused, IsLastReport, IsPartial, IsRefusal, IsRefusedReport, IsReport, IsSubmitEnd, IsTaken, MayGet, Reads, StopsAmong, StopsInPiece, TakesPiece, TakesReports, stream_end}
+use Rattle.link_worker.specs.Reports.{AreReceiptsFor, BeginsWithRefused, EndsAt, EndsBefore, EndsReading, EndsWithin, IsFirstRefused, IsLastReport, IsPartial, IsRefusal, IsCounted, IsRefusedReport, IsReport, IsTaken, MayGet, Reads, StopsAmong, StopsInPiece, SubmitsFirst, TakesFirst, TakesPiece, TakesReports, has_any, stream_end}
 use Rattle.link_worker.proofs.ListLemmas.{AllByRecursion-append, AllByRecursion-back, AllByRecursion-front}
 use Rattle.cbsp_messages.specs.declared.message.Message.{Message}
 use Rattle.link_worker.proofs.OrderLemmas.{refused_open, refused_room}
@@ -149,61 +150,45 @@ Ends-refused_report d e event r x why same makes refused = record {
   number = ap (λ (s : DeskState). s.number) same;
 }
 
--- the side ends before a frame whose report was refused, or behind one at which the gate is shut
-pub Stops-submit : (b generation : ℕ) (frame : Frame) (m : Message) (d e : DeskState) (x : End) → IsReport frame m → MayGet (event.Report b generation m) d e
-    → IsSubmitEnd (event.Report b generation m) d e x → StopsAmong b generation (frame ∷ []) d e x
-Stops-submit b generation frame m d e x is got (inl p) = record {
+-- a report that was refused leaves the receipts as they were
+pub Takes-refused : (b generation : ℕ) (event : Event) (d e : DeskState) (x : End) → IsRefusal event d e x → TakesReports b generation [] d e
+Takes-refused b generation event d e x p = record { more = []; receipts = p.receipts ∙ sym (append-nil d.receipts); number = p.number; reports = tt; readable = tt }
+
+-- the side ends before a frame whose report was refused
+pub Stops-refused : (b generation : ℕ) (frame : Frame) (m : Message) (d e : DeskState) (x : End) → IsReport frame m → IsRefusal (event.Report b generation m) d e x → StopsAmong b generation (frame ∷ []) d e x
+Stops-refused b generation frame m d e x is p = record {
   taken = [];
   left = frame ∷ [];
   parts = refl;
-  takes = record { more = []; receipts = p.receipts ∙ sym (append-nil d.receipts); number = p.number; reports = tt; readable = tt };
+  takes = Takes-refused b generation (event.Report b generation m) d e x p;
   ends = EndsBefore-refused b generation e x frame p.is_refused (record { message = m; report = is; cause = p.cause; makes = p.makes; refused = p.refused });
   shut = refused_open (IsLastReport []) x p.is_refused;
 }
-Stops-submit b generation frame m d e x is got (inr shut) = subst (StopsAmong b generation (frame ∷ []) d e) (sym shut) (record {
-  taken = frame ∷ [];
-  left = [];
-  parts = refl;
-  takes = Takes-report b generation frame m d e is got;
-  ends = tt;
-  shut = record { before = []; frame = frame; message = m; parts = refl; report = is };
-})
 
 -- the side ends before a frame that can't be read
 pub Stops-unread : (b generation : ℕ) (frames : List Frame) (d : DeskState) (f : MessageFault) → EndsBefore b generation d (fault_end f) frames → StopsAmong b generation frames d d (fault_end f)
 Stops-unread b generation frames d f p =
     record { taken = []; left = frames; parts = refl; takes = Takes-none b generation d; ends = p; shut = fault_open (IsLastReport []) f }
 
--- a report was read and submitted: the side goes on, or ends
-pub taken_if : (result : Result Unit End) (b generation : ℕ) (frame : Frame) (m : Message) (d e : DeskState) → IsReport frame m → MayGet (event.Report b generation m) d e
-    → OnOk result (TakesReports b generation (frame ∷ []) d e)
-taken_if (Ok done) b generation frame m d e is got = Takes-report b generation frame m d e is got
-taken_if (Err x) b generation frame m d e is got = tt
+-- none of the frames was taken
+pub TakesFirst-none : (b generation : ℕ) (frames : List Frame) (d : DeskState) → TakesFirst b generation frames frames d d
+TakesFirst-none b generation frames d = record { taken = []; parts = refl; takes = Takes-none b generation d }
 
-pub ended_if : (result : Result Unit End) (b generation : ℕ) (frame : Frame) (m : Message) (d e : DeskState) → IsReport frame m → MayGet (event.Report b generation m) d e
-    → IfErr result (IsSubmitEnd (event.Report b generation m) d e) → IfErr result (StopsAmong b generation (frame ∷ []) d e)
-ended_if (Ok done) b generation frame m d e is got p = p
-ended_if (Err x) b generation frame m d e is got p = Stops-submit b generation frame m d e x is got p
+-- the first was taken
+pub TakesFirst-one : (b generation : ℕ) (frame : Frame) (rest : List Frame) (d e : DeskState) → TakesReports b generation (frame ∷ []) d e → TakesFirst b generation (frame ∷ rest) rest d e
+TakesFirst-one b generation frame rest d e takes = record { taken = frame ∷ []; parts = refl; takes = takes }
 
--- some of the frames were taken, and these are left
-pub record TakenSoFar (b generation : ℕ) (frames left : List Frame) (old new : DeskState) : Type 0 where
-  pub taken : List Frame
-  pub parts : frames ≡ taken ++ left
-  pub takes : TakesReports b generation taken old new
-
-pub TakenSoFar-none : (b generation : ℕ) (frames : List Frame) (d : DeskState) → TakenSoFar b generation frames frames d d
-TakenSoFar-none b generation frames d = record { taken = []; parts = refl; takes = Takes-none b generation d }
-
-pub TakenSoFar-more : (b generation : ℕ) (frames left rest : List Frame) (frame : Frame) (c d e : DeskState) → TakenSoFar b generation frames left c d → left ≡ frame ∷ rest
-    → TakesReports b generation (frame ∷ []) d e → TakenSoFar b generation frames rest c e
-TakenSoFar-more b generation frames left rest frame c d e p is q = record {
-  taken = p.taken ++ frame ∷ [];
-  parts = p.parts ∙ ap (λ fs. p.taken ++ fs) is ∙ sym (append_assoc p.taken (frame ∷ []) rest);
-  takes = Takes-more b generation p.taken (frame ∷ []) c d e p.takes q;
+-- some were taken, and then some of those that were left
+pub TakesFirst-join : (b generation : ℕ) (frames left next last : List Frame) (c d e : DeskState) → TakesFirst b generation frames left c d → left ≡ next → TakesFirst b generation next last d e → TakesFirst b generation frames last c e
+TakesFirst-join b generation frames left next last c d e p is q = record {
+  taken = p.taken ++ q.taken;
+  parts = p.parts ∙ ap (λ fs. p.taken ++ fs) (is ∙ q.parts) ∙ sym (append_assoc p.taken q.taken last);
+  takes = Takes-more b generation p.taken q.taken c d e p.takes q.takes;
 }
 
-pub TakenSoFar-all : (b generation : ℕ) (frames left : List Frame) (c d : DeskState) → TakenSoFar b generation frames left c d → left ≡ [] → TakesReports b generation frames c d
-TakenSoFar-all b generation frames left c d p is =
+-- all were taken
+pub TakesFirst-all : (b generation : ℕ) (frames left : List Frame) (c d : DeskState) → TakesFirst b generation frames left c d → left ≡ [] → TakesReports b generation frames c d
+TakesFirst-all b generation frames left c d p is =
     subst (λ fs. TakesReports b generation fs c d) (sym (p.parts ∙ ap (λ fs. p.taken ++ fs) is ∙ append-nil p.taken)) p.takes
 
 -- an end before some frames is one before more of them
@@ -240,16 +225,67 @@ shut_behind xs ys end.GateShut p = record {
   report = p.report;
 }
 
-pub TakenSoFar-stops : (b generation : ℕ) (frames left rest : List Frame) (frame : Frame) (c d e : DeskState) (x : End) → TakenSoFar b generation frames left c d → left ≡ frame ∷ rest
-    → StopsAmong b generation (frame ∷ []) d e x → StopsAmong b generation frames c e x
-TakenSoFar-stops b generation frames left rest frame c d e x p is q = record {
-  taken = p.taken ++ q.taken;
+-- an end at the first frame is one among it and those behind it
+pub Stops-first : (b generation : ℕ) (frame : Frame) (rest : List Frame) (d e : DeskState) (x : End) → StopsAmong b generation (frame ∷ []) d e x → StopsAmong b generation (frame ∷ rest) d e x
+Stops-first b generation frame rest d e x q = record {
+  taken = q.taken;
   left = q.left ++ rest;
-  parts = p.parts ∙ ap (λ fs. p.taken ++ fs) (is ∙ ap (λ fs. fs ++ rest) q.parts ∙ append_assoc q.taken q.left rest) ∙ sym (append_assoc p.taken q.taken (q.left ++ rest));
-  takes = Takes-more b generation p.taken q.taken c d e p.takes q.takes;
+  parts = ap (λ fs. fs ++ rest) q.parts ∙ append_assoc q.taken q.left rest;
+  takes = q.takes;
   ends = EndsBefore-more b generation e x q.left rest q.ends;
+  shut = q.shut;
+}
+
+-- some frames were taken, and then the side ends at one of those that were left
+pub Stops-join : (b generation : ℕ) (frames left next : List Frame) (c d e : DeskState) (x : End) → TakesFirst b generation frames left c d → left ≡ next → StopsAmong b generation next d e x → StopsAmong b generation frames c e x
+Stops-join b generation frames left next c d e x p is q = record {
+  taken = p.taken ++ q.taken;
+  left = q.left;
+  parts = p.parts ∙ ap (λ fs. p.taken ++ fs) (is ∙ q.parts) ∙ sym (append_assoc p.taken q.taken q.left);
+  takes = Takes-more b generation p.taken q.taken c d e p.takes q.takes;
+  ends = q.ends;
   shut = shut_behind p.taken q.taken x q.shut;
 }
+
+-- Reports that were submitted, and the gate is yet to be told.
+
+pub Submits-none : (b generation : ℕ) (frames : List Frame) (d : DeskState) (e : Entered) → has_any e ≡ false → SubmitsFirst b generation frames d d e
+Submits-none b generation frames d e none = record {
+  taken = [];
+  left = frames;
+  parts = refl;
+  takes = Takes-none b generation d;
+  last = λ any.
+    let no : false ≡ true = sym none ∙ any in cc;
+}
+
+-- one more frame was taken
+pub Submits-more : (b generation : ℕ) (frames : List Frame) (frame : Frame) (rest : List Frame) (c d e : DeskState) (before after : Entered) → TakesFirst b generation frames (frame ∷ rest) c d → SubmitsFirst b generation frames c d before
+    → TakesReports b generation (frame ∷ []) d e → IsCounted frame d e before after → SubmitsFirst b generation frames c e after
+Submits-more b generation frames frame rest c d e before after p s q (inl report) = record {
+  taken = p.taken ++ frame ∷ [];
+  left = rest;
+  parts = p.parts ∙ sym (append_assoc p.taken (frame ∷ []) rest);
+  takes = Takes-more b generation p.taken (frame ∷ []) c d e p.takes q;
+  last = λ any. record { before = p.taken; frame = frame; message = report.0; parts = refl; report = report.1 };
+}
+Submits-more b generation frames frame rest c d e before after p s q (inr (same, unchanged)) =
+    subst (SubmitsFirst b generation frames c e) (sym unchanged) (subst (λ (n : DeskState). SubmitsFirst b generation frames c n before) (sym same) s)
+
+-- a frame was not taken
+pub Submits-untaken : (b generation : ℕ) (frames : List Frame) (c d e : DeskState) (before after : Entered) → SubmitsFirst b generation frames c d before → TakesReports b generation [] d e → after ≡ before → SubmitsFirst b generation frames c e after
+Submits-untaken b generation frames c d e before after s q unchanged = record {
+  taken = s.taken;
+  left = s.left;
+  parts = s.parts;
+  takes = subst (λ fs. TakesReports b generation fs c e) (append-nil s.taken) (Takes-more b generation s.taken [] c d e s.takes q);
+  last = λ any. s.last (ap has_any (sym unchanged) ∙ any);
+}
+
+-- the gate is shut behind a report among them
+pub Stops-shut : (b generation : ℕ) (frames : List Frame) (c d : DeskState) (e : Entered) (x : End) → SubmitsFirst b generation frames c d e → (x ≡ end.GateShut) × (has_any e ≡ true) → StopsAmong b generation frames c d x
+Stops-shut b generation frames c d e x s shut =
+    subst (StopsAmong b generation frames c d) (sym shut.0) (record { taken = s.taken; left = s.left; parts = s.parts; takes = s.takes; ends = tt; shut = s.last shut.1 })
 
 -- what a framer has of a piece, whatever it answered: the octets are these frames, and a tail
 pub record Fed (begun piece : List ℕ) (frames : List Frame) : Type 0 where

@@ -6,6 +6,7 @@
 #![tactic(auto)]
 
 mod end;
+mod entered;
 mod gate;
 mod link;
 mod passage;

@@ -35,6 +35,9 @@ use std::sync::ledger::{Book, Ledger, Share};
 /// The most desks that an office opens.
 const DESKS: usize = 1024;
 
+/// How many lines events may read before no further one is submitted in the same hold of the lock.
+const MOST_LINES: u64 = 256;
+
 /// A centre, and what is known of each desk. Contracts see what is known of the centre, a row for each desk that was opened,
 /// those rows as they were when entries were last folded, how many receipts the desks have, all together, the parts and the
 /// amount of the share that is kept for desks not yet opened, and the wishes.
@@ -49,6 +52,8 @@ pub struct Held<L: Ledger> {
     rest: Share<L>,
     wishes: Vec<Wish>,
     interrupts: u64,
+    /// How many entries the journal may have.
+    limit: u64,
 }
 
 impl<L: Ledger> Model for Held<L> {
@@ -105,6 +110,7 @@ impl<L: Ledger> Held<L> {
             rest,
             wishes: Vec::new(alloc),
             interrupts: 0,
+            limit: u64::from(journal_limit),
         }
     }
 
@@ -219,6 +225,18 @@ impl<L: Ledger> Held<L> {
         ensures { result ≡ length self.now.centre.journal }
     {
         self.centre.position() - self.folded
+    }
+
+    /// How many lines the centre has read, up to now.
+    pub fn lines_read(&self) -> u64 {
+        self.centre.meter().lines
+    }
+
+    /// Whether another event may be submitted in a hold of the lock in which the first was submitted when so many lines had been read:
+    /// the events since then read few, and the journal is less than half full.
+    pub fn has_time(&self, lines_read: u64) -> bool {
+        let read = self.lines_read().saturating_sub(lines_read);
+        read <= MOST_LINES && self.unfolded() < self.limit / 2
     }
 
     /// Whether the centre is stale.

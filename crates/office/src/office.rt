@@ -15,6 +15,7 @@ use crate::conditions::Conditions;
 use crate::counting::count_sent;
 use crate::counts::Counts;
 use crate::desk::Desk;
+use crate::entering::prepared;
 use crate::entries::Entries;
 use crate::event_kind::EventKind;
 use crate::fault::Unsettled;
@@ -35,7 +36,7 @@ use centre_questions::question::Question;
 use common::Cell;
 use std::alloc::{AllocError, Global};
 use std::sync::ledger::{Blank, Ledger};
-use std::sync::{Condvar, Mutex, Wait};
+use std::sync::{Condvar, Mutex, MutexGuard, Wait};
 use warning_book::WarningId;
 
 /// One centre, for as many callers as it opens desks for. Each call takes the one lock, and does under it what `Held` does.
@@ -61,20 +62,6 @@ impl<L: Ledger> Drop for Office<L> {
             counts: _counts,
         } = self;
     }
-}
-
-/// Makes room for the receipt of an event that the desk submits, and copies the event for it.
-fn prepared<L: Ledger>(
-    alloc: Global,
-    desk: &mut Desk<L>,
-    event: &Event,
-) -> Result<Event, AllocError>
-    ensures copy { IfOk result (λ copy. copy ≡ event.now) }
-    ensures room { OnOk result (1 ≤ desk.new.spare) }
-    ensures same { desk.new ≡ record desk.old { spare = desk.new.spare } }
-{
-    desk.reserve()?;
-    event.copied(alloc)
 }
 
 impl<L: Ledger> Office<L> {
@@ -111,19 +98,39 @@ impl<L: Ledger> Office<L> {
         ensures refused { IfErr result (IsRefusedSomewhere desk.old event) }
         ensures unchanged { OnErr result (desk.new ≡ record desk.old { spare = desk.new.spare }) }
     {
+        let mut guard = self.hold(rt);
+        self.submit_in(rt, &mut guard, desk, event)
+    }
+
+    /// Takes the lock for several events: for as long as what is handed out is there, no other caller goes on.
+    pub fn hold<R: Wait>(&self, rt: &R) -> MutexGuard<'_, Held<L>> {
+        self.held.lock(rt)
+    }
+
+    /// Takes an event as `submit` does, in a hold of the lock of this office.
+    pub fn submit_in<R: Wait>(
+        &self,
+        rt: &R,
+        held: &mut Held<L>,
+        desk: &mut Desk<L>,
+        event: Event,
+    ) -> Result<(), Refusal>
+        ensures submitted { OnOk result (IsSubmitted desk.old event desk.new) }
+        ensures refused { IfErr result (IsRefusedSomewhere desk.old event) }
+        ensures unchanged { OnErr result (desk.new ≡ record desk.old { spare = desk.new.spare }) }
+    {
         let Ok(copy) = prepared(self.alloc, desk, &event) else {
             drop(event);
             return Err(self.refuse(rt, Refusal::Memory));
         };
         let kind = EventKind::of(&event);
-        let mut guard = self.held.lock(rt);
-        guard.tell_soundness();
-        let affected = guard.affected_by(&event);
-        let result = guard.submit(desk, event, copy);
+        held.tell_soundness();
+        let affected = held.affected_by(&event);
+        let result = held.submit(desk, event, copy);
         self.counts.lock(rt).count(kind, result);
         self.entered.notify_all();
         let entered = affected.if_entered(result);
-        self.conditions.wake(rt, &guard, &entered);
+        self.conditions.wake(rt, held, &entered);
         result
     }
 

@@ -4,7 +4,7 @@
 ghost use Rattle.std.specs.Prelude.{◌≡◌};
 
 use crate::checks::same;
-use crate::given_link::{COMPLETE, LINK, ORDER, STREAM, first_bsc, linked};
+use crate::given_link::{LINK, ORDER, STREAM, first_bsc, linked};
 use cell_register::BscId;
 use framing::faulty::FailsAfter;
 use framing::{FromRead, FromWrite};
@@ -17,6 +17,13 @@ use std::marker::Brand;
 use std::process::Abort;
 use std::sync::ledger::{Blank, Ledger};
 use std::sync::{Mutex, Wait};
+
+/// The WRITE-REPLACE COMPLETE of the first order, twice.
+const COMPLETES: [u8; 40] = [
+    0x02, 0x00, 0x00, 0x10, 0x0e, 0x11, 0x12, 0x03, 0xc0, 0x00, 0x04, 0x00, 0x05, 0x01, 0x00, 0x64,
+    0x00, 0x07, 0x12, 0x00, 0x02, 0x00, 0x00, 0x10, 0x0e, 0x11, 0x12, 0x03, 0xc0, 0x00, 0x04, 0x00,
+    0x05, 0x01, 0x00, 0x64, 0x00, 0x07, 0x12, 0x00,
+];
 
 /// How many orders with the first order's frame, other orders, replies and other reports passed.
 #[derive(Clone, Copy, Debug, PartialEq, Eq)]
@@ -79,7 +86,7 @@ fn writes<L: Ledger, R: Wait + Abort>(
     same(rt, end, End::WriteFault, "the write side");
 }
 
-/// The BSC answers it twice, with a RESTART between.
+/// The BSC answers it three times, with a RESTART after the first. The last two answers come together.
 fn reads<L: Ledger, R: Wait + Abort>(
     rt: &R,
     alloc: Global,
@@ -88,7 +95,7 @@ fn reads<L: Ledger, R: Wait + Abort>(
     gate: &Counts,
 ) {
     let b = first_bsc(rt);
-    let mut source = FromRead::new(STREAM.as_slice().chain(COMPLETE.as_slice()));
+    let mut source = FromRead::new(STREAM.as_slice().chain(COMPLETES.as_slice()));
     let end = read_side(rt, alloc, office, desk, b, LINK, &mut source, gate);
     same(rt, end, End::PeerEnded, "the read side");
 }
@@ -133,12 +140,12 @@ fn a_gate_is_told_what_passes(rt: HostRuntime) {
         orders: 1,
         others: 0,
         replies: 1,
-        reports: 2,
+        reports: 3,
     };
     same(
         &rt,
         read,
         reports,
-        "a reply, a RESTART, and a reply to nothing",
+        "a reply, a RESTART, and two replies to nothing",
     );
 }
