@@ -1,6 +1,8 @@
 pub mod Alives
 pub mod Blocks
 pub mod Buckets
+pub mod CostLimits
+pub mod Costs
 pub mod FoldPaces
 pub mod Paces
 pub mod PeerLists

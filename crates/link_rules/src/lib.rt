@@ -1,6 +1,6 @@
-//! The rules that a server's links keep: how fast reports and connections are let in, when an order is said to have no reply, when a
-//! BSC that says nothing is asked whether it is alive, which order is out again and again, which connection gets the link of a BSC,
-//! and when the journal is folded.
+//! The rules that a server's links keep: how fast reports and connections are let in, what reports may cost, when an order is said to
+//! have no reply, when a BSC that says nothing is asked whether it is alive, which order is out again and again, which connection gets
+//! the link of a BSC, and when the journal is folded.
 //!
 //! Values only: nothing here waits, reads a clock or knows a socket. A time is given in milliseconds of a clock that goes on.
 //! Begin with `rate_limit` and `deciding`. The words of their contracts stand in `specs/`.
@@ -10,6 +10,8 @@ mod alive_pace;
 mod alive_step;
 mod block;
 mod bucket;
+mod cost;
+mod cost_limit;
 mod deciding;
 mod fold_pace;
 mod overdue;
@@ -27,6 +29,8 @@ mod words;
 
 pub use alive_pace::AlivePace;
 pub use alive_step::AliveStep;
+pub use cost::{Cost, kept_of_order};
+pub use cost_limit::CostLimit;
 pub use deciding::decide;
 pub use fold_pace::FoldPace;
 pub use overdue::Overdue;

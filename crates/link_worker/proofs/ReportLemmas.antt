@@ -256,7 +256,7 @@ Submits-none b generation frames d e none = record {
   parts = refl;
   takes = Takes-none b generation d;
   last = λ any.
-    let no : false ≡ true = sym none ∙ any in cc;
+      let no : false ≡ true = sym none ∙ any in cc;
 }
 
 -- one more frame was taken

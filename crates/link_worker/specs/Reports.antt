@@ -108,6 +108,11 @@ pub record TakesFirst (b generation : ℕ) (frames left : List Frame) (old new :
   pub parts : frames ≡ taken ++ left
   pub takes : TakesReports b generation taken old new
 
+-- the frames, and the next one in front of them, if there is one
+abbrev pub in_front_of : Option Frame → List Frame → List Frame
+in_front_of None frames = frames
+in_front_of (Some frame) frames = frame ∷ frames
+
 -- there is something for the gate to be told
 abbrev pub has_any : Entered → Bool
 has_any e = nat_lt 0 e.reports || e.is_reply

@@ -10,8 +10,9 @@ use crate::end::End;
 use crate::entered::Entered;
 use crate::gate::Gate;
 use crate::link::Link;
+use crate::load::load_of;
 use crate::passage::{Passage, report_passage};
-use cbsp_messages::{MessageType, read_as};
+use cbsp_messages::{Message, MessageType, read_as};
 use cell_register::BscId;
 use centre_events::event::Event;
 use centre_events::refusal::Refusal;
@@ -32,8 +33,9 @@ const MOST_HELD: u32 = 64;
 /// Reads frames from the BSC, and submits each report at the desk, in their order; and so on until the side ends. Frames of other
 /// types are passed over by their length. Before each read the desk lets go of its receipts of folded entries. Up to 64
 /// frames of a read are taken in one hold of the office's lock: no further one once a report answered what was in flight, or the reports
-/// read many lines, or the journal is half full. After that the gate is asked for each of these reports (`Step::AfterReport`), and told
-/// whether it answered what was in flight (`Passage`). The reads are at most 1,000,000,000,000.
+/// read many lines, or the journal is half full, or the next report is one that may have to wait (`Gate::has_to_wait`). Before each hold
+/// the gate may wait (`Gate::before_report`). After it the gate is asked for each of its reports (`Step::AfterReport`), and told whether it
+/// answered what was in flight (`Passage`). The reads are at most 1,000,000,000,000.
 ///
 /// It goes on where a report answers no order in flight (`NoOrder`). It ends by any of the ends but `WriteFault`. The frames before
 /// one that is too long, or that can't be read, are taken first. `Superseded` and `Refused` come of the refusal of a report over
@@ -72,13 +74,15 @@ pub fn read_side<L: Ledger, S: Source, G: Gate, R: Wait>(
 }
 
 impl<'o, 'g, L: Ledger, G: Gate> Link<'o, 'g, L, G> {
-    ghost use Rattle.std.specs.Prelude.{◌≡◌, ◌≤◌, [], ◌∷◌, length, true, false, IfOk, IfErr, OnOk, OnErr};
+    ghost use Rattle.std.specs.Prelude.{◌≡◌, ◌≤◌, [], ◌∷◌, length, true, false, None, IfOk, IfErr, IfSome, IsTrue, OnOk, OnErr};
     ghost use Rattle.link_worker.specs.declared.end.End.TheVariants as end;
     ghost use Rattle.centre_events.specs.declared.event.Event.TheVariants as event;
     ghost use Rattle.framing.specs.Source.{counted, with_failure};
     ghost use Rattle.link_worker.specs.Ends.{fails_to_read};
     ghost use Rattle.link_worker.specs.Passages.{IsPassageOf, step_of};
-    ghost use Rattle.link_worker.specs.Reports.{EndsReading, IsCounted, IsPartial, IsRefusal, MayGet, Reads, StopsAmong, StopsInPiece, SubmitsFirst, TakesFirst, TakesPiece, TakesReports, has_any};
+    ghost use Rattle.link_worker.specs.Reports.{EndsReading, IsCounted, IsPartial, IsRefusal, IsReport, IsTaken, MayGet, Reads, StopsAmong, StopsInPiece, SubmitsFirst, TakesFirst, TakesPiece, TakesReports, has_any, in_front_of};
+    ghost use Rattle.framing.specs.declared.frame.Frame.{Frame};
+    ghost use Rattle.office.specs.Desks.{DeskState};
 
     /// Reads once, and takes what was read.
     fn read_once<S: Source, R: Wait>(
@@ -143,30 +147,39 @@ impl<'o, 'g, L: Ledger, G: Gate> Link<'o, 'g, L, G> {
         ensures ended { IfErr result (StopsAmong self.now.bsc self.now.generation framer.old.frames desk.old desk.new) }
         ensures cut { IfErr result (IfShut (G.may_cut self.now.gate.now self.now.bsc step.AfterReport)) }
     {
-        while let Some(frame) = framer.next() {
-            if let Err(end) = self.take_some(rt, desk, framer, &frame) {
-                return Err(end);
+        let mut next = framer.next();
+        while let Some(frame) = next {
+            match self.take_some(rt, desk, framer, frame) {
+                Ok(behind) => next = behind,
+                Err(end) => return Err(end),
             }
         }
         Ok(())
     }
 
     /// Takes the frame and some of those behind it in one hold of the office's lock, and then asks the gate for each report among them.
+    /// The answer is the frame behind those.
     fn take_some<R: Wait>(
         &self,
         rt: &R,
         desk: &mut Desk<L>,
         framer: &mut Framer,
-        first: &Frame,
-    ) -> Result<(), End>
+        first: Frame,
+    ) -> Result<Option<Frame>, End>
         ensures rest { framer.new.rest ≡ framer.old.rest }
-        ensures fewer { length framer.new.frames ≤ length framer.old.frames }
-        ensures taken { OnOk result (TakesFirst self.now.bsc self.now.generation (first.now ∷ framer.old.frames) framer.new.frames desk.old desk.new) }
-        ensures ended { IfErr result (StopsAmong self.now.bsc self.now.generation (first.now ∷ framer.old.frames) desk.old desk.new) }
+        ensures fewer { IfOk result (λ next. length (in_front_of next framer.new.frames) ≤ length framer.old.frames) }
+        ensures none { IfOk result (λ next. next ≡ None → framer.new.frames ≡ []) }
+        ensures taken { IfOk result (λ next. TakesFirst self.now.bsc self.now.generation (first ∷ framer.old.frames) (in_front_of next framer.new.frames) desk.old desk.new) }
+        ensures ended { IfErr result (StopsAmong self.now.bsc self.now.generation (first ∷ framer.old.frames) desk.old desk.new) }
         ensures cut { IfErr result (IfShut (G.may_cut self.now.gate.now self.now.bsc step.AfterReport)) }
     {
+        let Some(message) = self.report_in(&first)? else {
+            return Ok(framer.next());
+        };
+        let load = load_of(first.body.as_slice().len(), &message);
+        self.gate.before_report(rt, load);
         let mut entered = Entered::none();
-        let result = self.enter_some(rt, desk, framer, first, &mut entered);
+        let result = self.enter_some(rt, desk, framer, message, &mut entered);
         self.pass_all(rt, entered)?;
         result
     }
@@ -187,70 +200,110 @@ impl<'o, 'g, L: Ledger, G: Gate> Link<'o, 'g, L, G> {
         Ok(())
     }
 
-    /// Takes the frame and some of those behind it in one hold of the office's lock: until a report answers what was in flight, so that
-    /// the gate is told before the next order is, or it has been enough.
+    /// Submits the report of a frame, which the gate has let in, and takes some of the frames behind it in the same hold of the office's
+    /// lock: until a report answers what was in flight, so that the gate is told before the next order is, or a report may have to wait, or
+    /// it has been enough. The answer is the frame behind those.
     fn enter_some<R: Wait>(
         &self,
         rt: &R,
         desk: &mut Desk<L>,
         framer: &mut Framer,
-        first: &Frame,
+        first: Message,
         entered: &mut Entered,
-    ) -> Result<(), End>
+    ) -> Result<Option<Frame>, End>
         requires { has_any entered.old ≡ false }
         ensures rest { framer.new.rest ≡ framer.old.rest }
-        ensures fewer { length framer.new.frames ≤ length framer.old.frames }
-        ensures submitted { SubmitsFirst self.now.bsc self.now.generation (first.now ∷ framer.old.frames) desk.old desk.new entered.new }
-        ensures taken { OnOk result (TakesFirst self.now.bsc self.now.generation (first.now ∷ framer.old.frames) framer.new.frames desk.old desk.new) }
-        ensures ended { IfErr result (StopsAmong self.now.bsc self.now.generation (first.now ∷ framer.old.frames) desk.old desk.new) }
+        ensures fewer { IfOk result (λ next. length (in_front_of next framer.new.frames) ≤ length framer.old.frames) }
+        ensures none { IfOk result (λ next. next ≡ None → framer.new.frames ≡ []) }
+        ensures submitted { (frame : Frame) → IsReport frame first → SubmitsFirst self.now.bsc self.now.generation (frame ∷ framer.old.frames) desk.old desk.new entered.new }
+        ensures taken { IfOk result (λ next. (frame : Frame) → IsReport frame first → TakesFirst self.now.bsc self.now.generation (frame ∷ framer.old.frames) (in_front_of next framer.new.frames) desk.old desk.new) }
+        ensures ended { IfErr result (λ e. (frame : Frame) → IsReport frame first → StopsAmong self.now.bsc self.now.generation (frame ∷ framer.old.frames) desk.old desk.new e) }
         ensures cut { IfErr result (IfShut (G.may_cut self.now.gate.now self.now.bsc step.AfterReport)) }
     {
         let mut hold = self.office.hold(rt);
         let lines_read = hold.lines_read();
-        self.take_frame(rt, &mut hold, desk, first, entered)?;
+        self.submit_report(rt, &mut hold, desk, first, entered)?;
         for _ in 1..MOST_HELD {
             if entered.is_reply || !hold.has_time(lines_read) {
                 break;
             }
             let Some(frame) = framer.next() else {
-                break;
+                return Ok(None);
             };
-            self.take_frame(rt, &mut hold, desk, &frame, entered)?;
+            if !self.take_next(rt, &mut hold, desk, &frame, entered)? {
+                return Ok(Some(frame));
+            }
         }
-        Ok(())
+        Ok(framer.next())
     }
 
-    /// Submits the report in the frame, or passes over a frame of another type.
-    fn take_frame<R: Wait>(
+    /// Submits the report in a frame behind others, or passes over a frame of another type. `false` where the report may have to wait:
+    /// then it isn't submitted.
+    fn take_next<R: Wait>(
         &self,
         rt: &R,
         held: &mut Held<L>,
         desk: &mut Desk<L>,
         frame: &Frame,
         entered: &mut Entered,
-    ) -> Result<(), End>
-        ensures taken { OnOk result (TakesReports self.now.bsc self.now.generation (frame.now ∷ []) desk.old desk.new) }
-        ensures counted { OnOk result (IsCounted frame.now desk.old desk.new entered.old entered.new) }
+    ) -> Result<bool, End>
+        ensures taken { IfOk result (λ k. IsTrue k → TakesReports self.now.bsc self.now.generation (frame.now ∷ []) desk.old desk.new) }
+        ensures counted { IfOk result (λ k. IsTrue k → IsCounted frame.now desk.old desk.new entered.old entered.new) }
+        ensures left { IfOk result (λ k. k ≡ false → (desk.new ≡ desk.old) × (entered.new ≡ entered.old)) }
         ensures ended { IfErr result (StopsAmong self.now.bsc self.now.generation (frame.now ∷ []) desk.old desk.new) }
         ensures untaken { OnErr result (TakesReports self.now.bsc self.now.generation [] desk.old desk.new) }
         ensures uncounted { OnErr result (entered.new ≡ entered.old) }
         ensures cut { IfErr result (IfShut (G.may_cut self.now.gate.now self.now.bsc step.AfterReport)) }
     {
+        let Some(message) = self.report_in(frame)? else {
+            return Ok(true);
+        };
+        let load = load_of(frame.body.as_slice().len(), &message);
+        if self.gate.has_to_wait(rt, load) {
+            drop(message);
+            return Ok(false);
+        }
+        self.submit_report(rt, held, desk, message, entered)?;
+        Ok(true)
+    }
+
+    /// The report in the frame; `None` where the frame is of another type.
+    fn report_in(&self, frame: &Frame) -> Result<Option<Message>, End>
+        ensures report { IfOk result (λ found. IfSome found (IsReport frame.now)) }
+        ensures other { IfOk result (λ found. found ≡ None → IsTaken frame.now) }
+        ensures ended { IfErr result (λ e. (d : DeskState) → StopsAmong self.now.bsc self.now.generation (frame.now ∷ []) d d e) }
+        ensures cut { IfErr result (IfShut (G.may_cut self.now.gate.now self.now.bsc step.AfterReport)) }
+    {
         let Some(kind) = MessageType::of_report(frame.kind) else {
-            return Ok(());
+            return Ok(None);
         };
         match read_as(self.alloc, kind, frame.body.as_slice()) {
-            Ok(message) => {
-                let event = Event::Report(self.bsc, self.generation, message);
-                let passage = self.enter_report(rt, held, desk, event)?;
-                entered.add(passage);
-                Ok(())
-            }
+            Ok(message) => Ok(Some(message)),
             Err(fault) => Err(End::of_fault(fault)),
         }
     }
 
-    /// Submits a report. The answer is what the gate is to be told of it.
+    /// Submits a report, and counts what the gate is to be told of it.
+    fn submit_report<R: Wait>(
+        &self,
+        rt: &R,
+        held: &mut Held<L>,
+        desk: &mut Desk<L>,
+        message: Message,
+        entered: &mut Entered,
+    ) -> Result<(), End>
+        ensures got { MayGet (event.Report self.now.bsc self.now.generation message) desk.old desk.new }
+        ensures counted { OnOk result (has_any entered.new ≡ true) }
+        ensures refused { IfErr result (IsRefusal (event.Report self.now.bsc self.now.generation message) desk.old desk.new) }
+        ensures uncounted { OnErr result (entered.new ≡ entered.old) }
+    {
+        let event = Event::Report(self.bsc, self.generation, message);
+        let passage = self.enter_report(rt, held, desk, event)?;
+        entered.add(passage);
+        Ok(())
+    }
+
+    /// Submits an event. The answer is what the gate is to be told of it.
     fn enter_report<R: Wait>(
         &self,
         rt: &R,

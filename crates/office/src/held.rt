@@ -307,14 +307,25 @@ impl<L: Ledger> Held<L> {
         ensures link { result ≡ false → is_link affected.now ≡ false }
         ensures none { result ≡ false → (b : ℕ) → includes affected.now b ≡ true → due self.now.centre self.now.wishes b (last_link (past self.now.centre) b) ≡ None }
     {
-        has_any_work(&self.centre, self.wishes.as_slice(), self.is_full(), affected)
+        has_any_work(
+            &self.centre,
+            self.wishes.as_slice(),
+            self.is_full(),
+            affected,
+        )
     }
 
     /// Whether those who wait for the BSC are to be woken, where these are affected.
     pub(crate) fn wakes(&self, affected: &Affected, b: BscId) -> bool
         ensures { result ≡ wakes self.now.centre self.now.wishes affected.now b }
     {
-        wakes(&self.centre, self.wishes.as_slice(), self.is_full(), affected, b)
+        wakes(
+            &self.centre,
+            self.wishes.as_slice(),
+            self.is_full(),
+            affected,
+            b,
+        )
     }
 
     /// Makes a stale centre whole.

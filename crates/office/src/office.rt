@@ -216,9 +216,7 @@ impl<L: Ledger> Office<L> {
     {
         for _ in rt.forever() {
             let folded = self.release(rt, desk);
-            let mut guard = self
-                .conditions
-                .wait(rt, &self.held, b, generation, folded);
+            let mut guard = self.conditions.wait(rt, &self.held, b, generation, folded);
             guard.tell_soundness();
             if let Some(wake) = guard.take_wake(b, generation) {
                 return wake;
@@ -246,9 +244,7 @@ impl<L: Ledger> Office<L> {
     {
         for _ in rt.forever() {
             let folded = self.release(rt, desk);
-            let mut guard = self
-                .conditions
-                .wait(rt, &self.held, b, generation, folded);
+            let mut guard = self.conditions.wait(rt, &self.held, b, generation, folded);
             guard.tell_soundness();
             if let Some(result) = guard.send_due(desk, b, generation) {
                 count_sent(&mut self.counts.lock(rt), desk, &result);

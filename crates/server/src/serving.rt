@@ -18,7 +18,7 @@ use office::desk::Desk;
 use office::office::Office;
 use server_consoles::Consoles;
 use server_errors::Errors;
-use server_links::{LinkOptions, Shared};
+use server_links::{HeavyTurn, LinkOptions, Shared};
 use server_operator::Terminal;
 use std::alloc::Global;
 use std::fs::{File, Files};
@@ -166,6 +166,7 @@ fn end<L: Ledger, R: Wait, I: BufRead + Drop, W: Write + Drop, E: Write + Drop>(
         errors,
         options: _,
         folds: _,
+        heavy_turn: _,
         kept: _,
         with_simulator: _,
         closing: _,
@@ -236,6 +237,7 @@ fn run_begun<
             peers_file,
         },
         folds: Mutex::new(FoldPace::new(options.fold, options.journal_limit)),
+        heavy_turn: HeavyTurn::new(),
         kept: options.keep.as_ref().map(|_file| Kept::new(0)),
         with_simulator: options.with_simulator,
         closing: Mutex::new(false),

@@ -43,6 +43,30 @@ fn message_words(alloc: Global, message: &Message) -> Result<String, AllocError>
     }
 }
 
+/// How many cells the order or the query names.
+fn count_of(message: &Message) -> usize {
+    match message {
+        Message::WriteReplace(m) => m.cells.len(),
+        Message::WriteEmergency(m) => m.cells.len(),
+        Message::Kill(m) => m.cells.len(),
+        Message::StatusQuery(m) => m.cells.len(),
+        _ => 0,
+    }
+}
+
+/// How many cells the order or the query names whose frame this is; as many as it has octets, where it can't be read.
+pub(crate) fn cell_count(alloc: Global, frame: &[u8]) -> usize {
+    let (Some(kind), Some(body)) = (frame.first(), frame.get(4..)) else {
+        return frame.len();
+    };
+    let Ok(message) = read(alloc, *kind, body) else {
+        return frame.len();
+    };
+    let count = count_of(&message);
+    drop(message);
+    count
+}
+
 /// The order in words whose frame this is: its kind, the Message Identifier, the serial number that it names first, and in how
 /// many cells.
 pub fn order_words(alloc: Global, frame: &[u8]) -> Result<String, AllocError> {

@@ -57,9 +57,10 @@ fn look_at_reset<L: Ledger, E: Write + Drop, R: Wait + Clock>(
 }
 
 /// Looks at all ports once a second until the server ends: an order, a query or a RESET that has no reply is said, and a link is cut
-/// where it has had none for too long.
+/// where it has had none for too long. Each time it is looked by which figures reports are charged.
 pub fn watch<L: Ledger, E: Write + Drop, R: Wait + Clock>(rt: &R, shared: &Shared<L, E>) {
     for _ in rt.forever() {
+        shared.look_at_figures(rt);
         if shared.is_closed_within(rt, Duration::from_millis(PERIOD)) {
             return;
         }

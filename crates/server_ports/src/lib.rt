@@ -1,7 +1,7 @@
 //! The ports of a server: one for each BSC, and what the threads of a port tell each other.
 //!
-//! Begin with `port`. `port_state` is what stands under its lock, `port_pace` how fast it goes on. Why a link ended is said by
-//! `link_end`, and found by `causes`. `outgoing` writes to a connection, and keeps why that
+//! Begin with `port`. `port_state` is what stands under its lock, `port_pace` how fast it goes on, `figures` what its reports are
+//! charged by. Why a link ended is said by `link_end`, and found by `causes`. `outgoing` writes to a connection, and keeps why that
 //! failed.
 #![tactic(auto)]
 
@@ -9,6 +9,8 @@ mod broken;
 mod causes;
 mod connection;
 mod ended;
+mod entered;
+mod figures;
 mod job;
 mod link_end;
 mod link_limits;
@@ -26,6 +28,8 @@ pub use broken::Broken;
 pub use causes::cause_of;
 pub use connection::Connection;
 pub use ended::Ended;
+pub use entered::Entered;
+pub use figures::Figures;
 pub use job::Job;
 pub use link_end::LinkEnd;
 pub use link_limits::LinkLimits;

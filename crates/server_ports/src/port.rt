@@ -2,6 +2,8 @@
 
 use crate::connection::Connection;
 use crate::ended::Ended;
+use crate::entered::Entered;
+use crate::figures::Figures;
 use crate::job::Job;
 use crate::port_pace::PortPace;
 use crate::port_state::PortState;
@@ -9,7 +11,8 @@ use crate::shut::Shut;
 use crate::side_end::SideEnd;
 use cell_register::BscId;
 use libc::net::{SHUT_RDWR, shutdown};
-use link_rules::{AliveStep, Overdue, Repeat, Verdict};
+use link_rules::{AliveStep, Cost, Overdue, Repeat, Verdict};
+use link_worker::Load;
 use office::desk::Desk;
 use std::net::{IpAddr, SocketAddr, TcpListener, TcpStream};
 use std::os::fd::AsRawFd;
@@ -257,6 +260,36 @@ impl<L: Ledger> Port<L> {
     pub fn end_alive<R: Wait>(&self, rt: &R) {
         self.state.lock(rt).end_alive();
         self.changed.notify_all();
+    }
+
+    /// By which figures reports are charged from now on.
+    pub fn set_figures<R: Wait>(&self, rt: &R, figures: Figures) {
+        self.pace.lock(rt).set_figures(figures);
+    }
+
+    /// What a report of that load costs, which is charged; `None` where it has to wait.
+    pub fn begin_report<R: Wait>(&self, rt: &R, load: Load, now: u64) -> Option<Cost> {
+        self.pace.lock(rt).begin_report(load, now)
+    }
+
+    /// Whether a report of that load may come in behind another at once: it isn't heavy, and doesn't have to wait. It is charged then.
+    pub fn begin_light<R: Wait>(&self, rt: &R, load: Load, now: u64) -> bool {
+        self.pace.lock(rt).begin_light(load, now)
+    }
+
+    /// The report has the turn of the heavy ones.
+    pub fn take_turn<R: Wait>(&self, rt: &R) {
+        self.pace.lock(rt).take_turn();
+    }
+
+    /// The report was submitted, and those behind it, or it is none any more. The answer is what was known of them.
+    pub fn end_report<R: Wait>(&self, rt: &R) -> Entered {
+        self.pace.lock(rt).end_report()
+    }
+
+    /// Whether it is to be said that reports are held back for what they cost.
+    pub fn is_first_cost<R: Wait>(&self, rt: &R) -> bool {
+        self.pace.lock(rt).costs().is_first()
     }
 
     /// Whether a report may come in now, which is counted then.

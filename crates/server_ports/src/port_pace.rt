@@ -1,7 +1,12 @@
 //! How fast the links of a port go on.
 
+use crate::entered::Entered;
+use crate::figures::Figures;
 use crate::link_limits::LinkLimits;
-use link_rules::{AlivePace, AliveStep, Overdue, RateLimit, Repeat, Repeats, ReplyPace};
+use link_rules::{
+    AlivePace, AliveStep, Cost, CostLimit, Overdue, RateLimit, Repeat, Repeats, ReplyPace,
+};
+use link_worker::Load;
 use std::alloc::Global;
 
 /// The first octet of a MESSAGE STATUS QUERY (3GPP TS 48.049, 8.2.3).
@@ -14,6 +19,11 @@ pub struct PortPace {
     connections: RateLimit,
     /// Connections that are closed at once, each of which is said.
     closed: RateLimit,
+    /// What reports may cost, and by which figures they are charged.
+    costs: CostLimit,
+    figures: Figures,
+    /// The reports that were let in last.
+    entered: Entered,
     /// Since when an order or a query is out.
     replies: ReplyPace,
     /// Since when a RESET is out.
@@ -40,6 +50,9 @@ impl PortPace {
             reports: limits.reports,
             connections: limits.connections,
             closed: RateLimit::for_connections(),
+            costs: limits.costs,
+            figures: Figures::none(),
+            entered: Entered::none(),
             replies: ReplyPace::new(reply_seconds, cut_seconds),
             resets: ReplyPace::new(reply_seconds, cut_seconds),
             reset_second: 0,
@@ -130,6 +143,49 @@ impl PortPace {
     /// The same, of a RESET.
     pub(crate) fn look_reset(&mut self, now: u64) -> Overdue {
         self.resets.look(now)
+    }
+
+    /// By which figures reports are charged from now on.
+    pub(crate) fn set_figures(&mut self, figures: Figures) {
+        self.figures = figures;
+    }
+
+    /// What a report of that load costs, which is charged; `None` where it has to wait.
+    pub(crate) fn begin_report(&mut self, load: Load, now: u64) -> Option<Cost> {
+        let cost = self.figures.cost_of(load);
+        if !self.costs.take(cost, now) {
+            return None;
+        }
+        self.entered.kept = cost.kept;
+        self.entered.pause_ms = cost.pause_ms();
+        Some(cost)
+    }
+
+    /// Whether a report of that load may come in behind another at once: it isn't heavy, and doesn't have to wait. It is charged then.
+    pub(crate) fn begin_light(&mut self, load: Load, now: u64) -> bool {
+        let cost = self.figures.cost_of(load);
+        if cost.is_heavy() || !self.costs.take(cost, now) {
+            return false;
+        }
+        self.entered.kept = self.entered.kept.saturating_add(cost.kept);
+        true
+    }
+
+    /// The report has the turn of the heavy ones.
+    pub(crate) fn take_turn(&mut self) {
+        self.entered.had_turn = true;
+    }
+
+    /// The report was submitted, and those behind it, or it is none any more.
+    pub(crate) fn end_report(&mut self) -> Entered {
+        let entered = self.entered;
+        self.entered = Entered::none();
+        entered
+    }
+
+    /// What reports may cost.
+    pub(crate) fn costs(&mut self) -> &mut CostLimit {
+        &mut self.costs
     }
 
     /// How fast reports are let in.

@@ -16,7 +16,7 @@ use link_rules::FoldPace;
 use office::desk::Desk;
 use office::office::Office;
 use server_errors::Errors;
-use server_links::{LinkOptions, Shared};
+use server_links::{HeavyTurn, LinkOptions, Shared};
 use std::alloc::Global;
 use std::io::{Error, ErrorKind, Write};
 use std::marker::Brand;
@@ -102,6 +102,7 @@ fn shared_of<L: Ledger, E: Write + Drop>(
             peers_file: None,
         },
         folds: Mutex::new(FoldPace::new(4_000_000, LIMIT)),
+        heavy_turn: HeavyTurn::new(),
         kept: Some(Kept::new(0)),
         with_simulator: false,
         closing: Mutex::new(false),

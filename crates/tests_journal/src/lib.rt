@@ -11,6 +11,8 @@ mod fold_tests;
 #[cfg(test)]
 mod given_journal;
 #[cfg(test)]
+mod heavy_turn_tests;
+#[cfg(test)]
 mod keeper_tests;
 #[cfg(test)]
 mod operator_tests;

@@ -60,7 +60,11 @@ fn is_done<L: Ledger, R: Wait + Abort>(
 }
 
 /// An office of two BSCs, whose links are up. The warning is on air in a cell of each, and nothing is to do.
-fn both_idle<L: Ledger, R: Wait + Abort>(rt: &R, alloc: Global, blank: Blank) -> (Office<L>, Desk<L>)
+fn both_idle<L: Ledger, R: Wait + Abort>(
+    rt: &R,
+    alloc: Global,
+    blank: Blank,
+) -> (Office<L>, Desk<L>)
     requires name { blank.name ≡ L.name }
     requires parts { blank.parts ≡ L.parts }
     requires desks { blank.parts ≡ 1025 }

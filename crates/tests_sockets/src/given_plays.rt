@@ -9,6 +9,7 @@ use crate::peer::{PATIENCE, connected, fails, gets, is_closed, next_frame, sends
 use crate::text_files::TextFiles;
 use centre_events::network::Network;
 use console_text::options::{FOLD, MOST_ENTRIES};
+use link_rules::Cost;
 use server::{PeersSource, ServeOptions, serve, serve_words};
 use server_errors::{line_text, utc_text};
 use server_ports::LinkLimits;
@@ -92,8 +93,9 @@ pub(crate) struct Play {
     /// The words of its command line behind `cbc serve` and the port.
     pub(crate) words: &'static [&'static str],
     pub(crate) base: Base,
-    /// Instead of the words: two BSCs may connect, and each port has had so many reports and connections already.
-    pub(crate) spent: Option<(u32, u32)>,
+    /// Instead of the words: two BSCs may connect, and each port has had so many reports and connections already, and reports of so many
+    /// octets.
+    pub(crate) spent: Option<(u32, u32, u64)>,
     /// What is done while it runs.
     pub(crate) acts: &'static [Act],
     pub(crate) status: u8,
@@ -378,8 +380,13 @@ fn add_word(rt: &impl Abort, alloc: Global, words: &mut Vec<String>, word: &str)
     words.push(word).expect(rt, "memory");
 }
 
-/// Limits of which so many reports and connections are spent, as if that were `HELD` from now.
-fn spent_limits<R: Abort + Clock>(rt: &R, reports: u32, connections: u32) -> LinkLimits {
+/// Limits of which so many reports, connections and octets are spent, as if that were `HELD` from now.
+fn spent_limits<R: Abort + Clock>(
+    rt: &R,
+    reports: u32,
+    connections: u32,
+    octets: u64,
+) -> LinkLimits {
     let now = moment(rt).saturating_add(HELD);
     let mut limits = LinkLimits::usual();
     for _ in 0..reports {
@@ -388,6 +395,7 @@ fn spent_limits<R: Abort + Clock>(rt: &R, reports: u32, connections: u32) -> Lin
     for _ in 0..connections {
         limits.connections.take(now);
     }
+    limits.costs.take(Cost::of(octets, Some(0), 0, 0), now);
     limits
 }
 
@@ -425,8 +433,8 @@ fn options_of<R: Abort + Clock>(
     base: u16,
 ) -> Option<ServeOptions> {
     match play.spent {
-        Some((reports, connections)) => {
-            let limits = spent_limits(rt, reports, connections);
+        Some((reports, connections, octets)) => {
+            let limits = spent_limits(rt, reports, connections, octets);
             Some(limited(rt, alloc, base, limits))
         }
         None => None,

@@ -1,0 +1,23 @@
+//! Reports that were submitted.
+
+/// What was known of a report, and of those behind it, when they were let in.
+#[derive(Clone, Copy, Debug, PartialEq, Eq)]
+pub struct Entered {
+    /// How many octets and cells are kept of them.
+    pub kept: u64,
+    /// The first had the turn of the heavy reports.
+    pub had_turn: bool,
+    /// How many milliseconds are left to others before the next has the turn.
+    pub pause_ms: u64,
+}
+
+impl Entered {
+    /// None.
+    pub(crate) fn none() -> Entered {
+        Entered {
+            kept: 0,
+            had_turn: false,
+            pause_ms: 0,
+        }
+    }
+}
