@@ -267,9 +267,14 @@ impl<L: Ledger> Port<L> {
         self.pace.lock(rt).set_figures(figures);
     }
 
-    /// What a report of that load costs, which is charged; `None` where it has to wait.
-    pub fn begin_report<R: Wait>(&self, rt: &R, load: Load, now: u64) -> Option<Cost> {
-        self.pace.lock(rt).begin_report(load, now)
+    /// A report of that load is to come in. The answer is what it costs, which isn't charged yet.
+    pub fn begin_report<R: Wait>(&self, rt: &R, load: Load) -> Cost {
+        self.pace.lock(rt).begin_report(load)
+    }
+
+    /// Whether a report of that cost may come in now, which is charged then.
+    pub fn take_cost<R: Wait>(&self, rt: &R, cost: Cost, now: u64) -> bool {
+        self.pace.lock(rt).take_cost(cost, now)
     }
 
     /// Whether a report of that load may come in behind another at once: it isn't heavy, and doesn't have to wait. It is charged then.

@@ -150,15 +150,17 @@ impl PortPace {
         self.figures = figures;
     }
 
-    /// What a report of that load costs, which is charged; `None` where it has to wait.
-    pub(crate) fn begin_report(&mut self, load: Load, now: u64) -> Option<Cost> {
+    /// A report of that load is to come in. The answer is what it costs, which isn't charged yet.
+    pub(crate) fn begin_report(&mut self, load: Load) -> Cost {
         let cost = self.figures.cost_of(load);
-        if !self.costs.take(cost, now) {
-            return None;
-        }
         self.entered.kept = cost.kept;
         self.entered.pause_ms = cost.pause_ms();
-        Some(cost)
+        cost
+    }
+
+    /// Whether a report of that cost may come in now, which is charged then.
+    pub(crate) fn take_cost(&mut self, cost: Cost, now: u64) -> bool {
+        self.costs.take(cost, now)
     }
 
     /// Whether a report of that load may come in behind another at once: it isn't heavy, and doesn't have to wait. It is charged then.
