@@ -9,7 +9,7 @@ use Rattle.centre_past.specs.Legal.{Known, Lawful, past}
 use Rattle.centre_past.specs.LinkStates.{has_pending}
 use Rattle.centre_events.specs.declared.refusal.Refusal.{Refusal}
 use Rattle.office.specs.Helds.{HeldState}
-use Rattle.office.specs.OwnWishes.{IsBusySomewhere, IsOwnWishSomewhere, KeepsWishes, has_link, has_nothing, is_idle, left_with}
+use Rattle.office.specs.OwnWishes.{IsIdleSomewhere, IsOwnWishSomewhere, KeepsWishes, has_link, has_nothing, is_idle, left_with}
 use Rattle.office.specs.Wakes.{is_full}
 use Rattle.office.specs.Wishes.{CanWish, wish_for, wish_of, with_wish}
 use Rattle.office.specs.declared.wish.Wish.{Wish}
@@ -64,7 +64,10 @@ own_wish_if (Ok false) old new b w after lawful headline can idle kept others = 
 own_wish_if (Err r) old new b w after lawful headline can idle kept others = can
 
 pub busy_if : (result : Result Bool Refusal) (old : HeldState) (b : ℕ) → Lawful old.centre.settings (past old.centre) → PendingGivesPlan (past old.centre)
-    → IfOk result (λ kept. kept ≡ is_idle old.centre old.wishes b) → IfOk result (λ kept. kept ≡ false → IsBusySomewhere b)
+    → IfOk result (λ kept. kept ≡ is_idle old.centre old.wishes b) → IfOk result (λ kept. kept ≡ false → IsIdleSomewhere b false)
 busy_if (Ok true) old b lawful headline idle = λ no. cc
-busy_if (Ok false) old b lawful headline idle = λ no. record { centre = old.centre; wishes = old.wishes; lawful = lawful; headline = headline; busy = sym idle }
+busy_if (Ok false) old b lawful headline idle = λ no. record { centre = old.centre; wishes = old.wishes; lawful = lawful; headline = headline; is = sym idle }
 busy_if (Err r) old b lawful headline idle = idle
+
+pub idle_as : (idle : Bool) (held : HeldState) (b : ℕ) → Lawful held.centre.settings (past held.centre) → PendingGivesPlan (past held.centre) → idle ≡ is_idle held.centre held.wishes b → IsIdleSomewhere b idle
+idle_as idle held b lawful headline is = record { centre = held.centre; wishes = held.wishes; lawful = lawful; headline = headline; is = sym is }

@@ -1,5 +1,5 @@
 -- Wishes of the server's own: when one is kept, and that the wishes that are kept stay.
-use Rattle.std.specs.Prelude.{◌≡◌, ℕ, Bool, true, false, ◌&&◌, not, List, Option, Some, is_some, if◌then◌else◌}
+use Rattle.std.specs.Prelude.{◌≡◌, ℕ, Bool, true, ◌&&◌, not, List, Option, Some, is_some, if◌then◌else◌}
 use Rattle.common.specs.declared.cell.Cell.{Cell}
 use Rattle.centre_events.specs.InFlight.{in_flight}
 use Rattle.centre_events.specs.Links.{is_bsc, is_up}
@@ -43,10 +43,10 @@ pub record IsOwnWishSomewhere (b w : ℕ) (after : Option Cell) : Type 0 where
   pub kept : wish_for wishes b ≡ Some (wish_of b w after)
   pub others : KeepsWishes before wishes
 
--- in some such centre, beside some wishes, the BSC's link wasn't idle
-pub record IsBusySomewhere (b : ℕ) : Type 0 where
+-- in some such centre, beside some wishes, the BSC's link was idle, or it wasn't
+pub record IsIdleSomewhere (b : ℕ) (idle : Bool) : Type 0 where
   pub centre : Known
   pub wishes : List Wish
   pub lawful : Lawful centre.settings (past centre)
   pub headline : PendingGivesPlan (past centre)
-  pub busy : is_idle centre wishes b ≡ false
+  pub is : is_idle centre wishes b ≡ idle

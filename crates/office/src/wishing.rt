@@ -38,8 +38,18 @@ impl<L: Ledger> Held<L> {
 
 impl<L: Ledger> Office<L> {
     ghost use Rattle.std.specs.Prelude.{◌≡◌, false, IfErr, IfOk, IsTrue};
-    ghost use Rattle.office.specs.OwnWishes.{IsBusySomewhere, IsOwnWishSomewhere};
+    ghost use Rattle.office.specs.OwnWishes.{IsIdleSomewhere, IsOwnWishSomewhere};
     ghost use Rattle.office.specs.Wishes.{IsUnwishedSomewhere};
+
+    /// Whether the BSC's link is up and has nothing to do: nothing is in flight to it or pending for it, and no wish is kept for it.
+    #[tactic(auto, using(crate::proofs::OwnWishLemmas::idle_as))]
+    pub fn is_idle<R: Wait>(&self, rt: &R, b: BscId) -> bool
+        ensures { IsIdleSomewhere b result }
+    {
+        let guard = self.held.lock(rt);
+        guard.tell_soundness();
+        guard.is_idle(b)
+    }
 
     /// Keeps a wish that no operator has, to ask the BSC about a warning in the cells after that one. It is kept only where the BSC's
     /// link is up, nothing is in flight to it or pending for it, and no wish is kept for it, so that an operator's wish stays. The
@@ -52,7 +62,7 @@ impl<L: Ledger> Office<L> {
         after: Option<Cell>,
     ) -> Result<bool, Refusal>
         ensures wished { IfOk result (λ kept. IsTrue kept → IsOwnWishSomewhere b warning after) }
-        ensures busy { IfOk result (λ kept. kept ≡ false → IsBusySomewhere b) }
+        ensures busy { IfOk result (λ kept. kept ≡ false → IsIdleSomewhere b false) }
         ensures refused { IfErr result (IsUnwishedSomewhere b warning) }
     {
         let mut guard = self.held.lock(rt);
