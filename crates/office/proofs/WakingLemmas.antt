@@ -78,7 +78,7 @@ nobody_missed centre e lawful v wishes b generation none quiet = step (affects (
         subst (λ g. due (with_entry centre e) wishes b g ≡ None) (is_latest centre e v idle.0 b generation linked) (nothing (due (with_entry centre e) wishes b (last_link (past (with_entry centre e)) b)) idle.1)
 
 -- the wish for another BSC is what it was
-wish_left : (w : Wish) (ws : List Wish) (b : ℕ) → nat_eq w.bsc b ≡ false → wish_for (without_wish w.bsc ws ++ w ∷ []) b ≡ wish_for ws b
+pub wish_left : (w : Wish) (ws : List Wish) (b : ℕ) → nat_eq w.bsc b ≡ false → wish_for (without_wish w.bsc ws ++ w ∷ []) b ≡ wish_for ws b
 wish_left w [] b other = ap (λ t. cond t (Some w) None) other
 wish_left w (v ∷ ws) b other = step (wish_left w ws b other) (is_wish_of w.bsc v) refl
   where

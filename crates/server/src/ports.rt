@@ -44,6 +44,7 @@ fn bind<R: Net<Stream = TcpStream, Listener = TcpListener>, L: Ledger>(
         options.reply_seconds,
         options.cut_seconds,
         options.alive_seconds,
+        options.query_ms,
     );
     Ok(Port::new(b, listener, address, pace))
 }

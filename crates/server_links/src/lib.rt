@@ -4,9 +4,10 @@
 //! brings up a link and reads from it (`reading`), one writes to it (`writing`). A fourth may be a simulated BSC (`simulating`). `gate`
 //! keeps to how fast reports and orders may pass, `charging` to what reports may cost, and `watching` sees to it that an order without a
 //! reply is said. `resetting` has a BSC forget what it broadcasts when it connects, and `awaiting` waits until it has. `alive` asks a BSC
-//! that says nothing whether it is there. `folding` folds the journal where that is due, `keeping` keeps it in a file.
-//! What happens to links is said by a thread of its own (`server_errors`). No clause says what a socket gives or when a thread goes
-//! on; what is promised of the two sides of a link stands in `link_worker`, and by which rules a link goes on in `link_rules`.
+//! that says nothing whether it is there, `querying` one what is on air where no operator does. `folding` folds the journal where that is
+//! due, `keeping` keeps it in a file. What happens to links is said by a thread of its own (`server_errors`). No clause says what a socket
+//! gives or when a thread goes on; what is promised of the two sides of a link stands in `link_worker`, and by which rules a link goes on
+//! in `link_rules`.
 #![tactic(auto)]
 
 mod accepting;
@@ -21,6 +22,7 @@ mod incoming;
 mod keeping;
 mod options;
 mod orders;
+mod querying;
 mod reading;
 mod renaming;
 mod resetting;

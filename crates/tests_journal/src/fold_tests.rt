@@ -98,6 +98,8 @@ fn shared_of<L: Ledger, E: Write + Drop>(
             reply_seconds: 0,
             cut_seconds: 0,
             alive_seconds: 0,
+            query_ms: 0,
+            queries_per_second: 2,
             peers: Mutex::new(None),
             peers_file: None,
         },

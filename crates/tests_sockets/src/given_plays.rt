@@ -433,6 +433,8 @@ fn limited(rt: &impl Abort, alloc: Global, base: u16, limits: LinkLimits) -> Ser
         reply_seconds: 30,
         cut_seconds: 0,
         alive_seconds: 0,
+        query_ms: 0,
+        queries_per_second: 2,
         peers: None,
         keep: None,
         console: None,
