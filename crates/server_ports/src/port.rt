@@ -84,6 +84,11 @@ impl<L: Ledger> Port<L> {
         self.state.lock(rt).peer()
     }
 
+    /// Where the link came from that has this generation, or is coming up, unless something has ended it.
+    pub fn peer_of<R: Wait>(&self, rt: &R, generation: u64) -> Option<SocketAddr> {
+        self.state.lock(rt).peer_of(generation)
+    }
+
     /// The generation of the link that is up.
     pub fn generation<R: Wait>(&self, rt: &R) -> Option<u64> {
         self.state.lock(rt).generation()
