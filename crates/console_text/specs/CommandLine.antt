@@ -138,13 +138,17 @@ with_link_rules a = with_rule (with_seconds (with_rule a reset_option)) peers_op
 abbrev pub with_queries : App → App
 with_queries a = with_rule (with_rule a query_option) pace_option
 
+-- the options by which links go on
+abbrev pub with_links : App → App
+with_links a = with_queries (with_link_rules a)
+
 -- the options of the journal
 abbrev pub with_journal : App → App
 with_journal a = with_rule (with_rule a fold_option) keep_option
 
 -- `serve`, with its nineteen options
 abbrev pub serve_command : App
-serve_command = with_watchers (with_consoles (with_queries (with_link_rules (with_journal (with_ports (with_common (new_app (codes "serve"))))))))
+serve_command = with_watchers (with_consoles (with_links (with_journal (with_ports (with_common (new_app (codes "serve")))))))
 
 -- a program that is nothing without a command, but for help and for `--version`, which asks for its name and its version
 abbrev pub program : App

@@ -3,7 +3,7 @@
 ghost use Rattle.std.specs.Prelude.{◌≡◌, false, IfOk};
 ghost use Rattle.clap.specs.Words.{app_of, rule_of};
 ghost use Rattle.clap.specs.declared.builder.command.Command.TheViews.{out-Command as fields_of};
-ghost use Rattle.console_text.specs.CommandLine.{plmn_option, broadcasts_option, journal_option, host_option, base_option, links_option, fold_option, sim_option, reset_option, reply_option, cut_option, alive_option, query_option, pace_option, peers_option, keep_option, console_option, consoles_option, http_option, with_watchers, with_consoles, with_common, with_ports, with_journal, with_link_rules, with_seconds, with_queries, replay_command, serve_command, command_line};
+ghost use Rattle.console_text.specs.CommandLine.{plmn_option, broadcasts_option, journal_option, host_option, base_option, links_option, fold_option, sim_option, reset_option, reply_option, cut_option, alive_option, query_option, pace_option, peers_option, keep_option, console_option, consoles_option, http_option, with_watchers, with_consoles, with_common, with_ports, with_journal, with_link_rules, with_links, with_seconds, with_queries, replay_command, serve_command, command_line};
 
 use clap::builder::ValueParser;
 use clap::{Arg, ArgAction, Command};
@@ -316,6 +316,15 @@ fn with_link_rules<'a>(alloc: Global, command: Command<'a>) -> Result<Command<'a
     command.arg(peers_option(alloc))
 }
 
+/// The options by which links go on.
+fn with_links<'a>(alloc: Global, command: Command<'a>) -> Result<Command<'a>, AllocError>
+    requires { (fields_of command).has_globals ≡ false }
+    ensures app { IfOk result (λ c. app_of c ≡ with_links (app_of command.entry)) }
+    ensures own { IfOk result (λ c. (fields_of c).has_globals ≡ false) }
+{
+    with_queries(alloc, with_link_rules(alloc, command)?)
+}
+
 /// The options of the journal: when it is folded, and where it is kept.
 fn with_journal<'a>(alloc: Global, command: Command<'a>) -> Result<Command<'a>, AllocError>
     requires { (fields_of command).has_globals ≡ false }
@@ -361,8 +370,7 @@ fn serve_command<'a>(alloc: Global) -> Result<Command<'a>, AllocError>
 {
     let command = Command::new(alloc, "serve").about("Keeps warnings on air over TCP");
     let command = with_ports(alloc, with_common(alloc, command)?)?;
-    let command = with_link_rules(alloc, with_journal(alloc, command)?)?;
-    let command = with_queries(alloc, command)?;
+    let command = with_links(alloc, with_journal(alloc, command)?)?;
     with_watchers(alloc, with_consoles(alloc, command)?)
 }
 

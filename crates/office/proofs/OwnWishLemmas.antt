@@ -1,5 +1,5 @@
 -- A wish that is kept where none was for its BSC leaves the others; and from what holds of it under the lock to what an office promises.
-use Rattle.std.proofs.Common.{◌≡◌, ℕ, Bool, true, false, ◌&&◌, not, List, Option, None, Some, Result, Ok, Err, OnOk, IfOk, IsTrue, nat_eq, refl, sym, ap, ◌∙◌}
+use Rattle.std.proofs.Common.{◌≡◌, ℕ, Bool, true, false, ◌&&◌, not, List, Option, None, Some, Result, Ok, Err, IfOk, IsTrue, nat_eq, refl, sym, ap, ◌∙◌}
 use Rattle.std.proofs.lemmas.Bool.{and_parts}
 use Rattle.std.specs.Option.{is_some}
 use Rattle.common.specs.declared.cell.Cell.{Cell}

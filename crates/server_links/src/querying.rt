@@ -88,7 +88,28 @@ impl<L: Ledger, E: Drop> Shared<L, E> {
         false
     }
 
-    /// Enters the queries that are due, as many as may be wished for now, over all BSCs in turn.
+    /// Enters the queries that are due at the BSCs from one place to before another, as many as have a turn.
+    fn query_some<R: Wait + Clock>(
+        &self,
+        rt: &R,
+        turns: &mut QueryTurns,
+        on_air: &OnAir,
+        places: (usize, usize),
+    ) {
+        for place in places.0..places.1 {
+            if !turns.has_turn() {
+                return;
+            }
+            if let Some(port) = self.ports.get(place) {
+                if self.query_port(rt, port, on_air) {
+                    turns.take(place);
+                }
+            }
+        }
+    }
+
+    /// Enters the queries that are due, as many as have a turn now, over all BSCs: from the one behind the last that was asked, and then
+    /// those before it.
     pub(crate) fn enter_queries<R: Wait + Clock>(&self, rt: &R, turns: &mut QueryTurns) {
         turns.look(now_of(rt));
         let Some(on_air) = self.on_air(rt) else {
@@ -96,17 +117,8 @@ impl<L: Ledger, E: Drop> Shared<L, E> {
         };
         let count = self.ports.len();
         let first = turns.first(count);
-        for step in 0..count {
-            if !turns.has_turn() {
-                break;
-            }
-            let place = (first + step) % count;
-            if let Some(port) = self.ports.get(place) {
-                if self.query_port(rt, port, &on_air) {
-                    turns.take(place);
-                }
-            }
-        }
+        self.query_some(rt, turns, &on_air, (first, count));
+        self.query_some(rt, turns, &on_air, (0, first));
         drop(on_air);
     }
 }

@@ -24,6 +24,8 @@ mod link_rule_tests;
 #[cfg(test)]
 mod message_tests;
 #[cfg(test)]
+mod query_tests;
+#[cfg(test)]
 mod register_tests;
 #[cfg(test)]
 mod serial_tests;

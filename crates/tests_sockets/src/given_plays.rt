@@ -113,6 +113,9 @@ pub(crate) struct Play {
     pub(crate) base: Base,
     /// Instead of the words: two BSCs may connect, and each port has had so much already.
     pub(crate) spent: Option<Spent>,
+    /// Unless 0, instead of the words: two BSCs may connect, each is asked so many milliseconds after it was last heard of a warning how
+    /// often that was broadcast, and a reply is overdue after two seconds.
+    pub(crate) query_ms: u64,
     /// What is done while it runs.
     pub(crate) acts: &'static [Act],
     pub(crate) status: u8,
@@ -127,6 +130,7 @@ pub(crate) const USUAL: Play = Play {
     words: &[],
     base: Base::Free,
     spent: None,
+    query_ms: 0,
     acts: &[],
     status: 0,
     answers: Wanted::Any,
@@ -444,6 +448,14 @@ fn limited(rt: &impl Abort, alloc: Global, base: u16, limits: LinkLimits) -> Ser
     }
 }
 
+/// The options of a server that asks after so many milliseconds.
+fn asking(rt: &impl Abort, alloc: Global, base: u16, query_ms: u64) -> ServeOptions {
+    let mut options = limited(rt, alloc, base, LinkLimits::usual());
+    options.query_ms = query_ms;
+    options.reply_seconds = 2;
+    options
+}
+
 /// The options of the play's server, where words don't say them.
 fn options_of<R: Abort + Clock>(
     rt: &R,
@@ -456,6 +468,7 @@ fn options_of<R: Abort + Clock>(
             let limits = spent_limits(rt, spent);
             Some(limited(rt, alloc, base, limits))
         }
+        None if play.query_ms != 0 => Some(asking(rt, alloc, base, play.query_ms)),
         None => None,
     }
 }

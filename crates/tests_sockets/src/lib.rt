@@ -29,6 +29,8 @@ mod operator_tests;
 #[cfg(test)]
 mod peer;
 #[cfg(test)]
+mod query_tests;
+#[cfg(test)]
 mod reset_tests;
 #[cfg(test)]
 mod serving_tests;
