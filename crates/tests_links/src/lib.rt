@@ -29,6 +29,8 @@ mod orders_in_turn_tests;
 #[cfg(test)]
 mod passage_tests;
 #[cfg(test)]
+mod period_tests;
+#[cfg(test)]
 mod picture_tests;
 #[cfg(test)]
 mod read_side_tests;
