@@ -44,7 +44,7 @@ pub struct Office<L: Ledger> {
     alloc: Global,
     pub(crate) held: Mutex<Held<L>>,
     /// On which those wait who have something to do for a link.
-    conditions: Conditions,
+    pub(crate) conditions: Conditions,
     /// On which those wait who follow the journal.
     entered: Condvar,
     /// Whoever holds this and the lock took the lock first.

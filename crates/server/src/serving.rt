@@ -234,6 +234,8 @@ fn run_begun<
             reply_seconds: options.reply_seconds,
             cut_seconds: options.cut_seconds,
             alive_seconds: options.alive_seconds,
+            query_ms: options.query_ms,
+            queries_per_second: options.queries_per_second,
             peers: Mutex::new(peers),
             peers_file,
         },
