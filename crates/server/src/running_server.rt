@@ -113,6 +113,25 @@ impl<'a, L: Ledger, E: Write + Drop, F: PeersSource> Server for RunningServer<'a
         }
     }
 
+    /// Says that the BSC may refuse one of the two.
+    fn has_two_periods<R: Wait + Clock>(
+        &self,
+        rt: &R,
+        warning: WarningId,
+        b: BscId,
+        other: WarningId,
+    ) {
+        let warning = warning.number();
+        let b = b.number();
+        let other = other.number();
+        let alloc = self.shared.alloc;
+        if let Ok(text) = format!(in alloc;
+            "warning {warning}: BSC {b} has warning {other} of another period beside it, and may refuse one: give all warnings of a BSC one period"
+        ) {
+            say_of_centre(rt, alloc, &self.shared.errors, text);
+        }
+    }
+
     /// Says that the older message stays on air.
     fn stays_on_air<R: Wait + Clock>(&self, rt: &R, warning: WarningId, b: BscId) {
         let warning = warning.number();

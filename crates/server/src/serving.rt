@@ -6,7 +6,7 @@ use crate::consoles::{close_consoles_file, open_console_desks, open_consoles};
 use crate::desks::desks_of;
 use crate::fault::ServeFault;
 use crate::journal::{begin_journal, open_journal};
-use crate::looking::{Looking, open_looking, run_looking};
+use crate::looking::{Looking, open_looking, open_looking_desk, run_looking};
 use crate::options::{OptionsFault, ServeOptions, read_options};
 use crate::peers_source::PeersSource;
 use crate::ports::{Opened, open_desks, open_ports};
@@ -74,12 +74,13 @@ fn run_from_desks<
     rt: &R,
     shared: &Shared<L, E>,
     keeper: Option<Keeper<DiskFile>>,
-    looking: Option<&Looking>,
+    looking: Option<&Looking<L>>,
     consoles: Option<&Consoles<L>>,
     terminal: &Mutex<Terminal<L, I, W>>,
 ) -> Result<(), ServeFault> {
     open_desks(rt, &shared.office, shared.ports.as_slice())?;
     open_console_desks(rt, &shared.office, consoles)?;
+    open_looking_desk(rt, &shared.office, looking)?;
     match run_looking(rt, shared, looking, keeper, consoles, terminal) {
         Ok(()) => {}
         Err(fault) => return Err(ServeFault::Lines(fault)),
@@ -109,13 +110,13 @@ fn run_desks<
     options: &ServeOptions,
     shared: &Shared<L, E>,
     file: Option<DiskFile>,
-    looking: Option<&Looking>,
+    looking: Option<&Looking<L>>,
     consoles: Option<&Consoles<L>>,
     terminal: &Mutex<Terminal<L, I, W>>,
 ) -> Result<Vec<Desk<L>>, ServeFault> {
     let keeper = begin_journal(rt, options, shared, file, terminal)?;
     run_from_desks(rt, shared, keeper, looking, consoles, terminal)?;
-    desks_of(rt, shared, consoles, terminal)
+    desks_of(rt, shared, looking, consoles, terminal)
 }
 
 /// What is open before the threads of a run begin.
@@ -123,7 +124,7 @@ fn run_desks<
 struct Begun<L: Ledger> {
     file: Option<DiskFile>,
     opened: Opened<L>,
-    looking: Option<Looking>,
+    looking: Option<Looking<L>>,
     consoles: Option<Consoles<L>>,
 }
 

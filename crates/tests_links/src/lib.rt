@@ -31,6 +31,8 @@ mod own_wish_tests;
 #[cfg(test)]
 mod passage_tests;
 #[cfg(test)]
+mod period_tests;
+#[cfg(test)]
 mod picture_tests;
 #[cfg(test)]
 mod read_side_tests;
