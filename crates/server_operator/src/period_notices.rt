@@ -77,7 +77,7 @@ fn areas<L: Ledger, S: Server, R: Wait>(
 }
 
 /// The warning of that row, if it has pages.
-fn placed<L: Ledger, S: Server, R: Wait>(
+fn placed_of<L: Ledger, S: Server, R: Wait>(
     rt: &R,
     operator: &Operator<'_, L, S>,
     desk: &Desk<L>,
@@ -164,10 +164,10 @@ fn name_beside<L: Ledger, S: Server, R: Wait + Clock>(
     rivals: &[&WarningRow],
 ) -> Option<()> {
     let seen = operator.office.look(rt, desk, Question::Bscs).ok()?;
-    let own = placed(rt, operator, desk, row)?;
+    let own = placed_of(rt, operator, desk, row)?;
     let mut named = Vec::new(operator.alloc);
     for other in rivals {
-        let rival = placed(rt, operator, desk, *other)?;
+        let rival = placed_of(rt, operator, desk, *other)?;
         let bscs = bscs_in(&seen.value);
         name_both(rt, operator, desk, bscs, &own, &rival, &mut named).ok()?;
     }
