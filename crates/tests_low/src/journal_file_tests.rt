@@ -326,7 +326,7 @@ fn survives(rt: &impl Abort, alloc: Global, room: usize, syncs: usize) {
         let comment = lines.seen.as_slice();
         yes(
             rt,
-            comment.is_empty() || comment == b"# link 1 192.0.2.7:40001\n",
+            comment.is_empty() || comment == b"# link 1 192.0.2.7:40001\n".as_slice(),
             "a comment is seen whole",
         );
         yes(
