@@ -8,7 +8,7 @@ use std::alloc::{AllocError, Global};
 use std::net::SocketAddr;
 
 /// The last link of a BSC.
-#[derive(Clone, Copy, Debug)]
+#[derive(Clone, Copy)]
 struct LastPeer {
     bsc: BscId,
     is_up: bool,

@@ -12,11 +12,7 @@ use std::alloc::{AllocError, Global};
 use std::net::SocketAddr;
 
 /// The comment that the BSC's last link came from there: `# link B ADDRESS:PORT`.
-pub fn link_comment(
-    alloc: Global,
-    bsc: BscId,
-    peer: &SocketAddr,
-) -> Result<String, AllocError>
+pub fn link_comment(alloc: Global, bsc: BscId, peer: &SocketAddr) -> Result<String, AllocError>
     ensures { IfOk result (λ text. string_bytes text ≡ comment_text bsc peer.now) }
 {
     let number = bsc.number();

@@ -1,7 +1,5 @@
 //! A knock: a SYN to where a BSC's link came from, from the port to which it connected.
 
-ghost use Rattle.std.specs.Prelude.{◌≡◌};
-
 use crate::sockaddr::encode;
 use crate::tcp::value_of;
 use libc::close;
@@ -23,10 +21,7 @@ fn from_of(listened: SocketAddr, to: SocketAddr) -> Option<SocketAddr> {
         return Some(listened);
     }
     if to.is_ipv4() && listened.ip().is_unspecified() {
-        return Some(SocketAddr::new(
-            IpAddr::V4(Ipv4Addr::UNSPECIFIED),
-            listened.port(),
-        ));
+        return Some(SocketAddr::new(IpAddr::V4(Ipv4Addr::UNSPECIFIED), listened.port()));
     }
     None
 }

@@ -10,7 +10,9 @@ use coverage_plan::Edit;
 use framing::FromRead;
 use journal_file::{Heading, MemoryFile, Writing, load};
 use journal_keeper::{Followed, KeepFault};
-use journal_office::{LastPeers, LinkPeers, NoPeers, OfficeJournal, link_comment, read_link_comment};
+use journal_office::{
+    LastPeers, LinkPeers, NoPeers, OfficeJournal, link_comment, read_link_comment,
+};
 use office::desk::Desk;
 use office::office::Office;
 use std::alloc::Global;
@@ -177,16 +179,13 @@ impl LinkPeers for Odd {
 }
 
 /// Submits these events.
-fn submits<L: Ledger, R: Wait + Abort>(
-    rt: &R,
-    office: &Office<L>,
-    desk: &mut Desk<L>,
-    ups: u32,
-) {
+fn submits<L: Ledger, R: Wait + Abort>(rt: &R, office: &Office<L>, desk: &mut Desk<L>, ups: u32) {
     let b = bsc(rt, 1);
     yes(
         rt,
-        office.submit(rt, desk, Event::Edit(Edit::AddBsc(b))).is_ok(),
+        office
+            .submit(rt, desk, Event::Edit(Edit::AddBsc(b)))
+            .is_ok(),
         "the BSC is registered",
     );
     for _ in 0..ups {
@@ -251,7 +250,11 @@ fn written<L: Ledger, P: LinkPeers, R: Wait + Abort>(
 }
 
 /// The file of an office of its own.
-fn written_of_its_own<P: LinkPeers, R: Wait + Abort>(rt: &R, alloc: Global, peers: &P) -> MemoryFile {
+fn written_of_its_own<P: LinkPeers, R: Wait + Abort>(
+    rt: &R,
+    alloc: Global,
+    peers: &P,
+) -> MemoryFile {
     written::<Brand, P, R>(rt, alloc, Blank::new(1025), peers)
 }
 
@@ -271,7 +274,8 @@ up 1
 up 1
 # link 1 192.0.2.7:40001
 checkpoint
-".as_slice(),
+"
+            .as_slice(),
         "links of entries 2 and 4 came from nowhere that is known",
     );
 }

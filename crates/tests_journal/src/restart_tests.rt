@@ -242,7 +242,8 @@ up 1
 # link 1 nowhere
 #
 send 1
-".as_slice();
+"
+        .as_slice();
     let found = found_at_start(&rt, alloc, 1000, 900, octets);
     same(
         &rt,
@@ -250,7 +251,9 @@ send 1
         Err(LoadFault::BadLine(8)),
         "nothing is due, so the line that isn't accepted is the eighth",
     );
-    let octets = octets.strip_suffix(b"send 1\n".as_slice()).unwrap_or(octets);
+    let octets = octets
+        .strip_suffix(b"send 1\n".as_slice())
+        .unwrap_or(octets);
     let found = found_at_start(&rt, alloc, 1000, 900, octets);
     let whole = octets.len() as u64;
     same(

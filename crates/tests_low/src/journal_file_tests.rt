@@ -5,9 +5,7 @@ ghost use Rattle.std.specs.Prelude.{◌≡◌, None};
 use crate::values::{same, yes};
 use framing::FromRead;
 use framing::faulty::{FailsAtRead, InPieces};
-use journal_file::{
-    Heading, LoadFault, Loaded, MemoryFile, NotTaken, TakeLine, Writing, load,
-};
+use journal_file::{Heading, LoadFault, Loaded, MemoryFile, NotTaken, TakeLine, Writing, load};
 use std::alloc::Global;
 use std::process::Abort;
 
@@ -298,7 +296,8 @@ fn follow(rt: &impl Abort, alloc: Global, file: &mut MemoryFile) -> Writing {
 const ALL: &[u8] = b"bsc add 1\ncell add 1 7 8\nup 1\ncheckpoint\n\nsend 1\n";
 
 /// The same lines with the comment.
-const WRITTEN: &[u8] = b"bsc add 1\ncell add 1 7 8\nup 1\n# link 1 192.0.2.7:40001\ncheckpoint\n\nsend 1\n";
+const WRITTEN: &[u8] =
+    b"bsc add 1\ncell add 1 7 8\nup 1\n# link 1 192.0.2.7:40001\ncheckpoint\n\nsend 1\n";
 
 /// How many octets the lines have of the entries up to a place, with the fold behind the third.
 fn octets_to(place: u64) -> usize {
@@ -327,7 +326,7 @@ fn survives(rt: &impl Abort, alloc: Global, room: usize, syncs: usize) {
         let comment = lines.seen.as_slice();
         yes(
             rt,
-            comment.is_empty() || comment == b"# link 1 192.0.2.7:40001\n",
+            comment.is_empty() || comment == b"# link 1 192.0.2.7:40001\n".as_slice(),
             "a comment is seen whole",
         );
         yes(

@@ -11,7 +11,11 @@ use journal_file::{LoadFault, Loaded, PutFault, Writing, load};
 #[test]
 fn a_comment_is_seen_and_no_line(rt: HostRuntime) {
     let alloc = rt.alloc();
-    let octets = joined(&rt, alloc, &[HEADER, b"\n# link 1 x\nup 1\n#\n # x\n#\xff\n# to"]);
+    let octets = joined(
+        &rt,
+        alloc,
+        &[HEADER, b"\n# link 1 x\nup 1\n#\n # x\n#\xff\n# to"],
+    );
     for size in [1, 7, 70_000] {
         let mut lines = Lines::new(alloc);
         let mut source = InPieces::new(FromRead::new(octets.as_slice()), size);
@@ -53,7 +57,14 @@ fn a_comment_counts_as_a_line(rt: HostRuntime) {
     let octets = joined(
         &rt,
         alloc,
-        &[HEADER, b"\n", most.as_slice(), b"\n#", most.as_slice(), b"\n"],
+        &[
+            HEADER,
+            b"\n",
+            most.as_slice(),
+            b"\n#",
+            most.as_slice(),
+            b"\n",
+        ],
     );
     finds(
         &rt,
