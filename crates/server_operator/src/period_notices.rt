@@ -167,7 +167,7 @@ fn name_beside<L: Ledger, S: Server, R: Wait + Clock>(
     let own = placed(rt, operator, desk, row)?;
     let mut named = Vec::new(operator.alloc);
     for other in rivals {
-        let rival = placed(rt, operator, desk, other)?;
+        let rival = placed(rt, operator, desk, *other)?;
         let bscs = bscs_in(&seen.value);
         name_both(rt, operator, desk, bscs, &own, &rival, &mut named).ok()?;
     }

@@ -275,15 +275,22 @@ bsc_line m b = bsc_sample_if (bsc_metric_name m) b.row.bsc (bsc_metric_value m b
 unfoldable pub bsc_metric_text : BscMetric → List BscFigures → List ℕ
 bsc_metric_text m bscs = head_text (bsc_metric_name m) (bsc_metric_help m) gauge ++ flat_map (bsc_line m) bscs
 
--- all metrics of the BSCs
-unfoldable pub bscs_text : List BscFigures → List ℕ
-bscs_text bscs =
+-- the metrics of their links, cells and orders
+unfoldable pub bsc_states_text : List BscFigures → List ℕ
+bsc_states_text bscs =
     bsc_metric_text of_bsc.LinkUp bscs
     ++ (bsc_metric_text of_bsc.Cells bscs
-    ++ (bsc_metric_text of_bsc.Pending bscs
-    ++ (bsc_metric_text of_bsc.InFlight bscs
-    ++ (bsc_metric_text of_bsc.Since bscs
-    ++ (bsc_metric_text of_bsc.Reset bscs ++ bsc_metric_text of_bsc.Down bscs)))))
+    ++ (bsc_metric_text of_bsc.Down bscs ++ bsc_metric_text of_bsc.Pending bscs))
+
+-- the metrics of what is out to them
+unfoldable pub bsc_flights_text : List BscFigures → List ℕ
+bsc_flights_text bscs =
+    bsc_metric_text of_bsc.InFlight bscs
+    ++ (bsc_metric_text of_bsc.Since bscs ++ bsc_metric_text of_bsc.Reset bscs)
+
+-- all metrics of the BSCs
+unfoldable pub bscs_text : List BscFigures → List ℕ
+bscs_text bscs = bsc_states_text bscs ++ bsc_flights_text bscs
 
 -- The whole text.
 

@@ -2,7 +2,7 @@
 
 ghost use Rattle.std.specs.Prelude.{◌≡◌, ◌++◌, OnOk};
 ghost use Rattle.std.specs.List.{flat_map};
-ghost use Rattle.status_figures.specs.Metrics.{bsc_line, bsc_metric_help, bsc_metric_name, bsc_metric_text, bsc_metric_value, bsc_sample, bscs_text, one_if};
+ghost use Rattle.status_figures.specs.Metrics.{bsc_flights_text, bsc_line, bsc_metric_help, bsc_metric_name, bsc_metric_text, bsc_metric_value, bsc_sample, bsc_states_text, bscs_text, one_if};
 
 use crate::bsc_figures::BscFigures;
 use crate::samples::{flag, push_head};
@@ -132,6 +132,27 @@ fn push_metric(
     push_lines(alloc, out, metric, bscs)
 }
 
+/// Appends the metrics of their links, cells and orders.
+#[tactic(auto, unfolding(crate::specs::Metrics::bsc_states_text))]
+fn push_states(alloc: Global, out: &mut Vec<u8>, bscs: &[BscFigures]) -> Result<(), AllocError>
+    ensures { OnOk result (out.new.items ≡ out.old.items ++ bsc_states_text bscs.now) }
+{
+    push_metric(alloc, out, BscMetric::LinkUp, bscs)?;
+    push_metric(alloc, out, BscMetric::Cells, bscs)?;
+    push_metric(alloc, out, BscMetric::Down, bscs)?;
+    push_metric(alloc, out, BscMetric::Pending, bscs)
+}
+
+/// Appends the metrics of what is out to them.
+#[tactic(auto, unfolding(crate::specs::Metrics::bsc_flights_text))]
+fn push_flights(alloc: Global, out: &mut Vec<u8>, bscs: &[BscFigures]) -> Result<(), AllocError>
+    ensures { OnOk result (out.new.items ≡ out.old.items ++ bsc_flights_text bscs.now) }
+{
+    push_metric(alloc, out, BscMetric::InFlight, bscs)?;
+    push_metric(alloc, out, BscMetric::Since, bscs)?;
+    push_metric(alloc, out, BscMetric::Reset, bscs)
+}
+
 /// Appends all metrics of the BSCs.
 #[tactic(auto, unfolding(crate::specs::Metrics::bscs_text))]
 pub(crate) fn push_bscs(
@@ -141,11 +162,6 @@ pub(crate) fn push_bscs(
 ) -> Result<(), AllocError>
     ensures { OnOk result (out.new.items ≡ out.old.items ++ bscs_text bscs.now) }
 {
-    push_metric(alloc, out, BscMetric::LinkUp, bscs)?;
-    push_metric(alloc, out, BscMetric::Cells, bscs)?;
-    push_metric(alloc, out, BscMetric::Pending, bscs)?;
-    push_metric(alloc, out, BscMetric::InFlight, bscs)?;
-    push_metric(alloc, out, BscMetric::Since, bscs)?;
-    push_metric(alloc, out, BscMetric::Reset, bscs)?;
-    push_metric(alloc, out, BscMetric::Down, bscs)
+    push_states(alloc, out, bscs)?;
+    push_flights(alloc, out, bscs)
 }

@@ -28,6 +28,8 @@ impl TakeLine for Count {
         self.0 = self.0.saturating_add(1);
         Ok(())
     }
+
+    fn take_comment(&mut self, _line: &[u8]) {}
 }
 
 /// What is found in the file, and how many of its lines are taken.

@@ -87,6 +87,8 @@ cbc_bsc_link_up{bsc="12"} 0
 # TYPE cbc_bsc_cells gauge
 cbc_bsc_cells{bsc="1"} 9
 cbc_bsc_cells{bsc="12"} 9
+# HELP cbc_bsc_down_cells Cells of a BSC that are down for some kind of warning.
+# TYPE cbc_bsc_down_cells gauge
 # HELP cbc_bsc_pending_orders Messages that a BSC is still to write, replace or kill, one in flight too.
 # TYPE cbc_bsc_pending_orders gauge
 cbc_bsc_pending_orders{bsc="1"} 2
@@ -100,8 +102,6 @@ cbc_bsc_in_flight{bsc="12"} 0
 cbc_bsc_in_flight_since_timestamp_seconds{bsc="1"} 1764309116
 # HELP cbc_bsc_reset_since_timestamp_seconds When the RESET went out that a BSC has not answered.
 # TYPE cbc_bsc_reset_since_timestamp_seconds gauge
-# HELP cbc_bsc_down_cells Cells of a BSC that are down for some kind of warning.
-# TYPE cbc_bsc_down_cells gauge
 # HELP cbc_events_total Events that were entered since the start, by kind.
 # TYPE cbc_events_total counter
 cbc_events_total{kind="issue"} 3
