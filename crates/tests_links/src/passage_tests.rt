@@ -54,6 +54,8 @@ const NOTHING: Passed = Passed {
 /// A gate that counts what passes.
 #[derive(Drop)]
 struct Counts {
+    /// A report behind another may have to wait.
+    waits: bool,
     passed: Mutex<Passed>,
 }
 
@@ -116,7 +118,7 @@ impl Gate for Counts {
     fn has_to_wait<R: Wait>(&self, rt: &R, load: Load) -> bool {
         let mut passed = self.passed.lock(rt);
         *passed = followed(*passed, load);
-        false
+        self.waits
     }
 
     fn pass<R: Wait>(&self, rt: &R, _b: BscId, passage: Passage<'_>) -> bool {
@@ -160,8 +162,10 @@ fn passed_by<L: Ledger, R: Wait + Abort>(
     alloc: Global,
     office: &Office<L>,
     desk: &mut Desk<L>,
+    waits: bool,
 ) -> (Passed, Passed) {
     let gate = Counts {
+        waits,
         passed: Mutex::new(NOTHING),
     };
     writes(rt, alloc, office, desk, &gate);
@@ -170,38 +174,52 @@ fn passed_by<L: Ledger, R: Wait + Abort>(
     (written, gate.passed.into_inner())
 }
 
-/// The same, of an office of its own.
-fn passes<L: Ledger, R: Wait + Abort>(rt: &R, alloc: Global, blank: Blank) -> (Passed, Passed)
+/// The same, of an office of its own, whose journal holds so many entries.
+fn passes<L: Ledger, R: Wait + Abort>(
+    rt: &R,
+    alloc: Global,
+    blank: Blank,
+    journal_limit: u32,
+    waits: bool,
+) -> (Passed, Passed)
     requires name { blank.name ≡ L.name }
     requires parts { blank.parts ≡ L.parts }
     requires desks { blank.parts ≡ 1025 }
 {
-    let (office, mut desk) = linked::<L, R>(rt, alloc, blank, 1000);
-    passed_by(rt, alloc, &office, &mut desk)
+    let (office, mut desk) = linked::<L, R>(rt, alloc, blank, journal_limit);
+    passed_by(rt, alloc, &office, &mut desk, waits)
 }
+
+/// How many entries the journal holds, whether a report behind another may have to wait, how many reports are asked for before they
+/// pass, how many behind another, and the octets of all these. Nine entries are there once the last two reports come.
+const ROWS: [(u32, bool, u32, u32, usize, &str); 4] = [
+    (1000, false, 3, 1, 56, "both at once"),
+    (20, false, 3, 1, 56, "a journal that is not half full"),
+    (18, false, 4, 0, 56, "a journal that is half full"),
+    (1000, true, 4, 1, 72, "one that may have to wait"),
+];
 
 #[test]
 fn a_gate_is_told_what_passes(rt: HostRuntime) {
-    let (written, read) = passes::<Brand, _>(&rt, rt.alloc(), Blank::new(1025));
     let order = Passed {
         orders: 1,
         ..NOTHING
     };
-    same(&rt, written, order, "an order");
-    let reports = Passed {
-        orders: 1,
-        others: 0,
-        replies: 1,
-        reports: 3,
-        asked: 3,
-        followed: 1,
-        octets: 56,
-        any: 1,
-    };
-    same(
-        &rt,
-        read,
-        reports,
-        "a reply, a RESTART, and two replies to nothing",
-    );
+    for (journal_limit, waits, asked, followed, octets, at) in &ROWS {
+        let (written, read) =
+            passes::<Brand, _>(&rt, rt.alloc(), Blank::new(1025), *journal_limit, *waits);
+        same(&rt, written, order, at);
+        // a reply, a RESTART, and two replies to nothing
+        let reports = Passed {
+            orders: 1,
+            others: 0,
+            replies: 1,
+            reports: 3,
+            asked: *asked,
+            followed: *followed,
+            octets: *octets,
+            any: 1,
+        };
+        same(&rt, read, reports, at);
+    }
 }
