@@ -184,6 +184,48 @@ fn end<L: Ledger, R: Wait, I: BufRead + Drop, W: Write + Drop, E: Write + Drop>(
     }
 }
 
+/// What the threads of a server share.
+fn shared_of<L: Ledger, E: Drop>(
+    blank: Blank,
+    options: &ServeOptions,
+    opened: Opened<L>,
+    errors: Errors<E>,
+    alloc: Global,
+) -> Shared<L, E>
+    requires name { blank.name ≡ L.name }
+    requires parts { blank.parts ≡ L.parts }
+    requires desks { blank.parts ≡ 1025 }
+{
+    let Opened {
+        ports,
+        peers,
+        peers_file,
+    } = opened;
+    Shared {
+        alloc,
+        office: Office::new(alloc, blank, options.network, options.journal_limit),
+        ports,
+        errors,
+        options: LinkOptions {
+            plmn: options.network.plmn,
+            reset: options.reset,
+            reply_seconds: options.reply_seconds,
+            cut_seconds: options.cut_seconds,
+            alive_seconds: options.alive_seconds,
+            query_ms: options.query_ms,
+            queries_per_second: options.queries_per_second,
+            peers: Mutex::new(peers),
+            peers_file,
+        },
+        folds: Mutex::new(FoldPace::new(options.fold, options.journal_limit)),
+        heavy_turn: HeavyTurn::new(),
+        kept: options.keep.as_ref().map(|_file| Kept::new(0)),
+        with_simulator: options.with_simulator,
+        closing: Mutex::new(false),
+        closed: Condvar::new(),
+    }
+}
+
 /// Serves over an office of what is open, and settles it.
 fn run_begun<
     L: Ledger + Send + Sync,
@@ -217,32 +259,7 @@ fn run_begun<
         looking,
         consoles,
     } = begun;
-    let Opened {
-        ports,
-        peers,
-        peers_file,
-    } = opened;
-    let shared = Shared {
-        alloc,
-        office: Office::new(alloc, blank, options.network, options.journal_limit),
-        ports,
-        errors,
-        options: LinkOptions {
-            plmn: options.network.plmn,
-            reset: options.reset,
-            reply_seconds: options.reply_seconds,
-            cut_seconds: options.cut_seconds,
-            alive_seconds: options.alive_seconds,
-            peers: Mutex::new(peers),
-            peers_file,
-        },
-        folds: Mutex::new(FoldPace::new(options.fold, options.journal_limit)),
-        heavy_turn: HeavyTurn::new(),
-        kept: options.keep.as_ref().map(|_file| Kept::new(0)),
-        with_simulator: options.with_simulator,
-        closing: Mutex::new(false),
-        closed: Condvar::new(),
-    };
+    let shared = shared_of(blank, options, opened, errors, alloc);
     let terminal: Mutex<Terminal<L, I, W>> = Mutex::new(Terminal {
         reader,
         writer,

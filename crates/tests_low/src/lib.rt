@@ -18,6 +18,8 @@ mod frame_tests;
 #[cfg(test)]
 mod journal_file_tests;
 #[cfg(test)]
+mod kept_line_tests;
+#[cfg(test)]
 mod link_rule_tests;
 #[cfg(test)]
 mod message_tests;

@@ -21,6 +21,8 @@ mod given_texts;
 #[cfg(test)]
 mod keep_tests;
 #[cfg(test)]
+mod knock_tests;
+#[cfg(test)]
 mod link_tests;
 #[cfg(test)]
 mod operator_tests;
