@@ -14,14 +14,57 @@ ORDERS = ("write", "update", "stop", "narrow")
 MOMENTS = ("before", "order lost", "reply lost", "after")
 WAYS = ("cut by the centre", "cut by the BSC", "killed", "away")
 FORMS = ("text", "emergency")
-REPORTS = (0x13, 0x14, 0x15, 0x16, 0x17, 0x11, 0x12)
+FIRST_TEXT = 4400
+# what is neither an order nor a reply to one
+REPORTS = (0x13, 0x14, 0x15, 0x16, 0x17)
+RESETS = (0x10, 0x11, 0x12)
+
+
+class Emergencies:
+    """Which emergency messages a BSC has on air, by its own answers to the orders that came through: osmo-bsc shows none of them in a table."""
+
+    def __init__(self):
+        self.orders, self.keys = [], set()
+
+    def clear(self):
+        self.orders, self.keys = [], set()
+
+    def ordered(self, frame):
+        self.orders.append(frame)
+
+    def answered(self, frame):
+        order = self.orders.pop(0)
+        if order[0] == 0x10:
+            self.keys.clear()
+            return
+        asked, told = elements(order[4:]), elements(frame[4:])
+        message_id, cells = int.from_bytes(asked[0x0E], "big"), asked[0x04][1:]
+        cells = {int.from_bytes(cells[k + 2 : k + 4], "big") for k in range(0, len(cells), 4)}
+        # each of the failed ones with its whole global identity and a cause
+        failed = told.get(0x09, b"")
+        cells -= {int.from_bytes(failed[k + 6 : k + 8], "big") for k in range(0, len(failed), 9)}
+        if message_id < FIRST_TEXT:
+            # a cell has one
+            self.keys = {it for it in self.keys if it[0] not in cells}
+            if 0x03 in asked:
+                self.keys |= {(ci, message_id, asked[0x03].hex().upper()) for ci in cells}
+
+
+def elements(body):
+    """The elements of a message, up to the first one that is of no use here."""
+    found = {}
+    while body and body[0] in (0x02, 0x03, 0x04, 0x08, 0x09, 0x0E):
+        begin = 3 if body[0] in (0x04, 0x08, 0x09) else 1
+        end = begin + (int.from_bytes(body[1:3], "big") if begin == 3 else 2)
+        found[body[0]], body = body[begin:end], body[end:]
+    return found
 
 
 class Relay:
     """What stands between a BSC and a port of the centre. `loses` is which octets it keeps to itself: `order` or `reply`."""
 
     def __init__(self, port, target):
-        self.target, self.loses, self.lost, self.ends = target, "", threading.Event(), []
+        self.target, self.loses, self.lost, self.ends, self.emergencies = target, "", threading.Event(), [], Emergencies()
         self.listener = socket.socket()
         self.listener.setsockopt(socket.SOL_SOCKET, socket.SO_REUSEADDR, 1)
         self.listener.bind(("127.0.0.1", port))
@@ -41,6 +84,7 @@ class Relay:
                 continue
             self.loses = ""
             self.lost.clear()
+            self.emergencies.orders.clear()
             state = {"away": False}
             self.ends = [bsc, centre, state]
             for source, sink, what in ((centre, bsc, "order"), (bsc, centre, "reply")):
@@ -55,10 +99,15 @@ class Relay:
                 held += piece
                 while len(held) >= 4 and len(held) >= 4 + int.from_bytes(held[1:4], "big"):
                     frame, held = held[: 4 + int.from_bytes(held[1:4], "big")], held[4 + int.from_bytes(held[1:4], "big") :]
-                    if self.loses == what and frame[0] not in REPORTS and frame[0] != 0x10:
+                    if self.loses == what and frame[0] not in REPORTS + RESETS:
                         keeps = True
                         self.lost.set()
-                    if not keeps and not state["away"]:
+                    passes = not keeps and not state["away"]
+                    if what == "order" and passes:
+                        self.emergencies.ordered(frame)
+                    if what == "reply" and frame[0] not in REPORTS and not state["away"]:
+                        self.emergencies.answered(frame)
+                    if passes:
                         sink.sendall(frame)
             except OSError:
                 piece = b""
@@ -102,7 +151,7 @@ class Trial:
     def issue(self, form):
         self.count += 1
         if form == "text":
-            line = "issue %d 3 15 0 30 d4f29c0e A7,A8" % (4400 + self.count % 1000)
+            line = "issue %d 3 15 0 30 d4f29c0e A7,A8" % (FIRST_TEXT + self.count % 1000)
         else:
             line = "alert %d 1 1 1408 0 - A7,A8" % (4352 + self.count % 3)
         answer = self.centre.ask(line)
@@ -136,11 +185,18 @@ class Trial:
         if isinstance(self.bsc, self.kit.Simulated):
             self.bsc.keys.clear()
         else:
-            self.bsc.restart()
+            self.bsc.end()
+            self.relay.emergencies.clear()
+            self.bsc.start()
+
+    def shown(self):
+        """What the BSC has on air."""
+        own = self.bsc.shown()
+        return own if isinstance(self.bsc, self.kit.Simulated) else own | self.relay.emergencies.keys
 
     def differs(self, found):
         """Puts there where the centre's table and the BSC's own differ."""
-        known, own = self.centre.known(1), self.bsc.shown()
+        known, own = self.centre.known(1), self.shown()
         found[:] = ["%s is on air, unknown to the centre" % (it,) for it in sorted(own - known)] + ["%s isn't on air" % (it,) for it in sorted(known - own)]
         return found
 
@@ -181,17 +237,18 @@ class Trial:
     def early(self, what, warning):
         """Before the BSC is back no board may be clear while the BSC has the warning on air."""
         board = self.centre.ask("board %d" % warning)
-        if board.startswith("awaited 0 onair 0 failed 0 left 0 ") and self.bsc.shown():
-            self.fault(what, "the board is clear before the BSC is back, and %s is on air" % sorted(self.bsc.shown()))
+        if board.startswith("awaited 0 onair 0 failed 0 left 0 ") and self.shown():
+            self.fault(what, "the board is clear before the BSC is back, and %s is on air" % sorted(self.shown()))
 
     def end(self, what, warning, order):
         """The warning goes, and the next order begins with a BSC that has nothing on air."""
         if order != "stop":
             self.centre.type_all("stop %d" % warning)
         self.centre.comes_to(warning, 0, 0, 0, 0)
-        answer = self.centre.ask("forget %d" % warning)
-        if not answer.startswith("ok ") or self.kit.until(lambda: not self.bsc.shown(), 5) is None:
-            self.fault(what, "%s once it is stopped, and %s is on air" % (answer, sorted(self.bsc.shown())))
+        # refused while an order for it is in flight
+        gone = self.kit.until(lambda: self.centre.ask("forget %d" % warning).startswith("ok "), 5) is not None
+        if not gone or self.kit.until(lambda: not self.shown(), 5) is None:
+            self.fault(what, "once it is stopped%s, %s is on air" % (" and forgotten" * gone, sorted(self.shown())))
             since = len(self.centre.errors)
             self.forget()
             if not isinstance(self.bsc, self.kit.Simulated):
