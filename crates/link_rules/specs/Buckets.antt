@@ -1,5 +1,5 @@
 -- How many may pass.
-use Rattle.std.specs.Prelude.{ℕ, ◌+◌, ◌-◌, ◌*◌, ◌/◌, Bool, ltb, nat_eq, nat_le, min, if◌then◌else◌}
+use Rattle.std.specs.Prelude.{ℕ, ◌+◌, ◌-◌, ◌*◌, ◌/◌, Bool, ltb, nat_eq, nat_le, min}
 use Rattle.link_rules.specs.Paces.{count_of, time_of}
 use Rattle.link_rules.specs.declared.bucket.Bucket.{Bucket}
 use Rattle.link_rules.specs.declared.pace.Pace.{Pace}

@@ -6,6 +6,7 @@ pub mod Costs
 pub mod FoldPaces
 pub mod Paces
 pub mod PeerLists
+pub mod QueryPaces
 pub mod RateLimits
 pub mod Repeats
 pub mod Replies

@@ -1,7 +1,8 @@
 -- What frames in turn come to.
-use Rattle.std.proofs.Common.{eqb-true, true, false, ◌==◌, if◌then◌else◌, ◌≡◌, ◌⊎◌, inl, inr, ℕ, ◌<◌, List, [], ◌∷◌, ◌++◌, Option, Some, None, Result, Ok, Err, OnOk, IfErr, length, refl, sym, ap, ◌∙◌, subst, append_assoc, append-nil, arith, take, ◌+◌}
+use Rattle.std.proofs.Common.{eqb-true, true, false, ◌==◌, if◌then◌else◌, ◌≡◌, ◌⊎◌, inl, inr, ℕ, ◌<◌, ◌≤◌, List, [], ◌∷◌, ◌++◌, Option, Some, None, Result, Ok, Err, OnOk, IfErr, IfNone, length, refl, sym, ap, ◌∙◌, subst, append_assoc, append-nil, arith, take, ◌+◌}
 use Rattle.std.specs.Io.KnownBytes.{Consumes, IsAtEnd}
 use Rattle.std.specs.List.{AllByRecursion, flat_map}
+use Rattle.std.specs.Option.{option_to_list}
 use Rattle.std.proofs.KnownBytes.{Consumes-nil, Consumes-trans}
 use Rattle.std.proofs.lemmas.Grind.{flat_map-append}
 use Rattle.std.proofs.lemmas.Option.{option_and_then_some}
@@ -28,7 +29,7 @@ use Rattle.link_worker.specs.declared.end.End.{End}
 use Rattle.link_worker.specs.declared.end.End.TheVariants as end
 use Rattle.link_worker.specs.declared.entered.Entered.{Entered}
 use Rattle.link_worker.specs.Ends.{IfShut, IsRefusedEnd, fault_end, report_end}
-use Rattle.link_worker.specs.Reports.{AreReceiptsFor, BeginsWithRefused, EndsAt, EndsBefore, EndsReading, EndsWithin, IsFirstRefused, IsLastReport, IsPartial, IsRefusal, IsCounted, IsRefusedReport, IsReport, IsTaken, MayGet, Reads, StopsAmong, StopsInPiece, SubmitsFirst, TakesFirst, TakesPiece, TakesReports, has_any, stream_end}
+use Rattle.link_worker.specs.Reports.{AreReceiptsFor, BeginsWithRefused, EndsAt, EndsBefore, EndsReading, EndsWithin, IsFirstRefused, IsLastReport, IsPartial, IsRefusal, IsCounted, IsRefusedReport, IsReport, IsTaken, MayGet, Reads, StopsAmong, StopsInPiece, SubmitsFirst, TakesFirst, TakesPiece, TakesReports, has_any, in_front_of, stream_end}
 use Rattle.link_worker.proofs.ListLemmas.{AllByRecursion-append, AllByRecursion-back, AllByRecursion-front}
 use Rattle.cbsp_messages.specs.declared.message.Message.{Message}
 use Rattle.link_worker.proofs.OrderLemmas.{refused_open, refused_room}
@@ -190,6 +191,22 @@ TakesFirst-join b generation frames left next last c d e p is q = record {
 pub TakesFirst-all : (b generation : ℕ) (frames left : List Frame) (c d : DeskState) → TakesFirst b generation frames left c d → left ≡ [] → TakesReports b generation frames c d
 TakesFirst-all b generation frames left c d p is =
     subst (λ fs. TakesReports b generation fs c d) (sym (p.parts ∙ ap (λ fs. p.taken ++ fs) is ∙ append-nil p.taken)) p.takes
+
+-- The next one of the frames that a framer has, and those behind it: they are the frames that it had.
+
+next_in_front : (next : Option Frame) (behind : List Frame) → option_to_list next ++ behind ≡ in_front_of next behind
+next_in_front None behind = refl
+next_in_front (Some frame) behind = refl
+
+pub TakesFirst-next : (b generation : ℕ) (frames left behind : List Frame) (next : Option Frame) (c d : DeskState) → TakesFirst b generation frames left c d → left ≡ option_to_list next ++ behind → TakesFirst b generation frames (in_front_of next behind) c d
+TakesFirst-next b generation frames left behind next c d p is = subst (λ fs. TakesFirst b generation frames fs c d) (is ∙ next_in_front next behind) p
+
+pub fewer_next : (n : ℕ) (left behind : List Frame) (next : Option Frame) → length left ≤ n → left ≡ option_to_list next ++ behind → length (in_front_of next behind) ≤ n
+fewer_next n left behind next few is = subst (λ (fs : List Frame). length fs ≤ n) (is ∙ next_in_front next behind) few
+
+pub none_behind : (left behind : List Frame) (next : Option Frame) → left ≡ option_to_list next ++ behind → IfNone next (left ≡ []) → next ≡ None → behind ≡ []
+none_behind left behind None is none same = sym is ∙ none
+none_behind left behind (Some frame) is none same = cc
 
 -- an end before some frames is one before more of them
 EndsBefore-more : (b generation : ℕ) (d : DeskState) (x : End) (frames more : List Frame) → EndsBefore b generation d x frames → EndsBefore b generation d x (frames ++ more)

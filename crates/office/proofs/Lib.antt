@@ -10,5 +10,6 @@ pub mod PendingLemmas
 pub mod LawfulLemmas
 pub mod DueLemmas
 pub mod WakingLemmas
+pub mod OwnWishLemmas
 pub mod SendingLemmas
 pub mod HandingLemmas

@@ -12,6 +12,7 @@ use Rattle.centre_events.specs.declared.entry.Entry.{Entry}
 use Rattle.centre_events.specs.declared.event.Event.{Event}
 use Rattle.centre_events.specs.declared.event.Event.TheVariants as event
 use Rattle.centre_events.specs.InFlight.{in_flight}
+use Rattle.centre_events.specs.declared.network.Network.{Network}
 use Rattle.centre_past.specs.Legal.{Known, Lawful, past}
 use Rattle.centre_past.specs.LinkStates.{link_state}
 use Rattle.centre_past.proofs.LineLemmas.{entry_of}
@@ -45,7 +46,7 @@ idle_linked false true over none = refl
 idle_linked false false over none = cc
 
 -- an event that brings no link up or down leaves the latest link of a BSC that was up
-link_stays : (network : List ℕ) (past : Past) (desk : ℕ) (e : Event) (a : Answer) → answered network past e ≡ Ok a → changes_link e ≡ false → (b : ℕ) → is_bsc past b ≡ true → is_up past b ≡ true → last_link (After (entry_of desk e a) past) b ≡ last_link past b
+link_stays : (network : Network) (past : Past) (desk : ℕ) (e : Event) (a : Answer) → answered network past e ≡ Ok a → changes_link e ≡ false → (b : ℕ) → is_bsc past b ≡ true → is_up past b ≡ true → last_link (After (entry_of desk e a) past) b ≡ last_link past b
 link_stays network past desk (event.Edit e) a v same b there up = (edit_stays_up past desk e a v b there up).1
 link_stays network past desk (event.Retry d) a v same b there up = refl
 link_stays network past desk (event.LinkUp d) a v same b there up = cc
@@ -77,7 +78,7 @@ nobody_missed centre e lawful v wishes b generation none quiet = step (affects (
         subst (λ g. due (with_entry centre e) wishes b g ≡ None) (is_latest centre e v idle.0 b generation linked) (nothing (due (with_entry centre e) wishes b (last_link (past (with_entry centre e)) b)) idle.1)
 
 -- the wish for another BSC is what it was
-wish_left : (w : Wish) (ws : List Wish) (b : ℕ) → nat_eq w.bsc b ≡ false → wish_for (without_wish w.bsc ws ++ w ∷ []) b ≡ wish_for ws b
+pub wish_left : (w : Wish) (ws : List Wish) (b : ℕ) → nat_eq w.bsc b ≡ false → wish_for (without_wish w.bsc ws ++ w ∷ []) b ≡ wish_for ws b
 wish_left w [] b other = ap (λ t. cond t (Some w) None) other
 wish_left w (v ∷ ws) b other = step (wish_left w ws b other) (is_wish_of w.bsc v) refl
   where

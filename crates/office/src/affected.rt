@@ -1,6 +1,6 @@
 //! BSCs for which there may be something to do.
 
-ghost use Rattle.std.specs.Prelude.{◌≡◌};
+ghost use Rattle.std.specs.Prelude.{◌≡◌, OnErr, OnOk};
 ghost use Rattle.cell_register.specs.Register.{is_place};
 ghost use Rattle.office.specs.Affecting.{includes, is_link};
 
@@ -47,7 +47,10 @@ impl Affected {
     }
 
     /// These, where the event was entered, and else none.
-    pub(crate) fn if_entered(self, answer: Result<(), Refusal>) -> Affected {
+    pub(crate) fn if_entered(self, answer: Result<(), Refusal>) -> Affected
+        ensures entered { OnOk answer (result ≡ self) }
+        ensures refused { OnErr answer (result ≡ Affected.None) }
+    {
         match answer {
             Ok(()) => self,
             Err(_) => Affected::None,

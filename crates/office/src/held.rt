@@ -13,7 +13,7 @@ use crate::row::Row;
 use crate::seen::Seen;
 use crate::settling::{mismatch, missing};
 use crate::wake::Wake;
-use crate::waking::{has_any_work, wake_of, wakes};
+use crate::waking::{has_any_work, is_idle, wake_of, wakes};
 use crate::wish::Wish;
 use crate::wishes::{keep, take_out};
 use cell_register::BscId;
@@ -82,6 +82,7 @@ impl<L: Ledger> Held<L> {
     ghost use Rattle.office.specs.Helds.{HasEachOnce, IsEntered, IsHeld, RefusesFold, fits, no_row, row_at};
     ghost use Rattle.centre_questions.specs.Questions.{RefusesQuestion, Shows};
     ghost use Rattle.centre_questions.specs.Surveys.{survey};
+    ghost use Rattle.office.specs.OwnWishes.{is_idle};
     ghost use Rattle.office.specs.Shuffles.{IsFault, IsShuffle};
     ghost use Rattle.office.specs.Wakes.{due, is_full, left_by};
     ghost use Rattle.office.specs.Wishes.{CanWish, RefusesWish, with_wish};
@@ -326,6 +327,13 @@ impl<L: Ledger> Held<L> {
             affected,
             b,
         )
+    }
+
+    /// Whether the BSC's link is up and has nothing to do: nothing is in flight or pending, and no wish is kept.
+    pub(crate) fn is_idle(&self, b: BscId) -> bool
+        ensures { result ≡ is_idle self.now.centre self.now.wishes b }
+    {
+        is_idle(&self.centre, self.wishes.as_slice(), self.is_full(), b)
     }
 
     /// Makes a stale centre whole.

@@ -38,5 +38,6 @@ pub mod wake;
 mod waking;
 pub mod wish;
 mod wishes;
+mod wishing;
 
 pub use centre_questions::{question, survey, surveying};

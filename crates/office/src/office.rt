@@ -44,7 +44,7 @@ pub struct Office<L: Ledger> {
     alloc: Global,
     pub(crate) held: Mutex<Held<L>>,
     /// On which those wait who have something to do for a link.
-    conditions: Conditions,
+    pub(crate) conditions: Conditions,
     /// On which those wait who follow the journal.
     entered: Condvar,
     /// Whoever holds this and the lock took the lock first.
@@ -259,7 +259,7 @@ impl<L: Ledger> Office<L> {
     /// Has the desk let go of its receipts of folded entries, and answers how many entries are folded. Where memory runs out it
     /// keeps them until the next time.
     pub fn release<R: Wait>(&self, rt: &R, desk: &mut Desk<L>) -> u64
-        ensures { IsReleasedSomewhere desk.old desk.new }
+        ensures { IsReleasedSomewhere desk.old desk.new result }
     {
         let guard = self.held.lock(rt);
         guard.tell_soundness();

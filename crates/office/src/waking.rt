@@ -7,6 +7,7 @@ ghost use Rattle.centre_events.specs.Links.{is_bsc, last_link};
 ghost use Rattle.centre_past.specs.Legal.{past};
 ghost use Rattle.centre_past.specs.LinkStates.{link_state};
 ghost use Rattle.office.specs.Affecting.{includes, is_link, wakes};
+ghost use Rattle.office.specs.OwnWishes.{is_idle};
 ghost use Rattle.office.specs.Wakes.{due, due_over, is_full};
 
 use crate::affected::Affected;
@@ -84,6 +85,20 @@ pub(crate) fn has_work(centre: &Centre, wishes: &[Wish], full: bool, b: BscId) -
     match centre.link_of(b) {
         Ok(link) if link.is_up => wake_over(centre, wishes, full, b, link.has_pending).is_some(),
         _ => true,
+    }
+}
+
+/// Whether the link of the BSC is up, nothing is in flight to it or pending for it, no wish is kept for it, and the journal takes more
+/// entries.
+pub(crate) fn is_idle(centre: &Centre, wishes: &[Wish], full: bool, b: BscId) -> bool
+    requires full { full ≡ is_full centre.now.known }
+    ensures { result ≡ is_idle centre.now.known wishes.now b }
+{
+    match centre.link_of(b) {
+        Ok(link) if link.is_up && !full && !link.has_pending => {
+            !is_busy(centre, b) && wish_for(wishes, b).is_none()
+        }
+        _ => false,
     }
 }
 

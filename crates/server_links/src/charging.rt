@@ -35,41 +35,39 @@ impl<L: Ledger, E: Write + Drop> Shared<L, E> {
         }
     }
 
-    /// Waits until a report of that load may come in. The answer is what it costs; `None` where the link has ended.
-    fn wait_cost<R: Wait + Clock>(&self, rt: &R, port: &Port<L>, load: Load) -> Option<Cost> {
+    /// Waits until a report of that load may come in, or the link has ended. The answer is what it costs.
+    fn wait_cost<R: Wait + Clock>(&self, rt: &R, port: &Port<L>, load: Load) -> Cost {
         for _ in rt.forever() {
-            if let Some(cost) = port.begin_report(rt, load, now_of(rt)) {
-                return Some(cost);
-            }
-            if !port.is_live(rt) {
-                return None;
+            let cost = port.begin_report(rt, load);
+            if port.take_cost(rt, cost, now_of(rt)) || !port.is_live(rt) {
+                return cost;
             }
             self.tell_held(rt, port);
             thread::sleep(rt, Duration::from_millis(PAUSE));
         }
-        None
+        port.begin_report(rt, load)
     }
 
-    /// Waits for the turn of the heavy reports, until the link has ended.
+    /// Waits for the turn of the heavy reports, until the port is closing.
     fn wait_heavy_turn<R: Wait + Clock>(&self, rt: &R, port: &Port<L>) {
         for _ in rt.forever() {
             if self.heavy_turn.take(rt, Duration::from_millis(PAUSE)) {
                 port.take_turn(rt);
                 return;
             }
-            if !port.is_live(rt) {
+            if port.is_closing(rt) {
                 return;
             }
         }
     }
 
     /// Waits until a report of that load may come in, and where it is heavy until no other heavy one is under way. `end_report` has to
-    /// follow once it was submitted. Nothing waits where the link has ended.
+    /// follow once it was submitted. One that was read before its link ended isn't charged, but has its turn, and counts for the fold.
+    /// Nothing waits where the port is closing.
     pub(crate) fn begin_report<R: Wait + Clock>(&self, rt: &R, port: &Port<L>, load: Load) {
-        if let Some(cost) = self.wait_cost(rt, port, load) {
-            if cost.is_heavy() {
-                self.wait_heavy_turn(rt, port);
-            }
+        let cost = self.wait_cost(rt, port, load);
+        if cost.is_heavy() {
+            self.wait_heavy_turn(rt, port);
         }
     }
 }

@@ -1,6 +1,6 @@
 //! The gate of a link: how fast reports and orders pass, and where the journal is folded.
 
-use crate::orders::{cell_count, order_words};
+use crate::orders::{cell_count, named_in, order_words};
 use crate::shared::{Shared, now_of};
 use cell_register::BscId;
 use journal_keeper::KeptUpTo;
@@ -52,6 +52,16 @@ impl<'a, L: Ledger, E: Write + Drop, C: Wait + Clock> LinkGate<'a, L, E, C> {
         kept_of_order(frame.len() as u64, cells as u64)
     }
 
+    /// Notes what the order or the query names that goes out, where queries are entered that no operator wished for.
+    fn note_sent(&self, frame: &[u8]) {
+        if self.shared.options.query_ms == 0 {
+            return;
+        }
+        if let Some(named) = named_in(self.shared.alloc, frame) {
+            self.port.note_sent(self.rt, named, now_of(self.rt));
+        }
+    }
+
     /// Whether the order or the query goes out whose frame this is, as its entry is kept. It waits as long as it has to.
     fn let_out(&self, frame: &[u8], _kept: KeptUpTo) -> bool {
         for _ in self.rt.forever() {
@@ -59,8 +69,12 @@ impl<'a, L: Ledger, E: Write + Drop, C: Wait + Clock> LinkGate<'a, L, E, C> {
                 return false;
             }
             match self.port.send(self.rt, frame, now_of(self.rt)) {
-                Repeat::Go => return true,
+                Repeat::Go => {
+                    self.note_sent(frame);
+                    return true;
+                }
                 Repeat::Tell => {
+                    self.note_sent(frame);
                     self.tell_repeat(frame);
                     return true;
                 }
@@ -111,7 +125,7 @@ impl<'a, L: Ledger, E: Write + Drop, C: Wait + Clock> Gate for LinkGate<'a, L, E
                 None => false,
             },
             Passage::Reply => {
-                self.port.answered(self.rt);
+                self.port.answered(self.rt, now_of(self.rt));
                 self.port.is_live(self.rt)
             }
             Passage::Report => self.let_in(),

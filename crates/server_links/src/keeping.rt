@@ -30,6 +30,7 @@ pub fn keep<L: Ledger, E: Write + Drop, R: Wait + Clock>(
     let journal = OfficeJournal {
         alloc: shared.alloc,
         office: &shared.office,
+        peers: shared,
     };
     if let Err(fault) = keep_journal(rt, &journal, kept, &mut keeper) {
         shared.errors.say(rt, words_of(fault));

@@ -40,6 +40,16 @@ pub trait Server {
     /// When a RESET went out to the BSC that isn't answered, in seconds after 1970-01-01T00:00:00Z; `None` where none is out.
     fn reset_since<R: Wait>(&self, rt: &R, b: BscId) -> Option<u64>;
 
+    /// The warning was issued, updated or widened. It is wanted in cells of the BSC, and so is that other one of another repetition
+    /// period.
+    fn has_two_periods<R: Wait + Clock>(
+        &self,
+        rt: &R,
+        warning: WarningId,
+        b: BscId,
+        other: WarningId,
+    );
+
     /// The warning was stopped or updated, while the BSC is down and may have an older message of it on air.
     fn stays_on_air<R: Wait + Clock>(&self, rt: &R, warning: WarningId, b: BscId);
 }

@@ -5,13 +5,14 @@ use crate::ended::Ended;
 use crate::entered::Entered;
 use crate::figures::Figures;
 use crate::job::Job;
+use crate::named::Named;
 use crate::port_pace::PortPace;
 use crate::port_state::PortState;
 use crate::shut::Shut;
 use crate::side_end::SideEnd;
 use cell_register::BscId;
 use libc::net::{SHUT_RDWR, shutdown};
-use link_rules::{AliveStep, Cost, Overdue, Repeat, Verdict};
+use link_rules::{AliveStep, Cost, Overdue, Query, Repeat, Verdict, Version};
 use link_worker::Load;
 use office::desk::Desk;
 use std::net::{IpAddr, SocketAddr, TcpListener, TcpStream};
@@ -81,6 +82,11 @@ impl<L: Ledger> Port<L> {
     /// Where the link came from that is up, or is to come up.
     pub fn peer<R: Wait>(&self, rt: &R) -> Option<SocketAddr> {
         self.state.lock(rt).peer()
+    }
+
+    /// Where the link came from that has this generation, or is coming up, unless something has ended it.
+    pub fn peer_of<R: Wait>(&self, rt: &R, generation: u64) -> Option<SocketAddr> {
+        self.state.lock(rt).peer_of(generation)
     }
 
     /// The generation of the link that is up.
@@ -182,9 +188,24 @@ impl<L: Ledger> Port<L> {
         self.pace.lock(rt).send(frame, now)
     }
 
+    /// An order or a query went out that names these.
+    pub fn note_sent<R: Wait>(&self, rt: &R, named: Named, now: u64) {
+        self.pace.lock(rt).note_sent(named, now);
+    }
+
     /// What was out is answered.
-    pub fn answered<R: Wait>(&self, rt: &R) {
-        self.pace.lock(rt).answered();
+    pub fn answered<R: Wait>(&self, rt: &R, now: u64) {
+        self.pace.lock(rt).answered(now);
+    }
+
+    /// The query that is due where these versions are on air and the link is idle, if one is. It counts as wished for from now on.
+    pub fn next_query<R: Wait>(&self, rt: &R, versions: &[Version], now: u64) -> Option<Query> {
+        self.pace.lock(rt).next_query(versions, now)
+    }
+
+    /// The query isn't wished for, since the link has something else to do.
+    pub fn unwish<R: Wait>(&self, rt: &R, query: Query, now: u64) {
+        self.pace.lock(rt).unwish(query, now);
     }
 
     /// A report came by which tables may change.
@@ -267,9 +288,14 @@ impl<L: Ledger> Port<L> {
         self.pace.lock(rt).set_figures(figures);
     }
 
-    /// What a report of that load costs, which is charged; `None` where it has to wait.
-    pub fn begin_report<R: Wait>(&self, rt: &R, load: Load, now: u64) -> Option<Cost> {
-        self.pace.lock(rt).begin_report(load, now)
+    /// A report of that load is to come in. The answer is what it costs, which isn't charged yet.
+    pub fn begin_report<R: Wait>(&self, rt: &R, load: Load) -> Cost {
+        self.pace.lock(rt).begin_report(load)
+    }
+
+    /// Whether a report of that cost may come in now, which is charged then.
+    pub fn take_cost<R: Wait>(&self, rt: &R, cost: Cost, now: u64) -> bool {
+        self.pace.lock(rt).take_cost(cost, now)
     }
 
     /// Whether a report of that load may come in behind another at once: it isn't heavy, and doesn't have to wait. It is charged then.

@@ -3,8 +3,10 @@
 use crate::entered::Entered;
 use crate::figures::Figures;
 use crate::link_limits::LinkLimits;
+use crate::named::Named;
 use link_rules::{
-    AlivePace, AliveStep, Cost, CostLimit, Overdue, RateLimit, Repeat, Repeats, ReplyPace,
+    AlivePace, AliveStep, Cost, CostLimit, Overdue, Query, QueryPace, RateLimit, Repeat, Repeats,
+    ReplyPace, Version,
 };
 use link_worker::Load;
 use std::alloc::Global;
@@ -33,18 +35,22 @@ pub struct PortPace {
     /// For how long nothing was read.
     alive: AlivePace,
     orders: Repeats,
+    /// Which queries are due that no operator wished for.
+    queries: QueryPace,
 }
 
 impl PortPace {
     /// That of a port to which nobody connected yet. What is out, a RESET too, is said after `reply_seconds`, and after `cut_seconds`
     /// the link is cut; 0 is never.
-    /// A BSC that says nothing is sent a KEEP ALIVE after `alive_seconds`, 0 for never.
+    /// A BSC that says nothing is sent a KEEP ALIVE after `alive_seconds`, 0 for never. Queries that no operator wished for are due after
+    /// `query_ms` milliseconds.
     pub fn new(
         alloc: Global,
         limits: LinkLimits,
         reply_seconds: u32,
         cut_seconds: u32,
         alive_seconds: u32,
+        query_ms: u64,
     ) -> PortPace {
         PortPace {
             reports: limits.reports,
@@ -58,6 +64,7 @@ impl PortPace {
             reset_second: 0,
             alive: AlivePace::new(alive_seconds, reply_seconds),
             orders: Repeats::new(alloc),
+            queries: QueryPace::new(alloc, query_ms),
         }
     }
 
@@ -74,9 +81,41 @@ impl PortPace {
         repeat
     }
 
+    /// An order or a query went out that names these. Where there is no memory for that, a query is due as before.
+    pub(crate) fn note_sent(&mut self, named: Named, now: u64) {
+        let _ = match named {
+            Named::Order(version) => self.queries.order(version, now),
+            Named::Query(version, last) => {
+                if self.queries.is_own(version) {
+                    self.replies.mark_own();
+                }
+                self.queries.ask(version, last, now)
+            }
+        };
+    }
+
     /// What was out is answered.
-    pub(crate) fn answered(&mut self) {
+    pub(crate) fn answered(&mut self, now: u64) {
         self.replies.answered();
+        let _ = self.queries.answered(now);
+    }
+
+    /// The query that is due where these versions are on air and the link is idle, if one is. It counts as wished for from now on, and
+    /// what was wished for before and hasn't gone out as asked in vain. Where memory runs out, none is due.
+    pub(crate) fn next_query(&mut self, versions: &[Version], now: u64) -> Option<Query> {
+        self.queries.pass_over(now).ok()?;
+        self.queries.keep_only(versions);
+        for version in versions {
+            self.queries.see(*version, now).ok()?;
+        }
+        let query = self.queries.due(now)?;
+        let _ = self.queries.wish(query, now);
+        Some(query)
+    }
+
+    /// The query isn't wished for, since the link has something else to do.
+    pub(crate) fn unwish(&mut self, query: Query, now: u64) {
+        let _ = self.queries.unwish(query, now);
     }
 
     /// A report came by which tables may change.
@@ -89,6 +128,7 @@ impl PortPace {
         self.replies.ended();
         self.resets.ended();
         self.orders.changed();
+        self.queries.begin();
         self.alive.begin(now);
     }
 
@@ -150,15 +190,17 @@ impl PortPace {
         self.figures = figures;
     }
 
-    /// What a report of that load costs, which is charged; `None` where it has to wait.
-    pub(crate) fn begin_report(&mut self, load: Load, now: u64) -> Option<Cost> {
+    /// A report of that load is to come in. The answer is what it costs, which isn't charged yet.
+    pub(crate) fn begin_report(&mut self, load: Load) -> Cost {
         let cost = self.figures.cost_of(load);
-        if !self.costs.take(cost, now) {
-            return None;
-        }
         self.entered.kept = cost.kept;
         self.entered.pause_ms = cost.pause_ms();
-        Some(cost)
+        cost
+    }
+
+    /// Whether a report of that cost may come in now, which is charged then.
+    pub(crate) fn take_cost(&mut self, cost: Cost, now: u64) -> bool {
+        self.costs.take(cost, now)
     }
 
     /// Whether a report of that load may come in behind another at once: it isn't heavy, and doesn't have to wait. It is charged then.

@@ -65,6 +65,14 @@ impl PortState {
         }
     }
 
+    /// Where the link came from that has this generation, or is coming up, unless something has ended it.
+    pub(crate) fn peer_of(&self, generation: u64) -> Option<SocketAddr> {
+        match &self.link {
+            Some(link) if link.is_live && link.may_be(generation) => Some(link.connection.peer),
+            _ => None,
+        }
+    }
+
     /// The generation of the link that is up.
     pub(crate) fn generation(&self) -> Option<u64> {
         match &self.link {

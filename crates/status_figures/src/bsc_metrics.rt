@@ -19,6 +19,7 @@ pub(crate) enum BscMetric {
     InFlight,
     Since,
     Reset,
+    Down,
 }
 
 /// How many things are in flight.
@@ -42,6 +43,7 @@ impl BscMetric {
             BscMetric::InFlight => "cbc_bsc_in_flight",
             BscMetric::Since => "cbc_bsc_in_flight_since_timestamp_seconds",
             BscMetric::Reset => "cbc_bsc_reset_since_timestamp_seconds",
+            BscMetric::Down => "cbc_bsc_down_cells",
         }
     }
 
@@ -56,6 +58,7 @@ impl BscMetric {
             BscMetric::InFlight => "Orders and queries that are in flight to a BSC, one at most.",
             BscMetric::Since => "When what is in flight to a BSC went out.",
             BscMetric::Reset => "When the RESET went out that a BSC has not answered.",
+            BscMetric::Down => "Cells of a BSC that are down for some kind of warning.",
         }
     }
 
@@ -69,6 +72,7 @@ impl BscMetric {
             BscMetric::InFlight => Some(one_if(bsc.row.flight)),
             BscMetric::Since => bsc.since,
             BscMetric::Reset => bsc.reset,
+            BscMetric::Down => bsc.down,
         }
     }
 }
@@ -142,5 +146,6 @@ pub(crate) fn push_bscs(
     push_metric(alloc, out, BscMetric::Pending, bscs)?;
     push_metric(alloc, out, BscMetric::InFlight, bscs)?;
     push_metric(alloc, out, BscMetric::Since, bscs)?;
-    push_metric(alloc, out, BscMetric::Reset, bscs)
+    push_metric(alloc, out, BscMetric::Reset, bscs)?;
+    push_metric(alloc, out, BscMetric::Down, bscs)
 }

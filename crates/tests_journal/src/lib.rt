@@ -17,6 +17,8 @@ mod keeper_tests;
 #[cfg(test)]
 mod operator_tests;
 #[cfg(test)]
+mod peer_tests;
+#[cfg(test)]
 mod restart_tests;
 #[cfg(test)]
 mod timed_input_tests;

@@ -155,6 +155,25 @@ fn a_link_without_a_reply_is_cut(rt: HostRuntime) {
     looks(&rt, &mut never, 9_000_000, Overdue::No);
 }
 
+/// A query that no operator wished for cuts its link where a reply would only be said to be overdue, and an order behind it doesn't.
+#[test]
+fn an_own_query_without_a_reply_cuts_its_link(rt: HostRuntime) {
+    let mut pace = ReplyPace::new(20, 0);
+    pace.sent(0);
+    pace.mark_own();
+    looks(&rt, &mut pace, 19_999, Overdue::No);
+    looks(&rt, &mut pace, 20_000, Overdue::Cut { seconds: 20 });
+    pace.answered();
+    looks(&rt, &mut pace, 20_000, Overdue::No);
+    pace.sent(30_000);
+    looks(&rt, &mut pace, 50_000, Overdue::Tell { seconds: 20 });
+    let mut unsaid = ReplyPace::new(0, 0);
+    unsaid.sent(0);
+    unsaid.mark_own();
+    looks(&rt, &mut unsaid, 29_999, Overdue::No);
+    looks(&rt, &mut unsaid, 30_000, Overdue::Cut { seconds: 30 });
+}
+
 /// What is to be done about a BSC that says nothing, while nothing else is out.
 fn steps(rt: &impl Abort, pace: &mut AlivePace, now_ms: u64, want: AliveStep) {
     same(rt, &pace.look(now_ms, false), &want, "a BSC that is silent");

@@ -100,6 +100,8 @@ cbc_bsc_in_flight{bsc="12"} 0
 cbc_bsc_in_flight_since_timestamp_seconds{bsc="1"} 1764309116
 # HELP cbc_bsc_reset_since_timestamp_seconds When the RESET went out that a BSC has not answered.
 # TYPE cbc_bsc_reset_since_timestamp_seconds gauge
+# HELP cbc_bsc_down_cells Cells of a BSC that are down for some kind of warning.
+# TYPE cbc_bsc_down_cells gauge
 # HELP cbc_events_total Events that were entered since the start, by kind.
 # TYPE cbc_events_total counter
 cbc_events_total{kind="issue"} 3
