@@ -1,6 +1,6 @@
 //! Where the links came from that are up at the end of a kept file.
 
-use crate::link_comment::read_link_comment;
+use crate::comments::read_link_comment;
 use cell_register::BscId;
 use console_text::grammar::read_bsc;
 use journal_file::{NotTaken, TakeLine};

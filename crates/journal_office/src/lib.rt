@@ -4,17 +4,17 @@
 //! Begin with `office_journal`, then `entering`. `last_peers` looks in a file for where the links came from that are up at its end.
 #![tactic(auto)]
 
+mod comments;
 mod entering;
 mod last_peers;
 mod link;
-mod link_comment;
 mod link_peers;
 mod links;
 mod office_journal;
 
+pub use comments::{link_comment, read_link_comment};
 pub use entering::Entering;
 pub use last_peers::LastPeers;
-pub use link_comment::{link_comment, read_link_comment};
 pub use link_peers::{LinkPeers, NoPeers};
 pub use links::Links;
 pub use office_journal::OfficeJournal;

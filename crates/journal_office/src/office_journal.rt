@@ -1,6 +1,6 @@
 //! An office, as the thread sees it that keeps its journal.
 
-use crate::link_comment::link_comment;
+use crate::comments::link_comment;
 use crate::link_peers::LinkPeers;
 use centre_events::answer::Answer;
 use centre_events::entry::Entry;
