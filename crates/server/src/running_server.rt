@@ -90,6 +90,15 @@ impl<'a, L: Ledger, E: Write + Drop, F: PeersSource> Server for RunningServer<'a
         }
     }
 
+    fn has_downs<R: Wait>(&self, rt: &R) -> bool {
+        for port in self.shared.ports.as_slice() {
+            if !port.is_up(rt) {
+                return true;
+            }
+        }
+        false
+    }
+
     /// Whole or not at all: a file that can't be taken leaves the list as it was.
     fn reread_peers<R: Wait + Clock>(&self, rt: &R) -> Result<String, AllocError> {
         let alloc = self.shared.alloc;

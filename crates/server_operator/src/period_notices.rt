@@ -17,19 +17,49 @@ use std::sync::ledger::Ledger;
 use std::time::Clock;
 use warning_book::WarningId;
 
-/// A warning with pages: its period, and the selectors of its areas.
+/// How many pairs of a cell and a selector are looked at after one event, so that the operator doesn't wait.
+const MOST_PAIRS: usize = 1_000_000;
+
+/// A warning with pages: its number, and the selectors of its areas.
 #[derive(Drop)]
 struct Placed {
     number: WarningId,
-    period: u16,
     areas: Vec<Seen>,
 }
 
-/// Whether one of the areas covers one of the cells.
-fn is_at(areas: &[Seen], cells: &[CellRow]) -> bool {
-    areas
-        .iter()
-        .any(|area| reaches(cells, selectors_in(&area.value)))
+/// What was done for one event.
+#[derive(Drop)]
+struct Notices {
+    /// The BSCs that were named.
+    named: Vec<BscId>,
+    /// How many pairs may still be looked at.
+    left: usize,
+}
+
+impl Notices {
+    /// Whether so many pairs may be looked at, which are then. Where they may not, none may from then on.
+    fn take(&mut self, pairs: usize) -> bool {
+        if self.left < pairs {
+            self.left = 0;
+            return false;
+        }
+        self.left -= pairs;
+        true
+    }
+}
+
+/// Whether one of the areas covers one of the cells, as far as they may be looked at.
+fn is_at(notices: &mut Notices, areas: &[Seen], cells: &[CellRow]) -> bool {
+    for area in areas {
+        let selectors = selectors_in(&area.value);
+        if !notices.take(cells.len().saturating_mul(selectors.len())) {
+            return false;
+        }
+        if reaches(cells, selectors) {
+            return true;
+        }
+    }
+    false
 }
 
 /// The period of the warning, if it has pages and is in the book.
@@ -76,18 +106,16 @@ fn areas<L: Ledger, S: Server, R: Wait>(
     Ok(areas)
 }
 
-/// The warning of that row, if it has pages.
+/// The warning of that row.
 fn placed_of<L: Ledger, S: Server, R: Wait>(
     rt: &R,
     operator: &Operator<'_, L, S>,
     desk: &Desk<L>,
     row: &WarningRow,
 ) -> Option<Placed> {
-    let period = period(rt, operator, desk, row.number)?;
     let areas = areas(rt, operator, desk, row.areas.as_slice()).ok()?;
     Some(Placed {
         number: row.number,
-        period,
         areas,
     })
 }
@@ -100,11 +128,13 @@ fn are_both_at<L: Ledger, S: Server, R: Wait>(
     b: BscId,
     placed: &Placed,
     rival: &Placed,
+    notices: &mut Notices,
 ) -> bool {
     match operator.office.look(rt, desk, Question::Cells(b)) {
         Ok(seen) => {
             let cells = cells_in(&seen.value);
-            is_at(placed.areas.as_slice(), cells) && is_at(rival.areas.as_slice(), cells)
+            is_at(notices, placed.areas.as_slice(), cells)
+                && is_at(notices, rival.areas.as_slice(), cells)
         }
         Err(_) => false,
     }
@@ -118,18 +148,19 @@ fn name_both<L: Ledger, S: Server, R: Wait + Clock>(
     bscs: &[BscRow],
     placed: &Placed,
     rival: &Placed,
-    named: &mut Vec<BscId>,
+    notices: &mut Notices,
 ) -> Result<(), AllocError> {
     for row in bscs {
         let b = row.bsc;
         if row.cells != 0
-            && !named.as_slice().contains(&b)
-            && are_both_at(rt, operator, desk, b, placed, rival)
+            && !notices.named.as_slice().contains(&b)
+            && notices.take(row.cells)
+            && are_both_at(rt, operator, desk, b, placed, rival, notices)
         {
             operator
                 .server
                 .has_two_periods(rt, placed.number, b, rival.number);
-            named.push(b)?;
+            notices.named.push(b)?;
         }
     }
     Ok(())
@@ -165,18 +196,24 @@ fn name_beside<L: Ledger, S: Server, R: Wait + Clock>(
 ) -> Option<()> {
     let seen = operator.office.look(rt, desk, Question::Bscs).ok()?;
     let own = placed_of(rt, operator, desk, row)?;
-    let mut named = Vec::new(operator.alloc);
+    let mut notices = Notices {
+        named: Vec::new(operator.alloc),
+        left: MOST_PAIRS,
+    };
     for other in rivals {
+        if notices.left == 0 {
+            return None;
+        }
         let rival = placed_of(rt, operator, desk, *other)?;
         let bscs = bscs_in(&seen.value);
-        name_both(rt, operator, desk, bscs, &own, &rival, &mut named).ok()?;
+        name_both(rt, operator, desk, bscs, &own, &rival, &mut notices).ok()?;
     }
     Some(())
 }
 
 /// The warning was issued, updated or widened. Each BSC is named to the server in whose cells it is wanted, and another active warning
-/// with another repetition period, once, with the first such warning. Where memory runs out for the answers of the centre, no BSC
-/// is named, or not all.
+/// with another repetition period, once, with the first such warning. Where memory runs out for the answers of the centre, or more
+/// than 1,000,000 pairs of a cell and a selector would have to be looked at, no BSC is named, or not all.
 pub(crate) fn name_periods<L: Ledger, S: Server, R: Wait + Clock>(
     rt: &R,
     operator: &Operator<'_, L, S>,

@@ -34,6 +34,11 @@ pub trait Server {
     /// Whether the BSC may connect, and no link of its is up.
     fn is_down<R: Wait>(&self, rt: &R, b: BscId) -> bool;
 
+    /// Whether that is so of any BSC. Where it is of none, none is asked for.
+    fn has_downs<R: Wait>(&self, _rt: &R) -> bool {
+        true
+    }
+
     /// Reads the list of peers again. The answer is what it says to the operator, with the end of its line.
     fn reread_peers<R: Wait + Clock>(&self, rt: &R) -> Result<String, AllocError>;
 
