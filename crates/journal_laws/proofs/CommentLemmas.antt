@@ -1,8 +1,8 @@
 -- A comment of a file, as the console reads it.
-use Rattle.std.proofs.Common.{◌≡◌, ℕ, ◌-◌, ◌≤◌, eqb, true, false, List, [], ◌∷◌, length, take, cond, refl, sym, subst, arith}
+use Rattle.std.proofs.Common.{◌≡◌, ℕ, zero, suc, ◌-◌, ◌<◌, ◌≤◌, eqb, true, false, List, [], ◌∷◌, length, take, cond, refl, sym, subst, arith}
 use Rattle.std.specs.Prelude.{slice_index}
-use Rattle.std.specs.Bool.{MatchBool}
 use Rattle.std.proofs.lemmas.Bool.{eqb-true}
+use Rattle.std.proofs.lemmas.Bool.Decides.{nat_tests}
 use Rattle.std.proofs.lemmas.List.{length-take}
 use Rattle.console.specs.Sessions.{Answers, AnswersWords, Responds, SessionState}
 use Rattle.console_text.specs.Lines.{longest_line, without_return}
@@ -23,18 +23,24 @@ pub comment_short : (line : List ℕ) → IsComment line → length (without_ret
 comment_short line is = omega (arith, return_shorter line, is.2)
 
 -- the first octet stands in front of a return too
+taken_first : (n : ℕ) (ys : List ℕ) → 0 < n → (zs : List ℕ) × (take n (35 ∷ ys) ≡ 35 ∷ zs)
+taken_first zero ys some = absurd (omega arith)
+taken_first (suc n) ys some = (take n ys, refl)
+
 first_stays : (xs : List ℕ) → (ys : List ℕ) × (without_return (35 ∷ xs) ≡ 35 ∷ ys)
 first_stays [] = ([], refl)
 first_stays (x ∷ xs) =
     elim (eqb (slice_index (35 ∷ x ∷ xs) (length (35 ∷ x ∷ xs) - 1)) 13) as (λ b. (ys : List ℕ) × (cond b (take (length (35 ∷ x ∷ xs) - 1) (35 ∷ x ∷ xs)) (35 ∷ x ∷ xs) ≡ 35 ∷ ys)) [
-      | true ↦ (take (length xs) (x ∷ xs), refl)
+      | true ↦ taken_first (length (35 ∷ x ∷ xs) - 1) (x ∷ xs) (omega arith)
       | false ↦ (x ∷ xs, refl)
     ]
 
 -- the first word begins with it
 first_word : (parts : List (List ℕ)) → (word : List ℕ) × (words : List (List ℕ)) × (non_empty (in_front (35 ∷ []) parts) ≡ (35 ∷ word) ∷ words)
 first_word [] = ([], [], refl)
-first_word (part ∷ parts) = (part, non_empty parts, refl)
+first_word (part ∷ parts) =
+    let some : eqb (length (35 ∷ part)) 0 ≡ false = grind (arith, nat_tests) in
+    (part, non_empty parts, rw some refl)
 
 silent_words : (s : SessionState) (xs : List ℕ) → AnswersWords Responds s (words_of (35 ∷ xs)) response.Silence s
 silent_words s xs =

@@ -16,7 +16,8 @@ IsPeer bsc text b peer = (bsc_of bsc ≡ Some b) × IsSocketText text peer
 
 -- the words say that the BSC's last link came from there
 abbrev pub SayPeer : List (List ℕ) → ℕ → SocketAddr → Type 0
-SayPeer words b peer = (bsc : List ℕ) × (text : List ℕ) × (words ≡ codes "#" ∷ codes "link" ∷ bsc ∷ text ∷ []) × IsPeer bsc text b peer
+SayPeer (mark ∷ kind ∷ bsc ∷ text ∷ []) b peer = (mark ≡ codes "#") × (kind ≡ codes "link") × IsPeer bsc text b peer
+SayPeer other b peer = ⊥
 
 -- the comment says so
 abbrev pub SaysPeer : List ℕ → ℕ → SocketAddr → Type 0

@@ -1,6 +1,6 @@
 //! The comment of a kept file that says where a link came from.
 
-ghost use Rattle.std.specs.Prelude.{◌≡◌, ℕ, IfOk, MatchOption, string_bytes};
+ghost use Rattle.std.specs.Prelude.{◌≡◌, ◌∷◌, [], ℕ, IfOk, MatchOption, string_bytes};
 ghost use Rattle.std.specs.declared.net.socket_addr.SocketAddr.{SocketAddr as ASocketAddr};
 ghost use Rattle.journal_office.specs.LinkComments.{IsPeer, SayPeer, SaysPeer, comment_text};
 
@@ -30,17 +30,29 @@ fn peer_in(bsc: &[u8], peer: &[u8]) -> Option<(BscId, SocketAddr)>
     }
 }
 
+/// What the four words of a comment say.
+fn said_by(mark: &[u8], kind: &[u8], bsc: &[u8], peer: &[u8]) -> Option<(BscId, SocketAddr)>
+    ensures { MatchOption result ((b : ℕ) (a : ASocketAddr) → ¬ SayPeer (mark.now ∷ kind.now ∷ bsc.now ∷ peer.now ∷ []) b a) (λ p. SayPeer (mark.now ∷ kind.now ∷ bsc.now ∷ peer.now ∷ []) p.0 p.1) }
+{
+    if is_word(mark, b"#") && is_word(kind, b"link") {
+        peer_in(bsc, peer)
+    } else {
+        None
+    }
+}
+
 /// What the words of a comment say.
 fn said_in(words: &[Word<'_>]) -> Option<(BscId, SocketAddr)>
     ensures { MatchOption result ((b : ℕ) (a : ASocketAddr) → ¬ SayPeer words.now b a) (λ p. SayPeer words.now p.0 p.1) }
 {
-    let [mark, kind, bsc, peer] = words else {
-        return None;
-    };
-    if is_word(mark.as_slice(), b"#") && is_word(kind.as_slice(), b"link") {
-        peer_in(bsc.as_slice(), peer.as_slice())
-    } else {
-        None
+    match words {
+        [mark, kind, bsc, peer] => said_by(
+            mark.as_slice(),
+            kind.as_slice(),
+            bsc.as_slice(),
+            peer.as_slice(),
+        ),
+        _ => None,
     }
 }
 

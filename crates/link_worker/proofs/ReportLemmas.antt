@@ -1,8 +1,7 @@
 -- What frames in turn come to.
-use Rattle.std.proofs.Common.{eqb-true, true, false, ◌==◌, if◌then◌else◌, ◌≡◌, ◌⊎◌, inl, inr, ℕ, ◌<◌, ◌≤◌, List, [], ◌∷◌, ◌++◌, Option, Some, None, Result, Ok, Err, OnOk, IfErr, IfNone, length, refl, sym, ap, ◌∙◌, subst, append_assoc, append-nil, arith, take, ◌+◌}
+use Rattle.std.proofs.Common.{eqb-true, true, false, ◌==◌, if◌then◌else◌, ◌≡◌, ◌⊎◌, inl, inr, ℕ, ◌<◌, List, [], ◌∷◌, ◌++◌, Option, Some, None, Result, Ok, Err, OnOk, IfErr, length, refl, sym, ap, ◌∙◌, subst, append_assoc, append-nil, arith, take, ◌+◌}
 use Rattle.std.specs.Io.KnownBytes.{Consumes, IsAtEnd}
 use Rattle.std.specs.List.{AllByRecursion, flat_map}
-use Rattle.std.specs.Option.{option_to_list}
 use Rattle.std.proofs.KnownBytes.{Consumes-nil, Consumes-trans}
 use Rattle.std.proofs.lemmas.Grind.{flat_map-append}
 use Rattle.std.proofs.lemmas.Option.{option_and_then_some}
@@ -27,9 +26,8 @@ use Rattle.framing.specs.declared.fault.FrameFault.TheVariants as fault
 use Rattle.framing.proofs.StreamLemmas.{no_frame-nil, pieces_join}
 use Rattle.link_worker.specs.declared.end.End.{End}
 use Rattle.link_worker.specs.declared.end.End.TheVariants as end
-use Rattle.link_worker.specs.declared.entered.Entered.{Entered}
 use Rattle.link_worker.specs.Ends.{IfShut, IsRefusedEnd, fault_end, report_end}
-use Rattle.link_worker.specs.Reports.{AreReceiptsFor, BeginsWithRefused, EndsAt, EndsBefore, EndsReading, EndsWithin, IsFirstRefused, IsLastReport, IsPartial, IsRefusal, IsCounted, IsRefusedReport, IsReport, IsTaken, MayGet, Reads, StopsAmong, StopsInPiece, SubmitsFirst, TakesFirst, TakesPiece, TakesReports, has_any, in_front_of, stream_end}
+use Rattle.link_worker.specs.Reports.{AreReceiptsFor, BeginsWithRefused, EndsAt, EndsBefore, EndsReading, EndsWithin, IsFirstRefused, IsLastReport, IsPartial, IsRefusal, IsRefusedReport, IsReport, IsSubmitEnd, IsTaken, MayGet, Reads, StopsAmong, StopsInPiece, TakesPiece, TakesReports, stream_end}
 use Rattle.link_worker.proofs.ListLemmas.{AllByRecursion-append, AllByRecursion-back, AllByRecursion-front}
 use Rattle.cbsp_messages.specs.declared.message.Message.{Message}
 use Rattle.link_worker.proofs.OrderLemmas.{refused_open, refused_room}
@@ -151,62 +149,62 @@ Ends-refused_report d e event r x why same makes refused = record {
   number = ap (λ (s : DeskState). s.number) same;
 }
 
--- a report that was refused leaves the receipts as they were
-pub Takes-refused : (b generation : ℕ) (event : Event) (d e : DeskState) (x : End) → IsRefusal event d e x → TakesReports b generation [] d e
-Takes-refused b generation event d e x p = record { more = []; receipts = p.receipts ∙ sym (append-nil d.receipts); number = p.number; reports = tt; readable = tt }
-
--- the side ends before a frame whose report was refused
-pub Stops-refused : (b generation : ℕ) (frame : Frame) (m : Message) (d e : DeskState) (x : End) → IsReport frame m → IsRefusal (event.Report b generation m) d e x → StopsAmong b generation (frame ∷ []) d e x
-Stops-refused b generation frame m d e x is p = record {
+-- the side ends before a frame whose report was refused, or behind one at which the gate is shut
+pub Stops-submit : (b generation : ℕ) (frame : Frame) (m : Message) (d e : DeskState) (x : End) → IsReport frame m → MayGet (event.Report b generation m) d e
+    → IsSubmitEnd (event.Report b generation m) d e x → StopsAmong b generation (frame ∷ []) d e x
+Stops-submit b generation frame m d e x is got (inl p) = record {
   taken = [];
   left = frame ∷ [];
   parts = refl;
-  takes = Takes-refused b generation (event.Report b generation m) d e x p;
+  takes = record { more = []; receipts = p.receipts ∙ sym (append-nil d.receipts); number = p.number; reports = tt; readable = tt };
   ends = EndsBefore-refused b generation e x frame p.is_refused (record { message = m; report = is; cause = p.cause; makes = p.makes; refused = p.refused });
   shut = refused_open (IsLastReport []) x p.is_refused;
 }
+Stops-submit b generation frame m d e x is got (inr shut) = subst (StopsAmong b generation (frame ∷ []) d e) (sym shut) (record {
+  taken = frame ∷ [];
+  left = [];
+  parts = refl;
+  takes = Takes-report b generation frame m d e is got;
+  ends = tt;
+  shut = record { before = []; frame = frame; message = m; parts = refl; report = is };
+})
 
 -- the side ends before a frame that can't be read
 pub Stops-unread : (b generation : ℕ) (frames : List Frame) (d : DeskState) (f : MessageFault) → EndsBefore b generation d (fault_end f) frames → StopsAmong b generation frames d d (fault_end f)
 Stops-unread b generation frames d f p =
     record { taken = []; left = frames; parts = refl; takes = Takes-none b generation d; ends = p; shut = fault_open (IsLastReport []) f }
 
--- none of the frames was taken
-pub TakesFirst-none : (b generation : ℕ) (frames : List Frame) (d : DeskState) → TakesFirst b generation frames frames d d
-TakesFirst-none b generation frames d = record { taken = []; parts = refl; takes = Takes-none b generation d }
+-- a report was read and submitted: the side goes on, or ends
+pub taken_if : (result : Result Unit End) (b generation : ℕ) (frame : Frame) (m : Message) (d e : DeskState) → IsReport frame m → MayGet (event.Report b generation m) d e
+    → OnOk result (TakesReports b generation (frame ∷ []) d e)
+taken_if (Ok done) b generation frame m d e is got = Takes-report b generation frame m d e is got
+taken_if (Err x) b generation frame m d e is got = tt
 
--- the first was taken
-pub TakesFirst-one : (b generation : ℕ) (frame : Frame) (rest : List Frame) (d e : DeskState) → TakesReports b generation (frame ∷ []) d e → TakesFirst b generation (frame ∷ rest) rest d e
-TakesFirst-one b generation frame rest d e takes = record { taken = frame ∷ []; parts = refl; takes = takes }
+pub ended_if : (result : Result Unit End) (b generation : ℕ) (frame : Frame) (m : Message) (d e : DeskState) → IsReport frame m → MayGet (event.Report b generation m) d e
+    → IfErr result (IsSubmitEnd (event.Report b generation m) d e) → IfErr result (StopsAmong b generation (frame ∷ []) d e)
+ended_if (Ok done) b generation frame m d e is got p = p
+ended_if (Err x) b generation frame m d e is got p = Stops-submit b generation frame m d e x is got p
 
--- some were taken, and then some of those that were left
-pub TakesFirst-join : (b generation : ℕ) (frames left next last : List Frame) (c d e : DeskState) → TakesFirst b generation frames left c d → left ≡ next → TakesFirst b generation next last d e → TakesFirst b generation frames last c e
-TakesFirst-join b generation frames left next last c d e p is q = record {
-  taken = p.taken ++ q.taken;
-  parts = p.parts ∙ ap (λ fs. p.taken ++ fs) (is ∙ q.parts) ∙ sym (append_assoc p.taken q.taken last);
-  takes = Takes-more b generation p.taken q.taken c d e p.takes q.takes;
+-- some of the frames were taken, and these are left
+pub record TakenSoFar (b generation : ℕ) (frames left : List Frame) (old new : DeskState) : Type 0 where
+  pub taken : List Frame
+  pub parts : frames ≡ taken ++ left
+  pub takes : TakesReports b generation taken old new
+
+pub TakenSoFar-none : (b generation : ℕ) (frames : List Frame) (d : DeskState) → TakenSoFar b generation frames frames d d
+TakenSoFar-none b generation frames d = record { taken = []; parts = refl; takes = Takes-none b generation d }
+
+pub TakenSoFar-more : (b generation : ℕ) (frames left rest : List Frame) (frame : Frame) (c d e : DeskState) → TakenSoFar b generation frames left c d → left ≡ frame ∷ rest
+    → TakesReports b generation (frame ∷ []) d e → TakenSoFar b generation frames rest c e
+TakenSoFar-more b generation frames left rest frame c d e p is q = record {
+  taken = p.taken ++ frame ∷ [];
+  parts = p.parts ∙ ap (λ fs. p.taken ++ fs) is ∙ sym (append_assoc p.taken (frame ∷ []) rest);
+  takes = Takes-more b generation p.taken (frame ∷ []) c d e p.takes q;
 }
 
--- all were taken
-pub TakesFirst-all : (b generation : ℕ) (frames left : List Frame) (c d : DeskState) → TakesFirst b generation frames left c d → left ≡ [] → TakesReports b generation frames c d
-TakesFirst-all b generation frames left c d p is =
+pub TakenSoFar-all : (b generation : ℕ) (frames left : List Frame) (c d : DeskState) → TakenSoFar b generation frames left c d → left ≡ [] → TakesReports b generation frames c d
+TakenSoFar-all b generation frames left c d p is =
     subst (λ fs. TakesReports b generation fs c d) (sym (p.parts ∙ ap (λ fs. p.taken ++ fs) is ∙ append-nil p.taken)) p.takes
-
--- The next one of the frames that a framer has, and those behind it: they are the frames that it had.
-
-next_in_front : (next : Option Frame) (behind : List Frame) → option_to_list next ++ behind ≡ in_front_of next behind
-next_in_front None behind = refl
-next_in_front (Some frame) behind = refl
-
-pub TakesFirst-next : (b generation : ℕ) (frames left behind : List Frame) (next : Option Frame) (c d : DeskState) → TakesFirst b generation frames left c d → left ≡ option_to_list next ++ behind → TakesFirst b generation frames (in_front_of next behind) c d
-TakesFirst-next b generation frames left behind next c d p is = subst (λ fs. TakesFirst b generation frames fs c d) (is ∙ next_in_front next behind) p
-
-pub fewer_next : (n : ℕ) (left behind : List Frame) (next : Option Frame) → length left ≤ n → left ≡ option_to_list next ++ behind → length (in_front_of next behind) ≤ n
-fewer_next n left behind next few is = subst (λ (fs : List Frame). length fs ≤ n) (is ∙ next_in_front next behind) few
-
-pub none_behind : (left behind : List Frame) (next : Option Frame) → left ≡ option_to_list next ++ behind → IfNone next (left ≡ []) → next ≡ None → behind ≡ []
-none_behind left behind None is none same = sym is ∙ none
-none_behind left behind (Some frame) is none same = cc
 
 -- an end before some frames is one before more of them
 EndsBefore-more : (b generation : ℕ) (d : DeskState) (x : End) (frames more : List Frame) → EndsBefore b generation d x frames → EndsBefore b generation d x (frames ++ more)
@@ -242,67 +240,16 @@ shut_behind xs ys end.GateShut p = record {
   report = p.report;
 }
 
--- an end at the first frame is one among it and those behind it
-pub Stops-first : (b generation : ℕ) (frame : Frame) (rest : List Frame) (d e : DeskState) (x : End) → StopsAmong b generation (frame ∷ []) d e x → StopsAmong b generation (frame ∷ rest) d e x
-Stops-first b generation frame rest d e x q = record {
-  taken = q.taken;
-  left = q.left ++ rest;
-  parts = ap (λ fs. fs ++ rest) q.parts ∙ append_assoc q.taken q.left rest;
-  takes = q.takes;
-  ends = EndsBefore-more b generation e x q.left rest q.ends;
-  shut = q.shut;
-}
-
--- some frames were taken, and then the side ends at one of those that were left
-pub Stops-join : (b generation : ℕ) (frames left next : List Frame) (c d e : DeskState) (x : End) → TakesFirst b generation frames left c d → left ≡ next → StopsAmong b generation next d e x → StopsAmong b generation frames c e x
-Stops-join b generation frames left next c d e x p is q = record {
+pub TakenSoFar-stops : (b generation : ℕ) (frames left rest : List Frame) (frame : Frame) (c d e : DeskState) (x : End) → TakenSoFar b generation frames left c d → left ≡ frame ∷ rest
+    → StopsAmong b generation (frame ∷ []) d e x → StopsAmong b generation frames c e x
+TakenSoFar-stops b generation frames left rest frame c d e x p is q = record {
   taken = p.taken ++ q.taken;
-  left = q.left;
-  parts = p.parts ∙ ap (λ fs. p.taken ++ fs) (is ∙ q.parts) ∙ sym (append_assoc p.taken q.taken q.left);
+  left = q.left ++ rest;
+  parts = p.parts ∙ ap (λ fs. p.taken ++ fs) (is ∙ ap (λ fs. fs ++ rest) q.parts ∙ append_assoc q.taken q.left rest) ∙ sym (append_assoc p.taken q.taken (q.left ++ rest));
   takes = Takes-more b generation p.taken q.taken c d e p.takes q.takes;
-  ends = q.ends;
+  ends = EndsBefore-more b generation e x q.left rest q.ends;
   shut = shut_behind p.taken q.taken x q.shut;
 }
-
--- Reports that were submitted, and the gate is yet to be told.
-
-pub Submits-none : (b generation : ℕ) (frames : List Frame) (d : DeskState) (e : Entered) → has_any e ≡ false → SubmitsFirst b generation frames d d e
-Submits-none b generation frames d e none = record {
-  taken = [];
-  left = frames;
-  parts = refl;
-  takes = Takes-none b generation d;
-  last = λ any.
-      let no : false ≡ true = sym none ∙ any in cc;
-}
-
--- one more frame was taken
-pub Submits-more : (b generation : ℕ) (frames : List Frame) (frame : Frame) (rest : List Frame) (c d e : DeskState) (before after : Entered) → TakesFirst b generation frames (frame ∷ rest) c d → SubmitsFirst b generation frames c d before
-    → TakesReports b generation (frame ∷ []) d e → IsCounted frame d e before after → SubmitsFirst b generation frames c e after
-Submits-more b generation frames frame rest c d e before after p s q (inl report) = record {
-  taken = p.taken ++ frame ∷ [];
-  left = rest;
-  parts = p.parts ∙ sym (append_assoc p.taken (frame ∷ []) rest);
-  takes = Takes-more b generation p.taken (frame ∷ []) c d e p.takes q;
-  last = λ any. record { before = p.taken; frame = frame; message = report.0; parts = refl; report = report.1 };
-}
-Submits-more b generation frames frame rest c d e before after p s q (inr (same, unchanged)) =
-    subst (SubmitsFirst b generation frames c e) (sym unchanged) (subst (λ (n : DeskState). SubmitsFirst b generation frames c n before) (sym same) s)
-
--- a frame was not taken
-pub Submits-untaken : (b generation : ℕ) (frames : List Frame) (c d e : DeskState) (before after : Entered) → SubmitsFirst b generation frames c d before → TakesReports b generation [] d e → after ≡ before → SubmitsFirst b generation frames c e after
-Submits-untaken b generation frames c d e before after s q unchanged = record {
-  taken = s.taken;
-  left = s.left;
-  parts = s.parts;
-  takes = subst (λ fs. TakesReports b generation fs c e) (append-nil s.taken) (Takes-more b generation s.taken [] c d e s.takes q);
-  last = λ any. s.last (ap has_any (sym unchanged) ∙ any);
-}
-
--- the gate is shut behind a report among them
-pub Stops-shut : (b generation : ℕ) (frames : List Frame) (c d : DeskState) (e : Entered) (x : End) → SubmitsFirst b generation frames c d e → (x ≡ end.GateShut) × (has_any e ≡ true) → StopsAmong b generation frames c d x
-Stops-shut b generation frames c d e x s shut =
-    subst (StopsAmong b generation frames c d) (sym shut.0) (record { taken = s.taken; left = s.left; parts = s.parts; takes = s.takes; ends = tt; shut = s.last shut.1 })
 
 -- what a framer has of a piece, whatever it answered: the octets are these frames, and a tail
 pub record Fed (begun piece : List ℕ) (frames : List Frame) : Type 0 where

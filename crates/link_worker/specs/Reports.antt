@@ -1,5 +1,5 @@
 -- What the side that reads does: the frames that it takes, and the reports that it submits.
-use Rattle.std.specs.Prelude.{◌≡◌, ◌≢◌, ◌⊎◌, ◌||◌, ℕ, Bool, true, nat_lt, List, [], ◌∷◌, ◌++◌, Option, Some, None}
+use Rattle.std.specs.Prelude.{◌≡◌, ◌≢◌, ◌⊎◌, ℕ, true, List, [], ◌∷◌, ◌++◌, Option, Some, None}
 use Rattle.std.specs.Io.KnownBytes.{Consumes, IsAtEnd}
 use Rattle.std.specs.List.{AllByRecursion, flat_map}
 use Rattle.cbsp_messages.specs.Faults.{IsFaultAs}
@@ -18,7 +18,6 @@ use Rattle.centre_events.specs.declared.refusal.Refusal.TheVariants as refusal
 use Rattle.link_worker.specs.Ends.{IfShut, IsRefusedEnd, report_end}
 use Rattle.link_worker.specs.declared.end.End.{End}
 use Rattle.link_worker.specs.declared.end.End.TheVariants as end
-use Rattle.link_worker.specs.declared.entered.Entered.{Entered}
 use Rattle.office.specs.Desks.{DeskState}
 use Rattle.office.specs.Offices.{IsRefusedSomewhere}
 use Rattle.office.specs.declared.receipt.Receipt.{Receipt}
@@ -101,34 +100,6 @@ pub record IsLastReport (frames : List Frame) : Type 0 where
   pub message : Message
   pub parts : frames ≡ before ++ frame ∷ []
   pub report : IsReport frame message
-
--- some of the frames were taken, from the first on, and these are left
-pub record TakesFirst (b generation : ℕ) (frames left : List Frame) (old new : DeskState) : Type 0 where
-  pub taken : List Frame
-  pub parts : frames ≡ taken ++ left
-  pub takes : TakesReports b generation taken old new
-
--- the frames, and the next one in front of them, if there is one
-abbrev pub in_front_of : Option Frame → List Frame → List Frame
-in_front_of None frames = frames
-in_front_of (Some frame) frames = frame ∷ frames
-
--- there is something for the gate to be told
-abbrev pub has_any : Entered → Bool
-has_any e = nat_lt 0 e.reports || e.is_reply
-
--- what was submitted are the reports in some of the frames, from the first on. Where there is something for the gate to be told, the last
--- of these is that of a report
-pub record SubmitsFirst (b generation : ℕ) (frames : List Frame) (old new : DeskState) (e : Entered) : Type 0 where
-  pub taken : List Frame
-  pub left : List Frame
-  pub parts : frames ≡ taken ++ left
-  pub takes : TakesReports b generation taken old new
-  pub last : has_any e ≡ true → IsLastReport taken
-
--- the frame is that of a report, which is counted, or of another type, and then nothing changed
-abbrev pub IsCounted : Frame → DeskState → DeskState → Entered → Entered → Type 0
-IsCounted frame old new before after = ((m : Message) × IsReport frame m) ⊎ ((new ≡ old) × (after ≡ before))
 
 -- what each end says of the octets that were read and not taken, of those that the reader has left, and of the cause
 abbrev pub EndsAt : ℕ → ℕ → DeskState → End → List ℕ → Option (List ℕ) → Type 0
@@ -220,6 +191,10 @@ pub record IsRefusal (event : Event) (old new : DeskState) (e : End) : Type 0 wh
   pub is_refused : IsRefusedEnd e
   pub receipts : new.receipts ≡ old.receipts
   pub number : new.number ≡ old.number
+
+-- an end at a report that was read
+abbrev pub IsSubmitEnd : Event → DeskState → DeskState → End → Type 0
+IsSubmitEnd event old new e = IsRefusal event old new e ⊎ (e ≡ end.GateShut)
 
 -- what the end of the stream is, by the octets of a frame that has begun
 abbrev pub stream_end : List ℕ → End

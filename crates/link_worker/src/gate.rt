@@ -27,12 +27,6 @@ pub trait Gate {
     /// A report was read, and is submitted next. It may wait until the report may come in, which isn't lost.
     fn before_report<R: Wait>(&self, _rt: &R, _load: Load) {}
 
-    /// Whether a report that was read may have to wait. If not, it is submitted in the hold of the office's lock in which one before it
-    /// was, so nothing waits here. Else the report is read again after that hold, and `before_report` is asked.
-    fn has_to_wait<R: Wait>(&self, _rt: &R, _load: Load) -> bool {
-        false
-    }
-
     /// Whether the link of the BSC goes on. Where it doesn't, the side that asks ends.
     fn pass<R: Wait>(&self, rt: &R, b: BscId, passage: Passage<'_>) -> bool
         ensures cut { result ≡ false → may_cut self.now b (step_of passage.entry) };

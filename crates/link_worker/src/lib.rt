@@ -6,7 +6,6 @@
 #![tactic(auto)]
 
 mod end;
-mod entered;
 mod gate;
 mod link;
 mod load;

@@ -1,6 +1,8 @@
 //! What a report asks of the centre.
 
 ghost use Rattle.std.specs.Prelude.{◌≡◌};
+ghost use Rattle.std.specs.List.{list_all};
+ghost use Rattle.cbsp_ie.specs.declared.fail_entry.FailEntry.{FailEntry};
 ghost use Rattle.link_worker.specs.Loads.{is_of_one, load_of, named_by_failures, named_by_ids, named_in};
 
 use cbsp_ie::{CellId, FailEntry};
@@ -29,11 +31,25 @@ fn is_of_one(id: &CellId) -> bool
     }
 }
 
+/// Whether each of the identifications is taken for that of one cell.
+fn are_ids_of_one(ids: &[CellId]) -> bool
+    ensures { result ≡ list_all is_of_one ids.now }
+{
+    ids.iter().all(|id| is_of_one(id))
+}
+
+/// Whether each of the entries is taken for one of one cell.
+fn are_failures_of_one(failures: &[FailEntry]) -> bool
+    ensures { result ≡ list_all (λ (f : FailEntry). is_of_one f.id) failures.now }
+{
+    failures.iter().all(|entry| is_of_one(&entry.id))
+}
+
 /// How many cells a RESTART names.
 fn named_by_ids(ids: &[CellId]) -> Option<usize>
     ensures { result ≡ named_by_ids ids.now }
 {
-    if ids.iter().all(|id| is_of_one(id)) {
+    if are_ids_of_one(ids) {
         Some(ids.len())
     } else {
         None
@@ -44,7 +60,7 @@ fn named_by_ids(ids: &[CellId]) -> Option<usize>
 fn named_by_failures(failures: &[FailEntry]) -> Option<usize>
     ensures { result ≡ named_by_failures failures.now }
 {
-    if failures.iter().all(|entry| is_of_one(&entry.id)) {
+    if are_failures_of_one(failures) {
         Some(failures.len())
     } else {
         None

@@ -145,8 +145,16 @@ impl<'a, L: Ledger, E: Write + Drop> Pictures for RunningPictures<'a, L, E> {
     fn take<R: Wait + Clock>(&self, rt: &R) -> Result<Picture, AllocError> {
         let mut moments = self.moments(rt)?;
         let surveyed: Surveyed = self.shared.office.survey(rt)?;
-        moments.downs = self.downs(rt, surveyed.survey.bscs.as_slice())?;
-        picture(self.shared.alloc, surveyed, &moments)
+        match self.downs(rt, surveyed.survey.bscs.as_slice()) {
+            Ok(downs) => {
+                moments.downs = downs;
+                picture(self.shared.alloc, surveyed, &moments)
+            }
+            Err(error) => {
+                drop(surveyed);
+                Err(error)
+            }
+        }
     }
 
     fn tell<R: Wait + Clock>(&self, rt: &R, what: &str) {

@@ -109,10 +109,6 @@ impl<'a, L: Ledger, E: Write + Drop, C: Wait + Clock> Gate for LinkGate<'a, L, E
         self.shared.begin_report(self.rt, self.port, load);
     }
 
-    fn has_to_wait<R: Wait>(&self, _rt: &R, load: Load) -> bool {
-        !self.port.begin_light(self.rt, load, now_of(self.rt))
-    }
-
     fn pass<R: Wait>(&self, _rt: &R, _b: BscId, passage: Passage<'_>) -> bool {
         let kept = match passage {
             Passage::Order(frame) => self.kept_of(frame),

@@ -1,11 +1,11 @@
-//! Reports that were submitted.
+//! A report that was submitted.
 
-/// What was known of a report, and of those behind it, when they were let in.
+/// What was known of a report when it was let in.
 #[derive(Clone, Copy, Debug, PartialEq, Eq)]
 pub struct Entered {
-    /// How many octets and cells are kept of them.
+    /// How many octets and cells are kept of it.
     pub kept: u64,
-    /// The first had the turn of the heavy reports.
+    /// It had the turn of the heavy reports.
     pub had_turn: bool,
     /// How many milliseconds are left to others before the next has the turn.
     pub pause_ms: u64,

@@ -298,17 +298,12 @@ impl<L: Ledger> Port<L> {
         self.pace.lock(rt).take_cost(cost, now)
     }
 
-    /// Whether a report of that load may come in behind another at once: it isn't heavy, and doesn't have to wait. It is charged then.
-    pub fn begin_light<R: Wait>(&self, rt: &R, load: Load, now: u64) -> bool {
-        self.pace.lock(rt).begin_light(load, now)
-    }
-
     /// The report has the turn of the heavy ones.
     pub fn take_turn<R: Wait>(&self, rt: &R) {
         self.pace.lock(rt).take_turn();
     }
 
-    /// The report was submitted, and those behind it, or it is none any more. The answer is what was known of them.
+    /// The report was submitted, or it is none any more. The answer is what was known of it.
     pub fn end_report<R: Wait>(&self, rt: &R) -> Entered {
         self.pace.lock(rt).end_report()
     }

@@ -24,7 +24,7 @@ pub struct PortPace {
     /// What reports may cost, and by which figures they are charged.
     costs: CostLimit,
     figures: Figures,
-    /// The reports that were let in last.
+    /// The report that was let in last.
     entered: Entered,
     /// Since when an order or a query is out.
     replies: ReplyPace,
@@ -203,22 +203,12 @@ impl PortPace {
         self.costs.take(cost, now)
     }
 
-    /// Whether a report of that load may come in behind another at once: it isn't heavy, and doesn't have to wait. It is charged then.
-    pub(crate) fn begin_light(&mut self, load: Load, now: u64) -> bool {
-        let cost = self.figures.cost_of(load);
-        if cost.is_heavy() || !self.costs.take(cost, now) {
-            return false;
-        }
-        self.entered.kept = self.entered.kept.saturating_add(cost.kept);
-        true
-    }
-
     /// The report has the turn of the heavy ones.
     pub(crate) fn take_turn(&mut self) {
         self.entered.had_turn = true;
     }
 
-    /// The report was submitted, and those behind it, or it is none any more.
+    /// The report was submitted, or it is none any more.
     pub(crate) fn end_report(&mut self) -> Entered {
         let entered = self.entered;
         self.entered = Entered::none();
