@@ -220,8 +220,6 @@ class Trial:
         self.early(what, warning)
         self.connects()
         centre.is_up(since=since)
-        # a link is up before its RESET is answered
-        self.kit.until(lambda: centre.ask_all("links", "links")[-1] == "links 1 up 1", 20)
         centre.settles()
         wanted = {"stop": (0, 0, 0, 0), "narrow": (0, 1, 0, 0)}.get(order, (0, 2, 0, 0))
         took, wrong = centre.comes_to(warning, *wanted), []
