@@ -68,9 +68,11 @@ impl PortPace {
         }
     }
 
-    /// An order or a query is to go out, whose frame this is. A query is never told or held: it comes of a wish.
+    /// An order or a query is to go out, whose frame this is. A query is never told or held: it comes of a wish. It is asked where no
+    /// order is pending, so the order before it has settled; that the same one goes out behind it may come of its answer.
     pub(crate) fn send(&mut self, frame: &[u8], now: u64) -> Repeat {
         let repeat = if frame.first() == Some(&STATUS_QUERY) {
+            self.orders.changed();
             Repeat::Go
         } else {
             self.orders.sent(frame, now)
