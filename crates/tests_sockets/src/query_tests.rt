@@ -7,7 +7,7 @@ use crate::given_texts::Wanted;
 /// The type of a WRITE-REPLACE, of a KILL and of a MESSAGE STATUS QUERY.
 const WRITE: u8 = 0x01;
 
-const KILL: u8 = 0x05;
+const KILL: u8 = 0x04;
 
 const QUERY: u8 = 0x0a;
 
