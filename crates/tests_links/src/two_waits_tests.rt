@@ -2,7 +2,7 @@
 
 ghost use Rattle.std.specs.Prelude.{◌≡◌};
 
-use crate::checks::{same, yes};
+use crate::checks::yes;
 use crate::given_events::{EIGHT, SEVEN, bsc, coast, content, first_warning, issue};
 use crate::given_link::{LINK, edits, enters, first_bsc, linked, opens};
 use areas::Selector;
@@ -43,6 +43,15 @@ enum Change {
     Cut,
     /// The link of the first BSC is lost.
     Loss,
+}
+
+/// What is done while one side waits for the first BSC, and another for the BSC of that number and its link; and for what both go on.
+#[derive(Clone, Copy)]
+struct Case {
+    change: Change,
+    bsc: u16,
+    generation: u64,
+    wake: Wake,
 }
 
 /// The order that is pending over the link is sent, and done.
@@ -150,45 +159,54 @@ fn waits<L: Ledger, R: Wait>(
     wake
 }
 
-/// For what two sides go on that wait at the same time: one for the first BSC, the other for that BSC and the link of that generation.
+/// Whether two sides that wait at the same time go on for what they are to.
 fn both_wait<L: Ledger + Send + Sync, R: Threads + Wait + Abort + Sync>(
     rt: &R,
     office: &Office<L>,
-    b: BscId,
-    generation: u64,
     awake: &AtomicU64,
-) -> (Wake, Wake) {
-    let first = first_bsc(rt);
+    case: Case,
+) -> bool {
+    let (first, second, generation) = (first_bsc(rt), bsc(rt, case.bsc), case.generation);
     let (one, other) = (opens(rt, office), opens(rt, office));
-    thread::join(
+    let (of_one, of_other) = thread::join(
         rt,
         move || waits(rt, office, one, first, LINK, awake),
-        move || waits(rt, office, other, b, generation, awake),
+        move || waits(rt, office, other, second, generation, awake),
+    );
+    of_one == case.wake && of_other == case.wake
+}
+
+/// Whether both sides go on soon, if the change comes about while they wait, and for what they are to.
+fn woken<L: Ledger + Send + Sync, R: Threads + Wait + Clock + Abort + Sync>(
+    rt: &R,
+    alloc: Global,
+    office: &Office<L>,
+    awake: &AtomicU64,
+    desk: Desk<L>,
+    case: Case,
+) -> (bool, bool) {
+    let change = case.change;
+    thread::join(
+        rt,
+        move || changes_later(rt, alloc, office, desk, change, awake),
+        move || both_wait(rt, office, awake, case),
     )
 }
 
-/// Whether both sides go on soon, the second of which waits for the BSC of that number, and for what.
+/// The same, of an office of its own.
 fn both_woken<L: Ledger + Send + Sync, R: Threads + Wait + Clock + Abort + Sync>(
     rt: &R,
     alloc: Global,
     blank: Blank,
-    change: Change,
-    second: (u16, u64),
-) -> (bool, Wake, Wake)
+    case: Case,
+) -> (bool, bool)
     requires name { blank.name ≡ L.name }
     requires parts { blank.parts ≡ L.parts }
     requires desks { blank.parts ≡ 1025 }
 {
     let (office, desk) = both_idle::<L, R>(rt, alloc, blank);
-    let counted = AtomicU64::new(0);
-    let (shared, awake) = (&office, &counted);
-    let (b, generation) = (bsc(rt, second.0), second.1);
-    let (is_soon, wakes) = thread::join(
-        rt,
-        move || changes_later(rt, alloc, shared, desk, change, awake),
-        move || both_wait(rt, shared, b, generation, awake),
-    );
-    (is_soon, wakes.0, wakes.1)
+    let awake = AtomicU64::new(0);
+    woken(rt, alloc, &office, &awake, desk, case)
 }
 
 /// What is done that makes an order due at both BSCs, and what is looked at.
@@ -202,29 +220,27 @@ const ROWS: [(Change, &str); 4] = [
 #[test]
 fn sides_of_two_bscs_are_woken(rt: HostRuntime) {
     for (change, at) in &ROWS {
-        let (is_soon, one, other) = both_woken::<Brand, _>(
-            &rt,
-            rt.alloc(),
-            Blank::new(1025),
-            *change,
-            (2, SECOND_LINK),
-        );
+        let case = Case {
+            change: *change,
+            bsc: 2,
+            generation: SECOND_LINK,
+            wake: Wake::Order,
+        };
+        let (is_soon, is_right) = both_woken::<Brand, _>(&rt, rt.alloc(), Blank::new(1025), case);
         yes(&rt, is_soon, at);
-        same(&rt, one, Wake::Order, at);
-        same(&rt, other, Wake::Order, at);
+        yes(&rt, is_right, at);
     }
 }
 
 #[test]
 fn both_sides_of_a_bsc_are_woken(rt: HostRuntime) {
-    let (is_soon, one, other) = both_woken::<Brand, _>(
-        &rt,
-        rt.alloc(),
-        Blank::new(1025),
-        Change::Loss,
-        (1, LINK),
-    );
+    let case = Case {
+        change: Change::Loss,
+        bsc: 1,
+        generation: LINK,
+        wake: Wake::Ended,
+    };
+    let (is_soon, is_right) = both_woken::<Brand, _>(&rt, rt.alloc(), Blank::new(1025), case);
     yes(&rt, is_soon, "a side isn't woken");
-    same(&rt, one, Wake::Ended, "the first side");
-    same(&rt, other, Wake::Ended, "the second side");
+    yes(&rt, is_right, "a side goes on for something else");
 }
