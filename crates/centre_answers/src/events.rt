@@ -46,13 +46,10 @@ fn check_own(kept: &Kept, edit: &Edit) -> Result<(), Refusal>
     ensures { (settings : Settings) (past : Past) → Legal settings past → IsKept past kept.now → first_refusal (edit_checks kept.now.plan edit.now) ≡ None → IsFirst (own_causes past edit.now) result }
 {
     match edit {
-        Edit::RemoveBsc(b) => links::check_down(kept.links.as_slice(), *b),
-        Edit::Forget(number) => forgetting::check_forget(
-            &kept.plan,
-            kept.links.as_slice(),
-            &kept.tables,
-            *number,
-        ),
+        Edit::RemoveBsc(b) => links::check_down(&kept.links, *b),
+        Edit::Forget(number) => {
+            forgetting::check_forget(&kept.plan, &kept.links, &kept.tables, *number)
+        }
         Edit::Update(..) => unreachable!(),
         _ => Ok(()),
     }
@@ -81,7 +78,7 @@ pub fn check_edit(kept: &mut Kept, edit: &Edit) -> Result<(), Refusal>
         Edit::Update(number, content) => reusing::check_update(
             kept.plan.register(),
             kept.plan.book(),
-            kept.links.as_slice(),
+            &kept.links,
             &mut kept.tables,
             *number,
             content,
@@ -133,7 +130,7 @@ pub fn answer(
         Event::Retry(b) => links::retry(kept.plan.register(), *b),
         Event::LinkUp(b) => links::link_up(kept.plan.register(), *b, place),
         Event::LinkDown(b, generation) => {
-            links::link_down(kept.links.as_slice(), kept.plan.register(), *b, *generation)
+            links::link_down(&kept.links, kept.plan.register(), *b, *generation)
         }
         Event::Send(b, generation) => {
             sends::send(alloc, network.broadcasts, kept, *b, *generation)

@@ -54,7 +54,7 @@ pub fn pending(alloc: Global, tables: &KeptTables, b: BscId) -> Result<Orders, A
 pub fn link_state(kept: &Kept, b: BscId) -> LinkState
     ensures { (settings : Settings) (past : Past) → Legal settings past → IsKept past kept.now → result ≡ link_state past b }
 {
-    let links = kept.links.as_slice();
+    let links = &kept.links;
     LinkState {
         last: generation(links, b),
         is_up: is_up(links, b),

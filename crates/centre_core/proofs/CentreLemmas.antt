@@ -280,7 +280,7 @@ edit_enters settings {xs} {ys} {folded} {now} {desk} {e} {a} {r} {s} {t} {last} 
       is_past = refl;
     })
 
-pub other_enters : (settings : Settings) {xs ys folded now : List Entry} {desk : ℕ} {e : Event} {a : Answer} {entry : Entry} {r s : Kept} {last : ℕ} {up : Bool} {spots : List Spot} {earlier : LinesBefore} → IsWhole settings.network xs ys r → length xs + length ys < 2 ^ 64 - 1 → folded ≡ xs → now ≡ ys → last ≡ length folded + length now → OnlyReadsIn r s → verdict settings (past_over xs ys) e ≡ Ok a → is_edit e ≡ false → entry ≡ record { desk = desk; event = e; answer = a } → ((past : Past) → AreLinksOf past s.links.items → up ≡ up_before past entry.event) → WasReached (past_of (xs ++ ys)) e a spots earlier → Enters s entry (past_of (xs ++ ys)) (last + 1) up spots earlier
+pub other_enters : (settings : Settings) {xs ys folded now : List Entry} {desk : ℕ} {e : Event} {a : Answer} {entry : Entry} {r s : Kept} {last : ℕ} {up : Bool} {spots : List Spot} {earlier : LinesBefore} → IsWhole settings.network xs ys r → length xs + length ys < 2 ^ 64 - 1 → folded ≡ xs → now ≡ ys → last ≡ length folded + length now → OnlyReadsIn r s → verdict settings (past_over xs ys) e ≡ Ok a → is_edit e ≡ false → entry ≡ record { desk = desk; event = e; answer = a } → ((past : Past) → AreLinksOf past s.links → up ≡ up_before past entry.event) → WasReached (past_of (xs ++ ys)) e a spots earlier → Enters s entry (past_of (xs ++ ys)) (last + 1) up spots earlier
 other_enters settings {xs} {ys} {folded} {now} {desk} {e} {a} {r} {s} {last} {up} {spots} {earlier} centre low same_folded same is reads accepted other entered up_is reached =
     subst (λ x. Enters s x (past_of (xs ++ ys)) (last + 1) up spots earlier) (sym entered) (record {
       known = finishes_other (lasting settings.network) (past_of (xs ++ ys)) desk e a s (last + 1) up spots earlier centre.legal (accepted_all settings xs ys e a low accepted) kept other (up_is (past_of (xs ++ ys)) kept.linked ∙ ap (λ (x : Entry). up_before (past_of (xs ++ ys)) x.event) entered) (place_then xs ys folded now last same_folded same is) reached;

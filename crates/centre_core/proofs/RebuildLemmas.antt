@@ -94,7 +94,7 @@ other_finished r s e place up spots earlier x other reads up_is reached = record
 pub edit_finishes : (r s t : Kept) (e : Entry) (edit : Edit) (place : ℕ) (spots : List Spot) (earlier : LinesBefore) → Follows r e place → e.event ≡ event.Edit edit → OnlyReadsIn r s → t ≡ record s { plan = edited edit s.plan } → ((settings : Settings) (past : Past) (a : Answer) → Legal settings past → IsKept past r → edit_answered past edit ≡ Ok a → WasReached past (event.Edit edit) a spots earlier) → Finishes t e.event e.answer place false spots earlier
 edit_finishes r s t e edit place spots earlier x is reads made reached = (edit_finished r s t e edit place spots earlier x is reads made reached).known
 
-pub other_finishes : (r s : Kept) (e : Entry) (place : ℕ) (up : Bool) (spots : List Spot) (earlier : LinesBefore) → Follows r e place → is_edit e.event ≡ false → OnlyReadsIn r s → ((past : Past) → AreLinksOf past r.links.items → up ≡ up_before past e.event) → ((settings : Settings) (past : Past) → Legal settings past → IsKept past r → answered settings.network past e.event ≡ Ok e.answer → WasReached past e.event e.answer spots earlier) → Finishes s e.event e.answer place up spots earlier
+pub other_finishes : (r s : Kept) (e : Entry) (place : ℕ) (up : Bool) (spots : List Spot) (earlier : LinesBefore) → Follows r e place → is_edit e.event ≡ false → OnlyReadsIn r s → ((past : Past) → AreLinksOf past r.links → up ≡ up_before past e.event) → ((settings : Settings) (past : Past) → Legal settings past → IsKept past r → answered settings.network past e.event ≡ Ok e.answer → WasReached past e.event e.answer spots earlier) → Finishes s e.event e.answer place up spots earlier
 other_finishes r s e place up spots earlier x other reads up_is reached = (other_finished r s e place up spots earlier x other reads (up_is x.past x.kept.linked) reached).known
 
 -- what follows from the end of it
@@ -107,7 +107,7 @@ finished r t new e place up spots earlier (Err u) f g = tt
 pub edit_followed : {E : Type 0} (r s t new : Kept) (e : Entry) (edit : Edit) (place : ℕ) (spots : List Spot) (earlier : LinesBefore) (o : Result Unit E) → e.event ≡ event.Edit edit → OnlyReadsIn r s → t ≡ record s { plan = edited edit s.plan } → ((settings : Settings) (past : Past) (a : Answer) → Legal settings past → IsKept past r → edit_answered past edit ≡ Ok a → WasReached past (event.Edit edit) a spots earlier) → OnOk o ((y : Finishes t e.event e.answer place false spots earlier) → IsKept (After (record { desk = y.desk; event = e.event; answer = e.answer }) y.past) new) → OnOk o ((x : Follows r e place) → IsKept (After e x.past) new)
 edit_followed r s t new e edit place spots earlier o is reads made reached g = finished r t new e place false spots earlier o (λ x. edit_finished r s t e edit place spots earlier x is reads made reached) g
 
-pub other_followed : {E : Type 0} (r s new : Kept) (e : Entry) (place : ℕ) (up : Bool) (spots : List Spot) (earlier : LinesBefore) (o : Result Unit E) → is_edit e.event ≡ false → OnlyReadsIn r s → ((past : Past) → AreLinksOf past r.links.items → up ≡ up_before past e.event) → ((settings : Settings) (past : Past) → Legal settings past → IsKept past r → answered settings.network past e.event ≡ Ok e.answer → WasReached past e.event e.answer spots earlier) → OnOk o ((y : Finishes s e.event e.answer place up spots earlier) → IsKept (After (record { desk = y.desk; event = e.event; answer = e.answer }) y.past) new) → OnOk o ((x : Follows r e place) → IsKept (After e x.past) new)
+pub other_followed : {E : Type 0} (r s new : Kept) (e : Entry) (place : ℕ) (up : Bool) (spots : List Spot) (earlier : LinesBefore) (o : Result Unit E) → is_edit e.event ≡ false → OnlyReadsIn r s → ((past : Past) → AreLinksOf past r.links → up ≡ up_before past e.event) → ((settings : Settings) (past : Past) → Legal settings past → IsKept past r → answered settings.network past e.event ≡ Ok e.answer → WasReached past e.event e.answer spots earlier) → OnOk o ((y : Finishes s e.event e.answer place up spots earlier) → IsKept (After (record { desk = y.desk; event = e.event; answer = e.answer }) y.past) new) → OnOk o ((x : Follows r e place) → IsKept (After e x.past) new)
 other_followed r s new e place up spots earlier o other reads up_is reached g = finished r s new e place up spots earlier o (λ x. other_finished r s e place up spots earlier x other reads (up_is x.past x.kept.linked) reached) g
 
 -- The walk over the journal, by the numbers of its entries, from 1.

@@ -185,7 +185,7 @@ impl Centre {
             }
         };
         let (entry, given) = with_entry(self.alloc, desk, event, found.answer)?;
-        let up = up_before(self.kept.links.as_slice(), &entry.event);
+        let up = up_before(&self.kept.links, &entry.event);
         let place = self.journal.position() + 1;
         let before = BeforeEntry {
             place,
@@ -316,7 +316,7 @@ impl Centre {
         if !self.kept.plan.register().has_bsc(b) {
             return Err(Refusal::NoSuchBsc);
         }
-        Ok(flight_in(self.kept.links.as_slice(), b))
+        Ok(flight_in(&self.kept.links, b))
     }
 
     /// What is told of the BSC's link. It takes no memory. `Stale`, then `NoSuchBsc`.

@@ -32,7 +32,7 @@ pub(crate) fn finish<'x>(
         event,
         answer,
         up,
-        flight: flight_of(kept.links.as_slice(), event),
+        flight: flight_of(&kept.links, event),
     };
     bear(alloc, &h, &kept.plan, &mut kept.tables, reached)?;
     links::follow(alloc, &mut kept.links, event, answer, place)?;

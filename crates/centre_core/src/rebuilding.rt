@@ -57,7 +57,7 @@ fn follow_other(alloc: Global, kept: &mut Kept, entry: &Entry, place: u64) -> Re
     ensures meter { OnOk result ((x : Follows kept.old entry.now place) → kept.new.tables.lines.meter ≤ kept.old.tables.lines.meter + 4 * size (reach_of x.past entry.now.event entry.now.answer)) }
 {
     tell_reads();
-    let up = up_before(kept.links.as_slice(), &entry.event);
+    let up = up_before(&kept.links, &entry.event);
     let reached = reached_by_other(alloc, kept, &entry.event, &entry.answer)?;
     let before = BeforeEntry { place, up, reached };
     finish(alloc, kept, &entry.event, &entry.answer, before)

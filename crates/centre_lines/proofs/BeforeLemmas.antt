@@ -135,8 +135,8 @@ pub reads_as : (t u : Tables) → AsBefore t u → OnlyReads t u
 reads_as t u h = record { lines = h.lines; downs = h.downs; same = h.same; meter = h.meter }
 
 -- what is in flight to the BSC of an event that is no edit
-pub flying_kept : (past : Past) (ls these : List Link) (e : Event) (f : Option InFlight) → AreLinksOf past ls → is_edit e ≡ false → these ≡ ls → f ≡ flight_kept these e → IsFlightOf past (bsc_of e) f
-flying_kept past ls these e f linked h same is = step e h (is ∙ ap (λ xs. flight_kept xs e) same)
+pub flying_kept : (past : Past) (ls : List Link) (e : Event) (f : Option InFlight) → AreLinksOf past ls → is_edit e ≡ false → f ≡ flight_kept ls e → IsFlightOf past (bsc_of e) f
+flying_kept past ls e f linked h is = step e h is
   where
     step : (e : Event) → is_edit e ≡ false → f ≡ flight_kept ls e → IsFlightOf past (bsc_of e) f
     step (event.Edit x) other at = cc

@@ -24,8 +24,8 @@ flight_is past ls e linked = step (bsc_of e)
     step (Some b) = linked.flights b
 
 -- what is known before the lines are changed
-abbrev pub made_of : (s : Kept) (e : Event) (a : Answer) (place : ℕ) (up : Bool) (spots : List Spot) (earlier : LinesBefore) (f : Option InFlight) (ls : List Link) → Finishes s e a place up spots earlier → ls ≡ s.links.items → f ≡ flight_kept ls e → Made s.plan s.tables (record { event = e; answer = a; up = up; flight = f }) spots earlier
-made_of s e a place up spots earlier f ls x these is = record {
+abbrev pub made_of : (s : Kept) (e : Event) (a : Answer) (place : ℕ) (up : Bool) (spots : List Spot) (earlier : LinesBefore) (f : Option InFlight) → Finishes s e a place up spots earlier → f ≡ flight_kept s.links e → Made s.plan s.tables (record { event = e; answer = a; up = up; flight = f }) spots earlier
+made_of s e a place up spots earlier f x is = record {
   settings = x.settings;
   past = x.past;
   desk = x.desk;
@@ -35,7 +35,7 @@ made_of s e a place up spots earlier f ls x these is = record {
   selected = x.selected;
   booked = x.booked;
   up = x.is_up;
-  flight = is ∙ ap (λ xs. flight_kept xs e) these ∙ flight_is x.past s.links.items e x.linked;
+  flight = is ∙ flight_is x.past s.links e x.linked;
   downs = x.downs;
   tables = x.tables;
   said = x.reached;

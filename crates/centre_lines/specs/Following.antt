@@ -334,7 +334,7 @@ pub record Finishes (s : Kept) (e : Event) (a : Answer) (place : ℕ) (up : Bool
   pub registered : IsRegisterOf (After (record { desk = desk; event = e; answer = a }) past) s.plan.register
   pub selected : AreAreasOf (After (record { desk = desk; event = e; answer = a }) past) s.plan.areas
   pub booked : s.plan.book ≡ book_of (After (record { desk = desk; event = e; answer = a }) past)
-  pub linked : AreLinksOf past s.links.items
+  pub linked : AreLinksOf past s.links
   pub is_up : up ≡ up_before past e
   pub is_place : place ≡ position past + 1
   pub downs : (k : Kind) (b : ℕ) (c : Cell) → down_at s.tables.lines k b c ≡ is_down past k b c

@@ -129,8 +129,8 @@ pub fn reached_by_other<'x>(
     let h = Happening {
         event,
         answer,
-        up: up_before(kept.links.as_slice(), event),
-        flight: flight_of(kept.links.as_slice(), event),
+        up: up_before(&kept.links, event),
+        flight: flight_of(&kept.links, event),
     };
     let reach = reach_of_other(alloc, &kept.plan, kept.tables.lines(), &h)?;
     Ok(Reached {

@@ -9,7 +9,7 @@ use Rattle.centre_past.specs.IsKept.{IsKept}
 use Rattle.centre_events.specs.Past.{From}
 use Rattle.centre_past.specs.declared.kept.Kept.{Kept}
 
-pub empty_kept : (s : Kept) → s.plan ≡ empty → s.links.items ≡ [] → IsEmpty s.tables → IsKept (From empty_base) s
+pub empty_kept : (s : Kept) → s.plan ≡ empty → s.links ≡ [] → IsEmpty s.tables → IsKept (From empty_base) s
 empty_kept s plan linked tables = record {
   registered = rw plan (record { unfolded = refl; bscs = λ b. refl; places = λ c. refl });
   selected = rw plan (record { unfolded = refl; names = λ a. refl; selectors = λ a x. refl });

@@ -16,6 +16,7 @@ pub mod AlikeLemmas
 pub mod HeadlineLemmas
 pub mod RegisterLemmas
 pub mod AreaLemmas
+pub mod LinkPlaceLemmas
 pub mod LinkLemmas
 pub mod FactsLemmas
 pub mod StepLemmas

@@ -1,9 +1,10 @@
 -- The links that a centre keeps are those of the past, one entry further.
-use Rattle.std.proofs.Common.{◌≡◌, ℕ, ◌+◌, ◌<◌, arith, Bool, true, false, ◌&&◌, not, List, [], ◌∷◌, ◌++◌, length, Option, Some, None, Ok, unwrap_or, nat_eq, cond, refl, sym, ◌∙◌, ap, eqb-true}
+use Rattle.std.proofs.Common.{◌≡◌, ℕ, ◌+◌, Bool, true, false, ◌&&◌, not, List, [], ◌∷◌, Option, Some, None, Ok, unwrap_or, nat_eq, cond, refl, sym, ◌∙◌, ap, eqb-true}
 use Rattle.std.proofs.lemmas.Bool.{not-false}
 use Rattle.std.specs.Option.{is_some}
 use Rattle.std.specs.Prelude.{if◌then◌else◌}
-use Rattle.common.specs.OrderLaws.{length_filter}
+use Rattle.common.specs.Order.{inserted}
+use Rattle.common.specs.OrderLaws.{left_in}
 use Rattle.order_maker.specs.Grouping.{first}
 use Rattle.warning_book.specs.Book.{warning_of}
 use Rattle.coverage_plan.specs.declared.edit.Edit.{Edit}
@@ -24,7 +25,7 @@ use Rattle.centre_events.specs.declared.in_flight.InFlight.{InFlight}
 use Rattle.centre_events.specs.declared.network.Network.{Network}
 use Rattle.centre_events.specs.declared.settings.Settings.{Settings}
 use Rattle.centre_past.specs.Legal.{Legal}
-use Rattle.centre_past.specs.Links.{AreLinksOf, flight_in, flight_of, generation_of, is_link_of, link_in, links_after, links_edited, up_of, with_flight, with_link, without_link}
+use Rattle.centre_past.specs.Links.{AreLinksOf, flight_in, flight_of, generation_of, is_link_of, link_in, link_lt, links_after, links_edited, up_of, with_flight, with_link, without_link}
 use Rattle.centre_past.specs.declared.link.Link.{Link}
 use Rattle.centre_past.specs.declared.up_or_down.UpOrDown.{UpOrDown}
 use Rattle.centre_past.specs.declared.up_or_down.UpOrDown.TheVariants.{Down, Up}
@@ -59,41 +60,34 @@ in_without d b (l ∷ ls) = step (in_without d b ls) (is_link_of d l) refl
     step rest true e = out (link_in (without_link d ls) b) e rest
     step rest false e = stays (link_in (without_link d ls) b) e rest
 
--- that is one fewer at least, where something is kept of it
-pub without_less : (b : ℕ) (ls : List Link) → is_some (link_in ls b) ≡ true → length (without_link b ls) < length ls
-without_less b [] h = cc
-without_less b (l ∷ ls) h = step (is_link_of b l) h (without_less b ls)
-  where
-    step : (t : Bool) → is_some (cond t (Some l) (link_in ls b)) ≡ true → (is_some (link_in ls b) ≡ true → length (without_link b ls) < length ls) → length (cond (not t) (l ∷ without_link b ls) (without_link b ls)) < length (l ∷ ls)
-    step true e rest = omega (arith, length_filter (λ k. not (is_link_of b k)) ls)
-    step false e rest = omega (arith, rest e)
+-- what isn't found is neither the first nor behind it
+none_found : (t : Bool) (l : Link) (o : Option Link) → cond t (Some l) o ≡ None → (t ≡ false) × (o ≡ None)
+none_found true l o h = absurd cc
+none_found false l o h = (refl, h)
 
--- with one more, last
-in_last : (b : ℕ) (l : Link) (ls : List Link) → link_in ls b ≡ None → link_in (ls ++ l ∷ []) b ≡ cond (nat_eq l.bsc b) (Some l) None
-in_last b l [] h = refl
-in_last b l (k ∷ ls) h = step (nat_eq k.bsc b) h (in_last b l ls)
+-- with one more in its place, of whose BSC there is none
+in_inserted : (b : ℕ) (l : Link) (ls : List Link) → (nat_eq l.bsc b ≡ true → link_in ls b ≡ None) → link_in (inserted link_lt l ls) b ≡ cond (nat_eq l.bsc b) (Some l) (link_in ls b)
+in_inserted b l [] none = refl
+in_inserted b l (k ∷ ls) none = step (link_lt k l) (in_inserted b l ls (λ e. (none_found (nat_eq k.bsc b) k (link_in ls b) (none e)).1))
   where
-    step : (t : Bool) → cond t (Some k) (link_in ls b) ≡ None → (link_in ls b ≡ None → link_in (ls ++ l ∷ []) b ≡ cond (nat_eq l.bsc b) (Some l) None) → cond t (Some k) (link_in (ls ++ l ∷ []) b) ≡ cond (nat_eq l.bsc b) (Some l) None
-    step true e rest = cc
-    step false e rest = rest e
-
-in_last_other : (b : ℕ) (l : Link) (ls : List Link) → nat_eq l.bsc b ≡ false → link_in (ls ++ l ∷ []) b ≡ link_in ls b
-in_last_other b l [] h = ap (λ t. cond t (Some l) None) h
-in_last_other b l (k ∷ ls) h = ap (cond (nat_eq k.bsc b) (Some k)) (in_last_other b l ls h)
+    step : (t : Bool) → link_in (inserted link_lt l ls) b ≡ cond (nat_eq l.bsc b) (Some l) (link_in ls b) → link_in (if t then k ∷ inserted link_lt l ls else l ∷ k ∷ ls) b ≡ cond (nat_eq l.bsc b) (Some l) (link_in (k ∷ ls) b)
+    step true rest =
+        ap (cond (nat_eq k.bsc b) (Some k)) rest ∙ left_in (nat_eq l.bsc b) (nat_eq k.bsc b) (Some l) (Some k) (link_in ls b) (λ e. (none_found (nat_eq k.bsc b) k (link_in ls b) (none e)).0)
+    step false rest = refl
 
 -- with that of a BSC
 abbrev link_with : ℕ → ℕ → UpOrDown → Link
 link_with d g state = record { bsc = d; generation = g; state = state }
 
 in_with : (d b g : ℕ) (state : UpOrDown) (ls : List Link) → link_in (with_link d g state ls) b ≡ cond (nat_eq d b) (Some (link_with d g state)) (link_in ls b)
-in_with d b g state ls = step (nat_eq d b) refl
+in_with d b g state ls = in_inserted b new (without_link d ls) (λ e. in_without d b ls ∙ ap (λ t. cond t None (link_in ls b)) e) ∙ step (nat_eq d b) refl
   where
     new : Link
     new = link_with d g state
 
-    step : (t : Bool) → nat_eq d b ≡ t → link_in (without_link d ls ++ new ∷ []) b ≡ cond t (Some new) (link_in ls b)
-    step true e = in_last b new (without_link d ls) (in_without d b ls ∙ ap (λ t. cond t None (link_in ls b)) e) ∙ ap (λ t. cond t (Some new) None) e
-    step false e = in_last_other b new (without_link d ls) e ∙ in_without d b ls ∙ ap (λ t. cond t None (link_in ls b)) e
+    step : (t : Bool) → nat_eq d b ≡ t → cond t (Some new) (link_in (without_link d ls) b) ≡ cond t (Some new) (link_in ls b)
+    step true e = refl
+    step false e = in_without d b ls ∙ ap (λ t. cond t None (link_in ls b)) e
 
 -- what is marked, or what was before
 marked : {A : Type 0} (t : Bool) (o : Option Link) (f : Option Link → A) (l : Option Link) (x before : A) → f l ≡ x → f o ≡ before → f (cond t l o) ≡ unwrap_or (if t then Some x else None) before

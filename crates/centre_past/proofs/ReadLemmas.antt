@@ -26,7 +26,7 @@ reads_kept past s t kept reads = record {
   registered = subst (λ (p : State). IsRegisterOf past p.register) (sym reads.plan) kept.registered;
   selected = subst (λ (p : State). AreAreasOf past p.areas) (sym reads.plan) kept.selected;
   booked = ap (λ (p : State). p.book) reads.plan ∙ kept.booked;
-  linked = subst (λ ls. AreLinksOf past ls.items) (sym reads.links) kept.linked;
+  linked = subst (AreLinksOf past) (sym reads.links) kept.linked;
   downs = λ k b c. ap (λ downs. list_any (is_that_place b c) (downs_of k downs)) reads.tables.downs ∙ kept.downs k b c;
   tables = same_tables s.tables t.tables (facts past) reads.tables.same kept.tables;
 }

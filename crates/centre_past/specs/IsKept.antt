@@ -19,7 +19,7 @@ pub record IsKept (past : Past) (s : Kept) : Type 0 where
   pub registered : IsRegisterOf past s.plan.register
   pub selected : AreAreasOf past s.plan.areas
   pub booked : s.plan.book ≡ book_of past
-  pub linked : AreLinksOf past s.links.items
+  pub linked : AreLinksOf past s.links
   pub downs : (k : Kind) (b : ℕ) (c : Cell) → down_at s.tables.lines k b c ≡ is_down past k b c
   pub tables : Consistent s.tables (facts past)
 

@@ -1,6 +1,7 @@
 -- What is kept of the link of each BSC, with what is in flight over it, and how it follows an event.
-use Rattle.std.specs.Prelude.{◌≡◌, ℕ, Bool, true, false, not, List, [], ◌∷◌, ◌++◌, Option, Some, None, find, nat_eq, if◌then◌else◌}
+use Rattle.std.specs.Prelude.{◌≡◌, ℕ, Bool, true, false, not, List, Option, Some, None, find, nat_eq, ltb, if◌then◌else◌}
 use Rattle.std.specs.List.{filter}
+use Rattle.common.specs.Order.{inserted}
 use Rattle.centre_events.specs.InFlight.{asked_flight, in_flight, is_replied, sent_flight}
 use Rattle.centre_events.specs.Links.{bsc_of, is_up, last_link}
 use Rattle.centre_events.specs.Past.{Past}
@@ -27,6 +28,10 @@ flight_over (Up flight) = flight
 -- the link is the BSC's
 abbrev pub is_link_of : ℕ → Link → Bool
 is_link_of b l = nat_eq l.bsc b
+
+-- links stand in the order of the numbers of their BSCs
+abbrev pub link_lt : Link → Link → Bool
+link_lt l k = ltb l.bsc k.bsc
 
 -- that of the BSC, if something is kept of it
 abbrev pub link_in : List Link → ℕ → Option Link
@@ -81,7 +86,7 @@ without_link b ls = filter (λ l. not (is_link_of b l)) ls
 
 -- with that in its place
 abbrev pub with_link : ℕ → ℕ → UpOrDown → List Link → List Link
-with_link b generation state ls = without_link b ls ++ record { bsc = b; generation = generation; state = state } ∷ []
+with_link b generation state ls = inserted link_lt (record { bsc = b; generation = generation; state = state }) (without_link b ls)
 
 -- with that in flight over the BSC's link, which is up; nothing is, where there is nothing
 abbrev pub with_flight : ℕ → Option InFlight → List Link → List Link

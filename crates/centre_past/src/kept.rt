@@ -1,7 +1,6 @@
 //! What a centre keeps beside its journal.
 
-use crate::link::Link;
-use crate::links;
+use crate::kept_links::KeptLinks;
 use coverage_plan::Plan;
 use kept_tables::KeptTables;
 use std::alloc::{AllocError, Global};
@@ -10,7 +9,7 @@ use std::alloc::{AllocError, Global};
 /// pending and counted for them.
 pub struct Kept {
     pub plan: Plan,
-    pub links: Vec<Link>,
+    pub links: KeptLinks,
     pub tables: KeptTables,
 }
 
@@ -40,7 +39,7 @@ impl Kept {
     {
         Kept {
             plan: Plan::new(alloc),
-            links: Vec::new(alloc),
+            links: KeptLinks::new(alloc),
             tables: KeptTables::new(alloc),
         }
     }
@@ -56,7 +55,7 @@ impl Kept {
     {
         Ok(Kept {
             plan: self.plan.copied()?,
-            links: links::copied(alloc, self.links.as_slice())?,
+            links: self.links.copied(alloc)?,
             tables: self.tables.copied()?,
         })
     }

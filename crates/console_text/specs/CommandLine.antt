@@ -90,6 +90,14 @@ cut_option = record (new_rule (codes "cut-seconds")) { long = Some (codes "cut-s
 abbrev pub alive_option : Rule
 alive_option = record (new_rule (codes "keep-alive-seconds")) { long = Some (codes "keep-alive-seconds"); value_names = 1; defaults = codes "0" ∷ []; parser = Some (Unsigned 0 120) }
 
+-- after how many minutes a BSC is asked again how often a warning was broadcast, a day at most; 0 for never
+abbrev pub query_option : Rule
+query_option = record (new_rule (codes "query-minutes")) { long = Some (codes "query-minutes"); value_names = 1; defaults = codes "0" ∷ []; parser = Some (Unsigned 0 1440) }
+
+-- how many such queries a second there are at most, a number from 1 to 256
+abbrev pub pace_option : Rule
+pace_option = record (new_rule (codes "queries-per-second")) { long = Some (codes "queries-per-second"); value_names = 1; defaults = codes "2" ∷ []; parser = Some (Unsigned 1 256) }
+
 -- the file of the addresses that BSCs may connect from, where one is given; FILE is any text here
 abbrev pub peers_option : Rule
 peers_option = record (new_rule (codes "peers")) { long = Some (codes "peers"); value_names = 1 }
@@ -126,13 +134,21 @@ with_seconds a = with_rule (with_rule (with_rule a reply_option) cut_option) ali
 abbrev pub with_link_rules : App → App
 with_link_rules a = with_rule (with_seconds (with_rule a reset_option)) peers_option
 
+-- the options for queries that no operator wished for
+abbrev pub with_queries : App → App
+with_queries a = with_rule (with_rule a query_option) pace_option
+
+-- the options by which links go on
+abbrev pub with_links : App → App
+with_links a = with_queries (with_link_rules a)
+
 -- the options of the journal
 abbrev pub with_journal : App → App
 with_journal a = with_rule (with_rule a fold_option) keep_option
 
--- `serve`, with its seventeen options
+-- `serve`, with its nineteen options
 abbrev pub serve_command : App
-serve_command = with_watchers (with_consoles (with_link_rules (with_journal (with_ports (with_common (new_app (codes "serve")))))))
+serve_command = with_watchers (with_consoles (with_links (with_journal (with_ports (with_common (new_app (codes "serve")))))))
 
 -- a program that is nothing without a command, but for help and for `--version`, which asks for its name and its version
 abbrev pub program : App

@@ -3,7 +3,7 @@
 ghost use Rattle.std.specs.Prelude.{◌≡◌, false, IfOk};
 ghost use Rattle.clap.specs.Words.{app_of, rule_of};
 ghost use Rattle.clap.specs.declared.builder.command.Command.TheViews.{out-Command as fields_of};
-ghost use Rattle.console_text.specs.CommandLine.{plmn_option, broadcasts_option, journal_option, host_option, base_option, links_option, fold_option, sim_option, reset_option, reply_option, cut_option, alive_option, peers_option, keep_option, console_option, consoles_option, http_option, with_watchers, with_consoles, with_common, with_ports, with_journal, with_link_rules, with_seconds, replay_command, serve_command, command_line};
+ghost use Rattle.console_text.specs.CommandLine.{plmn_option, broadcasts_option, journal_option, host_option, base_option, links_option, fold_option, sim_option, reset_option, reply_option, cut_option, alive_option, query_option, pace_option, peers_option, keep_option, console_option, consoles_option, http_option, with_watchers, with_consoles, with_common, with_ports, with_journal, with_link_rules, with_links, with_seconds, with_queries, replay_command, serve_command, command_line};
 
 use clap::builder::ValueParser;
 use clap::{Arg, ArgAction, Command};
@@ -24,6 +24,15 @@ pub const MOST_ALIVE_SECONDS: u32 = 120;
 /// After how many seconds an order without a reply is said, where no number is given.
 pub const REPLY_SECONDS: u32 = 30;
 
+/// The most minutes between two queries that no operator wished for: a day.
+pub const MOST_MINUTES: u32 = 1_440;
+
+/// The most queries a second that no operator wished for.
+pub const MOST_QUERIES: u32 = 256;
+
+/// How many queries a second go out that no operator wished for, where no number is given.
+pub const QUERIES: u32 = 2;
+
 /// The most consoles that there may be at once.
 pub const MOST_CONSOLES: u32 = 64;
 
@@ -33,7 +42,7 @@ pub const CONSOLES: u32 = 16;
 /// How many broadcasts of a text a BSC is asked for, where no number is given: they have no end.
 const NO_END: &str = "0";
 
-/// The number of seconds after which a BSC is asked whether it is alive, where none is given: it is never.
+/// After how long a BSC is asked whether it is alive, or about a warning, where no number is given: it is never.
 const NEVER: &str = "0";
 
 /// What `--version` prints after the program's name.
@@ -201,6 +210,32 @@ fn alive_option<'a>(alloc: Global) -> Arg<'a>
         )
 }
 
+fn query_option<'a>(alloc: Global) -> Arg<'a>
+    ensures rule { rule_of result ≡ query_option }
+    ensures own { result.global ≡ false }
+{
+    Arg::new(alloc, "query-minutes")
+        .long("query-minutes")
+        .value_name("N")
+        .default_value(NEVER)
+        .value_parser(ValueParser::unsigned(0, u64::from(MOST_MINUTES)))
+        .help(
+            "After how many minutes a BSC is asked again how often a warning was broadcast, 0 for never",
+        )
+}
+
+fn pace_option<'a>(alloc: Global) -> Arg<'a>
+    ensures rule { rule_of result ≡ pace_option }
+    ensures own { result.global ≡ false }
+{
+    Arg::new(alloc, "queries-per-second")
+        .long("queries-per-second")
+        .value_name("N")
+        .default_value("2")
+        .value_parser(ValueParser::unsigned(1, u64::from(MOST_QUERIES)))
+        .help("How many such queries a second there are at most, over all BSCs")
+}
+
 fn peers_option<'a>(alloc: Global) -> Arg<'a>
     ensures rule { rule_of result ≡ peers_option }
     ensures own { result.global ≡ false }
@@ -262,6 +297,15 @@ fn with_seconds<'a>(alloc: Global, command: Command<'a>) -> Result<Command<'a>, 
     command.arg(alive_option(alloc))
 }
 
+/// The options for queries that no operator wished for.
+fn with_queries<'a>(alloc: Global, command: Command<'a>) -> Result<Command<'a>, AllocError>
+    requires { (fields_of command).has_globals ≡ false }
+    ensures app { IfOk result (λ c. app_of c ≡ with_queries (app_of command.entry)) }
+    ensures own { IfOk result (λ c. (fields_of c).has_globals ≡ false) }
+{
+    command.arg(query_option(alloc))?.arg(pace_option(alloc))
+}
+
 /// The options for links that are lost, taken over, or without replies.
 fn with_link_rules<'a>(alloc: Global, command: Command<'a>) -> Result<Command<'a>, AllocError>
     requires { (fields_of command).has_globals ≡ false }
@@ -270,6 +314,15 @@ fn with_link_rules<'a>(alloc: Global, command: Command<'a>) -> Result<Command<'a
 {
     let command = with_seconds(alloc, command.arg(reset_option(alloc))?)?;
     command.arg(peers_option(alloc))
+}
+
+/// The options by which links go on.
+fn with_links<'a>(alloc: Global, command: Command<'a>) -> Result<Command<'a>, AllocError>
+    requires { (fields_of command).has_globals ≡ false }
+    ensures app { IfOk result (λ c. app_of c ≡ with_links (app_of command.entry)) }
+    ensures own { IfOk result (λ c. (fields_of c).has_globals ≡ false) }
+{
+    with_queries(alloc, with_link_rules(alloc, command)?)
 }
 
 /// The options of the journal: when it is folded, and where it is kept.
@@ -317,7 +370,7 @@ fn serve_command<'a>(alloc: Global) -> Result<Command<'a>, AllocError>
 {
     let command = Command::new(alloc, "serve").about("Keeps warnings on air over TCP");
     let command = with_ports(alloc, with_common(alloc, command)?)?;
-    let command = with_link_rules(alloc, with_journal(alloc, command)?)?;
+    let command = with_links(alloc, with_journal(alloc, command)?)?;
     with_watchers(alloc, with_consoles(alloc, command)?)
 }
 

@@ -1,9 +1,10 @@
 -- A journal's file that is read line by line.
-use Rattle.std.proofs.Common.{◌≡◌, ◌⊎◌, inl, inr, ℕ, ◌+◌, ◌*◌, ◌<◌, ◌≤◌, List, [], ◌∷◌, ◌++◌, length, drop, Option, Some, None, refl, sym, ap, ◌∙◌, subst, arith, append_assoc, append-nil, length-append}
+use Rattle.std.proofs.Common.{◌≡◌, ◌⊎◌, inl, inr, ℕ, ◌+◌, ◌*◌, ◌<◌, ◌≤◌, false, not, List, [], ◌∷◌, ◌++◌, length, drop, Option, Some, None, refl, sym, ap, ◌∙◌, subst, arith, append_assoc, append-nil, length-append}
 use Rattle.std.proofs.KnownBytes.{Consumes-kept, Consumes-nil, Consumes-trans}
 use Rattle.std.specs.Io.KnownBytes.{Consumes, IsAtEnd, Keeps}
 use Rattle.std.specs.List.{AllByRecursion}
-use Rattle.journal_file.specs.Lines.{HasNoEnd, IsLine, longest_line, line_octets, lines_octets, kept_of}
+use Rattle.std.proofs.lemmas.List.Elements.{filter-append}
+use Rattle.journal_file.specs.Lines.{HasNoEnd, IsLine, is_comment, longest_line, line_octets, lines_octets, kept_of, without_comments}
 use Rattle.journal_file.specs.First.{header_line, with_broadcasts, IsHeader, IsOfOtherNetwork, IsOfOtherBroadcasts, IsTornHeader}
 use Rattle.journal_file.specs.Loading.{LoadingState, nothing_yet, TakesLine, TakesNone}
 use Rattle.journal_file.specs.Loads.{TakesLines, Passes, BeginsWithHeader, BeginsWithLine, MayBegin, Loads, Stops, BreaksOff}
@@ -68,7 +69,7 @@ Passes-more heading octets more lines behind a b c passed none = record {
   whole = ap (λ s. s ++ more) passed.whole ∙ append_assoc (lines_octets lines) behind more;
   each = passed.each;
   first = passed.first;
-  taken = TakesLines-kept a b c (drop 1 lines) passed.taken none;
+  taken = TakesLines-kept a b c (without_comments (drop 1 lines)) passed.taken none;
 }
 
 -- a line ends and passes
@@ -101,7 +102,10 @@ module _ (heading : Heading) (octets rest run : List ℕ) (a b c : Option (List 
         whole = whole_text (first ∷ lines) passed.whole;
         each = AllByRecursion-append IsLine (first ∷ lines) ((rest ++ run) ∷ []) passed.each (line.1, tt);
         first = passed.first;
-        taken = TakesLines-trans a b c lines ((rest ++ run) ∷ []) passed.taken (subst (λ s. TakesLines b c (s ∷ [])) (sym line.0) other.1);
+        taken =
+            subst (TakesLines a c) (sym (filter-append (λ ln. not (is_comment ln)) lines ((rest ++ run) ∷ [])))
+            (TakesLines-trans a b c (without_comments lines) (without_comments ((rest ++ run) ∷ [])) passed.taken
+            (subst (λ s. TakesLines b c (without_comments (s ∷ []))) (sym line.0) other.1));
       }
 
   -- it doesn't
@@ -128,7 +132,7 @@ module _ (heading : Heading) (octets rest run : List ℕ) (a b c : Option (List 
           let same : rest ++ run ≡ kept = whole_header (rest ++ run) (subst IsHeader kept_is header) ∙ sym kept_is in
           (no_lines lines is at.0, at.1, (rest ++ run, begins, subst (λ line. IsOfOtherBroadcasts heading line found) (sym same) at.2))
       go (LongLine n) at begins = (at.0 ∙ is, (rest ++ run, begins, long_line (rest ++ run) (omega (arith, at.2, ap length kept_is))))
-      go (BadLine n) at begins = (at.0 ∙ is, (rest ++ run, begins, (whole_of at.2).1.1))
+      go (BadLine n) at begins = let line = whole_of at.2 in (at.0 ∙ is, (rest ++ run, begins, line.1.1, ap is_comment line.0 ∙ at.3))
 
 -- a line of a piece passes
 pub Passing-line : (heading : Heading) (octets : List ℕ) (a b c : Option (List (List ℕ))) (old new : LoadingState) (piece line behind : List ℕ) (takes : TakesLine old piece new line behind)

@@ -3,14 +3,15 @@ use Rattle.std.proofs.Common.{◌≡◌, ℕ, ◌+◌, ◌<◌, ◌≤◌, true,
 use Rattle.std.specs.List.{AllByRecursion}
 use Rattle.std.proofs.lemmas.List.{map-append}
 use Rattle.journal_file.specs.File.{FileState, grown, settled}
-use Rattle.journal_file.specs.Lines.{IsLine, line_octets, lines_octets}
-use Rattle.journal_file.specs.Writing.{Item, Entry, Fold, item_line, entries_in, lines_with, text_with, WritingState, begins_after, with_item, all_kept, broken, Following, Step, Put, Kept, Broke, Does, Runs, items_of, starts_with, Follows, AnySteps}
+use Rattle.journal_file.specs.Lines.{IsLine, is_comment, line_octets, lines_octets, without_comments}
+use Rattle.journal_file.specs.Writing.{Item, Entry, Fold, Comment, IsMarked, item_line, entries_in, told_of, CommentsApart, lines_with, text_with, WritingState, begins_after, with_item, all_kept, broken, Following, Step, Put, Kept, Broke, Does, Runs, items_of, starts_with, Follows, AnySteps}
 use Rattle.journal_file.proofs.LineLemmas.{lines_octets-append, AllByRecursion-append}
 
 entries_in-append : (xs ys : List Item) → entries_in (xs ++ ys) ≡ entries_in xs + entries_in ys
 entries_in-append [] ys = omega arith
 entries_in-append (Entry line ∷ xs) ys = omega (arith, entries_in-append xs ys)
 entries_in-append (Fold ∷ xs) ys = omega (arith, entries_in-append xs ys)
+entries_in-append (Comment line ∷ xs) ys = omega (arith, entries_in-append xs ys)
 
 -- the text of more items
 pub lines_with-append : (start : List (List ℕ)) (xs ys : List Item) → lines_with start (xs ++ ys) ≡ lines_with start xs ++ map item_line ys
@@ -102,7 +103,7 @@ runs_follow : (place : ℕ) (start : List (List ℕ)) (steps : List Step) (items
     → Follows place start (items ++ items_of steps) now
 runs_follow place start [] items old now follows run = rw (run, append-nil items) follows
 runs_follow place start (Put item ∷ steps) items old now follows run =
-    let one : Follows place start (items ++ item ∷ []) run.0 = subst (Follows place start (items ++ item ∷ [])) (sym run.1.1) (Follows-put place start items old follows item run.1.0) in
+    let one : Follows place start (items ++ item ∷ []) run.0 = subst (Follows place start (items ++ item ∷ [])) (sym run.1.2) (Follows-put place start items old follows item run.1.0) in
     subst (λ its. Follows place start its now) (append_assoc items (item ∷ []) (items_of steps)) (runs_follow place start steps (items ++ item ∷ []) run.0 now one run.2)
 runs_follow place start (Kept ∷ steps) items old now follows run =
     let one : Follows place start items run.0 = subst (Follows place start items) (sym run.1.1) (Follows-kept place start items old follows run.1.0) in
@@ -113,3 +114,20 @@ runs_follow place start (Broke count ∷ steps) items old now follows run =
 
 pub any_steps : AnySteps
 any_steps place start steps now run = runs_follow place start steps [] (starts_with place start) now (Follows-start place start) run
+
+-- the lines of marked items without the comments
+without_marked : (items : List Item) → AllByRecursion IsMarked items → without_comments (map item_line items) ≡ map item_line (told_of items)
+without_marked [] marked = refl
+without_marked (Entry line ∷ items) marked = rw marked.0 (ap (λ ls. line ∷ ls) (without_marked items marked.1))
+without_marked (Fold ∷ items) marked = ap (λ ls. item_line Fold ∷ ls) (without_marked items marked.1)
+without_marked (Comment line ∷ items) marked = rw marked.0 (without_marked items marked.1)
+
+-- what is put is marked
+all_marked : (old now : Following) (steps : List Step) → Runs old steps now → AllByRecursion IsMarked (items_of steps)
+all_marked old now [] run = tt
+all_marked old now (Put item ∷ steps) run = (run.1.1, all_marked run.0 now steps run.2)
+all_marked old now (Kept ∷ steps) run = all_marked run.0 now steps run.2
+all_marked old now (Broke count ∷ steps) run = all_marked run.0 now steps run.2
+
+pub comments_apart : CommentsApart
+comments_apart old now steps run = without_marked (items_of steps) (all_marked old now steps run)

@@ -1,6 +1,6 @@
 -- The lines of a file. Each ends at 0A.
-use Rattle.std.specs.Prelude.{◌≡◌, ℕ, ◌==◌, ◌≤◌, false, All, List, [], ◌∷◌, ◌++◌, length, take}
-use Rattle.std.specs.List.{AllByRecursion, flat_map}
+use Rattle.std.specs.Prelude.{◌≡◌, ℕ, ◌==◌, ◌≤◌, Bool, true, false, not, All, List, [], ◌∷◌, ◌++◌, length, take}
+use Rattle.std.specs.List.{AllByRecursion, filter, flat_map}
 
 -- the most octets that a line may have, without its end
 abbrev pub longest_line : ℕ
@@ -13,6 +13,23 @@ HasNoEnd octets = All (λ x. (x == 10) ≡ false) octets
 -- what can stand in a file as one line
 abbrev pub IsLine : List ℕ → Type 0
 IsLine octets = HasNoEnd octets × (length octets ≤ longest_line)
+
+-- a line whose first octet is `#`, which is 35, is a comment
+abbrev pub is_comment : List ℕ → Bool
+is_comment [] = false
+is_comment (x ∷ xs) = x == 35
+
+-- the lines that are no comments
+abbrev pub without_comments : List (List ℕ) → List (List ℕ)
+without_comments lines = filter (λ line. not (is_comment line)) lines
+
+-- what can stand in a file as a comment
+abbrev pub IsCommentLine : List ℕ → Type 0
+IsCommentLine octets = IsLine octets × (is_comment octets ≡ true)
+
+-- what can stand there as the line of an entry
+abbrev pub IsEntryLine : List ℕ → Type 0
+IsEntryLine octets = IsLine octets × (is_comment octets ≡ false)
 
 -- a line in the file
 abbrev pub line_octets : List ℕ → List ℕ

@@ -1,7 +1,7 @@
 -- How a journal's file is read, line by line.
-use Rattle.std.specs.Prelude.{◌≡◌, ℕ, ◌+◌, ◌-◌, ◌<◌, ◌≤◌, List, [], ◌∷◌, ◌++◌, length, ⊤, Option}
+use Rattle.std.specs.Prelude.{◌≡◌, ℕ, ◌+◌, ◌-◌, ◌<◌, ◌≤◌, true, false, List, [], ◌∷◌, ◌++◌, length, ⊤, Option}
 use Rattle.std.specs.Io.KnownBytes.{Consumes}
-use Rattle.journal_file.specs.Lines.{HasNoEnd, longest_line, kept_of}
+use Rattle.journal_file.specs.Lines.{HasNoEnd, is_comment, longest_line, kept_of, without_comments}
 use Rattle.journal_file.specs.First.{header_line, IsHeader, IsOfOtherNetwork, IsOfOtherBroadcasts, IsTornHeader}
 use Rattle.journal_file.specs.Loading.{LoadingState}
 use Rattle.journal_file.specs.Loads.{TakesLines, Passes, Stops}
@@ -10,10 +10,10 @@ use Rattle.journal_file.specs.declared.loaded.Loaded.{Loaded}
 use Rattle.journal_file.specs.declared.load_fault.LoadFault.{LoadFault}
 use Rattle.journal_file.specs.declared.load_fault.LoadFault.TheVariants.{ReadFault, Memory, NotJournal, OtherNetwork, OtherBroadcasts, LongLine, BadLine}
 
--- a line, of which this was kept, passes: the first is the header, and another is taken
+-- a line, of which this was kept, passes: the first is the header, and another is taken where it is no comment
 pub record PassesOne (heading : Heading) (number : ℕ) (line : List ℕ) (before after : Option (List (List ℕ))) : Type 0 where
   pub first : number ≤ 1 → (line ≡ header_line heading) × (length line ≤ longest_line) × TakesLines before after []
-  pub other : 1 < number → (length line ≤ longest_line) × TakesLines before after (line ∷ [])
+  pub other : 1 < number → (length line ≤ longest_line) × TakesLines before after (without_comments (line ∷ []))
 
 -- why it doesn't
 abbrev pub IsFault : Heading → ℕ → List ℕ → LoadFault → Type 0
@@ -23,7 +23,7 @@ IsFault heading number line NotJournal = (number ≤ 1) × ¬ IsHeader line
 IsFault heading number line OtherNetwork = (number ≤ 1) × IsOfOtherNetwork heading line
 IsFault heading number line (OtherBroadcasts found asked) = (number ≤ 1) × (asked ≡ heading.broadcasts) × IsOfOtherBroadcasts heading line found
 IsFault heading number line (LongLine n) = (n ≡ number) × (1 < number) × (longest_line < length line)
-IsFault heading number line (BadLine n) = (n ≡ number) × (1 < number) × (length line ≤ longest_line)
+IsFault heading number line (BadLine n) = (n ≡ number) × (1 < number) × (length line ≤ longest_line) × (is_comment line ≡ false)
 
 -- it doesn't, and nothing is taken
 pub record StopsAt (heading : Heading) (number : ℕ) (line : List ℕ) (before after : Option (List (List ℕ))) (fault : LoadFault) : Type 0 where

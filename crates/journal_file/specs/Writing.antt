@@ -1,24 +1,40 @@
 -- What follows a journal into a file.
-use Rattle.std.specs.Prelude.{◌≡◌, ℕ, ◌+◌, ◌≤◌, Bool, true, false, List, [], ◌∷◌, ◌++◌, length, map, take, codes}
+use Rattle.std.specs.Prelude.{◌≡◌, ℕ, ◌+◌, ◌≤◌, Bool, true, false, List, [], ◌∷◌, ◌++◌, length, map, take, codes, ⊤}
 use Rattle.std.specs.List.{AllByRecursion}
 use Rattle.journal_file.specs.File.{FileState, grown, settled}
-use Rattle.journal_file.specs.Lines.{IsLine, HasNoEnd, line_octets, lines_octets}
+use Rattle.journal_file.specs.Lines.{IsLine, HasNoEnd, is_comment, line_octets, lines_octets, without_comments}
 
--- what is put: an entry, by its line, or that the journal was folded there
+-- what is put: an entry, by its line, that the journal was folded there, or a comment
 pub data Item : Type 0 where
   Entry : List ℕ → Item
   Fold : Item
+  Comment : List ℕ → Item
 
 -- its line
 abbrev pub item_line : Item → List ℕ
 item_line (Entry line) = line
 item_line Fold = codes "checkpoint"
+item_line (Comment line) = line
 
 -- how many entries these are
 abbrev pub entries_in : List Item → ℕ
 entries_in [] = 0
 entries_in (Entry line ∷ items) = 1 + entries_in items
 entries_in (Fold ∷ items) = entries_in items
+entries_in (Comment line ∷ items) = entries_in items
+
+-- the line of an entry is no comment, and that of a comment is one
+abbrev pub IsMarked : Item → Type 0
+IsMarked (Entry line) = is_comment line ≡ false
+IsMarked Fold = ⊤
+IsMarked (Comment line) = is_comment line ≡ true
+
+-- these items without the comments
+abbrev pub told_of : List Item → List Item
+told_of [] = []
+told_of (Entry line ∷ items) = Entry line ∷ told_of items
+told_of (Fold ∷ items) = Fold ∷ told_of items
+told_of (Comment line ∷ items) = told_of items
 
 -- the wanted text of a file that had some lines: these, and those of the items in their order
 abbrev pub lines_with : List (List ℕ) → List Item → List (List ℕ)
@@ -64,7 +80,7 @@ pub data Step : Type 0 where
 
 -- what that does
 abbrev pub Does : Following → Step → Following → Type 0
-Does old (Put item) new = IsLine (item_line item) × (new ≡ record { writing = with_item old.writing item; file = old.file })
+Does old (Put item) new = IsLine (item_line item) × IsMarked item × (new ≡ record { writing = with_item old.writing item; file = old.file })
 Does old Kept new = (old.writing.failed ≡ false) × (new ≡ record { writing = all_kept old.writing; file = settled (grown old.file old.writing.waiting) })
 Does old (Broke count) new = (old.writing.failed ≡ false) × (new ≡ record { writing = broken old.writing; file = grown old.file (take count old.writing.waiting) })
 
@@ -97,6 +113,10 @@ pub record Follows (place : ℕ) (start : List (List ℕ)) (items : List Item) (
   pub written : now.file.octets ++ unwritten ≡ text_with start items
   pub whole : now.writing.failed ≡ false → unwritten ≡ now.writing.waiting
   pub lines : AllByRecursion (λ item. IsLine (item_line item)) items
+
+-- the lines without the comments are those of the entries and of the folds, in their order
+abbrev pub CommentsApart : Type 0
+CommentsApart = (old now : Following) (steps : List Step) → Runs old steps now → without_comments (map item_line (items_of steps)) ≡ map item_line (told_of (items_of steps))
 
 -- so it is after any steps
 abbrev pub AnySteps : Type 0

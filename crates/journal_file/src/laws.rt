@@ -3,7 +3,7 @@
 ghost use Rattle.journal_file.specs.Crash.{AnyCrash};
 ghost use Rattle.journal_file.specs.Lines.{LinesAreCut, OneCut};
 ghost use Rattle.journal_file.specs.Loading.{AnyPieces};
-ghost use Rattle.journal_file.specs.Writing.{AnySteps};
+ghost use Rattle.journal_file.specs.Writing.{AnySteps, CommentsApart};
 
 /// Octets have one cut into lines.
 pub fn one_cut()
@@ -24,6 +24,11 @@ pub fn any_pieces()
 /// place is durable.
 pub fn any_steps()
     ensures { AnySteps }
+{}
+
+/// The lines that are put, without the comments, are those of the entries and of the folds in their order.
+pub fn comments_are_apart()
+    ensures { CommentsApart }
 {}
 
 /// After a crash at any moment the lines that are read are the first of those that were put, and none is missing of those up to

@@ -5,6 +5,7 @@
 //! `memory_file` one for tests, which a crash can cut. `laws` says what a crash at any moment leaves.
 #![tactic(auto)]
 
+mod comment;
 mod disk_file;
 mod first_line;
 mod heading;

@@ -1,10 +1,12 @@
 //! Reading a journal's file when it is opened.
 
-ghost use Rattle.std.specs.Prelude.{◌≡◌, ◌+◌, ◌^◌, ◌<◌, ◌≤◌, ℕ, List, ◌++◌, false, Option, length, IfOk, IfErr, OnOk};
+ghost use Rattle.std.specs.Prelude.{◌≡◌, ◌+◌, ◌^◌, ◌<◌, ◌≤◌, ℕ, List, [], ◌∷◌, ◌++◌, false, Option, length, IfOk, IfErr, OnOk, OnErr};
 ghost use Rattle.std.specs.Io.KnownBytes.{IsAtEnd};
-ghost use Rattle.journal_file.specs.Loads.{Loads, BreaksOff};
+ghost use Rattle.journal_file.specs.Lines.{is_comment, without_comments};
+ghost use Rattle.journal_file.specs.Loads.{Loads, BreaksOff, TakesLines};
 ghost use Rattle.journal_file.specs.Reading.{PassesOne, StopsAt, Passing, Breaking, ReadsOn, Finds, FindsNone};
 
+use crate::comment::is_comment;
 use crate::first_line::{check_first, is_torn_header};
 use crate::heading::Heading;
 use crate::load_fault::LoadFault;
@@ -16,6 +18,19 @@ use std::alloc::Global;
 
 /// How many octets are read at once, at most.
 const PIECE: usize = 65_536;
+
+/// Has a line taken, or a comment seen, behind the first line.
+fn take_other<T: TakeLine>(line: &[u8], taker: &mut T) -> Result<(), NotTaken>
+    ensures ok { OnOk result (TakesLines (T.taken taker.old) (T.taken taker.new) (without_comments (line.now ∷ []))) }
+    ensures err { OnErr result (TakesLines (T.taken taker.old) (T.taken taker.new) []) }
+    ensures line { OnErr result (is_comment line.now ≡ false) }
+{
+    if is_comment(line) {
+        taker.take_comment(line);
+        return Ok(());
+    }
+    taker.take_line(line)
+}
 
 /// Takes a line that has ended; `number` is its number.
 fn take_one<T: TakeLine>(
@@ -33,7 +48,7 @@ fn take_one<T: TakeLine>(
     if line.len() > LONGEST_LINE {
         return Err(LoadFault::LongLine(number));
     }
-    match taker.take_line(line) {
+    match take_other(line, taker) {
         Ok(()) => Ok(()),
         Err(NotTaken::BadLine) => Err(LoadFault::BadLine(number)),
         Err(NotTaken::Memory) => Err(LoadFault::Memory),
@@ -123,7 +138,8 @@ fn load_all<S: Source, T: TakeLine>(
     Err(LoadFault::ReadFault)
 }
 
-/// Reads what the source gives as the journal of the heading, and has each line but the first taken, one after another.
+/// Reads what the source gives as the journal of the heading, and has each line but the first taken, or seen where it is a comment,
+/// one after another.
 ///
 /// A file in which no line ends holds no journal yet: it is empty, or holds what a torn write left of the first line. The lines
 /// are the same in whatever pieces the source gives the octets.

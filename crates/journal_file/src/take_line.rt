@@ -11,7 +11,7 @@ pub enum NotTaken {
     Memory,
 }
 
-/// What takes the lines of a file, one after another. It tells which it took, where that is known.
+/// What takes the lines of a file, one after another, and sees its comments. It tells which lines it took, where that is known.
 pub trait TakeLine {
     ghost taken: { Self → Option (List (List ℕ)) };
 
@@ -19,4 +19,8 @@ pub trait TakeLine {
     fn take_line(&mut self, line: &[u8]) -> Result<(), NotTaken>
         ensures ok { OnOk result (TakesLines (taken self.old) (taken self.new) (line.now ∷ [])) }
         ensures err { OnErr result (TakesLines (taken self.old) (taken self.new) []) };
+
+    /// Sees a comment, which is given without its end. A comment of a kind that isn't known is passed over.
+    fn take_comment(&mut self, line: &[u8])
+        ensures { TakesLines (taken self.old) (taken self.new) [] };
 }

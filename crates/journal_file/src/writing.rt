@@ -1,7 +1,9 @@
 //! What follows a journal into a file.
 
-ghost use Rattle.std.specs.Prelude.{◌≡◌};
+ghost use Rattle.std.specs.Prelude.{◌≡◌, ◌↔◌, IsTrue};
+ghost use Rattle.journal_file.specs.Lines.{IsLine};
 
+use crate::comment::is_comment;
 use crate::journal_file::{JournalFile, append_all};
 use crate::line_end::has_no_end;
 use crate::loading::LONGEST_LINE;
@@ -13,6 +15,13 @@ use std::marker::Model;
 
 /// The line that stands where the journal was folded.
 const CHECKPOINT: &[u8] = b"checkpoint";
+
+/// Whether the octets can stand in a file as one line.
+fn fits(line: &[u8]) -> bool
+    ensures { IsTrue result ↔ IsLine line.now }
+{
+    line.len() <= LONGEST_LINE && has_no_end(line)
+}
 
 /// What follows a journal into a file: how far it has come, and the octets that aren't written yet. Lines are put in the order of
 /// the journal, and `keep` writes and syncs all that were put. Once a write or a sync has failed, each later `keep` fails.
@@ -35,9 +44,9 @@ impl Model for Writing {
 impl Writing {
     ghost use Rattle.std.specs.Prelude.{◌≡◌, ◌++◌, ◌∷◌, [], false, true, IfOk, OnOk, OnErr, IfErr};
     ghost use Rattle.journal_file.specs.File.{Grows, GrowsForGood, GrowsInPart};
-    ghost use Rattle.journal_file.specs.Lines.{IsLine, line_octets};
-    ghost use Rattle.journal_file.specs.Writing.{Entry, Fold, begins_after, with_item, all_kept, broken};
-    ghost use Rattle.journal_file.specs.PutFaults.{IsRefused};
+    ghost use Rattle.journal_file.specs.Lines.{IsCommentLine, IsEntryLine, line_octets};
+    ghost use Rattle.journal_file.specs.Writing.{Comment, Entry, Fold, begins_after, with_item, all_kept, broken};
+    ghost use Rattle.journal_file.specs.PutFaults.{IsRefused, IsRefusedComment};
 
     /// All entries up to the place stand in the file already, synced.
     pub fn new(alloc: Global, place: u64) -> Writing
@@ -97,12 +106,12 @@ impl Writing {
 
     /// Puts the line of the next entry. At an `Err` nothing changed.
     pub fn put_entry(&mut self, line: &[u8]) -> Result<(), PutFault>
-        ensures line { OnOk result (IsLine line.now) }
+        ensures line { OnOk result (IsEntryLine line.now) }
         ensures ok { OnOk result (self.new ≡ with_item self.old (Entry line.now)) }
         ensures err { OnErr result (self.new ≡ self.old) }
         ensures fault { IfErr result (IsRefused self.old.taken line.now) }
     {
-        if line.len() > LONGEST_LINE || !has_no_end(line) {
+        if is_comment(line) || !fits(line) {
             return Err(PutFault::BadLine);
         }
         if self.taken == u64::MAX {
@@ -123,6 +132,23 @@ impl Writing {
         ensures err { OnErr result (self.new ≡ self.old) }
     {
         self.put(CHECKPOINT)
+    }
+
+    /// Puts a comment behind the last line that was put. It is no entry, and nobody needs to wait for it: it goes with what is written
+    /// next. At an `Err` nothing changed.
+    pub fn put_comment(&mut self, line: &[u8]) -> Result<(), PutFault>
+        ensures line { OnOk result (IsCommentLine line.now) }
+        ensures ok { OnOk result (self.new ≡ with_item self.old (Comment line.now)) }
+        ensures err { OnErr result (self.new ≡ self.old) }
+        ensures fault { IfErr result (IsRefusedComment line.now) }
+    {
+        if !is_comment(line) || !fits(line) {
+            return Err(PutFault::BadLine);
+        }
+        match self.put(line) {
+            Ok(()) => Ok(()),
+            Err(_) => Err(PutFault::Memory),
+        }
     }
 
     /// Writes all that was put and isn't written yet, and syncs the file. The answer says up to which place all entries stand there now.

@@ -1,6 +1,7 @@
 pub mod PastLemmas
 pub mod KeptLemmas
 pub mod StepLemmas
+pub mod CommentLemmas
 pub mod FileLemmas
 pub mod ReplayedLemmas
 pub mod GivenLemmas

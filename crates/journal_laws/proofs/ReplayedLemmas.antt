@@ -1,5 +1,5 @@
 -- All items of a file, one after another.
-use Rattle.std.proofs.Common.{ℕ, ◌≤◌, List, [], ◌∷◌, ◌++◌, codes, length, refl, sym, ap, subst, append-nil, arith}
+use Rattle.std.proofs.Common.{ℕ, ◌≤◌, List, [], ◌∷◌, ◌++◌, inl, inr, codes, length, refl, sym, ap, subst, append-nil, arith}
 use Rattle.std.specs.List.{AllByRecursion, flat_map}
 use Rattle.centre_past.specs.Legal.{Known, new_centre}
 use Rattle.console.specs.Replays.{new_session}
@@ -14,6 +14,7 @@ use Rattle.console_text.specs.declared.response.Response.TheVariants as response
 use Rattle.journal_text.proofs.WordLemmas.{has_none}
 use Rattle.journal_laws.specs.Files.{AreLegal, AreLines, Checkpoint, Entered, IsItemLine, Item, after_item, after_items, file_of, item_answer, item_answers}
 use Rattle.journal_laws.specs.Replayed.{JournalIsReplayed, answers_text}
+use Rattle.journal_laws.proofs.CommentLemmas.{comment_short, comment_silent}
 use Rattle.journal_laws.proofs.FileLemmas.{lines_of_file}
 use Rattle.journal_laws.proofs.StepLemmas.{Mirrors, answered_item, mirrors_then, session_then}
 use Rattle.centre_events.specs.declared.network.Network.{Network}
@@ -37,17 +38,28 @@ item_single Checkpoint octets is = subst (HasNone 10) (sym is) (has_none 10 31 (
 
 all_single : (items : List Item) (lines : List (List ℕ)) → AreLines items lines → AllByRecursion (HasNone 10) lines
 all_single [] [] are = tt
-all_single [] (line ∷ lines) are = absurd are
+all_single [] (line ∷ lines) are = (are.0.1, all_single [] lines are.1)
 all_single (item ∷ items) [] are = absurd are
-all_single (item ∷ items) (line ∷ lines) are = (item_single item line are.0, all_single items lines are.1)
+all_single (item ∷ items) (line ∷ lines) (inl are) = (are.0.1, all_single (item ∷ items) lines are.1)
+all_single (item ∷ items) (line ∷ lines) (inr are) = (item_single item line are.0, all_single items lines are.1)
 
--- the lines are answered, one after another
+-- the lines are answered, one after another, and comments by nothing
 told_items : (centre : Known) (s : SessionState) → Mirrors centre s → (items : List Item) (lines : List (List ℕ)) → AreLegal centre items → AreLines items lines
     → IsText s lines (session_of s items) (text_of centre items)
 told_items centre s m [] [] legal are = (refl, refl)
-told_items centre s m [] (line ∷ lines) legal are = absurd are
+told_items centre s m [] (line ∷ lines) legal are =
+    (response.Silence, s, [], comment_short line are.0, comment_silent s line are.0, told_items centre s m [] lines legal are.1, refl)
 told_items centre s m (item ∷ items) [] legal are = absurd are
-told_items centre s m (item ∷ items) (line ∷ lines) legal are = (
+told_items centre s m (item ∷ items) (line ∷ lines) legal (inl are) = (
+  response.Silence,
+  s,
+  text_of centre (item ∷ items),
+  comment_short line are.0,
+  comment_silent s line are.0,
+  told_items centre s m (item ∷ items) lines legal are.1,
+  refl,
+)
+told_items centre s m (item ∷ items) (line ∷ lines) legal (inr are) = (
   item_answer centre item,
   session_then s item,
   text_of (after_item item centre) items,

@@ -1,8 +1,11 @@
--- A journal as a file has it: its entries in their order, and the checkpoints between them.
-use Rattle.std.specs.Prelude.{◌≡◌, ℕ, ◌+◌, List, [], ◌∷◌, ◌++◌, Ok, codes, length}
+-- A journal as a file has it: its entries in their order, the checkpoints between them, and comments anywhere.
+use Rattle.std.specs.Prelude.{◌≡◌, ◌⊎◌, ℕ, ◌+◌, ◌≤◌, true, List, [], ◌∷◌, ◌++◌, Ok, codes, length}
 use Rattle.centre_events.specs.Verdict.{verdict}
 use Rattle.centre_events.specs.declared.entry.Entry.{Entry}
 use Rattle.centre_past.specs.Legal.{Known, all_entries, checkpointed, past}
+use Rattle.console_text.specs.Lines.{longest_line}
+use Rattle.console_text.specs.Parts.{HasNone}
+use Rattle.console_text.specs.Words.{is_comment}
 use Rattle.console_text.specs.declared.response.Response.{Response}
 use Rattle.console_text.specs.declared.response.Response.TheVariants.{Accepted, Folded}
 use Rattle.journal_text.specs.Reading.{IsLineOf}
@@ -41,12 +44,16 @@ abbrev pub IsItemLine : Item → List ℕ → Type 0
 IsItemLine (Entered e) line = IsLineOf line e.event
 IsItemLine Checkpoint line = line ≡ codes "checkpoint"
 
--- each of the lines is that of its item
+-- the octets are a comment: the first is `#`, they are one line, and short enough to be read
+abbrev pub IsComment : List ℕ → Type 0
+IsComment line = (is_comment line ≡ true) × HasNone 10 line × (length line ≤ longest_line)
+
+-- each of the lines is that of its item, or a comment, which stands for nothing
 abbrev pub AreLines : List Item → List (List ℕ) → Type 0
 AreLines [] [] = Unit {0}
-AreLines [] (line ∷ lines) = ⊥
+AreLines [] (line ∷ lines) = IsComment line × AreLines [] lines
 AreLines (item ∷ items) [] = ⊥
-AreLines (item ∷ items) (line ∷ lines) = IsItemLine item line × AreLines items lines
+AreLines (item ∷ items) (line ∷ lines) = (IsComment line × AreLines (item ∷ items) lines) ⊎ (IsItemLine item line × AreLines items lines)
 
 -- the octets of a file of these lines: each has its end, which is 10
 abbrev pub file_of : List (List ℕ) → List ℕ

@@ -1,4 +1,4 @@
--- That `replay` of a journal's lines makes the journal again.
+-- That `replay` of a journal's lines makes the journal again, whatever comments stand between them.
 use Rattle.std.specs.Prelude.{◌≡◌, ℕ, List, map}
 use Rattle.std.specs.List.{flat_map}
 use Rattle.centre_events.specs.declared.entry.Entry.{Entry}
@@ -23,7 +23,7 @@ all_by_desk_1 centre = record centre { folded = map by_desk_1 centre.folded; jou
 abbrev pub answers_text : Network → ℕ → List Item → List ℕ
 answers_text network limit items = flat_map response_text (item_answers (new_centre network limit) items)
 
--- the lines have one text: each is accepted, and the centre has the same events with the same answers then
+-- the lines have one text: each but the comments is accepted, and the centre has the same events with the same answers then
 pub record IsReplayed (network : Network) (limit : ℕ) (items : List Item) (octets : List ℕ) : Type 0 where
   pub session : SessionState
   pub told : IsText (new_session network limit) (lines_of octets) session (answers_text network limit items)

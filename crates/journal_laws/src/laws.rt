@@ -21,8 +21,8 @@ pub fn all_entered_have_lines()
 {}
 
 /// Lemma: a legal journal, with checkpoints between its entries, whose events have lines, is made again by `replay` of
-/// these lines. Each line is accepted, an entry with the same number and answer, a checkpoint with the number of entries
-/// that it folded. What `replay` leaves is a centre of the same events with the same answers in the same order, as desk 1.
+/// these lines, whatever comments stand between them. Each other line is accepted, an entry with the same number and answer, a
+/// checkpoint with the number of entries that it folded. A comment is answered by nothing. What `replay` leaves is a centre of the same events with the same answers in the same order, as desk 1.
 #[tactic(auto, using(crate::proofs::ReplayedLemmas::journal_is_replayed))]
 pub fn journal_is_replayed()
     ensures { JournalIsReplayed }

@@ -2,6 +2,7 @@
 
 ghost use Rattle.std.specs.Prelude.{None};
 
+use crate::link_peers::NoPeers;
 use crate::links::Links;
 use crate::office_journal::OfficeJournal;
 use cell_register::BscId;
@@ -149,6 +150,7 @@ impl<'a, L: Ledger, R: Wait> Entering<'a, L, R> {
         let journal = OfficeJournal {
             alloc: self.alloc,
             office: self.office,
+            peers: &NoPeers,
         };
         match journal.put_fold(self.rt, writing)? {
             Ok(_) => {
@@ -188,6 +190,7 @@ impl<'a, L: Ledger, R: Wait> Entering<'a, L, R> {
         let journal = OfficeJournal {
             alloc: self.alloc,
             office: self.office,
+            peers: &NoPeers,
         };
         journal.put_entries(self.rt, writing)
     }
@@ -209,4 +212,6 @@ impl<L: Ledger, R: Wait> TakeLine for Entering<'_, L, R> {
             Err(_) => Err(NotTaken::Memory),
         }
     }
+
+    fn take_comment(&mut self, _line: &[u8]) {}
 }

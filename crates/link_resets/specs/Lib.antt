@@ -1,3 +1,4 @@
 pub mod Alive
 pub mod Frames
+pub mod Refusing
 pub mod Resets

@@ -46,8 +46,10 @@ fn seen_in(framer: &mut Framer) -> AliveSeen
 }
 
 impl AliveWatch {
-    ghost use Rattle.std.specs.Prelude.{◌≡◌, [], IfOk};
+    ghost use Rattle.std.specs.Prelude.{◌≡◌, [], Err, IfOk, IfErr};
+    ghost use Rattle.framing.specs.Streams.{IsTooLong, announced};
     ghost use Rattle.link_resets.specs.Alive.{SeesAlive};
+    ghost use Rattle.link_resets.specs.Refusing.{RefusesOctets};
 
     /// Nothing was sent yet.
     pub fn new(alloc: Global) -> AliveWatch
@@ -58,10 +60,13 @@ impl AliveWatch {
         }
     }
 
-    /// Takes the next octets that the BSC sent. The answer is what stands in the frames that end in them. `Err` where a frame is too
-    /// long, or memory runs out; nothing is found after that, or in those octets.
+    /// Takes the next octets that the BSC sent. The answer is what stands in the frames that end in them. `TooLong` where a frame is too
+    /// long: nothing is found in those octets, and what comes later is refused in the same way. `Memory` where memory ran out; then the
+    /// octets weren't taken.
     pub fn see(&mut self, octets: &[u8]) -> Result<AliveSeen, FrameFault>
-        ensures { IfOk result (λ seen. SeesAlive self.old octets.now seen self.new) }
+        ensures seen { IfOk result (λ seen. SeesAlive self.old octets.now seen self.new) }
+        ensures refused { IfErr result (λ fault. RefusesOctets self.old octets.now self.new fault) }
+        ensures sticky { IsTooLong self.old → (result ≡ Err (FrameFault.TooLong (announced self.old))) × (self.new ≡ self.old) }
     {
         let fed = self.framer.feed(octets);
         let seen = seen_in(&mut self.framer);

@@ -49,7 +49,9 @@ fn first_answer(framer: &mut Framer) -> Option<Frame>
 }
 
 impl ResetWatch {
-    ghost use Rattle.std.specs.Prelude.{◌≡◌, [], IfOk};
+    ghost use Rattle.std.specs.Prelude.{◌≡◌, [], Err, IfOk, IfErr};
+    ghost use Rattle.framing.specs.Streams.{IsTooLong, announced};
+    ghost use Rattle.link_resets.specs.Refusing.{RefusesOctets};
     ghost use Rattle.link_resets.specs.Resets.{Sees};
 
     /// Nothing was sent yet.
@@ -61,10 +63,13 @@ impl ResetWatch {
         }
     }
 
-    /// Takes the next octets that the BSC sent. The answer is the first one in the frames that end in them. `Err` where a frame is
-    /// too long, or memory runs out; nothing is found after that, or in those octets.
+    /// Takes the next octets that the BSC sent. The answer is the first one in the frames that end in them. `TooLong` where a frame is
+    /// too long: nothing is found in those octets, and what comes later is refused in the same way. `Memory` where memory ran out; then
+    /// the octets weren't taken.
     pub fn see(&mut self, octets: &[u8]) -> Result<Option<Frame>, FrameFault>
         ensures seen { IfOk result (λ answer. Sees self.old octets.now answer self.new) }
+        ensures refused { IfErr result (λ fault. RefusesOctets self.old octets.now self.new fault) }
+        ensures sticky { IsTooLong self.old → (result ≡ Err (FrameFault.TooLong (announced self.old))) × (self.new ≡ self.old) }
     {
         let fed = self.framer.feed(octets);
         let answer = first_answer(&mut self.framer);

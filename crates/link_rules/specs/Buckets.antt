@@ -1,6 +1,6 @@
 -- How many may pass.
-use Rattle.std.specs.Prelude.{ℕ, ◌+◌, ◌-◌, ◌*◌, ◌/◌, Bool, ltb, nat_eq, min}
-use Rattle.link_rules.specs.Paces.{time_of}
+use Rattle.std.specs.Prelude.{ℕ, ◌+◌, ◌-◌, ◌*◌, ◌/◌, Bool, ltb, nat_eq, nat_le, min}
+use Rattle.link_rules.specs.Paces.{count_of, time_of}
 use Rattle.link_rules.specs.declared.bucket.Bucket.{Bucket}
 use Rattle.link_rules.specs.declared.pace.Pace.{Pace}
 
@@ -8,9 +8,13 @@ use Rattle.link_rules.specs.declared.pace.Pace.{Pace}
 abbrev pub full : ℕ → Pace → Bucket
 full most p = record { most = most; pace = p; left = most; filled = 0 }
 
--- how many the time adds that went by, in milliseconds
+-- how many times it was due to be refilled in the time that went by, in milliseconds
+abbrev pub times : ℕ → Bucket → ℕ
+times now b = (now - b.filled) / time_of b.pace
+
+-- how many that time adds
 abbrev pub added : ℕ → Bucket → ℕ
-added now b = (now - b.filled) / time_of b.pace
+added now b = times now b * count_of b.pace
 
 -- how many are in the bucket at that time
 abbrev pub left_at : ℕ → Bucket → ℕ
@@ -18,7 +22,7 @@ left_at now b = min b.most (b.left + added now b)
 
 -- the bucket at that time: what is left of the time counts later
 abbrev pub filled_at : ℕ → Bucket → Bucket
-filled_at now b = record b { left = left_at now b; filled = b.filled + added now b * time_of b.pace }
+filled_at now b = record b { left = left_at now b; filled = b.filled + times now b * time_of b.pace }
 
 -- there is one in the bucket at that time
 abbrev pub has_at : ℕ → Bucket → Bool
@@ -31,3 +35,15 @@ is_full_at now b = nat_eq (left_at now b) b.most
 -- one is taken out of the bucket, if there is one
 abbrev pub one_less : Bucket → Bucket
 one_less b = record b { left = b.left - 1 }
+
+-- how many are taken for so many: all, where the bucket never holds so many
+abbrev pub share_of : ℕ → Bucket → ℕ
+share_of count b = min count b.most
+
+-- there are so many in the bucket
+abbrev pub holds : ℕ → Bucket → Bool
+holds count b = nat_le (share_of count b) b.left
+
+-- so many are taken out of the bucket
+abbrev pub without : ℕ → Bucket → Bucket
+without count b = record b { left = b.left - share_of count b }

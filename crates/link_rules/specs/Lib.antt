@@ -1,9 +1,12 @@
 pub mod Alives
 pub mod Blocks
 pub mod Buckets
+pub mod CostLimits
+pub mod Costs
 pub mod FoldPaces
 pub mod Paces
 pub mod PeerLists
+pub mod QueryPaces
 pub mod RateLimits
 pub mod Repeats
 pub mod Replies

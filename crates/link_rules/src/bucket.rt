@@ -2,7 +2,7 @@
 
 use crate::pace::Pace;
 
-/// How many reports or connections may pass just now. There are so many at most, and they are refilled at a pace.
+/// How much may pass just now: reports, connections, octets or lines. There is so much at most, and it is refilled at a pace.
 #[derive(Clone, Copy, Debug)]
 pub struct Bucket {
     most: u64,
@@ -14,7 +14,7 @@ pub struct Bucket {
 
 impl Bucket {
     ghost use Rattle.std.specs.Prelude.{◌≡◌, ltb, nat_eq};
-    ghost use Rattle.link_rules.specs.Buckets.{filled_at, full, one_less};
+    ghost use Rattle.link_rules.specs.Buckets.{filled_at, full, holds, one_less, without};
 
     /// A full bucket.
     pub(crate) fn new(most: u64, pace: Pace) -> Bucket
@@ -29,14 +29,15 @@ impl Bucket {
     }
 
     /// Adds those of the time that went by. What is left of it counts the next time.
-    #[tactic(auto, using(crate::proofs::BucketLemmas::whole_times))]
+    #[tactic(auto, using(crate::proofs::BucketLemmas::whole_times, crate::proofs::BucketLemmas::up_to_the_most))]
     pub(crate) fn fill(&mut self, now: u64)
         ensures { self.new ≡ filled_at now self.old }
     {
         let time = self.pace.time();
-        let added = now.saturating_sub(self.filled) / time;
+        let times = now.saturating_sub(self.filled) / time;
+        let added = times.saturating_mul(self.pace.count());
         self.left = self.left.saturating_add(added).min(self.most);
-        self.filled += added * time;
+        self.filled += times * time;
     }
 
     /// Takes one, if there is one.
@@ -49,6 +50,20 @@ impl Bucket {
         }
         self.left -= 1;
         true
+    }
+
+    /// Whether there are so many; or all that there may be, where so many never are.
+    pub(crate) fn holds(&self, count: u64) -> bool
+        ensures { result ≡ holds count self.now }
+    {
+        count.min(self.most) <= self.left
+    }
+
+    /// Takes so many, or all that there are.
+    pub(crate) fn take_out(&mut self, count: u64)
+        ensures { self.new ≡ without count self.old }
+    {
+        self.left = self.left.saturating_sub(count.min(self.most));
     }
 
     /// Whether there are as many as at the beginning.

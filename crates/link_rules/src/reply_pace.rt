@@ -1,7 +1,8 @@
 //! When a reply is overdue.
 
 ghost use Rattle.std.specs.Prelude.{◌≡◌};
-ghost use Rattle.link_rules.specs.Replies.{is_cut_after, looked, never_sent, out_since, overdue_at, times_due, with_end, with_order, with_reply};
+ghost use Rattle.link_rules.specs.Alives.{patience_of};
+ghost use Rattle.link_rules.specs.Replies.{is_cut_after, is_late, looked, never_sent, out_since, overdue_at, times_due, with_end, with_order, with_own, with_reply};
 
 use crate::overdue::Overdue;
 
@@ -10,6 +11,9 @@ const SECOND: u64 = 1_000;
 
 /// After how many milliseconds it is said again that there is no reply: ten minutes.
 const AGAIN: u64 = 600_000;
+
+/// After how many seconds an own query counts as unanswered, where nothing is said of replies.
+const PATIENCE: u32 = 30;
 
 /// For how long an order or a query has been out without a reply. One goes out once the one before is answered, but a thread may tell
 /// of a reply only after another told of the order behind it. So both are counted: the last order is out while fewer were answered.
@@ -25,6 +29,8 @@ pub struct ReplyPace {
     sent: u64,
     /// How often it was due to be said when that was last looked at.
     told: u64,
+    /// The last that went out is a query that no operator wished for.
+    is_own: bool,
 }
 
 impl ReplyPace {
@@ -40,6 +46,7 @@ impl ReplyPace {
             replies: 0,
             sent: 0,
             told: 0,
+            is_own: false,
         }
     }
 
@@ -50,6 +57,15 @@ impl ReplyPace {
         self.orders = self.orders.saturating_add(1);
         self.sent = now_ms;
         self.told = 0;
+        self.is_own = false;
+    }
+
+    /// The last that went out is a query that no operator wished for. Where it isn't answered after `reply_seconds`, the link is cut; 0
+    /// stands for 30 there.
+    pub fn mark_own(&mut self)
+        ensures { self.new ≡ with_own self.old }
+    {
+        self.is_own = true;
     }
 
     /// The next of those that went out, or are to go out, is answered.
@@ -90,11 +106,30 @@ impl ReplyPace {
         }
     }
 
+    /// After how many seconds an own query counts as unanswered.
+    fn patience(&self) -> u32
+        ensures { result ≡ patience_of self.now.reply_seconds }
+    {
+        if self.reply_seconds == 0 {
+            PATIENCE
+        } else {
+            self.reply_seconds
+        }
+    }
+
+    /// Whether an own query is out, and unanswered for too long after so many milliseconds.
+    fn is_late(&self, passed: u64) -> bool
+        ensures { result ≡ is_late self.now passed }
+    {
+        self.is_own && u64::from(self.patience()) * SECOND <= passed
+    }
+
     /// Whether the link is to be cut after so many milliseconds.
     fn is_cut(&self, passed: u64) -> bool
-        ensures { result ≡ is_cut_after self.now.cut_seconds passed }
+        ensures { result ≡ is_cut_after self.now passed }
     {
-        self.cut_seconds != 0 && u64::from(self.cut_seconds) * SECOND <= passed
+        let is_over = self.cut_seconds != 0 && u64::from(self.cut_seconds) * SECOND <= passed;
+        is_over || self.is_late(passed)
     }
 
     /// Whether the reply is overdue. `Cut` goes before `Tell`; `Tell` comes once each time that it is due.

@@ -1,4 +1,5 @@
 pub mod Ends
+pub mod Loads
 pub mod Orders
 pub mod Reports
 pub mod Passages

@@ -1,5 +1,6 @@
 //! Where a caller may hold a link or cut it.
 
+use crate::load::Load;
 use crate::passage::Passage;
 use cell_register::BscId;
 use std::sync::Wait;
@@ -22,6 +23,9 @@ pub trait Gate {
     ghost use Rattle.link_worker.specs.declared.gate.Step.{Step};
 
     ghost may_cut: { Self → ℕ → Step → Type 0 } = { λ _ _ _. Unit {0} };
+
+    /// A report was read, and is submitted next. It may wait until the report may come in, which isn't lost.
+    fn before_report<R: Wait>(&self, _rt: &R, _load: Load) {}
 
     /// Whether the link of the BSC goes on. Where it doesn't, the side that asks ends.
     fn pass<R: Wait>(&self, rt: &R, b: BscId, passage: Passage<'_>) -> bool

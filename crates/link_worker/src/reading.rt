@@ -9,6 +9,7 @@ ghost use Rattle.link_worker.specs.Reports.{EndsReading, stream_end};
 use crate::end::End;
 use crate::gate::Gate;
 use crate::link::Link;
+use crate::load::load_of;
 use crate::passage::{Passage, report_passage};
 use cbsp_messages::{Message, MessageType, read_as};
 use cell_register::BscId;
@@ -26,8 +27,8 @@ const PIECE: usize = 4096;
 
 /// Reads frames from the BSC, and submits each report at the desk, in their order; and so on until the side ends. Frames of other
 /// types are passed over by their length. Before each read the desk lets go of its receipts of folded entries. The gate is asked after
-/// each report (`Step::AfterReport`), and told whether it answered what was in flight (`Passage`). The reads are at most
-/// 1,000,000,000,000.
+/// each report (`Step::AfterReport`), and told whether it answered what was in flight (`Passage`); before each it may wait
+/// (`Gate::before_report`). The reads are at most 1,000,000,000,000.
 ///
 /// It goes on where a report answers no order in flight (`NoOrder`). It ends by any of the ends but `WriteFault`. The frames before
 /// one that is too long, or that can't be read, are taken first. `Superseded` and `Refused` come of the refusal of a report over
@@ -154,9 +155,18 @@ impl<'o, 'g, L: Ledger, G: Gate> Link<'o, 'g, L, G> {
             return Ok(());
         };
         match read_as(self.alloc, kind, frame.body.as_slice()) {
-            Ok(message) => self.submit_report(rt, desk, message),
+            Ok(message) => {
+                self.wait_turn(rt, frame, &message);
+                self.submit_report(rt, desk, message)
+            }
             Err(fault) => Err(End::of_fault(fault)),
         }
+    }
+
+    /// Has the gate hold the link until the report in the frame may come in.
+    fn wait_turn<R: Wait>(&self, rt: &R, frame: &Frame, message: &Message) {
+        let octets = frame.body.as_slice().len();
+        self.gate.before_report(rt, load_of(octets, message));
     }
 
     /// Submits a report, and asks the gate.

@@ -1,5 +1,5 @@
 -- After an accepted event nothing is due for a BSC that it doesn't affect and for which nothing was due.
-use Rattle.std.proofs.Common.{◌≡◌, ℕ, Bool, true, false, ◌&&◌, nat_eq, List, [], ◌∷◌, Option, Some, None, Ok, unwrap_or, if◌then◌else◌, refl, sym, ap, ◌∙◌, arith}
+use Rattle.std.proofs.Common.{◌≡◌, ℕ, ◌+◌, Bool, true, false, ◌&&◌, nat_eq, List, [], ◌∷◌, Option, Some, None, Ok, unwrap_or, if◌then◌else◌, refl, sym, ap, ◌∙◌, arith}
 use Rattle.std.proofs.lemmas.Bool.{and_from, and_parts}
 use Rattle.std.proofs.lemmas.Bool.Decides.{nat_tests}
 use Rattle.std.proofs.lemmas.List.{reverse-append}
@@ -10,7 +10,7 @@ use Rattle.order_maker.specs.Grouping.{first}
 use Rattle.centre_events.specs.Folding.{base_of}
 use Rattle.centre_events.specs.InFlight.{asked_flight, in_flight, is_replied, sent_flight}
 use Rattle.centre_events.specs.Links.{is_bsc, is_up, last_link}
-use Rattle.centre_events.specs.Past.{Past, After, past_of, since}
+use Rattle.centre_events.specs.Past.{Past, After, past_of, position, since}
 use Rattle.centre_events.specs.Pending.{pending}
 use Rattle.centre_events.specs.Verdict.{add_bsc_checks, answered, ask_checks, edit_answered, remove_bsc_checks, send_answer, send_checks, verdict}
 use Rattle.centre_events.specs.declared.answer.Answer.{Answer}
@@ -34,7 +34,7 @@ use Rattle.office.proofs.LawfulLemmas.{orders_left_lawful}
 
 -- what is due, by what is told: whether the centre is stale, the link is up, the journal is full, something is in flight, an order is
 -- pending, and which query is wished for
-abbrev due_by : Bool → Bool → Bool → Bool → Bool → Option Wake → Option Wake
+abbrev pub due_by : Bool → Bool → Bool → Bool → Bool → Option Wake → Option Wake
 due_by stale linked full flying ordered query =
     if stale then Some wake.StaleCentre
     else (if linked then (if full then Some wake.Order else (if flying then None else (if ordered then Some wake.Order else query))) else Some wake.Ended)
@@ -55,13 +55,13 @@ idle_stays false true true false false false false false false q none up room fl
 -- The link of a BSC that the event doesn't affect.
 
 -- the BSC is there, with that link, and it is up
-abbrev StaysUp : Past → Past → ℕ → Type 0
+abbrev pub StaysUp : Past → Past → ℕ → Type 0
 StaysUp past new b = (is_bsc new b ≡ true) × (last_link new b ≡ last_link past b) × (is_up new b ≡ true)
 
-same_bsc : (d b : ℕ) → nat_eq d b ≡ true → d ≡ b
+pub same_bsc : (d b : ℕ) → nat_eq d b ≡ true → d ≡ b
 same_bsc d b is = grind (arith, nat_tests, is)
 
-edit_stays_up : (past : Past) (desk : ℕ) (e : Edit) (a : Answer) → edit_answered past e ≡ Ok a → (b : ℕ) → is_bsc past b ≡ true → is_up past b ≡ true → StaysUp past (After (entry_of desk (event.Edit e) a) past) b
+pub edit_stays_up : (past : Past) (desk : ℕ) (e : Edit) (a : Answer) → edit_answered past e ≡ Ok a → (b : ℕ) → is_bsc past b ≡ true → is_up past b ≡ true → StaysUp past (After (entry_of desk (event.Edit e) a) past) b
 edit_stays_up past desk (edit.AddBsc d) a v b there up = at (nat_eq d b) refl
   where
     absent : is_bsc past d ≡ false
@@ -97,8 +97,12 @@ edit_stays_up past desk (edit.Forget n) a v b there up = (there, refl, up)
 stays_up : (network : Network) (past : Past) (desk : ℕ) (e : Event) (a : Answer) → answered network past e ≡ Ok a → (b : ℕ) → affects past e b ≡ false → is_bsc past b ≡ true → is_up past b ≡ true → StaysUp past (After (entry_of desk e a) past) b
 stays_up network past desk (event.Edit e) a v b other there up = edit_stays_up past desk e a v b there up
 stays_up network past desk (event.Retry d) a v b other there up = (there, refl, up)
-stays_up network past desk (event.LinkUp d) a v b other there up = cc
-stays_up network past desk (event.LinkDown d generation) a v b other there up = cc
+stays_up network past desk (event.LinkUp d) a v b other there up = (
+  there,
+  ap (λ t. unwrap_or (if t then Some (position past + 1) else None) (last_link past b)) other,
+  ap (λ t. unwrap_or (if t then Some true else None) (is_up past b)) other ∙ up,
+)
+stays_up network past desk (event.LinkDown d generation) a v b other there up = (there, refl, ap (λ t. unwrap_or (if t then Some false else None) (is_up past b)) other ∙ up)
 stays_up network past desk (event.Send d generation) a v b other there up = (there, refl, up)
 stays_up network past desk (event.Ask d generation n after) a v b other there up = (there, refl, up)
 stays_up network past desk (event.Report d generation m) a v b other there up = (there, refl, up)
@@ -117,8 +121,8 @@ not_sent past d b now idle flying = at (nat_eq d b) refl
 stays_flying : (network : Network) (past : Past) (desk : ℕ) (e : Event) (a : Answer) → answered network past e ≡ Ok a → (b : ℕ) → affects past e b ≡ false → is_some (in_flight past b) ≡ true → is_some (in_flight (After (entry_of desk e a) past) b) ≡ true
 stays_flying network past desk (event.Edit e) a v b other flying = flying
 stays_flying network past desk (event.Retry d) a v b other flying = flying
-stays_flying network past desk (event.LinkUp d) a v b other flying = cc
-stays_flying network past desk (event.LinkDown d generation) a v b other flying = cc
+stays_flying network past desk (event.LinkUp d) a v b other flying = ap (λ t. is_some (unwrap_or (if t && is_up past b then Some None else None) (in_flight past b))) other ∙ flying
+stays_flying network past desk (event.LinkDown d generation) a v b other flying = ap (λ t. is_some (unwrap_or (if t then Some None else None) (in_flight past b))) other ∙ flying
 stays_flying network past desk (event.Send d generation) a v b other flying =
     not_sent past d b (sent_flight a) (no_check (send_checks past d generation) (send_answer network.broadcasts past (first (pending past d))) a v).1.1.1.0 flying
 stays_flying network past desk (event.Ask d generation n after) a v b other flying =

@@ -9,5 +9,7 @@ pub mod WishLemmas
 pub mod PendingLemmas
 pub mod LawfulLemmas
 pub mod DueLemmas
+pub mod WakingLemmas
+pub mod OwnWishLemmas
 pub mod SendingLemmas
 pub mod HandingLemmas

@@ -97,17 +97,19 @@ folded_if (Err r) centre new lawful headline counted is same whole = counted
 none_more : (n : ℕ) (rs : List Receipt) → drop n (take n rs) ≡ []
 none_more n rs = ap (λ k. drop n (take k rs)) (omega arith) ∙ drop-take n 0 rs
 
-pub released_if : {A E : Type 0} (result : Result A E) (centre : Known) (place : ℕ) (old new : DeskState) → Lawful centre.settings (past centre) → place ≡ length centre.folded → OnOk result (IsReleased place old new) → OnErr result (new ≡ old) → IsReleasedSomewhere old new
+pub released_if : {A E : Type 0} (result : Result A E) (centre : Known) (place : ℕ) (old new : DeskState) → Lawful centre.settings (past centre) → place ≡ length centre.folded → OnOk result (IsReleased place old new) → OnErr result (new ≡ old) → IsReleasedSomewhere old new place
 released_if (Ok done) centre place old new lawful is released unchanged = record {
   centre = centre;
   lawful = lawful;
+  counted = is;
   same = released.same;
   more = released.more;
   places = subst (λ n. All (λ (r : Receipt). r.place ≤ n) (drop old.released (take new.released old.receipts))) is released.places;
 }
-released_if (Err e) centre place old new lawful is released unchanged = subst (IsReleasedSomewhere old) (sym unchanged) (record {
+released_if (Err e) centre place old new lawful is released unchanged = subst (λ (d : DeskState). IsReleasedSomewhere old d place) (sym unchanged) (record {
   centre = centre;
   lawful = lawful;
+  counted = is;
   same = refl;
   more = omega arith;
   places = subst (All (λ (r : Receipt). r.place ≤ length centre.folded)) (sym (none_more old.released old.receipts)) (All-nil (λ (r : Receipt). r.place ≤ length centre.folded));

@@ -200,8 +200,8 @@ beside_report past d (answer.Listed listed) k other = ap (λ t. t && list_any (n
 beside : (past : Past) (e : Event) (a : Answer) (k : LineKey) → affects past e k.bsc ≡ false → ends e k ≡ false → bears (reach_of past e a) k ≡ false
 beside past (event.Edit e) a k other stays = beside_edit past e k other stays
 beside past (event.Retry d) a k other stays = ap (λ t. t && list_any (nat_eq k.warning) (reach_of past (event.Retry d) a).warnings) (not_at d k _ other)
-beside past (event.LinkUp d) a k other stays = cc
-beside past (event.LinkDown d generation) a k other stays = cc
+beside past (event.LinkUp d) a k other stays = beside_flight past d (in_flight past d) k other
+beside past (event.LinkDown d generation) a k other stays = beside_flight past d (in_flight past d) k other
 beside past (event.Send d generation) a k other stays = refl
 beside past (event.Ask d generation n after) a k other stays = refl
 beside past (event.Report d generation m) a k other stays = beside_report past d a k other

@@ -5,6 +5,7 @@ pub mod Offices
 pub mod Shuffles
 pub mod Wishes
 pub mod Wakes
+pub mod OwnWishes
 pub mod Affecting
 pub mod Sendings
 pub mod Handing

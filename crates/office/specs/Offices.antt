@@ -93,10 +93,11 @@ pub record IsFoldedSomewhere (count : ℕ) : Type 0 where
 abbrev pub IsSameDesk : DeskState → DeskState → Type 0
 IsSameDesk old new = new ≡ record old { released = new.released; spare = new.spare }
 
--- the desk let go of more of its receipts, whose places are among the entries that were folded in some such centre
-pub record IsReleasedSomewhere (old new : DeskState) : Type 0 where
+-- the desk let go of more of its receipts, whose places are among the entries that were folded in some such centre; so many are folded
+pub record IsReleasedSomewhere (old new : DeskState) (folded : ℕ) : Type 0 where
   pub centre : Known
   pub lawful : Lawful centre.settings (past centre)
+  pub counted : folded ≡ length centre.folded
   pub same : IsSameDesk old new
   pub more : old.released ≤ new.released
   pub places : All (λ (r : Receipt). r.place ≤ length centre.folded) (drop old.released (take new.released old.receipts))

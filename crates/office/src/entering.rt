@@ -11,7 +11,22 @@ use crate::row::Row;
 use centre_core::centre::Centre;
 use centre_events::event::Event;
 use centre_events::refusal::Refusal;
+use std::alloc::{AllocError, Global};
 use std::sync::ledger::{Book, Ledger};
+
+/// Makes room for the receipt of an event that the desk submits, and copies the event for it.
+pub(crate) fn prepared<L: Ledger>(
+    alloc: Global,
+    desk: &mut Desk<L>,
+    event: &Event,
+) -> Result<Event, AllocError>
+    ensures copy { IfOk result (λ copy. copy ≡ event.now) }
+    ensures room { OnOk result (1 ≤ desk.new.spare) }
+    ensures same { desk.new ≡ record desk.old { spare = desk.new.spare } }
+{
+    desk.reserve()?;
+    event.copied(alloc)
+}
 
 /// Takes an event that the desk submits, of which the copy is kept on its receipt. A refused one changes nothing, but that the
 /// centre may be stale after memory ran out.

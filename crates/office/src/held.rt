@@ -13,7 +13,7 @@ use crate::row::Row;
 use crate::seen::Seen;
 use crate::settling::{mismatch, missing};
 use crate::wake::Wake;
-use crate::waking::{has_work, wake_of};
+use crate::waking::{has_any_work, is_idle, wake_of, wakes};
 use crate::wish::Wish;
 use crate::wishes::{keep, take_out};
 use cell_register::BscId;
@@ -35,6 +35,9 @@ use std::sync::ledger::{Book, Ledger, Share};
 /// The most desks that an office opens.
 const DESKS: usize = 1024;
 
+/// How many lines events may read before no further one is submitted in the same hold of the lock.
+const MOST_LINES: u64 = 256;
+
 /// A centre, and what is known of each desk. Contracts see what is known of the centre, a row for each desk that was opened,
 /// those rows as they were when entries were last folded, how many receipts the desks have, all together, the parts and the
 /// amount of the share that is kept for desks not yet opened, and the wishes.
@@ -49,6 +52,8 @@ pub struct Held<L: Ledger> {
     rest: Share<L>,
     wishes: Vec<Wish>,
     interrupts: u64,
+    /// How many entries the journal may have.
+    limit: u64,
 }
 
 impl<L: Ledger> Model for Held<L> {
@@ -72,12 +77,12 @@ impl<L: Ledger> Held<L> {
     ghost use Rattle.centre_past.specs.Lists.{status};
     ghost use Rattle.centre_events.specs.Folding.{base_of};
     ghost use Rattle.centre_events.specs.Links.{last_link};
-    ghost use Rattle.cell_register.specs.Register.{is_place};
-    ghost use Rattle.office.specs.Affecting.{affects, includes};
+    ghost use Rattle.office.specs.Affecting.{affects, changes_link, includes, is_link, wakes};
     ghost use Rattle.office.specs.Handing.{AreAllAfter, AreEntriesAfter};
     ghost use Rattle.office.specs.Helds.{HasEachOnce, IsEntered, IsHeld, RefusesFold, fits, no_row, row_at};
     ghost use Rattle.centre_questions.specs.Questions.{RefusesQuestion, Shows};
     ghost use Rattle.centre_questions.specs.Surveys.{survey};
+    ghost use Rattle.office.specs.OwnWishes.{is_idle};
     ghost use Rattle.office.specs.Shuffles.{IsFault, IsShuffle};
     ghost use Rattle.office.specs.Wakes.{due, is_full, left_by};
     ghost use Rattle.office.specs.Wishes.{CanWish, RefusesWish, with_wish};
@@ -106,6 +111,7 @@ impl<L: Ledger> Held<L> {
             rest,
             wishes: Vec::new(alloc),
             interrupts: 0,
+            limit: u64::from(journal_limit),
         }
     }
 
@@ -222,6 +228,18 @@ impl<L: Ledger> Held<L> {
         self.centre.position() - self.folded
     }
 
+    /// How many lines the centre has read, up to now.
+    pub fn lines_read(&self) -> u64 {
+        self.centre.meter().lines
+    }
+
+    /// Whether another event may be submitted in a hold of the lock in which the first was submitted when so many lines had been read:
+    /// the events since then read few, and the journal is less than half full.
+    pub fn has_time(&self, lines_read: u64) -> bool {
+        let read = self.lines_read().saturating_sub(lines_read);
+        read <= MOST_LINES && self.unfolded() < self.limit / 2
+    }
+
     /// Whether the centre is stale.
     pub fn is_stale(&self) -> bool
         ensures { result ≡ self.now.centre.stale }
@@ -231,7 +249,8 @@ impl<L: Ledger> Held<L> {
 
     /// The BSCs for which the event may make something to do where it is accepted.
     pub(crate) fn affected_by(&self, event: &Event) -> Affected
-        ensures { self.now.centre.stale ≡ false → (b : ℕ) → includes result b ≡ affects (past self.now.centre) event.now b }
+        ensures bscs { self.now.centre.stale ≡ false → (b : ℕ) → includes result b ≡ affects (past self.now.centre) event.now b }
+        ensures link { is_link result ≡ changes_link event.now }
     {
         affected_by(&self.centre, event)
     }
@@ -281,30 +300,40 @@ impl<L: Ledger> Held<L> {
         Ok(keep(&mut self.wishes, wish)?)
     }
 
-    /// Whether there is something to do for one of the BSCs, or for whoever waits, since the centre is stale or its journal full.
-    pub(crate) fn has_work(&self, affected: Affected) -> bool
+    /// Whether there may be something to do for one of the BSCs, or for whoever waits, since the centre is stale or its journal full.
+    /// Where there isn't, nobody is to be woken.
+    pub(crate) fn has_work(&self, affected: &Affected) -> bool
         ensures whole { result ≡ false → self.now.centre.stale ≡ false }
         ensures room { result ≡ false → is_full self.now.centre ≡ false }
-        ensures none { result ≡ false → (b : ℕ) → includes affected b ≡ true → due self.now.centre self.now.wishes b (last_link (past self.now.centre) b) ≡ None }
+        ensures link { result ≡ false → is_link affected.now ≡ false }
+        ensures none { result ≡ false → (b : ℕ) → includes affected.now b ≡ true → due self.now.centre self.now.wishes b (last_link (past self.now.centre) b) ≡ None }
     {
-        if self.is_stale() || self.is_full() {
-            return true;
-        }
-        match affected {
-            Affected::None => false,
-            Affected::These(one, other) => self.has_work_for(one) || self.has_work_for(other),
-            Affected::All => true,
-        }
+        has_any_work(
+            &self.centre,
+            self.wishes.as_slice(),
+            self.is_full(),
+            affected,
+        )
     }
 
-    /// Whether there is something to do for the latest link of the BSC.
-    fn has_work_for(&self, b: Option<BscId>) -> bool
-        ensures { result ≡ false → (n : ℕ) → is_place b n ≡ true → due self.now.centre self.now.wishes n (last_link (past self.now.centre) n) ≡ None }
+    /// Whether those who wait for the BSC are to be woken, where these are affected.
+    pub(crate) fn wakes(&self, affected: &Affected, b: BscId) -> bool
+        ensures { result ≡ wakes self.now.centre self.now.wishes affected.now b }
     {
-        match b {
-            Some(b) => has_work(&self.centre, self.wishes.as_slice(), self.is_full(), b),
-            None => false,
-        }
+        wakes(
+            &self.centre,
+            self.wishes.as_slice(),
+            self.is_full(),
+            affected,
+            b,
+        )
+    }
+
+    /// Whether the BSC's link is up and has nothing to do: nothing is in flight or pending, and no wish is kept.
+    pub(crate) fn is_idle(&self, b: BscId) -> bool
+        ensures { result ≡ is_idle self.now.centre self.now.wishes b }
+    {
+        is_idle(&self.centre, self.wishes.as_slice(), self.is_full(), b)
     }
 
     /// Makes a stale centre whole.

@@ -9,6 +9,7 @@
 mod affected;
 mod affecting;
 mod auditing;
+mod conditions;
 mod copying;
 mod counting;
 pub mod counts;
@@ -31,9 +32,12 @@ mod standing;
 mod submitting;
 pub mod surveyed;
 pub mod unsent;
+mod waiter;
+mod waiters;
 pub mod wake;
 mod waking;
 pub mod wish;
 mod wishes;
+mod wishing;
 
 pub use centre_questions::{question, survey, surveying};

@@ -11,9 +11,11 @@ ghost use Rattle.office.specs.Wakes.{IsDueSomewhere};
 ghost use Rattle.office.specs.Wishes.{IsUnwishedSomewhere, IsWishedSomewhere};
 
 use crate::affected::Affected;
+use crate::conditions::Conditions;
 use crate::counting::count_sent;
 use crate::counts::Counts;
 use crate::desk::Desk;
+use crate::entering::prepared;
 use crate::entries::Entries;
 use crate::event_kind::EventKind;
 use crate::fault::Unsettled;
@@ -34,14 +36,16 @@ use centre_questions::question::Question;
 use common::Cell;
 use std::alloc::{AllocError, Global};
 use std::sync::ledger::{Blank, Ledger};
-use std::sync::{Condvar, Mutex, Wait};
+use std::sync::{Condvar, Mutex, MutexGuard, Wait};
 use warning_book::WarningId;
 
 /// One centre, for as many callers as it opens desks for. Each call takes the one lock, and does under it what `Held` does.
 pub struct Office<L: Ledger> {
     alloc: Global,
     pub(crate) held: Mutex<Held<L>>,
-    moved: Condvar,
+    /// On which those wait who have something to do for a link.
+    pub(crate) conditions: Conditions,
+    /// On which those wait who follow the journal.
     entered: Condvar,
     /// Whoever holds this and the lock took the lock first.
     counts: Mutex<Counts>,
@@ -53,25 +57,11 @@ impl<L: Ledger> Drop for Office<L> {
         let Office {
             alloc: _alloc,
             held: _held,
-            moved: _moved,
+            conditions: _conditions,
             entered: _entered,
             counts: _counts,
         } = self;
     }
-}
-
-/// Makes room for the receipt of an event that the desk submits, and copies the event for it.
-fn prepared<L: Ledger>(
-    alloc: Global,
-    desk: &mut Desk<L>,
-    event: &Event,
-) -> Result<Event, AllocError>
-    ensures copy { IfOk result (λ copy. copy ≡ event.now) }
-    ensures room { OnOk result (1 ≤ desk.new.spare) }
-    ensures same { desk.new ≡ record desk.old { spare = desk.new.spare } }
-{
-    desk.reserve()?;
-    event.copied(alloc)
 }
 
 impl<L: Ledger> Office<L> {
@@ -86,7 +76,7 @@ impl<L: Ledger> Office<L> {
         Office {
             alloc,
             held: Mutex::new(Held::new(alloc, network, journal_limit, book, rest)),
-            moved: Condvar::new(),
+            conditions: Conditions::new(alloc),
             entered: Condvar::new(),
             counts: Mutex::new(Counts::new()),
         }
@@ -108,20 +98,39 @@ impl<L: Ledger> Office<L> {
         ensures refused { IfErr result (IsRefusedSomewhere desk.old event) }
         ensures unchanged { OnErr result (desk.new ≡ record desk.old { spare = desk.new.spare }) }
     {
+        let mut guard = self.hold(rt);
+        self.submit_in(rt, &mut guard, desk, event)
+    }
+
+    /// Takes the lock for several events: for as long as what is handed out is there, no other caller goes on.
+    pub fn hold<R: Wait>(&self, rt: &R) -> MutexGuard<'_, Held<L>> {
+        self.held.lock(rt)
+    }
+
+    /// Takes an event as `submit` does, in a hold of the lock of this office.
+    pub fn submit_in<R: Wait>(
+        &self,
+        rt: &R,
+        held: &mut Held<L>,
+        desk: &mut Desk<L>,
+        event: Event,
+    ) -> Result<(), Refusal>
+        ensures submitted { OnOk result (IsSubmitted desk.old event desk.new) }
+        ensures refused { IfErr result (IsRefusedSomewhere desk.old event) }
+        ensures unchanged { OnErr result (desk.new ≡ record desk.old { spare = desk.new.spare }) }
+    {
         let Ok(copy) = prepared(self.alloc, desk, &event) else {
             drop(event);
             return Err(self.refuse(rt, Refusal::Memory));
         };
         let kind = EventKind::of(&event);
-        let mut guard = self.held.lock(rt);
-        guard.tell_soundness();
-        let affected = guard.affected_by(&event);
-        let result = guard.submit(desk, event, copy);
+        held.tell_soundness();
+        let affected = held.affected_by(&event);
+        let result = held.submit(desk, event, copy);
         self.counts.lock(rt).count(kind, result);
         self.entered.notify_all();
-        if guard.has_work(affected) {
-            self.moved.notify_all();
-        }
+        let entered = affected.if_entered(result);
+        self.conditions.wake(rt, held, &entered);
         result
     }
 
@@ -183,9 +192,8 @@ impl<L: Ledger> Office<L> {
             warning,
             after,
         });
-        if guard.has_work(Affected::These(Some(b), None)) {
-            self.moved.notify_all();
-        }
+        let affected = Affected::These(Some(b), None);
+        self.conditions.wake(rt, &guard, &affected);
         self.count_refused(rt, &result);
         result
     }
@@ -208,9 +216,7 @@ impl<L: Ledger> Office<L> {
     {
         for _ in rt.forever() {
             let folded = self.release(rt, desk);
-            let mut guard = self.moved.wait_while(rt, self.held.lock(rt), |held| {
-                held.folded() == folded && held.wake_of(b, generation).is_none()
-            });
+            let mut guard = self.conditions.wait(rt, &self.held, b, generation, folded);
             guard.tell_soundness();
             if let Some(wake) = guard.take_wake(b, generation) {
                 return wake;
@@ -238,16 +244,12 @@ impl<L: Ledger> Office<L> {
     {
         for _ in rt.forever() {
             let folded = self.release(rt, desk);
-            let mut guard = self.moved.wait_while(rt, self.held.lock(rt), |held| {
-                held.folded() == folded && held.wake_of(b, generation).is_none()
-            });
+            let mut guard = self.conditions.wait(rt, &self.held, b, generation, folded);
             guard.tell_soundness();
             if let Some(result) = guard.send_due(desk, b, generation) {
                 count_sent(&mut self.counts.lock(rt), desk, &result);
                 self.entered.notify_all();
-                if guard.has_work(Affected::None) {
-                    self.moved.notify_all();
-                }
+                self.conditions.wake(rt, &guard, &Affected::None);
                 return result;
             }
         }
@@ -257,7 +259,7 @@ impl<L: Ledger> Office<L> {
     /// Has the desk let go of its receipts of folded entries, and answers how many entries are folded. Where memory runs out it
     /// keeps them until the next time.
     pub fn release<R: Wait>(&self, rt: &R, desk: &mut Desk<L>) -> u64
-        ensures { IsReleasedSomewhere desk.old desk.new }
+        ensures { IsReleasedSomewhere desk.old desk.new result }
     {
         let guard = self.held.lock(rt);
         guard.tell_soundness();
@@ -288,7 +290,7 @@ impl<L: Ledger> Office<L> {
         guard.tell_soundness();
         let result = guard.checkpoint();
         if result.is_ok() {
-            self.moved.notify_all();
+            self.conditions.wake_all(rt);
         }
         result
     }
@@ -312,7 +314,7 @@ impl<L: Ledger> Office<L> {
         let mut guard = self.held.lock(rt);
         guard.tell_soundness();
         let result = guard.checkpoint_after(after);
-        self.moved.notify_all();
+        self.conditions.wake_all(rt);
         result
     }
 
@@ -355,7 +357,7 @@ impl<L: Ledger> Office<L> {
         let Office {
             alloc: _,
             held,
-            moved: _moved,
+            conditions: _conditions,
             entered: _entered,
             counts: _counts,
         } = self;

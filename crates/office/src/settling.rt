@@ -1,6 +1,6 @@
 //! The receipts of desks are compared with a journal.
 
-ghost use Rattle.std.specs.Prelude.{◌≡◌, ◌↔◌, ◌<◌, ◌≤◌, ◌++◌, ℕ, List, length, All, Any, IsTrue, IfSome, IsNone};
+ghost use Rattle.std.specs.Prelude.{◌≡◌, ◌↔◌, ◌<◌, ◌≤◌, ℕ, List, length, All, Any, IsTrue, IfSome, IsNone};
 ghost use Rattle.centre_events.specs.declared.entry.Entry.{Entry};
 ghost use Rattle.centre_past.specs.Legal.{all_entries};
 ghost use Rattle.office.specs.Desks.{DeskState};

@@ -1,9 +1,10 @@
 -- A picture of an office, by what one survey of it shows.
-use Rattle.std.specs.Prelude.{ℕ, ◌-◌, List, [], ◌∷◌, Option, None, is_some, map, slice_index_or, if◌then◌else◌}
+use Rattle.std.specs.Prelude.{ℕ, Bool, ◌-◌, ◌||◌, List, [], ◌∷◌, Option, None, count_by, is_some, map, slice_index_or, if◌then◌else◌}
 use Rattle.centre_events.specs.declared.refusal.Limit.TheVariants as limit
 use Rattle.centre_events.specs.declared.refusal.Refusal.{Refusal}
 use Rattle.centre_events.specs.declared.refusal.Refusal.TheVariants as cause
 use Rattle.centre_past.specs.declared.lists.bsc_row.BscRow.{BscRow}
+use Rattle.centre_past.specs.declared.lists.cell_row.CellRow.{CellRow}
 use Rattle.centre_questions.specs.declared.area_numbers.AreaNumbers.{AreaNumbers}
 use Rattle.centre_questions.specs.declared.surveyed_warning.SurveyedWarning.{SurveyedWarning}
 use Rattle.console_text.specs.Texts.{refusal_name}
@@ -34,9 +35,17 @@ since_of sinces row = if is_some row.flight then of_bsc sinces row else None
 abbrev pub reset_of : List (Option ℕ) → BscRow → Option ℕ
 reset_of resets row = if row.is_up then of_bsc resets row else None
 
+-- the cell is down for some kind of warning
+abbrev pub is_down : CellRow → Bool
+is_down cell = cell.is_down || cell.is_down_for_emergency
+
+-- how many of the cells are
+abbrev pub down_count : List CellRow → ℕ
+down_count cells = count_by is_down cells
+
 -- a BSC
-abbrev pub figures_of : List (Option ℕ) → List (Option ℕ) → BscRow → BscFigures
-figures_of sinces resets row = record { row = row; since = since_of sinces row; reset = reset_of resets row }
+abbrev pub figures_of : List (Option ℕ) → List (Option ℕ) → List (Option ℕ) → BscRow → BscFigures
+figures_of sinces resets downs row = record { row = row; since = since_of sinces row; reset = reset_of resets row; down = of_bsc downs row }
 
 -- Warnings.
 
@@ -86,7 +95,7 @@ abbrev pub picture : Surveyed → Moments → Picture
 picture s m = record {
   taken = m.taken;
   status = s.survey.status;
-  bscs = map (figures_of m.sinces.items m.resets.items) s.survey.bscs;
+  bscs = map (figures_of m.sinces.items m.resets.items m.downs.items) s.survey.bscs;
   warnings = map warning_of s.survey.warnings;
   kept = m.kept;
   receipts = s.counts.receipts;

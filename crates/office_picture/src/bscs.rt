@@ -35,13 +35,19 @@ fn reset_of(resets: &[Option<u64>], row: &BscRow) -> Option<u64>
     if row.is_up { of_bsc(resets, row) } else { None }
 }
 
-fn figures_of(sinces: &[Option<u64>], resets: &[Option<u64>], row: &BscRow) -> BscFigures
-    ensures { result ≡ figures_of sinces.now resets.now row.now }
+fn figures_of(
+    sinces: &[Option<u64>],
+    resets: &[Option<u64>],
+    downs: &[Option<u64>],
+    row: &BscRow,
+) -> BscFigures
+    ensures { result ≡ figures_of sinces.now resets.now downs.now row.now }
 {
     BscFigures {
         row: *row,
         since: since_of(sinces, row),
         reset: reset_of(resets, row),
+        down: of_bsc(downs, row),
     }
 }
 
@@ -51,12 +57,13 @@ pub(crate) fn bscs(
     rows: &[BscRow],
     sinces: &[Option<u64>],
     resets: &[Option<u64>],
+    downs: &[Option<u64>],
 ) -> Result<BscList, AllocError>
-    ensures { IfOk result (λ bscs. bscs ≡ map (figures_of sinces.now resets.now) rows.now) }
+    ensures { IfOk result (λ bscs. bscs ≡ map (figures_of sinces.now resets.now downs.now) rows.now) }
 {
     let mut bscs = Vec::new(alloc);
     for row in rows {
-        bscs.push(figures_of(sinces, resets, row))?;
+        bscs.push(figures_of(sinces, resets, downs, row))?;
     }
     Ok(BscList::from_vec(bscs))
 }

@@ -6,11 +6,13 @@
 #![tactic(auto)]
 
 mod bscs;
+mod downs;
 pub mod laws;
 mod moments;
 mod picturing;
 mod tallying;
 mod warnings;
 
+pub use downs::down_count;
 pub use moments::Moments;
 pub use picturing::picture;

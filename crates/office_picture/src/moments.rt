@@ -9,6 +9,8 @@ pub struct Moments {
     pub sinces: Vec<Option<u64>>,
     /// Since when a RESET is out to each BSC that isn't answered, in the same way.
     pub resets: Vec<Option<u64>>,
+    /// How many cells of each BSC are down for some kind of warning, in the same way.
+    pub downs: Vec<Option<u64>>,
     /// The last entry that stands in the kept file.
     pub kept: Option<u64>,
     /// How much memory the program takes, in octets.

@@ -23,7 +23,13 @@ pub fn picture(alloc: Global, surveyed: Surveyed, moments: &Moments) -> Result<P
         warnings: surveyed,
     } = survey;
     let (sinces, resets) = (moments.sinces.as_slice(), moments.resets.as_slice());
-    let bscs = bscs(alloc, rows.as_slice(), sinces, resets)?;
+    let bscs = bscs(
+        alloc,
+        rows.as_slice(),
+        sinces,
+        resets,
+        moments.downs.as_slice(),
+    )?;
     let warnings = warnings(alloc, surveyed.into_vec())?;
     let refusals = refusals(alloc, &counts)?;
     let entries = entries(alloc, &counts)?;

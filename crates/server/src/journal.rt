@@ -40,7 +40,7 @@ pub(crate) fn open_journal<R: Files<File = File>>(
 }
 
 /// What the first line of the file names.
-fn heading_of(options: &ServeOptions) -> Heading
+pub(crate) fn heading_of(options: &ServeOptions) -> Heading
     ensures { result ≡ record { plmn = options.now.network.plmn; broadcasts = options.now.network.broadcasts } }
 {
     Heading {

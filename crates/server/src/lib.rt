@@ -9,6 +9,7 @@ mod consoles;
 mod desks;
 mod fault;
 mod journal;
+mod knocking;
 mod looking;
 mod operators;
 mod options;

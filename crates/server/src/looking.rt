@@ -4,10 +4,13 @@ use crate::fault::ServeFault;
 use crate::options::ServeOptions;
 use crate::peers_source::PeersSource;
 use crate::picturing::RunningPictures;
+use crate::ports::{open_desk, push};
 use crate::threads::run_keeper;
 use console_text::ReplayFault;
 use journal_file::DiskFile;
 use journal_keeper::Keeper;
+use office::desk::Desk;
+use office::office::Office;
 use server_consoles::Consoles;
 use server_errors::{Errors, say_of_centre};
 use server_http::{HttpPort, serve_http};
@@ -30,14 +33,17 @@ const UNSERVED: &str = "no thread can be started: the page isn't served";
 
 /// The page, where it is asked for.
 #[derive(Drop)]
-pub(crate) struct Looking {
+pub(crate) struct Looking<L: Ledger> {
     pub(crate) port: HttpPort,
+    /// The desk whose questions are asked for the page. It submits nothing.
+    pub(crate) desk: Mutex<Option<Desk<L>>>,
     /// Where the system says how much memory the program takes.
     pub(crate) status: Mutex<Option<File>>,
 }
 
 /// Listens for those who look, where they are asked for. It is said where, or what is wrong.
 pub(crate) fn open_looking<
+    L: Ledger,
     R: Files<File = File> + Wait + Clock + Net<Stream = TcpStream, Listener = TcpListener>,
     E: Write + Drop,
 >(
@@ -45,7 +51,7 @@ pub(crate) fn open_looking<
     alloc: Global,
     options: &ServeOptions,
     errors: &Errors<E>,
-) -> Result<Option<Looking>, ServeFault> {
+) -> Result<Option<Looking<L>>, ServeFault> {
     let Some(address) = &options.http else {
         return Ok(None);
     };
@@ -57,6 +63,7 @@ pub(crate) fn open_looking<
             let status = OpenOptions::new().read(true).open(rt, STATUS).ok();
             Ok(Some(Looking {
                 port,
+                desk: Mutex::new(None),
                 status: Mutex::new(status),
             }))
         }
@@ -67,6 +74,32 @@ pub(crate) fn open_looking<
             Err(ServeFault::Listen)
         }
     }
+}
+
+/// Gives the page its desk.
+pub(crate) fn open_looking_desk<L: Ledger, R: Wait>(
+    rt: &R,
+    office: &Office<L>,
+    looking: Option<&Looking<L>>,
+) -> Result<(), ServeFault> {
+    if let Some(looking) = looking {
+        *looking.desk.lock(rt) = Some(open_desk(rt, office)?);
+    }
+    Ok(())
+}
+
+/// Hands in the desk of the page.
+pub(crate) fn hand_in_looking<L: Ledger, R: Wait>(
+    rt: &R,
+    looking: Option<&Looking<L>>,
+    desks: &mut Vec<Desk<L>>,
+) -> Result<(), ServeFault> {
+    if let Some(looking) = looking {
+        if let Some(desk) = looking.desk.lock(rt).take() {
+            push(desks, desk)?;
+        }
+    }
+    Ok(())
 }
 
 /// Answers the lines of the operators while the page is served, where it is, and ends all threads.
@@ -85,7 +118,7 @@ pub(crate) fn run_looking<
 >(
     rt: &'x R,
     shared: &'x Shared<L, E>,
-    looking: Option<&'x Looking>,
+    looking: Option<&'x Looking<L>>,
     keeper: Option<Keeper<DiskFile>>,
     consoles: Option<&'x Consoles<L>>,
     terminal: &'x Mutex<Terminal<L, I, W>>,
@@ -110,10 +143,11 @@ pub(crate) fn run_looking<
 fn serve_page<L: Ledger, E: Write + Drop, R: Wait + Clock>(
     rt: &R,
     shared: &Shared<L, E>,
-    looking: &Looking,
+    looking: &Looking<L>,
 ) {
     let pictures = RunningPictures {
         shared,
+        desk: &looking.desk,
         status: &looking.status,
     };
     serve_http(rt, shared.alloc, &looking.port, &pictures);

@@ -31,7 +31,10 @@ fn serve_at<L: Ledger, E: Write + Drop, R: PeersSource + Wait + Clock>(
     let operator = Operator {
         alloc: shared.alloc,
         office: &shared.office,
-        server: &RunningServer { files: rt, shared },
+        server: &RunningServer {
+            peers_source: rt,
+            shared,
+        },
         may_watch: true,
     };
     serve_console(rt, &operator, consoles, slot);
@@ -46,7 +49,10 @@ fn accept_at<L: Ledger, E: Write + Drop, R: PeersSource + Wait + Clock>(
     let operator = Operator {
         alloc: shared.alloc,
         office: &shared.office,
-        server: &RunningServer { files: rt, shared },
+        server: &RunningServer {
+            peers_source: rt,
+            shared,
+        },
         may_watch: true,
     };
     accept_consoles(rt, &operator, consoles);
@@ -89,7 +95,10 @@ fn run_terminal<
     let operator = Operator {
         alloc: shared.alloc,
         office: &shared.office,
-        server: &RunningServer { files: rt, shared },
+        server: &RunningServer {
+            peers_source: rt,
+            shared,
+        },
         may_watch: false,
     };
     let ended = operate(rt, &operator, terminal);

@@ -5,7 +5,8 @@ ghost use Rattle.std.specs.Prelude.{◌≡◌, ◌≤◌, ◌&&◌, IfSome, if�
 use centre_events::network::Network;
 use clap::ArgMatches;
 use console_text::options::{
-    CONSOLES, FOLD, MOST_CONSOLES, MOST_ENTRIES, MOST_SECONDS, REPLY_SECONDS, command_line,
+    CONSOLES, FOLD, MOST_CONSOLES, MOST_ENTRIES, MOST_MINUTES, MOST_QUERIES, MOST_SECONDS, QUERIES,
+    REPLY_SECONDS, command_line,
 };
 use hex::FromHex;
 use server_ports::LinkLimits;
@@ -35,6 +36,11 @@ pub struct ServeOptions {
     pub cut_seconds: u32,
     /// After how many seconds without a word a BSC is sent a KEEP ALIVE; 0 for never.
     pub alive_seconds: u32,
+    /// How long after the last order, query or reply for a warning a BSC is asked about it without an operator's wish, in milliseconds; 0
+    /// for never.
+    pub query_ms: u64,
+    /// How many such queries there are a second at most, over all BSCs.
+    pub queries_per_second: u32,
     /// The file of the addresses that BSCs may connect from; without it they may connect from any.
     pub peers: Option<String>,
     /// The file that the journal is kept in; without it nothing is kept.
@@ -154,6 +160,30 @@ fn asked_seconds(matches: &ArgMatches<'_>, name: &str, default: u32) -> u32
     }
 }
 
+/// Milliseconds in a minute.
+const MINUTE: u64 = 60_000;
+
+/// After how many milliseconds a BSC is asked again about a warning; 0 for never.
+fn asked_query_ms(matches: &ArgMatches<'_>) -> u64
+    ensures { result ≤ 86400000 }
+{
+    match matches.get_one::<u32>("query-minutes") {
+        Some(minutes) if minutes <= MOST_MINUTES => u64::from(minutes) * MINUTE,
+        _ => 0,
+    }
+}
+
+/// How many such queries there are a second.
+fn asked_queries(matches: &ArgMatches<'_>) -> u32
+    ensures few { result ≤ 256 }
+    ensures some { 1 ≤ result }
+{
+    match matches.get_one::<u32>("queries-per-second") {
+        Some(count @ 1..=MOST_QUERIES) => count,
+        _ => QUERIES,
+    }
+}
+
 /// The file of that option, where one is given.
 fn asked_file(
     alloc: Global,
@@ -239,6 +269,8 @@ fn options_of(alloc: Global, matches: &ArgMatches<'_>) -> Result<ServeOptions, O
         reply_seconds: asked_seconds(matches, "reply-seconds", REPLY_SECONDS),
         cut_seconds: asked_seconds(matches, "cut-seconds", 0),
         alive_seconds: asked_seconds(matches, "keep-alive-seconds", 0),
+        query_ms: asked_query_ms(matches),
+        queries_per_second: asked_queries(matches),
         peers,
         keep,
         console,

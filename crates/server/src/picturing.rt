@@ -2,8 +2,13 @@
 
 ghost use Rattle.std.specs.Prelude.{◌≡◌, ◌-◌, ◌*◌, ◌/◌, IfSome};
 
+use cell_register::BscId;
+use centre_past::lists::BscRow;
+use office::desk::Desk;
+use office::question::Question;
+use office::seen::SeenValue;
 use office::surveyed::Surveyed;
-use office_picture::{Moments, picture};
+use office_picture::{Moments, down_count, picture};
 use server_errors::say_of_centre;
 use server_http::Pictures;
 use server_links::{Shared, second_of};
@@ -23,6 +28,8 @@ const MOST_TEXT: usize = 2_048;
 #[derive(Drop)]
 pub(crate) struct RunningPictures<'a, L: Ledger, E: Drop> {
     pub(crate) shared: &'a Shared<L, E>,
+    /// The desk that asks which cells are down.
+    pub(crate) desk: &'a Mutex<Option<Desk<L>>>,
     pub(crate) status: &'a Mutex<Option<File>>,
 }
 
@@ -70,7 +77,45 @@ fn memory_of(status: &mut File) -> Option<u64> {
     octets_of(kibibytes_in(&text[..count])?)
 }
 
+/// How many cells are down in what was seen, if cells were.
+fn downs_in(value: &SeenValue) -> Option<u64> {
+    match value {
+        SeenValue::Cells(rows) => Some(down_count(rows.as_slice())),
+        _ => None,
+    }
+}
+
+/// Whether the rows have the BSC with a cell.
+fn has_cells(rows: &[BscRow], b: BscId) -> bool {
+    rows.iter().any(|row| row.bsc == b && row.cells != 0)
+}
+
 impl<'a, L: Ledger, E: Write + Drop> RunningPictures<'a, L, E> {
+    /// How many cells of the BSC are down, if that is known.
+    fn downs_of<R: Wait>(&self, rt: &R, desk: &Desk<L>, b: BscId) -> Option<u64> {
+        let seen = self.shared.office.look(rt, desk, Question::Cells(b)).ok()?;
+        downs_in(&seen.value)
+    }
+
+    /// How many cells of each BSC are down that has a port and, by those rows, a cell. Each is asked for by itself, so that no other
+    /// caller of the office waits for all.
+    fn downs<R: Wait>(&self, rt: &R, rows: &[BscRow]) -> Result<Vec<Option<u64>>, AllocError> {
+        let mut downs = Vec::new(self.shared.alloc);
+        let guard = self.desk.lock(rt);
+        let Some(desk) = guard.as_ref() else {
+            return Ok(downs);
+        };
+        for port in &self.shared.ports {
+            let is_asked = has_cells(rows, port.bsc);
+            downs.push(if is_asked {
+                self.downs_of(rt, desk, port.bsc)
+            } else {
+                None
+            })?;
+        }
+        Ok(downs)
+    }
+
     fn memory<R: Wait>(&self, rt: &R) -> Option<u64> {
         memory_of(self.status.lock(rt).as_mut()?)
     }
@@ -89,6 +134,7 @@ impl<'a, L: Ledger, E: Write + Drop> RunningPictures<'a, L, E> {
             taken,
             sinces,
             resets,
+            downs: Vec::new(self.shared.alloc),
             kept: self.shared.kept_place(rt),
             memory: self.memory(rt),
         })
@@ -97,9 +143,18 @@ impl<'a, L: Ledger, E: Write + Drop> RunningPictures<'a, L, E> {
 
 impl<'a, L: Ledger, E: Write + Drop> Pictures for RunningPictures<'a, L, E> {
     fn take<R: Wait + Clock>(&self, rt: &R) -> Result<Picture, AllocError> {
-        let moments = self.moments(rt)?;
+        let mut moments = self.moments(rt)?;
         let surveyed: Surveyed = self.shared.office.survey(rt)?;
-        picture(self.shared.alloc, surveyed, &moments)
+        match self.downs(rt, surveyed.survey.bscs.as_slice()) {
+            Ok(downs) => {
+                moments.downs = downs;
+                picture(self.shared.alloc, surveyed, &moments)
+            }
+            Err(error) => {
+                drop(surveyed);
+                Err(error)
+            }
+        }
     }
 
     fn tell<R: Wait + Clock>(&self, rt: &R, what: &str) {

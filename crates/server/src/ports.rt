@@ -1,6 +1,7 @@
 //! The ports of a server: opened, given their desks, and the desks handed in.
 
 use crate::fault::ServeFault;
+use crate::knocking::{Knocks, knock_at};
 use crate::options::ServeOptions;
 use crate::peers_file::{peers_name, read_peers};
 use cell_register::BscId;
@@ -20,7 +21,7 @@ use std::sync::ledger::Ledger;
 use std::time::Clock;
 
 /// The host without its brackets: an IPv6 address is written as in front of a port, `[::1]`, and may be without them.
-fn plain_host(host: &str) -> &str {
+pub(crate) fn plain_host(host: &str) -> &str {
     match host.strip_prefix("[") {
         Some(inner) => inner.strip_suffix("]").unwrap_or(host),
         None => host,
@@ -44,11 +45,12 @@ fn bind<R: Net<Stream = TcpStream, Listener = TcpListener>, L: Ledger>(
         options.reply_seconds,
         options.cut_seconds,
         options.alive_seconds,
+        options.query_ms,
     );
     Ok(Port::new(b, listener, address, pace))
 }
 
-/// Listens on the port of each BSC. What can't be listened on is said.
+/// Listens on the port of each BSC, behind the knock at it. What can't be listened on is said.
 fn bind_all<
     R: Wait + Clock + Net<Stream = TcpStream, Listener = TcpListener>,
     L: Ledger,
@@ -58,6 +60,7 @@ fn bind_all<
     alloc: Global,
     options: &ServeOptions,
     errors: &Errors<E>,
+    knocks: &Knocks<'_>,
 ) -> Result<Vec<Port<L>>, ServeFault> {
     let mut ports = Vec::new(alloc);
     for k in 0..options.links {
@@ -65,7 +68,10 @@ fn bind_all<
             return Err(ServeFault::Listen);
         };
         let port = match options.base.checked_add(k) {
-            Some(number) => bind(rt, alloc, options, b, number),
+            Some(number) => {
+                knock_at(rt, alloc, errors, knocks, b, number);
+                bind(rt, alloc, options, b, number)
+            }
             None => return Err(ServeFault::Listen),
         };
         match port {
@@ -108,7 +114,8 @@ pub(crate) struct Opened<L: Ledger> {
     pub(crate) peers_file: Option<String>,
 }
 
-/// Reads the file of peers, and listens on the port of each BSC. What it listens on is said, or what is wrong.
+/// Reads the file of peers, knocks at the BSCs whose links were up when the kept file ended, and listens on the port of each BSC. What
+/// it listens on is said, or what is wrong.
 pub(crate) fn open_ports<
     R: Files + Wait + Clock + Net<Stream = TcpStream, Listener = TcpListener>,
     L: Ledger,
@@ -123,7 +130,9 @@ pub(crate) fn open_ports<
     let Ok(peers_file) = peers_name(alloc, options) else {
         return Err(ServeFault::Lines(ReplayFault::Memory));
     };
-    let ports: Vec<Port<L>> = bind_all(rt, alloc, options, errors)?;
+    let knocks = Knocks::find(rt, alloc, options, peers.as_ref());
+    let ports: Vec<Port<L>> = bind_all(rt, alloc, options, errors, &knocks)?;
+    drop(knocks);
     tell_listening(rt, alloc, ports.as_slice(), errors);
     Ok(Opened {
         ports,

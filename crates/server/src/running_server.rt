@@ -30,8 +30,8 @@ fn renamed_text(alloc: Global, renamed: Renamed) -> Result<String, AllocError> {
 /// What the threads of a server share, as its operator knows it.
 #[derive(Drop)]
 pub(crate) struct RunningServer<'a, L: Ledger, E: Drop, F> {
-    /// The files.
-    pub(crate) files: &'a F,
+    /// Where the list of peers is read.
+    pub(crate) peers_source: &'a F,
     pub(crate) shared: &'a Shared<L, E>,
 }
 
@@ -90,13 +90,22 @@ impl<'a, L: Ledger, E: Write + Drop, F: PeersSource> Server for RunningServer<'a
         }
     }
 
+    fn has_downs<R: Wait>(&self, rt: &R) -> bool {
+        for port in self.shared.ports.as_slice() {
+            if !port.is_up(rt) {
+                return true;
+            }
+        }
+        false
+    }
+
     /// Whole or not at all: a file that can't be taken leaves the list as it was.
     fn reread_peers<R: Wait + Clock>(&self, rt: &R) -> Result<String, AllocError> {
         let alloc = self.shared.alloc;
         let Some(name) = &self.shared.options.peers_file else {
             return String::from_str(alloc, "no peers: there is no --peers\n");
         };
-        match self.files.load(alloc, name.as_str()) {
+        match self.peers_source.load(alloc, name.as_str()) {
             Ok(peers) => renamed_text(alloc, self.shared.rename(rt, peers)),
             Err(why) => {
                 let text = format!(in alloc; "bad peers: {why}\n");
@@ -110,6 +119,25 @@ impl<'a, L: Ledger, E: Write + Drop, F: PeersSource> Server for RunningServer<'a
         match self.port_of(b) {
             Some(port) => port.reset_since(rt),
             None => None,
+        }
+    }
+
+    /// Says that the BSC may refuse one of the two.
+    fn has_two_periods<R: Wait + Clock>(
+        &self,
+        rt: &R,
+        warning: WarningId,
+        b: BscId,
+        other: WarningId,
+    ) {
+        let warning = warning.number();
+        let b = b.number();
+        let other = other.number();
+        let alloc = self.shared.alloc;
+        if let Ok(text) = format!(in alloc;
+            "warning {warning}: BSC {b} has warning {other} of another period beside it, and may refuse one: give all warnings of a BSC one period"
+        ) {
+            say_of_centre(rt, alloc, &self.shared.errors, text);
         }
     }
 

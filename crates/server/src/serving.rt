@@ -6,7 +6,7 @@ use crate::consoles::{close_consoles_file, open_console_desks, open_consoles};
 use crate::desks::desks_of;
 use crate::fault::ServeFault;
 use crate::journal::{begin_journal, open_journal};
-use crate::looking::{Looking, open_looking, run_looking};
+use crate::looking::{Looking, open_looking, open_looking_desk, run_looking};
 use crate::options::{OptionsFault, ServeOptions, read_options};
 use crate::peers_source::PeersSource;
 use crate::ports::{Opened, open_desks, open_ports};
@@ -18,7 +18,7 @@ use office::desk::Desk;
 use office::office::Office;
 use server_consoles::Consoles;
 use server_errors::Errors;
-use server_links::{LinkOptions, Shared};
+use server_links::{HeavyTurn, LinkOptions, Shared};
 use server_operator::Terminal;
 use std::alloc::Global;
 use std::fs::{File, Files};
@@ -74,12 +74,13 @@ fn run_from_desks<
     rt: &R,
     shared: &Shared<L, E>,
     keeper: Option<Keeper<DiskFile>>,
-    looking: Option<&Looking>,
+    looking: Option<&Looking<L>>,
     consoles: Option<&Consoles<L>>,
     terminal: &Mutex<Terminal<L, I, W>>,
 ) -> Result<(), ServeFault> {
     open_desks(rt, &shared.office, shared.ports.as_slice())?;
     open_console_desks(rt, &shared.office, consoles)?;
+    open_looking_desk(rt, &shared.office, looking)?;
     match run_looking(rt, shared, looking, keeper, consoles, terminal) {
         Ok(()) => {}
         Err(fault) => return Err(ServeFault::Lines(fault)),
@@ -109,13 +110,13 @@ fn run_desks<
     options: &ServeOptions,
     shared: &Shared<L, E>,
     file: Option<DiskFile>,
-    looking: Option<&Looking>,
+    looking: Option<&Looking<L>>,
     consoles: Option<&Consoles<L>>,
     terminal: &Mutex<Terminal<L, I, W>>,
 ) -> Result<Vec<Desk<L>>, ServeFault> {
     let keeper = begin_journal(rt, options, shared, file, terminal)?;
     run_from_desks(rt, shared, keeper, looking, consoles, terminal)?;
-    desks_of(rt, shared, consoles, terminal)
+    desks_of(rt, shared, looking, consoles, terminal)
 }
 
 /// What is open before the threads of a run begin.
@@ -123,7 +124,7 @@ fn run_desks<
 struct Begun<L: Ledger> {
     file: Option<DiskFile>,
     opened: Opened<L>,
-    looking: Option<Looking>,
+    looking: Option<Looking<L>>,
     consoles: Option<Consoles<L>>,
 }
 
@@ -166,6 +167,7 @@ fn end<L: Ledger, R: Wait, I: BufRead + Drop, W: Write + Drop, E: Write + Drop>(
         errors,
         options: _,
         folds: _,
+        heavy_turn: _,
         kept: _,
         with_simulator: _,
         closing: _,
@@ -180,6 +182,48 @@ fn end<L: Ledger, R: Wait, I: BufRead + Drop, W: Write + Drop, E: Write + Drop>(
         Ok(()) => Ok(()),
         Err(ServeFault::Lines(ReplayFault::WriteFault)) if options.console.is_some() => Ok(()),
         Err(fault) => Err((errors, fault)),
+    }
+}
+
+/// What the threads of a server share.
+fn shared_of<L: Ledger, E: Drop>(
+    blank: Blank,
+    options: &ServeOptions,
+    opened: Opened<L>,
+    errors: Errors<E>,
+    alloc: Global,
+) -> Shared<L, E>
+    requires name { blank.name ≡ L.name }
+    requires parts { blank.parts ≡ L.parts }
+    requires desks { blank.parts ≡ 1025 }
+{
+    let Opened {
+        ports,
+        peers,
+        peers_file,
+    } = opened;
+    Shared {
+        alloc,
+        office: Office::new(alloc, blank, options.network, options.journal_limit),
+        ports,
+        errors,
+        options: LinkOptions {
+            plmn: options.network.plmn,
+            reset: options.reset,
+            reply_seconds: options.reply_seconds,
+            cut_seconds: options.cut_seconds,
+            alive_seconds: options.alive_seconds,
+            query_ms: options.query_ms,
+            queries_per_second: options.queries_per_second,
+            peers: Mutex::new(peers),
+            peers_file,
+        },
+        folds: Mutex::new(FoldPace::new(options.fold, options.journal_limit)),
+        heavy_turn: HeavyTurn::new(),
+        kept: options.keep.as_ref().map(|_file| Kept::new(0)),
+        with_simulator: options.with_simulator,
+        closing: Mutex::new(false),
+        closed: Condvar::new(),
     }
 }
 
@@ -216,31 +260,7 @@ fn run_begun<
         looking,
         consoles,
     } = begun;
-    let Opened {
-        ports,
-        peers,
-        peers_file,
-    } = opened;
-    let shared = Shared {
-        alloc,
-        office: Office::new(alloc, blank, options.network, options.journal_limit),
-        ports,
-        errors,
-        options: LinkOptions {
-            plmn: options.network.plmn,
-            reset: options.reset,
-            reply_seconds: options.reply_seconds,
-            cut_seconds: options.cut_seconds,
-            alive_seconds: options.alive_seconds,
-            peers: Mutex::new(peers),
-            peers_file,
-        },
-        folds: Mutex::new(FoldPace::new(options.fold, options.journal_limit)),
-        kept: options.keep.as_ref().map(|_file| Kept::new(0)),
-        with_simulator: options.with_simulator,
-        closing: Mutex::new(false),
-        closed: Condvar::new(),
-    };
+    let shared = shared_of(blank, options, opened, errors, alloc);
     let terminal: Mutex<Terminal<L, I, W>> = Mutex::new(Terminal {
         reader,
         writer,

@@ -203,6 +203,35 @@ fn run_threads<
     })
 }
 
+/// Answers the lines of the operator while a thread keeps the journal in its file, and ends all threads. Where it couldn't be started,
+/// nothing is answered.
+fn run_kept<
+    'x,
+    L: Ledger + Send + Sync,
+    R: PeersSource
+        + Wait
+        + Threads
+        + Clock
+        + Sync
+        + Net<Stream = TcpStream, Listener = TcpListener>,
+    I: BufRead + Send + Drop,
+    W: Write + Send + Drop,
+    E: Write + Send + Drop,
+>(
+    rt: &'x R,
+    shared: &'x Shared<L, E>,
+    is_kept: bool,
+    consoles: Option<&'x Consoles<L>>,
+    terminal: &'x Mutex<Terminal<L, I, W>>,
+) -> Result<(), ReplayFault> {
+    if !is_kept {
+        return Err(ReplayFault::Memory);
+    }
+    let result = run_threads(rt, shared, shared.ports.as_slice(), consoles, terminal);
+    shared.end_keeping(rt);
+    result
+}
+
 /// Answers the lines of the operator while the journal is kept in its file, where it is, and ends all threads. Where no thread can be
 /// started for that, nothing is answered.
 pub(crate) fn run_keeper<
@@ -228,11 +257,7 @@ pub(crate) fn run_keeper<
         return run_threads(rt, shared, shared.ports.as_slice(), consoles, terminal);
     };
     thread::scope(thread::scope_env(), rt, move |scope| {
-        if scope.spawn(move || keep(rt, shared, keeper)).is_err() {
-            return Err(ReplayFault::Memory);
-        }
-        let result = run_threads(rt, shared, shared.ports.as_slice(), consoles, terminal);
-        shared.end_keeping(rt);
-        result
+        let is_kept = scope.spawn(move || keep(rt, shared, keeper)).is_ok();
+        run_kept(rt, shared, is_kept, consoles, terminal)
     })
 }

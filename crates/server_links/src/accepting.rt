@@ -135,8 +135,8 @@ fn plain_address(mut from: SocketAddr) -> SocketAddr
     from
 }
 
-/// Takes connections to the port until it is closing.
-fn accept_until_closed<L: Ledger, E: Write + Drop, R: Wait + Clock>(
+/// Takes connections to the port, and gives each that gets the link to the thread that reads, until the port is closing.
+pub fn accept_links<L: Ledger, E: Write + Drop, R: Wait + Clock>(
     rt: &R,
     shared: &Shared<L, E>,
     port: &Port<L>,
@@ -158,17 +158,5 @@ fn accept_until_closed<L: Ledger, E: Write + Drop, R: Wait + Clock>(
                 thread::sleep(rt, Duration::from_millis(PAUSE));
             }
         }
-    }
-}
-
-/// Takes connections to the port, and gives each that gets the link to the thread that reads, until the port is closing.
-pub fn accept_links<L: Ledger, E: Write + Drop, R: Wait + Clock>(
-    rt: &R,
-    shared: &Shared<L, E>,
-    port: &Port<L>,
-) {
-    if port.begin_accepting(rt) {
-        accept_until_closed(rt, shared, port);
-        port.end_accepting(rt);
     }
 }

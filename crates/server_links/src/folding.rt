@@ -13,11 +13,17 @@ const NO_MEMORY: &str =
     "the journal isn't folded: out of memory; that is tried again after 1,000 entries more, or once it is full";
 
 impl<L: Ledger, E: Write + Drop> Shared<L, E> {
-    /// An event may have been entered. Folds the journal where that is due: other threads that submit wait that long before they go on. So
-    /// the journal doesn't fill up meanwhile, where a file is kept and the fold waits for it. A stale centre isn't folded.
+    /// A small event may have been entered.
     pub fn submitted<R: Wait + Clock>(&self, rt: &R) {
+        self.submitted_large(rt, 0);
+    }
+
+    /// An event may have been entered, of which so many octets or cells are kept. Folds the journal where that is due: other threads that
+    /// submit wait that long before they go on. So the journal doesn't fill up meanwhile, where a file is kept and the fold waits for it. A
+    /// stale centre isn't folded.
+    pub(crate) fn submitted_large<R: Wait + Clock>(&self, rt: &R, kept: u64) {
         let mut pace = self.folds.lock(rt);
-        if pace.count() && pace.is_due(self.office.unfolded(rt)) {
+        if pace.count(kept) && pace.is_due(self.office.unfolded(rt)) {
             self.fold(rt, &mut pace);
         }
     }

@@ -1,11 +1,11 @@
 //! The gate of a link: how fast reports and orders pass, and where the journal is folded.
 
-use crate::orders::order_words;
+use crate::orders::{cell_count, named_in, order_words};
 use crate::shared::{Shared, now_of};
 use cell_register::BscId;
 use journal_keeper::KeptUpTo;
-use link_rules::Repeat;
-use link_worker::{Gate, Passage};
+use link_rules::{Repeat, kept_of_order};
+use link_worker::{Gate, Load, Passage};
 use server_ports::Port;
 use std::io::Write;
 use std::net::SocketAddr;
@@ -19,10 +19,10 @@ const PAUSE: u64 = 50;
 
 const HELD: &str = "its reports are held back: there were too many";
 
-/// What both sides of a port's link pass. Reports pass no faster than the port's may come in, and an order that goes out again and
-/// again no faster than it may go out. Both wait where no lock is held, so other links and the operator go on. At each passage an event
-/// may have been entered, so the journal is folded where that is due. An order waits until its
-/// entry is kept. Nothing passes once the link has ended or its port is closing.
+/// What both sides of a port's link pass. Reports pass no faster than the port's may come in, by their number and by what they cost, and
+/// an order that goes out again and again no faster than it may go out. Both wait where no lock is held, so other links and the operator
+/// go on. At each passage an event may have been entered, so the journal is folded where that is due. An order waits until its entry is
+/// kept. Nothing passes once the link has ended or its port is closing.
 #[derive(Drop)]
 pub(crate) struct LinkGate<'a, L: Ledger, E: Drop, C> {
     pub(crate) rt: &'a C,
@@ -46,6 +46,22 @@ impl<'a, L: Ledger, E: Write + Drop, C: Wait + Clock> LinkGate<'a, L, E, C> {
         }
     }
 
+    /// How much is kept of the order or the query whose frame this is.
+    fn kept_of(&self, frame: &[u8]) -> u64 {
+        let cells = cell_count(self.shared.alloc, frame);
+        kept_of_order(frame.len() as u64, cells as u64)
+    }
+
+    /// Notes what the order or the query names that goes out, where queries are entered that no operator wished for.
+    fn note_sent(&self, frame: &[u8]) {
+        if self.shared.options.query_ms == 0 {
+            return;
+        }
+        if let Some(named) = named_in(self.shared.alloc, frame) {
+            self.port.note_sent(self.rt, named, now_of(self.rt));
+        }
+    }
+
     /// Whether the order or the query goes out whose frame this is, as its entry is kept. It waits as long as it has to.
     fn let_out(&self, frame: &[u8], _kept: KeptUpTo) -> bool {
         for _ in self.rt.forever() {
@@ -53,8 +69,12 @@ impl<'a, L: Ledger, E: Write + Drop, C: Wait + Clock> LinkGate<'a, L, E, C> {
                 return false;
             }
             match self.port.send(self.rt, frame, now_of(self.rt)) {
-                Repeat::Go => return true,
+                Repeat::Go => {
+                    self.note_sent(frame);
+                    return true;
+                }
                 Repeat::Tell => {
+                    self.note_sent(frame);
                     self.tell_repeat(frame);
                     return true;
                 }
@@ -85,15 +105,23 @@ impl<'a, L: Ledger, E: Write + Drop, C: Wait + Clock> LinkGate<'a, L, E, C> {
 }
 
 impl<'a, L: Ledger, E: Write + Drop, C: Wait + Clock> Gate for LinkGate<'a, L, E, C> {
+    fn before_report<R: Wait>(&self, _rt: &R, load: Load) {
+        self.shared.begin_report(self.rt, self.port, load);
+    }
+
     fn pass<R: Wait>(&self, _rt: &R, _b: BscId, passage: Passage<'_>) -> bool {
-        self.shared.submitted(self.rt);
+        let kept = match passage {
+            Passage::Order(frame) => self.kept_of(frame),
+            Passage::Reply | Passage::Report => self.shared.end_report(self.rt, self.port),
+        };
+        self.shared.submitted_large(self.rt, kept);
         match passage {
             Passage::Order(frame) => match self.shared.wait_kept(self.rt) {
                 Some(kept) => self.let_out(frame, kept),
                 None => false,
             },
             Passage::Reply => {
-                self.port.answered(self.rt);
+                self.port.answered(self.rt, now_of(self.rt));
                 self.port.is_live(self.rt)
             }
             Passage::Report => self.let_in(),

@@ -6,7 +6,6 @@ use journal_file::DiskFile;
 use journal_keeper::{KeepFault, Keeper, keep_journal};
 use journal_office::OfficeJournal;
 use std::io::Write;
-use std::net::{Net, TcpListener, TcpStream};
 use std::sync::Wait;
 use std::sync::ledger::Ledger;
 use std::time::Clock;
@@ -20,17 +19,18 @@ fn words_of(fault: KeepFault) -> &'static [u8] {
 }
 
 /// Keeps the journal in the file until all is kept once it is to end. Where the file fails, this is said at once, and all links end.
-pub fn keep<
-    L: Ledger,
-    E: Write + Drop,
-    R: Wait + Clock + Net<Stream = TcpStream, Listener = TcpListener>,
->(rt: &R, shared: &Shared<L, E>, mut keeper: Keeper<DiskFile>) {
+pub fn keep<L: Ledger, E: Write + Drop, R: Wait + Clock>(
+    rt: &R,
+    shared: &Shared<L, E>,
+    mut keeper: Keeper<DiskFile>,
+) {
     let Some(kept) = &shared.kept else {
         return;
     };
     let journal = OfficeJournal {
         alloc: shared.alloc,
         office: &shared.office,
+        peers: shared,
     };
     if let Err(fault) = keep_journal(rt, &journal, kept, &mut keeper) {
         shared.errors.say(rt, words_of(fault));

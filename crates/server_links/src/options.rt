@@ -18,6 +18,11 @@ pub struct LinkOptions {
     pub cut_seconds: u32,
     /// After how many seconds without a word a BSC is sent a KEEP ALIVE, and whether one of its own is answered; 0 for never.
     pub alive_seconds: u32,
+    /// How long after the last order, query or reply for a warning a BSC is asked about it without an operator's wish, in milliseconds; 0
+    /// for never.
+    pub query_ms: u64,
+    /// How many such queries there are a second at most, over all BSCs.
+    pub queries_per_second: u32,
     /// From which addresses each BSC may come. `None` where that isn't told.
     pub peers: Mutex<Option<Peers>>,
     /// The file that says it.

@@ -100,6 +100,7 @@ fn read_link<L: Ledger, E: Write + Drop, R: Wait + Clock>(
         &mut source,
         &gate,
     );
+    shared.end_report(rt, port);
     SideEnd {
         end,
         broken: source.into_inner().broken(),

@@ -9,7 +9,7 @@ use centre_events::refusal::Refusal;
 use centre_past::reported::ReportedKeys;
 use journal_keeper::KeptUpTo;
 use link_resets::{EmergencyKey, emergency_keys, reset_frames};
-use link_worker::End;
+use link_worker::{End, Load};
 use office::desk::Desk;
 use office::question::Question;
 use office::seen::SeenValue;
@@ -23,6 +23,12 @@ use std::time::Clock;
 
 /// The Recovery Indication that data were lost (3GPP TS 48.049, 8.2.18).
 const DATA_LOST: u8 = 1;
+
+/// What it asks of the centre that all cells of a BSC restarted.
+const ALL: Load = Load {
+    octets: 0,
+    cells: None,
+};
 
 /// Submits that all cells of the BSC restarted without what they broadcast, for warnings of that Broadcast Message Type.
 fn submit_restart<L: Ledger, E: Write + Drop, R: Wait + Clock>(
@@ -42,8 +48,10 @@ fn submit_restart<L: Ledger, E: Write + Drop, R: Wait + Clock>(
         recovery: DATA_LOST,
     });
     let event = Event::Report(port.bsc, generation, restart);
+    shared.begin_report(rt, port, ALL);
     let result = shared.office.submit(rt, desk, event);
-    shared.submitted(rt);
+    let kept = shared.end_report(rt, port);
+    shared.submitted_large(rt, kept);
     result
 }
 

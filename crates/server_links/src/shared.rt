@@ -1,5 +1,6 @@
 //! What the threads of a server share.
 
+use crate::heavy_turn::HeavyTurn;
 use crate::options::LinkOptions;
 use centre_events::refusal::Refusal;
 use journal_keeper::{Kept, KeptUpTo, wait_kept};
@@ -26,6 +27,8 @@ pub struct Shared<L: Ledger, E: Drop> {
     pub options: LinkOptions,
     /// When the journal is folded. Who holds it folds it, so one thread does at a time.
     pub folds: Mutex<FoldPace>,
+    /// Which link has the turn of the heavy reports.
+    pub heavy_turn: HeavyTurn,
     /// How far the journal is kept in a file, where it is. Then the thread that keeps it folds it, where another asks for that.
     pub kept: Option<Kept<Result<u64, Refusal>>>,
     /// Whether a simulated BSC connects to each port.

@@ -19,7 +19,7 @@ const COUNT: u32 = 5;
 const USER_TIMEOUT: u32 = 100_000;
 
 /// A number, as the system has the value of an option.
-fn value_of(number: u32) -> [u8; 16] {
+pub(crate) fn value_of(number: u32) -> [u8; 16] {
     let [a, b, c, d] = number.to_le_bytes();
     let mut value = [0; 16];
     value[0] = a;

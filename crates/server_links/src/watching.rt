@@ -1,7 +1,7 @@
 //! The thread that looks for orders without a reply.
 
 use crate::shared::{Shared, now_of};
-use link_rules::Overdue;
+use link_rules::{Overdue, QueryTurns};
 use server_ports::{Port, Shut};
 use std::io::Write;
 use std::net::SocketAddr;
@@ -57,9 +57,12 @@ fn look_at_reset<L: Ledger, E: Write + Drop, R: Wait + Clock>(
 }
 
 /// Looks at all ports once a second until the server ends: an order, a query or a RESET that has no reply is said, and a link is cut
-/// where it has had none for too long.
+/// where it has had none for too long. Each time it is looked by which figures reports are charged, and queries are entered that are due
+/// without an operator's wish.
 pub fn watch<L: Ledger, E: Write + Drop, R: Wait + Clock>(rt: &R, shared: &Shared<L, E>) {
+    let mut turns = QueryTurns::new(shared.options.queries_per_second);
     for _ in rt.forever() {
+        shared.look_at_figures(rt);
         if shared.is_closed_within(rt, Duration::from_millis(PERIOD)) {
             return;
         }
@@ -68,6 +71,9 @@ pub fn watch<L: Ledger, E: Write + Drop, R: Wait + Clock>(rt: &R, shared: &Share
                 look_at_reply(rt, shared, port, &peer);
                 look_at_reset(rt, shared, port, &peer);
             }
+        }
+        if shared.options.query_ms != 0 {
+            shared.enter_queries(rt, &mut turns);
         }
     }
 }

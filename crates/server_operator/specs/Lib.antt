@@ -5,6 +5,7 @@ pub mod Edits
 pub mod Hearing
 pub mod Leavings
 pub mod Listing
+pub mod Periods
 pub mod Responding
 pub mod Saying
 pub mod Sequels

@@ -102,6 +102,9 @@ pub(crate) fn name_downs<L: Ledger, S: Server, R: Wait + Clock>(
     desk: &Desk<L>,
     warning: WarningId,
 ) {
+    if !operator.server.has_downs(rt) {
+        return;
+    }
     let Ok(seen) = operator.office.look(rt, desk, Question::Warning(warning)) else {
         return;
     };

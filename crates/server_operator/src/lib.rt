@@ -4,7 +4,7 @@
 //! Begin with `operator`, then `hearing`: what comes of a line by its octets. What a line of the console is answered is in `responding`:
 //! its edit in `edits`, its event in `submitting`, its question in `asking`. The edits of lines with a text are in `saying`, the lists in
 //! `listing`. How lines come in is in `reading` and `terminal`, how their answers are written in `delivering` and `batch`, and what is
-//! said of BSCs whose link is down in `downs`. What is promised of the office stands in `office`, what a line is in `server_lines`, and
+//! said of BSCs whose link is down in `downs`, and of BSCs of two repetition periods in `period_notices`. What is promised of the office stands in `office`, what a line is in `server_lines`, and
 //! what its answer is in `console_text`.
 #![tactic(auto)]
 
@@ -20,6 +20,8 @@ mod leaving;
 mod listed;
 mod listing;
 mod operator;
+mod period_notices;
+mod periods;
 mod reading;
 mod responding;
 mod said;

@@ -39,7 +39,8 @@ pub(crate) fn bscs_in(value: &SeenValue) -> &[BscRow]
     }
 }
 
-fn cells_in(value: &SeenValue) -> &[CellRow]
+/// The rows of cells that were seen, if cells were.
+pub(crate) fn cells_in(value: &SeenValue) -> &[CellRow]
     ensures { result.now ≡ cells_in value.now }
 {
     match value {
@@ -57,7 +58,8 @@ fn areas_in(value: &SeenValue) -> &[AreaRow]
     }
 }
 
-fn selectors_in(value: &SeenValue) -> &[Selector]
+/// The selectors that were seen, if selectors were.
+pub(crate) fn selectors_in(value: &SeenValue) -> &[Selector]
     ensures { result.now ≡ selectors_in value.now }
 {
     match value {
@@ -66,7 +68,8 @@ fn selectors_in(value: &SeenValue) -> &[Selector]
     }
 }
 
-fn warnings_in(value: &SeenValue) -> &[WarningRow]
+/// The rows of warnings that were seen, if warnings were.
+pub(crate) fn warnings_in(value: &SeenValue) -> &[WarningRow]
     ensures { result.now ≡ warnings_in value.now }
 {
     match value {

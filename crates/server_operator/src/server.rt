@@ -34,11 +34,26 @@ pub trait Server {
     /// Whether the BSC may connect, and no link of its is up.
     fn is_down<R: Wait>(&self, rt: &R, b: BscId) -> bool;
 
+    /// Whether that is so of any BSC. Where it is of none, none is asked for.
+    fn has_downs<R: Wait>(&self, _rt: &R) -> bool {
+        true
+    }
+
     /// Reads the list of peers again. The answer is what it says to the operator, with the end of its line.
     fn reread_peers<R: Wait + Clock>(&self, rt: &R) -> Result<String, AllocError>;
 
     /// When a RESET went out to the BSC that isn't answered, in seconds after 1970-01-01T00:00:00Z; `None` where none is out.
     fn reset_since<R: Wait>(&self, rt: &R, b: BscId) -> Option<u64>;
+
+    /// The warning was issued, updated or widened. It is wanted in cells of the BSC, and so is that other one of another repetition
+    /// period.
+    fn has_two_periods<R: Wait + Clock>(
+        &self,
+        rt: &R,
+        warning: WarningId,
+        b: BscId,
+        other: WarningId,
+    );
 
     /// The warning was stopped or updated, while the BSC is down and may have an older message of it on air.
     fn stays_on_air<R: Wait + Clock>(&self, rt: &R, warning: WarningId, b: BscId);

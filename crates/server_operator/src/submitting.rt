@@ -11,6 +11,8 @@ ghost use Rattle.server_operator.specs.Submitting.{IsCutAnswer, IsSubmitAnswer, 
 use crate::downs::name_downs;
 use crate::listed::bscs_in;
 use crate::operator::Operator;
+use crate::period_notices::name_periods;
+use crate::periods::placed_by;
 use crate::sequel::{Sequel, sequel_of};
 use crate::server::Server;
 use cell_register::BscId;
@@ -79,6 +81,9 @@ fn follow<L: Ledger, S: Server, R: Wait + Clock>(
         Sequel::Nothing => {}
         Sequel::Added(b) => operator.server.added(rt, b),
         Sequel::Changed(warning) => name_downs(rt, operator, desk, warning),
+    }
+    if let Some(warning) = placed_by(&receipt.event, &receipt.answer) {
+        name_periods(rt, operator, desk, warning);
     }
 }
 

@@ -1,7 +1,7 @@
 //! The ports of a server: one for each BSC, and what the threads of a port tell each other.
 //!
-//! Begin with `port`. `port_state` is what stands under its lock, `port_pace` how fast it goes on. Why a link ended is said by
-//! `link_end`, and found by `causes`. `outgoing` writes to a connection, and keeps why that
+//! Begin with `port`. `port_state` is what stands under its lock, `port_pace` how fast it goes on, `figures` what its reports are
+//! charged by. Why a link ended is said by `link_end`, and found by `causes`. `outgoing` writes to a connection, and keeps why that
 //! failed.
 #![tactic(auto)]
 
@@ -9,9 +9,12 @@ mod broken;
 mod causes;
 mod connection;
 mod ended;
+mod entered;
+mod figures;
 mod job;
 mod link_end;
 mod link_limits;
+mod named;
 mod outgoing;
 mod port;
 mod port_pace;
@@ -26,9 +29,12 @@ pub use broken::Broken;
 pub use causes::cause_of;
 pub use connection::Connection;
 pub use ended::Ended;
+pub use entered::Entered;
+pub use figures::Figures;
 pub use job::Job;
 pub use link_end::LinkEnd;
 pub use link_limits::LinkLimits;
+pub use named::Named;
 pub use outgoing::Outgoing;
 pub use port::Port;
 pub use port_pace::PortPace;

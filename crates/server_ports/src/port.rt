@@ -2,15 +2,21 @@
 
 use crate::connection::Connection;
 use crate::ended::Ended;
+use crate::entered::Entered;
+use crate::figures::Figures;
 use crate::job::Job;
+use crate::named::Named;
 use crate::port_pace::PortPace;
 use crate::port_state::PortState;
 use crate::shut::Shut;
 use crate::side_end::SideEnd;
 use cell_register::BscId;
-use link_rules::{AliveStep, Overdue, Repeat, Verdict};
+use libc::net::{SHUT_RDWR, shutdown};
+use link_rules::{AliveStep, Cost, Overdue, Query, Repeat, Verdict, Version};
+use link_worker::Load;
 use office::desk::Desk;
 use std::net::{IpAddr, SocketAddr, TcpListener, TcpStream};
+use std::os::fd::AsRawFd;
 use std::sync::ledger::Ledger;
 use std::sync::{Condvar, Mutex, Wait};
 
@@ -76,6 +82,11 @@ impl<L: Ledger> Port<L> {
     /// Where the link came from that is up, or is to come up.
     pub fn peer<R: Wait>(&self, rt: &R) -> Option<SocketAddr> {
         self.state.lock(rt).peer()
+    }
+
+    /// Where the link came from that has this generation, or is coming up, unless something has ended it.
+    pub fn peer_of<R: Wait>(&self, rt: &R, generation: u64) -> Option<SocketAddr> {
+        self.state.lock(rt).peer_of(generation)
     }
 
     /// The generation of the link that is up.
@@ -172,29 +183,29 @@ impl<L: Ledger> Port<L> {
         self.state.lock(rt).cut(generation)
     }
 
-    /// A thread begins to take connections. `false` where none is to be taken.
-    pub fn begin_accepting<R: Wait>(&self, rt: &R) -> bool {
-        self.state.lock(rt).begin_accepting()
-    }
-
-    /// No thread takes connections any more.
-    pub fn end_accepting<R: Wait>(&self, rt: &R) {
-        self.state.lock(rt).end_accepting();
-    }
-
-    /// Whether a thread takes connections.
-    pub fn is_accepting<R: Wait>(&self, rt: &R) -> bool {
-        self.state.lock(rt).is_accepting()
-    }
-
     /// Whether an order or a query may go out whose frame this is, or has to wait. Where it may, it is out from now on.
     pub fn send<R: Wait>(&self, rt: &R, frame: &[u8], now: u64) -> Repeat {
         self.pace.lock(rt).send(frame, now)
     }
 
+    /// An order or a query went out that names these.
+    pub fn note_sent<R: Wait>(&self, rt: &R, named: Named, now: u64) {
+        self.pace.lock(rt).note_sent(named, now);
+    }
+
     /// What was out is answered.
-    pub fn answered<R: Wait>(&self, rt: &R) {
-        self.pace.lock(rt).answered();
+    pub fn answered<R: Wait>(&self, rt: &R, now: u64) {
+        self.pace.lock(rt).answered(now);
+    }
+
+    /// The query that is due where these versions are on air and the link is idle, if one is. It counts as wished for from now on.
+    pub fn next_query<R: Wait>(&self, rt: &R, versions: &[Version], now: u64) -> Option<Query> {
+        self.pace.lock(rt).next_query(versions, now)
+    }
+
+    /// The query isn't wished for, since the link has something else to do.
+    pub fn unwish<R: Wait>(&self, rt: &R, query: Query, now: u64) {
+        self.pace.lock(rt).unwish(query, now);
     }
 
     /// A report came by which tables may change.
@@ -272,6 +283,36 @@ impl<L: Ledger> Port<L> {
         self.changed.notify_all();
     }
 
+    /// By which figures reports are charged from now on.
+    pub fn set_figures<R: Wait>(&self, rt: &R, figures: Figures) {
+        self.pace.lock(rt).set_figures(figures);
+    }
+
+    /// A report of that load is to come in. The answer is what it costs, which isn't charged yet.
+    pub fn begin_report<R: Wait>(&self, rt: &R, load: Load) -> Cost {
+        self.pace.lock(rt).begin_report(load)
+    }
+
+    /// Whether a report of that cost may come in now, which is charged then.
+    pub fn take_cost<R: Wait>(&self, rt: &R, cost: Cost, now: u64) -> bool {
+        self.pace.lock(rt).take_cost(cost, now)
+    }
+
+    /// The report has the turn of the heavy ones.
+    pub fn take_turn<R: Wait>(&self, rt: &R) {
+        self.pace.lock(rt).take_turn();
+    }
+
+    /// The report was submitted, or it is none any more. The answer is what was known of it.
+    pub fn end_report<R: Wait>(&self, rt: &R) -> Entered {
+        self.pace.lock(rt).end_report()
+    }
+
+    /// Whether it is to be said that reports are held back for what they cost.
+    pub fn is_first_cost<R: Wait>(&self, rt: &R) -> bool {
+        self.pace.lock(rt).costs().is_first()
+    }
+
     /// Whether a report may come in now, which is counted then.
     pub fn take_report<R: Wait>(&self, rt: &R, now: u64) -> bool {
         self.pace.lock(rt).reports().take(now)
@@ -327,9 +368,11 @@ impl<L: Ledger> Port<L> {
         self.state.lock(rt).end_simulated();
     }
 
-    /// Takes no further connection, and shuts those that are there.
+    /// Takes no further connection, and shuts those that are there. The port isn't listened on any more: whoever waits for a
+    /// connection to it goes on, and so does whoever waits later. This takes no descriptor, so it is done also where none is left.
     pub fn close<R: Wait>(&self, rt: &R) {
         self.state.lock(rt).close();
         self.changed.notify_all();
+        let _ = shutdown(self.listener.as_raw_fd(), SHUT_RDWR);
     }
 }

@@ -1,7 +1,14 @@
 //! How fast the links of a port go on.
 
+use crate::entered::Entered;
+use crate::figures::Figures;
 use crate::link_limits::LinkLimits;
-use link_rules::{AlivePace, AliveStep, Overdue, RateLimit, Repeat, Repeats, ReplyPace};
+use crate::named::Named;
+use link_rules::{
+    AlivePace, AliveStep, Cost, CostLimit, Overdue, Query, QueryPace, RateLimit, Repeat, Repeats,
+    ReplyPace, Version,
+};
+use link_worker::Load;
 use std::alloc::Global;
 
 /// The first octet of a MESSAGE STATUS QUERY (3GPP TS 48.049, 8.2.3).
@@ -14,6 +21,11 @@ pub struct PortPace {
     connections: RateLimit,
     /// Connections that are closed at once, each of which is said.
     closed: RateLimit,
+    /// What reports may cost, and by which figures they are charged.
+    costs: CostLimit,
+    figures: Figures,
+    /// The report that was let in last.
+    entered: Entered,
     /// Since when an order or a query is out.
     replies: ReplyPace,
     /// Since when a RESET is out.
@@ -23,34 +35,44 @@ pub struct PortPace {
     /// For how long nothing was read.
     alive: AlivePace,
     orders: Repeats,
+    /// Which queries are due that no operator wished for.
+    queries: QueryPace,
 }
 
 impl PortPace {
     /// That of a port to which nobody connected yet. What is out, a RESET too, is said after `reply_seconds`, and after `cut_seconds`
     /// the link is cut; 0 is never.
-    /// A BSC that says nothing is sent a KEEP ALIVE after `alive_seconds`, 0 for never.
+    /// A BSC that says nothing is sent a KEEP ALIVE after `alive_seconds`, 0 for never. Queries that no operator wished for are due after
+    /// `query_ms` milliseconds.
     pub fn new(
         alloc: Global,
         limits: LinkLimits,
         reply_seconds: u32,
         cut_seconds: u32,
         alive_seconds: u32,
+        query_ms: u64,
     ) -> PortPace {
         PortPace {
             reports: limits.reports,
             connections: limits.connections,
             closed: RateLimit::for_connections(),
+            costs: limits.costs,
+            figures: Figures::none(),
+            entered: Entered::none(),
             replies: ReplyPace::new(reply_seconds, cut_seconds),
             resets: ReplyPace::new(reply_seconds, cut_seconds),
             reset_second: 0,
             alive: AlivePace::new(alive_seconds, reply_seconds),
             orders: Repeats::new(alloc),
+            queries: QueryPace::new(alloc, query_ms),
         }
     }
 
-    /// An order or a query is to go out, whose frame this is. A query is never told or held: it comes of a wish.
+    /// An order or a query is to go out, whose frame this is. A query is never told or held: it comes of a wish. It is asked where no
+    /// order is pending, so the order before it has settled; that the same one goes out behind it may come of its answer.
     pub(crate) fn send(&mut self, frame: &[u8], now: u64) -> Repeat {
         let repeat = if frame.first() == Some(&STATUS_QUERY) {
+            self.orders.changed();
             Repeat::Go
         } else {
             self.orders.sent(frame, now)
@@ -61,9 +83,41 @@ impl PortPace {
         repeat
     }
 
+    /// An order or a query went out that names these. Where there is no memory for that, a query is due as before.
+    pub(crate) fn note_sent(&mut self, named: Named, now: u64) {
+        let _ = match named {
+            Named::Order(version) => self.queries.order(version, now),
+            Named::Query(version, last) => {
+                if self.queries.is_own(version) {
+                    self.replies.mark_own();
+                }
+                self.queries.ask(version, last, now)
+            }
+        };
+    }
+
     /// What was out is answered.
-    pub(crate) fn answered(&mut self) {
+    pub(crate) fn answered(&mut self, now: u64) {
         self.replies.answered();
+        let _ = self.queries.answered(now);
+    }
+
+    /// The query that is due where these versions are on air and the link is idle, if one is. It counts as wished for from now on, and
+    /// what was wished for before and hasn't gone out as asked in vain. Where memory runs out, none is due.
+    pub(crate) fn next_query(&mut self, versions: &[Version], now: u64) -> Option<Query> {
+        self.queries.pass_over(now).ok()?;
+        self.queries.keep_only(versions);
+        for version in versions {
+            self.queries.see(*version, now).ok()?;
+        }
+        let query = self.queries.due(now)?;
+        let _ = self.queries.wish(query, now);
+        Some(query)
+    }
+
+    /// The query isn't wished for, since the link has something else to do.
+    pub(crate) fn unwish(&mut self, query: Query, now: u64) {
+        let _ = self.queries.unwish(query, now);
     }
 
     /// A report came by which tables may change.
@@ -76,6 +130,7 @@ impl PortPace {
         self.replies.ended();
         self.resets.ended();
         self.orders.changed();
+        self.queries.begin();
         self.alive.begin(now);
     }
 
@@ -130,6 +185,41 @@ impl PortPace {
     /// The same, of a RESET.
     pub(crate) fn look_reset(&mut self, now: u64) -> Overdue {
         self.resets.look(now)
+    }
+
+    /// By which figures reports are charged from now on.
+    pub(crate) fn set_figures(&mut self, figures: Figures) {
+        self.figures = figures;
+    }
+
+    /// A report of that load is to come in. The answer is what it costs, which isn't charged yet.
+    pub(crate) fn begin_report(&mut self, load: Load) -> Cost {
+        let cost = self.figures.cost_of(load);
+        self.entered.kept = cost.kept;
+        self.entered.pause_ms = cost.pause_ms();
+        cost
+    }
+
+    /// Whether a report of that cost may come in now, which is charged then.
+    pub(crate) fn take_cost(&mut self, cost: Cost, now: u64) -> bool {
+        self.costs.take(cost, now)
+    }
+
+    /// The report has the turn of the heavy ones.
+    pub(crate) fn take_turn(&mut self) {
+        self.entered.had_turn = true;
+    }
+
+    /// The report was submitted, or it is none any more.
+    pub(crate) fn end_report(&mut self) -> Entered {
+        let entered = self.entered;
+        self.entered = Entered::none();
+        entered
+    }
+
+    /// What reports may cost.
+    pub(crate) fn costs(&mut self) -> &mut CostLimit {
+        &mut self.costs
     }
 
     /// How fast reports are let in.

@@ -17,8 +17,6 @@ use std::net::{IpAddr, Shutdown, SocketAddr, TcpStream};
 pub(crate) struct PortState {
     /// No further connection is taken.
     is_closing: bool,
-    /// A thread takes connections.
-    is_accepting: bool,
     /// The simulated BSC has to connect.
     is_simulated: bool,
     /// The next connection that gets the link.
@@ -35,7 +33,6 @@ impl PortState {
     pub(crate) fn new() -> PortState {
         PortState {
             is_closing: false,
-            is_accepting: false,
             is_simulated: false,
             next: None,
             link: None,
@@ -47,21 +44,6 @@ impl PortState {
 
     pub(crate) fn is_closing(&self) -> bool {
         self.is_closing
-    }
-
-    pub(crate) fn is_accepting(&self) -> bool {
-        self.is_accepting
-    }
-
-    /// A thread begins to take connections. `false` where none is to be taken.
-    pub(crate) fn begin_accepting(&mut self) -> bool {
-        self.is_accepting = !self.is_closing;
-        self.is_accepting
-    }
-
-    /// No thread takes connections any more.
-    pub(crate) fn end_accepting(&mut self) {
-        self.is_accepting = false;
     }
 
     /// Whether a link is up that nothing has ended.
@@ -79,6 +61,14 @@ impl PortState {
         }
         match &self.link {
             Some(link) if link.is_live => Some(link.connection.peer),
+            _ => None,
+        }
+    }
+
+    /// Where the link came from that has this generation, or is coming up, unless something has ended it.
+    pub(crate) fn peer_of(&self, generation: u64) -> Option<SocketAddr> {
+        match &self.link {
+            Some(link) if link.is_live && link.may_be(generation) => Some(link.connection.peer),
             _ => None,
         }
     }

@@ -26,6 +26,14 @@ impl UpLink {
         }
     }
 
+    /// Whether it has this generation, or isn't up yet.
+    pub(crate) fn may_be(&self, generation: u64) -> bool {
+        match self.generation {
+            Some(own) => own == generation,
+            None => true,
+        }
+    }
+
     /// Has both sides end. Why, is kept where nothing had ended it before.
     pub(crate) fn end(&mut self, shut: Option<Shut>) {
         if self.is_live && self.shut.is_none() {

@@ -231,6 +231,7 @@ bsc_metric_name of_bsc.Pending = codes "cbc_bsc_pending_orders"
 bsc_metric_name of_bsc.InFlight = codes "cbc_bsc_in_flight"
 bsc_metric_name of_bsc.Since = codes "cbc_bsc_in_flight_since_timestamp_seconds"
 bsc_metric_name of_bsc.Reset = codes "cbc_bsc_reset_since_timestamp_seconds"
+bsc_metric_name of_bsc.Down = codes "cbc_bsc_down_cells"
 
 -- what it is
 abbrev pub bsc_metric_help : BscMetric → List ℕ
@@ -240,6 +241,7 @@ bsc_metric_help of_bsc.Pending = codes "Messages that a BSC is still to write, r
 bsc_metric_help of_bsc.InFlight = codes "Orders and queries that are in flight to a BSC, one at most."
 bsc_metric_help of_bsc.Since = codes "When what is in flight to a BSC went out."
 bsc_metric_help of_bsc.Reset = codes "When the RESET went out that a BSC has not answered."
+bsc_metric_help of_bsc.Down = codes "Cells of a BSC that are down for some kind of warning."
 
 -- how many things are in flight
 abbrev pub one_if : {A : Type 0} → Option A → ℕ
@@ -254,6 +256,7 @@ bsc_metric_value of_bsc.Pending b = Some b.row.pending
 bsc_metric_value of_bsc.InFlight b = Some (one_if b.row.flight)
 bsc_metric_value of_bsc.Since b = b.since
 bsc_metric_value of_bsc.Reset b = b.reset
+bsc_metric_value of_bsc.Down b = b.down
 
 -- a sample of a metric of a BSC
 abbrev pub bsc_sample : List ℕ → ℕ → ℕ → List ℕ
@@ -272,14 +275,22 @@ bsc_line m b = bsc_sample_if (bsc_metric_name m) b.row.bsc (bsc_metric_value m b
 unfoldable pub bsc_metric_text : BscMetric → List BscFigures → List ℕ
 bsc_metric_text m bscs = head_text (bsc_metric_name m) (bsc_metric_help m) gauge ++ flat_map (bsc_line m) bscs
 
--- all metrics of the BSCs
-unfoldable pub bscs_text : List BscFigures → List ℕ
-bscs_text bscs =
+-- the metrics of their links, cells and orders
+unfoldable pub bsc_states_text : List BscFigures → List ℕ
+bsc_states_text bscs =
     bsc_metric_text of_bsc.LinkUp bscs
     ++ (bsc_metric_text of_bsc.Cells bscs
-    ++ (bsc_metric_text of_bsc.Pending bscs
-    ++ (bsc_metric_text of_bsc.InFlight bscs
-    ++ (bsc_metric_text of_bsc.Since bscs ++ bsc_metric_text of_bsc.Reset bscs))))
+    ++ (bsc_metric_text of_bsc.Down bscs ++ bsc_metric_text of_bsc.Pending bscs))
+
+-- the metrics of what is out to them
+unfoldable pub bsc_flights_text : List BscFigures → List ℕ
+bsc_flights_text bscs =
+    bsc_metric_text of_bsc.InFlight bscs
+    ++ (bsc_metric_text of_bsc.Since bscs ++ bsc_metric_text of_bsc.Reset bscs)
+
+-- all metrics of the BSCs
+unfoldable pub bscs_text : List BscFigures → List ℕ
+bscs_text bscs = bsc_states_text bscs ++ bsc_flights_text bscs
 
 -- The whole text.
 

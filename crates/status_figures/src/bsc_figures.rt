@@ -12,4 +12,6 @@ pub struct BscFigures {
     /// When a RESET went out over its link that it hasn't answered, in seconds after 1970-01-01T00:00:00Z. Until it has, no order
     /// goes out over the link.
     pub reset: Option<u64>,
+    /// How many of its cells are down for some kind of warning; `None` where that isn't known.
+    pub down: Option<u64>,
 }

@@ -2,7 +2,7 @@
 
 ghost use Rattle.std.specs.Prelude.{◌≡◌, ◌++◌, OnOk};
 ghost use Rattle.std.specs.List.{flat_map};
-ghost use Rattle.status_figures.specs.Metrics.{bsc_line, bsc_metric_help, bsc_metric_name, bsc_metric_text, bsc_metric_value, bsc_sample, bscs_text, one_if};
+ghost use Rattle.status_figures.specs.Metrics.{bsc_flights_text, bsc_line, bsc_metric_help, bsc_metric_name, bsc_metric_text, bsc_metric_value, bsc_sample, bsc_states_text, bscs_text, one_if};
 
 use crate::bsc_figures::BscFigures;
 use crate::samples::{flag, push_head};
@@ -19,6 +19,7 @@ pub(crate) enum BscMetric {
     InFlight,
     Since,
     Reset,
+    Down,
 }
 
 /// How many things are in flight.
@@ -42,6 +43,7 @@ impl BscMetric {
             BscMetric::InFlight => "cbc_bsc_in_flight",
             BscMetric::Since => "cbc_bsc_in_flight_since_timestamp_seconds",
             BscMetric::Reset => "cbc_bsc_reset_since_timestamp_seconds",
+            BscMetric::Down => "cbc_bsc_down_cells",
         }
     }
 
@@ -56,6 +58,7 @@ impl BscMetric {
             BscMetric::InFlight => "Orders and queries that are in flight to a BSC, one at most.",
             BscMetric::Since => "When what is in flight to a BSC went out.",
             BscMetric::Reset => "When the RESET went out that a BSC has not answered.",
+            BscMetric::Down => "Cells of a BSC that are down for some kind of warning.",
         }
     }
 
@@ -69,6 +72,7 @@ impl BscMetric {
             BscMetric::InFlight => Some(one_if(bsc.row.flight)),
             BscMetric::Since => bsc.since,
             BscMetric::Reset => bsc.reset,
+            BscMetric::Down => bsc.down,
         }
     }
 }
@@ -128,6 +132,27 @@ fn push_metric(
     push_lines(alloc, out, metric, bscs)
 }
 
+/// Appends the metrics of their links, cells and orders.
+#[tactic(auto, unfolding(crate::specs::Metrics::bsc_states_text))]
+fn push_states(alloc: Global, out: &mut Vec<u8>, bscs: &[BscFigures]) -> Result<(), AllocError>
+    ensures { OnOk result (out.new.items ≡ out.old.items ++ bsc_states_text bscs.now) }
+{
+    push_metric(alloc, out, BscMetric::LinkUp, bscs)?;
+    push_metric(alloc, out, BscMetric::Cells, bscs)?;
+    push_metric(alloc, out, BscMetric::Down, bscs)?;
+    push_metric(alloc, out, BscMetric::Pending, bscs)
+}
+
+/// Appends the metrics of what is out to them.
+#[tactic(auto, unfolding(crate::specs::Metrics::bsc_flights_text))]
+fn push_flights(alloc: Global, out: &mut Vec<u8>, bscs: &[BscFigures]) -> Result<(), AllocError>
+    ensures { OnOk result (out.new.items ≡ out.old.items ++ bsc_flights_text bscs.now) }
+{
+    push_metric(alloc, out, BscMetric::InFlight, bscs)?;
+    push_metric(alloc, out, BscMetric::Since, bscs)?;
+    push_metric(alloc, out, BscMetric::Reset, bscs)
+}
+
 /// Appends all metrics of the BSCs.
 #[tactic(auto, unfolding(crate::specs::Metrics::bscs_text))]
 pub(crate) fn push_bscs(
@@ -137,10 +162,6 @@ pub(crate) fn push_bscs(
 ) -> Result<(), AllocError>
     ensures { OnOk result (out.new.items ≡ out.old.items ++ bscs_text bscs.now) }
 {
-    push_metric(alloc, out, BscMetric::LinkUp, bscs)?;
-    push_metric(alloc, out, BscMetric::Cells, bscs)?;
-    push_metric(alloc, out, BscMetric::Pending, bscs)?;
-    push_metric(alloc, out, BscMetric::InFlight, bscs)?;
-    push_metric(alloc, out, BscMetric::Since, bscs)?;
-    push_metric(alloc, out, BscMetric::Reset, bscs)
+    push_states(alloc, out, bscs)?;
+    push_flights(alloc, out, bscs)
 }

@@ -1,7 +1,6 @@
 -- A BSC on the page.
-use Rattle.std.specs.Prelude.{ℕ, ◌-◌, List, [], ◌++◌, Option, Some, None, codes, count_by, decimal, if◌then◌else◌}
+use Rattle.std.specs.Prelude.{ℕ, ◌-◌, ◌==◌, List, [], ◌++◌, Option, Some, None, codes, count_by, decimal, if◌then◌else◌}
 use Rattle.std.specs.List.{flat_map}
-use Rattle.centre_past.specs.declared.lists.bsc_row.BscRow.{BscRow}
 use Rattle.centre_past.specs.declared.lists.flight_row.FlightRow.{FlightRow}
 use Rattle.status_figures.specs.Words.{flight_name, four_digits, is_in_service, link_word}
 use Rattle.status_figures.specs.declared.bsc_figures.BscFigures.{BscFigures}
@@ -45,9 +44,18 @@ cells_html count = codes "<p>cells <b>" ++ (decimal count ++ codes "</b></p>")
 unfoldable pub pending_html : ℕ → List ℕ
 pending_html count = codes "<p>pending <b>" ++ (decimal count ++ codes "</b></p>")
 
--- both
-unfoldable pub bsc_counts_html : BscRow → List ℕ
-bsc_counts_html r = cells_html r.cells ++ pending_html r.pending
+-- how many of its cells are down, where one is
+unfoldable pub down_html : ℕ → List ℕ
+down_html count = codes "<p class=\"down\">cells down <b>" ++ (decimal count ++ codes "</b></p>")
+
+-- the same, where that is known
+abbrev pub down_if : Option ℕ → List ℕ
+down_if None = []
+down_if (Some count) = if count == 0 then [] else down_html count
+
+-- its cells, those that are down, and its orders
+unfoldable pub bsc_counts_html : BscFigures → List ℕ
+bsc_counts_html b = cells_html b.row.cells ++ (down_if b.down ++ pending_html b.row.pending)
 
 -- a number of seconds
 unfoldable pub seconds_html : ℕ → List ℕ
@@ -75,7 +83,7 @@ bsc_html taken b =
     bsc_front taken b
     ++ (link_html b
     ++ (out_for taken b.reset
-    ++ (bsc_counts_html b.row ++ (flight_if taken b.row.flight b.since ++ piece_html piece.ArticleEnd))))
+    ++ (bsc_counts_html b ++ (flight_if taken b.row.flight b.since ++ piece_html piece.ArticleEnd))))
 
 -- a BSC, if it stands so
 abbrev pub bsc_if : ℕ → Standing → BscFigures → List ℕ

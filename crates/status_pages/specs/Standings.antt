@@ -50,10 +50,23 @@ is_busy b = is_some b.row.flight || (not (b.row.pending == 0) || is_some b.reset
 abbrev pub is_late : ℕ → BscFigures → Bool
 is_late taken b = is_long_out taken b.since || is_long_out taken b.reset
 
+-- so many cells are down, and these are all that there are, of which there is one
+abbrev pub are_all_down : ℕ → Option ℕ → Bool
+are_all_down cells None = false
+are_all_down cells (Some down) = not (cells == 0) && nat_le cells down
+
+-- the BSC has cells, and each is down: no warning of some kind can be broadcast there
+abbrev pub has_all_down : BscFigures → Bool
+has_all_down b = are_all_down b.row.cells b.down
+
+-- somebody has to look at the BSC: its link or all its cells are down, or it is late
+abbrev pub needs_look : ℕ → BscFigures → Bool
+needs_look taken b = not b.row.is_up || (has_all_down b || is_late taken b)
+
 -- how a BSC stands in a picture that was taken then
 unfoldable pub bsc_standing : ℕ → BscFigures → Standing
 bsc_standing taken b =
-    if not b.row.is_up || is_late taken b then Wrong
+    if needs_look taken b then Wrong
     else (if is_busy b then UnderWay else InOrder)
 
 -- the two are the same

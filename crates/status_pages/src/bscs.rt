@@ -2,13 +2,13 @@
 
 ghost use Rattle.std.specs.Prelude.{◌≡◌, ◌++◌, OnOk};
 ghost use Rattle.std.specs.List.{flat_map};
-ghost use Rattle.status_pages.specs.BscParts.{bsc_counts_html, bsc_front, bsc_html, bsc_if, bscs_html, bscs_section, bscs_title, cells_html, flight_html, flight_if, front_with, link_class, link_html, out_for, pending_html, seconds_html, some_bscs};
+ghost use Rattle.status_pages.specs.BscParts.{bsc_counts_html, bsc_front, bsc_html, bsc_if, bscs_html, bscs_section, bscs_title, cells_html, down_html, down_if, flight_html, flight_if, front_with, link_class, link_html, out_for, pending_html, seconds_html, some_bscs};
 
 use crate::piece::{Piece, push_piece};
 use crate::standing::Standing;
 use crate::standings::{bsc_standing, bsc_stands, count_bscs};
 use crate::warnings::{push_section_front, standing_class};
-use centre_past::lists::{BscRow, FlightRow};
+use centre_past::lists::FlightRow;
 use status_figures::{BscFigures, flight_name, four_digits, is_in_service, link_word};
 use std::alloc::{AllocError, Global};
 
@@ -83,13 +83,32 @@ fn push_pending(alloc: Global, out: &mut Vec<u8>, count: usize) -> Result<(), Al
     out.extend_from_slice(text.as_bytes())
 }
 
-/// Appends how many cells it has, and how many orders are pending for it.
-#[tactic(auto, unfolding(crate::specs::BscParts::bsc_counts_html))]
-fn push_bsc_counts(alloc: Global, out: &mut Vec<u8>, row: &BscRow) -> Result<(), AllocError>
-    ensures { OnOk result (out.new.items ≡ out.old.items ++ bsc_counts_html row.now) }
+#[tactic(auto, unfolding(crate::specs::BscParts::down_html))]
+fn push_down(alloc: Global, out: &mut Vec<u8>, count: u64) -> Result<(), AllocError>
+    ensures { OnOk result (out.new.items ≡ out.old.items ++ down_html count) }
 {
-    push_cells(alloc, out, row.cells)?;
-    push_pending(alloc, out, row.pending)
+    let text = format!(in alloc; "<p class=\"down\">cells down <b>{count}</b></p>")?;
+    out.extend_from_slice(text.as_bytes())
+}
+
+/// Appends how many of its cells are down, where that is known and one is.
+fn push_down_if(alloc: Global, out: &mut Vec<u8>, down: Option<u64>) -> Result<(), AllocError>
+    ensures { OnOk result (out.new.items ≡ out.old.items ++ down_if down) }
+{
+    match down {
+        None | Some(0) => Ok(()),
+        Some(count) => push_down(alloc, out, count),
+    }
+}
+
+/// Appends how many cells it has, how many of these are down, and how many orders are pending for it.
+#[tactic(auto, unfolding(crate::specs::BscParts::bsc_counts_html))]
+fn push_bsc_counts(alloc: Global, out: &mut Vec<u8>, bsc: &BscFigures) -> Result<(), AllocError>
+    ensures { OnOk result (out.new.items ≡ out.old.items ++ bsc_counts_html bsc.now) }
+{
+    push_cells(alloc, out, bsc.row.cells)?;
+    push_down_if(alloc, out, bsc.down)?;
+    push_pending(alloc, out, bsc.row.pending)
 }
 
 fn push_out_for(
@@ -155,7 +174,7 @@ fn push_bsc(
     push_front(alloc, out, taken, bsc)?;
     push_link(alloc, out, bsc)?;
     push_out_for(alloc, out, taken, bsc.reset)?;
-    push_bsc_counts(alloc, out, &bsc.row)?;
+    push_bsc_counts(alloc, out, bsc)?;
     push_flight_if(alloc, out, taken, bsc.row.flight, bsc.since)?;
     push_piece(out, Piece::ArticleEnd)
 }

@@ -1,7 +1,7 @@
 //! How warnings and BSCs stand.
 
 ghost use Rattle.std.specs.Prelude.{◌≡◌, count_by};
-ghost use Rattle.status_pages.specs.Standings.{are_moving, bsc_standing, bsc_stands, is_busy, is_late, is_long_out, is_nowhere, is_same, is_stuck, is_under_way, is_wrong, warning_standing, warning_stands};
+ghost use Rattle.status_pages.specs.Standings.{are_moving, bsc_standing, bsc_stands, are_all_down, has_all_down, is_busy, is_late, is_long_out, is_nowhere, is_same, is_stuck, is_under_way, is_wrong, needs_look, warning_standing, warning_stands};
 
 use crate::standing::Standing;
 use centre_past::lists::WarningRow;
@@ -77,12 +77,36 @@ fn is_late(taken: u64, bsc: &BscFigures) -> bool
     is_long_out(taken, bsc.since) || is_long_out(taken, bsc.reset)
 }
 
+/// Whether so many cells are down, and these are all that there are, of which there is one.
+fn are_all_down(cells: usize, down: Option<u64>) -> bool
+    ensures { result ≡ are_all_down cells down }
+{
+    match down {
+        None => false,
+        Some(down) => cells != 0 && cells as u64 <= down,
+    }
+}
+
+/// Whether the BSC has cells, and each is down.
+fn has_all_down(bsc: &BscFigures) -> bool
+    ensures { result ≡ has_all_down bsc.now }
+{
+    are_all_down(bsc.row.cells, bsc.down)
+}
+
+/// Whether somebody has to look at the BSC: its link or all its cells are down, or it is late.
+fn needs_look(taken: u64, bsc: &BscFigures) -> bool
+    ensures { result ≡ needs_look taken bsc.now }
+{
+    !bsc.row.is_up || (has_all_down(bsc) || is_late(taken, bsc))
+}
+
 /// How a BSC stands in a picture that was taken then.
 #[tactic(auto, unfolding(crate::specs::Standings::bsc_standing))]
 pub(crate) fn bsc_standing(taken: u64, bsc: &BscFigures) -> Standing
     ensures { result ≡ bsc_standing taken bsc.now }
 {
-    if !bsc.row.is_up || is_late(taken, bsc) {
+    if needs_look(taken, bsc) {
         Standing::Wrong
     } else if is_busy(bsc) {
         Standing::UnderWay

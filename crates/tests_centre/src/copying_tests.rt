@@ -6,8 +6,7 @@ use areas::Selector;
 use cell_register::BscId;
 use centre_events::in_flight::InFlight;
 use centre_past::kept::Kept;
-use centre_past::link::Link;
-use centre_past::links::flight_in;
+use centre_past::links::{flight_in, generation};
 use centre_past::up_or_down::UpOrDown;
 use common::Cells;
 use coverage_plan::Edit;
@@ -46,21 +45,17 @@ fn query(rt: &impl Abort, alloc: Global) -> InFlight {
 
 /// The BSC's link is up, a query is in flight to it, and its cell is down.
 fn reports(rt: &impl Abort, alloc: Global, kept: &mut Kept, b: BscId) {
-    let link = Link {
-        bsc: b,
-        generation: 5,
-        state: UpOrDown::Up {
-            flight: Some(query(rt, alloc)),
-        },
+    let up = UpOrDown::Up {
+        flight: Some(query(rt, alloc)),
     };
-    kept.links.push(link).expect(rt, "memory");
+    kept.links.put(b, 5, up).expect(rt, "memory");
     let set = kept.tables.set_down(Kind::Cbs, b, SEVEN, true);
     set.expect(rt, "memory");
 }
 
 /// Whether the query is in flight to the BSC.
 fn has_query(rt: &impl Abort, alloc: Global, kept: &Kept, b: BscId) -> bool {
-    match flight_in(kept.links.as_slice(), b) {
+    match flight_in(&kept.links, b) {
         Some(flight) => flight.same(&query(rt, alloc)),
         None => false,
     }
@@ -75,7 +70,7 @@ fn is_whole(rt: &impl Abort, alloc: Global, kept: &Kept, b: BscId) {
     yes(rt, is_covered, "the area");
     let is_active = kept.plan.book().is_active(first_id());
     yes(rt, is_active, "the warning");
-    yes(rt, kept.links.len() == 1, "the link");
+    same(rt, generation(&kept.links, b), 5, "the link");
     yes(rt, has_query(rt, alloc, kept, b), "the query");
     let is_down = kept.tables.lines().is_down(Kind::Cbs, b, SEVEN);
     yes(rt, is_down, "the cell is down");
@@ -85,7 +80,7 @@ fn is_whole(rt: &impl Abort, alloc: Global, kept: &Kept, b: BscId) {
 fn is_undone(rt: &impl Abort, kept: &mut Kept, b: BscId) {
     makes(rt, kept, Edit::RemoveCell(SEVEN));
     makes(rt, kept, Edit::Stop(first_id()));
-    kept.links.clear();
+    kept.links.take_out(b);
     let set = kept.tables.set_down(Kind::Cbs, b, SEVEN, false);
     set.expect(rt, "memory");
 }

@@ -5,7 +5,7 @@ ghost use Rattle.std.specs.Prelude.{◌≡◌, None};
 use crate::checks::{same, yes};
 use journal_file::{
     DiskFile, Heading, JournalFile, LoadFault, Loaded, NotTaken, OpenFault, TakeLine, Writing,
-    header, load,
+    append_all, header, load,
 };
 use std::alloc::Global;
 use std::fs;
@@ -28,6 +28,8 @@ impl TakeLine for Count {
         self.0 = self.0.saturating_add(1);
         Ok(())
     }
+
+    fn take_comment(&mut self, _line: &[u8]) {}
 }
 
 /// What is found in the file, and how many of its lines are taken.
@@ -72,12 +74,11 @@ fn a_file_keeps_its_lines_and_is_cut(rt: HostRuntime) {
         "an empty file",
     );
     same(&rt, taken, 0, "it has no lines");
-    put(
-        &rt,
-        alloc,
-        &mut file,
-        &[header(HEADING).as_slice(), b"bsc add 1", b"up 1"],
-    );
+    let first = header(HEADING);
+    let both = append_all(&mut file, first.as_slice()).is_ok()
+        && append_all(&mut file, b"\n").is_ok();
+    yes(&rt, both, "the first line");
+    put(&rt, alloc, &mut file, &[b"bsc add 1", b"up 1"]);
     yes(&rt, file.append(b"down").is_ok(), "a torn line");
     drop(file);
     let mut file = DiskFile::open(&rt, path).expect(&rt, "it is opened again");

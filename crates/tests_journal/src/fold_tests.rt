@@ -11,12 +11,12 @@ use coverage_plan::Edit;
 use framing::Failed;
 use journal_file::{JournalFile, MemoryFile, Writing};
 use journal_keeper::{KeepFault, Keeper, Kept, keep_journal};
-use journal_office::OfficeJournal;
+use journal_office::{NoPeers, OfficeJournal};
 use link_rules::FoldPace;
 use office::desk::Desk;
 use office::office::Office;
 use server_errors::Errors;
-use server_links::{LinkOptions, Shared};
+use server_links::{HeavyTurn, LinkOptions, Shared};
 use std::alloc::Global;
 use std::io::{Error, ErrorKind, Write};
 use std::marker::Brand;
@@ -98,10 +98,13 @@ fn shared_of<L: Ledger, E: Write + Drop>(
             reply_seconds: 0,
             cut_seconds: 0,
             alive_seconds: 0,
+            query_ms: 0,
+            queries_per_second: 2,
             peers: Mutex::new(None),
             peers_file: None,
         },
         folds: Mutex::new(FoldPace::new(4_000_000, LIMIT)),
+        heavy_turn: HeavyTurn::new(),
         kept: Some(Kept::new(0)),
         with_simulator: false,
         closing: Mutex::new(false),
@@ -127,6 +130,7 @@ fn keeps<L: Ledger, E: Write + Drop, R: Wait + Clock>(
     let journal = OfficeJournal {
         alloc: shared.alloc,
         office: &shared.office,
+        peers: &NoPeers,
     };
     keep_journal(rt, &journal, kept, &mut keeper)
 }

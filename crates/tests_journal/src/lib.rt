@@ -11,9 +11,13 @@ mod fold_tests;
 #[cfg(test)]
 mod given_journal;
 #[cfg(test)]
+mod heavy_turn_tests;
+#[cfg(test)]
 mod keeper_tests;
 #[cfg(test)]
 mod operator_tests;
+#[cfg(test)]
+mod peer_tests;
 #[cfg(test)]
 mod restart_tests;
 #[cfg(test)]

@@ -66,6 +66,14 @@ impl Server for Ending {
         None
     }
 
+    fn has_two_periods<R: Wait + Clock>(
+        &self,
+        _rt: &R,
+        _warning: WarningId,
+        _b: BscId,
+        _other: WarningId,
+    ) {}
+
     fn stays_on_air<R: Wait + Clock>(&self, _rt: &R, _warning: WarningId, _b: BscId) {}
 }
 

@@ -232,12 +232,56 @@ fn a_file_that_is_cut_at_any_octet_begins_again(rt: HostRuntime) {
 }
 
 #[test]
+fn comments_are_passed_over_at_a_start(rt: HostRuntime) {
+    let alloc = rt.alloc();
+    let octets = b"# cbc journal, network 00f110
+# of another kind
+bsc add 1
+up 1
+# link 1 192.0.2.7:40001
+# link 1 nowhere
+#
+send 1
+"
+        .as_slice();
+    let found = found_at_start(&rt, alloc, 1000, 900, octets);
+    same(
+        &rt,
+        found.result,
+        Err(LoadFault::BadLine(8)),
+        "nothing is due, so the line that isn't accepted is the eighth",
+    );
+    let octets = octets
+        .strip_suffix(b"send 1\n".as_slice())
+        .unwrap_or(octets);
+    let found = found_at_start(&rt, alloc, 1000, 900, octets);
+    let whole = octets.len() as u64;
+    same(
+        &rt,
+        found.result,
+        Ok(Loaded {
+            lines: 7,
+            whole,
+            torn: 0,
+        }),
+        "all is read",
+    );
+    same(&rt, found.entries, 2, "no comment is entered");
+    same(
+        &rt,
+        found.added.as_slice(),
+        b"down 1\n".as_slice(),
+        "and the link is lost",
+    );
+}
+
+#[test]
 fn what_is_no_event_stops_the_start(rt: HostRuntime) {
     let alloc = rt.alloc();
     let rows: [&[u8]; 9] = [
         b"quit",
         b"board 1",
-        b"# a comment",
+        b" # a comment that doesn't begin the line",
         b"",
         b"rx 1 02",
         b"rx 1 020000060e111203c000",

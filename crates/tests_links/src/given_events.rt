@@ -48,7 +48,7 @@ fn the_coast(rt: &impl Abort, alloc: Global) -> Names {
 }
 
 /// A page of four octets.
-fn content(rt: &impl Abort, alloc: Global) -> Content {
+pub(crate) fn content(rt: &impl Abort, alloc: Global) -> Content {
     let page = Vec::from_slice(alloc, &[0xd4, 0xf2, 0x9c, 0x0e]).expect(rt, "memory");
     let mut pages = Vec::new(alloc);
     pages.push(Octets::from_vec(page)).expect(rt, "memory");

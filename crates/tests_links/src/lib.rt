@@ -27,7 +27,11 @@ mod office_tests;
 #[cfg(test)]
 mod orders_in_turn_tests;
 #[cfg(test)]
+mod own_wish_tests;
+#[cfg(test)]
 mod passage_tests;
+#[cfg(test)]
+mod period_tests;
 #[cfg(test)]
 mod picture_tests;
 #[cfg(test)]
@@ -38,6 +42,8 @@ mod saying_tests;
 mod sending_tests;
 #[cfg(test)]
 mod two_links_tests;
+#[cfg(test)]
+mod two_waits_tests;
 #[cfg(test)]
 mod waiting_tests;
 #[cfg(test)]

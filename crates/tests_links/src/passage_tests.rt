@@ -1,5 +1,5 @@
-//! What no clause says of the sides of a link: that the gate is told of each report whether it answered what was in flight, and of each
-//! order its frame, before it is written.
+//! What no clause says of the sides of a link: that the gate is asked before each report with what it asks of the centre, and told
+//! after it whether it answered what was in flight, and of each order its frame, before it is written.
 
 ghost use Rattle.std.specs.Prelude.{◌≡◌};
 
@@ -8,7 +8,7 @@ use crate::given_link::{COMPLETE, LINK, ORDER, STREAM, first_bsc, linked};
 use cell_register::BscId;
 use framing::faulty::FailsAfter;
 use framing::{FromRead, FromWrite};
-use link_worker::{End, Gate, Passage, read_side, write_side};
+use link_worker::{End, Gate, Load, Passage, read_side, write_side};
 use office::desk::Desk;
 use office::office::Office;
 use std::alloc::Global;
@@ -18,13 +18,17 @@ use std::process::Abort;
 use std::sync::ledger::{Blank, Ledger};
 use std::sync::{Mutex, Wait};
 
-/// How many orders with the first order's frame, other orders, replies and other reports passed.
+/// How many orders with the first order's frame, other orders, replies and other reports passed. How many reports were asked for before
+/// they passed, once all before them had passed; their octets, and how many of them may name any number of cells.
 #[derive(Clone, Copy, Debug, PartialEq, Eq)]
 struct Passed {
     orders: u32,
     others: u32,
     replies: u32,
     reports: u32,
+    asked: u32,
+    octets: usize,
+    any: u32,
 }
 
 const NOTHING: Passed = Passed {
@@ -32,6 +36,9 @@ const NOTHING: Passed = Passed {
     others: 0,
     replies: 0,
     reports: 0,
+    asked: 0,
+    octets: 0,
+    any: 0,
 };
 
 /// A gate that counts what passes.
@@ -57,7 +64,25 @@ fn counted(passed: Passed, passage: Passage<'_>) -> Passed {
     more
 }
 
+/// With one that is asked for.
+fn asked(passed: Passed, load: Load) -> Passed {
+    let mut more = passed;
+    if passed.asked == passed.replies.saturating_add(passed.reports) {
+        more.asked = passed.asked.saturating_add(1);
+    }
+    more.octets = passed.octets.saturating_add(load.octets);
+    if load.cells.is_none() {
+        more.any = passed.any.saturating_add(1);
+    }
+    more
+}
+
 impl Gate for Counts {
+    fn before_report<R: Wait>(&self, rt: &R, load: Load) {
+        let mut passed = self.passed.lock(rt);
+        *passed = asked(*passed, load);
+    }
+
     fn pass<R: Wait>(&self, rt: &R, _b: BscId, passage: Passage<'_>) -> bool {
         let mut passed = self.passed.lock(rt);
         *passed = counted(*passed, passage);
@@ -124,9 +149,7 @@ fn a_gate_is_told_what_passes(rt: HostRuntime) {
     let (written, read) = passes::<Brand, _>(&rt, rt.alloc(), Blank::new(1025));
     let order = Passed {
         orders: 1,
-        others: 0,
-        replies: 0,
-        reports: 0,
+        ..NOTHING
     };
     same(&rt, written, order, "an order");
     let reports = Passed {
@@ -134,6 +157,9 @@ fn a_gate_is_told_what_passes(rt: HostRuntime) {
         others: 0,
         replies: 1,
         reports: 2,
+        asked: 3,
+        octets: 40,
+        any: 1,
     };
     same(
         &rt,

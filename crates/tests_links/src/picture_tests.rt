@@ -33,6 +33,7 @@ fn pictured<L: Ledger, R: Wait + Abort>(rt: &R, alloc: Global, office: &Office<L
         taken: 0,
         sinces: Vec::new(alloc),
         resets: Vec::new(alloc),
+        downs: Vec::new(alloc),
         kept: None,
         memory: None,
     };

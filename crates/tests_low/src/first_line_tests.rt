@@ -32,69 +32,71 @@ fn the_first_line_names_the_network_and_the_broadcasts(rt: HostRuntime) {
     }
 }
 
+/// Files that are read with a number of broadcasts: what is taken of them, and what is found.
+const READ: &[(u16, &[u8], &[u8], Loaded)] = &[
+    (
+        65_535,
+        b"# cbc journal, network 00f110, broadcasts 65535\nup 1\n",
+        b"up 1\n",
+        Loaded {
+            lines: 2,
+            whole: 53,
+            torn: 0,
+        },
+    ),
+    (
+        1,
+        b"# cbc journal, network 00f110, broadcasts 1\nup",
+        b"",
+        Loaded {
+            lines: 1,
+            whole: 44,
+            torn: 2,
+        },
+    ),
+    // what a torn write leaves of the first line
+    (
+        65_535,
+        b"# cbc journal, network 00f110",
+        b"",
+        Loaded {
+            lines: 0,
+            whole: 0,
+            torn: 29,
+        },
+    ),
+    (
+        65_535,
+        b"# cbc journal, network 00f110, broadcasts 655\0\0",
+        b"",
+        Loaded {
+            lines: 0,
+            whole: 0,
+            torn: 47,
+        },
+    ),
+    (
+        65_535,
+        b"# cbc journal, network 00f110, broadcasts 65535",
+        b"",
+        Loaded {
+            lines: 0,
+            whole: 0,
+            torn: 47,
+        },
+    ),
+];
+
 #[test]
 fn a_file_with_that_number_of_broadcasts_is_read(rt: HostRuntime) {
-    let rows: [(u16, &[u8], &[u8], Loaded); 5] = [
-        (
-            65_535,
-            b"# cbc journal, network 00f110, broadcasts 65535\nup 1\n",
-            b"up 1\n",
-            Loaded {
-                lines: 2,
-                whole: 53,
-                torn: 0,
-            },
-        ),
-        (
-            1,
-            b"# cbc journal, network 00f110, broadcasts 1\nup",
-            b"",
-            Loaded {
-                lines: 1,
-                whole: 44,
-                torn: 2,
-            },
-        ),
-        // what a torn write leaves of the first line
-        (
-            65_535,
-            b"# cbc journal, network 00f110",
-            b"",
-            Loaded {
-                lines: 0,
-                whole: 0,
-                torn: 29,
-            },
-        ),
-        (
-            65_535,
-            b"# cbc journal, network 00f110, broadcasts 655\0\0",
-            b"",
-            Loaded {
-                lines: 0,
-                whole: 0,
-                torn: 47,
-            },
-        ),
-        (
-            65_535,
-            b"# cbc journal, network 00f110, broadcasts 65535",
-            b"",
-            Loaded {
-                lines: 0,
-                whole: 0,
-                torn: 47,
-            },
-        ),
-    ];
-    for (broadcasts, octets, taken, want) in rows {
+    for (broadcasts, octets, taken, want) in READ {
         finds(
             &rt,
             rt.alloc(),
-            heading(broadcasts),
+            heading(*broadcasts),
             octets,
             taken,
-            Ok(want),
+            Ok(*want),
         );
     }
 }

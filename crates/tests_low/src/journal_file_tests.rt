@@ -5,32 +5,32 @@ ghost use Rattle.std.specs.Prelude.{◌≡◌, None};
 use crate::values::{same, yes};
 use framing::FromRead;
 use framing::faulty::{FailsAtRead, InPieces};
-use journal_file::{
-    Heading, LoadFault, Loaded, MemoryFile, NotTaken, PutFault, TakeLine, Writing, load,
-};
+use journal_file::{Heading, LoadFault, Loaded, MemoryFile, NotTaken, TakeLine, Writing, load};
 use std::alloc::Global;
 use std::process::Abort;
 
 /// The network 001-01 (TS 24.008), and broadcasts until a message is killed.
-const HEADING: Heading = Heading {
+pub(crate) const HEADING: Heading = Heading {
     plmn: [0x00, 0xf1, 0x10],
     broadcasts: 0,
 };
 
 /// The first line of its journal.
-const HEADER: &[u8] = b"# cbc journal, network 00f110";
+pub(crate) const HEADER: &[u8] = b"# cbc journal, network 00f110";
 
-/// Takes each line but `no`, and joins those that it took, each with a line feed.
+/// Takes each line but `no`, and joins those that it took, each with a line feed, and the comments that it saw.
 #[derive(Drop)]
-struct Lines {
-    octets: Vec<u8>,
+pub(crate) struct Lines {
+    pub(crate) octets: Vec<u8>,
+    pub(crate) seen: Vec<u8>,
     no: &'static [u8],
 }
 
 impl Lines {
-    fn new(alloc: Global) -> Lines {
+    pub(crate) fn new(alloc: Global) -> Lines {
         Lines {
             octets: Vec::new(alloc),
+            seen: Vec::new(alloc),
             no: b"no",
         }
     }
@@ -45,6 +45,12 @@ impl TakeLine for Lines {
         }
         let both = self.octets.extend_from_slice(line).is_ok() && self.octets.push(b'\n').is_ok();
         if both { Ok(()) } else { Err(NotTaken::Memory) }
+    }
+
+    fn take_comment(&mut self, line: &[u8]) {
+        if self.seen.extend_from_slice(line).is_ok() {
+            let _ = self.seen.push(b'\n');
+        }
     }
 }
 
@@ -89,7 +95,7 @@ pub(crate) fn finds(
     }
 }
 
-fn joined(rt: &impl Abort, alloc: Global, parts: &[&[u8]]) -> Vec<u8> {
+pub(crate) fn joined(rt: &impl Abort, alloc: Global, parts: &[&[u8]]) -> Vec<u8> {
     let mut octets = Vec::new(alloc);
     for part in parts {
         octets.extend_from_slice(part).expect(rt, "memory");
@@ -265,13 +271,17 @@ fn a_read_that_fails_is_told(rt: HostRuntime) {
 /// What was put, in its order.
 const ENTRIES: [&[u8]; 5] = [b"bsc add 1", b"cell add 1 7 8", b"up 1", b"", b"send 1"];
 
-/// Puts the entries, and a fold behind the third, keeps them two at a time, and says after which octets of the file how many
+/// Where the link came from, as a comment.
+const PEER: &[u8] = b"# link 1 192.0.2.7:40001";
+
+/// Puts the entries, and a comment and a fold behind the third, keeps them two at a time, and says after which octets of the file how many
 /// entries were kept. It ends where the file fails.
 fn follow(rt: &impl Abort, alloc: Global, file: &mut MemoryFile) -> Writing {
     let mut writing = Writing::new(alloc, 7);
     for (index, line) in ENTRIES.iter().enumerate() {
         writing.put_entry(line).expect(rt, "the line is put");
         if index == 2 {
+            writing.put_comment(PEER).expect(rt, "the comment is put");
             writing.put_fold().expect(rt, "the fold is put");
         }
         if index % 2 == 1 && writing.keep(file).is_err() {
@@ -282,8 +292,12 @@ fn follow(rt: &impl Abort, alloc: Global, file: &mut MemoryFile) -> Writing {
     writing
 }
 
-/// The lines that the file has in the end, without the first.
+/// The lines that the file has in the end, without the first and the comment.
 const ALL: &[u8] = b"bsc add 1\ncell add 1 7 8\nup 1\ncheckpoint\n\nsend 1\n";
+
+/// The same lines with the comment.
+const WRITTEN: &[u8] =
+    b"bsc add 1\ncell add 1 7 8\nup 1\n# link 1 192.0.2.7:40001\ncheckpoint\n\nsend 1\n";
 
 /// How many octets the lines have of the entries up to a place, with the fold behind the third.
 fn octets_to(place: u64) -> usize {
@@ -303,12 +317,18 @@ fn survives(rt: &impl Abort, alloc: Global, room: usize, syncs: usize) {
     let octets = joined(rt, alloc, &[HEADER, b"\n"]);
     let mut file = MemoryFile::new(octets, room, syncs);
     let writing = follow(rt, alloc, &mut file);
-    for lost in 0..=ALL.len() {
+    for lost in 0..=WRITTEN.len() {
         let left = file.after_crash(alloc, lost).expect(rt, "memory");
         let mut lines = Lines::new(alloc);
         let mut source = FromRead::new(left.as_slice());
         let found = load(alloc, HEADING, &mut source, &mut lines);
         yes(rt, found.is_ok(), "the file is a journal");
+        let comment = lines.seen.as_slice();
+        yes(
+            rt,
+            comment.is_empty() || comment == b"# link 1 192.0.2.7:40001\n".as_slice(),
+            "a comment is seen whole",
+        );
         yes(
             rt,
             ALL.starts_with(lines.octets.as_slice()),
@@ -325,7 +345,7 @@ fn survives(rt: &impl Abort, alloc: Global, room: usize, syncs: usize) {
 #[test]
 fn a_crash_at_each_octet_leaves_what_is_synced(rt: HostRuntime) {
     let alloc = rt.alloc();
-    for room in 0..=ALL.len() {
+    for room in 0..=WRITTEN.len() {
         survives(&rt, alloc, room, 3);
     }
     for syncs in 0..3 {
@@ -338,7 +358,7 @@ fn the_lines_stand_in_their_order(rt: HostRuntime) {
     let alloc = rt.alloc();
     let mut file = MemoryFile::new(Vec::new(alloc), 100, 3);
     let writing = follow(&rt, alloc, &mut file);
-    same(&rt, &file.octets(), &ALL, "the lines of the file");
+    same(&rt, &file.octets(), &WRITTEN, "the lines of the file");
     same(&rt, &writing.synced(), &12, "the synced place");
     same(&rt, &writing.taken(), &12, "the place of the last entry");
     same(&rt, &writing.has_failed(), &false, "nothing failed");
@@ -364,36 +384,4 @@ fn a_file_that_failed_stays_failed(rt: HostRuntime) {
         "nothing is written any more",
     );
     same(&rt, &writing.synced(), &0, "no entry is kept");
-}
-
-#[test]
-fn a_line_that_would_be_two_is_refused(rt: HostRuntime) {
-    let alloc = rt.alloc();
-    let mut writing = Writing::new(alloc, u64::MAX - 1);
-    same(
-        &rt,
-        &writing.put_entry(b"up 1\ndown 1"),
-        &Err(PutFault::BadLine),
-        "a line feed within",
-    );
-    let long = vec![in alloc; b'x'; 600_001].expect(&rt, "memory");
-    same(
-        &rt,
-        &writing.put_entry(long.as_slice()),
-        &Err(PutFault::BadLine),
-        "a long line",
-    );
-    same(
-        &rt,
-        &writing.put_entry(b"up 1"),
-        &Ok(()),
-        "the last entry that has a place",
-    );
-    same(
-        &rt,
-        &writing.put_entry(b"up 1"),
-        &Err(PutFault::Full),
-        "no place is left",
-    );
-    same(&rt, &writing.waiting(), &5, "one line waits");
 }

@@ -18,9 +18,13 @@ mod frame_tests;
 #[cfg(test)]
 mod journal_file_tests;
 #[cfg(test)]
+mod kept_line_tests;
+#[cfg(test)]
 mod link_rule_tests;
 #[cfg(test)]
 mod message_tests;
+#[cfg(test)]
+mod query_tests;
 #[cfg(test)]
 mod register_tests;
 #[cfg(test)]

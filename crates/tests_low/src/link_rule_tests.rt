@@ -1,10 +1,10 @@
-//! What no clause says of the rules of links: that a whole BSC may restart without waiting, that a flood is held back, that a frame is
-//! kept where there is memory for it, and which texts are lists of peers.
+//! What no clause says of the rules of links: that a whole BSC may restart without waiting, that a flood is held back, by its number and
+//! by what it costs, that a frame is kept where there is memory for it, and which texts are lists of peers.
 
 use crate::values::{bsc, same, yes};
 use link_rules::{
-    AlivePace, AliveStep, FoldPace, Overdue, Peers, PeersFault, RateLimit, Repeat, Repeats,
-    ReplyPace, Verdict, decide,
+    AlivePace, AliveStep, Cost, CostLimit, FoldPace, Overdue, Peers, PeersFault, RateLimit, Repeat,
+    Repeats, ReplyPace, Verdict, decide, kept_of_order,
 };
 use std::alloc::Global;
 use std::net::{IpAddr, Ipv4Addr};
@@ -46,6 +46,74 @@ fn a_link_is_said_to_be_held_back_once(rt: HostRuntime) {
     yes(&rt, limit.is_first(), "it is said again");
 }
 
+/// How many of so many reports of this cost may come in at that time.
+fn affords(limit: &mut CostLimit, cost: Cost, now_ms: u64, most: u32) -> u32 {
+    for taken in 0..most {
+        if !limit.take(cost, now_ms) {
+            return taken;
+        }
+    }
+    most
+}
+
+/// The largest BSC, of 65,536 cells where there are 256 warnings, fails and restarts without waiting: as a whole, and cell by cell.
+#[test]
+fn a_whole_bsc_may_restart_whatever_it_costs(rt: HostRuntime) {
+    let mut limit = CostLimit::for_reports();
+    let whole = Cost::of(8, None, 65_536, 256);
+    yes(&rt, affords(&mut limit, whole, 0, 4) == 4, "as a whole");
+    let mut limit = CostLimit::for_reports();
+    let cell = Cost::of(12, Some(1), 65_536, 256);
+    let cells = affords(&mut limit, cell, 0, 131_072);
+    yes(&rt, cells == 131_072, "cell by cell");
+}
+
+/// A BSC of 1,000 cells where there are 64 warnings restarts a hundred times, and answers 64 orders each time by lists of its cells.
+#[test]
+fn a_busy_bsc_is_never_held_back(rt: HostRuntime) {
+    let mut limit = CostLimit::for_reports();
+    let restart = Cost::of(8, None, 1_000, 64);
+    let reply = Cost::of(9_040, Some(0), 1_000, 64);
+    for _ in 0..100 {
+        yes(&rt, affords(&mut limit, restart, 0, 4) == 4, "a restart");
+        let replies = affords(&mut limit, reply, 0, 64);
+        yes(&rt, replies == 64, "its replies");
+    }
+}
+
+/// Reports of 64,000 octets that name 16,000 cells of nobody: 1,000 come in at once, and then one in 3.2 seconds.
+#[test]
+fn large_reports_are_held_back(rt: HostRuntime) {
+    let mut limit = CostLimit::for_reports();
+    let large = Cost::of(64_000, Some(16_000), 0, 0);
+    yes(&rt, large.is_heavy(), "it is heavy");
+    let taken = affords(&mut limit, large, 7, 5_000);
+    yes(&rt, taken == 1_000, "those at once");
+    yes(&rt, limit.is_first(), "it is said");
+    yes(&rt, !limit.is_first(), "once");
+    yes(&rt, !limit.take(large, 3_206), "it waits");
+    yes(&rt, limit.take(large, 3_207), "3.2 seconds");
+    let later = affords(&mut limit, large, 35_207, 5_000);
+    yes(&rt, later == 10, "those of 32 seconds");
+}
+
+/// A BSC of 1,000 cells that flaps where there are 100 warnings: 101,000 lines a report.
+#[test]
+fn a_bsc_that_flaps_is_held_back(rt: HostRuntime) {
+    let mut limit = CostLimit::for_reports();
+    let flap = Cost::of(8, None, 1_000, 100);
+    yes(&rt, flap.is_heavy(), "it is heavy");
+    yes(&rt, flap.pause_ms() == 10, "others have 10 ms after it");
+    let taken = affords(&mut limit, flap, 0, 5_000);
+    yes(&rt, taken == 712, "those at once");
+    let small = Cost::of(12, Some(1), 1_000, 100);
+    yes(&rt, !small.is_heavy(), "a report of one cell isn't");
+    let cells = affords(&mut limit, small, 0, 5_000);
+    yes(&rt, cells == 871, "the 88,000 lines that are left");
+    yes(&rt, !limit.take(flap, 5_048), "it waits");
+    yes(&rt, limit.take(flap, 5_049), "five seconds later");
+}
+
 fn looks(rt: &impl Abort, pace: &mut ReplyPace, now_ms: u64, want: Overdue) {
     same(rt, &pace.look(now_ms), &want, "what is overdue");
 }
@@ -85,6 +153,25 @@ fn a_link_without_a_reply_is_cut(rt: HostRuntime) {
     let mut never = ReplyPace::new(0, 0);
     never.sent(0);
     looks(&rt, &mut never, 9_000_000, Overdue::No);
+}
+
+/// A query that no operator wished for cuts its link where a reply would only be said to be overdue, and an order behind it doesn't.
+#[test]
+fn an_own_query_without_a_reply_cuts_its_link(rt: HostRuntime) {
+    let mut pace = ReplyPace::new(20, 0);
+    pace.sent(0);
+    pace.mark_own();
+    looks(&rt, &mut pace, 19_999, Overdue::No);
+    looks(&rt, &mut pace, 20_000, Overdue::Cut { seconds: 20 });
+    pace.answered();
+    looks(&rt, &mut pace, 20_000, Overdue::No);
+    pace.sent(30_000);
+    looks(&rt, &mut pace, 50_000, Overdue::Tell { seconds: 20 });
+    let mut unsaid = ReplyPace::new(0, 0);
+    unsaid.sent(0);
+    unsaid.mark_own();
+    looks(&rt, &mut unsaid, 29_999, Overdue::No);
+    looks(&rt, &mut unsaid, 30_000, Overdue::Cut { seconds: 30 });
 }
 
 /// What is to be done about a BSC that says nothing, while nothing else is out.
@@ -266,13 +353,33 @@ fn a_text_that_is_no_list_is_refused(rt: HostRuntime) {
 #[test]
 fn a_fold_is_due_with_its_entries(rt: HostRuntime) {
     let mut pace = FoldPace::new(3, 100_000);
-    yes(&rt, !pace.count(), "one entry");
-    yes(&rt, !pace.count(), "two");
-    yes(&rt, pace.count(), "three");
+    yes(&rt, !pace.count(0), "one entry");
+    yes(&rt, !pace.count(0), "two");
+    yes(&rt, pace.count(0), "three");
     yes(&rt, pace.is_due(3), "it is due");
     yes(&rt, pace.put_off(), "it is said");
     yes(&rt, !pace.is_due(1_002), "it is put off");
     yes(&rt, pace.is_due(1_003), "it is due again");
     pace.fold();
     yes(&rt, !pace.is_due(2), "it was folded");
+}
+
+/// Large reports and orders bring the fold earlier: each 64 octets count as an entry.
+#[test]
+fn a_fold_is_due_by_large_frames(rt: HostRuntime) {
+    let mut pace = FoldPace::new(3, 100_000);
+    yes(&rt, !pace.count(63), "one entry");
+    yes(&rt, pace.count(64), "two entries and one");
+    yes(&rt, pace.is_due(2), "it is due");
+    pace.fold();
+    yes(&rt, !pace.count(0), "it was folded");
+    let mut pace = FoldPace::new(100_000, 4_000_000);
+    for _ in 0..96 {
+        yes(&rt, !pace.count(66_560), "96 of 65 kB");
+    }
+    yes(&rt, pace.count(66_560), "97 of them");
+    let page = kept_of_order(116, 1);
+    yes(&rt, page == 35, "an order with a page for a cell is small");
+    let whole = kept_of_order(4_112, 1_000);
+    yes(&rt, whole == 7_028, "one for 1,000 cells isn't");
 }

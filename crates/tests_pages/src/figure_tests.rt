@@ -87,6 +87,8 @@ cbc_bsc_link_up{bsc="12"} 0
 # TYPE cbc_bsc_cells gauge
 cbc_bsc_cells{bsc="1"} 9
 cbc_bsc_cells{bsc="12"} 9
+# HELP cbc_bsc_down_cells Cells of a BSC that are down for some kind of warning.
+# TYPE cbc_bsc_down_cells gauge
 # HELP cbc_bsc_pending_orders Messages that a BSC is still to write, replace or kill, one in flight too.
 # TYPE cbc_bsc_pending_orders gauge
 cbc_bsc_pending_orders{bsc="1"} 2

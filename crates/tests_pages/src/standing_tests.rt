@@ -66,6 +66,19 @@ const FAILED: Wanted = Wanted {
     stuck: false,
 };
 
+/// A stopped warning that is nowhere, where nothing is to do, and where somebody has to look at a BSC.
+const QUIET: Wanted = Wanted {
+    word: b"<header class=\"good\"><h1>ALL IN ORDER</h1>",
+    title: b"<section class=\"off\"><h2>Stopped warnings <b>1</b></h2>",
+    stuck: false,
+};
+
+const QUIET_WRONG: Wanted = Wanted {
+    word: b"<header class=\"bad\"><h1>ATTENTION</h1>",
+    title: b"<section class=\"off\"><h2>Stopped warnings <b>1</b></h2>",
+    stuck: false,
+};
+
 /// The page says that of the warning.
 fn says(
     rt: &impl Abort,
@@ -163,6 +176,68 @@ fn a_reset_without_an_answer_is_shown(rt: HostRuntime) {
     yes(&rt, has(found.as_slice(), up), "whether the link is up");
     let since = b"cbc_bsc_reset_since_timestamp_seconds{bsc=\"1\"} 1764309093\n";
     yes(&rt, has(found.as_slice(), since), "since when");
+}
+
+/// A BSC that is up and has 9 cells, of which so many are down.
+fn with_down(rt: &impl Abort, count: Option<u64>) -> BscFigures {
+    let mut figures = up(rt, None, 0);
+    figures.down = count;
+    figures
+}
+
+/// Nothing is on air anywhere, so no warning can say what is wrong with a BSC.
+#[test]
+fn a_bsc_whose_cells_are_down_is_not_in_order(rt: HostRuntime) {
+    let alloc = rt.alloc();
+    let none = numbers(0, 0, 0, 0);
+    let rows = [
+        (None, QUIET, "not known"),
+        (Some(0), QUIET, "no cell"),
+        (Some(8), QUIET, "all but one"),
+        (Some(9), QUIET_WRONG, "all cells"),
+        (Some(10), QUIET_WRONG, "one that was taken out since"),
+    ];
+    for (count, want, at) in rows {
+        says(&rt, alloc, None, none, &[with_down(&rt, count)], want, at);
+    }
+    let mut empty = with_down(&rt, Some(0));
+    empty.row.cells = 0;
+    says(
+        &rt,
+        alloc,
+        None,
+        none,
+        &[empty],
+        QUIET,
+        "a BSC without cells",
+    );
+    says(
+        &rt,
+        alloc,
+        None,
+        none,
+        &[down(&rt, 0)],
+        QUIET_WRONG,
+        "a link that is down",
+    );
+}
+
+#[test]
+fn cells_that_are_down_are_shown(rt: HostRuntime) {
+    let alloc = rt.alloc();
+    let none = numbers(0, 0, 0, 0);
+    let picture = picture_of_one(&rt, alloc, None, none, &[with_down(&rt, Some(9))]);
+    let found = page(alloc, &picture).expect(&rt, "memory");
+    let bsc =
+        b"<h2>BSCs to look at <b>1</b></h2><div><article id=\"b1\" class=\"b bad\"><h3>BSC 1</h3><p class=\"up\">link up</p><p>cells <b>9</b></p><p class=\"down\">cells down <b>9</b></p><p>pending <b>0</b></p></article>";
+    yes(&rt, has(found.as_slice(), bsc), "the BSC on the page");
+    let found = metrics(alloc, &picture).expect(&rt, "memory");
+    let down = b"cbc_bsc_down_cells{bsc=\"1\"} 9\n";
+    yes(&rt, has(found.as_slice(), down), "the metric");
+    let picture = picture_of_one(&rt, alloc, None, none, &[with_down(&rt, Some(0))]);
+    let found = page(alloc, &picture).expect(&rt, "memory");
+    let cells = b"<p>cells <b>9</b></p><p>pending <b>0</b></p>";
+    yes(&rt, has(found.as_slice(), cells), "no cell is down");
 }
 
 #[test]

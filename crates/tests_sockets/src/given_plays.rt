@@ -9,6 +9,7 @@ use crate::peer::{PATIENCE, connected, fails, gets, is_closed, next_frame, sends
 use crate::text_files::TextFiles;
 use centre_events::network::Network;
 use console_text::options::{FOLD, MOST_ENTRIES};
+use link_rules::Cost;
 use server::{PeersSource, ServeOptions, serve, serve_words};
 use server_errors::{line_text, utc_text};
 use server_ports::LinkLimits;
@@ -27,7 +28,7 @@ use std::time::{Clock, Duration, SystemTime};
 const MOST_LOOKS: u32 = 20_000;
 
 /// For so many milliseconds after the start of a server whose limits are spent nothing more is let in.
-const HELD: u64 = 2_000;
+const HELD: u64 = 4_000;
 
 /// What the operator does, or a peer. Peers are numbered from 0, in the order in which they connect.
 pub(crate) enum Act {
@@ -86,14 +87,35 @@ pub(crate) enum Base {
     Named,
 }
 
+/// What each port has had already.
+#[derive(Clone, Copy)]
+pub(crate) struct Spent {
+    pub(crate) reports: u32,
+    pub(crate) connections: u32,
+    /// How many octets its reports had, and how many lines they cost.
+    pub(crate) octets: u64,
+    pub(crate) lines: u64,
+}
+
+/// Nothing.
+pub(crate) const UNSPENT: Spent = Spent {
+    reports: 0,
+    connections: 0,
+    octets: 0,
+    lines: 0,
+};
+
 /// A run of the server, and how it ends.
 #[derive(Clone, Copy)]
 pub(crate) struct Play {
     /// The words of its command line behind `cbc serve` and the port.
     pub(crate) words: &'static [&'static str],
     pub(crate) base: Base,
-    /// Instead of the words: two BSCs may connect, and each port has had so many reports and connections already.
-    pub(crate) spent: Option<(u32, u32)>,
+    /// Instead of the words: two BSCs may connect, and each port has had so much already.
+    pub(crate) spent: Option<Spent>,
+    /// Unless 0, instead of the words: two BSCs may connect, each is asked so many milliseconds after it was last heard of a warning how
+    /// often that was broadcast, and a reply is overdue after two seconds.
+    pub(crate) query_ms: u64,
     /// What is done while it runs.
     pub(crate) acts: &'static [Act],
     pub(crate) status: u8,
@@ -108,6 +130,7 @@ pub(crate) const USUAL: Play = Play {
     words: &[],
     base: Base::Free,
     spent: None,
+    query_ms: 0,
     acts: &[],
     status: 0,
     answers: Wanted::Any,
@@ -378,16 +401,22 @@ fn add_word(rt: &impl Abort, alloc: Global, words: &mut Vec<String>, word: &str)
     words.push(word).expect(rt, "memory");
 }
 
-/// Limits of which so many reports and connections are spent, as if that were `HELD` from now.
-fn spent_limits<R: Abort + Clock>(rt: &R, reports: u32, connections: u32) -> LinkLimits {
+/// Limits of which so much is spent, as if that were `HELD` from now.
+fn spent_limits<R: Abort + Clock>(rt: &R, spent: Spent) -> LinkLimits {
     let now = moment(rt).saturating_add(HELD);
     let mut limits = LinkLimits::usual();
-    for _ in 0..reports {
+    for _ in 0..spent.reports {
         limits.reports.take(now);
     }
-    for _ in 0..connections {
+    for _ in 0..spent.connections {
         limits.connections.take(now);
     }
+    let cost = Cost {
+        octets: spent.octets,
+        lines: spent.lines,
+        kept: 0,
+    };
+    limits.costs.take(cost, now);
     limits
 }
 
@@ -408,6 +437,8 @@ fn limited(rt: &impl Abort, alloc: Global, base: u16, limits: LinkLimits) -> Ser
         reply_seconds: 30,
         cut_seconds: 0,
         alive_seconds: 0,
+        query_ms: 0,
+        queries_per_second: 2,
         peers: None,
         keep: None,
         console: None,
@@ -415,6 +446,14 @@ fn limited(rt: &impl Abort, alloc: Global, base: u16, limits: LinkLimits) -> Ser
         consoles: 16,
         limits,
     }
+}
+
+/// The options of a server that asks after so many milliseconds.
+fn asking(rt: &impl Abort, alloc: Global, base: u16, query_ms: u64) -> ServeOptions {
+    let mut options = limited(rt, alloc, base, LinkLimits::usual());
+    options.query_ms = query_ms;
+    options.reply_seconds = 2;
+    options
 }
 
 /// The options of the play's server, where words don't say them.
@@ -425,10 +464,11 @@ fn options_of<R: Abort + Clock>(
     base: u16,
 ) -> Option<ServeOptions> {
     match play.spent {
-        Some((reports, connections)) => {
-            let limits = spent_limits(rt, reports, connections);
+        Some(spent) => {
+            let limits = spent_limits(rt, spent);
             Some(limited(rt, alloc, base, limits))
         }
+        None if play.query_ms != 0 => Some(asking(rt, alloc, base, play.query_ms)),
         None => None,
     }
 }

@@ -18,11 +18,11 @@ use std::time::Clock;
 
 /// A file that a server is given, what stands there before its run, where it is there, and after it.
 #[derive(Clone, Copy)]
-struct Kept {
-    path: &'static str,
-    before: Option<&'static str>,
-    after: &'static str,
-    play: Play,
+pub(crate) struct Kept {
+    pub(crate) path: &'static str,
+    pub(crate) before: Option<&'static str>,
+    pub(crate) after: &'static str,
+    pub(crate) play: Play,
 }
 
 /// What stands in the file is the text.
@@ -32,7 +32,7 @@ fn stands<R: Abort + Files + Alloc<A = Global>>(rt: &R, path: &str, text: &str) 
 }
 
 /// Runs the server over the file.
-fn keeps<
+pub(crate) fn keeps<
     R: Abort
         + Alloc<A = Global>
         + Clock

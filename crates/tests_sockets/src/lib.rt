@@ -21,11 +21,15 @@ mod given_texts;
 #[cfg(test)]
 mod keep_tests;
 #[cfg(test)]
+mod knock_tests;
+#[cfg(test)]
 mod link_tests;
 #[cfg(test)]
 mod operator_tests;
 #[cfg(test)]
 mod peer;
+#[cfg(test)]
+mod query_tests;
 #[cfg(test)]
 mod reset_tests;
 #[cfg(test)]

@@ -1,6 +1,6 @@
 //! What no clause says of the links of a server: which connection gets the link, and that a bad peer harms no other.
 
-use crate::given_plays::{Act, Play, USUAL, played};
+use crate::given_plays::{Act, Play, Spent, UNSPENT, USUAL, played};
 use crate::given_texts::Wanted;
 
 /// The type of a WRITE-REPLACE.
@@ -196,7 +196,10 @@ fn reports_that_are_held_back_are_not_lost(rt: HostRuntime) {
 }
 
 const HELD_BACK: Play = Play {
-    spent: Some((139_995, 0)),
+    spent: Some(Spent {
+        reports: 139_995,
+        ..UNSPENT
+    }),
     acts: &[
         Act::Lines(CELLS, 35),
         Act::Connects(1, 1),
@@ -219,6 +222,62 @@ const HELD_BACK: Play = Play {
     ..USUAL
 };
 
+/// Reports that cost too much are held back, and none is lost. Meanwhile another BSC goes on: its two replies have 35 octets. Three
+/// reports of the first have 33.
+#[test]
+fn reports_that_cost_too_much_are_not_lost(rt: HostRuntime) {
+    played(&rt, rt.alloc(), &COSTS_TOO_MUCH);
+}
+
+const COSTS_TOO_MUCH: Play = Play {
+    spent: Some(Spent {
+        octets: 63_999_960,
+        ..UNSPENT
+    }),
+    acts: &[
+        Act::Lines(CELLS, 35),
+        Act::Connects(1, 1),
+        Act::Says("link 36 is up"),
+        Act::Connects(1, 2),
+        Act::Says("link 37 is up"),
+        Act::Fails(0, 30),
+        Act::Says("its reports are held back: they cost too much"),
+        Act::Lines(ISSUE, 1),
+        Act::Answers(1, WRITE, FIRST),
+        Act::Lines("update 1 15 0 30 d4\n", 1),
+        Act::Answers(1, WRITE, SECOND),
+        Act::Unlike("board 1\n", ALL_FAILED),
+        Act::Repeats("board 1\n", ALL_FAILED),
+        Act::Lines("quit\n", 0),
+    ],
+    answers: Wanted::Settled("100"),
+    ..USUAL
+};
+
+/// A report of all cells costs a line for each cell of its BSC. How many these are is looked up once a second.
+#[test]
+fn a_report_of_all_cells_is_charged_by_their_number(rt: HostRuntime) {
+    played(&rt, rt.alloc(), &ALL_CELLS_COST);
+}
+
+const ALL_CELLS_COST: Play = Play {
+    spent: Some(Spent {
+        lines: 71_999_971,
+        ..UNSPENT
+    }),
+    acts: &[
+        Act::Lines(CELLS, 35),
+        Act::Connects(1, 1),
+        Act::Says("link 36 is up"),
+        Act::Rests(1_500),
+        Act::Sends(0, RESTARTS, 1),
+        Act::Says("its reports are held back: they cost too much"),
+        Act::Lines("quit\n", 0),
+    ],
+    answers: Wanted::Settled("100"),
+    ..USUAL
+};
+
 /// Connections that come too fast are held back, and get the link later.
 #[test]
 fn connections_that_are_held_back_get_the_link(rt: HostRuntime) {
@@ -226,7 +285,10 @@ fn connections_that_are_held_back_get_the_link(rt: HostRuntime) {
 }
 
 const TOO_FAST: Play = Play {
-    spent: Some((0, 99)),
+    spent: Some(Spent {
+        connections: 99,
+        ..UNSPENT
+    }),
     acts: &[
         Act::Types("bsc add 1\n", "ok 1\n"),
         Act::Connects(1, 1),

@@ -25,7 +25,7 @@ use centre_events::in_flight::InFlight;
 use centre_events::naming::names_one;
 use centre_events::refusal::Refusal;
 use centre_events::replying::id_of;
-use centre_past::link::Link;
+use centre_past::kept_links::KeptLinks;
 use centre_past::links::flight_in;
 use coverage_plan::Plan;
 use kept_tables::KeptTables;
@@ -51,7 +51,7 @@ fn flight_names(flight: Option<&InFlight>, w: &Warning) -> bool
 }
 
 /// Whether what is in flight to one of the BSCs does.
-fn is_flying(links: &[Link], w: &Warning, bscs: &[BscId]) -> bool
+fn is_flying(links: &KeptLinks, w: &Warning, bscs: &[BscId]) -> bool
     ensures { result ≡ is_flying links.now w.now bscs.now }
 {
     bscs.iter()
@@ -60,7 +60,7 @@ fn is_flying(links: &[Link], w: &Warning, bscs: &[BscId]) -> bool
 
 /// Whether what is in flight anywhere does.
 #[tactic(auto, using(crate::proofs::IdleLemmas::flying_is))]
-fn is_in_flight(register: &Register, links: &[Link], w: &Warning) -> bool
+fn is_in_flight(register: &Register, links: &KeptLinks, w: &Warning) -> bool
     ensures { (settings : Settings) (past : Past) → Legal settings past → IsRegisterOf past register.now → AreLinksOf past links.now → result ≡ is_in_flight past w.now }
 {
     is_flying(links, w, register.bscs())
@@ -69,7 +69,7 @@ fn is_in_flight(register: &Register, links: &[Link], w: &Warning) -> bool
 /// Whether nothing of the warning, which isn't active, is on air or in flight.
 fn check_idle(
     register: &Register,
-    links: &[Link],
+    links: &KeptLinks,
     tables: &KeptTables,
     w: &Warning,
 ) -> Result<(), Refusal>
@@ -88,7 +88,7 @@ fn check_idle(
 /// is read, and no memory is taken.
 pub(crate) fn check_forget(
     plan: &Plan,
-    links: &[Link],
+    links: &KeptLinks,
     tables: &KeptTables,
     number: WarningId,
 ) -> Result<(), Refusal>

@@ -14,7 +14,7 @@ use crate::events::Verdict;
 use cell_register::{BscId, Register};
 use centre_events::answer::Answer;
 use centre_events::refusal::Refusal;
-use centre_past::link::Link;
+use centre_past::kept_links::KeptLinks;
 use centre_past::links::{generation as last_link, is_up};
 
 /// Retry: orders again what a BSC refused.
@@ -39,7 +39,7 @@ pub(crate) fn link_up(register: &Register, b: BscId, place: u64) -> Verdict
 
 /// Whether the link of this generation is the latest of its BSC, and up.
 pub(crate) fn check_link(
-    links: &[Link],
+    links: &KeptLinks,
     register: &Register,
     b: BscId,
     generation: u64,
@@ -61,7 +61,7 @@ pub(crate) fn check_link(
 }
 
 /// Whether the link of the BSC is down, so that the BSC can be taken out.
-pub(crate) fn check_down(links: &[Link], b: BscId) -> Result<(), Refusal>
+pub(crate) fn check_down(links: &KeptLinks, b: BscId) -> Result<(), Refusal>
     ensures { (past : Past) → AreLinksOf past links.now → IsFirst (own_causes past (edit.RemoveBsc b)) result }
 {
     if is_up(links, b) {
@@ -71,7 +71,12 @@ pub(crate) fn check_down(links: &[Link], b: BscId) -> Result<(), Refusal>
 }
 
 /// LinkDown: the link of this generation is lost.
-pub(crate) fn link_down(links: &[Link], register: &Register, b: BscId, generation: u64) -> Verdict
+pub(crate) fn link_down(
+    links: &KeptLinks,
+    register: &Register,
+    b: BscId,
+    generation: u64,
+) -> Verdict
     ensures { (past : Past) → IsRegisterOf past register.now → AreLinksOf past links.now → result ≡ link_down past b generation }
 {
     check_link(links, register, b, generation)?;

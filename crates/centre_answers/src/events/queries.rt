@@ -119,8 +119,8 @@ pub(crate) fn ask(
     let Some(warning) = kept.plan.book().find(number) else {
         return Err(Refusal::NoSuchWarning);
     };
-    check_link(kept.links.as_slice(), kept.plan.register(), b, generation)?;
-    if flight_in(kept.links.as_slice(), b).is_some() {
+    check_link(&kept.links, kept.plan.register(), b, generation)?;
+    if flight_in(&kept.links, b).is_some() {
         return Err(Refusal::InFlight);
     }
     warning_query(alloc, &mut kept.tables, b, warning, after)

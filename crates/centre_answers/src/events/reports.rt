@@ -100,8 +100,8 @@ pub(crate) fn report(
 ) -> Verdict
     ensures { (settings : Settings) (past : Past) → Legal settings past → IsKept past kept.now → AreKnownOf past kept.now.tables.lines kept.now.plan.register → Gives (report network past b generation message.now) result }
 {
-    check_link(kept.links.as_slice(), kept.plan.register(), b, generation)?;
-    let flight = flight_in(kept.links.as_slice(), b);
+    check_link(&kept.links, kept.plan.register(), b, generation)?;
+    let flight = flight_in(&kept.links, b);
     if is_out_of_place(message, flight) {
         return Err(Refusal::NoOrder);
     }

@@ -25,7 +25,7 @@ use centre_events::in_flight::InFlight;
 use centre_events::naming::names_serial;
 use centre_events::refusal::Refusal;
 use centre_events::replying::id_of;
-use centre_past::link::Link;
+use centre_past::kept_links::KeptLinks;
 use centre_past::links::flight_in;
 use centre_past::telling::tell_lines;
 use kept_tables::KeptTables;
@@ -76,7 +76,7 @@ fn names_version(flight: Option<&InFlight>, message_id: u16, serial: Serial) -> 
 }
 
 /// Whether what is in flight to one of the BSCs does.
-fn is_key_flying(links: &[Link], message_id: u16, serial: Serial, bscs: &[BscId]) -> bool
+fn is_key_flying(links: &KeptLinks, message_id: u16, serial: Serial, bscs: &[BscId]) -> bool
     ensures { result ≡ is_key_flying links.now message_id serial bscs.now }
 {
     bscs.iter().any(|bsc| names_version(flight_in(links, *bsc), message_id, serial))
@@ -84,7 +84,7 @@ fn is_key_flying(links: &[Link], message_id: u16, serial: Serial, bscs: &[BscId]
 
 /// Whether what is in flight anywhere does.
 #[tactic(auto, using(crate::proofs::ReuseLemmas::key_flying))]
-fn is_key_in_flight(register: &Register, links: &[Link], message_id: u16, serial: Serial) -> bool
+fn is_key_in_flight(register: &Register, links: &KeptLinks, message_id: u16, serial: Serial) -> bool
     ensures { (settings : Settings) (past : Past) → Legal settings past → IsRegisterOf past register.now → AreLinksOf past links.now → result ≡ is_key_in_flight past message_id serial }
 {
     is_key_flying(links, message_id, serial, register.bscs())
@@ -93,7 +93,7 @@ fn is_key_in_flight(register: &Register, links: &[Link], message_id: u16, serial
 /// Whether the version of that serial number may leave the book: nothing of it is on air or in flight.
 fn check_key(
     register: &Register,
-    links: &[Link],
+    links: &KeptLinks,
     tables: &mut KeptTables,
     w: &Warning,
     serial: Serial,
@@ -115,7 +115,7 @@ fn check_key(
 /// line is read.
 fn check_warning(
     register: &Register,
-    links: &[Link],
+    links: &KeptLinks,
     tables: &mut KeptTables,
     w: &Warning,
 ) -> Result<(), Refusal>
@@ -133,7 +133,7 @@ fn check_warning(
 fn check_reused(
     register: &Register,
     book: &Book,
-    links: &[Link],
+    links: &KeptLinks,
     tables: &mut KeptTables,
     number: WarningId,
 ) -> Result<(), Refusal>
@@ -154,7 +154,7 @@ fn check_reused(
 pub(crate) fn check_update(
     register: &Register,
     book: &Book,
-    links: &[Link],
+    links: &KeptLinks,
     tables: &mut KeptTables,
     number: WarningId,
     content: &Content,

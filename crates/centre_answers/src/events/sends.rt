@@ -46,8 +46,8 @@ fn send_answer(alloc: Global, requested: u16, book: &Book, order: Option<Order>)
 pub(crate) fn send(alloc: Global, requested: u16, kept: &Kept, b: BscId, generation: u64) -> Verdict
     ensures { (settings : Settings) (past : Past) → Legal settings past → IsKept past kept.now → IsListOf (all_actions past b) kept.now.tables.pending b → Gives (send requested past b generation) result }
 {
-    check_link(kept.links.as_slice(), kept.plan.register(), b, generation)?;
-    if flight_in(kept.links.as_slice(), b).is_some() {
+    check_link(&kept.links, kept.plan.register(), b, generation)?;
+    if flight_in(&kept.links, b).is_some() {
         return Err(Refusal::InFlight);
     }
     if !kept.tables.has(b) {

@@ -12,7 +12,7 @@ ghost use Rattle.centre_past.specs.Lists.{bsc_row, bsc_rows, flight_kind_of, fli
 use cell_register::BscId;
 use centre_events::in_flight::InFlight;
 use centre_past::kept::Kept;
-use centre_past::link::Link;
+use centre_past::kept_links::KeptLinks;
 use centre_past::links::{flight_in, generation, is_up};
 use centre_past::lists::{BscRow, BscRows, FlightKind, FlightRow};
 use order_maker::OrderKind;
@@ -52,7 +52,7 @@ fn flight_row(flight: &InFlight) -> FlightRow
 }
 
 /// What is in flight to the BSC, but for its cells.
-fn flight_to(links: &[Link], b: BscId) -> Option<FlightRow>
+fn flight_to(links: &KeptLinks, b: BscId) -> Option<FlightRow>
     ensures { result ≡ option_map flight_row (flight_in links.now b) }
 {
     match flight_in(links, b) {
@@ -68,15 +68,15 @@ fn add_row(
     b: BscId,
     flight: Option<FlightRow>,
 ) -> Result<(), AllocError>
-    ensures { (settings : Settings) (past : Past) → Legal settings past → IsKept past kept.now → flight ≡ option_map flight_row (flight_in kept.now.links.items b) → OnOk result (rows.new.items ≡ rows.old.items ++ bsc_row past b ∷ []) }
+    ensures { (settings : Settings) (past : Past) → Legal settings past → IsKept past kept.now → flight ≡ option_map flight_row (flight_in kept.now.links b) → OnOk result (rows.new.items ≡ rows.old.items ++ bsc_row past b ∷ []) }
 {
     kept.plan.tell_soundness();
     let cells = kept.plan.register().cells_of(b)?;
     let row = BscRow {
         bsc: b,
         cells: cells.as_slice().len(),
-        is_up: is_up(kept.links.as_slice(), b),
-        last: generation(kept.links.as_slice(), b),
+        is_up: is_up(&kept.links, b),
+        last: generation(&kept.links, b),
         flight,
         pending: kept.tables.count(b),
     };
@@ -90,7 +90,7 @@ fn rows_of(alloc: Global, kept: &Kept, bscs: &[BscId]) -> Result<Vec<BscRow>, Al
 {
     let mut rows = Vec::with_capacity(alloc, bscs.len())?;
     for bsc in bscs {
-        let flight = flight_to(kept.links.as_slice(), *bsc);
+        let flight = flight_to(&kept.links, *bsc);
         add_row(&mut rows, kept, *bsc, flight)?;
     }
     Ok(rows)

@@ -8,13 +8,13 @@ ghost use Rattle.centre_past.specs.Links.{link_in, up_of};
 
 use cell_register::BscId;
 use centre_past::kept::Kept;
-use centre_past::link::Link;
+use centre_past::kept_links::KeptLinks;
 use centre_past::links::is_up;
 use centre_past::lists::PlanCounts;
 use warning_book::Warning;
 
 /// How many of the BSCs have a link that is up.
-fn links_up(links: &[Link], bscs: &[BscId]) -> usize
+fn links_up(links: &KeptLinks, bscs: &[BscId]) -> usize
     ensures { result ≡ count_by (λ b. up_of (link_in links.now b)) bscs.now }
 {
     bscs.iter().filter(|b| is_up(links, **b)).count()
@@ -42,7 +42,7 @@ pub fn plan_counts(kept: &Kept) -> PlanCounts
     let book = kept.plan.book();
     PlanCounts {
         bscs: register.bscs().len(),
-        links_up: links_up(kept.links.as_slice(), register.bscs()),
+        links_up: links_up(&kept.links, register.bscs()),
         cells: register.cell_count(),
         areas: kept.plan.areas().as_slice().len(),
         warnings: book.len(),

@@ -1,5 +1,4 @@
 use Rattle.std.proofs.Common.{◌∙◌, arith, sym, subst}
-use Rattle.centre_past.specs.Links.{AreLinksOf}
 use Rattle.centre_events.specs.Kept.{IsRegisterOf}
 use Rattle.centre_past.proofs.ReadLemmas.{known_kept}
 use Rattle.centre_past.specs.Reaching.{TellsLines}
@@ -8,7 +7,7 @@ use Rattle.centre_answers.proofs.events.check_edit.Goals as goal
 
 pub returns-in-Update-clause-checked : goal.returns-in-Update-clause-checked
 returns-in-Update-clause-checked c =
-    λ settings past legal kept. rw c.in-Update.is (c.check_update.ensures.checked settings past legal (subst (IsRegisterOf past) (sym c.register.ensures) kept.registered) (c.book.ensures ∙ kept.booked) (subst (AreLinksOf past) (sym c.as_slice.ensures.value) kept.linked) kept.tables)
+    λ settings past legal kept. rw c.in-Update.is (c.check_update.ensures.checked settings past legal (subst (IsRegisterOf past) (sym c.register.ensures) kept.registered) (c.book.ensures ∙ kept.booked) kept.linked kept.tables)
 
 pub returns-in-Update-clause-meter : goal.returns-in-Update-clause-meter
 returns-in-Update-clause-meter c =

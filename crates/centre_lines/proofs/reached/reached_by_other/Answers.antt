@@ -10,7 +10,7 @@ returns c = record {
     reach = bears_on_all settings past legal c.args.event.now c.args.answer.now c.in_ok-reach.reach.spots.items c.in_ok-reach.reach.warnings.items
         (c.in_ok-reach.ensures settings past (record {
           told = rw (c.lines.ensures) (told_kept settings past c.args.kept.now legal kept);
-          flying = flying_kept past c.args.kept.now.links.items c.as_slice-2.result.now c.args.event.now (option_copied c.flight_of.result) kept.linked c.requires.other c.as_slice-2.ensures.value c.flight_of.ensures;
+          flying = flying_kept past c.args.kept.now.links c.args.event.now (option_copied c.flight_of.result) kept.linked c.requires.other c.flight_of.ensures;
           accepted = accepted;
         }));
   };

@@ -1,10 +1,10 @@
-use Rattle.std.proofs.Common.{rules, ℕ, List, ◌≡◌, ◌≤◌, ◌-◌, ◌++◌, length, take, drop, ap, sym, ◌∙◌, subst, false, true, arith}
+use Rattle.std.proofs.Common.{rules, List, ◌≡◌, ◌≤◌, ◌-◌, ◌++◌, length, take, drop, ap, sym, ◌∙◌, subst, false, true, arith}
 use Rattle.std.specs.Prelude.{All, IsTrue, ◌↔◌}
 use Rattle.std.proofs.lemmas.List.{length-drop}
 use Rattle.centre_events.specs.declared.entry.Entry.{Entry}
 use Rattle.office.proofs.ShuffleLemmas.{folded_within, has_count, has_iff, released_few, released_folded}
 use Rattle.office.specs.Receipts.{receipts_of}
-use Rattle.office.specs.Shuffles.{AreSplit, HasItsEntries}
+use Rattle.office.specs.Shuffles.{AreSplit}
 use Rattle.office.specs.declared.receipt.Receipt.{Receipt}
 use Rattle.office.proofs.settling.has_its_entries.Goals.{then-len-entries_of-via-then-len-entries_of, then-len-entries_of-via-else-len-entries_of+then-released-count, then-len-entries_of-via-else-len-entries_of+else-released-count+then-not-is_released_within}
 use Rattle.office.proofs.settling.has_its_entries.Goals as goal

@@ -6,7 +6,6 @@ use Rattle.centre_events.specs.Links.{is_up, last_link}
 use Rattle.centre_events.specs.Pending.{all_actions}
 use Rattle.centre_past.proofs.ListLemmas.{cells_listed}
 use Rattle.centre_past.specs.Lists.{cells_at, flight_row}
-use Rattle.centre_past.specs.Links.{generation_of, link_in, up_of}
 use Rattle.centre_past.specs.declared.lists.bsc_row.BscRow.{BscRow}
 use Rattle.centre_answers.proofs.QuestionLemmas.{pending_list}
 use Rattle.centre_answers.proofs.lists.bscs.add_row.Goals as goal
@@ -14,8 +13,8 @@ use Rattle.centre_answers.proofs.lists.bscs.add_row.Goals as goal
 pub returns : goal.returns
 returns c = λ settings past legal kept is.
     let cells : length c.as_slice.result.now ≡ length (cells_at past c.args.b) = ap length (c.as_slice.ensures ∙ c.in_ok-cells.ensures ∙ ap (λ r. cells_of r c.args.b) c.register.ensures ∙ cells_listed past c.args.kept.now.plan.register c.args.b c.tell_soundness.ensures.registered kept.registered) in
-    let up : c.is_up.result ≡ is_up past c.args.b = c.is_up.ensures ∙ ap (λ ls. up_of (link_in ls c.args.b)) c.as_slice-2.ensures.value ∙ kept.linked.ups c.args.b in
-    let last : c.generation.result ≡ last_link past c.args.b = c.generation.ensures ∙ ap (λ ls. generation_of (link_in ls c.args.b)) c.as_slice-3.ensures.value ∙ kept.linked.generations c.args.b in
+    let up : c.is_up.result ≡ is_up past c.args.b = c.is_up.ensures ∙ kept.linked.ups c.args.b in
+    let last : c.generation.result ≡ last_link past c.args.b = c.generation.ensures ∙ kept.linked.generations c.args.b in
     let flight : c.args.flight ≡ option_map flight_row (in_flight past c.args.b) = is ∙ ap (option_map flight_row) (kept.linked.flights c.args.b) in
     c.in_ok-push.ensures.items
     ∙ (λ i. c.args.rows.now.items ++ (let row : BscRow = record {

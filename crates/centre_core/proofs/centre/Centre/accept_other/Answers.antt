@@ -5,7 +5,6 @@ use Rattle.centre_events.specs.Past.{past_of}
 use Rattle.centre_events.specs.Verdict.{verdict}
 use Rattle.centre_events.specs.declared.entry.Entry.{Entry}
 use Rattle.centre_lines.specs.Following.{most_accesses}
-use Rattle.centre_past.specs.Links.{AreLinksOf}
 use Rattle.centre_past.specs.Reach.{reach}
 use Rattle.centre_past.proofs.ReadLemmas.{reads_kept}
 use Rattle.centre_core.proofs.CentreLemmas.{Enters, centre_after, centre_entered, centre_stale, whole_centre, entry_accepted, kept_entered, leaves_stale, lines_then, not_stale, other_enters, refuses, refuses_starved, within_four}
@@ -25,7 +24,7 @@ looked c = within_four c.self.inside.settings c.self.inside.journal.folded c.sel
 enters : (c : After-position-place) → Enters c.prepare_other.new.kept c.in_ok-entry.entry (past_of (c.self.inside.journal.folded ++ c.self.inside.journal.entries)) (c.position-place.result + 1) c.up_before-up.result c.in-Ok.found.reached.spots.items c.in-Ok.found.reached.lines
 enters c =
     let centre = whole (goal.at.After-position-place c).After-prepare_other in
-    other_enters c.self.inside.settings centre c.in-Ok.ensures.number c.prepare_other.ensures.folded c.prepare_other.ensures.entries c.position-place.ensures.value c.prepare_other.ensures.reads (c.in-Ok.ensures.verdict centre) c.requires.other c.in_ok-entry.ensures.entry (λ past linked. c.up_before-up.ensures past (subst (AreLinksOf past) (sym c.as_slice.ensures.value) linked)) (c.in-Ok.ensures.reached centre)
+    other_enters c.self.inside.settings centre c.in-Ok.ensures.number c.prepare_other.ensures.folded c.prepare_other.ensures.entries c.position-place.ensures.value c.prepare_other.ensures.reads (c.in-Ok.ensures.verdict centre) c.requires.other c.in_ok-entry.ensures.entry c.up_before-up.ensures (c.in-Ok.ensures.reached centre)
 
 -- the lines that were read or set by then
 lines : (c : After-enter) → c.enter.new.kept.tables.lines.meter ≤ c.self.inside.kept.tables.lines.meter + 4 * reach (past_over c.self.inside.journal.folded c.self.inside.journal.entries) c.args.event (verdict c.self.inside.settings (past_over c.self.inside.journal.folded c.self.inside.journal.entries) c.args.event)

@@ -18,7 +18,7 @@ returns-clause-kept c =
     let reads : OnlyReadsIn c.args.self.now s = copy_reads c.args.self.now c.copied-3.new.self (counted_all (length c.args.self.now.tables.lines.lines) c.args.self.now.tables.lines.meter) c.in_ok-copied-3.ensures.counted c.copied-3.ensures.least in
     let copy : IsCopy s t = record {
       plan = c.in_ok-copied.ensures;
-      links = c.in_ok-copied-2.ensures ∙ c.as_slice.ensures.value;
+      links = c.in_ok-copied-2.ensures;
       tables = c.in_ok-copied-3.ensures.copy;
     } in
     λ past kept. copy_kept past s t copy (reads_kept past c.args.self.now s kept reads)

@@ -5,4 +5,4 @@ use Rattle.centre_past.proofs.kept.Kept.new.Goals as goal
 pub returns-clause-kept : goal.returns-clause-kept
 returns-clause-kept c =
     let s : Kept = record { plan = c.new.result; links = c.new-2.result; tables = c.new-3.result } in
-    empty_kept s c.new.ensures c.new-2.ensures.items c.new-3.ensures
+    empty_kept s c.new.ensures c.new-2.ensures c.new-3.ensures

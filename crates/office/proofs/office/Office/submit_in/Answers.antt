@@ -1,0 +1,9 @@
+use Rattle.std.proofs.Common.{length, rules}
+use Rattle.office.proofs.OfficeLemmas.{refused_if, submitted_if}
+use Rattle.office.proofs.office.Office.submit_in.Goals as goal
+
+pub returns-clause-submitted : goal.returns-clause-submitted
+returns-clause-submitted g c = submitted_if c.submit-result.result c.args.held.now.centre c.submit-result.new.self.centre (length c.args.held.now.rows) c.args.desk.now c.prepared.new.desk c.submit-result.new.desk c.args.event (search rules) (search rules) c.prepared.ensures.same c.submit-result.ensures.fitted c.submit-result.ensures.entered
+
+pub returns-clause-refused : goal.returns-clause-refused
+returns-clause-refused g c = refused_if c.submit-result.result c.args.held.now.centre (length c.args.held.now.rows) c.args.desk.now c.prepared.new.desk c.args.event (search rules) (search rules) c.prepared.ensures.same c.submit-result.ensures.wrong c.submit-result.ensures.refused

@@ -1,0 +1,15 @@
+use Rattle.std.proofs.Common.{◌+◌, ◌++◌, length, take, drop, ap, ◌∙◌, arith}
+use borrow.Rule.Slice.PartMut.{Post-is}
+use Rattle.std.proofs.NetLemmas.SockAddrs.{in_storage-append}
+use Rattle.server_links.proofs.sockaddr.put.Goals as goal
+
+-- the octets stand behind the others, and zeros behind them
+pub returns : goal.returns
+returns c = λ front long stored.
+    let at = c.args.at in
+    let raw = c.args.raw.now in
+    let octets = c.args.octets.now in
+    let after = Post-is at (at + length octets) raw (omega arith) in
+    (λ i. take at raw ++ (c.copy_from_slice.ensures.after i ++ after i))
+    ∙ ap (λ l. take at l ++ (octets ++ drop (at + length octets) l)) stored
+    ∙ in_storage-append front octets at long
