@@ -50,10 +50,13 @@ pub(crate) fn follow<L: Ledger, P: Program, R: Wait>(
     connection.watch();
     for _ in rt.forever() {
         let progress = operator.office.wait_entries(rt, place, interrupts);
-        interrupts = progress.interrupts;
-        let is_done = progress.position <= place && operator.server.is_ending(rt);
-        if is_done || connection.has_ended() {
+        let has_all = progress.position <= place;
+        if (has_all && operator.server.is_ending(rt)) || connection.has_ended() {
             break;
+        }
+        // (an interruption that comes while entries are left is heard once they are handed on)
+        if has_all {
+            interrupts = progress.interrupts;
         }
         match hand_on(rt, operator, &connection.stream, place) {
             Some(last) => place = last,
