@@ -45,13 +45,14 @@ enum Change {
     Loss,
 }
 
-/// What is done while one side waits for the first BSC, and another for the BSC of that number and its link; and for what both go on.
+/// What is done while one side waits for the first BSC, and another for the BSC of that number and its link.
 #[derive(Clone, Copy)]
 struct Case {
     change: Change,
     bsc: u16,
     generation: u64,
-    wake: Wake,
+    /// Both go on for an order; else since their link has ended.
+    is_order: bool,
 }
 
 /// The order that is pending over the link is sent, and done.
@@ -159,21 +160,25 @@ fn waits<L: Ledger, R: Wait>(
     wake
 }
 
-/// Whether two sides that wait at the same time go on for what they are to.
+/// Whether two sides that wait at the same time, one for the first BSC and one for the BSC of that number and its link, both go on for
+/// an order, or else both since their link has ended.
 fn both_wait<L: Ledger + Send + Sync, R: Threads + Wait + Abort + Sync>(
     rt: &R,
     office: &Office<L>,
     awake: &AtomicU64,
-    case: Case,
+    number: u16,
+    generation: u64,
+    is_order: bool,
 ) -> bool {
-    let (first, second, generation) = (first_bsc(rt), bsc(rt, case.bsc), case.generation);
+    let (first, second) = (first_bsc(rt), bsc(rt, number));
     let (one, other) = (opens(rt, office), opens(rt, office));
     let (of_one, of_other) = thread::join(
         rt,
         move || waits(rt, office, one, first, LINK, awake),
         move || waits(rt, office, other, second, generation, awake),
     );
-    of_one == case.wake && of_other == case.wake
+    let wake = if is_order { Wake::Order } else { Wake::Ended };
+    of_one == wake && of_other == wake
 }
 
 /// Whether both sides go on soon, if the change comes about while they wait, and for what they are to.
@@ -185,11 +190,16 @@ fn woken<L: Ledger + Send + Sync, R: Threads + Wait + Clock + Abort + Sync>(
     desk: Desk<L>,
     case: Case,
 ) -> (bool, bool) {
-    let change = case.change;
+    let (change, number, generation, is_order) = (
+        case.change,
+        case.bsc,
+        case.generation,
+        case.is_order,
+    );
     thread::join(
         rt,
         move || changes_later(rt, alloc, office, desk, change, awake),
-        move || both_wait(rt, office, awake, case),
+        move || both_wait(rt, office, awake, number, generation, is_order),
     )
 }
 
@@ -224,7 +234,7 @@ fn sides_of_two_bscs_are_woken(rt: HostRuntime) {
             change: *change,
             bsc: 2,
             generation: SECOND_LINK,
-            wake: Wake::Order,
+            is_order: true,
         };
         let (is_soon, is_right) = both_woken::<Brand, _>(&rt, rt.alloc(), Blank::new(1025), case);
         yes(&rt, is_soon, at);
@@ -238,7 +248,7 @@ fn both_sides_of_a_bsc_are_woken(rt: HostRuntime) {
         change: Change::Loss,
         bsc: 1,
         generation: LINK,
-        wake: Wake::Ended,
+        is_order: false,
     };
     let (is_soon, is_right) = both_woken::<Brand, _>(&rt, rt.alloc(), Blank::new(1025), case);
     yes(&rt, is_soon, "a side isn't woken");
