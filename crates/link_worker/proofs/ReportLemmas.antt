@@ -1,5 +1,5 @@
 -- What frames in turn come to.
-use Rattle.std.proofs.Common.{eqb-true, true, false, ◌==◌, if◌then◌else◌, ◌≡◌, ◌⊎◌, inl, inr, ℕ, ◌<◌, ◌≤◌, List, [], ◌∷◌, ◌++◌, Option, Some, None, Result, Ok, Err, OnOk, IfErr, IfNone, length, refl, sym, ap, ◌∙◌, subst, append_assoc, append-nil, arith, take, ◌+◌}
+use Rattle.std.proofs.Common.{eqb-true, true, false, ◌==◌, if◌then◌else◌, ◌≡◌, ◌⊎◌, inl, inr, ℕ, ◌<◌, ◌≤◌, List, [], ◌∷◌, ◌++◌, Option, Some, None, Result, Ok, Err, OnOk, IfErr, length, refl, sym, ap, ◌∙◌, subst, append_assoc, append-nil, arith, take, ◌+◌}
 use Rattle.std.specs.Io.KnownBytes.{Consumes, IsAtEnd}
 use Rattle.std.specs.List.{AllByRecursion, flat_map}
 use Rattle.std.specs.Option.{option_to_list}
@@ -201,12 +201,10 @@ next_in_front (Some frame) behind = refl
 pub TakesFirst-next : (b generation : ℕ) (frames left behind : List Frame) (next : Option Frame) (c d : DeskState) → TakesFirst b generation frames left c d → left ≡ option_to_list next ++ behind → TakesFirst b generation frames (in_front_of next behind) c d
 TakesFirst-next b generation frames left behind next c d p is = subst (λ fs. TakesFirst b generation frames fs c d) (is ∙ next_in_front next behind) p
 
-pub fewer_next : (n : ℕ) (left behind : List Frame) (next : Option Frame) → length left ≤ n → left ≡ option_to_list next ++ behind → length (in_front_of next behind) ≤ n
-fewer_next n left behind next few is = subst (λ (fs : List Frame). length fs ≤ n) (is ∙ next_in_front next behind) few
-
-pub none_behind : (left behind : List Frame) (next : Option Frame) → left ≡ option_to_list next ++ behind → IfNone next (left ≡ []) → next ≡ None → behind ≡ []
-none_behind left behind None is none same = sym is ∙ none
-none_behind left behind (Some frame) is none same = cc
+-- one frame fewer is left
+pub fewer_behind : (n : ℕ) (left : List Frame) (frame : Frame) (behind : List Frame) → length left ≤ n → left ≡ frame ∷ behind → length behind ≤ n
+fewer_behind n left frame behind few is =
+    let more : length (frame ∷ behind) ≤ n = subst (λ (fs : List Frame). length fs ≤ n) is few in omega arith
 
 -- an end before some frames is one before more of them
 EndsBefore-more : (b generation : ℕ) (d : DeskState) (x : End) (frames more : List Frame) → EndsBefore b generation d x frames → EndsBefore b generation d x (frames ++ more)
@@ -277,16 +275,16 @@ Submits-none b generation frames d e none = record {
 }
 
 -- one more frame was taken
-pub Submits-more : (b generation : ℕ) (frames : List Frame) (frame : Frame) (rest : List Frame) (c d e : DeskState) (before after : Entered) → TakesFirst b generation frames (frame ∷ rest) c d → SubmitsFirst b generation frames c d before
-    → TakesReports b generation (frame ∷ []) d e → IsCounted frame d e before after → SubmitsFirst b generation frames c e after
-Submits-more b generation frames frame rest c d e before after p s q (inl report) = record {
+pub Submits-more : (b generation : ℕ) (frames left : List Frame) (frame : Frame) (rest : List Frame) (c d e : DeskState) (before after : Entered) → TakesFirst b generation frames left c d → left ≡ frame ∷ rest
+    → SubmitsFirst b generation frames c d before → TakesReports b generation (frame ∷ []) d e → IsCounted frame d e before after → SubmitsFirst b generation frames c e after
+Submits-more b generation frames left frame rest c d e before after p is s q (inl report) = record {
   taken = p.taken ++ frame ∷ [];
   left = rest;
-  parts = p.parts ∙ sym (append_assoc p.taken (frame ∷ []) rest);
+  parts = p.parts ∙ ap (λ fs. p.taken ++ fs) is ∙ sym (append_assoc p.taken (frame ∷ []) rest);
   takes = Takes-more b generation p.taken (frame ∷ []) c d e p.takes q;
   last = λ any. record { before = p.taken; frame = frame; message = report.0; parts = refl; report = report.1 };
 }
-Submits-more b generation frames frame rest c d e before after p s q (inr (same, unchanged)) =
+Submits-more b generation frames left frame rest c d e before after p is s q (inr (same, unchanged)) =
     subst (SubmitsFirst b generation frames c e) (sym unchanged) (subst (λ (n : DeskState). SubmitsFirst b generation frames c n before) (sym same) s)
 
 -- a frame was not taken
