@@ -5,6 +5,7 @@
 //! `server_operator`; what is promised of the office stands in `office`. No clause says what a socket gives or when a thread goes on.
 #![tactic(auto)]
 
+mod airs;
 mod consoles;
 mod desks;
 mod fault;

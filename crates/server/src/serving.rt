@@ -18,7 +18,7 @@ use office::desk::Desk;
 use office::office::Office;
 use server_consoles::Consoles;
 use server_errors::Errors;
-use server_links::{HeavyTurn, LinkOptions, Shared};
+use server_links::{BroadcastWatch, HeavyTurn, LinkOptions, Shared, second_of};
 use server_operator::Terminal;
 use std::alloc::Global;
 use std::fs::{File, Files};
@@ -168,6 +168,7 @@ fn end<L: Ledger, R: Wait, I: BufRead + Drop, W: Write + Drop, E: Write + Drop>(
         options: _,
         folds: _,
         heavy_turn: _,
+        broadcasts: _,
         kept: _,
         with_simulator: _,
         closing: _,
@@ -192,6 +193,7 @@ fn shared_of<L: Ledger, E: Drop>(
     opened: Opened<L>,
     errors: Errors<E>,
     alloc: Global,
+    begun: u64,
 ) -> Shared<L, E>
     requires name { blank.name ≡ L.name }
     requires parts { blank.parts ≡ L.parts }
@@ -220,6 +222,7 @@ fn shared_of<L: Ledger, E: Drop>(
         },
         folds: Mutex::new(FoldPace::new(options.fold, options.journal_limit)),
         heavy_turn: HeavyTurn::new(),
+        broadcasts: BroadcastWatch::new(alloc, options.network.broadcasts, begun),
         kept: options.keep.as_ref().map(|_file| Kept::new(0)),
         with_simulator: options.with_simulator,
         closing: Mutex::new(false),
@@ -260,7 +263,7 @@ fn run_begun<
         looking,
         consoles,
     } = begun;
-    let shared = shared_of(blank, options, opened, errors, alloc);
+    let shared = shared_of(blank, options, opened, errors, alloc, second_of(rt));
     let terminal: Mutex<Terminal<L, I, W>> = Mutex::new(Terminal {
         reader,
         writer,

@@ -6,6 +6,7 @@ use cell_register::BscId;
 use journal_keeper::KeptUpTo;
 use link_rules::{Repeat, kept_of_order};
 use link_worker::{Gate, Load, Passage};
+use office::receipt::Receipt;
 use server_ports::Port;
 use std::io::Write;
 use std::net::SocketAddr;
@@ -107,6 +108,10 @@ impl<'a, L: Ledger, E: Write + Drop, C: Wait + Clock> LinkGate<'a, L, E, C> {
 impl<'a, L: Ledger, E: Write + Drop, C: Wait + Clock> Gate for LinkGate<'a, L, E, C> {
     fn before_report<R: Wait>(&self, _rt: &R, load: Load) {
         self.shared.begin_report(self.rt, self.port, load);
+    }
+
+    fn replied<R: Wait>(&self, _rt: &R, receipt: &Receipt) {
+        self.shared.hear_reply(self.rt, self.port, receipt);
     }
 
     fn pass<R: Wait>(&self, _rt: &R, _b: BscId, passage: Passage<'_>) -> bool {

@@ -1,5 +1,6 @@
 //! What the threads of a server share.
 
+use crate::broadcasts::BroadcastWatch;
 use crate::heavy_turn::HeavyTurn;
 use crate::options::LinkOptions;
 use centre_events::refusal::Refusal;
@@ -29,6 +30,8 @@ pub struct Shared<L: Ledger, E: Drop> {
     pub folds: Mutex<FoldPace>,
     /// Which link has the turn of the heavy reports.
     pub heavy_turn: HeavyTurn,
+    /// What replies said of broadcasts.
+    pub broadcasts: BroadcastWatch,
     /// How far the journal is kept in a file, where it is. Then the thread that keeps it folds it, where another asks for that.
     pub kept: Option<Kept<Result<u64, Refusal>>>,
     /// Whether a simulated BSC connects to each port.

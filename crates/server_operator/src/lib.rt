@@ -8,9 +8,11 @@
 //! what its answer is in `console_text`.
 #![tactic(auto)]
 
+mod air;
 mod asked;
 mod asking;
 mod batch;
+mod beside;
 mod delivering;
 mod downs;
 mod edits;
@@ -33,6 +35,7 @@ mod terminal;
 mod timed_input;
 mod typing;
 
+pub use air::Air;
 pub use leaving::Leaving;
 pub use operator::{Operator, operate};
 pub use server::Server;

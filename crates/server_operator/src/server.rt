@@ -1,9 +1,11 @@
 //! The server, as its operator knows it.
 
+use crate::air::Air;
 use cell_register::BscId;
 use centre_events::refusal::Refusal;
+use centre_past::lists::WarningSheet;
 use journal_keeper::KeptUpTo;
-use std::alloc::AllocError;
+use std::alloc::{AllocError, Global};
 use std::sync::Wait;
 use std::time::Clock;
 use warning_book::WarningId;
@@ -30,6 +32,14 @@ pub trait Server {
     /// The BSC's link of that generation was ended by the operator: its connection is shut, where it is still there. A link that
     /// came up since stays.
     fn cut<R: Wait>(&self, rt: &R, b: BscId, generation: u64);
+
+    /// Where the warning is silent, and since when it is over by its period.
+    fn air<R: Wait + Clock>(
+        &self,
+        rt: &R,
+        alloc: Global,
+        sheet: &WarningSheet,
+    ) -> Result<Air, AllocError>;
 
     /// Whether the BSC may connect, and no link of its is up.
     fn is_down<R: Wait>(&self, rt: &R, b: BscId) -> bool;

@@ -2,10 +2,11 @@
 
 use cell_register::BscId;
 use centre_events::refusal::Refusal;
+use centre_past::lists::WarningSheet;
 use journal_keeper::{Kept, KeptUpTo, wait_kept};
 use server_consoles::Program;
-use server_operator::Server;
-use std::alloc::AllocError;
+use server_operator::{Air, Server};
+use std::alloc::{AllocError, Global};
 use std::sync::Wait;
 use std::sync::atomic::{AtomicBool, Ordering};
 use std::time::Clock;
@@ -49,6 +50,18 @@ impl Server for GivenProgram {
     }
 
     fn cut<R: Wait>(&self, _rt: &R, _b: BscId, _generation: u64) {}
+
+    fn air<R: Wait + Clock>(
+        &self,
+        _rt: &R,
+        alloc: Global,
+        _sheet: &WarningSheet,
+    ) -> Result<Air, AllocError> {
+        Ok(Air {
+            silent: Vec::new(alloc),
+            over: None,
+        })
+    }
 
     fn is_down<R: Wait>(&self, _rt: &R, _b: BscId) -> bool {
         false

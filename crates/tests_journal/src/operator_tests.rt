@@ -6,10 +6,11 @@ use crate::checks::{same, yes};
 use cell_register::BscId;
 use centre_events::network::Network;
 use centre_events::refusal::Refusal;
+use centre_past::lists::WarningSheet;
 use console_text::ReplayFault;
 use journal_keeper::{Kept, KeptUpTo, wait_kept};
 use office::office::Office;
-use server_operator::{Leaving, Operator, Server, Terminal, operate};
+use server_operator::{Air, Leaving, Operator, Server, Terminal, operate};
 use std::alloc::{AllocError, Global};
 use std::io::{BufRead, Error, ErrorKind, Read};
 use std::marker::Brand;
@@ -53,6 +54,18 @@ impl Server for Ending {
     }
 
     fn cut<R: Wait>(&self, _rt: &R, _b: BscId, _generation: u64) {}
+
+    fn air<R: Wait + Clock>(
+        &self,
+        _rt: &R,
+        alloc: Global,
+        _sheet: &WarningSheet,
+    ) -> Result<Air, AllocError> {
+        Ok(Air {
+            silent: Vec::new(alloc),
+            over: None,
+        })
+    }
 
     fn is_down<R: Wait>(&self, _rt: &R, _b: BscId) -> bool {
         false

@@ -10,9 +10,10 @@ use cbsp_messages::read;
 use cell_register::BscId;
 use centre_events::event::Event;
 use centre_events::refusal::Refusal;
+use centre_past::lists::WarningSheet;
 use journal_keeper::KeptUpTo;
 use office::office::Office;
-use server_operator::{Operator, Server, Terminal, operate};
+use server_operator::{Air, Operator, Server, Terminal, operate};
 use std::alloc::{AllocError, Global};
 use std::marker::Brand;
 use std::process::Abort;
@@ -59,6 +60,18 @@ impl Server for Downs {
 
     fn cut<R: Wait>(&self, _rt: &R, b: BscId, generation: u64) {
         notes(&self.cut, u64::from(b.number()), generation);
+    }
+
+    fn air<R: Wait + Clock>(
+        &self,
+        _rt: &R,
+        alloc: Global,
+        _sheet: &WarningSheet,
+    ) -> Result<Air, AllocError> {
+        Ok(Air {
+            silent: Vec::new(alloc),
+            over: None,
+        })
     }
 
     fn is_down<R: Wait>(&self, _rt: &R, _b: BscId) -> bool {

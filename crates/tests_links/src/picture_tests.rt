@@ -34,6 +34,7 @@ fn pictured<L: Ledger, R: Wait + Abort>(rt: &R, alloc: Global, office: &Office<L
         sinces: Vec::new(alloc),
         resets: Vec::new(alloc),
         downs: Vec::new(alloc),
+        airs: Vec::new(alloc),
         kept: None,
         memory: None,
     };
