@@ -1,6 +1,6 @@
 //! What is kept of one BSC, cell and warning.
 
-ghost use Rattle.std.specs.Prelude.{◌≡◌, ◌↔◌, ◌<◌, ℕ, IfSome, IsNone, IsTrue, replicate};
+ghost use Rattle.std.specs.Prelude.{◌≡◌, ◌↔◌, ◌<◌, ℕ, false, IfSome, IsNone, IsTrue, replicate};
 ghost use Rattle.std.specs.Cmp.Lexicographic.{pointwise};
 ghost use Rattle.std.specs.List.{list_all, list_any};
 ghost use Rattle.std.specs.Option.{is_some};
@@ -103,6 +103,7 @@ impl Line {
     /// What is kept of the version of that serial number, if anything is.
     pub fn kept(&self, serial: Serial) -> Option<KeyState>
         ensures some { IfSome result (λ state. state ≡ state_of self.now serial) }
+        ensures kept { IfSome result (λ state. state_eq state blank ≡ false) }
         ensures none { IsNone result → state_of self.now serial ≡ blank }
     {
         let state = self.states[serial.update() as usize];
