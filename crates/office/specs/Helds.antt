@@ -17,8 +17,8 @@ use Rattle.office.specs.Wishes.{is_same_bsc}
 use Rattle.common.specs.Order.{each_once}
 
 -- what stands under the lock: the centre, a row for each desk that was opened, those rows as they were when entries were last folded,
--- how many receipts the desks have, all together, the parts and the amount of the share that is kept for desks not yet opened, and the
--- wishes for queries
+-- how many receipts the desks have, all together, the parts and the amount of the share that is kept for desks not yet opened, the
+-- wishes for queries, and how often those who wait for entries were interrupted
 pub record HeldState : Type 0 where
   pub centre : Known
   pub rows : List Row
@@ -27,6 +27,7 @@ pub record HeldState : Type 0 where
   pub rest_parts : ℕ
   pub rest_amount : ℕ
   pub wishes : List Wish
+  pub interrupts : ℕ
 
 -- a row without entries
 abbrev pub no_row : Row

@@ -40,7 +40,7 @@ const MOST_LINES: u64 = 256;
 
 /// A centre, and what is known of each desk. Contracts see what is known of the centre, a row for each desk that was opened,
 /// those rows as they were when entries were last folded, how many receipts the desks have, all together, the parts and the
-/// amount of the share that is kept for desks not yet opened, and the wishes.
+/// amount of the share that is kept for desks not yet opened, the wishes, and how often those who wait were interrupted.
 #[derive(Drop)]
 pub struct Held<L: Ledger> {
     alloc: Global,
@@ -62,7 +62,7 @@ impl<L: Ledger> Model for Held<L> {
 
     ghost Value = { HeldState };
 
-    ghost view = { λ s. record { centre = s.centre.known; rows = s.rows.items; base_rows = s.base_rows.items; total = s.book.total; rest_parts = s.rest.parts; rest_amount = s.rest.amount; wishes = s.wishes.items } };
+    ghost view = { λ s. record { centre = s.centre.known; rows = s.rows.items; base_rows = s.base_rows.items; total = s.book.total; rest_parts = s.rest.parts; rest_amount = s.rest.amount; wishes = s.wishes.items; interrupts = s.interrupts } };
 
     ghost invariant = { λ s. IsHeld s.rows.items s.base_rows.items s.centre.known.folded s.centre.known.journal s.book.total s.rest.parts s.rest.amount
         × (s.folded ≡ length s.centre.known.folded)
@@ -70,7 +70,7 @@ impl<L: Ledger> Model for Held<L> {
 }
 
 impl<L: Ledger> Held<L> {
-    ghost use Rattle.std.specs.Prelude.{◌≡◌, ◌≤◌, ◌<◌, ◌+◌, ◌-◌, ◌++◌, ◌∷◌, ℕ, [], length, set, true, false, Ok, Err, None, IfOk, IfErr, OnOk, OnErr, MatchBool, nat_lt};
+    ghost use Rattle.std.specs.Prelude.{◌≡◌, ◌≤◌, ◌<◌, ◌+◌, ◌-◌, ◌%◌, ◌^◌, ◌++◌, ◌∷◌, ℕ, [], length, set, true, false, Ok, Err, None, IfOk, IfErr, OnOk, OnErr, MatchBool, nat_lt};
     ghost use Rattle.centre_core.specs.Centre.{Leaves, Refuses};
     ghost use Rattle.centre_past.specs.Headline.{PendingGivesPlan};
     ghost use Rattle.centre_past.specs.Legal.{Lawful, all_entries, checkpointed, new_centre, past};
@@ -99,7 +99,7 @@ impl<L: Ledger> Held<L> {
         requires total { book.total ≡ 0 }
         requires parts { rest.parts ≡ 1025 }
         requires nothing { rest.amount ≡ 0 }
-        ensures { result ≡ record { centre = new_centre network journal_limit; rows = []; base_rows = []; total = 0; rest_parts = 1025; rest_amount = 0; wishes = [] } }
+        ensures { result ≡ record { centre = new_centre network journal_limit; rows = []; base_rows = []; total = 0; rest_parts = 1025; rest_amount = 0; wishes = []; interrupts = 0 } }
     {
         Held {
             alloc,
@@ -419,14 +419,16 @@ impl<L: Ledger> Held<L> {
         Ok(Folded { count, rest })
     }
 
-    /// How often `interrupt` was called.
-    pub(crate) fn interrupts(&self) -> u64 {
+    /// How often `interrupt` was called, from 0 again after 2^64 - 1.
+    pub(crate) fn interrupts(&self) -> u64
+        ensures { result ≡ self.now.interrupts }
+    {
         self.interrupts
     }
 
     /// Counts an interruption of those who wait for entries.
     pub(crate) fn interrupt(&mut self)
-        ensures { self.new ≡ self.old }
+        ensures { self.new ≡ record self.old { interrupts = (self.old.interrupts + 1) % 2 ^ 64 } }
     {
         self.interrupts = self.interrupts.wrapping_add(1);
     }

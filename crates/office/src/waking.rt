@@ -1,6 +1,6 @@
 //! Whether there is something to do for the link of a BSC, and who is woken for it.
 
-ghost use Rattle.std.specs.Prelude.{◌≡◌, ℕ, true, false, None, is_some};
+ghost use Rattle.std.specs.Prelude.{◌≡◌, ℕ, true, false, None, Some, is_some, if◌then◌else◌};
 ghost use Rattle.cell_register.specs.Register.{is_place};
 ghost use Rattle.centre_events.specs.InFlight.{in_flight};
 ghost use Rattle.centre_events.specs.Links.{is_bsc, last_link};
@@ -8,7 +8,8 @@ ghost use Rattle.centre_past.specs.Legal.{past};
 ghost use Rattle.centre_past.specs.LinkStates.{link_state};
 ghost use Rattle.office.specs.Affecting.{includes, is_link, wakes};
 ghost use Rattle.office.specs.OwnWishes.{is_idle};
-ghost use Rattle.office.specs.Wakes.{due, due_over, is_full};
+ghost use Rattle.office.specs.Wakes.{due, due_over, is_full, query_of};
+ghost use Rattle.office.specs.Wishes.{wish_for};
 
 use crate::affected::Affected;
 use crate::wake::Wake;
@@ -28,7 +29,19 @@ fn is_busy(centre: &Centre, b: BscId) -> bool
     }
 }
 
-/// What there is to do over the link of the BSC, which is up.
+/// What there is to send to the BSC, if there is something: a pending order comes before the query that is wished for.
+fn to_send(wishes: &[Wish], b: BscId, has_pending: bool) -> Option<Wake>
+    ensures { result ≡ (if has_pending then Some Wake.Order else query_of (wish_for wishes.now b)) }
+{
+    if has_pending {
+        return Some(Wake::Order);
+    }
+    let wish = wish_for(wishes, b)?;
+    Some(Wake::Query(wish.warning, wish.after))
+}
+
+/// What there is to do over the link of the BSC, which is up. What is in flight is looked for last, since most BSCs have nothing to
+/// send.
 fn wake_over(
     centre: &Centre,
     wishes: &[Wish],
@@ -45,14 +58,11 @@ fn wake_over(
     if full {
         return Some(Wake::Order);
     }
+    let wake = to_send(wishes, b, has_pending)?;
     if is_busy(centre, b) {
         return None;
     }
-    if has_pending {
-        return Some(Wake::Order);
-    }
-    let wish = wish_for(wishes, b)?;
-    Some(Wake::Query(wish.warning, wish.after))
+    Some(wake)
 }
 
 /// What there is to do for the link of that generation, if there is something.
