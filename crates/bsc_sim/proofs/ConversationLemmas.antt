@@ -3,6 +3,7 @@ use Rattle.std.proofs.Common.{◌≡◌, ◌⊎◌, inl, inr, ℕ, ◌+◌, ◌<
 use Rattle.std.proofs.lemmas.Grind.{flat_map-append}
 use Rattle.std.proofs.KnownBytes.{Appends-nil, Appends-trans, Consumes-nil, Consumes-trans}
 use Rattle.std.specs.Io.KnownBytes.{Appends, Consumes, IsAtEnd}
+use Rattle.framing.specs.AliveFrames.{alive_complete}
 use Rattle.framing.specs.Framers.{Framing, fresh, Takes, EndsTooLong}
 use Rattle.framing.specs.Sink.{AppendsFront}
 use Rattle.framing.specs.Source.{counted}
@@ -20,7 +21,7 @@ use Rattle.bsc_sim.specs.declared.end.SimEnd.TheVariants.{PeerEnded, CutFrame, R
 use Rattle.bsc_sim.specs.Answering.{answered}
 use Rattle.bsc_sim.specs.Bsc.{BscState, emptied}
 use Rattle.bsc_sim.specs.Choices.{Chosen}
-use Rattle.bsc_sim.specs.Conversation.{alive_complete, Answers, Breaks, Converses, Hears, HearsInPart, IsAnswered, IsBehind, IsLeft, IsSendStop, IsStop, IsUncut, IsWaiting, IsWritten, Replies, SendsInPart, Turns, TurnsInPart, end_of, frames_of, link_answer, opening, reset_complete}
+use Rattle.bsc_sim.specs.Conversation.{Answers, Breaks, Converses, Hears, HearsInPart, IsAnswered, IsBehind, IsLeft, IsSendStop, IsStop, IsUncut, IsWaiting, IsWritten, Replies, SendsInPart, Turns, TurnsInPart, end_of, frames_of, link_answer, opening, reset_complete}
 
 -- ---- what is written
 

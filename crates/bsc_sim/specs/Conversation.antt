@@ -2,6 +2,7 @@
 use Rattle.std.specs.Prelude.{◌≡◌, ◌⊎◌, ℕ, ◌<◌, Bool, true, false, List, [], ◌∷◌, ◌++◌, length, nat_eq, Option, Some, None, Result, Ok, Err, if◌then◌else◌}
 use Rattle.std.specs.List.{flat_map}
 use Rattle.std.specs.Io.KnownBytes.{Appends, Consumes, IsAtEnd}
+use Rattle.framing.specs.AliveFrames.{alive_complete}
 use Rattle.framing.specs.Framers.{Framing}
 use Rattle.framing.specs.Streams.{Cuts, IsTooLong, BeginsWithNoFrame}
 use Rattle.framing.specs.declared.frame.Frame.{Frame}
@@ -59,10 +60,6 @@ frames_of frames = flat_map (λ (frame : List ℕ). frame) frames
 -- RESET COMPLETE of all cells: type 11, and a Cell List of form All
 abbrev pub reset_complete : List ℕ
 reset_complete = 17 ∷ 0 ∷ 0 ∷ 4 ∷ 4 ∷ 0 ∷ 1 ∷ 6 ∷ []
-
--- KEEP ALIVE COMPLETE: type 17
-abbrev pub alive_complete : List ℕ
-alive_complete = 23 ∷ 0 ∷ 0 ∷ 0 ∷ []
 
 -- the answer to a frame of the link itself, by its type: that to a RESET, type 10, and that to a KEEP ALIVE, type 16
 abbrev pub link_answer : ℕ → Option (List ℕ)

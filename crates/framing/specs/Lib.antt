@@ -1,3 +1,4 @@
+pub mod AliveFrames
 pub mod Fault
 pub mod Framers
 pub mod Runs

@@ -1,4 +1,4 @@
--- KEEP ALIVE and its answer (3GPP TS 48.049, 8.1.3).
+-- KEEP ALIVE, and what is seen of it and of its answer (3GPP TS 48.049, 8.1.3).
 use Rattle.std.specs.Prelude.{◌≡◌, ℕ, ◌+◌, ◌-◌, ◌/◌, List, [], ◌∷◌, ◌++◌, nat_eq, nat_le, if◌then◌else◌}
 use Rattle.std.specs.List.{list_any}
 use Rattle.framing.specs.Streams.{Cuts}
@@ -16,10 +16,6 @@ period_code s =
 -- the frame of a KEEP ALIVE: type 16, and element 18, the period
 abbrev pub alive_frame : ℕ → List ℕ
 alive_frame s = 22 ∷ 0 ∷ 0 ∷ 2 ∷ 24 ∷ period_code s ∷ []
-
--- the frame of a KEEP ALIVE COMPLETE: type 17, and no element
-abbrev pub alive_complete : List ℕ
-alive_complete = 23 ∷ 0 ∷ 0 ∷ 0 ∷ []
 
 -- whether a frame of type 16, or one of type 17, stands among the frames
 abbrev pub seen_in : List Frame → AliveSeen

@@ -1,7 +1,8 @@
 //! The frames by which the two ends of a link say that they are alive (3GPP TS 48.049, 8.1.3).
 
 ghost use Rattle.std.specs.Prelude.{◌≡◌};
-ghost use Rattle.link_resets.specs.Alive.{alive_complete, alive_frame, period_code};
+ghost use Rattle.framing.specs.AliveFrames.{alive_complete};
+ghost use Rattle.link_resets.specs.Alive.{alive_frame, period_code};
 
 /// The frame of a KEEP ALIVE COMPLETE.
 pub fn alive_complete() -> [u8; 4]
