@@ -8,11 +8,12 @@ use Rattle.link_rules.specs.declared.version.Version.{Version}
 use Rattle.link_rules.specs.declared.version_due.VersionDue.{VersionDue}
 
 -- what is known at a BSC: the versions, each with the time at which a query for it is due, the one that was heard of last at the end;
--- what was last ordered or asked for and isn't answered; the own query that was wished for and hasn't gone out; and the one for the
--- cells behind those of the last own one
+-- what was last ordered or asked for and isn't answered, and what was before that, where no reply to it was told yet; the own query that
+-- was wished for and hasn't gone out; and the one for the cells behind those of the last own one
 pub record PaceState : Type 0 where
   pub period_ms : ℕ
   pub versions : List VersionDue
+  pub late : Option Version
   pub out : Option Version
   pub own : Option Query
   pub rest : Option Query
@@ -53,11 +54,11 @@ later now time = min (now + time) (2 ^ 64 - 1)
 
 -- nothing was heard of
 abbrev pub new_pace : ℕ → PaceState
-new_pace period = record { period_ms = period; versions = []; out = None; own = None; rest = None }
+new_pace period = record { period_ms = period; versions = []; late = None; out = None; own = None; rest = None }
 
 -- the link came up or ended
 abbrev pub begun : PaceState → PaceState
-begun p = record p { out = None; own = None; rest = None }
+begun p = record p { late = None; out = None; own = None; rest = None }
 
 -- the query, where its version is one of these
 abbrev pub query_among : List Version → Option Query → Option Query
@@ -121,9 +122,13 @@ without_wish q p = record p { own = None; rest = elim q.after [ None ↦ p.rest 
 abbrev pub unwished : ℕ → Query → PaceState → PaceState
 unwished now q p = if is_own q.version p then record (without_wish q p) { versions = with_due q.version now p.versions } else p
 
+-- an order or a query for the version goes out; when the next query for it is due stays as it was
+abbrev pub going_out : Version → PaceState → PaceState
+going_out v p = record p { late = p.out; out = Some v; own = None }
+
 -- an order or a query for the version goes out
 abbrev pub with_order : ℕ → Version → PaceState → PaceState
-with_order now v p = record (heard now v p) { out = Some v; own = None }
+with_order now v p = going_out v (heard now v p)
 
 -- the query for the cells behind the last one, where there is such a cell
 abbrev pub query_behind : Version → Option Cell → Option Query
@@ -134,9 +139,17 @@ query_behind v (Some cell) = Some (query_of v (Some cell))
 abbrev pub with_query : Version → Option Cell → PaceState → PaceState
 with_query v last p = record p { rest = if is_own v p then query_behind v last else p.rest }
 
+-- of which version the next reply that is told is: of what went out before the last, where no reply to that was told
+abbrev pub answered_version : PaceState → Option Version
+answered_version p = elim p.late [ None ↦ p.out | Some v ↦ Some v ]
+
+-- that isn't out any more
+abbrev pub without_out : PaceState → PaceState
+without_out p = record p { late = None; out = elim p.late [ None ↦ None | Some v ↦ p.out ] }
+
 -- what was out is answered
 abbrev pub with_answer : ℕ → PaceState → PaceState
-with_answer now p = record p { out = None; versions = elim p.out [ None ↦ p.versions | Some v ↦ with_due v (later now p.period_ms) p.versions ] }
+with_answer now p = record (without_out p) { versions = elim (answered_version p) [ None ↦ p.versions | Some v ↦ with_due v (later now p.period_ms) p.versions ] }
 
 -- so many a second, none of which was wished for
 abbrev pub new_turns : ℕ → QueryTurns

@@ -1,15 +1,26 @@
 //! When a BSC that says nothing is asked whether it is alive, and when its link is cut.
 
 ghost use Rattle.std.specs.Prelude.{◌≡◌, true};
-ghost use Rattle.link_rules.specs.Alives.{begun, is_due, is_late, late_step, looked, step_at, unasked, with_answer, with_ask, with_word};
+ghost use Rattle.link_rules.specs.Alives.{begun, is_due, is_late, late_step, looked, patience_of, step_at, unasked, with_answer, with_ask, with_word};
 
 use crate::alive_step::AliveStep;
 
 /// Milliseconds in a second.
 const SECOND: u64 = 1_000;
 
-/// After how many seconds without a word a KEEP ALIVE counts as unanswered, where nothing is said of replies.
+/// After how many seconds a KEEP ALIVE or an own query counts as unanswered, where nothing is said of replies.
 const PATIENCE: u32 = 30;
+
+/// The same, where it is said after `reply_seconds` that an order has no reply; 0 is never.
+pub(crate) fn patience_of(reply_seconds: u32) -> u32
+    ensures { result ≡ patience_of reply_seconds }
+{
+    if reply_seconds == 0 {
+        PATIENCE
+    } else {
+        reply_seconds
+    }
+}
 
 /// For how long nothing was read from a BSC, and whether it was asked since (KEEP ALIVE; 3GPP TS 48.049, 8.1.3).
 #[derive(Clone, Copy, Debug)]
@@ -36,11 +47,7 @@ impl AlivePace {
     {
         AlivePace {
             period_seconds,
-            reply_seconds: if reply_seconds == 0 {
-                PATIENCE
-            } else {
-                reply_seconds
-            },
+            reply_seconds: patience_of(reply_seconds),
             heard: 0,
             asked: None,
             knows: false,

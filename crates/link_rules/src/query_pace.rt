@@ -23,6 +23,8 @@ pub struct QueryPace {
     period_ms: u64,
     /// The versions, the one that was heard of last at the end.
     versions: Vec<VersionDue>,
+    /// What was ordered or asked for before `out`, where `out` was told before the reply to this.
+    late: Option<Version>,
     /// What was last ordered or asked for and isn't answered.
     out: Option<Version>,
     /// The own query that was wished for last and hasn't gone out.
@@ -36,11 +38,11 @@ impl Model for QueryPace {
 
     ghost Value = { PaceState };
 
-    ghost view = { λ p. record { period_ms = p.period_ms; versions = p.versions.items; out = p.out; own = p.own; rest = p.rest } };
+    ghost view = { λ p. record { period_ms = p.period_ms; versions = p.versions.items; late = p.late; out = p.out; own = p.own; rest = p.rest } };
 }
 
 impl QueryPace {
-    ghost use Rattle.link_rules.specs.QueryPaces.{PaceState, begun, due_at, in_vain, is_own, new_pace, seen, with_answer, unwished, with_only, with_order, with_query, with_wish, without_wish};
+    ghost use Rattle.link_rules.specs.QueryPaces.{PaceState, answered_version, begun, due_at, going_out, in_vain, is_own, new_pace, seen, with_answer, unwished, with_only, with_order, with_query, with_wish, without_out, without_wish};
 
     /// Nothing was heard of yet.
     pub fn new(alloc: Global, period_ms: u64) -> QueryPace
@@ -49,6 +51,7 @@ impl QueryPace {
         QueryPace {
             period_ms,
             versions: Vec::new(alloc),
+            late: None,
             out: None,
             own: None,
             rest: None,
@@ -59,6 +62,7 @@ impl QueryPace {
     pub fn begin(&mut self)
         ensures { self.new ≡ begun self.old }
     {
+        self.late = None;
         self.out = None;
         self.own = None;
         self.rest = None;
@@ -158,9 +162,10 @@ impl QueryPace {
     /// An order for that version goes out. At an `Err` the version is due as before.
     pub fn order(&mut self, version: Version, now_ms: u64) -> Result<(), AllocError>
         ensures sent { OnOk result (self.new ≡ with_order now_ms version self.old) }
-        ensures out { OnErr result (self.new ≡ record self.old { out = Some version; own = None }) }
+        ensures out { OnErr result (self.new ≡ going_out version self.old) }
     {
         self.own = None;
+        self.late = self.out;
         self.out = Some(version);
         let due = now_ms.saturating_add(self.period_ms);
         put(&mut self.versions, version, due)
@@ -175,7 +180,7 @@ impl QueryPace {
         now_ms: u64,
     ) -> Result<(), AllocError>
         ensures sent { OnOk result (self.new ≡ with_order now_ms version (with_query version last self.old)) }
-        ensures out { OnErr result (self.new ≡ record (with_query version last self.old) { out = Some version; own = None }) }
+        ensures out { OnErr result (self.new ≡ going_out version (with_query version last self.old)) }
     {
         if self.is_own(version) {
             self.rest = last.map(|cell| Query {
@@ -186,19 +191,32 @@ impl QueryPace {
         self.order(version, now_ms)
     }
 
-    /// What was out is answered. At an `Err` its version is due as before.
+    /// A reply is told, to what is out, or to what went out before that. At an `Err` its version is due as before.
     pub fn answered(&mut self, now_ms: u64) -> Result<(), AllocError>
         ensures answered { OnOk result (self.new ≡ with_answer now_ms self.old) }
-        ensures out { OnErr result (self.new ≡ record self.old { out = None }) }
+        ensures out { OnErr result (self.new ≡ without_out self.old) }
     {
-        let out = self.out;
-        self.out = None;
-        match out {
+        let version = self.answered_version();
+        if self.late.is_none() {
+            self.out = None;
+        }
+        self.late = None;
+        match version {
             Some(version) => {
                 let due = now_ms.saturating_add(self.period_ms);
                 put(&mut self.versions, version, due)
             }
             None => Ok(()),
+        }
+    }
+
+    /// Of which version the next reply is that is told.
+    fn answered_version(&self) -> Option<Version>
+        ensures { result ≡ answered_version self.now }
+    {
+        match self.late {
+            Some(version) => Some(version),
+            None => self.out,
         }
     }
 }

@@ -1,9 +1,9 @@
 //! When a reply is overdue.
 
 ghost use Rattle.std.specs.Prelude.{◌≡◌};
-ghost use Rattle.link_rules.specs.Alives.{patience_of};
 ghost use Rattle.link_rules.specs.Replies.{is_cut_after, is_late, looked, never_sent, out_since, overdue_at, times_due, with_end, with_order, with_own, with_reply};
 
+use crate::alive_pace::patience_of;
 use crate::overdue::Overdue;
 
 /// Milliseconds in a second.
@@ -11,9 +11,6 @@ const SECOND: u64 = 1_000;
 
 /// After how many milliseconds it is said again that there is no reply: ten minutes.
 const AGAIN: u64 = 600_000;
-
-/// After how many seconds an own query counts as unanswered, where nothing is said of replies.
-const PATIENCE: u32 = 30;
 
 /// For how long an order or a query has been out without a reply. One goes out once the one before is answered, but a thread may tell
 /// of a reply only after another told of the order behind it. So both are counted: the last order is out while fewer were answered.
@@ -106,22 +103,11 @@ impl ReplyPace {
         }
     }
 
-    /// After how many seconds an own query counts as unanswered.
-    fn patience(&self) -> u32
-        ensures { result ≡ patience_of self.now.reply_seconds }
-    {
-        if self.reply_seconds == 0 {
-            PATIENCE
-        } else {
-            self.reply_seconds
-        }
-    }
-
     /// Whether an own query is out, and unanswered for too long after so many milliseconds.
     fn is_late(&self, passed: u64) -> bool
         ensures { result ≡ is_late self.now passed }
     {
-        self.is_own && u64::from(self.patience()) * SECOND <= passed
+        self.is_own && u64::from(patience_of(self.reply_seconds)) * SECOND <= passed
     }
 
     /// Whether the link is to be cut after so many milliseconds.

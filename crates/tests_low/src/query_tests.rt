@@ -76,6 +76,23 @@ fn a_query_is_due_a_period_later(rt: HostRuntime) {
     is_due(&rt, &pace, 1_805_000, all_of(FIRST));
 }
 
+/// A reply that is told after the next order went out counts for what went out before that.
+#[test]
+fn a_reply_that_is_told_late_counts(rt: HostRuntime) {
+    let mut pace = QueryPace::new(rt.alloc(), PERIOD);
+    sees(&rt, &mut pace, FIRST, 0);
+    sees(&rt, &mut pace, OTHER, 0);
+    pace.order(FIRST, 0).expect(&rt, "memory");
+    pace.order(OTHER, 100_000).expect(&rt, "memory");
+    pace.answered(100_001).expect(&rt, "memory");
+    is_due(&rt, &pace, 699_999, None);
+    is_due(&rt, &pace, 700_000, all_of(OTHER));
+    pace.answered(200_000).expect(&rt, "memory");
+    is_due(&rt, &pace, 700_000, None);
+    is_due(&rt, &pace, 700_001, all_of(FIRST));
+    is_due(&rt, &pace, 799_999, all_of(FIRST));
+}
+
 /// Of two that are due the one goes first of which nothing was heard for longer.
 #[test]
 fn the_one_that_waits_longest_is_asked_first(rt: HostRuntime) {
