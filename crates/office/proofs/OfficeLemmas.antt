@@ -1,7 +1,5 @@
 -- From what holds under the lock to what a call of an office promises.
-use Rattle.std.proofs.Common.{◌≡◌, ◌≤◌, ℕ, Bool, true, false, List, [], Result, Ok, Err, OnOk, OnErr, IfOk, IfErr, All, inl, inr, length, take, drop, refl, sym, ap, ◌∙◌, subst, arith}
-use Rattle.std.proofs.lemmas.List.{drop-take}
-use Rattle.std.proofs.lemmas.List.Elements.{All-nil}
+use Rattle.std.proofs.Common.{◌≡◌, ℕ, Bool, true, false, Result, Ok, Err, OnOk, OnErr, IfOk, IfErr, inl, inr, length, refl, sym, ap, ◌∙◌, subst}
 use Rattle.centre_core.specs.Centre.{Refuses}
 use Rattle.centre_past.specs.Headline.{PendingGivesPlan}
 use Rattle.centre_past.specs.Legal.{Known, Lawful, all_entries, checkpointed, past}
@@ -17,7 +15,6 @@ use Rattle.centre_past.specs.Lists.{status}
 use Rattle.centre_past.specs.declared.lists.centre_status.CentreStatus.{CentreStatus}
 use Rattle.centre_questions.specs.Questions.{RefusesQuestion, Shows}
 use Rattle.centre_questions.specs.declared.question.Question.{Question}
-use Rattle.office.specs.declared.receipt.Receipt.{Receipt}
 use Rattle.office.specs.declared.seen.Seen.{Seen}
 use Rattle.office.proofs.HeldLemmas.{IsKnown, known_if}
 
@@ -93,27 +90,9 @@ pub folded_if : (result : Result ℕ Refusal) (centre new : Known) → Lawful ce
 folded_if (Ok n) centre new lawful headline counted is same whole = record { centre = centre; lawful = lawful; headline = headline; whole = whole; counted = counted; same = subst (λ (k : Known). base_of (past k) ≡ base_of (past centre)) is same }
 folded_if (Err r) centre new lawful headline counted is same whole = counted
 
--- what a desk lets go of that lets go of nothing
-none_more : (n : ℕ) (rs : List Receipt) → drop n (take n rs) ≡ []
-none_more n rs = ap (λ k. drop n (take k rs)) (omega arith) ∙ drop-take n 0 rs
-
 pub released_if : {A E : Type 0} (result : Result A E) (centre : Known) (place : ℕ) (old new : DeskState) → Lawful centre.settings (past centre) → place ≡ length centre.folded → OnOk result (IsReleased place old new) → OnErr result (new ≡ old) → IsReleasedSomewhere old new place
-released_if (Ok done) centre place old new lawful is released unchanged = record {
-  centre = centre;
-  lawful = lawful;
-  counted = is;
-  same = released.same;
-  more = released.more;
-  places = subst (λ n. All (λ (r : Receipt). r.place ≤ n) (drop old.released (take new.released old.receipts))) is released.places;
-}
-released_if (Err e) centre place old new lawful is released unchanged = subst (λ (d : DeskState). IsReleasedSomewhere old d place) (sym unchanged) (record {
-  centre = centre;
-  lawful = lawful;
-  counted = is;
-  same = refl;
-  more = omega arith;
-  places = subst (All (λ (r : Receipt). r.place ≤ length centre.folded)) (sym (none_more old.released old.receipts)) (All-nil (λ (r : Receipt). r.place ≤ length centre.folded));
-})
+released_if (Ok done) centre place old new lawful is released unchanged = record { centre = centre; lawful = lawful; counted = is; same = released.same; released = inl released }
+released_if (Err e) centre place old new lawful is released unchanged = record { centre = centre; lawful = lawful; counted = is; same = subst (IsSameDesk old) (sym unchanged) refl; released = inr unchanged }
 
 -- a desk that let go of receipts again is still the same
 pub same_more : (d e f : DeskState) → IsSameDesk d e → IsSameDesk e f → IsSameDesk d f

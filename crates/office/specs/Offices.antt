@@ -1,5 +1,5 @@
 -- What a call of an office promises, whatever other desks do meanwhile.
-use Rattle.std.specs.Prelude.{◌≡◌, ◌≤◌, ◌<◌, ◌⊎◌, ◌+◌, ◌++◌, ℕ, false, [], ◌∷◌, Result, Ok, Err, Some, length, take, drop, slice_get, All}
+use Rattle.std.specs.Prelude.{◌≡◌, ◌≤◌, ◌<◌, ◌⊎◌, ◌+◌, ◌++◌, ℕ, false, [], ◌∷◌, Result, Ok, Err, Some, length, slice_get}
 use Rattle.std.specs.Borrow.{Bor}
 use Rattle.centre_core.specs.Centre.{Refuses}
 use Rattle.centre_past.specs.Fits.{AnswerFits}
@@ -11,7 +11,7 @@ use Rattle.centre_events.specs.declared.answer.Answer.{Answer}
 use Rattle.centre_events.specs.declared.event.Event.{Event}
 use Rattle.centre_events.specs.declared.refusal.Refusal.{Refusal}
 use Rattle.centre_events.specs.declared.refusal.Refusal.TheVariants as refusal
-use Rattle.office.specs.Desks.{DeskState}
+use Rattle.office.specs.Desks.{DeskState, IsReleased}
 use Rattle.office.specs.Helds.{receipt_at}
 use Rattle.centre_questions.specs.Questions.{RefusesQuestion, Shows}
 use Rattle.office.specs.Receipts.{receipts_of, last_place}
@@ -93,14 +93,14 @@ pub record IsFoldedSomewhere (count : ℕ) : Type 0 where
 abbrev pub IsSameDesk : DeskState → DeskState → Type 0
 IsSameDesk old new = new ≡ record old { released = new.released; spare = new.spare }
 
--- the desk let go of more of its receipts, whose places are among the entries that were folded in some such centre; so many are folded
+-- so many entries were folded in some such centre, and the desk let go of its receipts of these and of no other, or it is as it was,
+-- where there was no memory for that
 pub record IsReleasedSomewhere (old new : DeskState) (folded : ℕ) : Type 0 where
   pub centre : Known
   pub lawful : Lawful centre.settings (past centre)
   pub counted : folded ≡ length centre.folded
   pub same : IsSameDesk old new
-  pub more : old.released ≤ new.released
-  pub places : All (λ (r : Receipt). r.place ≤ length centre.folded) (drop old.released (take new.released old.receipts))
+  pub released : IsReleased folded old new ⊎ (new ≡ old)
 
 -- where the event was accepted the desk has one more receipt, and the one that is lent is the last; where it was refused the desk is
 -- as it was, but for its room

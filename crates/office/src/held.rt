@@ -52,7 +52,6 @@ pub struct Held<L: Ledger> {
     rest: Share<L>,
     wishes: Vec<Wish>,
     interrupts: u64,
-    /// How many entries the journal may have.
     limit: u64,
 }
 
@@ -66,11 +65,11 @@ impl<L: Ledger> Model for Held<L> {
 
     ghost invariant = { λ s. IsHeld s.rows.items s.base_rows.items s.centre.known.folded s.centre.known.journal s.book.total s.rest.parts s.rest.amount
         × (s.folded ≡ length s.centre.known.folded)
-        × HasEachOnce s.wishes.items };
+        × HasEachOnce s.wishes.items × (s.limit ≡ s.centre.known.settings.limit) };
 }
 
 impl<L: Ledger> Held<L> {
-    ghost use Rattle.std.specs.Prelude.{◌≡◌, ◌≤◌, ◌<◌, ◌+◌, ◌-◌, ◌%◌, ◌^◌, ◌++◌, ◌∷◌, ℕ, [], length, set, true, false, Ok, Err, None, IfOk, IfErr, OnOk, OnErr, MatchBool, nat_lt};
+    ghost use Rattle.std.specs.Prelude.{◌≡◌, ◌≤◌, ◌<◌, ◌+◌, ◌-◌, ◌/◌, ◌%◌, ◌^◌, ◌++◌, ◌∷◌, ℕ, [], length, set, true, false, Ok, Err, None, IfOk, IfErr, OnOk, OnErr, MatchBool, nat_lt};
     ghost use Rattle.centre_core.specs.Centre.{Leaves, Refuses};
     ghost use Rattle.centre_past.specs.Headline.{PendingGivesPlan};
     ghost use Rattle.centre_past.specs.Legal.{Lawful, all_entries, checkpointed, new_centre, past};
@@ -233,9 +232,10 @@ impl<L: Ledger> Held<L> {
         self.centre.meter().lines
     }
 
-    /// Whether another event may be submitted in a hold of the lock in which the first was submitted when so many lines had been read:
-    /// the events since then read few, and the journal is less than half full.
-    pub fn has_time(&self, lines_read: u64) -> bool {
+    /// Whether a hold of the lock that began at so many lines takes one more event: few were read since, the journal isn't half full.
+    pub fn has_time(&self, lines_read: u64) -> bool
+        ensures room { result ≡ true → length self.now.centre.journal < self.now.centre.settings.limit / 2 }
+    {
         let read = self.lines_read().saturating_sub(lines_read);
         read <= MOST_LINES && self.unfolded() < self.limit / 2
     }
