@@ -22,6 +22,7 @@ use Rattle.centre_past.specs.declared.lists.warning_row.WarningRow.{WarningRow}
 use Rattle.centre_past.specs.declared.lists.warning_sheet.WarningSheet.{WarningSheet}
 use Rattle.coverage_board.specs.declared.numbers.Numbers.{Numbers}
 use Rattle.hex.specs.Hex.{encode_lower, encode_upper}
+use Rattle.lists_text.specs.declared.air.SilentRow.{SilentRow}
 use Rattle.message_text.specs.Reading.{read_text}
 use Rattle.warning_book.specs.Content.{category_number}
 use Rattle.warning_book.specs.declared.cbs_content.CbsContent.{CbsContent}
@@ -223,9 +224,22 @@ content_text None = count_text (codes "pages") 0
 content_text (Some (content.Cbs c)) = cbs_text c
 content_text (Some (content.Emergency c)) = emergency_text c
 
--- a warning with its content
-abbrev pub sheet_text : WarningSheet → List ℕ
-sheet_text s = warning_line s.row ++ content_text s.content
+-- the line of a cell in which a warning is silent
+abbrev pub silent_line : SilentRow → List ℕ
+silent_line r = codes "silent " ++ (decimal r.cell.lac ++ (codes " " ++ (decimal r.cell.ci ++ (codes " at " ++ (decimal r.bsc ++ newline)))))
+
+-- since when a warning is over by its period, if it is
+abbrev pub over_line : Option ℕ → List ℕ
+over_line None = []
+over_line (Some since) = codes "over since " ++ (time_text since ++ newline)
+
+-- both
+abbrev pub air_text : List SilentRow → Option ℕ → List ℕ
+air_text silent over = flat_map silent_line silent ++ over_line over
+
+-- a warning with what is known of it beside its board, and with its content
+abbrev pub sheet_text : List SilentRow → Option ℕ → WarningSheet → List ℕ
+sheet_text silent over s = warning_line s.row ++ (air_text silent over ++ content_text s.content)
 
 -- Where a warning failed.
 

@@ -36,7 +36,7 @@ fn flight_text(alloc: Global, flight: &Option<FlightRow>) -> Result<String, Allo
 }
 
 /// The time of day of a second after 1970-01-01T00:00:00Z.
-fn time_text(alloc: Global, second: u64) -> Result<String, AllocError>
+pub(crate) fn time_text(alloc: Global, second: u64) -> Result<String, AllocError>
     ensures { IfOk result (λ text. string_bytes text ≡ time_text second) }
 {
     let (hour, minute, rest) = (second / 3600 % 24, second / 60 % 60, second % 60);

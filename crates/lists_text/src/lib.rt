@@ -4,6 +4,7 @@
 //! moment, in memory of its own (`centre_past::lists`).
 #![tactic(auto)]
 
+mod air;
 mod bscs;
 mod cells;
 mod contents;
@@ -16,6 +17,7 @@ mod pages;
 mod status;
 mod warnings;
 
+pub use air::SilentRow;
 pub use bscs::{bscs_text, links_text};
 pub use cells::cells_text;
 pub use failures::failed_text;

@@ -3,6 +3,7 @@
 ghost use Rattle.std.specs.Prelude.{◌≡◌, ◌++◌, IfOk, OnOk, string_bytes};
 ghost use Rattle.lists_text.specs.ListTexts.{kind_name, serial_text, sheet_text, state_name, warning_head, warning_line, warning_numbers, warnings_text};
 
+use crate::air::{SilentRow, push_air};
 use crate::contents::push_content;
 use crate::digits::{four_digits, identifier_text};
 use crate::lines::{push_count, push_line};
@@ -90,12 +91,19 @@ pub fn warnings_text(alloc: Global, rows: &[WarningRow]) -> Result<Vec<u8>, Allo
     Ok(text)
 }
 
-/// A warning with its content.
-pub fn sheet_text(alloc: Global, sheet: &WarningSheet) -> Result<Vec<u8>, AllocError>
-    ensures { IfOk result (λ text. text.items ≡ sheet_text sheet.now) }
+/// A warning with the cells in which it is silent, since when it is over by its period, in seconds after 1970-01-01T00:00:00Z, and with
+/// its content.
+pub fn sheet_text(
+    alloc: Global,
+    sheet: &WarningSheet,
+    silent: &[SilentRow],
+    over: Option<u64>,
+) -> Result<Vec<u8>, AllocError>
+    ensures { IfOk result (λ text. text.items ≡ sheet_text silent.now over sheet.now) }
 {
     let mut text = Vec::new(alloc);
     push_warning(alloc, &mut text, &sheet.row)?;
+    push_air(alloc, &mut text, silent, over)?;
     push_content(alloc, &mut text, &sheet.content)?;
     Ok(text)
 }

@@ -1,5 +1,5 @@
 -- A picture of an office, by what one survey of it shows.
-use Rattle.std.specs.Prelude.{ℕ, Bool, ◌-◌, ◌||◌, List, [], ◌∷◌, Option, None, count_by, is_some, map, slice_index_or, if◌then◌else◌}
+use Rattle.std.specs.Prelude.{ℕ, Bool, ◌-◌, ◌||◌, List, [], ◌∷◌, Option, None, Some, count_by, find, is_some, map, nat_eq, slice_index_or, if◌then◌else◌}
 use Rattle.centre_events.specs.declared.refusal.Limit.TheVariants as limit
 use Rattle.centre_events.specs.declared.refusal.Refusal.{Refusal}
 use Rattle.centre_events.specs.declared.refusal.Refusal.TheVariants as cause
@@ -15,6 +15,7 @@ use Rattle.office.specs.declared.event_kind.EventKind.{EventKind}
 use Rattle.office.specs.declared.event_kind.EventKind.TheVariants as kind
 use Rattle.office.specs.declared.surveyed.Surveyed.{Surveyed}
 use Rattle.office_picture.specs.declared.moments.Moments.{Moments}
+use Rattle.office_picture.specs.declared.moments.WarningAir.{WarningAir}
 use Rattle.status_figures.specs.declared.area_board.AreaBoard.{AreaBoard}
 use Rattle.status_figures.specs.declared.bsc_figures.BscFigures.{BscFigures}
 use Rattle.status_figures.specs.declared.picture.Picture.{Picture}
@@ -53,9 +54,31 @@ figures_of sinces resets downs row = record { row = row; since = since_of sinces
 abbrev pub board_of : AreaNumbers → AreaBoard
 board_of area = record { name = area.name; numbers = area.numbers }
 
+-- it is known of that warning
+abbrev pub is_of : ℕ → WarningAir → Bool
+is_of number air = nat_eq air.warning number
+
+-- in how many cells a warning is silent of which that is known
+abbrev pub silent_in : Option WarningAir → ℕ
+silent_in None = 0
+silent_in (Some air) = air.silent
+
+-- since when it is over
+abbrev pub over_in : Option WarningAir → Option ℕ
+over_in None = None
+over_in (Some air) = air.over
+
+-- a warning that is silent in so many cells, and over since then
+abbrev pub warning_with : ℕ → Option ℕ → SurveyedWarning → WarningFigures
+warning_with silent over warning = record { sheet = warning.sheet; areas = map board_of warning.areas; silent = silent; over = over }
+
+-- what is known of the warning of that number
+abbrev pub air_of : List WarningAir → ℕ → Option WarningAir
+air_of airs number = find (is_of number) airs
+
 -- a warning
-abbrev pub warning_of : SurveyedWarning → WarningFigures
-warning_of warning = record { sheet = warning.sheet; areas = map board_of warning.areas }
+abbrev pub warning_of : List WarningAir → SurveyedWarning → WarningFigures
+warning_of airs warning = warning_with (silent_in (air_of airs warning.sheet.row.number)) (over_in (air_of airs warning.sheet.row.number)) warning
 
 -- What was counted.
 
@@ -96,7 +119,7 @@ picture s m = record {
   taken = m.taken;
   status = s.survey.status;
   bscs = map (figures_of m.sinces.items m.resets.items m.downs.items) s.survey.bscs;
-  warnings = map warning_of s.survey.warnings;
+  warnings = map (warning_of m.airs.items) s.survey.warnings;
   kept = m.kept;
   receipts = s.counts.receipts;
   refusals = map (refusal_tally s.counts) all_causes;

@@ -14,5 +14,5 @@ mod tallying;
 mod warnings;
 
 pub use downs::down_count;
-pub use moments::Moments;
+pub use moments::{Moments, WarningAir};
 pub use picturing::picture;

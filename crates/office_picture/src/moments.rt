@@ -1,5 +1,17 @@
 //! What is known beside a survey.
 
+use warning_book::WarningId;
+
+/// What is known of a warning beside its board.
+#[derive(Clone, Copy, Debug, PartialEq, Eq)]
+pub struct WarningAir {
+    pub warning: WarningId,
+    /// In how many cells it is silent.
+    pub silent: u64,
+    /// Since when it is over by its period, in seconds after 1970-01-01T00:00:00Z.
+    pub over: Option<u64>,
+}
+
 /// What is known of a server beside a survey of its office.
 #[derive(Debug, Drop)]
 pub struct Moments {
@@ -11,6 +23,8 @@ pub struct Moments {
     pub resets: Vec<Option<u64>>,
     /// How many cells of each BSC are down for some kind of warning, in the same way.
     pub downs: Vec<Option<u64>>,
+    /// Where warnings are silent, and since when they are over; nothing is known of the others.
+    pub airs: Vec<WarningAir>,
     /// The last entry that stands in the kept file.
     pub kept: Option<u64>,
     /// How much memory the program takes, in octets.

@@ -30,7 +30,7 @@ pub fn picture(alloc: Global, surveyed: Surveyed, moments: &Moments) -> Result<P
         resets,
         moments.downs.as_slice(),
     )?;
-    let warnings = warnings(alloc, surveyed.into_vec())?;
+    let warnings = warnings(alloc, moments.airs.as_slice(), surveyed.into_vec())?;
     let refusals = refusals(alloc, &counts)?;
     let entries = entries(alloc, &counts)?;
     Ok(Picture {

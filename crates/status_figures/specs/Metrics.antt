@@ -192,18 +192,21 @@ abbrev pub warning_metric_name : WarningMetric → List ℕ
 warning_metric_name of_warning.Active = codes "cbc_warning_active"
 warning_metric_name of_warning.Left = codes "cbc_left_places"
 warning_metric_name of_warning.Broadcasts = codes "cbc_broadcasts"
+warning_metric_name of_warning.Silent = codes "cbc_silent_cells"
 
 -- what it is
 abbrev pub warning_metric_help : WarningMetric → List ℕ
 warning_metric_help of_warning.Active = codes "Whether a warning was not stopped."
 warning_metric_help of_warning.Left = codes "Places where an old or unwanted version of a warning is on air or may be."
 warning_metric_help of_warning.Broadcasts = codes "How often a warning was broadcast in the cells that its areas cover, as reported."
+warning_metric_help of_warning.Silent = codes "Cells in which a warning is on air, and its number of broadcasts does not rise."
 
 -- its number
 abbrev pub warning_metric_value : WarningMetric → WarningFigures → ℕ
 warning_metric_value of_warning.Active w = flag w.sheet.row.is_active
 warning_metric_value of_warning.Left w = w.sheet.row.numbers.left
 warning_metric_value of_warning.Broadcasts w = w.sheet.row.numbers.broadcasts
+warning_metric_value of_warning.Silent w = w.silent
 
 -- a sample of it
 abbrev pub warning_line : WarningMetric → WarningFigures → List ℕ
@@ -219,7 +222,8 @@ unfoldable pub warnings_text : List WarningFigures → List ℕ
 warnings_text warnings =
     cells_text warnings
     ++ (warning_metric_text of_warning.Active warnings
-    ++ (warning_metric_text of_warning.Left warnings ++ warning_metric_text of_warning.Broadcasts warnings))
+    ++ (warning_metric_text of_warning.Left warnings
+    ++ (warning_metric_text of_warning.Broadcasts warnings ++ warning_metric_text of_warning.Silent warnings)))
 
 -- BSCs.
 

@@ -15,6 +15,7 @@ pub(crate) enum WarningMetric {
     Active,
     Left,
     Broadcasts,
+    Silent,
 }
 
 impl WarningMetric {
@@ -25,6 +26,7 @@ impl WarningMetric {
             WarningMetric::Active => "cbc_warning_active",
             WarningMetric::Left => "cbc_left_places",
             WarningMetric::Broadcasts => "cbc_broadcasts",
+            WarningMetric::Silent => "cbc_silent_cells",
         }
     }
 
@@ -39,6 +41,9 @@ impl WarningMetric {
             WarningMetric::Broadcasts => {
                 "How often a warning was broadcast in the cells that its areas cover, as reported."
             }
+            WarningMetric::Silent => {
+                "Cells in which a warning is on air, and its number of broadcasts does not rise."
+            }
         }
     }
 
@@ -49,6 +54,7 @@ impl WarningMetric {
             WarningMetric::Active => flag(warning.sheet.row.is_active),
             WarningMetric::Left => warning.sheet.row.numbers.left,
             WarningMetric::Broadcasts => warning.sheet.row.numbers.broadcasts,
+            WarningMetric::Silent => warning.silent,
         }
     }
 }
@@ -177,5 +183,6 @@ pub(crate) fn push_warnings(
     push_cells(alloc, out, warnings)?;
     push_metric(alloc, out, WarningMetric::Active, warnings)?;
     push_metric(alloc, out, WarningMetric::Left, warnings)?;
-    push_metric(alloc, out, WarningMetric::Broadcasts, warnings)
+    push_metric(alloc, out, WarningMetric::Broadcasts, warnings)?;
+    push_metric(alloc, out, WarningMetric::Silent, warnings)
 }

@@ -6,4 +6,5 @@ pub mod Laws
 pub mod Pages
 pub mod Pieces
 pub mod Standings
+pub mod Times
 pub mod WarningParts

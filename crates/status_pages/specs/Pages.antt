@@ -1,5 +1,5 @@
 -- The page: the state of the centre in a line, its figures, and then its warnings and its BSCs.
-use Rattle.std.specs.Prelude.{ℕ, Bool, true, false, ◌+◌, ◌-◌, ◌/◌, ◌%◌, ◌==◌, ◌||◌, not, List, [], ◌∷◌, ◌++◌, Option, Some, None, codes, count_by, decimal, length}
+use Rattle.std.specs.Prelude.{ℕ, Bool, true, false, ◌-◌, ◌/◌, ◌==◌, ◌||◌, not, List, [], ◌∷◌, ◌++◌, Option, Some, None, codes, count_by, decimal, length}
 use Rattle.std.specs.List.{flat_map}
 use Rattle.centre_past.specs.declared.lists.plan_counts.PlanCounts.{PlanCounts}
 use Rattle.status_figures.specs.Health.{health_of}
@@ -11,10 +11,11 @@ use Rattle.status_pages.specs.Fixed.{after_html, before_html, layout_html, looks
 use Rattle.status_pages.specs.Standings.{are_moving, bsc_stands, warning_stands}
 use Rattle.status_pages.specs.WarningParts.{warnings_html}
 use Rattle.status_pages.specs.declared.standing.Standing.{Standing}
-use Rattle.status_pages.specs.declared.standing.Standing.TheVariants.{UnderWay, Wrong}
+use Rattle.status_pages.specs.declared.standing.Standing.TheVariants.{Silent, UnderWay, Wrong}
 use Rattle.status_pages.specs.declared.verdict.Verdict.{Verdict}
 use Rattle.status_pages.specs.declared.verdict.Verdict.TheVariants as verdict
 use Rattle.status_pages.specs.Pieces.{piece_html}
+use Rattle.status_pages.specs.Times.{time_of_day}
 use Rattle.status_pages.specs.declared.items.CentreItem.{CentreItem}
 use Rattle.status_pages.specs.declared.items.CentreItem.TheVariants as of_centre
 use Rattle.status_pages.specs.declared.items.CountItem.{CountItem}
@@ -32,6 +33,10 @@ counted false true busy = verdict.IsEmpty
 counted false false true = verdict.SomeUnderWay
 counted false false false = verdict.AllInOrder
 
+-- somebody has to look at some warning or at some BSC
+abbrev pub has_wrong : Picture → Bool
+has_wrong p = has_some p Silent || has_some p Wrong
+
 -- no BSC is registered in the picture
 abbrev pub has_no_bsc : Picture → Bool
 has_no_bsc p = length p.bscs == 0
@@ -45,7 +50,7 @@ verdict_with health.StaleAndFull otherwise = verdict.IsStale
 
 -- how the centre of a picture stands
 abbrev pub verdict_of : Picture → Verdict
-verdict_of p = verdict_with (health_of p.status) (counted (has_some p Wrong) (has_no_bsc p) (has_some p UnderWay))
+verdict_of p = verdict_with (health_of p.status) (counted (has_wrong p) (has_no_bsc p) (has_some p UnderWay))
 
 -- its class
 abbrev pub verdict_class : Verdict → List ℕ
@@ -73,14 +78,6 @@ verdict_text verdict.SomeWrong = codes "Somebody has to look at what stands firs
 verdict_text verdict.IsEmpty = codes "No BSC is registered. The centre knows nothing of what is on air."
 verdict_text verdict.SomeUnderWay = codes "Every link is up, and no warning failed in any cell. If this stays, look at what is awaited or left."
 verdict_text verdict.AllInOrder = codes "Every link is up, no warning failed in any cell, and no order is to come."
-
--- two digits of a number below 100
-abbrev pub two_digits : ℕ → List ℕ
-two_digits n = (48 + n / 10) ∷ (48 + n % 10) ∷ []
-
--- the time of day, in UTC
-unfoldable pub time_of_day : ℕ → List ℕ
-time_of_day s = two_digits (s / 3600 % 24) ++ (codes ":" ++ (two_digits (s / 60 % 60) ++ (codes ":" ++ two_digits (s % 60))))
 
 -- the state of the centre
 unfoldable pub verdict_html : Verdict → List ℕ

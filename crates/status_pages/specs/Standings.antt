@@ -7,7 +7,7 @@ use Rattle.coverage_board.specs.declared.numbers.Numbers.{Numbers}
 use Rattle.status_figures.specs.declared.bsc_figures.BscFigures.{BscFigures}
 use Rattle.status_figures.specs.declared.warning_figures.WarningFigures.{WarningFigures}
 use Rattle.status_pages.specs.declared.standing.Standing.{Standing}
-use Rattle.status_pages.specs.declared.standing.Standing.TheVariants.{Wrong, UnderWay, InOrder, Stopped}
+use Rattle.status_pages.specs.declared.standing.Standing.TheVariants.{Silent, Wrong, UnderWay, InOrder, Stopped}
 
 -- the warning is wanted in no registered cell
 abbrev pub is_nowhere : Numbers → Bool
@@ -26,12 +26,16 @@ is_under_way w = not (w.numbers.awaited == 0) || not (w.numbers.left == 0)
 abbrev pub is_stuck : Bool → WarningRow → Bool
 is_stuck moving w = is_under_way w && not moving
 
--- how a warning stands, where some BSC is under way or none is
-unfoldable pub warning_standing : Bool → WarningRow → Standing
-warning_standing moving w =
+-- how a warning stands by its board, where some BSC is under way or none is
+unfoldable pub row_standing : Bool → WarningRow → Standing
+row_standing moving w =
     if is_wrong w || is_stuck moving w then Wrong
     else (if is_under_way w then UnderWay
     else (if w.is_active then InOrder else Stopped))
+
+-- how a warning stands: one that is silent in some cell has somebody look at it first
+unfoldable pub warning_standing : Bool → WarningFigures → Standing
+warning_standing moving w = if w.silent == 0 then row_standing moving w.sheet.row else Silent
 
 -- for how many seconds an order may be out before somebody has to look
 abbrev pub long_out : ℕ
@@ -71,6 +75,7 @@ bsc_standing taken b =
 
 -- the two are the same
 abbrev pub is_same : Standing → Standing → Bool
+is_same Silent Silent = true
 is_same Wrong Wrong = true
 is_same UnderWay UnderWay = true
 is_same InOrder InOrder = true
@@ -79,7 +84,7 @@ is_same other another = false
 
 -- whether a warning stands so
 abbrev pub warning_stands : Bool → Standing → WarningFigures → Bool
-warning_stands moving s w = is_same (warning_standing moving w.sheet.row) s
+warning_stands moving s w = is_same (warning_standing moving w) s
 
 -- whether a BSC stands so
 abbrev pub bsc_stands : ℕ → Standing → BscFigures → Bool

@@ -12,16 +12,18 @@ use Rattle.status_pages.specs.Boards.{areas_html, board_html}
 use Rattle.status_pages.specs.Escapes.{escaped}
 use Rattle.status_pages.specs.Standings.{is_nowhere, is_stuck, warning_standing, warning_stands}
 use Rattle.status_pages.specs.declared.standing.Standing.{Standing}
-use Rattle.status_pages.specs.declared.standing.Standing.TheVariants.{Wrong, UnderWay, InOrder, Stopped}
+use Rattle.status_pages.specs.declared.standing.Standing.TheVariants.{Silent, Wrong, UnderWay, InOrder, Stopped}
 use Rattle.warning_book.specs.declared.cbs_content.CbsContent.{CbsContent}
 use Rattle.warning_book.specs.declared.content.Content.{Content}
 use Rattle.warning_book.specs.declared.content.Content.TheVariants.{Cbs, Emergency}
 use Rattle.warning_book.specs.declared.emergency_content.EmergencyContent.{EmergencyContent}
 use Rattle.status_pages.specs.Pieces.{piece_html}
+use Rattle.status_pages.specs.Times.{time_of_day}
 use Rattle.status_pages.specs.declared.piece.Piece.TheVariants as piece
 
 -- the class of what stands so
 abbrev pub standing_class : Standing → List ℕ
+standing_class Silent = codes "bad"
 standing_class Wrong = codes "bad"
 standing_class UnderWay = codes "busy"
 standing_class InOrder = codes "good"
@@ -29,6 +31,7 @@ standing_class Stopped = codes "off"
 
 -- what a list of warnings that stand so is called
 abbrev pub warnings_title : Standing → List ℕ
+warnings_title Silent = codes "Silent warnings"
 warnings_title Wrong = codes "Warnings to look at"
 warnings_title UnderWay = codes "Warnings under way"
 warnings_title InOrder = codes "Warnings on air"
@@ -105,8 +108,8 @@ unfoldable pub front_with : ℕ → List ℕ → List ℕ
 front_with number class = codes "<article id=\"w" ++ (decimal number ++ (codes "\" class=\"w " ++ (class ++ codes "\">")))
 
 -- where a warning begins
-unfoldable pub warning_front : Bool → WarningRow → List ℕ
-warning_front moving w = front_with w.number (standing_class (warning_standing moving w))
+unfoldable pub warning_front : Bool → WarningFigures → List ℕ
+warning_front moving w = front_with w.sheet.row.number (standing_class (warning_standing moving w))
 
 -- it is said of an active warning that it is wanted in no registered cell
 unfoldable pub nowhere_html : WarningRow → List ℕ
@@ -116,13 +119,31 @@ nowhere_html w = if w.is_active && is_nowhere w.numbers then codes "<p class=\"n
 unfoldable pub stuck_html : Bool → WarningRow → List ℕ
 stuck_html moving w = if is_stuck moving w then piece_html piece.Stuck else []
 
+-- in how many cells the warning is silent
+unfoldable pub silent_html : ℕ → List ℕ
+silent_html count = piece_html piece.SilentFront ++ (decimal count ++ piece_html piece.SilentEnd)
+
+-- the same, where it is silent in one
+abbrev pub silent_if : ℕ → List ℕ
+silent_if count = if count == 0 then [] else silent_html count
+
+-- since when the warning is over
+unfoldable pub over_html : ℕ → List ℕ
+over_html since = piece_html piece.OverFront ++ (time_of_day since ++ piece_html piece.OverEnd)
+
+-- the same, where it is
+abbrev pub over_if : Option ℕ → List ℕ
+over_if None = []
+over_if (Some since) = over_html since
+
 -- what is said of a warning
-unfoldable pub notes_html : Bool → WarningRow → List ℕ
-notes_html moving w = nowhere_html w ++ stuck_html moving w
+unfoldable pub notes_html : Bool → WarningFigures → List ℕ
+notes_html moving w =
+    silent_if w.silent ++ (over_if w.over ++ (nowhere_html w.sheet.row ++ stuck_html moving w.sheet.row))
 
 -- what stands above its content
-unfoldable pub warning_head : Bool → WarningRow → List ℕ
-warning_head moving w = warning_front moving w ++ (name_html w ++ version_html w)
+unfoldable pub warning_head : Bool → WarningFigures → List ℕ
+warning_head moving w = warning_front moving w ++ (name_html w.sheet.row ++ version_html w.sheet.row)
 
 -- its board and those of its areas
 unfoldable pub warning_boards : WarningFigures → List ℕ
@@ -131,7 +152,7 @@ warning_boards w = board_html w.sheet.row.numbers ++ (areas_html w.areas ++ piec
 -- a warning
 unfoldable pub warning_html : Bool → WarningFigures → List ℕ
 warning_html moving w =
-    warning_head moving w.sheet.row ++ (content_html w.sheet.content ++ (notes_html moving w.sheet.row ++ warning_boards w))
+    warning_head moving w ++ (content_html w.sheet.content ++ (notes_html moving w ++ warning_boards w))
 
 -- where a section begins
 unfoldable pub section_class : Standing → List ℕ
@@ -163,10 +184,14 @@ section_if section count = if count == 0 then [] else section count
 unfoldable pub warnings_section : Bool → List WarningFigures → Standing → List ℕ
 warnings_section moving warnings s = section_if (some_warnings moving warnings s) (count_by (warning_stands moving s) warnings)
 
+-- those at which somebody has to look, the silent ones first
+unfoldable pub urgent_sections : Bool → List WarningFigures → List ℕ
+urgent_sections moving warnings = warnings_section moving warnings Silent ++ warnings_section moving warnings Wrong
+
 -- all warnings, the most urgent first
 unfoldable pub warnings_html : Bool → List WarningFigures → List ℕ
 warnings_html moving warnings =
     piece_html piece.WarningsFront
-    ++ (warnings_section moving warnings Wrong
+    ++ (urgent_sections moving warnings
     ++ (warnings_section moving warnings UnderWay
     ++ (warnings_section moving warnings InOrder ++ (warnings_section moving warnings Stopped ++ piece_html piece.BlockEnd))))

@@ -1,9 +1,10 @@
 //! What stands above the warnings and the BSCs.
 
-ghost use Rattle.std.specs.Prelude.{◌≡◌, ◌++◌, ◌<◌, OnOk};
-ghost use Rattle.status_pages.specs.Pages.{moment_html, time_of_day, two_digits, verdict_html};
+ghost use Rattle.std.specs.Prelude.{◌≡◌, ◌++◌, OnOk};
+ghost use Rattle.status_pages.specs.Pages.{moment_html, verdict_html};
 
 use crate::piece::{Piece, push_piece};
+use crate::times::push_time;
 use crate::verdict::Verdict;
 use crate::verdicts::{advice, class, word};
 use std::alloc::{AllocError, Global};
@@ -22,33 +23,6 @@ pub(crate) fn push_verdict(
     let advice = advice(verdict);
     let text = format!(in alloc; "<header class=\"{class}\"><h1>{word}</h1><p>{advice}</p>")?;
     out.extend_from_slice(text.as_bytes())
-}
-
-/// The digits of a number.
-fn two_digits(number: u64) -> [u8; 2]
-    requires { number < 100 }
-    ensures { result ≡ two_digits number }
-{
-    [48 + (number / 10) as u8, 48 + (number % 10) as u8]
-}
-
-fn push_two(out: &mut Vec<u8>, number: u64) -> Result<(), AllocError>
-    requires { number < 100 }
-    ensures { OnOk result (out.new.items ≡ out.old.items ++ two_digits number) }
-{
-    let digits = two_digits(number);
-    out.extend_from_slice(&digits)
-}
-
-#[tactic(auto, unfolding(crate::specs::Pages::time_of_day))]
-fn push_time(out: &mut Vec<u8>, second: u64) -> Result<(), AllocError>
-    ensures { OnOk result (out.new.items ≡ out.old.items ++ time_of_day second) }
-{
-    push_two(out, second / 3600 % 24)?;
-    out.extend_from_slice(b":")?;
-    push_two(out, second / 60 % 60)?;
-    out.extend_from_slice(b":")?;
-    push_two(out, second % 60)
 }
 
 /// Appends when the picture was taken.

@@ -17,6 +17,7 @@ mod pages;
 mod piece;
 mod standing;
 mod standings;
+mod times;
 mod verdict;
 mod verdicts;
 mod warnings;

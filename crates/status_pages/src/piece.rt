@@ -16,6 +16,12 @@ pub(crate) enum Piece {
     OctetsFront,
     /// A warning is stuck, and what there is to do.
     Stuck,
+    /// A warning is silent in some cells, of which the number stands between the two.
+    SilentFront,
+    SilentEnd,
+    /// A warning is over since a time that stands between the two.
+    OverFront,
+    OverEnd,
     TextFront,
     MomentFront,
     MomentEnd,
@@ -49,6 +55,12 @@ impl Piece {
             Piece::Stuck => {
                 "<p class=\"none\">Cells are awaited or left, but no BSC is under way. If a BSC refused an order, type retry B. Else a cell or a link is down, or a BSC does not answer.</p>"
             }
+            Piece::SilentFront => {
+                "<p class=\"none\">Its number of broadcasts does not rise in cells where it is on air: <b>"
+            }
+            Piece::SilentEnd => "</b>. Type warning and its number at a console to see which.</p>",
+            Piece::OverFront => "<p class=\"octets\">By its period it is over since ",
+            Piece::OverEnd => " UTC.</p>",
             Piece::TextFront => "<p class=\"text\" dir=\"auto\">",
             Piece::MomentFront => "<p class=\"when\">Picture of ",
             Piece::MomentEnd => " UTC<span id=\"age\"></span></p>",

@@ -1,7 +1,7 @@
 //! How warnings and BSCs stand.
 
 ghost use Rattle.std.specs.Prelude.{◌≡◌, count_by};
-ghost use Rattle.status_pages.specs.Standings.{are_moving, bsc_standing, bsc_stands, are_all_down, has_all_down, is_busy, is_late, is_long_out, is_nowhere, is_same, is_stuck, is_under_way, is_wrong, needs_look, warning_standing, warning_stands};
+ghost use Rattle.status_pages.specs.Standings.{are_moving, bsc_standing, bsc_stands, are_all_down, has_all_down, is_busy, is_late, is_long_out, is_nowhere, is_same, is_stuck, is_under_way, is_wrong, needs_look, row_standing, warning_standing, warning_stands};
 
 use crate::standing::Standing;
 use centre_past::lists::WarningRow;
@@ -37,10 +37,10 @@ pub(crate) fn is_stuck(moving: bool, warning: &WarningRow) -> bool
     is_under_way(warning) && !moving
 }
 
-/// How a warning stands, where some BSC is under way or none is.
-#[tactic(auto, unfolding(crate::specs::Standings::warning_standing))]
-pub(crate) fn warning_standing(moving: bool, warning: &WarningRow) -> Standing
-    ensures { result ≡ warning_standing moving warning.now }
+/// How a warning stands by its board, where some BSC is under way or none is.
+#[tactic(auto, unfolding(crate::specs::Standings::row_standing))]
+fn row_standing(moving: bool, warning: &WarningRow) -> Standing
+    ensures { result ≡ row_standing moving warning.now }
 {
     if is_wrong(warning) || is_stuck(moving, warning) {
         Standing::Wrong
@@ -50,6 +50,18 @@ pub(crate) fn warning_standing(moving: bool, warning: &WarningRow) -> Standing
         Standing::InOrder
     } else {
         Standing::Stopped
+    }
+}
+
+/// How a warning stands. One that is silent in some cell has somebody look at it first.
+#[tactic(auto, unfolding(crate::specs::Standings::warning_standing))]
+pub(crate) fn warning_standing(moving: bool, warning: &WarningFigures) -> Standing
+    ensures { result ≡ warning_standing moving warning.now }
+{
+    if warning.silent == 0 {
+        row_standing(moving, &warning.sheet.row)
+    } else {
+        Standing::Silent
     }
 }
 
@@ -119,7 +131,8 @@ fn is_same(found: Standing, wanted: Standing) -> bool
     ensures { result ≡ is_same found wanted }
 {
     match (found, wanted) {
-        (Standing::Wrong, Standing::Wrong)
+        (Standing::Silent, Standing::Silent)
+        | (Standing::Wrong, Standing::Wrong)
         | (Standing::UnderWay, Standing::UnderWay)
         | (Standing::InOrder, Standing::InOrder)
         | (Standing::Stopped, Standing::Stopped) => true,
@@ -131,7 +144,7 @@ fn is_same(found: Standing, wanted: Standing) -> bool
 pub(crate) fn warning_stands(moving: bool, standing: Standing, warning: &WarningFigures) -> bool
     ensures { result ≡ warning_stands moving standing warning.now }
 {
-    is_same(warning_standing(moving, &warning.sheet.row), standing)
+    is_same(warning_standing(moving, warning), standing)
 }
 
 /// Whether a BSC stands so.

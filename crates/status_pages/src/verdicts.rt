@@ -1,7 +1,7 @@
 //! How a centre stands.
 
 ghost use Rattle.std.specs.Prelude.{◌≡◌};
-ghost use Rattle.status_pages.specs.Pages.{counted, has_no_bsc, has_some, verdict_class, verdict_of, verdict_text, verdict_word};
+ghost use Rattle.status_pages.specs.Pages.{counted, has_no_bsc, has_some, has_wrong, verdict_class, verdict_of, verdict_text, verdict_word};
 
 use crate::standing::Standing;
 use crate::standings::{are_moving, count_bscs, count_warnings};
@@ -28,6 +28,13 @@ fn has_some(picture: &Picture, standing: Standing) -> bool
         || count_bscs(picture.taken, standing, picture.bscs.as_slice()) != 0
 }
 
+/// Whether somebody has to look at some warning or at some BSC.
+fn has_wrong(picture: &Picture) -> bool
+    ensures { result ≡ has_wrong picture.now }
+{
+    has_some(picture, Standing::Silent) || has_some(picture, Standing::Wrong)
+}
+
 fn has_no_bsc(picture: &Picture) -> bool
     ensures { result ≡ has_no_bsc picture.now }
 {
@@ -41,7 +48,7 @@ pub(crate) fn verdict_of(picture: &Picture) -> Verdict
         Health::Stale | Health::StaleAndFull => Verdict::IsStale,
         Health::JournalFull => Verdict::IsFull,
         Health::Whole => counted(
-            has_some(picture, Standing::Wrong),
+            has_wrong(picture),
             has_no_bsc(picture),
             has_some(picture, Standing::UnderWay),
         ),

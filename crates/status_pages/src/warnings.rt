@@ -2,13 +2,14 @@
 
 ghost use Rattle.std.specs.Prelude.{◌≡◌, ◌++◌, IfOk, OnOk, string_bytes};
 ghost use Rattle.std.specs.List.{flat_map};
-ghost use Rattle.status_pages.specs.WarningParts.{front_with, message_html, name_html, notes_html, nowhere_html, number_html, section_class, section_front, section_title, serial_html, some_warnings, standing_class, stuck_html, version_html, version_with, warning_boards, warning_front, warning_head, warning_html, warning_if, warnings_html, warnings_section, warnings_title};
+ghost use Rattle.status_pages.specs.WarningParts.{front_with, message_html, name_html, notes_html, nowhere_html, number_html, over_html, over_if, section_class, section_front, section_title, serial_html, silent_html, silent_if, some_warnings, standing_class, stuck_html, urgent_sections, version_html, version_with, warning_boards, warning_front, warning_head, warning_html, warning_if, warnings_html, warnings_section, warnings_title};
 
 use crate::boards::{push_areas, push_board};
 use crate::contents::push_content;
 use crate::piece::{Piece, push_piece};
 use crate::standing::Standing;
 use crate::standings::{count_warnings, is_nowhere, is_stuck, warning_standing, warning_stands};
+use crate::times::push_time;
 use centre_past::lists::WarningRow;
 use serials::Serial;
 use status_figures::{WarningFigures, four_digits, kind_name, state_name};
@@ -18,7 +19,7 @@ pub(crate) fn standing_class(standing: Standing) -> &'static str
     ensures { result.now ≡ standing_class standing }
 {
     match standing {
-        Standing::Wrong => "bad",
+        Standing::Silent | Standing::Wrong => "bad",
         Standing::UnderWay => "busy",
         Standing::InOrder => "good",
         Standing::Stopped => "off",
@@ -29,6 +30,7 @@ fn title(standing: Standing) -> &'static str
     ensures { result.now ≡ warnings_title standing }
 {
     match standing {
+        Standing::Silent => "Silent warnings",
         Standing::Wrong => "Warnings to look at",
         Standing::UnderWay => "Warnings under way",
         Standing::InOrder => "Warnings on air",
@@ -118,12 +120,12 @@ fn push_front(
     alloc: Global,
     out: &mut Vec<u8>,
     moving: bool,
-    row: &WarningRow,
+    warning: &WarningFigures,
 ) -> Result<(), AllocError>
-    ensures { OnOk result (out.new.items ≡ out.old.items ++ warning_front moving row.now) }
+    ensures { OnOk result (out.new.items ≡ out.old.items ++ warning_front moving warning.now) }
 {
-    let class = standing_class(warning_standing(moving, row));
-    push_front_with(alloc, out, row.number.number(), class)
+    let class = standing_class(warning_standing(moving, warning));
+    push_front_with(alloc, out, warning.sheet.row.number.number(), class)
 }
 
 /// Says of an active warning that it is wanted in no registered cell.
@@ -150,12 +152,59 @@ fn push_stuck(out: &mut Vec<u8>, moving: bool, row: &WarningRow) -> Result<(), A
     }
 }
 
-#[tactic(auto, unfolding(crate::specs::WarningParts::notes_html))]
-fn push_notes(out: &mut Vec<u8>, moving: bool, row: &WarningRow) -> Result<(), AllocError>
-    ensures { OnOk result (out.new.items ≡ out.old.items ++ notes_html moving row.now) }
+/// Says in how many cells a warning is silent.
+#[tactic(auto, unfolding(crate::specs::WarningParts::silent_html))]
+fn push_silent(alloc: Global, out: &mut Vec<u8>, count: u64) -> Result<(), AllocError>
+    ensures { OnOk result (out.new.items ≡ out.old.items ++ silent_html count) }
 {
-    push_nowhere(out, row)?;
-    push_stuck(out, moving, row)
+    let digits = format!(in alloc; "{count}")?;
+    push_piece(out, Piece::SilentFront)?;
+    out.extend_from_slice(digits.as_bytes())?;
+    push_piece(out, Piece::SilentEnd)
+}
+
+fn push_silent_if(alloc: Global, out: &mut Vec<u8>, count: u64) -> Result<(), AllocError>
+    ensures { OnOk result (out.new.items ≡ out.old.items ++ silent_if count) }
+{
+    if count == 0 {
+        Ok(())
+    } else {
+        push_silent(alloc, out, count)
+    }
+}
+
+/// Says since when a warning is over.
+#[tactic(auto, unfolding(crate::specs::WarningParts::over_html))]
+fn push_over(out: &mut Vec<u8>, since: u64) -> Result<(), AllocError>
+    ensures { OnOk result (out.new.items ≡ out.old.items ++ over_html since) }
+{
+    push_piece(out, Piece::OverFront)?;
+    push_time(out, since)?;
+    push_piece(out, Piece::OverEnd)
+}
+
+fn push_over_if(out: &mut Vec<u8>, since: Option<u64>) -> Result<(), AllocError>
+    ensures { OnOk result (out.new.items ≡ out.old.items ++ over_if since) }
+{
+    match since {
+        None => Ok(()),
+        Some(since) => push_over(out, since),
+    }
+}
+
+#[tactic(auto, unfolding(crate::specs::WarningParts::notes_html))]
+fn push_notes(
+    alloc: Global,
+    out: &mut Vec<u8>,
+    moving: bool,
+    warning: &WarningFigures,
+) -> Result<(), AllocError>
+    ensures { OnOk result (out.new.items ≡ out.old.items ++ notes_html moving warning.now) }
+{
+    push_silent_if(alloc, out, warning.silent)?;
+    push_over_if(out, warning.over)?;
+    push_nowhere(out, &warning.sheet.row)?;
+    push_stuck(out, moving, &warning.sheet.row)
 }
 
 /// Appends what stands above a warning's content.
@@ -164,13 +213,13 @@ fn push_head(
     alloc: Global,
     out: &mut Vec<u8>,
     moving: bool,
-    row: &WarningRow,
+    warning: &WarningFigures,
 ) -> Result<(), AllocError>
-    ensures { OnOk result (out.new.items ≡ out.old.items ++ warning_head moving row.now) }
+    ensures { OnOk result (out.new.items ≡ out.old.items ++ warning_head moving warning.now) }
 {
-    push_front(alloc, out, moving, row)?;
-    push_name(alloc, out, row)?;
-    push_version(alloc, out, row)
+    push_front(alloc, out, moving, warning)?;
+    push_name(alloc, out, &warning.sheet.row)?;
+    push_version(alloc, out, &warning.sheet.row)
 }
 
 /// Appends a warning's board and those of its areas.
@@ -193,9 +242,9 @@ fn push_warning(
 ) -> Result<(), AllocError>
     ensures { OnOk result (out.new.items ≡ out.old.items ++ warning_html moving warning.now) }
 {
-    push_head(alloc, out, moving, &warning.sheet.row)?;
+    push_head(alloc, out, moving, warning)?;
     push_content(alloc, out, &warning.sheet.content)?;
-    push_notes(out, moving, &warning.sheet.row)?;
+    push_notes(alloc, out, moving, warning)?;
     push_boards(alloc, out, warning)
 }
 
@@ -308,6 +357,20 @@ fn push_section(
     }
 }
 
+/// Appends those at which somebody has to look, the silent ones first.
+#[tactic(auto, unfolding(crate::specs::WarningParts::urgent_sections))]
+fn push_urgent(
+    alloc: Global,
+    out: &mut Vec<u8>,
+    moving: bool,
+    warnings: &[WarningFigures],
+) -> Result<(), AllocError>
+    ensures { OnOk result (out.new.items ≡ out.old.items ++ urgent_sections moving warnings.now) }
+{
+    push_section(alloc, out, moving, warnings, Standing::Silent)?;
+    push_section(alloc, out, moving, warnings, Standing::Wrong)
+}
+
 /// Appends all warnings, the most urgent first.
 #[tactic(auto, unfolding(crate::specs::WarningParts::warnings_html))]
 pub(crate) fn push_warnings(
@@ -319,7 +382,7 @@ pub(crate) fn push_warnings(
     ensures { OnOk result (out.new.items ≡ out.old.items ++ warnings_html moving warnings.now) }
 {
     push_piece(out, Piece::WarningsFront)?;
-    push_section(alloc, out, moving, warnings, Standing::Wrong)?;
+    push_urgent(alloc, out, moving, warnings)?;
     push_section(alloc, out, moving, warnings, Standing::UnderWay)?;
     push_section(alloc, out, moving, warnings, Standing::InOrder)?;
     push_section(alloc, out, moving, warnings, Standing::Stopped)?;

@@ -10,6 +10,8 @@ mod area_tests;
 #[cfg(test)]
 mod book_tests;
 #[cfg(test)]
+mod broadcast_tests;
+#[cfg(test)]
 mod element_tests;
 #[cfg(test)]
 mod first_line_tests;

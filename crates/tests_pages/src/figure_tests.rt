@@ -79,6 +79,10 @@ cbc_left_places{warning="8"} 0
 # TYPE cbc_broadcasts gauge
 cbc_broadcasts{warning="3"} 60
 cbc_broadcasts{warning="8"} 0
+# HELP cbc_silent_cells Cells in which a warning is on air, and its number of broadcasts does not rise.
+# TYPE cbc_silent_cells gauge
+cbc_silent_cells{warning="3"} 0
+cbc_silent_cells{warning="8"} 0
 # HELP cbc_bsc_link_up Whether the link of a BSC is up, and no RESET is out over it.
 # TYPE cbc_bsc_link_up gauge
 cbc_bsc_link_up{bsc="1"} 1

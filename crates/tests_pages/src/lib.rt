@@ -15,6 +15,8 @@ mod pictures;
 #[cfg(test)]
 mod reset_tests;
 #[cfg(test)]
+mod silent_tests;
+#[cfg(test)]
 mod standing_tests;
 #[cfg(test)]
 mod values;

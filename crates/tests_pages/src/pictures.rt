@@ -25,6 +25,8 @@ fn failed_warning(rt: &impl Abort, alloc: Global) -> WarningFigures {
     WarningFigures {
         sheet: WarningSheet { row, content },
         areas: areas(rt, alloc, &boards),
+        silent: 0,
+        over: None,
     }
 }
 
@@ -35,6 +37,8 @@ fn stopped_warning(rt: &impl Abort, alloc: Global) -> WarningFigures {
     WarningFigures {
         sheet: WarningSheet { row, content },
         areas: areas(rt, alloc, &[]),
+        silent: 0,
+        over: None,
     }
 }
 
@@ -45,6 +49,8 @@ fn good_warning(rt: &impl Abort, alloc: Global, area: &[u8], text: &[u8]) -> War
     WarningFigures {
         sheet: WarningSheet { row, content },
         areas: areas(rt, alloc, &[(area, numbers(0, 7, 0, 0))]),
+        silent: 0,
+        over: None,
     }
 }
 
@@ -108,6 +114,36 @@ pub(crate) fn picture_with(
     picture_of(rt, alloc, warnings, bscs(rt, alloc, &[]), refusals)
 }
 
+/// A warning with these numbers, which is active or stopped.
+fn one_warning(
+    rt: &impl Abort,
+    alloc: Global,
+    serial: Option<u16>,
+    numbers: Numbers,
+) -> WarningFigures {
+    let row = row(alloc, 9, 4370, serial, Kind::Emergency, numbers);
+    let content = Some(emergency(0x0580));
+    WarningFigures {
+        sheet: WarningSheet { row, content },
+        areas: areas(rt, alloc, &[]),
+        silent: 0,
+        over: None,
+    }
+}
+
+/// A centre of one warning and of these BSCs.
+fn picture_with_one(
+    rt: &impl Abort,
+    alloc: Global,
+    warning: WarningFigures,
+    all: &[BscFigures],
+) -> Picture {
+    let mut warnings = Vec::new(alloc);
+    warnings.push(warning).expect(rt, "memory");
+    let bscs = bscs(rt, alloc, all);
+    picture_of(rt, alloc, warnings, bscs, tallies(rt, alloc, &[]))
+}
+
 /// A centre of one warning with these numbers, which is active or stopped, and of these BSCs.
 pub(crate) fn picture_of_one(
     rt: &impl Abort,
@@ -116,16 +152,22 @@ pub(crate) fn picture_of_one(
     numbers: Numbers,
     all: &[BscFigures],
 ) -> Picture {
-    let row = row(alloc, 9, 4370, serial, Kind::Emergency, numbers);
-    let content = Some(emergency(0x0580));
-    let warning = WarningFigures {
-        sheet: WarningSheet { row, content },
-        areas: areas(rt, alloc, &[]),
-    };
-    let mut warnings = Vec::new(alloc);
-    warnings.push(warning).expect(rt, "memory");
-    let bscs = bscs(rt, alloc, all);
-    picture_of(rt, alloc, warnings, bscs, tallies(rt, alloc, &[]))
+    let warning = one_warning(rt, alloc, serial, numbers);
+    picture_with_one(rt, alloc, warning, all)
+}
+
+/// A centre of one warning that is on air in seven cells, in so many of them silent, and over since then.
+pub(crate) fn picture_of_silent(
+    rt: &impl Abort,
+    alloc: Global,
+    silent: u64,
+    over: Option<u64>,
+    all: &[BscFigures],
+) -> Picture {
+    let mut warning = one_warning(rt, alloc, Some(0x4031), numbers(0, 7, 0, 0));
+    warning.silent = silent;
+    warning.over = over;
+    picture_with_one(rt, alloc, warning, all)
 }
 
 /// A centre that is stale, or whose journal may have so many entries since the last fold, of which there are 234. It keeps no file.

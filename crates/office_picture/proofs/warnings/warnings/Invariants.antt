@@ -4,4 +4,4 @@ use Rattle.office_picture.proofs.warnings.warnings.Given as goal
 
 -- the warnings that are made are of those that were taken
 abbrev pub invariant-loop-row : goal.invariant-loop-row
-invariant-loop-row l = l.warnings.items ≡ map warning_of l.yielded
+invariant-loop-row l = l.warnings.items ≡ map (warning_of l.airs) l.yielded
