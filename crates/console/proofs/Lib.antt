@@ -7,3 +7,4 @@ pub mod UniqueLemmas
 pub mod SessionLemmas
 pub mod CheckpointLemmas
 pub mod WholeLemmas
+pub mod LineLemmas

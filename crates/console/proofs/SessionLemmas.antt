@@ -1,6 +1,5 @@
 -- Events and reports in a whole centre and in a stale one.
-use Rattle.std.proofs.Common.{◌≡◌, ◌⊎◌, inl, inr, ℕ, ◌+◌, true, false, Some, Ok, Err, List, [], ◌∷◌, ◌++◌, length, length-append, refl, sym, ap, arith, ◌∙◌}
-use Rattle.cbsp_messages.specs.declared.message_type.MessageType.{MessageType}
+use Rattle.std.proofs.Common.{◌≡◌, inl, inr, ℕ, ◌+◌, true, false, Some, Ok, Err, List, [], ◌∷◌, ◌++◌, length, length-append, refl, sym, ap, arith, ◌∙◌}
 use Rattle.centre_core.specs.Centre.{Leaves, Refuses}
 use Rattle.centre_past.specs.Legal.{Known, all_entries, past}
 use Rattle.centre_events.specs.Verdict.{verdict}
@@ -10,9 +9,7 @@ use Rattle.centre_events.specs.declared.entry.Entry.{Entry}
 use Rattle.centre_events.specs.declared.event.Event.{Event}
 use Rattle.centre_events.specs.declared.refusal.Refusal.{Refusal}
 use Rattle.centre_events.specs.declared.refusal.Refusal.TheVariants as refusal
-use Rattle.framing.specs.declared.frame.Frame.{Frame}
-use Rattle.console.specs.Sessions.{SessionState, verdict_in, entry_of, ReportsBody, ReportsFrame, SubmitsOrStarves, BodyStarves, FrameStarves}
-use Rattle.cbsp_messages.specs.MessageType.{report_type}
+use Rattle.console.specs.Sessions.{SessionState, verdict_in, entry_of, SubmitsOrStarves}
 use Rattle.console.specs.declared.kept.Kept.{Kept}
 use Rattle.console_text.specs.declared.response.Response.{Response}
 use Rattle.console_text.specs.declared.response.Response.TheVariants as response
@@ -58,8 +55,3 @@ accepted old new e a number kept is whole entry count =
       (verdict_whole old e whole ∙ is, count ∙ ap (λ c. length (all_entries c)) entry ∙ one_more old.centre.folded old.centre.journal (entry_of e a)),
       same_session old new (record old.centre { journal = old.centre.journal ++ entry_of e a ∷ [] }) kept entry,
     )
-
--- a report, by the body of its frame
-pub frame_told : (old : SessionState) (b : ℕ) (frame : Frame) (t : MessageType) (r : Response) (new : SessionState) → report_type frame.kind ≡ Some t
-    → ReportsBody old b t frame.body r new ⊎ BodyStarves old b t frame.body r new → ReportsFrame old b frame r new ⊎ FrameStarves old b frame r new
-frame_told old b frame t r new is told = rw is told

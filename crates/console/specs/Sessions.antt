@@ -1,10 +1,8 @@
 -- How a session answers a line, and what it is then.
-use Rattle.std.specs.Prelude.{◌≡◌, ◌⊎◌, ℕ, ◌+◌, ◌==◌, Bool, true, false, List, [], ◌∷◌, ◌++◌, length, Option, Some, None, Result, Ok, Err, IsOk, IsSomeAnd, MatchOption, option_and_then, option_map, if◌then◌else◌}
+use Rattle.std.specs.Prelude.{◌≡◌, ◌⊎◌, ℕ, ◌+◌, ◌==◌, Bool, true, false, List, [], ◌∷◌, ◌++◌, length, Option, Some, None, Result, Ok, Err, IsOk, IsSomeAnd, MatchOption, if◌then◌else◌}
 use Rattle.std.specs.Bool.{MatchBool}
-use Rattle.cbsp_messages.specs.Faults.{IsFaultAs}
-use Rattle.cbsp_messages.specs.MessageType.{code_of, report_type}
+use Rattle.cbsp_messages.specs.MessageType.{code_of}
 use Rattle.cbsp_messages.specs.Spelling.{Spells}
-use Rattle.cbsp_messages.specs.declared.fault.MessageFault.{MessageFault}
 use Rattle.cbsp_messages.specs.declared.message.Message.{Message}
 use Rattle.cbsp_messages.specs.declared.message_type.MessageType.{MessageType}
 use Rattle.centre_events.specs.Kept.{MayStarve}
@@ -23,19 +21,20 @@ use Rattle.centre_questions.specs.declared.question.Question.{Question}
 use Rattle.centre_questions.specs.declared.question.Question.TheVariants as question
 use Rattle.centre_questions.specs.declared.seen_value.SeenValue.{SeenValue}
 use Rattle.centre_questions.specs.declared.seen_value.SeenValue.TheVariants as value
-use Rattle.coverage_plan.specs.declared.edit.Edit.TheVariants as edit
 use Rattle.framing.specs.declared.frame.Frame.{Frame}
-use Rattle.console_text.specs.Frames.{IsFrame, IsNoFrame}
+use Rattle.console_text.specs.Events.{event_with, fault_response}
 use Rattle.console.specs.Generations.{generation_of, with_generation}
 use Rattle.console_text.specs.Grammar.{line_of}
-use Rattle.console_text.specs.Headings.{alert_of, content_of, emergency_content_of, notice_of}
-use Rattle.console_text.specs.HexText.{octets_of, pages_of, security_of}
+use Rattle.console_text.specs.Reports.{BodyComesTo, DigitsCarry, DigitsComeTo, FrameComesTo, OctetsCarry, OctetsComeTo}
 use Rattle.console_text.specs.Words.{is_comment, words_of}
 use Rattle.console.specs.declared.kept.Kept.{Kept}
 use Rattle.console_text.specs.declared.line.Line.{Line}
 use Rattle.console_text.specs.declared.line.Line.TheVariants as line
+use Rattle.console_text.specs.declared.line_event.LineEvent.{LineEvent}
+use Rattle.console_text.specs.declared.line_event.LineEvent.TheVariants as came
 use Rattle.console_text.specs.declared.response.Response.{Response}
 use Rattle.console_text.specs.declared.response.Response.TheVariants as response
+use Rattle.console_text.specs.declared.text_fault.TextFault.{TextFault}
 
 -- what contracts see of a session: its centre, and the generations kept for the BSCs
 pub record SessionState : Type 0 where
@@ -139,54 +138,33 @@ Checkpoints old r new = AsksWhole old r new (Folds old r new)
 abbrev pub Keeps : SessionState → ℕ → ℕ → Response → SessionState → Type 0
 Keeps old b generation r new = (r ≡ response.Set) × (new ≡ record old { kept = with_generation b generation old.kept })
 
+-- the report of a message is submitted
+abbrev pub SubmitsReport : SessionState → ℕ → Response → SessionState → Message → Type 0
+SubmitsReport old b r new m = Submits old (event.Report b (generation_of old.kept b) m) r new
+
+-- what is wrong with the octets is answered
+abbrev pub SaysFault : SessionState → Response → SessionState → TextFault → Type 0
+SaysFault old r new f = Says old (fault_response f) r new
+
 -- the message of this type that the octets spell, or what is wrong with them
 abbrev pub ReportsBody : SessionState → ℕ → MessageType → List ℕ → Response → SessionState → Type 0
-ReportsBody old b t body r new =
-    ((m : Message) × Spells (code_of t) body m × Submits old (event.Report b (generation_of old.kept b) m) r new)
-    ⊎ ((f : MessageFault) × IsFaultAs t body f × Says old (response.BadMessage f) r new)
+ReportsBody old b t body r new = BodyComesTo (λ m. SubmitsReport old b r new m) (λ f. SaysFault old r new f) t body
 
--- a frame of a BSC; it is skipped where its type is not that of a message that a BSC sends
+-- a frame of a BSC
 abbrev pub ReportsFrame : SessionState → ℕ → Frame → Response → SessionState → Type 0
-ReportsFrame old b frame r new =
-    MatchOption (report_type frame.kind) (Says old response.Skipped r new) (λ t. ReportsBody old b t frame.body r new)
+ReportsFrame old b frame r new = FrameComesTo (λ m. SubmitsReport old b r new m) (λ f. SaysFault old r new f) frame
 
 -- octets of a BSC, which are to be one frame
 abbrev pub ReportsOctets : SessionState → ℕ → List ℕ → Response → SessionState → Type 0
-ReportsOctets old b octets r new =
-    ((frame : Frame) × IsFrame octets frame × ReportsFrame old b frame r new)
-    ⊎ (IsNoFrame octets × Says old response.BadFrame r new)
+ReportsOctets old b octets r new = OctetsComeTo (λ m. SubmitsReport old b r new m) (λ f. SaysFault old r new f) octets
 
 -- a message of a BSC, as hexadecimal digits
 abbrev pub Reports : SessionState → ℕ → List ℕ → Response → SessionState → Type 0
-Reports old b text r new =
-    MatchOption (octets_of text) (Says old response.BadHex r new) (λ octets. ReportsOctets old b octets r new)
+Reports old b text r new = DigitsComeTo (λ m. SubmitsReport old b r new m) (λ f. SaysFault old r new f) text
 
--- the event that a line stands for; `issue` and `update` stand for one where their pages are octets, `alert` and `realert`
--- where their security information is
+-- the event that a line stands for
 abbrev pub event_of : SessionState → Line → Option Event
-event_of old (line.AddBsc b) = Some (event.Edit (edit.AddBsc b))
-event_of old (line.RemoveBsc b) = Some (event.Edit (edit.RemoveBsc b))
-event_of old (line.AddCell c b) = Some (event.Edit (edit.AddCell c b))
-event_of old (line.MoveCell c b) = Some (event.Edit (edit.MoveCell c b))
-event_of old (line.RemoveCell c) = Some (event.Edit (edit.RemoveCell c))
-event_of old (line.AddArea a) = Some (event.Edit (edit.AddArea a))
-event_of old (line.DropArea a) = Some (event.Edit (edit.DropArea a))
-event_of old (line.Put a s) = Some (event.Edit (edit.Put a s))
-event_of old (line.Cut a s) = Some (event.Edit (edit.Cut a s))
-event_of old (line.Issue heading text areas) = option_map (λ pages. event.Edit (edit.Issue (notice_of heading pages) areas)) (pages_of text)
-event_of old (line.Update warning heading text) = option_map (λ pages. event.Edit (edit.Update warning (content_of heading pages))) (pages_of text)
-event_of old (line.Alert heading text areas) = option_map (λ security. event.Edit (edit.Issue (alert_of heading security) areas)) (security_of text)
-event_of old (line.Realert warning heading text) = option_map (λ security. event.Edit (edit.Update warning (emergency_content_of heading security))) (security_of text)
-event_of old (line.Widen warning a) = Some (event.Edit (edit.Widen warning a))
-event_of old (line.Narrow warning a) = Some (event.Edit (edit.Narrow warning a))
-event_of old (line.Stop warning) = Some (event.Edit (edit.Stop warning))
-event_of old (line.Forget warning) = Some (event.Edit (edit.Forget warning))
-event_of old (line.Retry b) = Some (event.Retry b)
-event_of old (line.Up b) = Some (event.LinkUp b)
-event_of old (line.Down b) = Some (event.LinkDown b (generation_of old.kept b))
-event_of old (line.Send b) = Some (event.Send b (generation_of old.kept b))
-event_of old (line.Ask b warning after) = Some (event.Ask b (generation_of old.kept b) warning after)
-event_of old other = None
+event_of old l = event_with (λ b. generation_of old.kept b) l
 
 -- the event of a line is submitted; where there is none, its pages are no octets, or its security information isn't fifty
 abbrev pub SubmitsLine : SessionState → Option Event → Response → SessionState → Type 0
@@ -231,13 +209,9 @@ BodyStarves old b t body r new =
     IsStarved old r new
     ⊎ ((m : Message) × Spells (code_of t) body m × StarvesAt old (event.Report b (generation_of old.kept b) m) r new)
 
--- the frame is of a type that a BSC sends, and memory ran out for its message
-abbrev pub FrameStarves : SessionState → ℕ → Frame → Response → SessionState → Type 0
-FrameStarves old b frame r new = IsSomeAnd (report_type frame.kind) (λ t. BodyStarves old b t frame.body r new)
-
--- the octets are one frame, for whose message memory ran out
+-- the octets are one frame that a BSC sends, for whose message memory ran out
 abbrev pub OctetsStarve : SessionState → ℕ → List ℕ → Response → SessionState → Type 0
-OctetsStarve old b octets r new = (frame : Frame) × IsFrame octets frame × FrameStarves old b frame r new
+OctetsStarve old b octets r new = OctetsCarry (λ t body. BodyStarves old b t body r new) octets
 
 -- memory ran out for the answer that a whole centre has to a question
 abbrev pub QuestionStarves : SessionState → Question → Response → SessionState → Type 0
@@ -255,7 +229,7 @@ ListStarves old b r new = (old.centre.stale ≡ false) × (is_bsc (past old.cent
 -- made whole or a whole one folded its journal, and at the event that the line stands for; at an event alone is the centre
 -- left stale
 abbrev pub Starves : SessionState → Line → Response → SessionState → Type 0
-Starves old (line.Report b text) r new = IsSomeAnd (octets_of text) (λ octets. OctetsStarve old b octets r new)
+Starves old (line.Report b text) r new = DigitsCarry (λ t body. BodyStarves old b t body r new) text
 Starves old (line.Pending b) r new = ListStarves old b r new
 Starves old (line.Table b) r new = ListStarves old b r new
 Starves old line.Rebuild r new = IsStarved old r new
@@ -265,6 +239,29 @@ Starves old l r new = IsSomeAnd (event_of old l) (λ e. StarvesAt old e r new)
 -- the line has its answer, or memory ran out where it may be
 abbrev pub RespondsOrStarves : SessionState → Line → Response → SessionState → Type 0
 RespondsOrStarves old l r new = Responds old l r new ⊎ Starves old l r new
+
+-- a line that stands for no event has its answer; any other would be a bad line
+abbrev pub MeetsOther : SessionState → Line → Response → SessionState → Type 0
+MeetsOther old (line.Keep b generation) r new = RespondsOrStarves old (line.Keep b generation) r new
+MeetsOther old (line.Board warning) r new = RespondsOrStarves old (line.Board warning) r new
+MeetsOther old (line.AreaBoard warning a) r new = RespondsOrStarves old (line.AreaBoard warning a) r new
+MeetsOther old (line.Pending b) r new = RespondsOrStarves old (line.Pending b) r new
+MeetsOther old (line.Table b) r new = RespondsOrStarves old (line.Table b) r new
+MeetsOther old line.Rebuild r new = RespondsOrStarves old line.Rebuild r new
+MeetsOther old line.Checkpoint r new = RespondsOrStarves old line.Checkpoint r new
+MeetsOther old other r new = Says old response.BadLine r new
+
+-- the BSC whose link the event brings up
+abbrev pub link_up_of : Event → Option ℕ
+link_up_of (event.LinkUp b) = Some b
+link_up_of other = None
+
+-- a line that came to that has its answer, or memory ran out where it may be
+abbrev pub Meets : SessionState → LineEvent → Response → SessionState → Type 0
+Meets old (came.Event (event.LinkUp b)) r new = RespondsOrStarves old (line.Up b) r new
+Meets old (came.Event e) r new = SubmitsOrStarves old e r new
+Meets old (came.Bad f) r new = SaysFault old r new f
+Meets old (came.Other l) r new = MeetsOther old l r new
 
 -- how the lines that ask for something are answered
 abbrev pub Responding : Type 1

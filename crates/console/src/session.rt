@@ -1,11 +1,10 @@
 //! One run of the console: a centre, and the generations that its lines speak of.
 
 ghost use Rattle.std.specs.Prelude.{◌≡◌};
-ghost use Rattle.console.specs.Sessions.{IsToldInLine, told};
+ghost use Rattle.console.specs.Sessions.{IsToldInLine, link_up_of, told};
 ghost use Rattle.console_text.specs.Texts.{ResponseFits};
 
 use crate::generations::Generations;
-use cbsp_messages::{MessageFault, MessageType, read_as};
 use cell_register::BscId;
 use centre_core::centre::Centre;
 use centre_events::answer::Answer;
@@ -15,22 +14,16 @@ use centre_events::refusal::Refusal;
 use centre_questions::asking::ask;
 use centre_questions::question::Question;
 use centre_questions::seen_value::SeenValue;
-use common::{Cell, Name, Names};
-use console_text::alert_heading::AlertHeading;
-use console_text::content_heading::ContentHeading;
-use console_text::emergency_heading::EmergencyHeading;
-use console_text::frames::read_frame;
+use common::Name;
+use console_text::events::{event_of, link_of};
 use console_text::grammar::read_line;
-use console_text::heading::Heading;
-use console_text::hex_text::{read_octets, read_pages, read_security};
 use console_text::line::Line;
+use console_text::line_event::LineEvent;
 use console_text::response::Response;
 use console_text::words::{is_comment, split_words};
-use coverage_plan::Edit;
-use framing::Frame;
 use std::alloc::{AllocError, Global};
 use std::marker::Model;
-use warning_book::{Notice, WarningId};
+use warning_book::WarningId;
 
 /// The desk by which the console submits.
 const DESK: u32 = 1;
@@ -62,12 +55,14 @@ impl Model for Session {
 }
 
 impl Session {
-    ghost use Rattle.std.specs.Prelude.{◌≡◌, ◌≤◌, ◌⊎◌, IfOk};
-    ghost use Rattle.centre_events.specs.declared.event.Event.TheVariants as event;
+    ghost use Rattle.std.specs.Prelude.{◌≡◌, ◌≤◌, IfOk};
+    ghost use Rattle.console_text.specs.Events.{link_of};
     ghost use Rattle.console_text.specs.Texts.{ResponseFits};
+    ghost use Rattle.console.specs.Generations.{kept_for};
     ghost use Rattle.console.specs.Replays.{new_session};
-    ghost use Rattle.console.specs.Sessions.{AnswersOrStarves, AsksOrStarves, BodyStarves, FrameStarves, HasLine, ReportsBody, ReportsFrame, RespondsOrStarves, SubmitsOrStarves};
+    ghost use Rattle.console.specs.Sessions.{AnswersOrStarves, AsksOrStarves, HasLine, Meets, MeetsOther, RespondsOrStarves, SubmitsOrStarves};
     ghost use Rattle.console_text.specs.declared.line.Line.TheVariants as request;
+    ghost use Rattle.console_text.specs.declared.line_event.LineEvent.TheVariants as came;
 
     pub fn new(alloc: Global, network: Network, journal_limit: u32) -> Session
         requires { journal_limit ≤ 4000000 }
@@ -91,13 +86,6 @@ impl Session {
             },
             Err(refusal) => Response::Refused(refusal),
         }
-    }
-
-    fn edit(&mut self, edit: Edit) -> Response
-        ensures answer { SubmitsOrStarves self.old (event.Edit edit) result self.new }
-        ensures fits { ResponseFits result }
-    {
-        self.submit(Event::Edit(edit))
     }
 
     /// Puts a question to the centre.
@@ -161,14 +149,6 @@ impl Session {
         Ok(Response::Set)
     }
 
-    fn bring_down(&mut self, bsc: BscId) -> Response
-        ensures answer { RespondsOrStarves self.old (request.Down bsc) result self.new }
-        ensures fits { ResponseFits result }
-    {
-        let generation = self.generations.of(bsc);
-        self.submit(Event::LinkDown(bsc, generation))
-    }
-
     #[tactic(auto, using(crate::proofs::QuestionLemmas::pending_asked))]
     fn pending(&mut self, bsc: BscId) -> Response
         ensures answer { RespondsOrStarves self.old (request.Pending bsc) result self.new }
@@ -208,181 +188,71 @@ impl Session {
         }
     }
 
-    fn send(&mut self, bsc: BscId) -> Response
-        ensures answer { RespondsOrStarves self.old (request.Send bsc) result self.new }
-        ensures fits { ResponseFits result }
+    /// The generation kept for the BSC whose link the line speaks of; 0 where it speaks of none.
+    fn generation_for(&self, line: &Line) -> u64
+        ensures { result ≡ kept_for self.now.kept (link_of line.now) }
     {
-        let generation = self.generations.of(bsc);
-        self.submit(Event::Send(bsc, generation))
-    }
-
-    fn ask(&mut self, bsc: BscId, warning: WarningId, after: Option<Cell>) -> Response
-        ensures answer { RespondsOrStarves self.old (request.Ask bsc warning after) result self.new }
-        ensures fits { ResponseFits result }
-    {
-        let generation = self.generations.of(bsc);
-        self.submit(Event::Ask(bsc, generation, warning, after))
-    }
-
-    fn report(&mut self, bsc: BscId, text: &[u8]) -> Result<Response, AllocError>
-        ensures answer { IfOk result (λ r. RespondsOrStarves self.old (request.Report bsc text.now) r self.new) }
-        ensures fits { IfOk result ResponseFits }
-    {
-        let Some(octets) = read_octets(self.alloc, text)? else {
-            return Ok(Response::BadHex);
-        };
-        let Some(frame) = read_frame(self.alloc, octets.as_slice())? else {
-            return Ok(Response::BadFrame);
-        };
-        Ok(self.report_frame(bsc, &frame))
-    }
-
-    fn report_frame(&mut self, bsc: BscId, frame: &Frame) -> Response
-        ensures answer { ReportsFrame self.old bsc frame.now result self.new ⊎ FrameStarves self.old bsc frame.now result self.new }
-        ensures fits { ResponseFits result }
-    {
-        match MessageType::of_report(frame.kind) {
-            Some(kind) => self.report_body(bsc, kind, frame.body.as_slice()),
-            None => Response::Skipped,
+        match link_of(line) {
+            Some(bsc) => self.generations.of(bsc),
+            None => 0,
         }
     }
 
-    fn report_body(&mut self, bsc: BscId, kind: MessageType, body: &[u8]) -> Response
-        ensures answer { ReportsBody self.old bsc kind body.now result self.new ⊎ BodyStarves self.old bsc kind body.now result self.new }
-        ensures fits { ResponseFits result }
-    {
-        match read_as(self.alloc, kind, body) {
-            Ok(message) => {
-                let generation = self.generations.of(bsc);
-                self.submit(Event::Report(bsc, generation, message))
-            }
-            Err(MessageFault::Memory) => Response::Refused(Refusal::Memory),
-            Err(fault) => Response::BadMessage(fault),
-        }
-    }
-
-    fn issue(
-        &mut self,
-        heading: Heading,
-        pages: &[u8],
-        areas: Names,
-    ) -> Result<Response, AllocError>
-        ensures answer { IfOk result (λ r. RespondsOrStarves self.old (request.Issue heading pages.now areas) r self.new) }
-        ensures fits { IfOk result ResponseFits }
-    {
-        let Some(pages) = read_pages(self.alloc, pages)? else {
-            return Ok(Response::BadHex);
-        };
-        let notice = Notice {
-            message_id: heading.message_id,
-            scope: heading.scope,
-            content: heading.content.content(pages),
-        };
-        Ok(self.edit(Edit::Issue(notice, areas)))
-    }
-
-    fn update(
-        &mut self,
-        warning: WarningId,
-        heading: ContentHeading,
-        pages: &[u8],
-    ) -> Result<Response, AllocError>
-        ensures answer { IfOk result (λ r. RespondsOrStarves self.old (request.Update warning heading pages.now) r self.new) }
-        ensures fits { IfOk result ResponseFits }
-    {
-        let Some(pages) = read_pages(self.alloc, pages)? else {
-            return Ok(Response::BadHex);
-        };
-        Ok(self.edit(Edit::Update(warning, heading.content(pages))))
-    }
-
-    fn alert(
-        &mut self,
-        heading: AlertHeading,
-        security: &[u8],
-        areas: Names,
-    ) -> Result<Response, AllocError>
-        ensures answer { IfOk result (λ r. RespondsOrStarves self.old (request.Alert heading security.now areas) r self.new) }
-        ensures fits { IfOk result ResponseFits }
-    {
-        let Some(security) = read_security(self.alloc, security)? else {
-            return Ok(Response::BadHex);
-        };
-        let notice = Notice {
-            message_id: heading.message_id,
-            scope: heading.scope,
-            content: heading.content.content(security),
-        };
-        Ok(self.edit(Edit::Issue(notice, areas)))
-    }
-
-    fn realert(
-        &mut self,
-        warning: WarningId,
-        heading: EmergencyHeading,
-        security: &[u8],
-    ) -> Result<Response, AllocError>
-        ensures answer { IfOk result (λ r. RespondsOrStarves self.old (request.Realert warning heading security.now) r self.new) }
-        ensures fits { IfOk result ResponseFits }
-    {
-        let Some(security) = read_security(self.alloc, security)? else {
-            return Ok(Response::BadHex);
-        };
-        Ok(self.edit(Edit::Update(warning, heading.content(security))))
-    }
-
-    fn respond(&mut self, line: Line) -> Result<Response, AllocError>
-        ensures answer { IfOk result (λ r. RespondsOrStarves self.old line r self.new) }
+    /// Answers a line that stands for no event.
+    fn respond_other(&mut self, line: Line) -> Result<Response, AllocError>
+        ensures answer { IfOk result (λ r. MeetsOther self.old line r self.new) }
         ensures fits { IfOk result ResponseFits }
     {
         match line {
-            Line::AddBsc(bsc) => Ok(self.edit(Edit::AddBsc(bsc))),
-            Line::RemoveBsc(bsc) => Ok(self.edit(Edit::RemoveBsc(bsc))),
-            Line::AddCell(cell, bsc) => Ok(self.edit(Edit::AddCell(cell, bsc))),
-            Line::MoveCell(cell, bsc) => Ok(self.edit(Edit::MoveCell(cell, bsc))),
-            Line::RemoveCell(cell) => Ok(self.edit(Edit::RemoveCell(cell))),
-            Line::AddArea(area) => Ok(self.edit(Edit::AddArea(area))),
-            Line::DropArea(area) => Ok(self.edit(Edit::DropArea(area))),
-            Line::Put(area, selector) => Ok(self.edit(Edit::Put(area, selector))),
-            Line::Cut(area, selector) => Ok(self.edit(Edit::Cut(area, selector))),
-            Line::Issue {
-                heading,
-                pages,
-                areas,
-            } => self.issue(heading, pages.as_slice(), areas),
-            Line::Update {
-                warning,
-                heading,
-                pages,
-            } => self.update(warning, heading, pages.as_slice()),
-            Line::Alert {
-                heading,
-                security,
-                areas,
-            } => self.alert(heading, security.as_slice(), areas),
-            Line::Realert {
-                warning,
-                heading,
-                security,
-            } => self.realert(warning, heading, security.as_slice()),
-            Line::Widen(warning, area) => Ok(self.edit(Edit::Widen(warning, area))),
-            Line::Narrow(warning, area) => Ok(self.edit(Edit::Narrow(warning, area))),
-            Line::Stop(warning) => Ok(self.edit(Edit::Stop(warning))),
-            Line::Forget(warning) => Ok(self.edit(Edit::Forget(warning))),
-            Line::Retry(bsc) => Ok(self.submit(Event::Retry(bsc))),
-            Line::Up(bsc) => self.bring_up(bsc),
-            Line::Down(bsc) => Ok(self.bring_down(bsc)),
             Line::Keep(bsc, generation) => self.keep(bsc, generation),
-            Line::Send(bsc) => Ok(self.send(bsc)),
-            Line::Report(bsc, text) => self.report(bsc, text.as_slice()),
-            Line::Ask(bsc, warning, after) => Ok(self.ask(bsc, warning, after)),
             Line::Board(warning) => Ok(self.board(warning)),
             Line::AreaBoard(warning, area) => Ok(self.area_board(warning, area)),
             Line::Pending(bsc) => Ok(self.pending(bsc)),
             Line::Table(bsc) => Ok(self.table(bsc)),
             Line::Rebuild => Ok(self.rebuild()),
             Line::Checkpoint => Ok(self.checkpoint()),
+            other => {
+                drop(other);
+                Ok(Response::BadLine)
+            }
         }
+    }
+
+    /// Enters an event. The generation of a link that comes up is kept.
+    #[tactic(auto, using(crate::proofs::LineLemmas::entered_link, crate::proofs::LineLemmas::entered_other))]
+    fn enter(&mut self, event: Event) -> Result<Response, AllocError>
+        ensures answer { IfOk result (λ r. Meets self.old (came.Event event) r self.new) }
+        ensures fits { IfOk result ResponseFits }
+    {
+        match link_up_of(&event) {
+            Some(bsc) => {
+                drop(event);
+                self.bring_up(bsc)
+            }
+            None => Ok(self.submit(event)),
+        }
+    }
+
+    /// Answers a line that came to this.
+    fn meet(&mut self, event: LineEvent) -> Result<Response, AllocError>
+        ensures answer { IfOk result (λ r. Meets self.old event r self.new) }
+        ensures fits { IfOk result ResponseFits }
+    {
+        match event {
+            LineEvent::Event(event) => self.enter(event),
+            LineEvent::Bad(fault) => Ok(fault.response()),
+            LineEvent::Other(line) => self.respond_other(line),
+        }
+    }
+
+    #[tactic(auto, using(crate::proofs::LineLemmas::responded))]
+    fn respond(&mut self, line: Line) -> Result<Response, AllocError>
+        ensures answer { IfOk result (λ r. RespondsOrStarves self.old line r self.new) }
+        ensures fits { IfOk result ResponseFits }
+    {
+        let generation = self.generation_for(&line);
+        let event = event_of(self.alloc, line, generation)?;
+        self.meet(event)
     }
 
     /// Answers one line, given without its end. At an `Err` the line is not answered; its event may be entered.
@@ -401,6 +271,16 @@ impl Session {
             Some(line) => self.respond(line),
             None => Ok(Response::BadLine),
         }
+    }
+}
+
+/// The BSC whose link the event brings up.
+fn link_up_of(event: &Event) -> Option<BscId>
+    ensures { result ≡ link_up_of event.now }
+{
+    match event {
+        Event::LinkUp(bsc) => Some(*bsc),
+        _ => None,
     }
 }
 

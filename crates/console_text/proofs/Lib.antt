@@ -3,3 +3,5 @@ pub mod RunLemmas
 pub mod HexTextLemmas
 pub mod FrameLemmas
 pub mod CommandLineLemmas
+pub mod ReportLemmas
+pub mod EventLemmas

@@ -6,6 +6,8 @@ pub mod Grammar
 pub mod Headings
 pub mod HexText
 pub mod Frames
+pub mod Reports
+pub mod Events
 pub mod Laws
 pub mod Texts
 pub mod Faults

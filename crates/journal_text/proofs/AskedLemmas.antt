@@ -17,6 +17,7 @@ use Rattle.cbsp_messages.specs.declared.message_type.MessageType.TheVariants as 
 use Rattle.centre_events.specs.declared.event.Event.{Event}
 use Rattle.centre_events.specs.declared.event.Event.TheVariants as event
 use Rattle.common.specs.declared.cell.Cell.{Cell}
+use Rattle.console_text.specs.Events.{event_with}
 use Rattle.console_text.specs.Grammar.{alert, alert_heading_of, ask, ask_after, add_cell, bsc_of, category_of, cell_of, content_heading_of, emergency_heading_of, heading_of, if_some, issue, keep, line_of, move_cell, link_generation_of, names_of, realert, scope_of, two_octets_of, update, warning_of}
 use Rattle.console_text.specs.Headings.{alert_of, content_of, emergency_content_of, notice_of}
 use Rattle.console_text.specs.HexText.{all_octets_of, and_page, fifty, octets_of, pages_of, security_of}
@@ -42,7 +43,7 @@ use Rattle.warning_book.specs.declared.category.Category.{Category}
 use Rattle.warning_book.specs.declared.content.Content.{Content}
 use Rattle.warning_book.specs.declared.content.Content.TheVariants as content
 use Rattle.journal_text.specs.Laws.{AskedHasLine, EditIsWellNamed, IsWellNamed}
-use Rattle.journal_text.specs.Reading.{IsSentIn, StandsFor, asked, event_with}
+use Rattle.journal_text.specs.Reading.{IsSentIn, StandsFor, asked}
 use Rattle.journal_text.specs.Sayable.{CanBeSaid, EditHasLine, HasFrame, HasLine, IsBsc, IsCell, IsSelector, IsWarning, are_named, is_only_hyphen}
 use Rattle.journal_text.proofs.MessageLemmas.{read_has_frame}
 use Rattle.journal_text.proofs.OctetLemmas.{bytes_back, bytes_cons, bytes_none}

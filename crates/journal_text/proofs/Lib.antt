@@ -8,7 +8,6 @@ pub mod ContentLemmas
 pub mod EditLemmas
 pub mod EventLemmas
 pub mod ReportLemmas
-pub mod ReadingLemmas
 pub mod OctetLemmas
 pub mod ElementLemmas
 pub mod MessageLemmas

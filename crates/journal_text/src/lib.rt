@@ -17,5 +17,5 @@ mod words;
 mod writing;
 
 pub use laws::{asked_has_line, link_event_has_line, read_has_frame, restart_has_frame};
-pub use reading::{event_of, request_of};
+pub use reading::request_of;
 pub use writing::{checkpoint_line, line_of};
