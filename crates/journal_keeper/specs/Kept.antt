@@ -25,3 +25,7 @@ IsOver state place = (place ≤ state.place) ⊎ (state.ended ≡ true)
 -- all entries up to the place are kept in a file
 abbrev pub IsKept : ℕ → KeptUpTo → Type 0
 IsKept place kept = (is_some kept.place ≡ true) × IfSome kept.place (λ last. place ≤ last)
+
+-- what tells of the entries up to the place may be let out: they are kept, or the journal has no file
+abbrev pub Covers : KeptUpTo → ℕ → Type 0
+Covers kept place = IfSome kept.place (λ last. place ≤ last)

@@ -1,5 +1,8 @@
 //! What the thread does that keeps a journal.
 
+ghost use Rattle.std.specs.Prelude.{OnErr, OnOk};
+ghost use Rattle.journal_keeper.specs.Following.{KeepsFile, KeepsOn, PutsAll};
+
 use crate::followed::Followed;
 use crate::keep_fault::KeepFault;
 use crate::kept::Kept;
@@ -20,12 +23,15 @@ pub struct Keeper<F: Drop> {
 }
 
 /// Puts the next entries, and folds where that is asked for.
+#[tactic(auto, using(crate::proofs::FollowingLemmas::puts_next, crate::proofs::FollowingLemmas::puts_folded))]
 fn put<J: Followed, R: Wait>(
     rt: &R,
     journal: &J,
     wanted: Option<u64>,
     writing: &mut Writing,
-) -> Result<Made<J>, KeepFault> {
+) -> Result<Made<J>, KeepFault>
+    ensures { OnOk result (PutsAll (J.gives journal.now) writing.old writing.new) }
+{
     journal.put_entries(rt, writing)?;
     match wanted {
         Some(number) => Ok(Some((number, journal.put_fold(rt, writing)?))),
@@ -34,13 +40,17 @@ fn put<J: Followed, R: Wait>(
 }
 
 /// Puts what there is, writes and syncs it, and then tells those who wait.
+#[tactic(auto, using(crate::proofs::FollowingLemmas::turn_kept, crate::proofs::FollowingLemmas::turn_broke, crate::proofs::FollowingLemmas::keeps_file_nothing))]
 fn turn<J: Followed, F: JournalFile + Drop, R: Wait>(
     rt: &R,
     journal: &J,
     kept: &Kept<FoldAnswer<J>>,
     wanted: Option<u64>,
     keeper: &mut Keeper<F>,
-) -> Result<(), KeepFault> {
+) -> Result<(), KeepFault>
+    ensures ok { OnOk result (KeepsOn (J.gives journal.now) keeper.old.writing (F.state keeper.old.file) keeper.new.writing (F.state keeper.new.file)) }
+    ensures err { OnErr result (KeepsFile (J.gives journal.now) keeper.old.writing (F.state keeper.old.file) (F.state keeper.new.file)) }
+{
     let made = put(rt, journal, wanted, &mut keeper.writing)?;
     let Ok(synced) = keeper.writing.keep(&mut keeper.file) else {
         return Err(KeepFault::File);
@@ -50,12 +60,16 @@ fn turn<J: Followed, F: JournalFile + Drop, R: Wait>(
 }
 
 /// Keeps entries as they come, until it is to end and all are kept.
+#[tactic(auto, using(crate::proofs::FollowingLemmas::keeps_both, crate::proofs::FollowingLemmas::keeps_file_after))]
 fn keep_on<J: Followed, F: JournalFile + Drop, R: Wait>(
     rt: &R,
     journal: &J,
     kept: &Kept<FoldAnswer<J>>,
     keeper: &mut Keeper<F>,
-) -> Result<(), KeepFault> {
+) -> Result<(), KeepFault>
+    ensures ok { OnOk result (KeepsOn (J.gives journal.now) keeper.old.writing (F.state keeper.old.file) keeper.new.writing (F.state keeper.new.file)) }
+    ensures err { OnErr result (KeepsFile (J.gives journal.now) keeper.old.writing (F.state keeper.old.file) (F.state keeper.new.file)) }
+{
     let mut interrupts = 0;
     turn(rt, journal, kept, None, keeper)?;
     for _ in rt.forever() {
@@ -80,7 +94,10 @@ pub fn keep_journal<J: Followed, F: JournalFile + Drop, R: Wait>(
     journal: &J,
     kept: &Kept<FoldAnswer<J>>,
     keeper: &mut Keeper<F>,
-) -> Result<(), KeepFault> {
+) -> Result<(), KeepFault>
+    ensures ok { OnOk result (KeepsOn (J.gives journal.now) keeper.old.writing (F.state keeper.old.file) keeper.new.writing (F.state keeper.new.file)) }
+    ensures err { OnErr result (KeepsFile (J.gives journal.now) keeper.old.writing (F.state keeper.old.file) (F.state keeper.new.file)) }
+{
     let result = keep_on(rt, journal, kept, keeper);
     kept.close(rt, result.is_err());
     result

@@ -2,7 +2,7 @@
 
 ghost use Rattle.std.specs.Prelude.{◌≡◌, true, false, IfSome, None};
 ghost use Rattle.std.specs.Option.{is_some};
-ghost use Rattle.journal_keeper.specs.Kept.{IsKept};
+ghost use Rattle.journal_keeper.specs.Kept.{Covers, IsKept};
 
 use crate::kept_state::KeptState;
 use crate::kept_up_to::KeptUpTo;
@@ -17,17 +17,18 @@ pub struct Kept<A: Copy + Drop> {
 }
 
 impl<A: Copy + Drop> Kept<A> {
-    /// All entries up to the place are kept.
-    pub fn new(place: u64) -> Kept<A> {
+    /// No entry is kept yet.
+    pub fn new() -> Kept<A> {
         Kept {
-            state: Mutex::new(KeptState::new(place)),
+            state: Mutex::new(KeptState::new()),
             changed: Condvar::new(),
         }
     }
 
     /// Waits until all entries up to the place are kept. `None` where the file has failed, or the thread that keeps them has ended.
     pub fn wait_kept<R: Wait>(&self, rt: &R, place: u64) -> Option<KeptUpTo>
-        ensures { IfSome result (IsKept place) }
+        ensures is_kept { IfSome result (IsKept place) }
+        ensures covers { IfSome result (λ kept. Covers kept place) }
     {
         let state = self
             .changed
@@ -99,6 +100,7 @@ pub fn wait_kept<A: Copy + Drop, R: Wait>(
     kept: &Option<Kept<A>>,
     place: u64,
 ) -> Option<KeptUpTo>
+    ensures covers { IfSome result (λ kept. Covers kept place) }
     ensures file { is_some kept.now ≡ true → IfSome result (IsKept place) }
     ensures without { is_some kept.now ≡ false → IfSome result (λ kept. kept.place ≡ None) }
 {

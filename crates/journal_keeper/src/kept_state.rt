@@ -32,14 +32,14 @@ impl<A: Copy + Drop> Model for KeptState<A> {
 impl<A: Copy + Drop> KeptState<A> {
     ghost use Rattle.std.specs.Prelude.{◌≡◌, ◌+◌, ◌≤◌, ◌<◌, ◌^◌, ◌-◌, ◌⊎◌, ◌↔◌, IsTrue, true, false, max, min, nat_le, nat_lt, None, Some, IfSome, if◌then◌else◌};
     ghost use Rattle.std.specs.Option.{is_some};
-    ghost use Rattle.journal_keeper.specs.Kept.{kept_up_to, IsKept, IsOver};
+    ghost use Rattle.journal_keeper.specs.Kept.{kept_up_to, Covers, IsKept, IsOver};
 
-    /// All entries up to the place are kept, and no fold is asked for.
-    pub fn new(place: u64) -> KeptState<A>
-        ensures { result ≡ kept_up_to place }
+    /// No entry is kept yet, and no fold is asked for.
+    pub fn new() -> KeptState<A>
+        ensures { result ≡ kept_up_to 0 }
     {
         KeptState {
-            place,
+            place: 0,
             failed: false,
             is_ending: false,
             has_ended: false,
@@ -101,7 +101,8 @@ impl<A: Copy + Drop> KeptState<A> {
     pub fn kept(&self, place: u64) -> Option<KeptUpTo>
         ensures some { is_some result ≡ nat_le place self.now.place }
         ensures kept { IfSome result (λ kept. kept.place ≡ Some self.now.place) }
-        ensures covers { IfSome result (IsKept place) }
+        ensures is_kept { IfSome result (IsKept place) }
+        ensures covers { IfSome result (λ kept. Covers kept place) }
     {
         if place <= self.place {
             Some(KeptUpTo::up_to(self.place))

@@ -1,6 +1,7 @@
 //! That a journal is kept, as those know it who tell of its entries.
 
-ghost use Rattle.std.specs.Prelude.{◌≡◌, Option, None, Some};
+ghost use Rattle.std.specs.Prelude.{◌≡◌, ◌≤◌, Option, None, Some};
+ghost use Rattle.journal_keeper.specs.Kept.{Covers};
 
 /// That all entries up to a place are kept in the file of a journal, or that the journal has no file. Whoever tells somebody of an entry
 /// needs one: `wait_kept` alone gives it, and where there is a file only after a sync.
@@ -29,5 +30,14 @@ impl KeptUpTo {
         ensures { result ≡ self.now.place }
     {
         self.place
+    }
+
+    /// Tells that what covers a place covers each one before it.
+    pub fn tell_covered(&self, last: u64, place: u64)
+        requires covers { Covers self.now last }
+        requires earlier { place ≤ last }
+        ensures { Covers self.now place }
+    {
+        let _ = (self.place, last, place);
     }
 }

@@ -1,1 +1,2 @@
 pub mod LinkComments
+pub mod OfficeJournals

@@ -8,10 +8,13 @@ use crate::office_journal::OfficeJournal;
 use cell_register::BscId;
 use centre_events::event::Event;
 use centre_events::refusal::Refusal;
+use console_text::events::{event_of, link_of};
 use console_text::line::Line;
+use console_text::line_event::LineEvent;
+use console_text::text_fault::TextFault;
 use journal_file::{NotTaken, TakeLine, Writing};
 use journal_keeper::{Followed, KeepFault};
-use journal_text::{event_of, request_of};
+use journal_text::request_of;
 use office::desk::Desk;
 use office::office::Office;
 use std::alloc::Global;
@@ -33,16 +36,6 @@ pub struct Entering<'a, L: Ledger, R: Wait> {
     every: u64,
     /// How many entries aren't folded.
     unfolded: u64,
-}
-
-/// The BSC whose link the line speaks of, by the generation that is kept for it.
-fn link_of(request: &Line) -> Option<BscId> {
-    match request {
-        Line::Down(bsc) | Line::Send(bsc) => Some(*bsc),
-        Line::Ask(bsc, _, _) => Some(*bsc),
-        Line::Report(bsc, _) => Some(*bsc),
-        _ => None,
-    }
 }
 
 /// What an event does to a link.
@@ -139,8 +132,13 @@ impl<'a, L: Ledger, R: Wait> Entering<'a, L, R> {
             None => 0,
         };
         match event_of(self.alloc, request, generation) {
-            Ok(Some(event)) => Ok(event),
-            Ok(None) => Err(NotTaken::BadLine),
+            Ok(LineEvent::Event(event)) => Ok(event),
+            Ok(LineEvent::Bad(TextFault::Memory)) => Err(NotTaken::Memory),
+            Ok(LineEvent::Bad(_)) => Err(NotTaken::BadLine),
+            Ok(LineEvent::Other(other)) => {
+                drop(other);
+                Err(NotTaken::BadLine)
+            }
             Err(_) => Err(NotTaken::Memory),
         }
     }

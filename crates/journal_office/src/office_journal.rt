@@ -1,5 +1,9 @@
 //! An office, as the thread sees it that keeps its journal.
 
+ghost use Rattle.std.specs.Prelude.{◌≡◌, [], OnOk};
+ghost use Rattle.journal_keeper.specs.Following.{Puts};
+ghost use Rattle.journal_office.specs.OfficeJournals.{PutsEntries, PutsEntry};
+
 use crate::comments::link_comment;
 use crate::link_peers::LinkPeers;
 use centre_events::answer::Answer;
@@ -27,14 +31,24 @@ pub struct OfficeJournal<'a, L: Ledger, P> {
     pub peers: &'a P,
 }
 
+/// Puts the comment where there is memory for it.
+fn put_comment(comment: &[u8], writing: &mut Writing)
+    ensures { Puts writing.old writing.new [] }
+{
+    let _ = writing.put_comment(comment);
+}
+
 /// Puts where the link came from that came up with the entry, behind its line. The entry is kept without that where there is no memory.
+#[tactic(auto, using(crate::proofs::PuttingLemmas::peer_none))]
 fn put_peer<P: LinkPeers, R: Wait>(
     rt: &R,
     alloc: Global,
     peers: &P,
     entry: &Entry,
     writing: &mut Writing,
-) {
+)
+    ensures { Puts writing.old writing.new [] }
+{
     let (Event::LinkUp(bsc), Answer::Link(generation)) = (&entry.event, &entry.answer) else {
         return;
     };
@@ -42,12 +56,15 @@ fn put_peer<P: LinkPeers, R: Wait>(
         return;
     };
     if let Ok(comment) = link_comment(alloc, *bsc, &peer) {
-        let _ = writing.put_comment(comment.as_bytes());
+        put_comment(comment.as_bytes(), writing);
     }
 }
 
 /// Puts the line of an entry. `Entry` where it has none.
-fn put_entry(alloc: Global, entry: &Entry, writing: &mut Writing) -> Result<(), KeepFault> {
+#[tactic(auto, using(crate::proofs::PuttingLemmas::entry_put))]
+fn put_entry(alloc: Global, entry: &Entry, writing: &mut Writing) -> Result<(), KeepFault>
+    ensures { OnOk result (PutsEntry entry.now writing.old writing.new) }
+{
     match line_of(alloc, entry)? {
         Some(line) => {
             writing.put_entry(line.as_slice())?;
@@ -57,6 +74,23 @@ fn put_entry(alloc: Global, entry: &Entry, writing: &mut Writing) -> Result<(), 
     }
 }
 
+/// Puts the lines of the entries, and where links came from.
+fn put_each<P: LinkPeers, R: Wait>(
+    rt: &R,
+    alloc: Global,
+    peers: &P,
+    entries: &[Entry],
+    writing: &mut Writing,
+) -> Result<(), KeepFault>
+    ensures { OnOk result (PutsEntries entries.now writing.old writing.new) }
+{
+    for entry in entries {
+        put_entry(alloc, entry, writing)?;
+        put_peer(rt, alloc, peers, entry, writing);
+    }
+    Ok(())
+}
+
 /// Puts the lines of entries that stand behind the last that was put, and where links came from. `Entry` where some between are folded.
 fn put_all<P: LinkPeers, R: Wait>(
     rt: &R,
@@ -64,18 +98,21 @@ fn put_all<P: LinkPeers, R: Wait>(
     peers: &P,
     entries: &Entries,
     writing: &mut Writing,
-) -> Result<(), KeepFault> {
+) -> Result<(), KeepFault>
+    ensures missed { OnOk result (entries.now.missed ≡ 0) }
+    ensures put { OnOk result (PutsEntries entries.now.entries.items writing.old writing.new) }
+{
     if entries.missed > 0 {
         return Err(KeepFault::Entry);
     }
-    for entry in &entries.entries {
-        put_entry(alloc, entry, writing)?;
-        put_peer(rt, alloc, peers, entry, writing);
-    }
-    Ok(())
+    put_each(rt, alloc, peers, entries.entries.as_slice(), writing)
 }
 
 impl<L: Ledger, P: LinkPeers> Followed for OfficeJournal<'_, L, P> {
+    ghost use Rattle.journal_office.specs.OfficeJournals.{GivesSomewhere};
+
+    ghost gives = { λ _ place portion. GivesSomewhere place portion };
+
     type Refusal = Refusal;
 
     fn wait_entries<R: Wait>(&self, rt: &R, after: u64, interrupts: u64) -> Seen {
@@ -90,6 +127,7 @@ impl<L: Ledger, P: LinkPeers> Followed for OfficeJournal<'_, L, P> {
         self.office.interrupt(rt);
     }
 
+    #[tactic(auto, using(crate::proofs::PuttingLemmas::next_if))]
     fn put_entries<R: Wait>(&self, rt: &R, writing: &mut Writing) -> Result<(), KeepFault> {
         let entries = self.office.entries(rt, writing.taken(), MOST_ENTRIES)?;
         let result = put_all(rt, self.alloc, self.peers, &entries, writing);

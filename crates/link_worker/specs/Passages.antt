@@ -11,7 +11,7 @@ use Rattle.office.specs.declared.receipt.Receipt.{Receipt}
 
 -- the step at which it passes
 abbrev pub step_of : Passage → Step
-step_of (passage.Order frame) = step.BeforeWrite
+step_of (passage.Order frame place) = step.BeforeWrite
 step_of passage.Reply = step.AfterReport
 step_of passage.Report = step.AfterReport
 

@@ -9,8 +9,8 @@ use centre_events::answer::Answer;
 /// What passes a gate.
 #[derive(Clone, Copy, Debug)]
 pub enum Passage<'f> {
-    /// This frame of an order or a query is to be written. Its entry is in the journal.
-    Order(&'f [u8]),
+    /// This frame of an order or a query is to be written. Its entry is in the journal, at that place.
+    Order(&'f [u8], u64),
     /// A report was entered that answered what was in flight.
     Reply,
     /// Another report was submitted: an indication, which was entered, or a reply to nothing in flight, which was refused
@@ -24,7 +24,7 @@ impl<'f> Passage<'f> {
         ensures { result ≡ step_of self.now }
     {
         match self {
-            Passage::Order(_) => Step::BeforeWrite,
+            Passage::Order(..) => Step::BeforeWrite,
             Passage::Reply | Passage::Report => Step::AfterReport,
         }
     }

@@ -183,6 +183,7 @@ impl<'o, 'g, L: Ledger, G: Gate> Link<'o, 'g, L, G> {
         let event = Event::Report(self.bsc, self.generation, message);
         match self.enter_report(rt, desk, event) {
             Ok(passage) => {
+                self.tell_reply(rt, desk, passage);
                 if self.gate.pass(rt, self.bsc, passage) {
                     Ok(())
                 } else {
@@ -190,6 +191,16 @@ impl<'o, 'g, L: Ledger, G: Gate> Link<'o, 'g, L, G> {
                 }
             }
             Err(end) => Err(end),
+        }
+    }
+
+    /// Shows the gate the receipt of a report that answered what was in flight: it is the desk's last.
+    fn tell_reply<R: Wait>(&self, rt: &R, desk: &Desk<L>, passage: Passage<'static>) {
+        let Passage::Reply = passage else {
+            return;
+        };
+        if let Some(receipt) = desk.receipts().last() {
+            self.gate.replied(rt, receipt);
         }
     }
 

@@ -108,7 +108,7 @@ impl<'o, 'g, L: Ledger, G: Gate> Link<'o, 'g, L, G> {
         let Ok(frame) = frame_of(self.alloc, &receipt.answer) else {
             return Err(End::Refused(Refusal::Memory));
         };
-        let passage = Passage::Order(frame.as_slice());
+        let passage = Passage::Order(frame.as_slice(), receipt.place);
         if !self.gate.pass(rt, self.bsc, passage) {
             return Err(End::GateShut);
         }

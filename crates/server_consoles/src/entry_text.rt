@@ -4,6 +4,7 @@ ghost use Rattle.std.specs.Prelude.{◌≡◌, ◌++◌, List, ℕ, IfOk, OnOk};
 ghost use Rattle.server_consoles.specs.WatchTexts.{AreHandedOn, IsEntryText, IsWatchText, entry_text, missed_part, missed_text};
 
 use centre_events::entry::Entry;
+use journal_keeper::Untold;
 use journal_text::line_of;
 use office::entries::Entries;
 use std::alloc::{AllocError, Global};
@@ -69,17 +70,17 @@ fn put_missed(alloc: Global, text: &mut Vec<u8>, count: u64) -> Result<(), Alloc
     Ok(())
 }
 
-/// The text of entries that are handed out behind the place, and the place of the last.
+/// The text of entries that are handed out behind the place. It tells of entries up to the last of them.
 pub fn watch_text(
     alloc: Global,
     place: u64,
     entries: &Entries,
-) -> Result<(Vec<u8>, u64), AllocError>
-    ensures { IfOk result (λ made. IsWatchText place entries.now.missed entries.now.entries.items made.1 made.0.items) }
+) -> Result<Untold<Vec<u8>>, AllocError>
+    ensures { IfOk result (λ made. IsWatchText place entries.now.missed entries.now.entries.items made.place made.what.items) }
 {
     let mut text = Vec::new(alloc);
     put_missed(alloc, &mut text, entries.missed)?;
     let number = place.saturating_add(entries.missed);
     let last = put_entries(alloc, &mut text, number, entries.entries.as_slice())?;
-    Ok((text, last))
+    Ok(Untold::new(last, text))
 }

@@ -1,9 +1,11 @@
 //! A console that follows the journal.
 
+ghost use Rattle.journal_keeper.specs.Kept.{Covers};
+
 use crate::connection::Connection;
 use crate::entry_text::watch_text;
 use crate::program::Program;
-use journal_keeper::KeptUpTo;
+use journal_keeper::{KeptUpTo, Untold};
 use server_operator::Operator;
 use std::io::Write;
 use std::os::unix::net::UnixStream;
@@ -14,8 +16,11 @@ use std::sync::ledger::Ledger;
 const MOST_ENTRIES: u64 = 100;
 
 /// Writes the text, as what it tells is kept.
-fn write_to(mut stream: &UnixStream, text: &[u8], _kept: KeptUpTo) -> bool {
-    stream.write_all(text).is_ok()
+fn write_to(mut stream: &UnixStream, text: Untold<Vec<u8>>, kept: &KeptUpTo) -> bool
+    requires { Covers kept.now text.place }
+{
+    let text = text.tell(kept);
+    stream.write_all(text.as_slice()).is_ok()
 }
 
 /// Hands on the next entries behind the place, once they are kept. The answer is the place of the last; `None` where nothing more is
@@ -29,9 +34,10 @@ fn hand_on<L: Ledger, P: Program, R: Wait>(
     let entries = operator.office.entries(rt, place, MOST_ENTRIES).ok()?;
     let made = watch_text(operator.alloc, place, &entries);
     drop(entries);
-    let (text, last) = made.ok()?;
-    let kept = operator.server.kept(rt)?;
-    if write_to(stream, text.as_slice(), kept) {
+    let text = made.ok()?;
+    let last = text.place();
+    let kept = operator.server.kept(rt, last)?;
+    if write_to(stream, text, &kept) {
         Some(last)
     } else {
         None

@@ -16,7 +16,7 @@ use link_rules::FoldPace;
 use office::desk::Desk;
 use office::office::Office;
 use server_errors::Errors;
-use server_links::{HeavyTurn, LinkOptions, Shared};
+use server_links::{BroadcastWatch, HeavyTurn, LinkOptions, Shared};
 use std::alloc::Global;
 use std::io::{Error, ErrorKind, Write};
 use std::marker::Brand;
@@ -105,7 +105,8 @@ fn shared_of<L: Ledger, E: Write + Drop>(
         },
         folds: Mutex::new(FoldPace::new(4_000_000, LIMIT)),
         heavy_turn: HeavyTurn::new(),
-        kept: Some(Kept::new(0)),
+        broadcasts: BroadcastWatch::new(alloc, NETWORK, 0),
+        kept: Some(Kept::new()),
         with_simulator: false,
         closing: Mutex::new(false),
         closed: Condvar::new(),

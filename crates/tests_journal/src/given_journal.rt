@@ -1,5 +1,8 @@
 //! A journal of lines in memory, for the thread that keeps it.
 
+ghost use Rattle.std.specs.Prelude.{OnOk};
+ghost use Rattle.journal_keeper.specs.Following.{PutsNext};
+
 use common::Octets;
 use journal_file::Writing;
 use journal_keeper::{Followed, KeepFault, Seen};
@@ -32,14 +35,27 @@ fn position(lines: &Lines) -> u64 {
     lines.lines.len() as u64
 }
 
+/// Puts the line where it is one of the next.
+#[tactic(auto, using(crate::proofs::GivenLemmas::puts_none, crate::proofs::GivenLemmas::puts_line))]
+fn put_if(is_next: bool, line: &[u8], writing: &mut Writing) -> Result<(), KeepFault>
+    ensures { OnOk result (PutsNext (λ _ _. Unit {0}) writing.old writing.new) }
+{
+    if is_next {
+        writing.put_entry(line)?;
+    }
+    Ok(())
+}
+
 /// Puts at most so many lines behind those that were put.
-fn put(lines: &Lines, most: u64, writing: &mut Writing) -> Result<(), KeepFault> {
+#[tactic(auto, using(crate::proofs::GivenLemmas::puts_none, crate::proofs::GivenLemmas::puts_more))]
+fn put(lines: &Lines, most: u64, writing: &mut Writing) -> Result<(), KeepFault>
+    ensures { OnOk result (PutsNext (λ _ _. Unit {0}) writing.old writing.new) }
+{
     let taken = writing.taken();
     for (index, line) in lines.lines.iter().enumerate() {
         let place = index as u64;
-        if place >= taken && place - taken < most {
-            writing.put_entry(line.as_slice())?;
-        }
+        let is_next = place >= taken && place - taken < most;
+        put_if(is_next, line.as_slice(), writing)?;
     }
     Ok(())
 }
@@ -74,6 +90,8 @@ impl Journal {
 }
 
 impl Followed for Journal {
+    ghost gives = { λ _ _ _. Unit {0} };
+
     type Refusal = Refused;
 
     fn wait_entries<R: Wait>(&self, rt: &R, after: u64, interrupts: u64) -> Seen {
@@ -98,6 +116,7 @@ impl Followed for Journal {
         put(&lines, 3, writing)
     }
 
+    #[tactic(auto, using(crate::proofs::GivenLemmas::puts_fold))]
     fn put_fold<R: Wait>(
         &self,
         rt: &R,

@@ -73,7 +73,7 @@ fn enters_and_folds<R: Wait>(
 #[test]
 fn entries_and_folds_stand_in_their_order(rt: HostRuntime) {
     let alloc = rt.alloc();
-    let (journal, kept) = (Journal::new(alloc, 1), Kept::new(0));
+    let (journal, kept) = (Journal::new(alloc, 1), Kept::new());
     let (shared, waiting) = (&journal, &kept);
     let host = &rt;
     let given = keeper(alloc, 1000, 1000);
@@ -106,7 +106,7 @@ fn enters_many<R: Wait>(rt: &R, journal: &Journal, kept: &Kept<Answer>, count: u
 #[test]
 fn all_are_kept_before_the_end(rt: HostRuntime) {
     let alloc = rt.alloc();
-    let (journal, kept) = (Journal::new(alloc, 0), Kept::new(0));
+    let (journal, kept) = (Journal::new(alloc, 0), Kept::new());
     let (shared, waiting) = (&journal, &kept);
     let host = &rt;
     let given = keeper(alloc, 100_000, 100_000);
@@ -154,7 +154,7 @@ fn fails_after<R: Wait + Threads + Abort + Sync>(
     want: u64,
     octets: usize,
 ) {
-    let (journal, kept) = (Journal::new(alloc, 0), Kept::new(0));
+    let (journal, kept) = (Journal::new(alloc, 0), Kept::new());
     let (shared, waiting) = (&journal, &kept);
     let given = keeper(alloc, room, syncs);
     let ((result, keeper), count) = thread::join(
@@ -191,7 +191,7 @@ fn nothing_is_kept_that_is_not_synced(rt: HostRuntime) {
 #[test]
 fn a_fold_of_a_file_that_failed_is_not_answered(rt: HostRuntime) {
     let alloc = rt.alloc();
-    let (journal, kept) = (Journal::new(alloc, 0), Kept::new(0));
+    let (journal, kept) = (Journal::new(alloc, 0), Kept::new());
     let (shared, waiting) = (&journal, &kept);
     let host = &rt;
     let given = keeper(alloc, 1000, 0);

@@ -1,15 +1,18 @@
 //! What no clause says of an operator's lines: how they end where the file of the journal has failed.
 
 ghost use Rattle.std.specs.Prelude.{◌≡◌};
+ghost use Rattle.std.specs.Prelude.{IfSome};
+ghost use Rattle.journal_keeper.specs.Kept.{Covers};
 
 use crate::checks::{same, yes};
 use cell_register::BscId;
 use centre_events::network::Network;
 use centre_events::refusal::Refusal;
+use centre_past::lists::WarningSheet;
 use console_text::ReplayFault;
 use journal_keeper::{Kept, KeptUpTo, wait_kept};
 use office::office::Office;
-use server_operator::{Leaving, Operator, Server, Terminal, operate};
+use server_operator::{Air, Leaving, Operator, Server, Terminal, operate};
 use std::alloc::{AllocError, Global};
 use std::io::{BufRead, Error, ErrorKind, Read};
 use std::marker::Brand;
@@ -22,9 +25,11 @@ use std::{io, mem};
 use warning_book::WarningId;
 
 /// That all is kept of a journal without a file.
-fn kept_without_file<R: Wait>(rt: &R) -> Option<KeptUpTo> {
+fn kept_without_file<R: Wait>(rt: &R, place: u64) -> Option<KeptUpTo>
+    ensures { IfSome result (λ kept. Covers kept place) }
+{
     let kept: Option<Kept<u64>> = None;
-    wait_kept(rt, &kept, 0)
+    wait_kept(rt, &kept, place)
 }
 
 /// A server that ends once it was asked so often whether it does.
@@ -38,8 +43,8 @@ impl Server for Ending {
 
     fn answered<R: Wait + Clock>(&self, _rt: &R) {}
 
-    fn kept<R: Wait>(&self, rt: &R) -> Option<KeptUpTo> {
-        kept_without_file(rt)
+    fn kept<R: Wait>(&self, rt: &R, place: u64) -> Option<KeptUpTo> {
+        kept_without_file(rt, place)
     }
 
     fn is_ending<R: Wait>(&self, _rt: &R) -> bool {
@@ -53,6 +58,18 @@ impl Server for Ending {
     }
 
     fn cut<R: Wait>(&self, _rt: &R, _b: BscId, _generation: u64) {}
+
+    fn air<R: Wait + Clock>(
+        &self,
+        _rt: &R,
+        alloc: Global,
+        _sheet: &WarningSheet,
+    ) -> Result<Air, AllocError> {
+        Ok(Air {
+            silent: Vec::new(alloc),
+            over: None,
+        })
+    }
 
     fn is_down<R: Wait>(&self, _rt: &R, _b: BscId) -> bool {
         false
