@@ -3,8 +3,9 @@
 
 use console::run;
 use framing::{FromRead, FromWrite};
-use server::{PeersSource, serve_words};
+use server::serve_words;
 use server_operator::TimedInput;
+use server_options::PeersSource;
 use std::alloc::Global;
 use std::fs::{File, Files};
 use std::io::{BufReader, Eprint, ErrorKind, Read, Write};

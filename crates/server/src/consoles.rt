@@ -1,13 +1,12 @@
 //! The consoles of a server: opened, given their desks, and the desks handed in.
 
-use crate::fault::ServeFault;
-use crate::options::ServeOptions;
 use crate::ports::{open_desk, push};
 use console_text::ReplayFault;
 use office::desk::Desk;
 use office::office::Office;
 use server_consoles::{Consoles, OpenFault, close_socket, open_socket};
 use server_errors::{Errors, say_of_centre};
+use server_options::{ServeFault, ServeOptions};
 use std::alloc::Global;
 use std::fs::Files;
 use std::io::Write;

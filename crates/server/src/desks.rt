@@ -1,13 +1,13 @@
 //! The desks of a run, handed in at its end.
 
 use crate::consoles::hand_in_consoles;
-use crate::fault::ServeFault;
 use crate::looking::{Looking, hand_in_looking};
 use crate::ports::{hand_in, push};
 use office::desk::Desk;
 use server_consoles::Consoles;
 use server_links::Shared;
 use server_operator::Terminal;
+use server_options::ServeFault;
 use std::io::{BufRead, Write};
 use std::sync::ledger::Ledger;
 use std::sync::{Mutex, Wait};

@@ -1,10 +1,8 @@
 //! How a start goes on from the file of a journal.
 
 ghost use Rattle.std.specs.Prelude.{◌≡◌};
-ghost use Rattle.server.specs.Folds.{fold_every};
+ghost use Rattle.server_options.specs.Folds.{fold_every};
 
-use crate::fault::ServeFault;
-use crate::options::ServeOptions;
 use crate::ports::open_desk;
 use console_text::ReplayFault;
 use journal_file::{
@@ -16,6 +14,7 @@ use office::desk::Desk;
 use server_errors::{Errors, say_of_centre};
 use server_links::Shared;
 use server_operator::Terminal;
+use server_options::{ServeFault, ServeOptions};
 use std::alloc::Global;
 use std::cmp::min;
 use std::fs::{File, Files};

@@ -1,7 +1,6 @@
 //! Where BSCs are knocked at when the server starts: those whose links were up when the centre ended.
 
 use crate::journal::heading_of;
-use crate::options::ServeOptions;
 use crate::ports::plain_host;
 use cell_register::BscId;
 use framing::FromRead;
@@ -10,6 +9,7 @@ use journal_office::LastPeers;
 use link_rules::Peers;
 use server_errors::{Errors, tell_link};
 use server_links::knock;
+use server_options::ServeOptions;
 use std::alloc::Global;
 use std::fs::{Files, OpenOptions};
 use std::io::Write;

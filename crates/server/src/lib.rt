@@ -5,24 +5,17 @@
 //! `server_operator`; what is promised of the office stands in `office`. No clause says what a socket gives or when a thread goes on.
 #![tactic(auto)]
 
+mod airs;
 mod consoles;
 mod desks;
-mod fault;
 mod journal;
 mod knocking;
 mod looking;
 mod operators;
-mod options;
-mod peers_file;
-mod peers_source;
 mod picturing;
 mod ports;
 mod running_server;
 mod serving;
 mod threads;
 
-pub use fault::ServeFault;
-pub use options::ServeOptions;
-pub use peers_file::PeersError;
-pub use peers_source::PeersSource;
 pub use serving::{serve, serve_words, settle};

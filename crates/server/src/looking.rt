@@ -1,8 +1,5 @@
 //! The page for those who only look: opened, and its thread.
 
-use crate::fault::ServeFault;
-use crate::options::ServeOptions;
-use crate::peers_source::PeersSource;
 use crate::picturing::RunningPictures;
 use crate::ports::{open_desk, push};
 use crate::threads::run_keeper;
@@ -16,6 +13,7 @@ use server_errors::{Errors, say_of_centre};
 use server_http::{HttpPort, serve_http};
 use server_links::Shared;
 use server_operator::Terminal;
+use server_options::{PeersSource, ServeFault, ServeOptions};
 use std::alloc::Global;
 use std::fs::{File, Files, OpenOptions};
 use std::io::{BufRead, Write};

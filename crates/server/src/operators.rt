@@ -3,13 +3,13 @@
 ghost use Rattle.std.specs.Prelude.{◌≡◌};
 ghost use Rattle.server.specs.Ends.{ends_program};
 
-use crate::peers_source::PeersSource;
 use crate::running_server::RunningServer;
 use console_text::ReplayFault;
 use server_consoles::{Consoles, accept_consoles, serve_console};
 use server_errors::say_of_centre;
 use server_links::Shared;
 use server_operator::{Leaving, Operator, Terminal, operate};
+use server_options::PeersSource;
 use std::io::{BufRead, Write};
 use std::sync::ledger::Ledger;
 use std::sync::{Mutex, Wait};

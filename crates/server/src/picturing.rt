@@ -2,6 +2,7 @@
 
 ghost use Rattle.std.specs.Prelude.{◌≡◌, ◌-◌, ◌*◌, ◌/◌, IfSome};
 
+use crate::airs::airs_of;
 use cell_register::BscId;
 use centre_past::lists::BscRow;
 use office::desk::Desk;
@@ -135,9 +136,26 @@ impl<'a, L: Ledger, E: Write + Drop> RunningPictures<'a, L, E> {
             sinces,
             resets,
             downs: Vec::new(self.shared.alloc),
+            airs: Vec::new(self.shared.alloc),
             kept: self.shared.kept_place(rt),
             memory: self.memory(rt),
         })
+    }
+}
+
+impl<'a, L: Ledger, E: Write + Drop> RunningPictures<'a, L, E> {
+    /// Looks at what isn't in the survey: which cells are down, and what replies said of warnings.
+    fn complete<R: Wait>(
+        &self,
+        rt: &R,
+        moments: &mut Moments,
+        surveyed: &Surveyed,
+    ) -> Result<(), AllocError> {
+        let survey = &surveyed.survey;
+        moments.downs = self.downs(rt, survey.bscs.as_slice())?;
+        let warnings = survey.warnings.as_slice();
+        moments.airs = airs_of(rt, self.shared, warnings, moments.taken)?;
+        Ok(())
     }
 }
 
@@ -145,11 +163,8 @@ impl<'a, L: Ledger, E: Write + Drop> Pictures for RunningPictures<'a, L, E> {
     fn take<R: Wait + Clock>(&self, rt: &R) -> Result<Picture, AllocError> {
         let mut moments = self.moments(rt)?;
         let surveyed: Surveyed = self.shared.office.survey(rt)?;
-        match self.downs(rt, surveyed.survey.bscs.as_slice()) {
-            Ok(downs) => {
-                moments.downs = downs;
-                picture(self.shared.alloc, surveyed, &moments)
-            }
+        match self.complete(rt, &mut moments, &surveyed) {
+            Ok(()) => picture(self.shared.alloc, surveyed, &moments),
             Err(error) => {
                 drop(surveyed);
                 Err(error)

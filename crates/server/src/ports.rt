@@ -1,15 +1,13 @@
 //! The ports of a server: opened, given their desks, and the desks handed in.
 
-use crate::fault::ServeFault;
 use crate::knocking::{Knocks, knock_at};
-use crate::options::ServeOptions;
-use crate::peers_file::{peers_name, read_peers};
 use cell_register::BscId;
 use console_text::ReplayFault;
 use link_rules::Peers;
 use office::desk::Desk;
 use office::office::Office;
 use server_errors::{Errors, say_of_centre, tell};
+use server_options::{ServeFault, ServeOptions, peers_name, read_peers};
 use server_ports::{Port, PortPace};
 use std::alloc::Global;
 use std::fs::Files;

@@ -1,13 +1,15 @@
 //! The server, as its operator knows it.
 
-use crate::peers_source::PeersSource;
+use crate::airs::{over_since, push_silent};
 use cell_register::BscId;
 use centre_events::refusal::Refusal;
+use centre_past::lists::WarningSheet;
 use journal_keeper::KeptUpTo;
 use server_consoles::Program;
 use server_errors::say_of_centre;
-use server_links::{Renamed, Shared};
-use server_operator::Server;
+use server_links::{Renamed, Shared, second_of};
+use server_operator::{Air, Server};
+use server_options::PeersSource;
 use server_ports::Port;
 use std::alloc::{AllocError, Global};
 use std::io::Write;
@@ -65,8 +67,8 @@ impl<'a, L: Ledger, E: Write + Drop, F: PeersSource> Server for RunningServer<'a
         self.shared.submitted(rt);
     }
 
-    fn kept<R: Wait>(&self, rt: &R) -> Option<KeptUpTo> {
-        self.shared.wait_kept(rt)
+    fn kept<R: Wait>(&self, rt: &R, place: u64) -> Option<KeptUpTo> {
+        self.shared.wait_kept(rt, place)
     }
 
     fn is_ending<R: Wait>(&self, rt: &R) -> bool {
@@ -81,6 +83,18 @@ impl<'a, L: Ledger, E: Write + Drop, F: PeersSource> Server for RunningServer<'a
         if let Some(port) = self.port_of(b) {
             port.cut(rt, generation);
         }
+    }
+
+    fn air<R: Wait + Clock>(
+        &self,
+        rt: &R,
+        alloc: Global,
+        sheet: &WarningSheet,
+    ) -> Result<Air, AllocError> {
+        let mut silent = Vec::new(alloc);
+        push_silent(rt, self.shared, &mut silent, &sheet.row)?;
+        let over = over_since(rt, self.shared, sheet, second_of(rt));
+        Ok(Air { silent, over })
     }
 
     fn is_down<R: Wait>(&self, rt: &R, b: BscId) -> bool {

@@ -4,11 +4,8 @@ ghost use Rattle.std.specs.Prelude.{◌≡◌};
 
 use crate::consoles::{close_consoles_file, open_console_desks, open_consoles};
 use crate::desks::desks_of;
-use crate::fault::ServeFault;
 use crate::journal::{begin_journal, open_journal};
 use crate::looking::{Looking, open_looking, open_looking_desk, run_looking};
-use crate::options::{OptionsFault, ServeOptions, read_options};
-use crate::peers_source::PeersSource;
 use crate::ports::{Opened, open_desks, open_ports};
 use console_text::{ReplayFault, fault_words};
 use journal_file::DiskFile;
@@ -18,8 +15,9 @@ use office::desk::Desk;
 use office::office::Office;
 use server_consoles::Consoles;
 use server_errors::Errors;
-use server_links::{HeavyTurn, LinkOptions, Shared};
+use server_links::{BroadcastWatch, HeavyTurn, LinkOptions, Shared, second_of};
 use server_operator::Terminal;
+use server_options::{OptionsFault, PeersSource, ServeFault, ServeOptions, read_options};
 use std::alloc::Global;
 use std::fs::{File, Files};
 use std::io::{BufRead, Write};
@@ -168,6 +166,7 @@ fn end<L: Ledger, R: Wait, I: BufRead + Drop, W: Write + Drop, E: Write + Drop>(
         options: _,
         folds: _,
         heavy_turn: _,
+        broadcasts: _,
         kept: _,
         with_simulator: _,
         closing: _,
@@ -192,6 +191,7 @@ fn shared_of<L: Ledger, E: Drop>(
     opened: Opened<L>,
     errors: Errors<E>,
     alloc: Global,
+    begun: u64,
 ) -> Shared<L, E>
     requires name { blank.name ≡ L.name }
     requires parts { blank.parts ≡ L.parts }
@@ -220,7 +220,8 @@ fn shared_of<L: Ledger, E: Drop>(
         },
         folds: Mutex::new(FoldPace::new(options.fold, options.journal_limit)),
         heavy_turn: HeavyTurn::new(),
-        kept: options.keep.as_ref().map(|_file| Kept::new(0)),
+        broadcasts: BroadcastWatch::new(alloc, options.network, begun),
+        kept: options.keep.as_ref().map(|_file| Kept::new()),
         with_simulator: options.with_simulator,
         closing: Mutex::new(false),
         closed: Condvar::new(),
@@ -260,7 +261,7 @@ fn run_begun<
         looking,
         consoles,
     } = begun;
-    let shared = shared_of(blank, options, opened, errors, alloc);
+    let shared = shared_of(blank, options, opened, errors, alloc, second_of(rt));
     let terminal: Mutex<Terminal<L, I, W>> = Mutex::new(Terminal {
         reader,
         writer,

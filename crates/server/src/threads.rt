@@ -1,7 +1,6 @@
 //! The threads of a run, in scopes one inside the other. The innermost answers the lines of the operators.
 
 use crate::operators::run_operators;
-use crate::peers_source::PeersSource;
 use console_text::ReplayFault;
 use journal_file::DiskFile;
 use journal_keeper::Keeper;
@@ -11,6 +10,7 @@ use server_links::{
     Shared, accept_links, close_all, close_port, keep, read_links, simulate, watch, write_links,
 };
 use server_operator::Terminal;
+use server_options::PeersSource;
 use server_ports::Port;
 use std::io::{BufRead, Write};
 use std::net::{Net, TcpListener, TcpStream};

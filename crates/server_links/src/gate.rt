@@ -1,11 +1,14 @@
 //! The gate of a link: how fast reports and orders pass, and where the journal is folded.
 
+ghost use Rattle.journal_keeper.specs.Kept.{Covers};
+
 use crate::orders::{cell_count, named_in, order_words};
 use crate::shared::{Shared, now_of};
 use cell_register::BscId;
-use journal_keeper::KeptUpTo;
+use journal_keeper::{KeptUpTo, Untold};
 use link_rules::{Repeat, kept_of_order};
 use link_worker::{Gate, Load, Passage};
+use office::receipt::Receipt;
 use server_ports::Port;
 use std::io::Write;
 use std::net::SocketAddr;
@@ -63,7 +66,10 @@ impl<'a, L: Ledger, E: Write + Drop, C: Wait + Clock> LinkGate<'a, L, E, C> {
     }
 
     /// Whether the order or the query goes out whose frame this is, as its entry is kept. It waits as long as it has to.
-    fn let_out(&self, frame: &[u8], _kept: KeptUpTo) -> bool {
+    fn let_out(&self, order: Untold<&[u8]>, kept: &KeptUpTo) -> bool
+        requires { Covers kept.now order.place }
+    {
+        let frame = order.tell(kept);
         for _ in self.rt.forever() {
             if !self.port.is_live(self.rt) {
                 return false;
@@ -109,15 +115,19 @@ impl<'a, L: Ledger, E: Write + Drop, C: Wait + Clock> Gate for LinkGate<'a, L, E
         self.shared.begin_report(self.rt, self.port, load);
     }
 
+    fn replied<R: Wait>(&self, _rt: &R, receipt: &Receipt) {
+        self.shared.hear_reply(self.rt, self.port, receipt);
+    }
+
     fn pass<R: Wait>(&self, _rt: &R, _b: BscId, passage: Passage<'_>) -> bool {
         let kept = match passage {
-            Passage::Order(frame) => self.kept_of(frame),
+            Passage::Order(frame, _) => self.kept_of(frame),
             Passage::Reply | Passage::Report => self.shared.end_report(self.rt, self.port),
         };
         self.shared.submitted_large(self.rt, kept);
         match passage {
-            Passage::Order(frame) => match self.shared.wait_kept(self.rt) {
-                Some(kept) => self.let_out(frame, kept),
+            Passage::Order(frame, place) => match self.shared.wait_kept(self.rt, place) {
+                Some(kept) => self.let_out(Untold::new(place, frame), &kept),
                 None => false,
             },
             Passage::Reply => {

@@ -5,7 +5,8 @@
 //! keeps to how fast reports and orders may pass, `charging` to what reports may cost, and `watching` sees to it that an order without a
 //! reply is said. `resetting` has a BSC forget what it broadcasts when it connects, and `awaiting` waits until it has. `alive` asks a BSC
 //! that says nothing whether it is there, `querying` one what is on air where no operator does. `folding` folds the journal where that is
-//! due, `keeping` keeps it in a file, with where links came from (`link_peers`). `knocking` sends a SYN there when a server starts.
+//! due, `keeping` keeps it in a file, with where links came from (`link_peers`). `knocking` sends a SYN there when a server starts. `broadcasts`
+//! takes what replies say of broadcasts (`counted`).
 //! What happens to links is said by a thread of its own (`server_errors`). No clause says what a socket gives or when a thread goes
 //! on; what is promised of the two sides of a link stands in `link_worker`, and by which rules a link goes on in `link_rules`.
 #![tactic(auto)]
@@ -13,8 +14,10 @@
 mod accepting;
 mod alive;
 mod awaiting;
+mod broadcasts;
 mod charging;
 mod closing;
+mod counted;
 mod folding;
 mod gate;
 mod heavy_turn;
@@ -36,6 +39,7 @@ mod watching;
 mod writing;
 
 pub use accepting::accept_links;
+pub use broadcasts::{BroadcastWatch, active_version};
 pub use closing::{close_all, close_port};
 pub use heavy_turn::HeavyTurn;
 pub use keeping::keep;

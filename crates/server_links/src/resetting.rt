@@ -1,5 +1,8 @@
 //! A BSC forgets what it broadcasts when it connects.
 
+ghost use Rattle.std.specs.Prelude.{◌≡◌, IfOk};
+ghost use Rattle.journal_keeper.specs.Kept.{Covers};
+
 use crate::incoming::Incoming;
 use crate::shared::{Shared, now_of, second_of};
 use cbsp_ie::CellIds;
@@ -7,7 +10,7 @@ use cbsp_messages::{Message, Restart};
 use centre_events::event::Event;
 use centre_events::refusal::Refusal;
 use centre_past::reported::ReportedKeys;
-use journal_keeper::KeptUpTo;
+use journal_keeper::{KeptUpTo, Untold};
 use link_resets::{EmergencyKey, emergency_keys, reset_frames};
 use link_worker::{End, Load};
 use office::desk::Desk;
@@ -104,24 +107,35 @@ fn emergencies_of<L: Ledger, E: Write + Drop, R: Wait + Clock>(
     }
 }
 
-/// What is to be written to the BSC, so that it forgets what it broadcasts.
+/// What is to be written to the BSC, so that it forgets what it broadcasts. It tells of the entry by which its link came up, whose place is
+/// the generation.
 fn frames_of<L: Ledger, E: Write + Drop, R: Wait + Clock>(
     rt: &R,
     shared: &Shared<L, E>,
     port: &Port<L>,
     desk: &Desk<L>,
-) -> Result<Vec<u8>, Refusal> {
+    generation: u64,
+) -> Result<Untold<Vec<u8>>, Refusal>
+    ensures { IfOk result (λ frames. frames.place ≡ generation) }
+{
     let table = table_of(rt, shared, port, desk)?;
     let keys = emergencies_of(rt, shared, desk, &table)?;
     match reset_frames(shared.alloc, keys.as_slice()) {
-        Ok(frames) => Ok(frames),
+        Ok(frames) => Ok(Untold::new(generation, frames)),
         Err(_) => Err(Refusal::Memory),
     }
 }
 
 /// Writes frames, as what they ask for is kept.
-fn write_frames(mut stream: &TcpStream, frames: &[u8], _kept: KeptUpTo) -> Result<(), SideEnd> {
-    match stream.write_all(frames) {
+fn write_frames(
+    mut stream: &TcpStream,
+    frames: Untold<Vec<u8>>,
+    kept: &KeptUpTo,
+) -> Result<(), SideEnd>
+    requires { Covers kept.now frames.place }
+{
+    let frames = frames.tell(kept);
+    match stream.write_all(frames.as_slice()) {
         Ok(()) => Ok(()),
         Err(error) => Err(SideEnd {
             end: End::WriteFault,
@@ -138,17 +152,15 @@ pub(crate) fn reset_cells<L: Ledger, E: Write + Drop, R: Wait + Clock>(
     generation: u64,
 ) -> Result<(), SideEnd> {
     let (rt, shared, port) = (incoming.rt, incoming.shared, incoming.port);
-    let frames = match frames_of(rt, shared, port, desk) {
+    let frames = match frames_of(rt, shared, port, desk, generation) {
         Ok(frames) => frames,
         Err(refusal) => return Err(SideEnd::of(End::Refused(refusal))),
     };
-    let Some(kept) = shared.wait_kept(rt) else {
+    let Some(kept) = shared.wait_kept(rt, generation) else {
         return Err(SideEnd::of(End::GateShut));
     };
     port.reset(rt, now_of(rt), second_of(rt));
-    let written = write_frames(incoming.stream, frames.as_slice(), kept);
-    drop(frames);
-    written?;
+    write_frames(incoming.stream, frames, &kept)?;
     incoming.wait_reset(desk)?;
     let entered = submit_restarts(rt, shared, port, desk, generation);
     port.reset_done(rt);

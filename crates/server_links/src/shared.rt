@@ -1,5 +1,9 @@
 //! What the threads of a server share.
 
+ghost use Rattle.std.specs.Prelude.{IfSome};
+ghost use Rattle.journal_keeper.specs.Kept.{Covers};
+
+use crate::broadcasts::BroadcastWatch;
 use crate::heavy_turn::HeavyTurn;
 use crate::options::LinkOptions;
 use centre_events::refusal::Refusal;
@@ -29,6 +33,8 @@ pub struct Shared<L: Ledger, E: Drop> {
     pub folds: Mutex<FoldPace>,
     /// Which link has the turn of the heavy reports.
     pub heavy_turn: HeavyTurn,
+    /// What replies said of broadcasts.
+    pub broadcasts: BroadcastWatch,
     /// How far the journal is kept in a file, where it is. Then the thread that keeps it folds it, where another asks for that.
     pub kept: Option<Kept<Result<u64, Refusal>>>,
     /// Whether a simulated BSC connects to each port.
@@ -52,10 +58,15 @@ impl<L: Ledger, E: Write + Drop> Shared<L, E> {
 }
 
 impl<L: Ledger, E: Drop> Shared<L, E> {
-    /// Waits until all entries that there are now are kept, where a file is kept. `None` where the file has failed: then nobody is told of
-    /// them.
-    pub fn wait_kept<R: Wait>(&self, rt: &R) -> Option<KeptUpTo> {
-        wait_kept(rt, &self.kept, self.office.position(rt))
+    /// Waits until all entries are kept that there are now, and all up to the place, where a file is kept. `None` where the file has
+    /// failed: then nobody is told of them.
+    pub fn wait_kept<R: Wait>(&self, rt: &R, place: u64) -> Option<KeptUpTo>
+        ensures { IfSome result (λ kept. Covers kept place) }
+    {
+        let last = self.office.position(rt).max(place);
+        let kept = wait_kept(rt, &self.kept, last)?;
+        kept.tell_covered(last, place);
+        Some(kept)
     }
 
     /// The last entry that is kept in the file; `None` where no file is kept.
@@ -126,6 +137,6 @@ pub fn second_of<R: Clock>(rt: &R) -> u64 {
 
 impl<L: Ledger, E: Drop> Clearance for Shared<L, E> {
     fn may_tell<R: Wait>(&self, rt: &R) -> bool {
-        self.wait_kept(rt).is_some()
+        self.wait_kept(rt, 0).is_some()
     }
 }

@@ -1,6 +1,9 @@
 -- From what is written and gathered to what is told.
-use Rattle.std.proofs.Common.{◌≡◌, ◌++◌, ℕ, Bool, [], List, Option, Some, None, Result, Ok, Err, IfOk, IsTrue, subst, sym}
+use Rattle.std.proofs.Common.{◌≡◌, ◌++◌, ◌∷◌, ◌-◌, ◌≤◌, ℕ, suc, zero, All, Bool, [], List, Option, Some, None, Result, Ok, Err, IfOk, IsTrue, drop, length, slice_get, subst, sym, arith}
 use Rattle.std.proofs.lemmas.List.{append_assoc, append-nil}
+use Rattle.std.proofs.lemmas.List.Elements.{All-drop}
+use Rattle.office.specs.Receipts.{last_place, last_place_or}
+use Rattle.office.specs.declared.receipt.Receipt.{Receipt}
 use Rattle.std.specs.Io.KnownBytes.{Appends, Keeps}
 use Rattle.server_operator.specs.Batches.{IsTold}
 
@@ -29,3 +32,23 @@ told_written None b gathered left text (Ok k) written none = λ is. tt
 told_written (Some xs) None gathered left text (Ok k) written none = λ is. elim (written is) [ ]
 told_written (Some xs) (Some ys) gathered left text (Ok k) written none = λ is. subst (λ left. ys ++ left ≡ (xs ++ gathered) ++ text) (sym none) (subst (λ r. r ≡ (xs ++ gathered) ++ text) (sym (append-nil ys)) (subst (λ ys. ys ≡ (xs ++ gathered) ++ text) (sym (written is)) (sym (append_assoc xs gathered text))))
 told_written a b gathered left text (Err e) written none = tt
+
+-- the place of the last of some receipts
+last_is : (n : ℕ) (receipts : List Receipt) (k : ℕ) (r : Receipt) → length receipts ≡ suc k → slice_get receipts k ≡ Some r → last_place_or n receipts ≡ r.place
+last_is n [] k r counted at = absurd (omega (arith, counted))
+last_is n (x ∷ []) zero r counted at = cc
+last_is n (x ∷ []) (suc k) r counted at = absurd (omega (arith, counted))
+last_is n (x ∷ y ∷ receipts) zero r counted at = absurd (omega (arith, counted))
+last_is n (x ∷ y ∷ receipts) (suc k) r counted at = last_is x.place (y ∷ receipts) k r (omega (arith, counted)) at
+
+last_one : (receipts : List Receipt) (r : Receipt) → slice_get receipts (length receipts - 1) ≡ Some r → last_place receipts ≡ r.place
+last_one [] r at = cc at
+last_one (x ∷ xs) r at =
+    let counted : length (x ∷ xs) ≡ suc (length (x ∷ xs) - 1) = omega arith in
+    last_is 0 (x ∷ xs) (length (x ∷ xs) - 1) r counted at
+
+-- no receipt that a desk holds is of a later entry than its latest
+pub last_is_above : (receipts : List Receipt) (released : ℕ) (r : Receipt) → slice_get receipts (length receipts - 1) ≡ Some r
+    → All (λ (q : Receipt). q.place ≤ last_place receipts) receipts → All (λ (q : Receipt). q.place ≤ r.place) (drop released receipts)
+last_is_above receipts released r at places =
+    All-drop (λ (q : Receipt). q.place ≤ r.place) released receipts (subst (λ n. All (λ (q : Receipt). q.place ≤ n) receipts) (last_one receipts r at) places)

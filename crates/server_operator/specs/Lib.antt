@@ -1,7 +1,6 @@
 pub mod Asking
 pub mod Batches
 pub mod Downs
-pub mod Edits
 pub mod Hearing
 pub mod Leavings
 pub mod Listing

@@ -1,5 +1,5 @@
 -- What a line that asks for a list is answered, and `status`.
-use Rattle.std.specs.Prelude.{◌≡◌, ◌⊎◌, ℕ, List, [], Option}
+use Rattle.std.specs.Prelude.{◌≡◌, ◌⊎◌, ℕ, List, []}
 use Rattle.areas.specs.declared.selector.Selector.{Selector}
 use Rattle.centre_events.specs.declared.refusal.Refusal.{Refusal}
 use Rattle.centre_past.specs.declared.lists.area_row.AreaRow.{AreaRow}
@@ -19,6 +19,7 @@ use Rattle.office.specs.Offices.{IsSeenSomewhere, IsUnseenSomewhere, IsWrongDesk
 use Rattle.office.specs.Statuses.{IsStatusSomewhere}
 use Rattle.office.specs.declared.seen.Seen.{Seen}
 use Rattle.server_lines.specs.declared.list_line.ListLine.{ListLine}
+use Rattle.server_operator.specs.declared.beside.Beside.{Beside}
 use Rattle.server_lines.specs.declared.list_line.ListLine.TheVariants as line
 
 -- what the line asks of the centre
@@ -53,31 +54,35 @@ abbrev pub warnings_in : SeenValue → List WarningRow
 warnings_in (value.Warnings rows) = rows
 warnings_in other = []
 
-abbrev pub sheet_in : SeenValue → List ℕ
-sheet_in (value.Warning sheet) = sheet_text sheet
-sheet_in other = []
+abbrev pub sheet_in : Beside → SeenValue → List ℕ
+sheet_in beside (value.Warning sheet) = sheet_text beside.silent.items beside.over sheet
+sheet_in beside other = []
 
 abbrev pub failed_in : SeenValue → List FailedRow
 failed_in (value.Failed rows) = rows
 failed_in other = []
 
--- how the line is answered, where that was seen; of the links a RESET is out over some, since these times
-abbrev pub list_text : List (Option ℕ) → ListLine → SeenValue → List ℕ
-list_text resets line.Bscs v = bscs_text resets (bscs_in v)
-list_text resets line.Links v = links_text resets (bscs_in v)
-list_text resets (line.Cells b) v = cells_text b (cells_in v)
-list_text resets line.Areas v = areas_text (areas_in v)
-list_text resets (line.Area a) v = area_text a (selectors_in v)
-list_text resets line.Warnings v = warnings_text (warnings_in v)
-list_text resets (line.Warning w) v = sheet_in v
-list_text resets (line.Failed w) v = failed_text (failed_in v)
+-- how the line is answered, where that was seen, and the server said this beside it
+abbrev pub list_text : Beside → ListLine → SeenValue → List ℕ
+list_text beside line.Bscs v = bscs_text beside.resets.items (bscs_in v)
+list_text beside line.Links v = links_text beside.resets.items (bscs_in v)
+list_text beside (line.Cells b) v = cells_text b (cells_in v)
+list_text beside line.Areas v = areas_text (areas_in v)
+list_text beside (line.Area a) v = area_text a (selectors_in v)
+list_text beside line.Warnings v = warnings_text (warnings_in v)
+list_text beside (line.Warning w) v = sheet_in beside v
+list_text beside (line.Failed w) v = failed_text (failed_in v)
 
--- the text is that of what was seen in one centre, that is at one moment, and of what the server says of RESETs
+-- the text is that of what was seen, and of what the server says beside it
+pub record IsShown (line : ListLine) (v : SeenValue) (text : List ℕ) : Type 0 where
+  pub beside : Beside
+  pub is : text ≡ list_text beside line v
+
+-- it was seen in one centre, that is at one moment
 pub record IsListed (d : DeskState) (line : ListLine) (text : List ℕ) : Type 0 where
   pub seen : Seen
-  pub resets : List (Option ℕ)
   pub somewhere : IsSeenSomewhere d (question_of line) seen
-  pub is : text ≡ list_text resets line seen.value
+  pub is : IsShown line seen.value text
 
 -- the text is the cause for which the centre refuses the question
 pub record IsUnlisted (d : DeskState) (line : ListLine) (text : List ℕ) : Type 0 where

@@ -4,17 +4,17 @@ use Rattle.centre_events.specs.declared.event.Event.TheVariants as event
 use Rattle.centre_events.specs.declared.refusal.Refusal.TheVariants as refusal
 use Rattle.centre_questions.specs.declared.question.Question.{Question}
 use Rattle.centre_questions.specs.declared.question.Question.TheVariants as question
+use Rattle.console_text.specs.Events.{line_edit}
 use Rattle.console_text.specs.declared.line.Line.{Line}
 use Rattle.console_text.specs.declared.line.Line.TheVariants as line
+use Rattle.console_text.specs.declared.line_edit.LineEdit.{LineEdit}
+use Rattle.console_text.specs.declared.line_edit.LineEdit.TheVariants as made
 use Rattle.console_text.specs.declared.response.Response.{Response}
 use Rattle.console_text.specs.declared.response.Response.TheVariants as response
 use Rattle.office.specs.Desks.{DeskState}
 use Rattle.office.specs.Offices.{IsRebuiltSomewhere, IsWrongDesk}
 use Rattle.server_operator.specs.Asking.{IsAskAnswer}
-use Rattle.server_operator.specs.Edits.{asked_of}
 use Rattle.server_operator.specs.Submitting.{IsSubmitAnswer}
-use Rattle.server_operator.specs.declared.asked.Asked.{Asked}
-use Rattle.server_operator.specs.declared.asked.Asked.TheVariants as asked
 
 -- the desk is as it was, and the question is answered so
 abbrev pub IsAsked : DeskState → Question → DeskState → Response → Type 0
@@ -38,11 +38,11 @@ IsOtherAnswer before line.Checkpoint after r = after ≡ before
 IsOtherAnswer before other after r = (r ≡ response.BadLine) × (after ≡ before)
 
 -- how a line is answered that comes to that
-abbrev pub IsAnswerFor : DeskState → Asked → DeskState → Response → Type 0
-IsAnswerFor before (asked.Edit change) after r = IsSubmitAnswer before (event.Edit change) after r
-IsAnswerFor before asked.BadHex after r = (r ≡ response.BadHex) × (after ≡ before)
-IsAnswerFor before (asked.Other l) after r = IsOtherAnswer before l after r
+abbrev pub IsAnswerFor : DeskState → LineEdit → DeskState → Response → Type 0
+IsAnswerFor before (made.Edit change) after r = IsSubmitAnswer before (event.Edit change) after r
+IsAnswerFor before made.BadHex after r = (r ≡ response.BadHex) × (after ≡ before)
+IsAnswerFor before (made.Other l) after r = IsOtherAnswer before l after r
 
 -- how the line is answered
 abbrev pub IsAnswer : DeskState → Line → DeskState → Response → Type 0
-IsAnswer before l after r = IsAnswerFor before (asked_of l) after r
+IsAnswer before l after r = IsAnswerFor before (line_edit l) after r

@@ -1,7 +1,8 @@
 //! Lines that are answered together.
 
-ghost use Rattle.std.specs.Prelude.{◌≡◌, ◌++◌, ◌↔◌, [], OnOk, IsTrue, true, if◌then◌else◌};
+ghost use Rattle.std.specs.Prelude.{◌≡◌, ◌++◌, ◌↔◌, [], OnOk, IsTrue, max, true, if◌then◌else◌};
 ghost use Rattle.std.specs.Io.KnownBytes.{Appends};
+ghost use Rattle.journal_keeper.specs.Kept.{Covers};
 
 use crate::server::Server;
 use console_text::ReplayFault;
@@ -20,6 +21,8 @@ const MOST_GATHERED: usize = 65_536;
 pub(crate) struct Batch {
     /// The answers that aren't written yet, one behind the other.
     answers: Vec<u8>,
+    /// The place of the last entry of which these may tell, of those that were entered for them.
+    place: u64,
     /// All that had come is read, so the next read may wait.
     pub(crate) may_wait: bool,
     /// The server wasn't told yet that the latest line was answered.
@@ -57,6 +60,7 @@ impl Batch {
     {
         Batch {
             answers: Vec::new(alloc),
+            place: 0,
             may_wait: true,
             is_untold: false,
         }
@@ -69,11 +73,19 @@ impl Batch {
         self.answers.is_empty()
     }
 
-    /// A line was answered.
-    pub(crate) fn count(&mut self)
-        ensures { self.new ≡ record self.old { is_untold = true } }
+    /// A line was answered, when this was the place of the last entry that was entered for the lines.
+    pub(crate) fn count(&mut self, place: u64)
+        ensures { self.new ≡ record self.old { is_untold = true; place = max self.old.place place } }
     {
         self.is_untold = true;
+        self.place = self.place.max(place);
+    }
+
+    /// The place of the last entry of which the answers may tell, of those that were entered for them.
+    pub(crate) fn place(&self) -> u64
+        ensures { result ≡ self.now.place }
+    {
+        self.place
     }
 
     /// Takes the answer among those that are written together. The answer is whether it is taken: it isn't where there would be too
@@ -81,6 +93,7 @@ impl Batch {
     pub(crate) fn gather(&mut self, text: &[u8]) -> bool
         ensures answers { self.new.answers.items ≡ (if result then self.old.answers.items ++ text.now else self.old.answers.items) }
         ensures wait { self.new.may_wait ≡ self.old.may_wait }
+        ensures place { self.new.place ≡ self.old.place }
     {
         if self.answers.len().saturating_add(text.len()) > MOST_GATHERED {
             return false;
@@ -94,11 +107,14 @@ impl Batch {
         &mut self,
         writer: &mut W,
         text: &[u8],
-        _kept: KeptUpTo,
+        kept: &KeptUpTo,
     ) -> Result<(), ReplayFault>
+        requires covers { Covers kept.now self.old.place }
         ensures written { OnOk result (Appends (W.contents writer.old) (W.contents writer.new) (self.old.answers.items ++ text.now)) }
         ensures none { self.new.answers.items ≡ [] }
+        ensures place { self.new.place ≡ self.old.place }
     {
+        let _ = kept;
         let result = write_both(writer, self.answers.as_slice(), text);
         self.answers.clear();
         result
@@ -106,7 +122,8 @@ impl Batch {
 
     /// The answers aren't written any more.
     pub(crate) fn forget(&mut self)
-        ensures { self.new.answers.items ≡ [] }
+        ensures none { self.new.answers.items ≡ [] }
+        ensures place { self.new.place ≡ self.old.place }
     {
         self.answers.clear();
         self.is_untold = false;
@@ -114,7 +131,8 @@ impl Batch {
 
     /// Tells the server that the latest line was answered, where it wasn't told yet.
     pub(crate) fn tell<S: Server, R: Wait + Clock>(&mut self, rt: &R, server: &S)
-        ensures { self.new.answers ≡ self.old.answers }
+        ensures answers { self.new.answers ≡ self.old.answers }
+        ensures place { self.new.place ≡ self.old.place }
     {
         if mem::replace(&mut self.is_untold, false) {
             server.answered(rt);

@@ -52,7 +52,7 @@ fn wish<L: Ledger, S: Server, R: Wait>(
 }
 
 /// What a line is answered that asks for a list. Where memory runs out for its text, it is refused.
-fn hear_list<L: Ledger, S: Server, R: Wait>(
+fn hear_list<L: Ledger, S: Server, R: Wait + Clock>(
     rt: &R,
     operator: &Operator<'_, L, S>,
     desk: &Desk<L>,

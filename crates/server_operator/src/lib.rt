@@ -2,18 +2,18 @@
 //! together, before a read that may wait.
 //!
 //! Begin with `operator`, then `hearing`: what comes of a line by its octets. What a line of the console is answered is in `responding`:
-//! its edit in `edits`, its event in `submitting`, its question in `asking`. The edits of lines with a text are in `saying`, the lists in
+//! its event in `submitting`, its question in `asking`. The edits of lines with a text are in `saying`, the lists in
 //! `listing`. How lines come in is in `reading` and `terminal`, how their answers are written in `delivering` and `batch`, and what is
-//! said of BSCs whose link is down in `downs`, and of BSCs of two repetition periods in `period_notices`. What is promised of the office stands in `office`, what a line is in `server_lines`, and
-//! what its answer is in `console_text`.
+//! said of BSCs whose link is down in `downs`, and of BSCs of two repetition periods in `period_notices`. What is promised of the office
+//! stands in `office`, what a line is in `server_lines`, and what its answer is in `console_text`.
 #![tactic(auto)]
 
-mod asked;
+mod air;
 mod asking;
 mod batch;
+mod beside;
 mod delivering;
 mod downs;
-mod edits;
 mod heard;
 mod hearing;
 mod leaving;
@@ -33,6 +33,7 @@ mod terminal;
 mod timed_input;
 mod typing;
 
+pub use air::Air;
 pub use leaving::Leaving;
 pub use operator::{Operator, operate};
 pub use server::Server;

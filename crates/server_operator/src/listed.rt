@@ -3,6 +3,7 @@
 ghost use Rattle.std.specs.Prelude.{◌≡◌, IfOk};
 ghost use Rattle.server_operator.specs.Listing.{areas_in, bscs_in, cells_in, failed_in, list_text, question_of, selectors_in, sheet_in, warnings_in};
 
+use crate::beside::Beside;
 use areas::Selector;
 use centre_past::lists::{AreaRow, BscRow, CellRow, FailedRow, WarningRow};
 use lists_text::{
@@ -88,24 +89,27 @@ fn failed_in(value: &SeenValue) -> &[FailedRow]
 }
 
 /// The text of a warning with its content.
-fn sheet_in(alloc: Global, value: &SeenValue) -> Result<Vec<u8>, AllocError>
-    ensures { IfOk result (λ text. text.items ≡ sheet_in value.now) }
+fn sheet_in(alloc: Global, beside: &Beside, value: &SeenValue) -> Result<Vec<u8>, AllocError>
+    ensures { IfOk result (λ text. text.items ≡ sheet_in beside.now value.now) }
 {
     match value {
-        SeenValue::Warning(sheet) => sheet_text(alloc, sheet),
+        SeenValue::Warning(sheet) => {
+            sheet_text(alloc, sheet, beside.silent.as_slice(), beside.over)
+        }
         _ => Ok(Vec::new(alloc)),
     }
 }
 
-/// How the line is answered, where that was seen. `resets` has since when a RESET is out to each BSC, for the lines that show it.
+/// How the line is answered, where that was seen, and the server said this beside it.
 pub(crate) fn list_text(
     alloc: Global,
     line: &ListLine,
     value: &SeenValue,
-    resets: &[Option<u64>],
+    beside: &Beside,
 ) -> Result<Vec<u8>, AllocError>
-    ensures { IfOk result (λ text. text.items ≡ list_text resets.now line.now value.now) }
+    ensures { IfOk result (λ text. text.items ≡ list_text beside.now line.now value.now) }
 {
+    let resets = beside.resets.as_slice();
     match line {
         ListLine::Bscs => bscs_text(alloc, bscs_in(value), resets),
         ListLine::Links => links_text(alloc, bscs_in(value), resets),
@@ -113,7 +117,7 @@ pub(crate) fn list_text(
         ListLine::Areas => areas_text(alloc, areas_in(value)),
         ListLine::Area(name) => area_text(alloc, name, selectors_in(value)),
         ListLine::Warnings => warnings_text(alloc, warnings_in(value)),
-        ListLine::Warning(_) => sheet_in(alloc, value),
+        ListLine::Warning(_) => sheet_in(alloc, beside, value),
         ListLine::Failed(_) => failed_text(alloc, failed_in(value)),
     }
 }

@@ -3,8 +3,10 @@
 
 ghost use Rattle.std.specs.Prelude.{◌≡◌, IfOk, string_bytes};
 ghost use Rattle.console_text.specs.Texts.{refused_text};
-ghost use Rattle.server_operator.specs.Listing.{IsListAnswer, IsStatusAnswer, list_text};
+ghost use Rattle.server_operator.specs.Listing.{IsListAnswer, IsShown, IsStatusAnswer, list_text};
 
+use crate::air::Air;
+use crate::beside::Beside;
 use crate::listed::{list_text, question_of};
 use crate::operator::Operator;
 use crate::server::Server;
@@ -15,11 +17,12 @@ use console_text::answer_text::response_text;
 use console_text::response::Response;
 use lists_text::status_text;
 use office::desk::Desk;
-use office::seen::Seen;
+use office::seen::{Seen, SeenValue};
 use server_lines::list_line::ListLine;
 use std::alloc::{AllocError, Global};
 use std::sync::Wait;
 use std::sync::ledger::Ledger;
+use std::time::Clock;
 
 /// The most BSCs that there may be.
 const MOST_BSCS: u16 = 256;
@@ -52,17 +55,62 @@ fn shown_resets<L: Ledger, S: Server, R: Wait>(
     }
 }
 
+/// What is known of the warning that was seen, if one was.
+fn shown_air<L: Ledger, S: Server, R: Wait + Clock>(
+    rt: &R,
+    operator: &Operator<'_, L, S>,
+    value: &SeenValue,
+) -> Result<Air, AllocError> {
+    match value {
+        SeenValue::Warning(sheet) => operator.server.air(rt, operator.alloc, sheet),
+        _ => Ok(Air {
+            silent: Vec::new(operator.alloc),
+            over: None,
+        }),
+    }
+}
+
+/// What the server says beside what was seen, as far as the line shows it.
+fn said_beside<L: Ledger, S: Server, R: Wait + Clock>(
+    rt: &R,
+    operator: &Operator<'_, L, S>,
+    line: &ListLine,
+    value: &SeenValue,
+) -> Result<Beside, AllocError> {
+    let resets = shown_resets(rt, operator, line)?;
+    let Air { silent, over } = shown_air(rt, operator, value)?;
+    Ok(Beside {
+        resets,
+        silent,
+        over,
+    })
+}
+
 /// The text of what was seen.
 fn seen_octets(
     alloc: Global,
     line: &ListLine,
-    seen: &Seen,
-    resets: &[Option<u64>],
+    value: &SeenValue,
+    beside: &Beside,
 ) -> Result<Octets, AllocError>
-    ensures { IfOk result (λ text. text ≡ list_text resets.now line.now seen.now.value) }
+    ensures { IfOk result (λ text. text ≡ list_text beside.now line.now value.now) }
 {
-    let text = list_text(alloc, line, &seen.value, resets)?;
+    let text = list_text(alloc, line, value, beside)?;
     Ok(Octets::from_vec(text))
+}
+
+/// The text of what was seen, with what the server says beside it.
+#[tactic(auto, using(crate::proofs::ListingLemmas::shown))]
+fn shown<L: Ledger, S: Server, R: Wait + Clock>(
+    rt: &R,
+    operator: &Operator<'_, L, S>,
+    line: &ListLine,
+    value: &SeenValue,
+) -> Result<Octets, AllocError>
+    ensures { IfOk result (IsShown line.now value.now) }
+{
+    let beside = said_beside(rt, operator, line, value)?;
+    seen_octets(operator.alloc, line, value, &beside)
 }
 
 /// The text of a refusal.
@@ -75,7 +123,7 @@ fn refused_octets(alloc: Global, refusal: Refusal) -> Result<Octets, AllocError>
 
 /// What a line is answered that asks for a list.
 #[tactic(auto, using(crate::proofs::ListingLemmas::listed, crate::proofs::ListingLemmas::unlisted))]
-pub(crate) fn list<L: Ledger, S: Server, R: Wait>(
+pub(crate) fn list<L: Ledger, S: Server, R: Wait + Clock>(
     rt: &R,
     operator: &Operator<'_, L, S>,
     desk: &Desk<L>,
@@ -83,11 +131,10 @@ pub(crate) fn list<L: Ledger, S: Server, R: Wait>(
 ) -> Result<Octets, AllocError>
     ensures { IfOk result (IsListAnswer desk.now line.now) }
 {
-    let resets = shown_resets(rt, operator, line)?;
     let question = question_of(operator.alloc, line)?;
     match operator.office.look(rt, desk, question) {
         Ok(seen) => {
-            let text = seen_octets(operator.alloc, line, &seen, resets.as_slice());
+            let text = shown(rt, operator, line, &seen.value);
             drop(seen);
             text
         }

@@ -4,14 +4,14 @@ ghost use Rattle.std.specs.Prelude.{IfOk};
 ghost use Rattle.console_text.specs.Texts.{ResponseFits};
 ghost use Rattle.server_operator.specs.Responding.{IsAnswer, IsOtherAnswer, IsRebuildAnswer};
 
-use crate::asked::Asked;
 use crate::asking::ask;
-use crate::edits::asked_of;
 use crate::operator::Operator;
 use crate::server::Server;
 use crate::submitting::{edit, submit};
 use centre_events::event::Event;
+use console_text::edits::edit_of;
 use console_text::line::Line;
+use console_text::line_edit::LineEdit;
 use console_text::response::Response;
 use office::desk::Desk;
 use office::question::Question;
@@ -81,9 +81,9 @@ pub(crate) fn respond<L: Ledger, S: Server, R: Wait + Clock>(
     ensures answer { IfOk result (IsAnswer desk.old line desk.new) }
     ensures fits { IfOk result ResponseFits }
 {
-    match asked_of(operator.alloc, line)? {
-        Asked::Edit(change) => Ok(edit(rt, operator, desk, change)),
-        Asked::BadHex => Ok(Response::BadHex),
-        Asked::Other(line) => Ok(respond_other(rt, operator, desk, line)),
+    match edit_of(operator.alloc, line)? {
+        LineEdit::Edit(change) => Ok(edit(rt, operator, desk, change)),
+        LineEdit::BadHex => Ok(Response::BadHex),
+        LineEdit::Other(line) => Ok(respond_other(rt, operator, desk, line)),
     }
 }

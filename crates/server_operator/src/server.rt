@@ -1,9 +1,14 @@
 //! The server, as its operator knows it.
 
+ghost use Rattle.std.specs.Prelude.{IfSome};
+ghost use Rattle.journal_keeper.specs.Kept.{Covers};
+
+use crate::air::Air;
 use cell_register::BscId;
 use centre_events::refusal::Refusal;
+use centre_past::lists::WarningSheet;
 use journal_keeper::KeptUpTo;
-use std::alloc::AllocError;
+use std::alloc::{AllocError, Global};
 use std::sync::Wait;
 use std::time::Clock;
 use warning_book::WarningId;
@@ -17,9 +22,10 @@ pub trait Server {
     /// may not be written yet.
     fn answered<R: Wait + Clock>(&self, rt: &R);
 
-    /// Waits until all entries that there are now are kept, where a file is kept. `None` where the file has failed: then nothing more is
-    /// answered, nor what is answered and not written.
-    fn kept<R: Wait>(&self, rt: &R) -> Option<KeptUpTo>;
+    /// Waits until all entries are kept that there are now, and all up to the place, where a file is kept. `None` where the file has
+    /// failed: then nothing more is answered, nor what is answered and not written.
+    fn kept<R: Wait>(&self, rt: &R, place: u64) -> Option<KeptUpTo>
+        ensures { IfSome result (λ kept. Covers kept place) };
 
     /// Whether no line is answered any more, since the server ends, or the file of the journal has failed.
     fn is_ending<R: Wait>(&self, rt: &R) -> bool;
@@ -30,6 +36,14 @@ pub trait Server {
     /// The BSC's link of that generation was ended by the operator: its connection is shut, where it is still there. A link that
     /// came up since stays.
     fn cut<R: Wait>(&self, rt: &R, b: BscId, generation: u64);
+
+    /// Where the warning is silent, and since when it is over by its period.
+    fn air<R: Wait + Clock>(
+        &self,
+        rt: &R,
+        alloc: Global,
+        sheet: &WarningSheet,
+    ) -> Result<Air, AllocError>;
 
     /// Whether the BSC may connect, and no link of its is up.
     fn is_down<R: Wait>(&self, rt: &R, b: BscId) -> bool;

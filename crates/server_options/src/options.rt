@@ -60,7 +60,7 @@ pub struct ServeOptions {
 
 /// Why the words are no options of the server.
 #[derive(Clone, Copy, Debug, PartialEq, Eq)]
-pub(crate) enum OptionsFault {
+pub enum OptionsFault {
     /// The network code isn't six hexadecimal digits.
     BadPlmn,
     /// A port would be past 65,535, or a value is none that the parser takes.
@@ -282,7 +282,7 @@ fn options_of(alloc: Global, matches: &ArgMatches<'_>) -> Result<ServeOptions, O
 
 /// The options of the server in the words of a command line that asks for it, which the parser takes. It takes them a second
 /// time too, unless memory runs out. So `Memory` is answered wherever it does not take them.
-pub(crate) fn read_options(alloc: Global, words: &[String]) -> Result<ServeOptions, OptionsFault> {
+pub fn read_options(alloc: Global, words: &[String]) -> Result<ServeOptions, OptionsFault> {
     match command_line(alloc)?.try_get_matches_from(words) {
         Ok(matches) => match matches.subcommand_matches("serve") {
             Some(matches) => options_of(alloc, matches),

@@ -2,8 +2,8 @@
 use Rattle.std.specs.Prelude.{ℕ, List, [], ◌++◌, codes}
 use Rattle.console_text.specs.Faults.{fault_words}
 use Rattle.console_text.specs.Texts.{newline}
-use Rattle.server.specs.declared.fault.ServeFault.{ServeFault}
-use Rattle.server.specs.declared.fault.ServeFault.TheVariants as serve_fault
+use Rattle.server_options.specs.declared.fault.ServeFault.{ServeFault}
+use Rattle.server_options.specs.declared.fault.ServeFault.TheVariants as serve_fault
 
 -- the words, and the end of the line
 abbrev pub words_of : ServeFault → List ℕ

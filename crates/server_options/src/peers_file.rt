@@ -77,7 +77,7 @@ fn refuse<R: Wait + Clock, E: Write + Drop>(
 
 /// Reads the file of peers, where one is given. What is wrong with it is said: `peers: line 3 can't be read`, or the error of the
 /// system.
-pub(crate) fn read_peers<R: Files + Wait + Clock, E: Write + Drop>(
+pub fn read_peers<R: Files + Wait + Clock, E: Write + Drop>(
     rt: &R,
     alloc: Global,
     options: &ServeOptions,
@@ -97,10 +97,7 @@ pub(crate) fn read_peers<R: Files + Wait + Clock, E: Write + Drop>(
 }
 
 /// The name of the file of peers, where one is given.
-pub(crate) fn peers_name(
-    alloc: Global,
-    options: &ServeOptions,
-) -> Result<Option<String>, AllocError> {
+pub fn peers_name(alloc: Global, options: &ServeOptions) -> Result<Option<String>, AllocError> {
     match &options.peers {
         Some(name) => Ok(Some(String::from_str(alloc, name.as_str())?)),
         None => Ok(None),

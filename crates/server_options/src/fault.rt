@@ -1,7 +1,7 @@
 //! What ends a run of the server.
 
 ghost use Rattle.std.specs.Prelude.{◌≡◌};
-ghost use Rattle.server.specs.Faults.{words_of};
+ghost use Rattle.server_options.specs.Faults.{words_of};
 
 use console_text::{ReplayFault, fault_words};
 
