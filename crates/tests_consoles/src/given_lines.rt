@@ -6,10 +6,11 @@ use crate::given_program::kept_without_file;
 use cell_register::BscId;
 use centre_events::network::Network;
 use centre_events::refusal::Refusal;
+use centre_past::lists::WarningSheet;
 use console_text::ReplayFault;
 use journal_keeper::KeptUpTo;
 use office::office::Office;
-use server_operator::{Leaving, Operator, Server, Terminal, operate};
+use server_operator::{Air, Leaving, Operator, Server, Terminal, operate};
 use std::alloc::{AllocError, Global};
 use std::io::{BufRead, Error, ErrorKind, Read, Write};
 use std::marker::Brand;
@@ -148,12 +149,12 @@ impl Server for Keeping<'_> {
         notes(self.seen, TOLD);
     }
 
-    fn kept<R: Wait>(&self, rt: &R) -> Option<KeptUpTo> {
+    fn kept<R: Wait>(&self, rt: &R, place: u64) -> Option<KeptUpTo> {
         notes(self.seen, ASKED);
         let left = self.left.load(Ordering::SeqCst);
         self.left.store(left.saturating_sub(1), Ordering::SeqCst);
         if left > 0 {
-            kept_without_file(rt)
+            kept_without_file(rt, place)
         } else {
             None
         }
@@ -168,6 +169,18 @@ impl Server for Keeping<'_> {
     }
 
     fn cut<R: Wait>(&self, _rt: &R, _b: BscId, _generation: u64) {}
+
+    fn air<R: Wait + Clock>(
+        &self,
+        _rt: &R,
+        alloc: Global,
+        _sheet: &WarningSheet,
+    ) -> Result<Air, AllocError> {
+        Ok(Air {
+            silent: Vec::new(alloc),
+            over: None,
+        })
+    }
 
     fn is_down<R: Wait>(&self, _rt: &R, _b: BscId) -> bool {
         false

@@ -1,20 +1,26 @@
 //! A program without links.
 
+ghost use Rattle.std.specs.Prelude.{IfSome};
+ghost use Rattle.journal_keeper.specs.Kept.{Covers};
+
 use cell_register::BscId;
 use centre_events::refusal::Refusal;
+use centre_past::lists::WarningSheet;
 use journal_keeper::{Kept, KeptUpTo, wait_kept};
 use server_consoles::Program;
-use server_operator::Server;
-use std::alloc::AllocError;
+use server_operator::{Air, Server};
+use std::alloc::{AllocError, Global};
 use std::sync::Wait;
 use std::sync::atomic::{AtomicBool, Ordering};
 use std::time::Clock;
 use warning_book::WarningId;
 
 /// That all is kept of a journal without a file.
-pub(crate) fn kept_without_file<R: Wait>(rt: &R) -> Option<KeptUpTo> {
+pub(crate) fn kept_without_file<R: Wait>(rt: &R, place: u64) -> Option<KeptUpTo>
+    ensures { IfSome result (λ kept. Covers kept place) }
+{
     let kept: Option<Kept<u64>> = None;
-    wait_kept(rt, &kept, 0)
+    wait_kept(rt, &kept, place)
 }
 
 /// A program without links, which keeps no file.
@@ -36,8 +42,8 @@ impl Server for GivenProgram {
 
     fn answered<R: Wait + Clock>(&self, _rt: &R) {}
 
-    fn kept<R: Wait>(&self, rt: &R) -> Option<KeptUpTo> {
-        kept_without_file(rt)
+    fn kept<R: Wait>(&self, rt: &R, place: u64) -> Option<KeptUpTo> {
+        kept_without_file(rt, place)
     }
 
     fn is_ending<R: Wait>(&self, _rt: &R) -> bool {
@@ -49,6 +55,18 @@ impl Server for GivenProgram {
     }
 
     fn cut<R: Wait>(&self, _rt: &R, _b: BscId, _generation: u64) {}
+
+    fn air<R: Wait + Clock>(
+        &self,
+        _rt: &R,
+        alloc: Global,
+        _sheet: &WarningSheet,
+    ) -> Result<Air, AllocError> {
+        Ok(Air {
+            silent: Vec::new(alloc),
+            over: None,
+        })
+    }
 
     fn is_down<R: Wait>(&self, _rt: &R, _b: BscId) -> bool {
         false

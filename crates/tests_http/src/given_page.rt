@@ -3,7 +3,7 @@
 use crate::answer_tests::{Row, asks};
 use crate::checks::yes;
 use crate::given_pictures::GivenPictures;
-use crate::visitor_tests::{ask_often, stay};
+use crate::visitor_tests::{ask_at_once, ask_often, send_more, stay};
 use server_http::{HttpPort, serve_http};
 use std::alloc::Global;
 use std::net::{Net, SocketAddr, TcpListener, TcpStream};
@@ -21,12 +21,16 @@ pub(crate) enum Client {
     Asks(&'static [Row]),
     /// It asks often.
     AsksOften,
+    /// It asks for many pages at once.
+    AsksAtOnce,
+    /// It sends more behind an answer.
+    SendsMore,
     /// Many stay.
     Stays,
 }
 
 /// The client does so.
-fn plays<R: Abort + Net<Stream = TcpStream, Listener = TcpListener>>(
+fn plays<R: Clock + Abort + Net<Stream = TcpStream, Listener = TcpListener>>(
     rt: &R,
     alloc: Global,
     address: &SocketAddr,
@@ -35,6 +39,8 @@ fn plays<R: Abort + Net<Stream = TcpStream, Listener = TcpListener>>(
     match client {
         Client::Asks(rows) => asks(rt, alloc, address, rows),
         Client::AsksOften => ask_often(rt, alloc, address),
+        Client::AsksAtOnce => ask_at_once(rt, alloc, address),
+        Client::SendsMore => send_more(rt, alloc, address),
         Client::Stays => stay(rt, alloc, address),
     }
 }

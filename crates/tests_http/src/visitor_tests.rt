@@ -7,9 +7,12 @@ use std::alloc::Global;
 use std::io::Write;
 use std::net::{Net, SocketAddr, TcpListener, TcpStream};
 use std::process::Abort;
-use std::time::Clock;
+use std::thread;
+use std::time::{Clock, Duration};
 
 const REQUEST: &[u8] = b"GET /health HTTP/1.1\r\nHost: h\r\n\r\n";
+
+const LAST: &[u8] = b"GET /health HTTP/1.1\r\nHost: h\r\nConnection: close\r\n\r\n";
 
 /// Ask one after another.
 pub(crate) fn ask_often<R: Abort + Net<Stream = TcpStream, Listener = TcpListener>>(
@@ -47,13 +50,68 @@ pub(crate) fn stay<R: Abort + Net<Stream = TcpStream, Listener = TcpListener>>(
         return;
     };
     let mut writer = last;
-    let _ = writer.write_all(b"GET /health HTTP/1.1\r\nHost: h\r\nConnection: close\r\n\r\n");
+    let _ = writer.write_all(LAST);
     let text = rest_of(rt, alloc, last);
     yes(
         rt,
         text.as_slice().ends_with(b"ok\n"),
         "the last one is answered",
     );
+}
+
+/// One asks for many pages at once, more than wait to be sent at a time, and then sends nothing until all are there.
+pub(crate) fn ask_at_once<R: Abort + Net<Stream = TcpStream, Listener = TcpListener>>(
+    rt: &R,
+    alloc: Global,
+    address: &SocketAddr,
+) {
+    let mut requests: Vec<u8> = Vec::new(alloc);
+    for _ in 0..200 {
+        let page = b"GET / HTTP/1.1\r\nHost: h\r\n\r\n";
+        requests.extend_from_slice(page).expect(rt, "memory");
+    }
+    requests.extend_from_slice(LAST).expect(rt, "memory");
+    let stream = connected(rt, address);
+    let mut writer = &stream;
+    let _ = writer.write_all(requests.as_slice());
+    let text = rest_of(rt, alloc, &stream);
+    yes(
+        rt,
+        text.as_slice().ends_with(b"ok\n"),
+        "the last one of many is answered",
+    );
+}
+
+/// Whether what one sends behind an answer, after which nothing more is answered, is still taken.
+fn is_more_taken<R: Clock + Abort + Net<Stream = TcpStream, Listener = TcpListener>>(
+    rt: &R,
+    alloc: Global,
+    address: &SocketAddr,
+) -> bool {
+    let stream = connected(rt, address);
+    let mut writer = &stream;
+    let _ = writer.write_all(LAST);
+    let text = rest_of(rt, alloc, &stream);
+    yes(rt, text.as_slice().ends_with(b"ok\n"), "an answer");
+    let mut is_taken = true;
+    for _ in 0..4 {
+        thread::sleep(rt, Duration::from_millis(50));
+        is_taken = writer.write_all(b"more").is_ok() && is_taken;
+    }
+    is_taken
+}
+
+/// More comes behind an answer, for a shorter time than what comes is read. The client is tried more than once, since it may be halted.
+pub(crate) fn send_more<R: Clock + Abort + Net<Stream = TcpStream, Listener = TcpListener>>(
+    rt: &R,
+    alloc: Global,
+    address: &SocketAddr,
+) {
+    let mut is_taken = false;
+    for _ in 0..3 {
+        is_taken = is_taken || is_more_taken(rt, alloc, address);
+    }
+    yes(rt, is_taken, "what comes is read for a while");
 }
 
 #[test]
@@ -72,4 +130,14 @@ fn many_requests_take_few_pictures(rt: HostRuntime) {
 #[test]
 fn those_who_stay_keep_nobody_out(rt: HostRuntime) {
     let _ = served(&rt, rt.alloc(), false, Client::Stays);
+}
+
+#[test]
+fn all_that_is_asked_at_once_is_answered(rt: HostRuntime) {
+    let _ = served(&rt, rt.alloc(), false, Client::AsksAtOnce);
+}
+
+#[test]
+fn what_comes_behind_an_answer_is_read(rt: HostRuntime) {
+    let _ = served(&rt, rt.alloc(), false, Client::SendsMore);
 }

@@ -7,21 +7,15 @@
 #[cfg(test)]
 mod checks;
 #[cfg(test)]
-mod downs_tests;
-#[cfg(test)]
 mod folding_tests;
 #[cfg(test)]
 mod following_tests;
 #[cfg(test)]
 mod given_events;
 #[cfg(test)]
-mod given_keeping;
-#[cfg(test)]
 mod given_link;
 #[cfg(test)]
 mod held_link_tests;
-#[cfg(test)]
-mod list_tests;
 #[cfg(test)]
 mod office_tests;
 #[cfg(test)]
@@ -31,13 +25,7 @@ mod own_wish_tests;
 #[cfg(test)]
 mod passage_tests;
 #[cfg(test)]
-mod period_tests;
-#[cfg(test)]
-mod picture_tests;
-#[cfg(test)]
 mod read_side_tests;
-#[cfg(test)]
-mod saying_tests;
 #[cfg(test)]
 mod sending_tests;
 #[cfg(test)]
@@ -48,7 +36,5 @@ mod two_waits_tests;
 mod waiting_tests;
 #[cfg(test)]
 mod waking_tests;
-#[cfg(test)]
-mod wish_tests;
 #[cfg(test)]
 mod write_side_tests;

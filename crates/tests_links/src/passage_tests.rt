@@ -1,16 +1,19 @@
 //! What no clause says of the sides of a link: that the gate is asked before each report with what it asks of the centre, and told
-//! after it whether it answered what was in flight, and of each order its frame, before it is written.
+//! after it whether it answered what was in flight, once it was shown the receipt of one that did; and of each order its frame and the
+//! place of its entry, before it is written.
 
 ghost use Rattle.std.specs.Prelude.{◌≡◌};
 
 use crate::checks::same;
 use crate::given_link::{COMPLETE, LINK, ORDER, STREAM, first_bsc, linked};
 use cell_register::BscId;
+use centre_events::answer::Answer;
 use framing::faulty::FailsAfter;
 use framing::{FromRead, FromWrite};
 use link_worker::{End, Gate, Load, Passage, read_side, write_side};
 use office::desk::Desk;
 use office::office::Office;
+use office::receipt::Receipt;
 use std::alloc::Global;
 use std::io::Read;
 use std::marker::Brand;
@@ -18,14 +21,19 @@ use std::process::Abort;
 use std::sync::ledger::{Blank, Ledger};
 use std::sync::{Mutex, Wait};
 
-/// How many orders with the first order's frame, other orders, replies and other reports passed. How many reports were asked for before
-/// they passed, once all before them had passed; their octets, and how many of them may name any number of cells.
+/// The place of the first order's entry, the next one after that in which the link came up.
+const PLACE: u64 = LINK + 1;
+
+/// How many orders with the first order's frame and place, other orders, replies and other reports passed. Of how many replies the
+/// receipt was shown before they passed. How many reports were asked for before they passed, once all before them had passed; their
+/// octets, and how many of them may name any number of cells.
 #[derive(Clone, Copy, Debug, PartialEq, Eq)]
 struct Passed {
     orders: u32,
     others: u32,
     replies: u32,
     reports: u32,
+    shown: u32,
     asked: u32,
     octets: usize,
     any: u32,
@@ -36,6 +44,7 @@ const NOTHING: Passed = Passed {
     others: 0,
     replies: 0,
     reports: 0,
+    shown: 0,
     asked: 0,
     octets: 0,
     any: 0,
@@ -51,8 +60,8 @@ struct Counts {
 fn counted(passed: Passed, passage: Passage<'_>) -> Passed {
     let mut more = passed;
     match passage {
-        Passage::Order(frame) => {
-            if frame == ORDER.as_slice() {
+        Passage::Order(frame, place) => {
+            if frame == ORDER.as_slice() && place == PLACE {
                 more.orders = passed.orders.saturating_add(1);
             } else {
                 more.others = passed.others.saturating_add(1);
@@ -77,10 +86,26 @@ fn asked(passed: Passed, load: Load) -> Passed {
     more
 }
 
+/// With a receipt that is shown.
+fn shown(passed: Passed, receipt: &Receipt) -> Passed {
+    let mut more = passed;
+    if let Answer::Replied(_) = &receipt.answer {
+        if passed.shown == passed.replies {
+            more.shown = passed.shown.saturating_add(1);
+        }
+    }
+    more
+}
+
 impl Gate for Counts {
     fn before_report<R: Wait>(&self, rt: &R, load: Load) {
         let mut passed = self.passed.lock(rt);
         *passed = asked(*passed, load);
+    }
+
+    fn replied<R: Wait>(&self, rt: &R, receipt: &Receipt) {
+        let mut passed = self.passed.lock(rt);
+        *passed = shown(*passed, receipt);
     }
 
     fn pass<R: Wait>(&self, rt: &R, _b: BscId, passage: Passage<'_>) -> bool {
@@ -157,6 +182,7 @@ fn a_gate_is_told_what_passes(rt: HostRuntime) {
         others: 0,
         replies: 1,
         reports: 2,
+        shown: 1,
         asked: 3,
         octets: 40,
         any: 1,

@@ -6,7 +6,7 @@ use crate::given_plays::{Act, Play, USUAL, played};
 use crate::given_texts::Wanted;
 use crate::text_files::TextFiles;
 use journal_file::DiskFile;
-use server::PeersSource;
+use server_options::PeersSource;
 use std::alloc::Global;
 use std::fs;
 use std::fs::{File, Files};

@@ -37,6 +37,8 @@ mod serving_tests;
 #[cfg(test)]
 mod settle_tests;
 #[cfg(test)]
+mod silent_tests;
+#[cfg(test)]
 mod text_files;
 #[cfg(test)]
 mod word_tests;

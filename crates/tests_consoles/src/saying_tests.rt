@@ -2,7 +2,7 @@
 
 ghost use Rattle.std.specs.Prelude.{◌≡◌};
 
-use crate::given_link::linked;
+use crate::given_office::linked;
 use crate::list_tests::is_answered;
 use office::office::Office;
 use std::alloc::Global;

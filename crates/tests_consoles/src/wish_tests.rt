@@ -3,8 +3,7 @@
 ghost use Rattle.std.specs.Prelude.{◌≡◌};
 
 use crate::checks::same;
-use crate::given_events::{SEVEN, first_warning};
-use crate::given_link::{COMPLETE, LINK, enters, first_bsc, linked};
+use crate::given_office::{COMPLETE, LINK, SEVEN, enters, first_bsc, first_warning, linked};
 use crate::list_tests::is_answered;
 use cbsp_messages::read;
 use centre_events::event::Event;

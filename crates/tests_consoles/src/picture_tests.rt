@@ -3,7 +3,7 @@
 ghost use Rattle.std.specs.Prelude.{◌≡◌};
 
 use crate::checks::{same, yes};
-use crate::given_link::{first_bsc, linked};
+use crate::given_office::{first_bsc, linked};
 use centre_events::event::Event;
 use centre_events::refusal::Refusal;
 use coverage_plan::Edit;
@@ -34,6 +34,7 @@ fn pictured<L: Ledger, R: Wait + Abort>(rt: &R, alloc: Global, office: &Office<L
         sinces: Vec::new(alloc),
         resets: Vec::new(alloc),
         downs: Vec::new(alloc),
+        airs: Vec::new(alloc),
         kept: None,
         memory: None,
     };

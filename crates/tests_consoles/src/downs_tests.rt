@@ -3,16 +3,16 @@
 ghost use Rattle.std.specs.Prelude.{◌≡◌};
 
 use crate::checks::{same, yes};
-use crate::given_events::bsc;
-use crate::given_keeping::kept_without_file;
-use crate::given_link::{COMPLETE, LINK, enters, linked, opens};
+use crate::given_office::{COMPLETE, LINK, bsc, enters, linked, opens};
+use crate::given_program::kept_without_file;
 use cbsp_messages::read;
 use cell_register::BscId;
 use centre_events::event::Event;
 use centre_events::refusal::Refusal;
+use centre_past::lists::WarningSheet;
 use journal_keeper::KeptUpTo;
 use office::office::Office;
-use server_operator::{Operator, Server, Terminal, operate};
+use server_operator::{Air, Operator, Server, Terminal, operate};
 use std::alloc::{AllocError, Global};
 use std::marker::Brand;
 use std::process::Abort;
@@ -45,8 +45,8 @@ impl Server for Downs {
 
     fn answered<R: Wait + Clock>(&self, _rt: &R) {}
 
-    fn kept<R: Wait>(&self, rt: &R) -> Option<KeptUpTo> {
-        kept_without_file(rt)
+    fn kept<R: Wait>(&self, rt: &R, place: u64) -> Option<KeptUpTo> {
+        kept_without_file(rt, place)
     }
 
     fn is_ending<R: Wait>(&self, _rt: &R) -> bool {
@@ -59,6 +59,18 @@ impl Server for Downs {
 
     fn cut<R: Wait>(&self, _rt: &R, b: BscId, generation: u64) {
         notes(&self.cut, u64::from(b.number()), generation);
+    }
+
+    fn air<R: Wait + Clock>(
+        &self,
+        _rt: &R,
+        alloc: Global,
+        _sheet: &WarningSheet,
+    ) -> Result<Air, AllocError> {
+        Ok(Air {
+            silent: Vec::new(alloc),
+            over: None,
+        })
     }
 
     fn is_down<R: Wait>(&self, _rt: &R, _b: BscId) -> bool {

@@ -3,20 +3,21 @@
 ghost use Rattle.std.specs.Prelude.{◌≡◌};
 
 use crate::checks::yes;
-use crate::given_events::{bsc, coast};
-use crate::given_keeping::kept_without_file;
-use crate::given_link::{LINK, edits, enters, linked, opens};
+use crate::given_office::{LINK, bsc, coast, edits, enters, linked, opens};
+use crate::given_program::kept_without_file;
 use areas::Selector;
 use cbsp_messages::read;
 use cell_register::BscId;
 use centre_events::event::Event;
 use centre_events::refusal::Refusal;
+use centre_past::lists::WarningSheet;
 use common::Cell;
 use coverage_plan::Edit;
 use journal_keeper::KeptUpTo;
+use lists_text::SilentRow;
 use office::desk::Desk;
 use office::office::Office;
-use server_operator::{Operator, Server, Terminal, operate};
+use server_operator::{Air, Operator, Server, Terminal, operate};
 use std::alloc::{AllocError, Global};
 use std::marker::Brand;
 use std::process::Abort;
@@ -27,15 +28,28 @@ use warning_book::WarningId;
 
 /// A server without links of its own, and without a file.
 #[derive(Drop)]
-struct Alone;
+struct Alone {
+    /// Since when each warning is over, which then is silent in a cell.
+    over: Option<u64>,
+}
+
+/// The cells in which a warning is silent.
+fn silent_rows(alloc: Global, bscs: &[BscId]) -> Result<Vec<SilentRow>, AllocError> {
+    let mut rows = Vec::new(alloc);
+    for bsc in bscs {
+        let cell = Cell { lac: 100, ci: 7 };
+        rows.push(SilentRow { cell, bsc: *bsc })?;
+    }
+    Ok(rows)
+}
 
 impl Server for Alone {
     fn added<R: Wait + Clock>(&self, _rt: &R, _b: BscId) {}
 
     fn answered<R: Wait + Clock>(&self, _rt: &R) {}
 
-    fn kept<R: Wait>(&self, rt: &R) -> Option<KeptUpTo> {
-        kept_without_file(rt)
+    fn kept<R: Wait>(&self, rt: &R, place: u64) -> Option<KeptUpTo> {
+        kept_without_file(rt, place)
     }
 
     fn is_ending<R: Wait>(&self, _rt: &R) -> bool {
@@ -47,6 +61,22 @@ impl Server for Alone {
     }
 
     fn cut<R: Wait>(&self, _rt: &R, _b: BscId, _generation: u64) {}
+
+    fn air<R: Wait + Clock>(
+        &self,
+        _rt: &R,
+        alloc: Global,
+        _sheet: &WarningSheet,
+    ) -> Result<Air, AllocError> {
+        let silent = match (self.over, BscId::new(1)) {
+            (Some(_), Some(b)) => silent_rows(alloc, &[b])?,
+            _ => Vec::new(alloc),
+        };
+        Ok(Air {
+            silent,
+            over: self.over,
+        })
+    }
 
     fn is_down<R: Wait>(&self, _rt: &R, _b: BscId) -> bool {
         false
@@ -149,6 +179,8 @@ no 12 NoSuchArea
 warning 1 4370 0x1112 C000 active cbs areas Coast awaited 1 onair 0 failed 2 left 0 broadcasts 0
 warnings 1
 warning 1 4370 0x1112 C000 active cbs areas Coast awaited 1 onair 0 failed 2 left 0 broadcasts 0
+silent 100 7 at 1
+over since 12:01:03
 dcs 15 category 0 period 30
 text Test
 pages 1
@@ -159,14 +191,16 @@ failures 2
 status entries 14 folded 0 limit 1000 whole bscs 2 up 1 cells 3 areas 1 warnings 1 active 1
 ";
 
-/// The lines are answered so.
-pub(crate) fn is_answered<L: Ledger, R: Wait + Clock + Abort>(
+/// The lines are answered so, where each warning is over since then.
+fn is_answered_beside<L: Ledger, R: Wait + Clock + Abort>(
     rt: &R,
     alloc: Global,
     office: &Office<L>,
+    over: Option<u64>,
     lines: &[u8],
     answers: &[u8],
 ) {
+    let server = Alone { over };
     let terminal = Mutex::new(Terminal {
         reader: lines,
         writer: Vec::new(alloc),
@@ -175,12 +209,23 @@ pub(crate) fn is_answered<L: Ledger, R: Wait + Clock + Abort>(
     let operator = Operator {
         alloc,
         office,
-        server: &Alone,
+        server: &server,
         may_watch: false,
     };
     yes(rt, operate(rt, &operator, &terminal).is_ok(), "an operator");
     let guard = terminal.lock(rt);
     yes(rt, guard.writer.as_slice() == answers, "the answers");
+}
+
+/// The lines are answered so.
+pub(crate) fn is_answered<L: Ledger, R: Wait + Clock + Abort>(
+    rt: &R,
+    alloc: Global,
+    office: &Office<L>,
+    lines: &[u8],
+    answers: &[u8],
+) {
+    is_answered_beside(rt, alloc, office, None, lines, answers);
 }
 
 fn lists<L: Ledger, R: Wait + Clock + Abort>(rt: &R, alloc: Global, blank: Blank)
@@ -193,7 +238,7 @@ fn lists<L: Ledger, R: Wait + Clock + Abort>(rt: &R, alloc: Global, blank: Blank
     enters(rt, &office, &mut desk, Event::Send(bsc(rt, 1), LINK));
     reports(rt, alloc, &office, &mut desk, 0x03, &REFUSED);
     reports(rt, alloc, &office, &mut desk, 0x14, &DOWN);
-    is_answered(rt, alloc, &office, LINES, ANSWERS);
+    is_answered_beside(rt, alloc, &office, Some(43_263), LINES, ANSWERS);
 }
 
 #[test]
