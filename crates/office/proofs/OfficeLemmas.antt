@@ -10,6 +10,7 @@ use Rattle.centre_events.specs.declared.refusal.Refusal.TheVariants as refusal
 use Rattle.office.specs.Desks.{DeskState, IsReleased}
 use Rattle.office.specs.Helds.{HeldState, IsEntered, fits}
 use Rattle.office.specs.Offices.{IsFoldedSomewhere, IsRebuiltSomewhere, IsRefusedSomewhere, IsReleasedSomewhere, IsSameDesk, IsSeenSomewhere, IsSubmitted, IsUnseenSomewhere, Meets}
+use Rattle.office.specs.Releases.{LetsGo}
 use Rattle.office.specs.Statuses.{IsStatusSomewhere}
 use Rattle.centre_past.specs.Lists.{status}
 use Rattle.centre_past.specs.declared.lists.centre_status.CentreStatus.{CentreStatus}
@@ -90,9 +91,13 @@ pub folded_if : (result : Result ℕ Refusal) (centre new : Known) → Lawful ce
 folded_if (Ok n) centre new lawful headline counted is same whole = record { centre = centre; lawful = lawful; headline = headline; whole = whole; counted = counted; same = subst (λ (k : Known). base_of (past k) ≡ base_of (past centre)) is same }
 folded_if (Err r) centre new lawful headline counted is same whole = counted
 
-pub released_if : {A E : Type 0} (result : Result A E) (centre : Known) (place : ℕ) (old new : DeskState) → Lawful centre.settings (past centre) → place ≡ length centre.folded → OnOk result (IsReleased place old new) → OnErr result (new ≡ old) → IsReleasedSomewhere old new place
-released_if (Ok done) centre place old new lawful is released unchanged = record { centre = centre; lawful = lawful; counted = is; same = released.same; released = inl released }
-released_if (Err e) centre place old new lawful is released unchanged = record { centre = centre; lawful = lawful; counted = is; same = subst (IsSameDesk old) (sym unchanged) refl; released = inr unchanged }
+pub lets_go_if : {A E : Type 0} (result : Result A E) (place : ℕ) (old new : DeskState) → OnOk result (IsReleased place old new) → OnErr result (new ≡ old) → LetsGo place old new
+lets_go_if (Ok done) place old new released unchanged = inl released
+lets_go_if (Err e) place old new released unchanged = inr unchanged
+
+pub released_if : (centre : Known) (place : ℕ) (old new : DeskState) → Lawful centre.settings (past centre) → place ≡ length centre.folded → LetsGo place old new → IsReleasedSomewhere old new place
+released_if centre place old new lawful is (inl released) = record { centre = centre; lawful = lawful; counted = is; same = released.same; released = inl released }
+released_if centre place old new lawful is (inr unchanged) = record { centre = centre; lawful = lawful; counted = is; same = subst (IsSameDesk old) (sym unchanged) refl; released = inr unchanged }
 
 -- a desk that let go of receipts again is still the same
 pub same_more : (d e f : DeskState) → IsSameDesk d e → IsSameDesk e f → IsSameDesk d f

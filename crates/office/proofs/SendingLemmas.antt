@@ -46,6 +46,12 @@ pub enters_if : (event : Event) (old : HeldState) (d e : DeskState) (new : HeldS
     → new ≡ record old { centre = new.centre; rows = set old.rows (e.number - 1) (row_at (length e.receipts + 1) (length (all_entries old.centre) + 1)); total = old.total + 1 } → Enters event old d new after
 enters_if event old d e new after same fit entered counted = enters_with event old d e new after same (record { fitted = fit; entered = entered; counted = counted })
 
+-- the same of what a submit answers
+pub enters_on : {A : Type 0} (result : Result A Refusal) (event : Event) (old : HeldState) (d e : DeskState) (new : HeldState) (after : DeskState) → e ≡ record d { spare = e.spare } → OnOk result (fits (length old.rows) (all_entries old.centre) e ≡ true) → OnOk result (IsEntered old.centre e event new.centre after)
+    → OnOk result (new ≡ record old { centre = new.centre; rows = set old.rows (e.number - 1) (row_at (length e.receipts + 1) (length (all_entries old.centre) + 1)); total = old.total + 1 }) → OnOk result (Enters event old d new after)
+enters_on (Ok done) event old d e new after same fit entered counted = enters_if event old d e new after same fit entered counted
+enters_on (Err r) event old d e new after same fit entered counted = entered
+
 -- the cause of a refusal
 abbrev cause_or : {A : Type 0} → Refusal → Result A Refusal → Refusal
 cause_or r (Ok done) = r
@@ -69,6 +75,15 @@ left_out_if {A} result r event old d e new after is same wrong refuses left othe
       others = others;
       unchanged = unchanged ∙ same ∙ ap (λ n. record d { spare = n }) (ap (λ (s : DeskState). s.spare) (sym unchanged));
     }
+
+-- why it is refused
+pub cause_if : {A : Type 0} (result : Result A Refusal) (event : Event) (held : HeldState) (d e : DeskState) → e ≡ record d { spare = e.spare }
+    → (fits (length held.rows) (all_entries held.centre) e ≡ false → result ≡ Err (refusal.WrongDesk (length (all_entries held.centre)))) → IfErr result (λ r. fits (length held.rows) (all_entries held.centre) e ≡ true → Refuses held.centre event r)
+    → IfErr result (λ r. (r ≡ refusal.Memory) ⊎ RefusesOf event held d r)
+cause_if (Ok done) event held d e same wrong refuses = refuses
+cause_if {A} (Err r) event held d e same wrong refuses =
+    let fit : fits (length held.rows) (all_entries held.centre) e ≡ fits (length held.rows) (all_entries held.centre) d = ap (fits (length held.rows) (all_entries held.centre)) same in
+    inr (refuses_by (fits (length held.rows) (all_entries held.centre) d) event held d r refl (λ no. ap (cause_or {A = A} r) (wrong (fit ∙ no))) (λ yes. refuses (fit ∙ yes)))
 
 -- memory ran out for the desk's receipt
 pub left_out_full : (event : Event) (held : HeldState) (d e : DeskState) → d.spare ≡ 0 → e ≡ record d { spare = e.spare } → LeavesOut event held d refusal.Memory held e

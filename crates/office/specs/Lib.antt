@@ -12,3 +12,4 @@ pub mod Handing
 pub mod Statuses
 pub mod Kinds
 pub mod Counts
+pub mod Releases

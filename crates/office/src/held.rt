@@ -22,6 +22,7 @@ use centre_events::event::Event;
 use centre_events::network::Network;
 use centre_events::refusal::{Limit, Refusal};
 use centre_laws::headline::pending_gives_plan;
+use centre_past::link_state::LinkState;
 use centre_past::lists::CentreStatus;
 use centre_questions::asking::ask;
 use centre_questions::question::Question;
@@ -69,13 +70,14 @@ impl<L: Ledger> Model for Held<L> {
 }
 
 impl<L: Ledger> Held<L> {
-    ghost use Rattle.std.specs.Prelude.{◌≡◌, ◌≤◌, ◌<◌, ◌+◌, ◌-◌, ◌/◌, ◌%◌, ◌^◌, ◌++◌, ◌∷◌, ℕ, [], length, set, true, false, Ok, Err, None, IfOk, IfErr, OnOk, OnErr, MatchBool, nat_lt};
+    ghost use Rattle.std.specs.Prelude.{◌≡◌, ◌⊎◌, ◌≤◌, ◌<◌, ◌+◌, ◌-◌, ◌/◌, ◌%◌, ◌^◌, ◌++◌, ◌∷◌, ℕ, [], length, set, true, false, Ok, Err, None, IfOk, IfErr, OnOk, OnErr, MatchBool, nat_lt};
     ghost use Rattle.centre_core.specs.Centre.{Leaves, Refuses};
     ghost use Rattle.centre_past.specs.Headline.{PendingGivesPlan};
     ghost use Rattle.centre_past.specs.Legal.{Lawful, all_entries, checkpointed, new_centre, past};
     ghost use Rattle.centre_past.specs.Lists.{status};
     ghost use Rattle.centre_events.specs.Folding.{base_of};
-    ghost use Rattle.centre_events.specs.Links.{last_link};
+    ghost use Rattle.centre_events.specs.Links.{is_bsc, last_link};
+    ghost use Rattle.centre_past.specs.LinkStates.{link_state};
     ghost use Rattle.office.specs.Affecting.{affects, changes_link, includes, is_link, wakes};
     ghost use Rattle.office.specs.Handing.{AreAllAfter, AreEntriesAfter};
     ghost use Rattle.office.specs.Helds.{HasEachOnce, IsEntered, IsHeld, RefusesFold, fits, no_row, row_at};
@@ -253,6 +255,14 @@ impl<L: Ledger> Held<L> {
         ensures link { is_link result ≡ changes_link event.now }
     {
         affected_by(&self.centre, event)
+    }
+
+    /// What is told of the BSC's link. It takes no memory. `Stale`, then `NoSuchBsc`.
+    pub fn link_of(&self, b: BscId) -> Result<LinkState, Refusal>
+        ensures link { IfOk result (λ l. (l ≡ link_state (past self.now.centre) b) × (is_bsc (past self.now.centre) b ≡ true)) }
+        ensures refused { IfErr result (λ r. ((r ≡ Refusal.Stale) × (self.now.centre.stale ≡ true)) ⊎ ((self.now.centre.stale ≡ false) × ((r ≡ Refusal.NoSuchBsc) × (is_bsc (past self.now.centre) b ≡ false)))) }
+    {
+        self.centre.link_of(b)
     }
 
     /// What there is to do for the link of that generation, if there is something.

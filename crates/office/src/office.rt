@@ -1,10 +1,12 @@
 //! An office: one centre under one lock, for many callers.
 
 ghost use Rattle.std.specs.Prelude.{◌≡◌, ◌≤◌, ◌<◌, ◌⊎◌, [], IfOk, IfErr, OnOk, OnErr};
+ghost use Rattle.centre_core.specs.Centre.{Leaves};
 ghost use Rattle.centre_past.specs.Legal.{Lawful, past};
 ghost use Rattle.office.specs.Handing.{AreEntriesSomewhere, IsFoldedAfterSomewhere, IsProgressSomewhere};
 ghost use Rattle.office.specs.Offices.{IsFoldedSomewhere, IsRefusedSomewhere, IsReleasedSomewhere, IsSameDesk, IsSeenSomewhere, IsSubmitted, IsUnseenSomewhere};
-ghost use Rattle.office.specs.Sendings.{IsSent, IsUnsent};
+ghost use Rattle.office.specs.Releases.{LetsGo};
+ghost use Rattle.office.specs.Sendings.{Enters, IsSent, IsUnsent, RefusesOf};
 ghost use Rattle.office.specs.Shuffles.{IsSettled, IsUnsettled};
 ghost use Rattle.office.specs.Statuses.{IsSurveySomewhere};
 ghost use Rattle.office.specs.Wakes.{IsDueSomewhere};
@@ -107,7 +109,8 @@ impl<L: Ledger> Office<L> {
         self.held.lock(rt)
     }
 
-    /// Takes an event as `submit` does, in a hold of the lock of this office.
+    /// Takes an event as `submit` does, in a hold of the lock of this office. Beside the event that is accepted nothing changes there, but
+    /// that the centre may be stale after memory ran out.
     pub fn submit_in<R: Wait>(
         &self,
         rt: &R,
@@ -118,6 +121,10 @@ impl<L: Ledger> Office<L> {
         ensures submitted { OnOk result (IsSubmitted desk.old event desk.new) }
         ensures refused { IfErr result (IsRefusedSomewhere desk.old event) }
         ensures unchanged { OnErr result (desk.new ≡ record desk.old { spare = desk.new.spare }) }
+        ensures entered { OnOk result (Enters event held.old desk.old held.new desk.new) }
+        ensures cause { IfErr result (λ r. (r ≡ Refusal.Memory) ⊎ RefusesOf event held.old desk.old r) }
+        ensures left { IfErr result (λ r. Leaves held.old.centre r held.new.centre) }
+        ensures others { OnErr result (held.new ≡ record held.old { centre = held.new.centre }) }
     {
         let Ok(copy) = prepared(self.alloc, desk, &event) else {
             drop(event);
@@ -265,10 +272,18 @@ impl<L: Ledger> Office<L> {
         guard.tell_soundness();
         let folded = guard.folded();
         drop(guard);
+        self.let_go(rt, desk, folded);
+        folded
+    }
+
+    /// Has the desk let go of its receipts of so many folded entries, in a hold of the lock or without. Where memory runs out it keeps
+    /// them until the next time.
+    pub fn let_go<R: Wait>(&self, rt: &R, desk: &mut Desk<L>, folded: u64)
+        ensures { LetsGo folded desk.old desk.new }
+    {
         let count = desk.receipts().len();
         let _ = desk.release(folded);
         self.count_released(rt, count, desk.receipts().len());
-        folded
     }
 
     /// Counts the receipts that a desk let go of: it had so many, and has so many now.

@@ -3,4 +3,4 @@ use Rattle.office.proofs.OfficeLemmas.{released_if}
 use Rattle.office.proofs.office.Office.release.Goals as goal
 
 pub returns : goal.returns
-returns g c = released_if c.release.result c.deref.result.now.centre c.folded-folded.result c.args.desk.now c.release.new.self (search rules) (search rules) c.release.ensures.released c.release.ensures.unchanged
+returns g c = released_if c.deref.result.now.centre c.folded-folded.result c.args.desk.now c.let_go.new.desk (search rules) (search rules) c.let_go.ensures
