@@ -28,8 +28,8 @@ pub trait Gate {
     /// A report was read, and is submitted next. It may wait until the report may come in, which isn't lost.
     fn before_report<R: Wait>(&self, _rt: &R, _load: Load) {}
 
-    /// A report was entered that answered what was in flight: this is its receipt. No lock is held, and `pass` is asked next.
-    fn replied<R: Wait>(&self, _rt: &R, _receipt: &Receipt) {}
+    /// A report was entered: this is its receipt. No lock is held, and `pass` is asked next.
+    fn entered<R: Wait>(&self, _rt: &R, _receipt: &Receipt) {}
 
     /// Whether the link of the BSC goes on. Where it doesn't, the side that asks ends.
     fn pass<R: Wait>(&self, rt: &R, b: BscId, passage: Passage<'_>) -> bool

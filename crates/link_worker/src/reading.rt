@@ -18,6 +18,7 @@ use centre_events::refusal::Refusal;
 use framing::{Frame, FrameFault, Framer, MOST_READS, Source};
 use office::desk::Desk;
 use office::office::Office;
+use office::receipt::Receipt;
 use std::alloc::Global;
 use std::sync::Wait;
 use std::sync::ledger::Ledger;
@@ -71,7 +72,7 @@ impl<'o, 'g, L: Ledger, G: Gate> Link<'o, 'g, L, G> {
     ghost use Rattle.centre_events.specs.declared.event.Event.TheVariants as event;
     ghost use Rattle.framing.specs.Source.{counted, with_failure};
     ghost use Rattle.link_worker.specs.Ends.{fails_to_read};
-    ghost use Rattle.link_worker.specs.Passages.{IsPassageOf, step_of};
+    ghost use Rattle.link_worker.specs.Passages.{IsPassageOf, report_passage, step_of};
     ghost use Rattle.link_worker.specs.Reports.{EndsReading, IsPartial, IsRefusal, IsSubmitEnd, MayGet, Reads, StopsAmong, StopsInPiece, TakesPiece, TakesReports};
 
     /// Reads once, and takes what was read.
@@ -183,7 +184,6 @@ impl<'o, 'g, L: Ledger, G: Gate> Link<'o, 'g, L, G> {
         let event = Event::Report(self.bsc, self.generation, message);
         match self.enter_report(rt, desk, event) {
             Ok(passage) => {
-                self.tell_reply(rt, desk, passage);
                 if self.gate.pass(rt, self.bsc, passage) {
                     Ok(())
                 } else {
@@ -194,17 +194,15 @@ impl<'o, 'g, L: Ledger, G: Gate> Link<'o, 'g, L, G> {
         }
     }
 
-    /// Shows the gate the receipt of a report that answered what was in flight: it is the desk's last.
-    fn tell_reply<R: Wait>(&self, rt: &R, desk: &Desk<L>, passage: Passage<'static>) {
-        let Passage::Reply = passage else {
-            return;
-        };
-        if let Some(receipt) = desk.receipts().last() {
-            self.gate.replied(rt, receipt);
-        }
+    /// Shows the gate the receipt of a report that was entered. The answer is what passes.
+    fn show_entered<R: Wait>(&self, rt: &R, receipt: &Receipt) -> Passage<'static>
+        ensures { result ≡ report_passage receipt.now.answer }
+    {
+        self.gate.entered(rt, receipt);
+        report_passage(&receipt.answer)
     }
 
-    /// Submits a report. The answer is what the gate is told of it.
+    /// Submits a report, and shows the gate its receipt where it was entered. The answer is what the gate is told of it.
     fn enter_report<R: Wait>(
         &self,
         rt: &R,
@@ -217,7 +215,7 @@ impl<'o, 'g, L: Ledger, G: Gate> Link<'o, 'g, L, G> {
         ensures refused { IfErr result (IsRefusal event desk.old desk.new) }
     {
         match self.office.submit(rt, desk, event) {
-            Ok(()) => Ok(report_passage(&desk.latest().answer)),
+            Ok(()) => Ok(self.show_entered(rt, desk.latest())),
             Err(refusal) => match report_end(refusal) {
                 Some(end) => Err(end),
                 None => Ok(Passage::Report),
